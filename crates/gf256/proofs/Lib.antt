@@ -1,0 +1,3 @@
+pub mod TableEntries
+pub mod Vectors
+pub mod RowLoop

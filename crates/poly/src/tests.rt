@@ -1,0 +1,55 @@
+//! Values that were worked out elsewhere.
+use crate::{Poly, points_determine};
+use gf256::{Field, Gf};
+
+#[test]
+fn multiplies_roots(rt: HostRuntime) {
+    let cases: [(&[Gf], &[Gf]); 4] = [
+        (&[], &[Gf(0x01)]),
+        (&[Gf(0x01)], &[Gf(0x01), Gf(0x01)]),
+        (&[Gf(0x04)], &[Gf(0x04), Gf(0x01)]),
+        (&[Gf(0x01), Gf(0x02)], &[Gf(0x02), Gf(0x03), Gf(0x01)]),
+    ];
+    for (points, coefficients) in cases {
+        assert!(rt; points.len() < 255);
+        assert_eq!(rt; Poly::from_roots(points).coefficients(), coefficients);
+    }
+}
+
+#[test]
+fn takes_254_roots(rt: HostRuntime) {
+    let polynomial = Poly::from_roots(&[Gf(0x01); 254]);
+    assert_eq!(rt; polynomial.coefficients().len(), 255);
+}
+
+#[test]
+fn evaluates(rt: HostRuntime) {
+    let identity = [Gf(0x00), Gf(0x01)];
+    let square = [Gf(0x00), Gf(0x00), Gf(0x01)];
+    let line = [Gf(0x40), Gf(0x01)];
+    let cases: [(&[Gf], u8, u8); 7] = [
+        (&identity, 0x02, 0x02),
+        (&identity, 0x04, 0x04),
+        (&square, 0x08, 0x40),
+        (&square, 0x10, 0x1D),
+        (&line, 0x02, 0x42),
+        (&line, 0x04, 0x44),
+        (&[], 0x02, 0x00),
+    ];
+    for (coefficients, x, value) in cases {
+        let polynomial = Poly::from_slice(coefficients);
+        let value_at = match &polynomial {
+            Some(polynomial) => Some(polynomial.eval(Gf(x))),
+            None => None,
+        };
+        assert_eq!(rt; value_at, Some(Gf(value)), "at {x}");
+    }
+}
+
+#[test]
+fn takes_255_coefficients_and_no_more(rt: HostRuntime) {
+    let coefficients = [Gf(0x01); 256];
+    assert!(rt; Poly::from_slice(&coefficients[..255]).is_some());
+    assert!(rt; Poly::from_slice(&coefficients).is_none());
+    points_determine::<Gf>();
+}
