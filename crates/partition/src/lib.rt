@@ -1,0 +1,222 @@
+//! The FEC object transmission information (FTI) of FEC Encoding ID 5 (RFC 5510, section 5.2) and the partition of an
+//! object into source blocks (RFC 5052, section 9.1).
+//!
+//! An object of L bytes is cut into T source symbols of E bytes, the last of them filled up with zeros, and these into
+//! N source blocks of nearly equal size: the first I of them have one source symbol more than the others.
+#![tactic(auto)]
+
+ghost use Rattle.std.specs.Prelude.{◌≡◌, ℕ, ◌+◌, ◌*◌, ◌^◌, ◌<◌, ◌≤◌, min, Some, None, IfOk, IfErr};
+ghost use Rattle.partition.specs.Fti.{symbol_count, block_count, source_count, start_of, encoding_count, last_length, IsValidFti, fti_from};
+
+use std::marker::Model;
+use thiserror::Error;
+
+#[cfg(test)]
+mod tests;
+
+/// Why four numbers are no FTI.
+#[derive(Debug, Clone, Copy, PartialEq, Eq, Error)]
+pub enum FtiError {
+    /// The transfer length is 0.
+    #[error("F1 LengthZero")]
+    LengthZero,
+    /// The transfer length is 2^48 bytes or more, and so doesn't stand in the six bytes of EXT_FTI.
+    #[error("F2 LengthTooGreat")]
+    LengthTooGreat,
+    /// The encoding symbol length is 0.
+    #[error("F3 SymbolZero")]
+    SymbolZero,
+    /// The maximum source block length is 0.
+    #[error("F4 BlockZero")]
+    BlockZero,
+    /// The maximum number of encoding symbols is below the maximum source block length.
+    #[error("F5 MaxBelowBlock")]
+    MaxBelowBlock,
+    /// There are more than 2^24 source blocks, and so a source block number doesn't stand in its three bytes.
+    #[error("F6 TooManyBlocks")]
+    TooManyBlocks,
+}
+
+/// A valid FTI, compared by its four numbers.
+#[derive(Debug, Clone, Copy, PartialEq, Eq)]
+pub struct Fti {
+    transfer_length: u64,
+    symbol_length: u16,
+    block_length: u8,
+    max_symbols: u8,
+}
+
+impl Model for Fti {
+    ghost use Rattle.partition.specs.Fti.{Fti as FtiValue, IsValidFti, fti_from};
+
+    ghost Value = { FtiValue };
+
+    ghost view = { λ f. fti_from f.transfer_length f.symbol_length f.block_length f.max_symbols };
+
+    ghost invariant = { λ f. IsValidFti (fti_from f.transfer_length f.symbol_length f.block_length f.max_symbols) };
+
+    ghost inverse = { λ v. record { transfer_length = v.transfer_length; symbol_length = v.symbol_length; block_length = v.block_length; max_symbols = v.max_symbols } };
+}
+
+impl Fti {
+    ghost use Rattle.partition.specs.FtiFault.{fti_fault};
+
+    /// The FTI of transfer length `l` and encoding symbol length `e`, both in bytes, of at most `b` source symbols and
+    /// at most `max_n` encoding symbols a block; or the first fault, in the order of the variants.
+    #[tactic(auto, using(crate::proofs::Laws::ceiling_is, crate::proofs::Faults::valid_no_fault), unfolding(crate::specs::Fti::symbol_count, crate::specs::Fti::block_count))]
+    pub fn new(l: u64, e: u16, b: u8, max_n: u8) -> Result<Fti, FtiError>
+        ensures numbers { IfOk result (λ f. f ≡ fti_from l e b max_n) }
+        ensures valid { IfOk result IsValidFti }
+        ensures no_fault { IfOk result (λ f. fti_fault f ≡ None) }
+        ensures invalid { IfErr result (λ _. ¬ IsValidFti (fti_from l e b max_n)) }
+        ensures first_fault { IfErr result (λ r. fti_fault (fti_from l e b max_n) ≡ Some r) }
+    {
+        if l == 0 {
+            return Err(FtiError::LengthZero);
+        }
+        if l >= 1 << 48 {
+            return Err(FtiError::LengthTooGreat);
+        }
+        if e == 0 {
+            return Err(FtiError::SymbolZero);
+        }
+        if b == 0 {
+            return Err(FtiError::BlockZero);
+        }
+        if max_n < b {
+            return Err(FtiError::MaxBelowBlock);
+        }
+        let symbols = l.div_ceil(u64::from(e));
+        let blocks = symbols.div_ceil(u64::from(b));
+        if blocks > 1 << 24 {
+            return Err(FtiError::TooManyBlocks);
+        }
+        Ok(Fti {
+            transfer_length: l,
+            symbol_length: e,
+            block_length: b,
+            max_symbols: max_n,
+        })
+    }
+
+    /// L: the transfer length, the object's length in bytes.
+    pub fn length(&self) -> u64
+        ensures value { result ≡ self.now.transfer_length }
+        ensures valid { IsValidFti self.now }
+    {
+        self.transfer_length
+    }
+
+    /// E: the encoding symbol length, the bytes of each symbol.
+    pub fn symbol(&self) -> u16
+        ensures value { result ≡ self.now.symbol_length }
+        ensures valid { IsValidFti self.now }
+    {
+        self.symbol_length
+    }
+
+    /// B: the maximum source block length, the most source symbols of a block.
+    pub fn block(&self) -> u8
+        ensures value { result ≡ self.now.block_length }
+        ensures valid { IsValidFti self.now }
+    {
+        self.block_length
+    }
+
+    /// The most encoding symbols of a block.
+    pub fn max_n(&self) -> u8
+        ensures value { result ≡ self.now.max_symbols }
+        ensures valid { IsValidFti self.now }
+    {
+        self.max_symbols
+    }
+
+    /// T: how many source symbols the object has.
+    #[tactic(auto, using(crate::proofs::Laws::symbols_are, crate::proofs::Laws::some_symbol, crate::proofs::Laws::symbols_few))]
+    pub fn symbols(&self) -> u64
+        ensures value { result ≡ symbol_count self.now }
+        ensures some { 1 ≤ result }
+        ensures few { result ≤ self.now.transfer_length }
+        ensures valid { IsValidFti self.now }
+    {
+        self.transfer_length.div_ceil(u64::from(self.symbol_length))
+    }
+
+    /// N: how many source blocks the object has.
+    #[tactic(auto, using(crate::proofs::Laws::blocks_are, crate::proofs::Laws::some_block, crate::proofs::Laws::start_end))]
+    pub fn blocks(&self) -> u32
+        ensures value { result ≡ block_count self.now }
+        ensures some { 1 ≤ result }
+        ensures few { result ≤ 2 ^ 24 }
+        // The source symbols of all blocks are those of the object.
+        ensures whole { start_of self.now result ≡ symbol_count self.now }
+        ensures valid { IsValidFti self.now }
+    {
+        self.symbols().div_ceil(u64::from(self.block_length)) as u32
+    }
+
+    // The source symbols of a small block, and how many blocks, the first ones, have one more.
+    #[tactic(auto, using(crate::proofs::Laws::large_is, crate::proofs::Laws::large_count, crate::proofs::Laws::other_count, crate::proofs::Laws::start_is))]
+    fn shares(&self) -> (u64, u64)
+        ensures large { (b : ℕ) → b < result.1 → source_count self.now b ≡ result.0 + 1 }
+        ensures small { (b : ℕ) → result.1 ≤ b → source_count self.now b ≡ result.0 }
+        ensures start { (b : ℕ) → start_of self.now b ≡ b * result.0 + min b result.1 }
+        ensures valid { IsValidFti self.now }
+    {
+        let symbols = self.symbols();
+        let blocks = u64::from(self.blocks());
+        (symbols / blocks, symbols % blocks)
+    }
+
+    /// k: how many source symbols block `b` has.
+    #[tactic(auto, using(crate::proofs::Laws::some_source, crate::proofs::Laws::source_most))]
+    pub fn k(&self, b: u32) -> usize
+        requires { b < block_count self.now }
+        ensures value { result ≡ source_count self.now b }
+        ensures some { 1 ≤ result }
+        ensures most { result ≤ self.now.block_length }
+        ensures byte { result ≤ 255 }
+    {
+        let (small, large) = self.shares();
+        if u64::from(b) < large {
+            small as usize + 1
+        } else {
+            small as usize
+        }
+    }
+
+    /// n: how many encoding symbols block `b` has, its source symbols among them (RFC 5510, section 6.2).
+    #[tactic(auto, using(crate::proofs::Laws::source_encoding, crate::proofs::Laws::encoding_most), unfolding(crate::specs::Fti::encoding_count))]
+    pub fn n(&self, b: u32) -> usize
+        requires { b < block_count self.now }
+        ensures value { result ≡ encoding_count self.now b }
+        ensures least { source_count self.now b ≤ result }
+        ensures most { result ≤ self.now.max_symbols }
+        ensures byte { result ≤ 255 }
+    {
+        self.k(b) * usize::from(self.max_symbols) / usize::from(self.block_length)
+    }
+
+    /// How many source symbols the blocks before `b` have, and so the place of the first one of block `b` among those of
+    /// the object.
+    #[tactic(auto, using(crate::proofs::Laws::block_end, crate::proofs::Laws::start_fits))]
+    pub fn start(&self, b: u32) -> u64
+        requires { b < block_count self.now }
+        ensures value { result ≡ start_of self.now b }
+        ensures within { result + source_count self.now b ≤ symbol_count self.now }
+    {
+        let (small, large) = self.shares();
+        let before = u64::from(b);
+        before * small + before.min(large)
+    }
+
+    /// How many bytes of the object its last source symbol holds, at least one and at most E.
+    #[tactic(auto, using(crate::proofs::Laws::last_bounds), unfolding(crate::specs::Fti::last_length))]
+    pub fn last_len(&self) -> usize
+        ensures value { result ≡ last_length self.now }
+        ensures some { 1 ≤ result }
+        ensures most { result ≤ self.now.symbol_length }
+    {
+        (self.transfer_length - (self.symbols() - 1) * u64::from(self.symbol_length)) as usize
+    }
+}
