@@ -1,0 +1,15 @@
+pub mod Fronts
+pub mod Walks
+pub mod Digits
+pub mod Chosen
+pub mod Bytes
+pub mod FtiFields
+pub mod Stages
+pub mod Built
+pub mod OneReading
+pub mod Again
+pub mod Steps
+pub mod Parsing
+pub mod Writes
+pub mod Packets
+pub mod Vectors

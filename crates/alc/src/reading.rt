@@ -1,0 +1,86 @@
+// Reading a datagram.
+ghost use Rattle.std.specs.Prelude.{◌≡◌, ◌+◌, ◌<◌, ◌^◌, ℕ, List, length, IfOk};
+ghost use Rattle.gf256.specs.Arithmetic.{AreBytes};
+ghost use Rattle.partition.specs.Fti.{IsValidFti};
+ghost use Rattle.alc.specs.Computed.{read_of, packet_with};
+ghost use Rattle.alc.specs.Layout.{Lies};
+ghost use Rattle.alc.specs.Reading.{Reading, Reads};
+ghost use Rattle.alc.specs.Views.{packet_of, reading_of};
+
+use crate::extensions::{fti_content, fti_of};
+use crate::fault::PacketFault;
+use crate::header::{Header, header_of};
+use byteorder::{BigEndian, ByteOrder};
+use partition::Fti;
+
+/// A datagram read. TSI and TOI are numbers, whatever their width in the header.
+#[derive(Debug, Clone, Copy, PartialEq, Eq)]
+pub struct Packet<'a> {
+    /// The transport session identifier, below 2^48.
+    pub tsi: u64,
+    /// The transport object identifier, below 2^112.
+    pub toi: u128,
+    /// The FTI in EXT_FTI.
+    pub fti: Fti,
+    /// The source block number, below 2^24. It may be past the blocks of the FTI.
+    pub sbn: u32,
+    /// The encoding symbol ID. It may be past the encoding symbols of the block.
+    pub esi: u8,
+    /// The encoding symbol, of the length that the FTI tells; the bytes are the datagram's.
+    pub symbol: &'a [u8],
+}
+
+// The packet of this FTI.
+fn packet_with_fti(datagram: &[u8], header: Header, fti: Fti) -> Packet<'_>
+    requires lies { Lies header datagram.now }
+    requires size { length datagram.now ≡ header.end + 4 + fti.symbol_length }
+    ensures { packet_of result ≡ packet_with datagram.now fti }
+{
+    let payload = &datagram[header.end..];
+    Packet {
+        tsi: BigEndian::read_uint(&datagram[header.tsi..], header.toi - header.tsi),
+        toi: BigEndian::read_uint128(&datagram[header.toi..], header.extensions - header.toi),
+        fti,
+        sbn: BigEndian::read_u24(payload),
+        esi: payload[3],
+        symbol: &payload[4..],
+    }
+}
+
+// The packet or the first fault, as a function of the bytes computes them.
+fn parse(datagram: &[u8]) -> Result<Packet<'_>, PacketFault>
+    ensures { read_of datagram.now ≡ reading_of result }
+{
+    let header = header_of(datagram)?;
+    let Some(content) = fti_content(&datagram[header.extensions..header.end])? else {
+        return Err(PacketFault::NoFti);
+    };
+    let fti = fti_of(content)?;
+    if datagram.len() != header.end + 4 + usize::from(fti.symbol()) {
+        return Err(PacketFault::PayloadLength);
+    }
+    Ok(packet_with_fti(datagram, header, fti))
+}
+
+/// The packet that the datagram is, or the first fault for which it is none.
+pub fn read(datagram: &[u8]) -> Result<Packet<'_>, PacketFault>
+    // The datagram is that packet, or has that fault and none before it.
+    ensures reads { Reads datagram.now (reading_of result) }
+    // It is no other packet, and has no other first fault.
+    ensures only { (r : Reading) → Reads datagram.now r → r ≡ reading_of result }
+    ensures valid { IfOk result (λ p. IsValidFti p.fti) }
+    ensures symbol { IfOk result (λ p. length p.symbol.now ≡ p.fti.symbol_length) }
+    ensures block { IfOk result (λ p. p.sbn < 2 ^ 24) }
+    ensures tsi { IfOk result (λ p. p.tsi < 2 ^ 48) }
+    ensures toi { IfOk result (λ p. p.toi < 2 ^ 112) }
+{
+    parse(datagram)
+}
+
+/// A datagram has one reading, the one that a function of its bytes computes. A list that isn't of bytes has one at
+/// most.
+pub fn one_reading()
+    ensures reads { (d : List ℕ) → AreBytes d → Reads d (read_of d) }
+    ensures only { (d : List ℕ) (r s : Reading) → Reads d r → Reads d s → r ≡ s }
+    ensures computed { (d : List ℕ) (r : Reading) → Reads d r → read_of d ≡ r }
+{}
