@@ -1,0 +1,14 @@
+//! Session files: datagrams in frames, read from and written to any reader and writer.
+#![tactic(auto)]
+
+mod device;
+mod frame;
+mod io;
+mod session;
+mod whole;
+
+pub use device::Device;
+pub use frame::{FrameFault, MOST_BYTES, fill, read_next, write_all, write_one};
+pub use io::{Failed, Read, Write};
+pub use session::Session;
+pub use whole::{ReadFault, read_to_end};
