@@ -1,0 +1,4 @@
+pub mod Lists
+pub mod Below
+pub mod Filled
+pub mod Grouping

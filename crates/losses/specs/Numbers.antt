@@ -1,0 +1,21 @@
+-- Numbers of packets: source block number and encoding symbol ID.
+use Rattle.std.specs.Prelude.{ℕ, zero, suc, Bool, ◌&&◌, ◌==◌, List, [], ◌∷◌, ◌++◌, filter}
+use Rattle.std.specs.List.{list_any}
+use Rattle.losses.specs.declared.number.Number.{Number}
+
+-- the numbers below n, rising
+unfoldable pub below : ℕ → List ℕ
+below zero = []
+below (suc n) = below n ++ n ∷ []
+
+-- whether these are the numbers of symbol j of block b
+abbrev pub is_number : ℕ → ℕ → Number → Bool
+is_number b j p = p.block == b && p.esi == j
+
+-- whether symbol j of block b is there
+abbrev pub has : ℕ → List Number → ℕ → Bool
+has b ps j = list_any (is_number b j) ps
+
+-- the different ESIs of block b, rising
+abbrev pub present : ℕ → List Number → List ℕ
+present b ps = filter (has b ps) (below 256)
