@@ -1,0 +1,13 @@
+pub mod Different
+pub mod Full
+pub mod Polynomials
+pub mod OneAnswer
+pub mod Promise
+pub mod Twin
+pub mod Undecided
+pub mod Whole
+pub mod Texts
+pub mod Consuming
+pub mod Scanning
+pub mod Judging
+pub mod Bridge

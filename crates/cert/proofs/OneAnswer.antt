@@ -1,0 +1,111 @@
+-- No list of datagrams has two answers.
+use Rattle.std.specs.Prelude.{◌≡◌, ◌≢◌, ◌<◌, ◌⊎◌, Bool, true, false, ℕ, zero, suc, List, [], ◌∷◌, Option, Some, None, Result, Ok, Err, refl}
+use Rattle.std.proofs.Common.{◌∙◌, sym, ap, subst, arith, inl, inr}
+use Rattle.partition.specs.Fti.{Fti, source_count}
+use Rattle.cert.specs.Symbols.{Symbol, is_full, held_count, IsFirstShort, IsFirstUnsolvable, AllFull, FullSolvable, FitsOnly}
+use Rattle.alc.specs.Reading.{Reading, Reads}
+use Rattle.cert.specs.Readings.{ReadAll}
+use Rattle.alc.proofs.Again.{one_reading}
+use Rattle.cert.specs.Answer.{Answer, Empty, Fault, NotCode, Missing, Object, Came, PlaceFault, IsClean, AnswerTo, IsAnswer, came_of}
+
+one_fti : (came : Came) (f g : Fti) → IsClean came f → IsClean came g → f ≡ g
+one_fti came f g h k = let a = h.some in let b = k.some in (cc)
+
+-- of two numbers one is less, or they are one
+which : (a b : ℕ) → ((a < b) ⊎ (b < a) → ⊥) → a ≡ b
+which a b h =
+    let x : a < b → ⊥ = λ l. h (inl l) in
+    let y : b < a → ⊥ = λ l. h (inr l) in
+    omega arith
+
+one_short : (f : Fti) (came : List Symbol) (a b : ℕ) → IsFirstShort f came a → IsFirstShort f came b → a ≡ b
+one_short f came a b h k = which a b (λ s. elim s [
+  | inl l ↦ (let x = k.least a l in let y = h.short in (cc))
+  | inr l ↦ (let x = h.least b l in let y = k.short in (cc))
+])
+
+one_unsolvable : (f : Fti) (came : List Symbol) (a b : ℕ) → IsFirstUnsolvable f came a → IsFirstUnsolvable f came b → a ≡ b
+one_unsolvable f came a b h k = which a b (λ s. elim s [
+  | inl l ↦ h.unsolvable (k.least a l h.full)
+  | inr l ↦ k.unsolvable (h.least b l k.full)
+])
+
+abbrev told : Option (ℕ × PlaceFault) → Answer
+told None = Empty
+told (Some x) = Fault x.0 x.1
+
+not_missing : (came : Came) (b c m n : ℕ) → AnswerTo came (NotCode b) → AnswerTo came (Missing c m n) → ⊥
+not_missing came b c m n h k =
+    let e = one_fti came h.0 k.0 h.1 k.1 in
+    let u = subst (λ (f : Fti). IsFirstUnsolvable f came.symbols b) e h.2 in
+    u.unsolvable (k.2 b u.in_range u.full)
+
+not_object : (came : Came) (b : ℕ) (o : List ℕ) → AnswerTo came (NotCode b) → AnswerTo came (Object o) → ⊥
+not_object came b o h k =
+    let e = one_fti came h.0 k.0 h.1 k.1 in
+    let u = subst (λ (f : Fti). IsFirstUnsolvable f came.symbols b) e h.2 in
+    u.unsolvable (k.2 b u.in_range u.full)
+
+not_both : (came : Came) (b m n : ℕ) (o : List ℕ) → AnswerTo came (Missing b m n) → AnswerTo came (Object o) → ⊥
+not_both came b m n o h k =
+    let e = one_fti came h.0 k.0 h.1 k.1 in
+    let s = subst (λ (f : Fti). IsFirstShort f came.symbols b) e h.3 in
+    let x = k.3 b s.in_range in
+    let y = s.short in
+    absurd (cc)
+
+pub one_answer_to : (came : Came) (a b : Answer) → AnswerTo came a → AnswerTo came b → a ≡ b
+one_answer_to came Empty Empty h k = refl
+one_answer_to came Empty (Fault i r) h k = absurd (cc)
+one_answer_to came Empty (NotCode c) h k = let x = k.1.some in absurd (cc)
+one_answer_to came Empty (Missing c m n) h k = let x = k.1.some in absurd (cc)
+one_answer_to came Empty (Object o) h k = let x = k.1.some in absurd (cc)
+one_answer_to came (Fault i r) Empty h k = absurd (cc)
+one_answer_to came (Fault i r) (Fault j s) h k = ap told (sym h ∙ k)
+one_answer_to came (Fault i r) (NotCode c) h k = let x = k.1.clean in absurd (cc)
+one_answer_to came (Fault i r) (Missing c m n) h k = let x = k.1.clean in absurd (cc)
+one_answer_to came (Fault i r) (Object o) h k = let x = k.1.clean in absurd (cc)
+one_answer_to came (NotCode b) Empty h k = let x = h.1.some in absurd (cc)
+one_answer_to came (NotCode b) (Fault j s) h k = let x = h.1.clean in absurd (cc)
+one_answer_to came (NotCode b) (NotCode c) h k =
+    let e = one_fti came h.0 k.0 h.1 k.1 in
+    ap NotCode (one_unsolvable k.0 came.symbols b c (subst (λ (f : Fti). IsFirstUnsolvable f came.symbols b) e h.2) k.2)
+one_answer_to came (NotCode b) (Missing c m n) h k = absurd (not_missing came b c m n h k)
+one_answer_to came (NotCode b) (Object o) h k = absurd (not_object came b o h k)
+one_answer_to came (Missing b m n) Empty h k = let x = h.1.some in absurd (cc)
+one_answer_to came (Missing b m n) (Fault j s) h k = let x = h.1.clean in absurd (cc)
+one_answer_to came (Missing b m n) (NotCode c) h k = absurd (not_missing came c b m n k h)
+one_answer_to came (Missing b m n) (Missing c x y) h k =
+    let e = one_fti came h.0 k.0 h.1 k.1 in
+    let f = one_short k.0 came.symbols b c (subst (λ (f : Fti). IsFirstShort f came.symbols b) e h.3) k.3 in
+    let p = h.4 in
+    let q = h.5 in
+    let r = k.4 in
+    let s = k.5 in
+    (cc)
+one_answer_to came (Missing b m n) (Object o) h k = absurd (not_both came b m n o h k)
+one_answer_to came (Object o) Empty h k = let x = h.1.some in absurd (cc)
+one_answer_to came (Object o) (Fault j s) h k = let x = h.1.clean in absurd (cc)
+one_answer_to came (Object o) (NotCode c) h k = absurd (not_object came c o k h)
+one_answer_to came (Object o) (Missing c m n) h k = absurd (not_both came c m n o k h)
+one_answer_to came (Object o) (Object q) h k =
+    let e = one_fti came h.0 k.0 h.1 k.1 in
+    let w = subst (λ (f : Fti). FitsOnly f came.symbols o) e h.4 in
+    ap Object (k.4.only o w.fits)
+
+pub same_readings : (ds : List (List ℕ)) (rs ss : List Reading) → ReadAll ds rs → ReadAll ds ss → rs ≡ ss
+same_readings [] [] [] h g = refl
+same_readings [] [] (s ∷ ss) h g = absurd g
+same_readings [] (r ∷ rs) ss h g = absurd h
+same_readings (d ∷ ds) [] ss h g = absurd h
+same_readings (d ∷ ds) (r ∷ rs) [] h g = absurd g
+same_readings (d ∷ ds) (r ∷ rs) (s ∷ ss) h g =
+    let a = one_reading d r s h.0 g.0 in
+    let b = same_readings ds rs ss h.1 g.1 in
+    (cc)
+
+-- no list of datagrams has two answers
+pub one_answer : (ds : List (List ℕ)) (a b : Answer) → IsAnswer ds a → IsAnswer ds b → a ≡ b
+one_answer ds a b h k =
+    let e = same_readings ds h.readings k.readings h.read k.read in
+    one_answer_to (came_of k.readings) a b (subst (λ (rs : List Reading). AnswerTo (came_of rs) a) e h.answers) k.answers

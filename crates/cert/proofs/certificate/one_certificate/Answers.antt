@@ -1,0 +1,5 @@
+use Rattle.cert.proofs.Texts.{one_text}
+use Rattle.cert.proofs.certificate.one_certificate.Goals as goal
+
+pub returns : goal.returns
+returns c = one_text

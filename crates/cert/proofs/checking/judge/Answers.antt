@@ -1,0 +1,44 @@
+use Rattle.std.proofs.Common.{◌≡◌, ◌∙◌, sym, arith, ap, refl, length}
+use Rattle.partition.specs.Fti.{Fti}
+use Rattle.cert.specs.Scan.{readings_of}
+use Rattle.cert.proofs.Judging.{read_all, no_object, no_datagrams, yes_all}
+use Rattle.cert.proofs.checking.judge.Goals as goal
+
+pub returns-then-object-length-clause-verdict : goal.returns-then-object-length-clause-verdict
+returns-then-object-length-clause-verdict c =
+    let told = c.length.ensures.value ∙ ap (λ (f : Fti). f.transfer_length) c.fti.ensures.value in
+    record {
+      readings = readings_of c.args.session.now;
+      read = read_all c.args.session.now c.len-datagrams.ensures.datagrams;
+      judged = λ e. c.if-object-length.true (e ∙ sym told);
+    }
+
+pub returns-in-Some-clause-verdict : goal.returns-in-Some-clause-verdict
+returns-in-Some-clause-verdict c =
+    let told = c.length.ensures.value ∙ ap (λ (f : Fti). f.transfer_length) c.fti.ensures.value in
+    record {
+      readings = readings_of c.args.session.now;
+      read = read_all c.args.session.now c.len-datagrams.ensures.datagrams;
+      judged = no_object (readings_of c.args.session.now) c.args.object.now c.args.certificate.now c.in-Some.reason (c.if-object-length.false ∙ told) c.in-Some.ensures.some;
+    }
+
+pub returns-in-Ok-clause-verdict : goal.returns-in-Ok-clause-verdict
+returns-in-Ok-clause-verdict c =
+    let told = c.length.ensures.value ∙ ap (λ (f : Fti). f.transfer_length) c.fti.ensures.value in
+    record {
+      readings = readings_of c.args.session.now;
+      read = read_all c.args.session.now c.len-datagrams.ensures.datagrams;
+      judged = yes_all c.args.session.now c.args.object.now c.args.certificate.now c.in-Ok.report
+          (record { count = c.if-object-length.false ∙ told; bytes = c.are_bytes.ensures }) (c.in-None.ensures.none refl) c.in-Ok.ensures.certified;
+    }
+
+pub returns-in-Err-Reason-clause-verdict : goal.returns-in-Err-Reason-clause-verdict
+returns-in-Err-Reason-clause-verdict c =
+    let told = c.length.ensures.value ∙ ap (λ (f : Fti). f.transfer_length) c.fti.ensures.value in
+    record {
+      readings = readings_of c.args.session.now;
+      read = read_all c.args.session.now c.len-datagrams.ensures.datagrams;
+      judged = no_datagrams c.args.session.now c.args.object.now c.args.certificate.now c.in-Err-Reason.reason (omega (arith, c.len-datagrams.ensures.value))
+          (record { count = c.if-object-length.false ∙ told; bytes = c.are_bytes.ensures }) (c.in-None.ensures.none refl)
+          (rw c.in-Err-Reason.field-0-is at c.in-Err-Reason.ensures.refusal);
+    }

@@ -1,0 +1,115 @@
+//! The check.
+ghost use Rattle.std.specs.Prelude.{◌≡◌, ◌<◌, ◌≤◌, ℕ, length, map, slice_index, IfOk, IfErr, OnOk};
+ghost use Rattle.session.specs.Frames.{AreDatagrams};
+ghost use Rattle.losses.specs.Numbers.{below};
+ghost use Rattle.partition.specs.Fti.{block_count, source_count};
+ghost use Rattle.cert.specs.Certificate.{IsCertificate};
+ghost use Rattle.cert.specs.Headline.{DecodesWhereEnough, UndecidedElse};
+ghost use Rattle.cert.specs.Report.{IsReport, OnYes};
+ghost use Rattle.cert.specs.Scan.{AreEnough, IsThin, AreCertified, IsNotCertified};
+ghost use Rattle.cert.specs.Verdict.{IsVerdict};
+
+use crate::certificate::{Certificate, are_bytes};
+use crate::datagrams::{Refusal, numbers_of_session};
+use crate::source::not_given;
+use crate::verdict::{Reason, Report, Verdict};
+use losses::counts;
+use partition::Fti;
+use session::Session;
+use std::alloc::{AllocError, Global};
+
+// For each block its source symbols and its different ESIs, or the reason of the least block that has too few.
+fn blocks_of(alloc: Global, fti: &Fti, held: &[usize]) -> Result<Vec<(usize, usize)>, Refusal>
+    requires { length held.now ≡ block_count fti.now }
+    ensures lines { IfOk result (λ v. v.items ≡ map (λ b. (source_count fti.now b, slice_index held.now b)) (below (block_count fti.now))) }
+    ensures enough { OnOk result (AreEnough fti.now held.now) }
+    ensures refusal { IfErr result (IsThin fti.now held.now) }
+{
+    let mut blocks = Vec::new(alloc);
+    for block in 0..fti.blocks() {
+        let need = fti.k(block);
+        let have = held[block as usize];
+        if have < need {
+            return Err(Refusal::Reason(Reason::Thin { block, have, need }));
+        }
+        let Ok(()) = blocks.push((need, have)) else {
+            return Err(Refusal::NoMemory);
+        };
+    }
+    Ok(blocks)
+}
+
+// The report, or the first reason for which the datagrams don't suffice.
+fn report_of(
+    alloc: Global,
+    session: &Session,
+    certificate: &Certificate,
+) -> Result<Report, Refusal>
+    requires some { 0 < length session.now }
+    requires datagrams { AreDatagrams session.now }
+    ensures report { IfOk result (IsReport session.now certificate.now.fti) }
+    ensures certified { OnOk result (AreCertified session.now certificate.now) }
+    ensures refusal { IfErr result (IsNotCertified session.now certificate.now) }
+{
+    let numbers = match numbers_of_session(alloc, session, certificate) {
+        Ok(numbers) => numbers,
+        Err(refusal) => return Err(refusal),
+    };
+    let fti = certificate.fti();
+    let Ok(held) = counts(alloc, numbers.as_slice(), fti.blocks() as usize) else {
+        return Err(Refusal::NoMemory);
+    };
+    match blocks_of(alloc, &fti, held.as_slice()) {
+        Ok(blocks) => Ok(Report { blocks }),
+        Err(refusal) => Err(refusal),
+    }
+}
+
+// The verdict, without what a yes promises.
+fn judge(
+    alloc: Global,
+    session: &Session,
+    object: &[u8],
+    certificate: &Certificate,
+) -> Result<Verdict, AllocError>
+    ensures verdict { IfOk result (IsVerdict session.now object.now certificate.now) }
+    ensures report { IfOk result (λ v. OnYes v (IsReport session.now certificate.now.fti)) }
+    ensures certificate { IsCertificate certificate.now }
+{
+    are_bytes(object);
+    let datagrams = session.len();
+    if object.len() as u64 != certificate.fti().length() {
+        return Ok(Verdict::No(Reason::ObjectLength));
+    }
+    match not_given(object, certificate) {
+        Some(reason) => return Ok(Verdict::No(reason)),
+        None => {}
+    }
+    if datagrams == 0 {
+        return Ok(Verdict::No(Reason::Empty));
+    }
+    match report_of(alloc, session, certificate) {
+        Ok(report) => Ok(Verdict::Yes(report)),
+        Err(Refusal::Reason(reason)) => Ok(Verdict::No(reason)),
+        Err(Refusal::NoMemory) => Err(AllocError),
+    }
+}
+
+/// Whether the certificate is one of the session and the object, and at yes what the session can lose. Neither the
+/// session's sender nor the certificate's maker is trusted.
+pub fn check(
+    alloc: Global,
+    session: &Session,
+    object: &[u8],
+    certificate: &Certificate,
+) -> Result<Verdict, AllocError>
+    // The verdict: yes exactly where the certificate is one, and else the first reason.
+    ensures verdict { IfOk result (IsVerdict session.now object.now certificate.now) }
+    // At yes, each selection of the datagrams that leaves no block short decodes to the object.
+    ensures decodes { IfOk result (λ v. OnYes v (λ _. DecodesWhereEnough certificate.now.fti session.now object.now)) }
+    // At yes, each other selection leaves another object that agrees with all of it, and a decoder says what lacks.
+    ensures undecided { IfOk result (λ v. OnYes v (λ _. UndecidedElse certificate.now.fti session.now object.now)) }
+    ensures report { IfOk result (λ v. OnYes v (IsReport session.now certificate.now.fti)) }
+{
+    judge(alloc, session, object, certificate)
+}

@@ -1,0 +1,111 @@
+//! Whether the datagrams are certified.
+ghost use Rattle.std.specs.Prelude.{◌≡◌, ◌+◌, ◌<◌, ◌≤◌, ◌^◌, ℕ, Some, None, true, length, IfOk, IfErr, OnOk};
+ghost use Rattle.partition.specs.Fti.{block_count, encoding_count};
+ghost use Rattle.alc.specs.Views.{packet_of};
+ghost use Rattle.cert.specs.Readings.{in_range, counted};
+ghost use Rattle.cert.specs.Verdict.{wrong_column, packet_reason, first_reason};
+ghost use Rattle.cert.specs.Scan.{readings_of, numbers_of, AreAllCertified, IsRefusal};
+
+use crate::certificate::Certificate;
+use crate::source::value_at;
+use crate::verdict::Reason;
+use alc::{Packet, PacketFault, read};
+use gf256::point;
+use losses::Number;
+use partition::Fti;
+use session::Session;
+use std::alloc::Global;
+
+/// Why the datagrams' numbers weren't told.
+#[derive(Clone, Copy)]
+pub enum Refusal {
+    Reason(Reason),
+    NoMemory,
+}
+
+// Whether there is such a block, and in it such an encoding symbol.
+fn is_in_range(packet: &Packet<'_>, fti: &Fti) -> bool
+    ensures { result ≡ in_range (packet_of packet.now) fti.now }
+{
+    packet.sbn < fti.blocks() && usize::from(packet.esi) < fti.n(packet.sbn)
+}
+
+// The least column in which a packet's symbol isn't the certified one.
+fn wrong_symbol_column(certificate: &Certificate, packet: &Packet<'_>) -> Option<usize>
+    requires range { in_range (packet_of packet.now) certificate.now.fti ≡ true }
+    requires symbol { length packet.now.symbol.now ≡ certificate.now.fti.symbol_length }
+    ensures { result ≡ wrong_column certificate.now (packet_of packet.now) 0 certificate.now.fti.symbol_length }
+{
+    let length = usize::from(certificate.fti().symbol());
+    let x = point(packet.esi);
+    let symbol = packet.symbol;
+    for column in 0..length {
+        if value_at(certificate.polynomial(packet.sbn, column), x) != symbol[column] {
+            return Some(column);
+        }
+    }
+    None
+}
+
+// The first reason against the packet at a place, the session's first packet being the other.
+fn reason_against(
+    certificate: &Certificate,
+    first: &Packet<'_>,
+    place: usize,
+    packet: &Packet<'_>,
+) -> Option<Reason>
+    requires { length packet.now.symbol.now ≡ packet.now.fti.symbol_length }
+    ensures { result ≡ packet_reason certificate.now (packet_of first.now) place (packet_of packet.now) }
+{
+    let fti = certificate.fti();
+    if packet.tsi != first.tsi || packet.toi != first.toi {
+        return Some(Reason::OtherIdentity(place));
+    }
+    if packet.fti != fti {
+        return Some(Reason::OtherFti(place));
+    }
+    if !is_in_range(packet, &fti) {
+        return Some(Reason::Range(place));
+    }
+    match wrong_symbol_column(certificate, packet) {
+        Some(column) => Some(Reason::Symbol(place, column)),
+        None => None,
+    }
+}
+
+// The numbers of the datagrams in their order, or the first reason against one of them.
+pub fn numbers_of_session(
+    alloc: Global,
+    session: &Session,
+    certificate: &Certificate,
+) -> Result<Vec<Number>, Refusal>
+    requires { 0 < length session.now }
+    ensures none { IfOk result (λ _. first_reason certificate.now (counted (readings_of session.now)) ≡ None) }
+    ensures certified { OnOk result (AreAllCertified session.now certificate.now) }
+    ensures numbers { IfOk result (λ v. v.items ≡ numbers_of session.now) }
+    ensures refusal { IfErr result (IsRefusal session.now certificate.now) }
+{
+    let first = match read(session.get(0)) {
+        Ok(packet) => packet,
+        Err(fault) => return Err(Refusal::Reason(Reason::Packet(0, fault))),
+    };
+    let mut numbers = Vec::new(alloc);
+    for place in 0..session.len() {
+        let packet = match read(session.get(place)) {
+            Ok(packet) => packet,
+            Err(fault) => return Err(Refusal::Reason(Reason::Packet(place, fault))),
+        };
+        match reason_against(certificate, &first, place, &packet) {
+            Some(reason) => return Err(Refusal::Reason(reason)),
+            None => {}
+        }
+        let number = Number {
+            block: packet.sbn,
+            esi: packet.esi,
+        };
+        let Ok(()) = numbers.push(number) else {
+            return Err(Refusal::NoMemory);
+        };
+    }
+    Ok(numbers)
+}

@@ -1,0 +1,81 @@
+//! Whether the polynomials give the object.
+ghost use Rattle.std.specs.Prelude.{◌≡◌, ◌≢◌, ◌+◌, ◌<◌, ◌≤◌, ◌^◌, ℕ, length, slice_index, IsNone, IfSome};
+ghost use Rattle.gf256.specs.Arithmetic.{IsByte};
+ghost use Rattle.poly.specs.Polynomial.{value};
+ghost use Rattle.partition.specs.Fti.{block_count, source_count};
+ghost use Rattle.cert.specs.Verdict.{GivesAt, GivesObject, IsFirstIn, IsFirstInBlock, IsNotGiven};
+
+use crate::certificate::Certificate;
+use crate::verdict::Reason;
+use gf256::{Field, Gf, point};
+
+/// The value at `x` of the polynomial with these coefficients, the constant one first.
+pub fn value_at(coefficients: &[u8], x: Gf) -> u8
+    ensures { result ≡ value coefficients.now x }
+{
+    x.is_element();
+    let mut value = Gf::ZERO;
+    for i in (0..coefficients.len()).rev() {
+        value = Gf(coefficients[i]).add(x.mul(value));
+    }
+    value.0
+}
+
+// The byte at a place, and zero past the end, where there is padding.
+fn byte_at(object: &[u8], place: usize) -> u8
+    ensures { result ≡ slice_index object.now place }
+{
+    if place < object.len() { object[place] } else { 0 }
+}
+
+// The least source symbol of a column of a block at whose point the polynomial doesn't give the object's byte.
+fn wrong_symbol(object: &[u8], certificate: &Certificate, block: u32, column: usize) -> Option<usize>
+    requires block { block < block_count certificate.now.fti }
+    requires column { column < certificate.now.fti.symbol_length }
+    ensures none { IsNone result → (i : ℕ) → i < source_count certificate.now.fti block → GivesAt object.now certificate.now block column i }
+    ensures some { IfSome result (IsFirstIn object.now certificate.now block column) }
+{
+    let fti = certificate.fti();
+    let coefficients = certificate.polynomial(block, column);
+    let start = fti.start(block) as usize;
+    let length = usize::from(fti.symbol());
+    for i in 0..coefficients.len() {
+        let byte = byte_at(object, (start + i) * length + column);
+        if value_at(coefficients, point(i as u8)) != byte {
+            return Some(i);
+        }
+    }
+    None
+}
+
+// The least column of a block that has such a symbol, and the least of them.
+fn wrong_column(object: &[u8], certificate: &Certificate, block: u32) -> Option<(usize, usize)>
+    requires { block < block_count certificate.now.fti }
+    ensures none { IsNone result → (c i : ℕ) → c < certificate.now.fti.symbol_length → i < source_count certificate.now.fti block → GivesAt object.now certificate.now block c i }
+    ensures some { IfSome result (λ w. IsFirstInBlock object.now certificate.now block w.0 w.1) }
+{
+    for column in 0..usize::from(certificate.fti().symbol()) {
+        if let Some(symbol) = wrong_symbol(object, certificate, block, column) {
+            return Some((column, symbol));
+        }
+    }
+    None
+}
+
+/// The reason against the object, if the polynomials don't give it: the least block, in it the least column, in that
+/// the least symbol.
+pub fn not_given(object: &[u8], certificate: &Certificate) -> Option<Reason>
+    ensures none { IsNone result → GivesObject object.now certificate.now }
+    ensures some { IfSome result (IsNotGiven object.now certificate.now) }
+{
+    for block in 0..certificate.fti().blocks() {
+        if let Some((column, symbol)) = wrong_column(object, certificate, block) {
+            return Some(Reason::NotObject {
+                block,
+                column,
+                symbol,
+            });
+        }
+    }
+    None
+}

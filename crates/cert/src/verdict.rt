@@ -1,0 +1,48 @@
+//! What a check answers.
+use alc::PacketFault;
+
+/// What a check tells of a session that it says yes to.
+#[derive(Drop, Debug)]
+pub struct Report {
+    /// For each block, how many source symbols it has and how many different ESIs of it the session holds.
+    pub blocks: Vec<(usize, usize)>,
+}
+
+/// Why a certificate isn't one of a session and an object. Places count from 0.
+#[derive(Clone, Copy, Debug, PartialEq, Eq)]
+pub enum Reason {
+    /// N1: the object hasn't the certificate's length.
+    ObjectLength,
+    /// N2: a polynomial doesn't give the object's byte, or zero where there is padding, at a source symbol's point; the
+    /// least block, in it the least column, in that the least symbol.
+    NotObject {
+        block: u32,
+        column: usize,
+        symbol: usize,
+    },
+    /// N3: there are no datagrams.
+    Empty,
+    /// N4: the datagram at a place is no packet.
+    Packet(usize, PacketFault),
+    /// N5: its TSI or TOI isn't that of the first.
+    OtherIdentity(usize),
+    /// N6: its FTI isn't the certificate's.
+    OtherFti(usize),
+    /// N7: there is no such block, or no such ESI in it.
+    Range(usize),
+    /// N8: its symbol isn't the polynomials' value at its point; the least column.
+    Symbol(usize, usize),
+    /// N9: a block has fewer different ESIs than source symbols; the least block.
+    Thin {
+        block: u32,
+        have: usize,
+        need: usize,
+    },
+}
+
+/// Whether a certificate is one of a session and an object.
+#[derive(Drop, Debug)]
+pub enum Verdict {
+    Yes(Report),
+    No(Reason),
+}
