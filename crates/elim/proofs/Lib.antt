@@ -1,0 +1,13 @@
+pub mod Sums
+pub mod RowTimes
+pub mod Elimination
+pub mod Filling
+pub mod Clearing
+pub mod Interpolation
+pub mod Systematic
+pub mod VandermondePowers
+pub mod Places
+pub mod Entries
+pub mod RowProducts
+pub mod CodePoints
+pub mod Generating

@@ -1,0 +1,43 @@
+//! The generator matrix of the code.
+ghost use Rattle.std.specs.Prelude.{◌≡◌, ◌<◌, ◌≤◌, IfOk};
+ghost use Rattle.elim.specs.Generator.{ArePoints, IsGenerator, IsSystematic, Encodes};
+
+use crate::combine::{product, vandermonde};
+use crate::eliminate::{ElimError, invert};
+use crate::matrix::Matrix;
+use gf256::{Gf, point};
+use std::alloc::{AllocError, Global};
+
+/// The first points of the code.
+fn points(alloc: Global, count: usize) -> Result<Vec<Gf>, AllocError>
+    requires { count ≤ 255 }
+    ensures { IfOk result (λ v. ArePoints count v.items) }
+{
+    let mut points = Vec::with_capacity(alloc, count)?;
+    for j in 0..count {
+        points.push(point(j as u8))?;
+    }
+    Ok(points)
+}
+
+/// The generator matrix of `k` rows and `n` columns of RFC 5510, section 8.2.1: the inverse of the
+/// Vandermonde matrix of the first `k` points and `k` rows, times that of the first `n` points and
+/// `k` rows. Want of memory is the only error.
+pub fn generator(alloc: Global, k: usize, n: usize) -> Result<Matrix<Gf>, AllocError>
+    requires some { 0 < k }
+    requires wide { k ≤ n }
+    requires few { n ≤ 255 }
+    ensures generator { IfOk result (IsGenerator k n) }
+    ensures systematic { IfOk result (IsSystematic k) }
+    ensures encodes { IfOk result (Encodes k n) }
+{
+    let points = points(alloc, n)?;
+    let square = vandermonde(alloc, &points[..k], k)?;
+    let wide = vandermonde(alloc, &points, k)?;
+    let inverse = match invert(alloc, &square) {
+        Ok(inverse) => inverse,
+        Err(ElimError::NoMemory) => return Err(AllocError),
+        Err(ElimError::Singular) => unreachable!(),
+    };
+    product(alloc, &inverse, &wide)
+}

@@ -1,0 +1,16 @@
+//! Matrices over a field: products, inverses by elimination, and the generator matrix of the code
+//! of RFC 5510, section 8.2.1.
+#![tactic(auto)]
+
+mod code;
+mod combine;
+mod eliminate;
+mod matrix;
+
+pub use code::generator;
+pub use combine::{product, vandermonde};
+pub use eliminate::{ElimError, invert};
+pub use matrix::Matrix;
+
+#[cfg(test)]
+mod tests;

@@ -1,0 +1,176 @@
+//! A matrix, and steps on its rows.
+ghost use Rattle.std.specs.Prelude.{◌≡◌, ◌≢◌, ◌<◌, ◌≤◌, ◌+◌, ◌*◌, ◌^◌, ℕ, IfOk, replicate, length, slice_index_or};
+ghost use Rattle.elim.specs.Grid.{Grid, entry, HasElements, HasShape, IsMatrix};
+ghost use Rattle.elim.specs.Steps.{IsSet, IsSwapped, IsScaled, IsAdded};
+
+use gf256::Field;
+use std::alloc::{AllocError, Global};
+use std::marker::Model;
+
+/// Entries of a field in 1 to 255 rows and 1 to 255 columns. Contracts see the counts and the list
+/// of all entries, row after row.
+#[derive(Drop)]
+pub struct Matrix<F: Field> {
+    rows: usize,
+    cols: usize,
+    entries: Vec<F>,
+}
+
+impl<F: Field> Model for Matrix<F> {
+    ghost use Rattle.elim.specs.Grid.{Grid, IsMatrix};
+
+    ghost Value = { Grid F };
+
+    ghost view = { λ m. record { rows = m.rows; cols = m.cols; entries = m.entries.items } };
+
+    ghost invariant = { λ m.
+        IsMatrix F.element F.ZERO
+        (record { rows = m.rows; cols = m.cols; entries = m.entries.items }) };
+}
+
+fn zeros<F: Field>(alloc: Global, count: usize) -> Result<Vec<F>, AllocError>
+    ensures { IfOk result (λ v. v.items ≡ replicate count F.ZERO) }
+{
+    let mut zeros = Vec::with_capacity(alloc, count)?;
+    for i in 0..count {
+        zeros.push(F::ZERO)?;
+    }
+    Ok(zeros)
+}
+
+impl<F: Field> Matrix<F> {
+    /// A matrix whose entries are all zero.
+    pub fn try_new(alloc: Global, rows: usize, cols: usize) -> Result<Matrix<F>, AllocError>
+        requires some_rows { 0 < rows }
+        requires few_rows { rows ≤ 255 }
+        requires some_cols { 0 < cols }
+        requires few_cols { cols ≤ 255 }
+        ensures shape { IfOk result (HasShape rows cols) }
+        ensures zero { IfOk result (λ m. (i j : ℕ) → entry F.ZERO m i j ≡ F.ZERO) }
+        ensures elements { IfOk result (HasElements F.element F.ZERO) }
+    {
+        let entries = zeros(alloc, rows * cols)?;
+        Ok(Matrix {
+            rows,
+            cols,
+            entries,
+        })
+    }
+
+    /// The number of rows.
+    pub fn rows(&self) -> usize
+        ensures value { result ≡ self.now.rows }
+        ensures matrix { IsMatrix F.element F.ZERO self.now }
+    {
+        self.rows
+    }
+
+    /// The number of columns.
+    pub fn cols(&self) -> usize
+        ensures value { result ≡ self.now.cols }
+        ensures matrix { IsMatrix F.element F.ZERO self.now }
+    {
+        self.cols
+    }
+
+    /// The entry in row `i` and column `j`.
+    pub fn get(&self, i: usize, j: usize) -> F
+        requires row { i < self.now.rows }
+        requires column { j < self.now.cols }
+        ensures value { result ≡ entry F.ZERO self.now i j }
+        ensures fits { F.element result }
+    {
+        self.entries[i * self.cols + j]
+    }
+
+    /// Makes the entry in row `i` and column `j` this value.
+    pub fn set(&mut self, i: usize, j: usize, value: F)
+        requires row { i < self.old.rows }
+        requires column { j < self.old.cols }
+        ensures shape { HasShape self.old.rows self.old.cols self.new }
+        ensures entry { IsSet self.old.cols i j value
+            (entry F.ZERO self.old) (entry F.ZERO self.new) }
+        ensures elements { HasElements F.element F.ZERO self.new }
+    {
+        value.is_element();
+        let at = i * self.cols + j;
+        self.entries[at] = value;
+    }
+
+    /// Rows `a` and `b` change places.
+    pub(crate) fn swap_rows(&mut self, a: usize, b: usize)
+        requires first { a < self.old.rows }
+        requires second { b < self.old.rows }
+        ensures shape { HasShape self.old.rows self.old.cols self.new }
+        ensures swapped { IsSwapped self.old.rows self.old.cols a b
+            (entry F.ZERO self.old) (entry F.ZERO self.new) }
+        ensures elements { HasElements F.element F.ZERO self.new }
+    {
+        let cols = self.cols();
+        for j in 0..cols {
+            let x = self.get(a, j);
+            let y = self.get(b, j);
+            self.set(a, j, y);
+            self.set(b, j, x);
+        }
+    }
+
+    /// Row `r` becomes `c` times what it was.
+    pub(crate) fn scale_row(&mut self, r: usize, c: F)
+        requires row { r < self.old.rows }
+        requires scale { F.element c }
+        ensures shape { HasShape self.old.rows self.old.cols self.new }
+        ensures scaled { IsScaled F.product self.old.rows self.old.cols r c
+            (entry F.ZERO self.old) (entry F.ZERO self.new) }
+        ensures elements { HasElements F.element F.ZERO self.new }
+    {
+        let cols = self.cols();
+        for j in 0..cols {
+            let x = self.get(r, j);
+            self.set(r, j, c.mul(x));
+        }
+    }
+
+    /// Adds `c` times row `p` to row `r`, another one.
+    pub(crate) fn add_row(&mut self, r: usize, c: F, p: usize)
+        requires row { r < self.old.rows }
+        requires other { p < self.old.rows }
+        requires apart { p ≢ r }
+        requires scale { F.element c }
+        ensures shape { HasShape self.old.rows self.old.cols self.new }
+        ensures added { IsAdded F.sum F.product self.old.rows self.old.cols r c p
+            (entry F.ZERO self.old) (entry F.ZERO self.new) }
+        ensures elements { HasElements F.element F.ZERO self.new }
+    {
+        add_scaled_rows(&mut self.entries, self.cols, r, c, p);
+    }
+}
+
+/// Of rows of `cols` entries, adds `c` times row `p` to row `r`, another one.
+fn add_scaled_rows<F: Field>(entries: &mut [F], cols: usize, r: usize, c: F, p: usize)
+    requires small { length entries.old < 2 ^ 32 }
+    requires row { r * cols + cols ≤ length entries.old }
+    requires other { p * cols + cols ≤ length entries.old }
+    requires apart { p ≢ r }
+    requires scale { F.element c }
+    ensures length { length entries.new ≡ length entries.old }
+    ensures here { (j : ℕ)
+        → j < cols
+        → slice_index_or entries.new (r * cols + j) F.ZERO
+        ≡ F.sum (slice_index_or entries.old (r * cols + j) F.ZERO)
+        (F.product c (slice_index_or entries.old (p * cols + j) F.ZERO)) }
+    ensures before { (i : ℕ)
+        → i < r * cols
+        → slice_index_or entries.new i F.ZERO ≡ slice_index_or entries.old i F.ZERO }
+    ensures after { (i : ℕ)
+        → r * cols + cols ≤ i
+        → slice_index_or entries.new i F.ZERO ≡ slice_index_or entries.old i F.ZERO }
+{
+    if r < p {
+        let (low, high) = entries.split_at_mut(p * cols);
+        F::add_scaled_row(&mut low[r * cols..r * cols + cols], c, &high[..cols]);
+    } else {
+        let (low, high) = entries.split_at_mut(r * cols);
+        F::add_scaled_row(&mut high[..cols], c, &low[p * cols..p * cols + cols]);
+    }
+}
