@@ -1,0 +1,338 @@
+//! Verdicts on worked sessions.
+use crate::command::{answer, check};
+use crate::sessions::{
+    PAIR, PAIR_CERTIFICATE, PAIR_SESSION, Sent, certificate_of, pair_changed, pair_frames,
+    session_of,
+};
+use std::alloc::Global;
+use std::test::Fail;
+
+// The status and the lines of `check` of these symbols.
+fn checked(
+    alloc: Global,
+    fti: &[u8],
+    sent: &[Sent<'_>],
+    object: &[u8],
+    coefficients: &[u8],
+) -> Result<String, Fail> {
+    let session = session_of(alloc, fti, sent)?;
+    let certificate = certificate_of(alloc, fti, coefficients)?;
+    Ok(check(alloc, session.as_slice(), object, certificate.as_slice())?.text)
+}
+
+#[test]
+fn yes_to_a_pair(rt: HostRuntime) -> Result<(), Fail> {
+    let yes = check(rt.alloc(), &PAIR_SESSION, &PAIR, &PAIR_CERTIFICATE)?;
+    assert_eq!(rt; yes.text.as_str(), "yes\nblock 0 need 2 have 3\n");
+    assert_eq!(rt; yes.status, 0);
+    assert_eq!(rt; yes.created, 0);
+    Ok(())
+}
+
+#[test]
+fn yes_to_one_block(rt: HostRuntime) -> Result<(), Fail> {
+    let alloc = rt.alloc();
+    let text = checked(
+        alloc,
+        &[0, 0, 0, 0, 0, 2, 0, 1, 2, 3],
+        &[(0, 0, &[0x41]), (0, 1, &[0x42]), (0, 2, &[0x44])],
+        &[0x41, 0x42],
+        &[0x40, 0x01],
+    )?;
+    assert_eq!(rt; text.as_str(), "yes\nblock 0 need 2 have 3\n");
+    let text = checked(
+        alloc,
+        &[0, 0, 0, 0, 0, 3, 0, 1, 3, 5],
+        &[
+            (0, 0, &[1]),
+            (0, 1, &[4]),
+            (0, 2, &[0x10]),
+            (0, 3, &[0x40]),
+            (0, 4, &[0x1D]),
+        ],
+        &[1, 4, 0x10],
+        &[0, 0, 1],
+    )?;
+    assert_eq!(rt; text.as_str(), "yes\nblock 0 need 3 have 5\n");
+    Ok(())
+}
+
+#[test]
+fn yes_to_a_padded_symbol(rt: HostRuntime) -> Result<(), Fail> {
+    let text = checked(
+        rt.alloc(),
+        &[0, 0, 0, 0, 0, 3, 0, 2, 2, 3],
+        &[(0, 0, &[7, 8]), (0, 1, &[9, 0]), (0, 2, &[0x15, 0x10])],
+        &[7, 8, 9],
+        &[0xF6, 0xF1, 0xFB, 0xF3],
+    )?;
+    assert_eq!(rt; text.as_str(), "yes\nblock 0 need 2 have 3\n");
+    Ok(())
+}
+
+const THREE_BLOCKS_FTI: [u8; 10] = [0, 0, 0, 0, 0, 10, 0, 1, 4, 6];
+
+const THREE_BLOCKS_OBJECT: [u8; 10] = [1, 8, 0x40, 0x3A, 1, 2, 4, 1, 4, 0x10];
+
+const THREE_BLOCKS_COEFFICIENTS: [u8; 10] = [0, 0, 0, 1, 0, 1, 0, 0, 0, 1];
+
+#[test]
+fn yes_to_three_blocks_in_turn(rt: HostRuntime) -> Result<(), Fail> {
+    let text = checked(
+        rt.alloc(),
+        &THREE_BLOCKS_FTI,
+        &[
+            (0, 0, &[1]),
+            (0, 1, &[8]),
+            (0, 2, &[0x40]),
+            (0, 3, &[0x3A]),
+            (0, 4, &[0xCD]),
+            (0, 5, &[0x26]),
+            (1, 0, &[1]),
+            (1, 1, &[2]),
+            (1, 2, &[4]),
+            (1, 3, &[8]),
+            (2, 0, &[1]),
+            (2, 1, &[4]),
+            (2, 2, &[0x10]),
+            (2, 3, &[0x40]),
+        ],
+        &THREE_BLOCKS_OBJECT,
+        &THREE_BLOCKS_COEFFICIENTS,
+    )?;
+    assert_eq!(rt;
+        text.as_str(),
+        "yes\nblock 0 need 4 have 6\nblock 1 need 3 have 4\nblock 2 need 3 have 4\n"
+    );
+    Ok(())
+}
+
+#[test]
+fn yes_to_three_blocks_in_rounds(rt: HostRuntime) -> Result<(), Fail> {
+    let text = checked(
+        rt.alloc(),
+        &THREE_BLOCKS_FTI,
+        &[
+            (0, 0, &[1]),
+            (1, 0, &[1]),
+            (2, 0, &[1]),
+            (0, 1, &[8]),
+            (1, 1, &[2]),
+            (2, 1, &[4]),
+            (0, 2, &[0x40]),
+            (1, 2, &[4]),
+            (2, 2, &[0x10]),
+            (0, 3, &[0x3A]),
+            (1, 3, &[8]),
+            (2, 3, &[0x40]),
+            (0, 4, &[0xCD]),
+            (0, 5, &[0x26]),
+        ],
+        &THREE_BLOCKS_OBJECT,
+        &THREE_BLOCKS_COEFFICIENTS,
+    )?;
+    assert_eq!(rt;
+        text.as_str(),
+        "yes\nblock 0 need 4 have 6\nblock 1 need 3 have 4\nblock 2 need 3 have 4\n"
+    );
+    Ok(())
+}
+
+#[test]
+fn yes_to_the_greatest_block(rt: HostRuntime) -> Result<(), Fail> {
+    let alloc = rt.alloc();
+    let mut sent = Vec::new(alloc);
+    for esi in 0..255u8 {
+        sent.push((0, esi, &[0][..]))?;
+    }
+    let text = checked(
+        alloc,
+        &[0, 0, 0, 0, 0, 255, 0, 1, 255, 255],
+        sent.as_slice(),
+        &[0; 255],
+        &[0; 255],
+    )?;
+    assert_eq!(rt; text.as_str(), "yes\nblock 0 need 255 have 255\n");
+    Ok(())
+}
+
+#[test]
+fn yes_to_one_symbol_four_times(rt: HostRuntime) -> Result<(), Fail> {
+    let text = checked(
+        rt.alloc(),
+        &[0, 0, 0, 0, 0, 1, 0, 1, 1, 4],
+        &[
+            (0, 0, &[0xAA]),
+            (0, 1, &[0xAA]),
+            (0, 2, &[0xAA]),
+            (0, 3, &[0xAA]),
+        ],
+        &[0xAA],
+        &[0xAA],
+    )?;
+    assert_eq!(rt; text.as_str(), "yes\nblock 0 need 1 have 4\n");
+    Ok(())
+}
+
+#[test]
+fn no_to_a_thin_block(rt: HostRuntime) -> Result<(), Fail> {
+    let alloc = rt.alloc();
+    for places in [&[2][..], &[2, 2, 2]] {
+        let session = pair_frames(alloc, places)?;
+        let no = check(alloc, session.as_slice(), &PAIR, &PAIR_CERTIFICATE)?;
+        assert_eq!(rt; no.text.as_str(), "no N9 Thin block 0 have 1 need 2\n");
+        assert_eq!(rt; no.status, 1);
+    }
+    Ok(())
+}
+
+#[test]
+fn no_to_nothing(rt: HostRuntime) -> Result<(), Fail> {
+    let no = check(rt.alloc(), &[], &PAIR, &PAIR_CERTIFICATE)?;
+    assert_eq!(rt; no.text.as_str(), "no N3 Empty\n");
+    assert_eq!(rt; no.status, 1);
+    Ok(())
+}
+
+#[test]
+fn no_to_another_object(rt: HostRuntime) -> Result<(), Fail> {
+    let alloc = rt.alloc();
+    let no = check(alloc, &PAIR_SESSION, &[1, 3], &PAIR_CERTIFICATE)?;
+    assert_eq!(rt;
+        no.text.as_str(),
+        "no N2 NotObject block 0 column 0 symbol 1\n"
+    );
+    let no = check(alloc, &PAIR_SESSION, &[1, 2, 0], &PAIR_CERTIFICATE)?;
+    assert_eq!(rt; no.text.as_str(), "no N1 ObjectLength\n");
+    Ok(())
+}
+
+#[test]
+fn no_to_one_byte_changed(rt: HostRuntime) -> Result<(), Fail> {
+    let alloc = rt.alloc();
+    for (at, byte, line) in [
+        (104, 5, "no N8 Symbol place 2 column 0\n"),
+        (35 + 2 + 15, 2, "no N5 OtherIdentity place 1\n"),
+        (35 + 2 + 11, 2, "no N5 OtherIdentity place 1\n"),
+        (35 + 2 + 27, 4, "no N6 OtherFti place 1\n"),
+        (70 + 2 + 31, 3, "no N7 Range place 2\n"),
+        (70 + 2 + 30, 1, "no N7 Range place 2\n"),
+        (35 + 2 + 2, 6, "no N4 Packet place 1 P7 Extension\n"),
+        (
+            35 + 2 + 26,
+            0,
+            "no N4 Packet place 1 P11 FtiValue F4 BlockZero\n",
+        ),
+    ] {
+        let session = pair_changed(at, byte);
+        let no = check(alloc, &session, &PAIR, &PAIR_CERTIFICATE)?;
+        assert_eq!(rt; no.text.as_str(), line, "byte {at} is {byte}");
+        assert_eq!(rt; no.status, 1);
+    }
+    Ok(())
+}
+
+#[test]
+fn no_at_the_least_place(rt: HostRuntime) -> Result<(), Fail> {
+    let mut session = pair_changed(104, 5);
+    session[39] = 6;
+    let no = check(rt.alloc(), &session, &PAIR, &PAIR_CERTIFICATE)?;
+    assert_eq!(rt; no.text.as_str(), "no N4 Packet place 1 P7 Extension\n");
+    Ok(())
+}
+
+#[test]
+fn no_to_a_symbol_of_no_block(rt: HostRuntime) -> Result<(), Fail> {
+    let alloc = rt.alloc();
+    let fti = [0, 0, 0, 0, 0, 2, 0, 1, 2, 3];
+    let session = session_of(alloc, &fti, &[(0, 3, &[1])])?;
+    let no = check(alloc, session.as_slice(), &PAIR, &PAIR_CERTIFICATE)?;
+    assert_eq!(rt; no.text.as_str(), "no N7 Range place 0\n");
+    Ok(())
+}
+
+#[test]
+fn cut_sessions(rt: HostRuntime) -> Result<(), Fail> {
+    let alloc = rt.alloc();
+    for (session, line) in [
+        (&[0xFF, 0xFF][..], "fault S3 TooLong\n"),
+        (&[0], "fault S1 CutLength\n"),
+        (&[0, 0x21, 0x10], "fault S2 CutDatagram\n"),
+        (&[0, 0], "no N4 Packet place 0 P1 TooShort\n"),
+    ] {
+        let fault = check(alloc, session, &PAIR, &PAIR_CERTIFICATE)?;
+        assert_eq!(rt; fault.text.as_str(), line);
+        assert_eq!(rt; fault.status, 1);
+    }
+    Ok(())
+}
+
+// The session file of a pair, without its bytes from `size` on.
+#[test]
+fn every_beginning_of_a_session(rt: HostRuntime) -> Result<(), Fail> {
+    let alloc = rt.alloc();
+    for size in 0..105usize {
+        let beginning = PAIR_SESSION.get(..size).unwrap_or(&[]);
+        let line = match (size / 35, size % 35) {
+            (0, 0) => "no N3 Empty\n",
+            (1, 0) => "no N9 Thin block 0 have 1 need 2\n",
+            (_, 0) => "yes\nblock 0 need 2 have 2\n",
+            (_, 1) => "fault S1 CutLength\n",
+            _ => "fault S2 CutDatagram\n",
+        };
+        let told = check(alloc, beginning, &PAIR, &PAIR_CERTIFICATE)?;
+        assert_eq!(rt; told.text.as_str(), line, "{size} bytes");
+    }
+    Ok(())
+}
+
+#[test]
+fn cut_and_wrong_certificates(rt: HostRuntime) -> Result<(), Fail> {
+    let alloc = rt.alloc();
+    let no_block = [0x52, 0x53, 0x43, 0x31, 0, 0, 0, 0, 0, 2, 0, 1, 0, 3, 0, 1];
+    let longer = [
+        0x52, 0x53, 0x43, 0x31, 0, 0, 0, 0, 0, 2, 0, 1, 2, 3, 0, 1, 0,
+    ];
+    // It claims 2^40 bytes.
+    let claim = [
+        0x52, 0x53, 0x43, 0x31, 1, 0, 0, 0, 0, 0, 0xFF, 0xC3, 255, 255,
+    ];
+    for (certificate, line) in [
+        (&[][..], "fault Z1 Magic\n"),
+        (b"RSC", "fault Z1 Magic\n"),
+        (b"RSC2 and anything", "fault Z1 Magic\n"),
+        (b"RSC1", "fault Z3 Size\n"),
+        (&PAIR_CERTIFICATE[..13], "fault Z3 Size\n"),
+        (&PAIR_CERTIFICATE[..15], "fault Z3 Size\n"),
+        (&longer, "fault Z3 Size\n"),
+        (&no_block, "fault Z2 Fti F4 BlockZero\n"),
+        (&claim, "fault Z3 Size\n"),
+    ] {
+        let fault = check(alloc, &PAIR_SESSION, &PAIR, certificate)?;
+        assert_eq!(rt; fault.text.as_str(), line);
+        assert_eq!(rt; fault.status, 1);
+    }
+    Ok(())
+}
+
+#[test]
+fn files_that_are_not_there(rt: HostRuntime) -> Result<(), Fail> {
+    let alloc = rt.alloc();
+    let words = ["alcrs", "check", "s", "o", "c"];
+    let files = [
+        ("s", &PAIR_SESSION[..]),
+        ("o", &PAIR),
+        ("c", &PAIR_CERTIFICATE),
+    ];
+    for (count, line) in [
+        (0, "fault open s\n"),
+        (1, "fault open o\n"),
+        (2, "fault open c\n"),
+    ] {
+        let fault = answer(alloc, &words, &files[..count])?;
+        assert_eq!(rt; fault.text.as_str(), line);
+        assert_eq!(rt; fault.status, 1);
+        assert_eq!(rt; fault.created, 0);
+    }
+    Ok(())
+}

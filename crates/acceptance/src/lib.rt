@@ -1,0 +1,17 @@
+//! Whole commands over files in memory.
+#![tactic(auto)]
+
+mod memory;
+
+pub use memory::{MemoryFolder, Pieces, Sink};
+
+#[cfg(test)]
+mod check_tests;
+#[cfg(test)]
+mod command;
+#[cfg(test)]
+mod line_tests;
+#[cfg(test)]
+mod sessions;
+#[cfg(test)]
+mod show_tests;

@@ -1,0 +1,79 @@
+//! Command lines that are refused, and help.
+use crate::command::answer;
+use std::test::Fail;
+
+#[test]
+fn refused_lines(rt: HostRuntime) -> Result<(), Fail> {
+    let alloc = rt.alloc();
+    for words in [
+        &[][..],
+        &["alcrs"],
+        &["alcrs", "chek", "s", "o", "c"],
+        &["alcrs", "check"],
+        &["alcrs", "check", "s", "o"],
+        &["alcrs", "check", "s", "o", "c", "d"],
+        &["alcrs", "check", "s", "o", "c", "--fast"],
+        &["alcrs", "show"],
+        &["alcrs", "show", "s", "t"],
+    ] {
+        let refused = answer(alloc, words, &[])?;
+        assert_eq!(rt; refused.status, 2);
+        assert!(rt; !refused.text.as_str().is_empty());
+    }
+    Ok(())
+}
+
+#[test]
+fn a_missing_argument(rt: HostRuntime) -> Result<(), Fail> {
+    let refused = answer(rt.alloc(), &["alcrs", "check", "s"], &[])?;
+    assert_eq!(rt;
+        refused.text.as_str(),
+        "error: the following required arguments were not provided:\n  <OBJECT>\n  <CERT>\n\nUsage: alcrs check <SESSION> <OBJECT> <CERT>\n\nFor more information, try '--help'.\n"
+    );
+    Ok(())
+}
+
+#[test]
+fn help(rt: HostRuntime) -> Result<(), Fail> {
+    let alloc = rt.alloc();
+    for (words, first) in [
+        (
+            &["alcrs", "--help"][..],
+            "Certifies file-delivery sessions: ALC datagrams with Reed-Solomon symbols (RFC 5510, FEC Encoding ID 5)\n",
+        ),
+        (
+            &["alcrs", "help"],
+            "Certifies file-delivery sessions: ALC datagrams with Reed-Solomon symbols (RFC 5510, FEC Encoding ID 5)\n",
+        ),
+        (
+            &["alcrs", "check", "--help"],
+            "Says whether a certificate proves that a session carries an object",
+        ),
+        (
+            &["alcrs", "show", "-h"],
+            "Prints a line for each datagram of a session\n",
+        ),
+    ] {
+        let help = answer(alloc, words, &[])?;
+        assert_eq!(rt; help.status, 0);
+        assert!(rt; help.text.as_str().starts_with(first));
+        assert!(rt; help.text.as_str().contains("Example: alcrs "));
+    }
+    Ok(())
+}
+
+#[test]
+fn help_on_check(rt: HostRuntime) -> Result<(), Fail> {
+    let help = answer(rt.alloc(), &["alcrs", "check", "--help"], &[])?;
+    for line in [
+        "Usage: alcrs check <SESSION> <OBJECT> <CERT>\n",
+        "  <SESSION>  The session file: each datagram behind its length in two bytes\n",
+        "  <OBJECT>   The file that the session is to carry\n",
+        "  <CERT>     The certificate: the polynomial of each byte column of each block\n",
+        "Statuses: 0 yes, 1 no or a fault, 2 the command line is refused.\n",
+        "Example: alcrs check bulletin.session bulletin.txt bulletin.rsc",
+    ] {
+        assert!(rt; help.text.as_str().contains(line), "{line}");
+    }
+    Ok(())
+}

@@ -1,0 +1,100 @@
+//! Lines of datagrams.
+use crate::command::answer;
+use crate::sessions::{PAIR_SESSION, pair_changed};
+use std::test::Fail;
+
+#[test]
+fn a_pair(rt: HostRuntime) -> Result<(), Fail> {
+    let shown = answer(rt.alloc(), &["alcrs", "show", "s"], &[("s", &PAIR_SESSION)])?;
+    assert_eq!(rt;
+        shown.text.as_str(),
+        "0 tsi 1 toi 1 length 2 symbol 1 block 2 max 3 sbn 0 esi 0\n\
+         1 tsi 1 toi 1 length 2 symbol 1 block 2 max 3 sbn 0 esi 1\n\
+         2 tsi 1 toi 1 length 2 symbol 1 block 2 max 3 sbn 0 esi 2\n"
+    );
+    assert_eq!(rt; shown.status, 0);
+    Ok(())
+}
+
+#[test]
+fn nothing(rt: HostRuntime) -> Result<(), Fail> {
+    let shown = answer(rt.alloc(), &["alcrs", "show", "s"], &[("s", &[])])?;
+    assert_eq!(rt; shown.text.as_str(), "");
+    assert_eq!(rt; shown.status, 0);
+    Ok(())
+}
+
+#[test]
+fn no_packets(rt: HostRuntime) -> Result<(), Fail> {
+    let alloc = rt.alloc();
+    // Bytes of datagram 1, which stands behind 35 bytes of datagram 0 and two of length.
+    for (at, byte, fault) in [
+        (0, 0x20, "P2 Version"),
+        (0, 0x11, "P3 Psi"),
+        (3, 0, "P4 Codepoint"),
+        (1, 0x20, "P5 NoIdentity"),
+        (1, 0x80, "P5 NoIdentity"),
+        (2, 3, "P6 HeaderLength"),
+        (2, 9, "P6 HeaderLength"),
+        (2, 6, "P7 Extension"),
+        (2, 8, "P7 Extension"),
+        (2, 4, "P10 NoFti"),
+        (17, 0, "P7 Extension"),
+        (17, 2, "P8 FtiLength"),
+        (17, 4, "P7 Extension"),
+        (23, 0, "P11 FtiValue F1 LengthZero"),
+        (25, 0, "P11 FtiValue F3 SymbolZero"),
+        (26, 0, "P11 FtiValue F4 BlockZero"),
+        (27, 1, "P11 FtiValue F5 MaxBelowBlock"),
+        (25, 2, "P12 PayloadLength"),
+    ] {
+        let session = pair_changed(37 + at, byte);
+        let shown = answer(alloc, &["alcrs", "show", "s"], &[("s", &session)])?;
+        let mut lines = shown.text.as_str().split('\n');
+        let first = "0 tsi 1 toi 1 length 2 symbol 1 block 2 max 3 sbn 0 esi 0";
+        assert_eq!(rt; lines.next(), Some(first));
+        let second = format!(in alloc; "1 {fault}")?;
+        assert_eq!(rt; lines.next(), Some(second.as_str()), "byte {at} is {byte}");
+        let third = "2 tsi 1 toi 1 length 2 symbol 1 block 2 max 3 sbn 0 esi 2";
+        assert_eq!(rt; lines.next(), Some(third));
+        assert_eq!(rt; shown.status, 1);
+    }
+    Ok(())
+}
+
+#[test]
+fn a_datagram_of_no_bytes(rt: HostRuntime) -> Result<(), Fail> {
+    let shown = answer(rt.alloc(), &["alcrs", "show", "s"], &[("s", &[0, 0])])?;
+    assert_eq!(rt; shown.text.as_str(), "0 P1 TooShort\n");
+    assert_eq!(rt; shown.status, 1);
+    Ok(())
+}
+
+#[test]
+fn another_form_of_header(rt: HostRuntime) -> Result<(), Fail> {
+    // TSI and TOI of 16 bits each.
+    let session = [
+        0, 29, 0x10, 0x10, 6, 5, 0, 0, 0, 0, 0, 1, 0, 1, 0x40, 3, 0, 0, 0, 0, 0, 2, 0, 1, 2, 3, 0,
+        0, 0, 0, 1,
+    ];
+    let shown = answer(rt.alloc(), &["alcrs", "show", "s"], &[("s", &session)])?;
+    let line = "0 tsi 1 toi 1 length 2 symbol 1 block 2 max 3 sbn 0 esi 0\n";
+    assert_eq!(rt; shown.text.as_str(), line);
+    Ok(())
+}
+
+#[test]
+fn the_greatest_numbers(rt: HostRuntime) -> Result<(), Fail> {
+    // TSI of 48 bits, TOI of 112 bits, all of them set, and an extension of type 200 before EXT_FTI.
+    let session = [
+        0, 49, 0x10, 0xF0, 11, 5, 0, 0, 0, 0, 255, 255, 255, 255, 255, 255, 255, 255, 255, 255,
+        255, 255, 255, 255, 255, 255, 255, 255, 255, 255, 200, 0, 0, 0, 0x40, 3, 0, 0, 0, 0, 0, 2,
+        0, 1, 2, 3, 255, 255, 255, 255, 9,
+    ];
+    let shown = answer(rt.alloc(), &["alcrs", "show", "s"], &[("s", &session)])?;
+    assert_eq!(rt;
+        shown.text.as_str(),
+        "0 tsi 281474976710655 toi 5192296858534827628530496329220095 length 2 symbol 1 block 2 max 3 sbn 16777215 esi 255\n"
+    );
+    Ok(())
+}

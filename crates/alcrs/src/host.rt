@@ -1,0 +1,42 @@
+//! The host's files.
+use session::{Device, Failed};
+use std::fs;
+use std::fs::File;
+use std::rt::Files;
+use tool::Folder;
+
+/// The folder that the program runs in. Names are paths.
+#[derive(Drop)]
+pub struct HostFolder<'a, R> {
+    rt: &'a R,
+}
+
+impl<'a, R> HostFolder<'a, R> {
+    pub fn new(rt: &'a R) -> HostFolder<'a, R> {
+        HostFolder { rt }
+    }
+}
+
+impl<R: Files> Folder for HostFolder<'_, R> {
+    type Input = Device<R::File>;
+
+    type Output = Device<R::File>;
+
+    fn open_file(&mut self, name: &str) -> Result<Device<R::File>, Failed> {
+        match fs::open(self.rt, name) {
+            Ok(file) => Ok(Device::new(file)),
+            Err(_) => Err(Failed),
+        }
+    }
+
+    fn create_file(&mut self, name: &str) -> Result<Device<R::File>, Failed> {
+        match fs::create(self.rt, name) {
+            Ok(file) => Ok(Device::new(file)),
+            Err(_) => Err(Failed),
+        }
+    }
+
+    fn close_file(&mut self, _name: &str, output: Device<R::File>) {
+        drop(output);
+    }
+}

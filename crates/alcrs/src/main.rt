@@ -1,0 +1,40 @@
+//! The program: the commands over the host's files.
+#![tactic(auto)]
+
+mod host;
+
+use host::HostFolder;
+use session::Device;
+use std::io;
+use std::process::ExitCode;
+use tool::{Usage, request, run};
+
+fn main(rt: HostRuntime) -> io::Result<ExitCode> {
+    let alloc = rt.alloc();
+    let words: Vec<String> = std::env::args(&rt)?.collect(alloc)?;
+    let mut views: Vec<&str> = Vec::new(alloc);
+    for word in &words {
+        views.push(word.as_str())?;
+    }
+    match request(alloc, views.as_slice()) {
+        Ok(request) => {
+            let mut folder = HostFolder::new(&rt);
+            let mut out = Device::new(io::writer(&rt));
+            let status = run(alloc, &request, &mut folder, &mut out);
+            Ok(ExitCode::from(status))
+        }
+        Err(Usage::Help(error)) => {
+            error.print(&rt)?;
+            Ok(ExitCode::from(0))
+        }
+        Err(Usage::Line(error)) => {
+            error.print(&rt)?;
+            Ok(ExitCode::from(2))
+        }
+        Err(Usage::Value) => Ok(ExitCode::from(2)),
+        Err(Usage::NoMemory) => {
+            println!(rt; "fault memory")?;
+            Ok(ExitCode::from(1))
+        }
+    }
+}

@@ -1,0 +1,24 @@
+//! Faults of a command.
+use cert::CertFault;
+use session::FrameFault;
+use std::alloc::AllocError;
+
+/// Why a command ended.
+#[derive(Clone, Copy)]
+pub enum Fault<'a> {
+    /// A file can't be opened or created.
+    Open(&'a str),
+    /// An object can't be read, or a file can't be written.
+    File(&'a str),
+    Memory,
+    Frame(FrameFault),
+    Certificate(CertFault),
+    /// The output can't be written, so nothing more is printed.
+    Output,
+}
+
+impl From<AllocError> for Fault<'_> {
+    fn from(_: AllocError) -> Self {
+        Fault::Memory
+    }
+}

@@ -1,0 +1,82 @@
+//! Doing what was asked for.
+use crate::check::check;
+use crate::command::Request;
+use crate::fault::Fault;
+use crate::folder::Folder;
+use crate::print::Line;
+use crate::show::show;
+use cert::CertFault;
+use session::{FrameFault, Write, write_all};
+use std::alloc::{AllocError, Global};
+
+/// Does the command, prints its lines, and answers the status: 0 done or yes, 1 no or a fault. If the output can't be
+/// written it is 1.
+pub fn run<F: Folder, W: Write>(
+    alloc: Global,
+    request: &Request<'_>,
+    folder: &mut F,
+    out: &mut W,
+) -> u8 {
+    let done = match request {
+        Request::Check {
+            session,
+            object,
+            certificate,
+        } => check(alloc, folder, out, session, object, certificate),
+        Request::Show { session } => show(alloc, folder, out, session),
+    };
+    match done {
+        Ok(status) => status,
+        Err(fault) => {
+            tell(alloc, out, fault);
+            1
+        }
+    }
+}
+
+// Prints a fault, if there is an output and memory for it.
+fn tell<W: Write>(alloc: Global, out: &mut W, fault: Fault<'_>) {
+    match fault {
+        Fault::Output => {}
+        Fault::Memory => tell_memory(out),
+        _ => match fault_line(alloc, fault) {
+            Ok(line) => {
+                let _ = line.print(out);
+            }
+            Err(_) => tell_memory(out),
+        },
+    }
+}
+
+// Takes no memory.
+fn tell_memory<W: Write>(out: &mut W) {
+    let _ = write_all(out, b"fault memory\n");
+}
+
+fn fault_line(alloc: Global, fault: Fault<'_>) -> Result<Line, AllocError> {
+    let mut line = Line::new(alloc);
+    line.text("fault ")?;
+    match fault {
+        Fault::Open(name) => {
+            line.text("open ")?;
+            line.text(name)?;
+        }
+        Fault::File(name) => {
+            line.text("file ")?;
+            line.text(name)?;
+        }
+        Fault::Frame(FrameFault::NoMemory)
+        | Fault::Certificate(CertFault::NoMemory)
+        | Fault::Memory => line.text("memory")?,
+        Fault::Frame(fault) => {
+            let text = format!(in alloc; "{fault}")?;
+            line.text(text.as_str())?;
+        }
+        Fault::Certificate(fault) => {
+            let text = format!(in alloc; "{fault}")?;
+            line.text(text.as_str())?;
+        }
+        Fault::Output => {}
+    }
+    Ok(line)
+}

@@ -1,0 +1,51 @@
+//! The command `show`.
+use crate::fault::Fault;
+use crate::folder::Folder;
+use crate::input::read_session;
+use crate::print::Line;
+use alc::{Packet, PacketFault, read};
+use session::Write;
+use std::alloc::{AllocError, Global};
+
+/// Prints a line for each datagram, and answers the status: 0 where all are packets.
+pub fn show<'a, F: Folder, W: Write>(
+    alloc: Global,
+    folder: &mut F,
+    out: &mut W,
+    session: &'a str,
+) -> Result<u8, Fault<'a>> {
+    let session = read_session(alloc, folder, session)?;
+    let mut status = 0;
+    for place in 0..session.len() {
+        match read(session.get(place)) {
+            Ok(packet) => packet_line(alloc, place, &packet)?.print(out)?,
+            Err(fault) => {
+                status = 1;
+                fault_line(alloc, place, fault)?.print(out)?;
+            }
+        }
+    }
+    Ok(status)
+}
+
+fn packet_line(alloc: Global, place: usize, packet: &Packet<'_>) -> Result<Line, AllocError> {
+    let mut line = Line::new(alloc);
+    line.number(place)?;
+    line.named(" tsi", packet.tsi)?;
+    line.named(" toi", packet.toi)?;
+    line.named(" length", packet.fti.length())?;
+    line.named(" symbol", packet.fti.symbol())?;
+    line.named(" block", packet.fti.block())?;
+    line.named(" max", packet.fti.max_n())?;
+    line.named(" sbn", packet.sbn)?;
+    line.named(" esi", packet.esi)?;
+    Ok(line)
+}
+
+fn fault_line(alloc: Global, place: usize, fault: PacketFault) -> Result<Line, AllocError> {
+    let mut line = Line::new(alloc);
+    line.number(place)?;
+    let text = format!(in alloc; " {fault}")?;
+    line.text(text.as_str())?;
+    Ok(line)
+}
