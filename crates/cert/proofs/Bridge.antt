@@ -1,17 +1,17 @@
 -- Symbols that came, as the numbers of their packets.
-use Rattle.std.proofs.Common.{◌≡◌, ℕ, zero, suc, ◌+◌, ◌<◌, ◌≤◌, Bool, true, false, ◌&&◌, ◌||◌, List, [], ◌∷◌, ◌++◌, Some, None, Ok, Err, length, map, get_or, refl, sym, ap, subst, ◌∙◌, arith, ltb-true}
-use Rattle.std.specs.Prelude.{slice_index, filter, ◌==◌}
+use Rattle.std.proofs.Common.{◌≡◌, ℕ, zero, suc, ◌+◌, ◌<◌, ◌≤◌, Bool, ◌&&◌, ◌||◌, List, [], ◌∷◌, ◌++◌, None, Ok, Err, length, map, refl, sym, ap, ◌∙◌, arith, ltb-true}
+use Rattle.std.specs.Prelude.{slice_index, ◌==◌}
 use Rattle.std.specs.List.{AllByRecursion}
 use Rattle.std.proofs.lemmas.Bool.{le-leb, lt-leb}
 use Rattle.std.proofs.lemmas.List.{map-append}
 use Rattle.losses.specs.Numbers.{below, has, present}
 use Rattle.losses.proofs.Lists.{both, filter_same}
 use Rattle.losses.proofs.Below.{all_below}
-use Rattle.partition.specs.Fti.{Fti, block_count, source_count}
+use Rattle.partition.specs.Fti.{block_count, source_count}
 use Rattle.alc.specs.Packet.{Packet}
 use Rattle.alc.specs.Reading.{Reading}
 use Rattle.alc.specs.Computed.{read_of}
-use Rattle.cert.specs.Symbols.{is_held, held, held_count, is_full, IsFirstShort}
+use Rattle.cert.specs.Symbols.{is_held, held, held_count, IsFirstShort}
 use Rattle.cert.specs.Certificate.{Certificate}
 use Rattle.cert.specs.Readings.{placed_from, counted, symbols, Suffices}
 use Rattle.cert.specs.declared.verdict.Reason.{Reason}
@@ -37,8 +37,8 @@ pub held_present : (z : Certificate) (first : Packet) (ds : List (List ℕ)) (b 
     → held (symbols (counted (readings_of ds))) b ≡ present b (numbers_of ds)
 held_present z first ds b h =
     filter_same _ _ (below 256)
-      (all_below (λ j. is_held (symbols (counted (readings_of ds))) b j ≡ has b (numbers_of ds) j) 256
-        (λ j l. held_has z first 0 b j (readings_of ds) h ∙ ap (λ ns. has b ns j) (sym (numbers_are ds))))
+    (all_below (λ j. is_held (symbols (counted (readings_of ds))) b j ≡ has b (numbers_of ds) j) 256
+    (λ j l. held_has z first 0 b j (readings_of ds) h ∙ ap (λ ns. has b ns j) (sym (numbers_are ds))))
 
 in_blocks : (z : Certificate) (first : Packet) (i : ℕ) (rs : List Reading) → AllByRecursion (λ x. IsCertifiedReading z first x.reading) (placed_from i rs)
     → AllByRecursion (λ n. n.block < block_count z.fti) (map number_of rs)
@@ -62,12 +62,15 @@ module _ (z : Certificate) (first : Packet) (ds : List (List ℕ)) (packets : Al
   pub thin_short : (b have need : ℕ) → IsFirstThin z.fti counts b have need
       → IsFirstShort z.fti (symbols (counted (readings_of ds))) b × (have ≡ held_count (symbols (counted (readings_of ds))) b) × (need ≡ source_count z.fti b)
   thin_short b have need h =
-      let e = count_is b h.block in
-      (record {
-        in_range = h.block;
-        short = lt-leb _ _ (let f = h.few in let hi = h.have_is in let ni = h.need_is in omega (arith, e, f, hi, ni));
-        least = λ a l. le-leb _ _ (let g = h.blocks_before a l in let c = count_is a (let x = h.block in omega (arith, l, x)) in omega (arith, g, c));
-      }, h.have_is ∙ e, h.need_is)
+      let e = count_is b h.block in (
+        record {
+          in_range = h.block;
+          short = lt-leb _ _ (let f = h.few in let hi = h.have_is in let ni = h.need_is in omega (arith, e, f, hi, ni));
+          least = λ a l. le-leb _ _ (let g = h.blocks_before a l in let c = count_is a (let x = h.block in omega (arith, l, x)) in omega (arith, g, c));
+        },
+        h.have_is ∙ e,
+        h.need_is,
+      )
 
   lines_same : (n : ℕ) → n ≤ block_count z.fti → map (λ b. (source_count z.fti b, slice_index counts b)) (below n) ≡ block_lines z.fti (symbols (counted (readings_of ds))) n
   unfolding below

@@ -1,15 +1,15 @@
 -- Where all blocks are full, what came fits one object only.
-use Rattle.std.specs.Prelude.{◌≡◌, ◌≢◌, ◌<◌, ◌≤◌, ◌+◌, ◌*◌, ◌⊎◌, ◌==◌, Bool, true, false, ◌&&◌, ◌||◌, cond, ℕ, zero, suc, List, [], ◌∷◌, ◌++◌, length, take, map, filter, slice_index, get_or, refl}
-use Rattle.std.specs.List.{AllByRecursion, list_any}
+use Rattle.std.specs.Prelude.{◌≡◌, ◌<◌, ◌≤◌, ◌==◌, true, ℕ, List, [], ◌∷◌, length, take, slice_index}
+use Rattle.std.specs.List.{AllByRecursion}
 use Rattle.std.proofs.Common.{◌∙◌, sym, ap, subst, arith, inl, inr, length-take-le, leb-true}
 use Rattle.std.proofs.lemmas.Bool.{eqb-true}
 use Rattle.std.proofs.lemmas.Grind.{same_number_lists}
-use Rattle.gf256.specs.Arithmetic.{sum_of, product, point, AreBytes}
-use Rattle.poly.specs.Polynomial.{value_over, value, IsPolynomial}
-use Rattle.partition.specs.Fti.{Fti, IsValidFti, source_count, encoding_count, block_count, source_byte, source_place}
+use Rattle.gf256.specs.Arithmetic.{point}
+use Rattle.poly.specs.Polynomial.{value, IsPolynomial}
+use Rattle.partition.specs.Fti.{Fti, IsValidFti, source_count, encoding_count, source_byte}
 use Rattle.losses.specs.Numbers.{below}
 use Rattle.partition.proofs.Laws.{counts, covers}
-use Rattle.cert.specs.Symbols.{Symbol, is_of, is_held, held, held_count, is_full, AllFull, Agrees, ColumnAgrees, IsObject, Fits, FitsOnly}
+use Rattle.cert.specs.Symbols.{Symbol, is_of, is_held, held, is_full, AllFull, Agrees, Fits, FitsOnly}
 use Rattle.poly.proofs.Lists.{all_weaker}
 use Rattle.losses.proofs.Lists.{both, either, all_both, all_filter, all_take, some_member}
 use Rattle.losses.proofs.Below.{all_below, length_below}

@@ -1,15 +1,12 @@
 -- What the answers of the parts of a check say of the verdict.
-use Rattle.std.proofs.Common.{◌≡◌, ◌≢◌, ℕ, zero, suc, ◌+◌, ◌<◌, ◌≤◌, Bool, true, false, not, cond, ◌&&◌, ◌||◌, List, [], ◌∷◌, Option, Some, None, Result, Ok, Err, length, map, get_or, refl, sym, ap, subst, ◌∙◌, arith, ltb-true}
-use Rattle.std.specs.Prelude.{slice_index, filter, ◌==◌, if◌then◌else◌}
-use Rattle.std.specs.List.{AllByRecursion, list_any}
+use Rattle.std.proofs.Common.{◌≡◌, ◌≢◌, ℕ, zero, suc, ◌+◌, ◌<◌, ◌≤◌, Bool, true, false, not, cond, List, [], ◌∷◌, Option, Some, None, Ok, Err, length, refl, sym, ap, subst, ◌∙◌, arith}
+use Rattle.std.specs.Prelude.{slice_index, ◌==◌, if◌then◌else◌}
+use Rattle.std.specs.List.{AllByRecursion}
 use Rattle.std.proofs.lemmas.Bool.{eqb-true, eqb-false}
-use Rattle.losses.specs.declared.number.Number.{Number}
-use Rattle.losses.specs.Numbers.{below, is_number, has, present}
 use Rattle.losses.proofs.Lists.{both}
-use Rattle.gf256.specs.Arithmetic.{AreBytes}
-use Rattle.partition.specs.Fti.{Fti, IsValidFti, block_count, source_count, fti_from}
+use Rattle.partition.specs.Fti.{Fti, fti_from}
 use Rattle.alc.specs.Packet.{Packet}
-use Rattle.alc.specs.Reading.{Reading, Reads}
+use Rattle.alc.specs.Reading.{Reading}
 use Rattle.alc.specs.Computed.{read_of}
 use Rattle.alc.proofs.Again.{reads}
 use Rattle.session.specs.Frames.{AreDatagrams}
@@ -17,9 +14,9 @@ use Rattle.cert.specs.declared.verdict.Reason.{Reason}
 use Rattle.cert.specs.declared.verdict.Reason.TheVariants.{ObjectLength, NotObject, Empty, Packet as NoPacket, OtherIdentity, OtherFti, Range, Symbol, Thin}
 use Rattle.cert.specs.declared.verdict.Report.{Report}
 use Rattle.cert.specs.declared.verdict.Verdict.TheVariants.{Yes, No}
-use Rattle.cert.specs.Symbols.{is_held, held, held_count, is_full, IsFirstShort, IsObject}
+use Rattle.cert.specs.Symbols.{IsObject}
 use Rattle.cert.specs.Certificate.{Certificate, certified_byte}
-use Rattle.cert.specs.Readings.{ReadAll, placed_from, counted, symbols, first_packet, same_identity, same_fti, in_range, Suffices}
+use Rattle.cert.specs.Readings.{ReadAll, placed_from, counted, first_packet, same_identity, same_fti, in_range}
 use Rattle.cert.specs.Verdict.{GivesObject, IsNotGiven, wrong_column, symbol_reason, packet_reason, reading_reason, or_else, reason_from, first_reason, IsCertified, IsCertifiedReading, VerdictOn}
 use Rattle.cert.specs.Scan.{readings_of, AreAllCertified, AreCertified, IsRefusal, IsNotCertified}
 use Rattle.cert.specs.declared.datagrams.Refusal.{Refusal}

@@ -11,3 +11,4 @@ pub mod Consuming
 pub mod Scanning
 pub mod Judging
 pub mod Bridge
+pub mod Vectors

@@ -1,9 +1,9 @@
 -- No list of datagrams has two answers.
-use Rattle.std.specs.Prelude.{◌≡◌, ◌≢◌, ◌<◌, ◌⊎◌, Bool, true, false, ℕ, zero, suc, List, [], ◌∷◌, Option, Some, None, Result, Ok, Err, refl}
+use Rattle.std.specs.Prelude.{◌≡◌, ◌<◌, ◌⊎◌, ℕ, List, [], ◌∷◌, Option, Some, None, refl}
 use Rattle.std.proofs.Common.{◌∙◌, sym, ap, subst, arith, inl, inr}
-use Rattle.partition.specs.Fti.{Fti, source_count}
-use Rattle.cert.specs.Symbols.{Symbol, is_full, held_count, IsFirstShort, IsFirstUnsolvable, AllFull, FullSolvable, FitsOnly}
-use Rattle.alc.specs.Reading.{Reading, Reads}
+use Rattle.partition.specs.Fti.{Fti}
+use Rattle.cert.specs.Symbols.{Symbol, IsFirstShort, IsFirstUnsolvable, FitsOnly}
+use Rattle.alc.specs.Reading.{Reading}
 use Rattle.cert.specs.Readings.{ReadAll}
 use Rattle.alc.proofs.Again.{one_reading}
 use Rattle.cert.specs.Answer.{Answer, Empty, Fault, NotCode, Missing, Object, Came, PlaceFault, IsClean, AnswerTo, IsAnswer, came_of}

@@ -1,8 +1,7 @@
 -- A certificate's polynomials have as many coefficients as their block has source symbols.
-use Rattle.std.specs.Prelude.{◌≡◌, ◌<◌, ◌≤◌, ◌+◌, ◌-◌, ◌*◌, ◌++◌, ℕ, zero, suc, List, [], ◌∷◌, length, take, drop, slice_index, refl}
-use Rattle.std.proofs.Common.{◌∙◌, sym, ap, subst, arith, length-take-le, length-drop}
-use Rattle.std.proofs.Math.Nat.{mul-le-mul_left, mul-le-mul_right, mul_comm}
-use Rattle.gf256.specs.Arithmetic.{AreBytes}
+use Rattle.std.specs.Prelude.{◌≡◌, ◌<◌, ◌≤◌, ◌+◌, ◌*◌, ℕ, length}
+use Rattle.std.proofs.Common.{arith, length-take-le, length-drop}
+use Rattle.std.proofs.Math.Nat.{mul-le-mul_right, mul_comm}
 use Rattle.poly.specs.Polynomial.{IsPolynomial}
 use Rattle.partition.specs.Fti.{Fti, IsValidFti, symbol_count, block_count, source_count, start_of}
 use Rattle.cert.specs.Certificate.{Certificate, IsCertificate, coefficient_count, polynomial}

@@ -1,25 +1,25 @@
 -- A yes: every selection that suffices decodes to the object.
-use Rattle.std.specs.Prelude.{◌≡◌, ◌≢◌, ◌<◌, ◌≤◌, ◌+◌, ◌*◌, ◌⊎◌, ◌==◌, not, Bool, true, false, ◌&&◌, ◌||◌, cond, ℕ, zero, suc, List, [], ◌∷◌, ◌++◌, length, slice_index, slice_get, filter, Option, Some, None, Result, Ok, Err, refl}
-use Rattle.std.specs.List.{AllByRecursion, list_any}
+use Rattle.std.specs.Prelude.{◌≡◌, ◌≢◌, ◌<◌, ◌≤◌, ◌+◌, ◌==◌, not, true, false, ◌&&◌, ◌||◌, ℕ, zero, suc, List, [], ◌∷◌, ◌++◌, length, slice_index, slice_get, filter, Some, None, Ok, Err, refl}
+use Rattle.std.specs.List.{AllByRecursion}
 use Rattle.std.specs.Option.{option_to_list}
-use Rattle.std.proofs.Common.{◌∙◌, sym, ap, subst, rules, arith, inl, inr, leb-true, ltb-true}
+use Rattle.std.proofs.Common.{◌∙◌, sym, ap, subst, arith, leb-true, ltb-true}
 use Rattle.std.proofs.lemmas.Bool.{eqb-true, eq-eqb}
 use Rattle.std.proofs.lemmas.Grind.{same_number_lists}
 use Rattle.std.proofs.Math.ListN.{get_or-eq_default}
-use Rattle.gf256.specs.Arithmetic.{sum_of, product, point, AreBytes}
-use Rattle.poly.specs.Polynomial.{value, IsPolynomial}
-use Rattle.partition.specs.Fti.{Fti, IsValidFti, source_count, encoding_count, block_count, source_byte, source_place}
+use Rattle.gf256.specs.Arithmetic.{point}
+use Rattle.poly.specs.Polynomial.{value}
+use Rattle.partition.specs.Fti.{Fti, IsValidFti, source_count, encoding_count, block_count}
 use Rattle.losses.specs.Numbers.{below}
-use Rattle.cert.specs.Symbols.{Symbol, is_held, held, held_count, is_full, AllFull, Agrees, ColumnAgrees, IsObject, Fits, FitsOnly, Solvable, FullSolvable, ColumnSolvable}
-use Rattle.alc.specs.Packet.{Packet, IsPacket}
+use Rattle.cert.specs.Symbols.{Symbol, is_held, is_full, Agrees, IsObject, FullSolvable}
+use Rattle.alc.specs.Packet.{Packet}
 use Rattle.alc.specs.PacketFault.{same}
-use Rattle.alc.specs.Reading.{Reading, Reads}
-use Rattle.cert.specs.Readings.{ReadAll, Placed, placed_from, counted, symbol_of, symbols, symbols_in, first_packet, fti_of, same_identity, same_fti, in_range, clashes, Suffices}
-use Rattle.cert.specs.Answer.{Object, PlaceFault, packet_fault, or_else, at_place, fault_after, first_fault, came_of, IsClean, IsAnswer}
+use Rattle.alc.specs.Reading.{Reading}
+use Rattle.cert.specs.Readings.{ReadAll, placed_from, counted, symbol_of, symbols, same_fti, in_range, clashes, Suffices}
+use Rattle.cert.specs.Answer.{packet_fault, fault_after, came_of, IsClean}
 use Rattle.cert.specs.Certificate.{Certificate, IsCertificate, polynomial, certified_byte}
-use Rattle.cert.specs.Verdict.{GivesObject, IsCertified, IsCertifiedReading, IsCertificateOf}
+use Rattle.cert.specs.Verdict.{GivesObject, IsCertifiedReading, IsCertificateOf}
 use Rattle.session.specs.Selection.{chosen}
-use Rattle.cert.specs.Headline.{IsEnough, DecodesWhereEnough}
+use Rattle.cert.specs.Headline.{DecodesWhereEnough}
 use Rattle.partition.proofs.Laws.{some_block, counts}
 use Rattle.losses.proofs.Lists.{both, all_append}
 use Rattle.cert.proofs.Polynomials.{forms}
@@ -87,11 +87,7 @@ abbrev pub IsSoundReading : Certificate → ℕ → ℕ → Reading → Type 0
 IsSoundReading z t u (Ok p) = IsSound z t u p
 IsSoundReading z t u (Err r) = ⊥
 
--- what holds of each reading holds of each that counts, and back
-pub placed_all : (P : Reading → Type 0) (i : ℕ) (rs : List Reading) → AllByRecursion P rs → AllByRecursion (λ x. P x.reading) (placed_from i rs)
-placed_all P i [] h = tt
-placed_all P i (r ∷ rs) h = (h.0, placed_all P (i + 1) rs h.1)
-
+-- what holds of each reading that counts holds of each
 pub unplaced_all : (P : Reading → Type 0) (i : ℕ) (rs : List Reading) → AllByRecursion (λ x. P x.reading) (placed_from i rs) → AllByRecursion P rs
 unplaced_all P i [] h = tt
 unplaced_all P i (r ∷ rs) h = (h.0, unplaced_all P (i + 1) rs h.1)
@@ -156,7 +152,7 @@ no_fault_after z first t u sf (Err r ∷ rs) h earlier g i = absurd h.0
 no_fault_after z first t u sf (Ok p ∷ rs) h earlier g i =
     let a : packet_fault first earlier p ≡ None = no_packet_fault z first p t u sf h.0 earlier g in
     let b : fault_after (Some first) (symbol_of p ∷ earlier) (placed_from (i + 1) rs) ≡ None =
-        no_fault_after z first t u sf rs h.1 (symbol_of p ∷ earlier) (record { count = h.0.count; symbol = h.0.symbol }, g) (i + 1) in
+    no_fault_after z first t u sf rs h.1 (symbol_of p ∷ earlier) (record { count = h.0.count; symbol = h.0.symbol }, g) (i + 1) in
     rw (a, b)
 
 -- sound readings, some, are without a fault and of the certificate's FTI

@@ -1,5 +1,5 @@
 -- A scan over the datagrams, one by one.
-use Rattle.std.proofs.Common.{◌≡◌, ◌≢◌, ℕ, zero, suc, ◌+◌, ◌-◌, ◌<◌, ◌≤◌, Bool, true, false, List, [], ◌∷◌, ◌++◌, Option, Some, None, Result, Ok, Err, length, map, take, get_or, refl, sym, ap, subst, ◌∙◌, arith, ltb-true, below_more}
+use Rattle.std.proofs.Common.{◌≡◌, ℕ, zero, suc, ◌+◌, ◌-◌, ◌<◌, ◌≤◌, true, List, [], ◌∷◌, ◌++◌, Option, Some, None, Ok, Err, length, take, get_or, refl, sym, ap, subst, ◌∙◌, arith, ltb-true, below_more}
 use Rattle.std.specs.Prelude.{slice_index}
 use Rattle.std.proofs.lemmas.Bool.{eq-eqb}
 use Rattle.std.proofs.lemmas.List.{get_or-map, length-map, map-append, take_more}
@@ -47,8 +47,8 @@ reason_at z first from (x ∷ xs) (suc i) d r l before here =
     let e : from + 0 ≡ from = omega arith in
     let h : reading_reason z first from x ≡ None = subst (λ (k : ℕ). reading_reason z first k x ≡ None) e (before 0 (omega arith)) in
     let rest = reason_at z first (from + 1) xs i d r (omega arith)
-        (λ j lt. let g : from + suc j ≡ from + 1 + j = omega arith in subst (λ (k : ℕ). reading_reason z first k (get_or xs j d) ≡ None) g (before (suc j) (omega arith)))
-        (let g : from + suc i ≡ from + 1 + i = omega arith in subst (λ (k : ℕ). reading_reason z first k (get_or xs i d) ≡ Some r) g here) in
+    (λ j lt. let g : from + suc j ≡ from + 1 + j = omega arith in subst (λ (k : ℕ). reading_reason z first k (get_or xs j d) ≡ None) g (before (suc j) (omega arith)))
+    (let g : from + suc i ≡ from + 1 + i = omega arith in subst (λ (k : ℕ). reading_reason z first k (get_or xs i d) ≡ Some r) g here) in
     rw h rest
 
 -- no reason at any place
@@ -59,7 +59,7 @@ no_reason z first from (x ∷ xs) d h =
     let e : from + 0 ≡ from = omega arith in
     let here : reading_reason z first from x ≡ None = subst (λ (k : ℕ). reading_reason z first k x ≡ None) e (h 0 (omega arith)) in
     let rest = no_reason z first (from + 1) xs d
-        (λ j lt. let g : from + suc j ≡ from + 1 + j = omega arith in subst (λ (k : ℕ). reading_reason z first k (get_or xs j d) ≡ None) g (h (suc j) (omega arith))) in
+    (λ j lt. let g : from + suc j ≡ from + 1 + j = omega arith in subst (λ (k : ℕ). reading_reason z first k (get_or xs j d) ≡ None) g (h (suc j) (omega arith))) in
     rw here rest
 
 -- the first packet is the first reading's, where that is one
@@ -98,8 +98,8 @@ pub stops : (z : Certificate) (ds : List (List ℕ)) (first : Packet) (place : �
 stops z ds first place s d r reason l here h stop =
     ap (λ (f : Option Packet). reason_from z f (counted (readings_of ds))) (first_of z ds first place s)
     ∙ reason_at z (Some first) 0 (readings_of ds) place r reason (omega (arith, l, length-map ds read_of))
-        (λ j lt. subst (λ (k : ℕ). reading_reason z (Some first) k (get_or (readings_of ds) j r) ≡ None) (sym (from_zero j)) (s.none r j lt))
-        (rw (from_zero place, reading_here ds place d r r l here h) stop)
+    (λ j lt. subst (λ (k : ℕ). reading_reason z (Some first) k (get_or (readings_of ds) j r) ≡ None) (sym (from_zero j)) (s.none r j lt))
+    (rw (from_zero place, reading_here ds place d r r l here h) stop)
 
 -- a place with no reason
 pub goes_on : (z : Certificate) (ds : List (List ℕ)) (first : Packet) (place : ℕ) → Scanned z ds first place → (d : List ℕ) (r : Reading)
@@ -116,8 +116,8 @@ pub all_clean : (z : Certificate) (ds : List (List ℕ)) (first : Packet) (place
 all_clean z ds first place s l =
     ap (λ (f : Option Packet). reason_from z f (counted (readings_of ds))) (first_of z ds first place s)
     ∙ no_reason z (Some first) 0 (readings_of ds) (Ok first)
-        (λ j lt. subst (λ (k : ℕ). reading_reason z (Some first) k (get_or (readings_of ds) j (Ok first)) ≡ None) (sym (from_zero j))
-          (s.none (Ok first) j (omega (arith, lt, l, length-map ds read_of))))
+    (λ j lt. subst (λ (k : ℕ). reading_reason z (Some first) k (get_or (readings_of ds) j (Ok first)) ≡ None) (sym (from_zero j))
+    (s.none (Ok first) j (omega (arith, lt, l, length-map ds read_of))))
 
 -- one datagram's numbers more
 pub numbers_more : (ds : List (List ℕ)) (place : ℕ) (d : List ℕ) (p : Packet) → place < length ds → d ≡ get_or ds place [] → Reads d (Ok p)

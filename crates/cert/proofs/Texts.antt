@@ -1,5 +1,5 @@
 -- The bytes before a certificate's coefficients.
-use Rattle.std.proofs.Common.{◌≡◌, ℕ, zero, suc, ◌+◌, ◌<◌, ◌≤◌, ◌≢◌, Bool, true, false, List, [], ◌∷◌, ◌++◌, Some, None, drop, take, length, get_or, refl, sym, ap, subst, ◌∙◌, arith, length-append, length-drop, length-take-le, ltb-true}
+use Rattle.std.proofs.Common.{◌≡◌, ℕ, zero, suc, ◌+◌, ◌<◌, ◌≤◌, ◌≢◌, true, false, List, [], ◌∷◌, ◌++◌, Some, None, drop, take, length, get_or, refl, sym, ap, subst, ◌∙◌, arith, length-append, length-drop, length-take-le, ltb-true}
 use Rattle.std.specs.Prelude.{nat_eq, nat_lt, ◌==◌}
 use Rattle.std.specs.List.{starts_with}
 use Rattle.std.specs.Cmp.Lexicographic.{same_text}
@@ -39,7 +39,7 @@ magic_same x rest h = subst (λ (y : List ℕ). starts_with nat_eq (y ++ rest) m
 pub magic_before : (x rest : List ℕ) → length x ≤ 14 → (length x < 14 → rest ≡ []) → starts_with nat_eq (x ++ rest) magic ≡ starts_with nat_eq x magic
 magic_before x rest h end =
     elim (nat_lt (length x) 14) as (λ v. nat_lt (length x) 14 ≡ v → starts_with nat_eq (x ++ rest) magic ≡ starts_with nat_eq x magic) [
-      true ↦ λ e. rw (end (ltb-true _ _ e), append-nil x) refl
+      | true ↦ λ e. rw (end (ltb-true _ _ e), append-nil x) refl
       | false ↦ λ e. (let l = ltb-false (length x) 14 e in magic_same x rest (omega arith))
     ] refl
 
@@ -79,7 +79,7 @@ wrong_size x rest h right good wrong =
     let f : fti_fault (told_fti (x ++ rest)) ≡ None = ap fti_fault t ∙ good in
     let c = ap coefficient_count t in
     let n : (length (x ++ rest) == 14 + coefficient_count (told_fti (x ++ rest))) ≡ false =
-        ne_eqb _ _ (λ e. wrong (omega (arith, e, c, length-append x rest))) in
+    ne_eqb _ _ (λ e. wrong (omega (arith, e, c, length-append x rest))) in
     rw (m, s, f, n) refl
 
 -- four bytes in front, and then the rest in parts
@@ -111,9 +111,9 @@ unfolding head_text
 told_again f rest valid =
     let behind : List ℕ = f.block_length ∷ f.max_symbols ∷ rest in
     let length_again : big_number 6 (big_bytes 6 f.transfer_length ++ (big_bytes 2 f.symbol_length ++ behind)) ≡ f.transfer_length =
-        big_number-reads_back 6 f.transfer_length (big_bytes 2 f.symbol_length ++ behind) (omega (arith, valid.length_below)) in
+    big_number-reads_back 6 f.transfer_length (big_bytes 2 f.symbol_length ++ behind) (omega (arith, valid.length_below)) in
     let symbol_again : big_number 2 (big_bytes 2 f.symbol_length ++ behind) ≡ f.symbol_length =
-        big_number-reads_back 2 f.symbol_length behind (omega (arith, valid.symbol_below)) in
+    big_number-reads_back 2 f.symbol_length behind (omega (arith, valid.symbol_below)) in
     ap (λ (v : ℕ). fti_from v (big_number 2 (big_bytes 2 f.symbol_length ++ behind)) f.block_length f.max_symbols) length_again
     ∙ ap (λ (v : ℕ). fti_from f.transfer_length v f.block_length f.max_symbols) symbol_again
 

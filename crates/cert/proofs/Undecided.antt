@@ -1,19 +1,18 @@
 -- A yes: every selection that doesn't suffice leaves a twin, and the decoder says what lacks.
-use Rattle.std.specs.Prelude.{◌≡◌, ◌≢◌, ◌<◌, ◌≤◌, ◌+◌, ◌⊎◌, ◌==◌, Bool, true, false, ◌&&◌, ◌||◌, cond, ℕ, zero, suc, List, [], ◌∷◌, ◌++◌, length, filter, Result, Ok, Err, None, Some, refl}
-use Rattle.std.specs.List.{AllByRecursion, list_any}
-use Rattle.std.proofs.Common.{◌∙◌, sym, ap, subst, arith, inl, inr, ltb-false}
+use Rattle.std.specs.Prelude.{◌≡◌, ◌≢◌, ◌<◌, ◌+◌, ◌⊎◌, ◌==◌, true, false, ℕ, zero, suc, List, [], ◌∷◌, length, Ok, Err, refl}
+use Rattle.std.specs.List.{AllByRecursion}
+use Rattle.std.proofs.Common.{sym, subst, arith, inl, inr}
 use Rattle.std.proofs.lemmas.Bool.{eqb-true, eq-eqb, leb-false}
 use Rattle.std.proofs.Math.Bool.{or-true}
-use Rattle.gf256.specs.Arithmetic.{sum_of, product, point, AreBytes}
-use Rattle.poly.specs.Polynomial.{value, IsPolynomial}
-use Rattle.partition.specs.Fti.{Fti, IsValidFti, source_count, encoding_count, block_count, start_of, source_place}
+use Rattle.gf256.specs.Arithmetic.{point, AreBytes}
+use Rattle.poly.specs.Polynomial.{value}
+use Rattle.partition.specs.Fti.{Fti, IsValidFti, source_count, block_count}
 use Rattle.losses.specs.Numbers.{below}
 use Rattle.cert.specs.Symbols.{Symbol, is_of, is_held, held, held_count, is_full, IsFirstShort, Agrees, Fits, AreTwins}
-use Rattle.alc.specs.Packet.{Packet, IsPacket}
-use Rattle.alc.specs.Reading.{Reading, Reads}
-use Rattle.cert.specs.Readings.{ReadAll, placed_from, counted, symbols, Suffices}
-use Rattle.cert.specs.Answer.{Answer, Empty, Missing, came_of, IsAnswer}
-use Rattle.cert.specs.Certificate.{Certificate, IsCertificate, polynomial}
+use Rattle.alc.specs.Reading.{Reading}
+use Rattle.cert.specs.Readings.{ReadAll, placed_from, counted, symbols}
+use Rattle.cert.specs.Answer.{Empty, Missing}
+use Rattle.cert.specs.Certificate.{Certificate, IsCertificate}
 use Rattle.cert.specs.Verdict.{GivesObject, IsCertificateOf, IsCertifiedReading}
 use Rattle.session.specs.Selection.{chosen}
 use Rattle.cert.specs.Headline.{IsUndecided, LeavesTwin, UndecidedElse}
@@ -31,26 +30,27 @@ first_short : (f : Fti) (came : List Symbol) (n : ℕ) → ((b : ℕ) × (b < n)
 first_short f came zero = inr (λ a l. absurd (omega arith))
 first_short f came (suc n) =
     elim (first_short f came n) [
-      inl w ↦ inl (w.0, omega (arith, w.1), w.2, w.3)
+      | inl w ↦ inl (w.0, omega (arith, w.1), w.2, w.3)
       | inr h ↦
-        (elim (is_full f came n) as (λ v. is_full f came n ≡ v → ((b : ℕ) × (b < suc n) × (is_full f came b ≡ false) × ((a : ℕ) → a < b → is_full f came a ≡ true)) ⊎ ((a : ℕ) → a < suc n → is_full f came a ≡ true)) [
-          false ↦ λ e. inl (n, omega arith, e, h)
-          | true ↦ λ e. inr (λ a l.
-            (elim (a == n) as (λ v. (a == n) ≡ v → is_full f came a ≡ true) [
-              true ↦ λ g. subst (λ (x : ℕ). is_full f came x ≡ true) (sym (eqb-true a n g)) e
-              | false ↦ λ g. h a (let ne : a ≡ n → ⊥ = λ x. (let y = eq-eqb a n x in absurd (cc)) in omega arith)
-            ] refl))
-        ] refl)
+          (elim (is_full f came n) as (λ v. is_full f came n ≡ v → ((b : ℕ) × (b < suc n) × (is_full f came b ≡ false) × ((a : ℕ) → a < b → is_full f came a ≡ true)) ⊎ ((a : ℕ) → a < suc n → is_full f came a ≡ true)) [
+            | false ↦ λ e. inl (n, omega arith, e, h)
+            | true ↦ λ e. inr (λ a l.
+                (elim (a == n) as (λ v. (a == n) ≡ v → is_full f came a ≡ true) [
+                  | true ↦ λ g. subst (λ (x : ℕ). is_full f came x ≡ true) (sym (eqb-true a n g)) e
+                  | false ↦ λ g. h a (let ne : a ≡ n → ⊥ = λ x. (let y = eq-eqb a n x in absurd (cc)) in omega arith)
+                ] refl))
+          ] refl)
     ]
 
 -- each that came is held
 held_self : (came : List Symbol) → AllByRecursion (λ s. is_held came s.block s.esi ≡ true) came
 held_self [] = tt
-held_self (s ∷ ss) =
-    ((let a : (s.block == s.block) ≡ true = eq-eqb _ _ refl in
+held_self (s ∷ ss) = (
+  (let a : (s.block == s.block) ≡ true = eq-eqb _ _ refl in
       let b : (s.esi == s.esi) ≡ true = eq-eqb _ _ refl in
       rw (a, b)),
-      all_weaker (λ x. is_held ss x.block x.esi ≡ true) (λ x. is_held (s ∷ ss) x.block x.esi ≡ true) (λ x h. rw h (or-true (is_of x.block x.esi s))) ss (held_self ss))
+  all_weaker (λ x. is_held ss x.block x.esi ≡ true) (λ x. is_held (s ∷ ss) x.block x.esi ≡ true) (λ x h. rw h (or-true (is_of x.block x.esi s))) ss (held_self ss),
+)
 
 bytes_came : (i : ℕ) (ds : List (List ℕ)) (rs : List Reading) → ReadAll ds rs → AllByRecursion (λ s. AreBytes s.bytes × (s.esi < 256)) (symbols (placed_from i rs))
 bytes_came i [] [] h = tt
@@ -73,24 +73,26 @@ twin_at f valid came object fits bytes b hb short =
     let few : length (held came b) < source_count f b = leb-false _ _ short in
     let gap = one_missing (is_held came b) (source_count f b) (omega (arith, n.1)) few in
     let passing : AllByRecursion (λ j. (is_held came b j ≡ true) × (j < 256)) (held came b) =
-        all_filter (λ j. j < 256) (is_held came b) (below 256) (all_below (λ j. j < 256) 256 (λ j h. h)) in
+    all_filter (λ j. j < 256) (is_held came b) (below 256) (all_below (λ j. j < 256) 256 (λ j h. h)) in
     let small : AllByRecursion (λ j. j < 255) (held came b) =
-        all_weaker (λ j. (is_held came b j ≡ true) × (j < 256)) (λ j. j < 255)
-        (λ j h. let s = found (Agrees f object) b j came h.0 fits.agrees in let e = s.1.esi in omega (arith, n.2)) _ passing in
+    all_weaker (λ j. (is_held came b j ≡ true) × (j < 256)) (λ j. j < 255)
+    (λ j h. let s = found (Agrees f object) b j came h.0 fits.agrees in let e = s.1.esi in omega (arith, n.2)) _ passing in
     let apart : AllByRecursion (λ j. j ≢ gap.0) (held came b) =
-        all_weaker (λ j. (is_held came b j ≡ true) × (j < 256)) (λ j. j ≢ gap.0)
-        (λ j h e. let x = subst (λ (y : ℕ). is_held came b y ≡ true) e h.0 in let g = gap.2 in absurd (cc)) _ passing in
+    all_weaker (λ j. (is_held came b j ≡ true) × (j < 256)) (λ j. j ≢ gap.0)
+    (λ j h e. let x = subst (λ (y : ℕ). is_held came b y ≡ true) e h.0 in let g = gap.2 in absurd (cc)) _ passing in
     let q = vanishing (source_count f b) gap.0 (held came b) few (omega (arith, gap.1, n.1)) small apart in
     let roots = roots_held f valid b q.0 came came
-        (at_passing (λ j. value q.0 (point j) ≡ 0) (is_held came b) 256 q.2) (three came came bytes (held_self came)) in
-    (twin_of f b q.0 object, record {
-      differ = differs f valid object q.0 fits.form b hb q.1 gap.0 gap.1 q.3;
-      first = fits;
-      second = record {
-        form = twin_form f valid object q.0 fits.form b hb q.1;
-        agrees = agrees f valid object q.0 fits.form b hb q.1 came roots fits.agrees;
-      };
-    })
+    (at_passing (λ j. value q.0 (point j) ≡ 0) (is_held came b) 256 q.2) (three came came bytes (held_self came)) in (
+      twin_of f b q.0 object,
+      record {
+        differ = differs f valid object q.0 fits.form b hb q.1 gap.0 gap.1 q.3;
+        first = fits;
+        second = record {
+          form = twin_form f valid object q.0 fits.form b hb q.1;
+          agrees = agrees f valid object q.0 fits.form b hb q.1 came roots fits.agrees;
+        };
+      },
+    )
 
 -- the answer where block b is the first short one
 told : (z : Certificate) (t u : ℕ) (object : List ℕ) → IsCertificate z → Fits z.fti [] object → GivesObject object z
@@ -109,9 +111,15 @@ told z t u object good form gives (d ∷ ds) (r ∷ rs) read sound b first twin 
   told = record {
     readings = r ∷ rs;
     read = read;
-    answers = (z.fti, clean z t u (r ∷ rs) sound (λ e. absurd (cc)),
+    answers = (
+      z.fti,
+      clean z t u (r ∷ rs) sound (λ e. absurd (cc)),
       solvable z object good form.form gives (symbols (counted (r ∷ rs)))
-      (all_right z t u 0 (r ∷ rs) sound), first, refl, refl);
+          (all_right z t u 0 (r ∷ rs) sound),
+      first,
+      refl,
+      refl,
+    );
   };
   lacks = λ e. absurd (cc);
   twin = twin;
@@ -129,10 +137,10 @@ undecided session rs object z read good granted = λ q lacking.
       agrees = fits_sound z first.tsi first.toi object good granted.gives 0 (chosen rs q) sound;
     } in
     elim (first_short z.fti (symbols (counted (chosen rs q))) (block_count z.fti)) [
-      inr all ↦ absurd (lacking (record { readings = chosen rs q; read = read_q; full = all }))
+      | inr all ↦ absurd (lacking (record { readings = chosen rs q; read = read_q; full = all }))
       | inl w ↦
-        (let twin = twin_at z.fti good.fti (symbols (counted (chosen rs q))) object fits (bytes_came 0 _ _ read_q) w.0 w.1 w.2 in
-        told z first.tsi first.toi object good (record { form = granted.form; agrees = tt }) granted.gives (chosen session q) (chosen rs q) read_q sound w.0
-        (record { in_range = w.1; short = w.2; least = w.3 })
-        (record { readings = chosen rs q; read = read_q; other = twin.0; twins = twin.1 }))
+          (let twin = twin_at z.fti good.fti (symbols (counted (chosen rs q))) object fits (bytes_came 0 _ _ read_q) w.0 w.1 w.2 in
+          told z first.tsi first.toi object good (record { form = granted.form; agrees = tt }) granted.gives (chosen session q) (chosen rs q) read_q sound w.0
+          (record { in_range = w.1; short = w.2; least = w.3 })
+          (record { readings = chosen rs q; read = read_q; other = twin.0; twins = twin.1 }))
     ]

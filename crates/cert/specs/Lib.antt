@@ -3,7 +3,6 @@ pub mod Readings
 pub mod Answer
 pub mod Certificate
 pub mod Verdict
-pub mod Losses
 pub mod Headline
 pub mod Scan
 pub mod Report

@@ -1,6 +1,6 @@
 -- What a list of datagrams is, packet by packet. All that stands above sees the datagrams through this file alone:
 -- which of them count, where the FTI comes from, and what of each is looked at.
-use Rattle.std.specs.Prelude.{◌≡◌, ℕ, zero, suc, ◌+◌, ◌<◌, Bool, true, false, ◌&&◌, ◌||◌, ◌==◌, not, nat_lt, if◌then◌else◌, List, [], ◌∷◌, ◌++◌, Option, Some, None, Result, Ok, Err, flat_map, option_map}
+use Rattle.std.specs.Prelude.{ℕ, ◌+◌, Bool, ◌&&◌, ◌==◌, not, nat_lt, List, [], ◌∷◌, Option, Some, None, Ok, Err, flat_map, option_map}
 use Rattle.std.specs.List.{list_any}
 use Rattle.partition.specs.Fti.{Fti, block_count, encoding_count}
 use Rattle.alc.specs.Packet.{Packet}

@@ -1,5 +1,5 @@
 -- What received encoding symbols say of an object. Nothing here knows of packets.
-use Rattle.std.specs.Prelude.{◌≡◌, ◌≢◌, ℕ, ◌+◌, ◌*◌, ◌<◌, ◌≤◌, Bool, true, false, ◌&&◌, ◌==◌, nat_le, List, [], ◌∷◌, ◌++◌, length, slice_index, filter}
+use Rattle.std.specs.Prelude.{◌≡◌, ◌≢◌, ℕ, ◌<◌, ◌≤◌, Bool, true, false, ◌&&◌, ◌==◌, nat_le, List, length, slice_index, filter}
 use Rattle.std.specs.List.{list_any, AllByRecursion}
 use Rattle.losses.specs.Numbers.{below}
 use Rattle.gf256.specs.Arithmetic.{point, AreBytes}

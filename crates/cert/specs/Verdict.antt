@@ -1,7 +1,7 @@
 -- What a check of a session, an object and a certificate answers.
-use Rattle.std.specs.Prelude.{◌≡◌, ◌≢◌, true, ℕ, zero, suc, ◌+◌, ◌<◌, ◌⊎◌, ◌==◌, not, if◌then◌else◌, List, [], ◌∷◌, length, slice_index, Option, Some, None, Result, Ok, Err}
+use Rattle.std.specs.Prelude.{◌≡◌, ◌≢◌, true, ℕ, zero, suc, ◌+◌, ◌<◌, ◌==◌, not, if◌then◌else◌, List, [], ◌∷◌, length, slice_index, Option, Some, None, Ok, Err}
 use Rattle.std.specs.List.{AllByRecursion}
-use Rattle.partition.specs.Fti.{Fti, source_count, block_count, source_byte}
+use Rattle.partition.specs.Fti.{source_count, block_count, source_byte}
 use Rattle.alc.specs.Packet.{Packet}
 use Rattle.alc.specs.Reading.{Reading}
 use Rattle.cert.specs.declared.verdict.Verdict.{Verdict}

@@ -50,8 +50,7 @@ impl Model for Certificate {
 /// What the type of a slice says: its members are bytes.
 pub fn are_bytes(bytes: &[u8])
     ensures { (i : ℕ) → slice_index bytes.now i < 256 }
-{
-}
+{}
 
 // How many coefficients a certificate of this FTI has.
 fn coefficients_of(fti: &Fti) -> u64
@@ -208,5 +207,4 @@ impl Certificate {
 /// No two certificates have one text.
 pub fn one_certificate()
     ensures { (x y : CertificateValue) → IsCertificate x → IsCertificate y → certificate_text x ≡ certificate_text y → x ≡ y }
-{
-}
+{}

@@ -40,11 +40,7 @@ fn blocks_of(alloc: Global, fti: &Fti, held: &[usize]) -> Result<Vec<(usize, usi
 }
 
 // The report, or the first reason for which the datagrams don't suffice.
-fn report_of(
-    alloc: Global,
-    session: &Session,
-    certificate: &Certificate,
-) -> Result<Report, Refusal>
+fn report_of(alloc: Global, session: &Session, certificate: &Certificate) -> Result<Report, Refusal>
     requires some { 0 < length session.now }
     requires datagrams { AreDatagrams session.now }
     ensures report { IfOk result (IsReport session.now certificate.now.fti) }

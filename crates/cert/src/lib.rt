@@ -7,6 +7,9 @@ mod datagrams;
 mod source;
 mod verdict;
 
-pub use checking::check;
 pub use certificate::{CertFault, Certificate, one_certificate};
+pub use checking::check;
 pub use verdict::{Reason, Report, Verdict};
+
+#[cfg(test)]
+mod tests;

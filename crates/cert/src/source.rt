@@ -25,11 +25,20 @@ pub fn value_at(coefficients: &[u8], x: Gf) -> u8
 fn byte_at(object: &[u8], place: usize) -> u8
     ensures { result ≡ slice_index object.now place }
 {
-    if place < object.len() { object[place] } else { 0 }
+    if place < object.len() {
+        object[place]
+    } else {
+        0
+    }
 }
 
 // The least source symbol of a column of a block at whose point the polynomial doesn't give the object's byte.
-fn wrong_symbol(object: &[u8], certificate: &Certificate, block: u32, column: usize) -> Option<usize>
+fn wrong_symbol(
+    object: &[u8],
+    certificate: &Certificate,
+    block: u32,
+    column: usize,
+) -> Option<usize>
     requires block { block < block_count certificate.now.fti }
     requires column { column < certificate.now.fti.symbol_length }
     ensures none { IsNone result → (i : ℕ) → i < source_count certificate.now.fti block → GivesAt object.now certificate.now block column i }

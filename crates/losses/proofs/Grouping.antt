@@ -42,8 +42,8 @@ pub filled_present : (b : ℕ) (ps : List Number) (counts : List ℕ) → ((j : 
 unfolding filled
 filled_present b ps counts h =
     ap length (filter_same (λ j. nat_lt 0 (get_or counts j 0)) (has b ps) (below 256)
-      (all_below (λ j. nat_lt 0 (get_or counts j 0) ≡ has b ps j) 256
-        (λ j l. ap (nat_lt 0) (h j l) ∙ sym (has_members b j 0 ps ∙ any_is (has_esi j) (members b 0 ps)))))
+    (all_below (λ j. nat_lt 0 (get_or counts j 0) ≡ has b ps j) 256
+    (λ j l. ap (nat_lt 0) (h j l) ∙ sym (has_members b j 0 ps ∙ any_is (has_esi j) (members b 0 ps)))))
 
 members_suc : (b i k : ℕ) (n : Number) (ps : List Number) → k < length ps
     → members b i (take (suc k) ps) ≡ members b i (take k ps) ++ cond ((get_or ps k n).block == b) (member (i + k) (get_or ps k n).esi ∷ []) []

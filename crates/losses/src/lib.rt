@@ -7,3 +7,6 @@ mod number;
 
 pub use counting::counts;
 pub use number::Number;
+
+#[cfg(test)]
+mod tests;

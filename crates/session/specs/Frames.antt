@@ -1,5 +1,5 @@
 -- The session file: datagrams, each behind its length in two bytes, the high one first.
-use Rattle.std.specs.Prelude.{◌≡◌, ℕ, ◌+◌, ◌<◌, ◌≤◌, Bool, true, take, List, [], ◌∷◌, ◌++◌, length, flat_map, slice_index, slice_index_or, Option, Some, None, ⊤, IfSome}
+use Rattle.std.specs.Prelude.{◌≡◌, ℕ, ◌+◌, ◌<◌, ◌≤◌, Bool, true, take, List, [], ◌++◌, length, flat_map, slice_index, slice_index_or, Option, ⊤, IfSome}
 use Rattle.std.specs.Io.KnownBytes.{Consumes, IsAtEnd, Appends}
 use Rattle.byteorder.specs.Endian.{big_bytes, big_number}
 use Rattle.session.specs.declared.frame.FrameFault.{FrameFault}

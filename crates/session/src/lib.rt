@@ -12,3 +12,6 @@ pub use frame::{FrameFault, MOST_BYTES, fill, read_next, write_all, write_one};
 pub use io::{Failed, Read, Write};
 pub use session::Session;
 pub use whole::{ReadFault, read_to_end};
+
+#[cfg(test)]
+mod tests;

@@ -2,7 +2,6 @@
 ghost use Rattle.std.specs.Prelude.{◌≡◌, ◌==◌, ◌≤◌, ◌<◌, true, ◌∷◌, ◌++◌, [], ℕ, None, Some, length, map, OnOk, OnErr, IfErr, IfOk, IfSome, slice_index, slice_index_or};
 ghost use Rattle.std.specs.Io.KnownBytes.{Appends, IsAtEnd};
 ghost use Rattle.session.specs.Frames.{most_bytes, frames, AreDatagrams, IsFramed, IsSessionFault, AppendsSome};
-ghost use Rattle.session.specs.Selection.{chosen, rest, is_among, first_outside};
 
 use crate::frame::{FrameFault, read_next, write_one};
 use crate::io::{Read, Write};
@@ -112,7 +111,7 @@ impl Session {
     pub fn views(&self, alloc: Global) -> Result<Vec<&[u8]>, AllocError>
         ensures { IfOk result (λ views. map (λ v. v.now) views.items ≡ self.now) }
     {
-        let mut views = Vec::with_capacity(alloc, self.datagrams.len())?;
+        let mut views = Vec::with_capacity(alloc, self.len())?;
         for datagram in &self.datagrams {
             views.push(datagram.as_slice())?;
         }

@@ -1,6 +1,5 @@
 use Rattle.std.proofs.Common.{◌≡◌, ◌-◌, ◌∙◌, sym, arith, ℕ, take, drop, length, length-drop}
 use Rattle.std.proofs.lemmas.List.{take_all}
-use Rattle.byteorder.specs.Endian.{big_number}
 use Rattle.cert.proofs.Texts.{wrong_magic, short_head, wrong_fti, head_again}
 use Rattle.cert.proofs.certificate.read_head.Goals as goal
 
@@ -20,7 +19,7 @@ returns-in-Ok-clause-ok c =
     let told_length = rw six at c.read_u48-length.ensures in
     let told_symbol = rw two at c.read_u16-symbol.ensures in
     rw (c.in-Ok.ensures.numbers, told_length, told_symbol)
-      (head_again c.args.bytes.now long (λ i. (c.type_inv.bytes i).fits) (sym c.starts_with.ensures.value ∙ c.if-not-starts_with.false))
+    (head_again c.args.bytes.now long (λ i. (c.type_inv.bytes i).fits) (sym c.starts_with.ensures.value ∙ c.if-not-starts_with.false))
 
 pub returns-in-Err-clause-fault : goal.returns-in-Err-clause-fault
 returns-in-Err-clause-fault c = λ rest end.
@@ -30,4 +29,4 @@ returns-in-Err-clause-fault c = λ rest end.
     let told_length = rw six at c.read_u48-length.ensures in
     let told_symbol = rw two at c.read_u16-symbol.ensures in
     wrong_fti c.args.bytes.now rest c.in-Err.e long (sym c.starts_with.ensures.value ∙ c.if-not-starts_with.false)
-      (rw (told_length, told_symbol) at c.in-Err.ensures.first_fault))
+    (rw (told_length, told_symbol) at c.in-Err.ensures.first_fault))

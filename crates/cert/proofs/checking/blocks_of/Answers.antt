@@ -1,4 +1,4 @@
-use Rattle.std.proofs.Common.{◌≡◌, ◌∙◌, ◌++◌, ◌∷◌, [], ℕ, List, map, get_or, sym, ap, arith, below_more}
+use Rattle.std.proofs.Common.{◌∙◌, ◌++◌, ◌∷◌, [], ℕ, List, map, get_or, sym, ap, arith, below_more}
 use Rattle.losses.specs.Numbers.{below}
 use Rattle.partition.specs.Fti.{source_count}
 use Rattle.cert.proofs.Bridge.{map_below_more}

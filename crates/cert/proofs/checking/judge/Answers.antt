@@ -1,4 +1,4 @@
-use Rattle.std.proofs.Common.{◌≡◌, ◌∙◌, sym, arith, ap, refl, length}
+use Rattle.std.proofs.Common.{◌∙◌, sym, arith, ap, refl}
 use Rattle.partition.specs.Fti.{Fti}
 use Rattle.cert.specs.Scan.{readings_of}
 use Rattle.cert.proofs.Judging.{read_all, no_object, no_datagrams, yes_all}

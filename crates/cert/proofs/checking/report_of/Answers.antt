@@ -1,4 +1,4 @@
-use Rattle.std.proofs.Common.{◌≡◌, ◌∙◌}
+use Rattle.std.proofs.Common.{◌∙◌}
 use Rattle.cert.specs.Scan.{readings_of}
 use Rattle.cert.proofs.Judging.{read_all, scan_refused}
 use Rattle.cert.proofs.Bridge.{numbers_in_blocks, lines_are, enough_full, counts_refused}
@@ -11,7 +11,7 @@ pub counts-requires : goal.counts-requires
 counts-requires c =
     let all = c.in-Ok.ensures.certified in
     rw (c.as_slice.ensures.value, c.in-Ok.ensures.numbers, c.blocks-2.ensures.value, c.fti-fti.ensures.value)
-      (numbers_in_blocks c.args.certificate.now all.first c.args.session.now all.packets)
+    (numbers_in_blocks c.args.certificate.now all.first c.args.session.now all.packets)
 
 pub returns-in-Ok-blocks_of-clause-report : goal.returns-in-Ok-blocks_of-clause-report
 returns-in-Ok-blocks_of-clause-report c =

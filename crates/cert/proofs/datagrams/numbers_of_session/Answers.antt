@@ -1,4 +1,4 @@
-use Rattle.std.proofs.Common.{◌≡◌, ◌∙◌, sym, arith, Ok, Err, ap, refl}
+use Rattle.std.proofs.Common.{◌∙◌, sym, arith, Ok, Err, refl}
 use Rattle.alc.specs.Views.{packet_of}
 use Rattle.cert.proofs.Judging.{all_right}
 use Rattle.cert.proofs.Scanning.{bad_first, stops, goes_on, all_clean, numbers_more}
@@ -13,12 +13,12 @@ loop-place-init c = record { scanned = record { some = c.requires; reads = rw c.
 pub returns-in-Err-read-clause-refusal : goal.returns-in-Err-read-clause-refusal
 returns-in-Err-read-clause-refusal c =
     stops c.args.certificate.now c.args.session.now (packet_of c.in-Ok.packet) c.loop-place.place c.loop-place.invariant.scanned c.get-in-loop-place.result.now (Err c.in-Err-read.fault) _
-      (omega arith) c.get-in-loop-place.ensures c.in-Err-read.ensures.reads refl
+    (omega arith) c.get-in-loop-place.ensures c.in-Err-read.ensures.reads refl
 
 pub returns-in-Some-clause-refusal : goal.returns-in-Some-clause-refusal
 returns-in-Some-clause-refusal c =
     stops c.args.certificate.now c.args.session.now (packet_of c.in-Ok.packet) c.loop-place.place c.loop-place.invariant.scanned c.get-in-loop-place.result.now (Ok (packet_of c.in-Ok-read.packet)) _
-      (omega arith) c.get-in-loop-place.ensures c.in-Ok-read.ensures.reads (sym c.reason_against.ensures ∙ c.in-Some.is)
+    (omega arith) c.get-in-loop-place.ensures c.in-Ok-read.ensures.reads (sym c.reason_against.ensures ∙ c.in-Some.is)
 
 pub loop-place-preserved : goal.loop-place-preserved
 loop-place-preserved c = record {

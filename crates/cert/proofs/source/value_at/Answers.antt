@@ -13,7 +13,7 @@ loop-i-init c = rw (drop_all (length c.args.coefficients.now) c.args.coefficient
 pub loop-i-preserved : goal.loop-i-preserved
 loop-i-preserved c =
     let here : get_or c.args.coefficients.now (c.loop-i.i - 1) 0 ≡ get_or c.args.coefficients.now (c.loop-i.i - 1) (get_or c.args.coefficients.now (c.loop-i.i - 1) 0) =
-        sym (get_or_default_zero c.args.coefficients.now (c.loop-i.i - 1) _ (omega arith)) in
+    sym (get_or_default_zero c.args.coefficients.now (c.loop-i.i - 1) _ (omega arith)) in
     record {
       byte = c.add-value.ensures.fits;
       so_far = c.add-value.ensures.value ∙ rw c.mul.ensures.value

@@ -1,4 +1,4 @@
-use Rattle.std.proofs.Common.{◌≡◌, ◌<◌, arith}
+use Rattle.std.proofs.Common.{◌<◌, arith}
 use Rattle.partition.specs.Fti.{source_count}
 use Rattle.partition.proofs.Laws.{place_fits, start_fits, counts}
 use Rattle.cert.proofs.source.wrong_symbol.Goals as goal

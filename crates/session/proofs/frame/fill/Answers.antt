@@ -1,4 +1,4 @@
-use Rattle.std.proofs.Common.{◌≡◌, ℕ, ◌+◌, ◌-◌, ◌≤◌, take, length, arith, length-take, length-drop}
+use Rattle.std.proofs.Common.{◌≡◌, ℕ, ◌-◌, ◌≤◌, length, arith, length-take, length-drop}
 use borrow.Rule.Slice.PartMut.{same_len_mid}
 use Rattle.session.proofs.Fills.{step}
 use Rattle.session.proofs.frame.fill.Goals as goal

@@ -1,4 +1,4 @@
-use Rattle.std.proofs.Common.{length, ◌-◌, ◌≡◌, ◌≤◌, ◌+◌, take}
+use Rattle.std.proofs.Common.{length, ◌-◌, ◌≤◌, ◌+◌, take}
 use Rattle.std.specs.Io.KnownBytes.{Consumes}
 use Rattle.session.proofs.frame.fill.Given as goal
 

@@ -9,7 +9,7 @@ part-requires c =
     let column = rw (← c.self.view_is) at c.requires.column in
     let end = polynomial_end c.self.inside.fti c.self.invariant.fti c.args.b c.args.c block column in
     rw (c.start.ensures.value, c.from.ensures, c.symbol.ensures.value, c.k-count.ensures.value, c.as_slice.ensures.value)
-      (omega (arith, end, c.self.invariant.count))
+    (omega (arith, end, c.self.invariant.count))
 
 pub returns-clause-value : goal.returns-clause-value
 unfolding polynomial

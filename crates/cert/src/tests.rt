@@ -1,0 +1,158 @@
+ghost use Rattle.std.specs.Prelude.{◌<◌, Some, true, false, length};
+
+use super::*;
+use partition::{Fti, FtiError};
+use session::{Failed, Read, Write};
+use std::alloc::Global;
+use std::test::Fail;
+
+// A reader that gives so many bytes at a time at most.
+#[derive(Drop)]
+struct Pieces<'a> {
+    bytes: &'a [u8],
+    most: usize,
+    ghost some: { 0 < most },
+}
+
+impl Read for Pieces<'_> {
+    ghost remaining = { λ p. Some p.bytes.now };
+
+    ghost left = { λ p. length p.bytes.now };
+
+    ghost failed = { λ _. false };
+
+    fn read(&mut self, buf: &mut [u8]) -> Result<usize, Failed> {
+        let n = buf.len().min(self.bytes.len()).min(self.most);
+        let (front, rest) = self.bytes.split_at(n);
+        buf[..n].copy_from_slice(front);
+        self.bytes = rest;
+        Ok(n)
+    }
+}
+
+// A writer that keeps what is written.
+#[derive(Drop)]
+struct Sink {
+    bytes: Vec<u8>,
+    failed: bool,
+}
+
+impl Write for Sink {
+    ghost contents = { λ s. Some s.bytes.items };
+
+    ghost failed = { λ s. s.failed };
+
+    fn write(&mut self, bytes: &[u8]) -> Result<usize, Failed> {
+        if self.failed {
+            return Err(Failed);
+        }
+        match self.bytes.extend_from_slice(bytes) {
+            Ok(()) => Ok(bytes.len()),
+            Err(_) => {
+                self.failed = true;
+                Err(Failed)
+            }
+        }
+    }
+}
+
+fn read(alloc: Global, bytes: &[u8]) -> Result<Certificate, CertFault> {
+    let mut reader = Pieces { bytes, most: 5 };
+    Certificate::read(alloc, &mut reader)
+}
+
+// FTI (3, 2, 2, 3): one block of two symbols of two bytes, the last byte being padding.
+const TWO_COLUMNS: [u8; 18] = [
+    0x52, 0x53, 0x43, 0x31, 0, 0, 0, 0, 0, 3, 0, 2, 2, 3, 0xF6, 0xF1, 0xFB, 0xF3,
+];
+
+// FTI (2, 1, 2, 3).
+const ONE_COLUMN: [u8; 16] = [0x52, 0x53, 0x43, 0x31, 0, 0, 0, 0, 0, 2, 0, 1, 2, 3, 0, 1];
+
+#[test]
+fn two_columns(rt: HostRuntime) -> Result<(), Fail> {
+    let certificate = read(rt.alloc(), &TWO_COLUMNS)?;
+    let fti = Fti::new(3, 2, 2, 3)?;
+    assert_eq!(rt; certificate.fti(), fti);
+    assert!(rt; 0 < certificate.fti().blocks() && 1 < certificate.fti().symbol());
+    assert_eq!(rt; certificate.polynomial(0, 0), [0xF6, 0xF1].as_slice());
+    assert_eq!(rt; certificate.polynomial(0, 1), [0xFB, 0xF3].as_slice());
+    let mut sink = Sink {
+        bytes: Vec::new(rt.alloc()),
+        failed: false,
+    };
+    certificate.write(&mut sink)?;
+    assert_eq!(rt; sink.bytes.as_slice(), TWO_COLUMNS.as_slice());
+    Ok(())
+}
+
+#[test]
+fn three_blocks(rt: HostRuntime) -> Result<(), Fail> {
+    one_certificate();
+    let certificate = read(
+        rt.alloc(),
+        &[
+            0x52, 0x53, 0x43, 0x31, 0, 0, 0, 0, 0, 0x0A, 0, 1, 4, 6, 0, 0, 0, 1, 0, 1, 0, 0, 0, 1,
+        ],
+    )?;
+    let fti = certificate.fti();
+    assert_eq!(rt; fti, Fti::new(10, 1, 4, 6)?);
+    assert!(rt; 2 < fti.blocks() && 0 < fti.symbol());
+    assert_eq!(rt; certificate.polynomial(0, 0), [0, 0, 0, 1].as_slice());
+    assert_eq!(rt; certificate.polynomial(1, 0), [0, 1, 0].as_slice());
+    assert_eq!(rt; certificate.polynomial(2, 0), [0, 0, 1].as_slice());
+    Ok(())
+}
+
+#[test]
+fn no_certificates(rt: HostRuntime) {
+    let mut longer = [0; 17];
+    longer[..16].copy_from_slice(&ONE_COLUMN);
+    let mut without_block = ONE_COLUMN;
+    without_block[12] = 0;
+    for (bytes, fault) in [
+        ([].as_slice(), CertFault::Magic),
+        (ONE_COLUMN.split_at(3).0, CertFault::Magic),
+        (b"RSC2".as_slice(), CertFault::Magic),
+        (b"RSC2 and more bytes".as_slice(), CertFault::Magic),
+        (ONE_COLUMN.split_at(4).0, CertFault::Size),
+        (ONE_COLUMN.split_at(13).0, CertFault::Size),
+        (ONE_COLUMN.split_at(15).0, CertFault::Size),
+        (longer.as_slice(), CertFault::Size),
+        (
+            without_block.as_slice(),
+            CertFault::Fti(FtiError::BlockZero),
+        ),
+    ] {
+        match read(rt.alloc(), bytes) {
+            Ok(_) => assert!(rt; false, "read"),
+            Err(found) => assert_eq!(rt; found, fault),
+        }
+    }
+}
+
+#[test]
+fn parts(rt: HostRuntime) -> Result<(), Fail> {
+    let fti = Fti::new(2, 1, 2, 3)?;
+    for count in 0..4usize {
+        let coefficients = Vec::from_elem(rt.alloc(), 1u8, count)?;
+        let made = Certificate::from_parts(fti, coefficients).is_some();
+        assert_eq!(rt; made, count == 2);
+    }
+    Ok(())
+}
+
+#[test]
+fn texts(rt: HostRuntime) -> Result<(), Fail> {
+    for (fault, text) in [
+        (CertFault::Magic, "Z1 Magic"),
+        (CertFault::Fti(FtiError::BlockZero), "Z2 Fti F4 BlockZero"),
+        (CertFault::Size, "Z3 Size"),
+        (CertFault::Io, "Z4 Io"),
+        (CertFault::NoMemory, "Z5 NoMemory"),
+    ] {
+        let shown = format!(in rt.alloc(); "{fault}")?;
+        assert_eq!(rt; shown.as_str(), text);
+    }
+    Ok(())
+}

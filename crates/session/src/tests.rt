@@ -1,0 +1,173 @@
+ghost use Rattle.std.specs.Prelude.{◌<◌, Some, true, false, length};
+
+use super::*;
+use std::alloc::Global;
+use std::test::Fail;
+
+// A reader that gives so many bytes at a time at most.
+#[derive(Drop)]
+struct Pieces<'a> {
+    bytes: &'a [u8],
+    most: usize,
+    ghost some: { 0 < most },
+}
+
+impl Read for Pieces<'_> {
+    ghost remaining = { λ p. Some p.bytes.now };
+
+    ghost left = { λ p. length p.bytes.now };
+
+    ghost failed = { λ _. false };
+
+    fn read(&mut self, buf: &mut [u8]) -> Result<usize, Failed> {
+        let n = buf.len().min(self.bytes.len()).min(self.most);
+        let (front, rest) = self.bytes.split_at(n);
+        buf[..n].copy_from_slice(front);
+        self.bytes = rest;
+        Ok(n)
+    }
+}
+
+// A writer that takes a byte at a time.
+#[derive(Drop)]
+struct Sink {
+    bytes: Vec<u8>,
+    failed: bool,
+}
+
+impl Write for Sink {
+    ghost contents = { λ s. Some s.bytes.items };
+
+    ghost failed = { λ s. s.failed };
+
+    fn write(&mut self, bytes: &[u8]) -> Result<usize, Failed> {
+        if self.failed {
+            return Err(Failed);
+        }
+        let n = bytes.len().min(1);
+        match self.bytes.extend_from_slice(&bytes[..n]) {
+            Ok(()) => Ok(n),
+            Err(_) => {
+                self.failed = true;
+                Err(Failed)
+            }
+        }
+    }
+}
+
+fn empty_sink(alloc: Global) -> Sink {
+    Sink {
+        bytes: Vec::new(alloc),
+        failed: false,
+    }
+}
+
+#[test]
+fn no_sessions(rt: HostRuntime) {
+    for (bytes, fault) in [
+        ([0xFF, 0xFF].as_slice(), FrameFault::TooLong),
+        ([0xFF, 0xE4].as_slice(), FrameFault::TooLong),
+        ([0xFF, 0xE3].as_slice(), FrameFault::CutDatagram),
+        ([0].as_slice(), FrameFault::CutLength),
+        ([0, 0, 0].as_slice(), FrameFault::CutLength),
+        ([0, 0x21, 0x10].as_slice(), FrameFault::CutDatagram),
+        ([0, 0x21].as_slice(), FrameFault::CutDatagram),
+    ] {
+        for most in 1..=8usize {
+            let mut reader = Pieces { bytes, most };
+            match Session::read(rt.alloc(), &mut reader) {
+                Ok(_) => assert!(rt; false, "read"),
+                Err(found) => assert_eq!(rt; found, fault, "pieces of {most}"),
+            }
+        }
+    }
+}
+
+#[test]
+fn short_sessions(rt: HostRuntime) -> Result<(), Fail> {
+    for most in 1..=8usize {
+        let mut reader = Pieces { bytes: &[], most };
+        assert!(rt; Session::read(rt.alloc(), &mut reader)?.is_empty());
+        let mut reader = Pieces {
+            bytes: &[0, 0],
+            most,
+        };
+        let session = Session::read(rt.alloc(), &mut reader)?;
+        assert_eq!(rt; session.len(), 1);
+        assert!(rt; session.get(0).is_empty());
+    }
+    Ok(())
+}
+
+#[test]
+fn two_datagrams(rt: HostRuntime) -> Result<(), Fail> {
+    let file = [0, 1, 7, 0, 3, 1, 2, 3];
+    let mut session = Session::new(rt.alloc());
+    assert!(rt; session.push(vec![in rt.alloc(); 7]?).is_ok());
+    assert!(rt; session.push(vec![in rt.alloc(); 1, 2, 3]?).is_ok());
+    let mut written = empty_sink(rt.alloc());
+    session.write(&mut written)?;
+    assert_eq!(rt; written.bytes.as_slice(), file.as_slice());
+    for most in 1..=8usize {
+        let mut reader = Pieces { bytes: &file, most };
+        let back = Session::read(rt.alloc(), &mut reader)?;
+        let views = back.views(rt.alloc())?;
+        assert_eq!(rt; views.len(), 2);
+        assert_eq!(rt; views[0], [7].as_slice());
+        assert_eq!(rt; views[1], [1, 2, 3].as_slice());
+    }
+    Ok(())
+}
+
+#[test]
+fn byte_by_byte(rt: HostRuntime) -> Result<(), Fail> {
+    let mut reader = Pieces {
+        bytes: &[0, 2, 5, 6, 9, 8],
+        most: 1,
+    };
+    let Some(datagram) = read_next(rt.alloc(), &mut reader)? else {
+        assert!(rt; false, "the end");
+        return Ok(());
+    };
+    assert_eq!(rt; datagram.as_slice(), [5, 6].as_slice());
+    let mut one = [0; 1];
+    assert_eq!(rt; fill(&mut reader, &mut one), Ok(1));
+    assert_eq!(rt; one, [9]);
+    assert_eq!(rt;
+        read_to_end(rt.alloc(), &mut reader)?.as_slice(),
+        [8].as_slice()
+    );
+    let mut written = empty_sink(rt.alloc());
+    write_one(&mut written, &[5, 6])?;
+    assert_eq!(rt; write_all(&mut written, &[9, 8]), Ok(()));
+    assert_eq!(rt; written.bytes.as_slice(), [0, 2, 5, 6, 9, 8].as_slice());
+    Ok(())
+}
+
+#[test]
+fn devices(rt: HostRuntime) -> Result<(), Fail> {
+    let mut reader = Device::new([0, 1, 7].as_slice());
+    let session = Session::read(rt.alloc(), &mut reader)?;
+    assert_eq!(rt; session.len(), 1);
+    assert!(rt; reader.into_inner().is_empty());
+    let mut writer = Device::new(Vec::new(rt.alloc()));
+    session.write(&mut writer)?;
+    assert_eq!(rt; writer.into_inner().as_slice(), [0, 1, 7].as_slice());
+    Ok(())
+}
+
+#[test]
+fn texts(rt: HostRuntime) -> Result<(), Fail> {
+    for (fault, text) in [
+        (FrameFault::CutLength, "S1 CutLength"),
+        (FrameFault::CutDatagram, "S2 CutDatagram"),
+        (FrameFault::TooLong, "S3 TooLong"),
+        (FrameFault::Io, "S4 Io"),
+        (FrameFault::NoMemory, "S5 NoMemory"),
+        (FrameFault::NoSuchPlace(7), "S6 NoSuchPlace 7"),
+    ] {
+        let shown = format!(in rt.alloc(); "{fault}")?;
+        assert_eq!(rt; shown.as_str(), text);
+    }
+    Ok(())
+}
