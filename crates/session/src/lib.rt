@@ -4,6 +4,7 @@
 mod device;
 mod frame;
 mod io;
+mod selection;
 mod session;
 mod whole;
 

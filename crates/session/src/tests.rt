@@ -171,3 +171,48 @@ fn texts(rt: HostRuntime) -> Result<(), Fail> {
     }
     Ok(())
 }
+
+// The session of the datagrams `00`, `01`, `02`.
+fn three(alloc: Global) -> Result<Session, Fail> {
+    let mut reader = Pieces {
+        bytes: &[0, 1, 0, 0, 1, 1, 0, 1, 2],
+        most: 2,
+    };
+    Ok(Session::read(alloc, &mut reader)?)
+}
+
+// The file that a session is written to.
+fn file_of(alloc: Global, session: &Session) -> Result<Vec<u8>, Fail> {
+    let mut sink = empty_sink(alloc);
+    session.write(&mut sink)?;
+    let Sink { bytes, failed: _ } = sink;
+    Ok(bytes)
+}
+
+#[test]
+fn chosen_datagrams(rt: HostRuntime) -> Result<(), Fail> {
+    let session = three(rt.alloc())?;
+    let kept = session.keep(rt.alloc(), &[2, 0, 0])?;
+    let file = file_of(rt.alloc(), &kept)?;
+    assert_eq!(rt; file.as_slice(), [0, 1, 2, 0, 1, 0, 0, 1, 0].as_slice());
+    assert!(rt; session.keep(rt.alloc(), &[])?.is_empty());
+    match session.keep(rt.alloc(), &[2, 4, 3]) {
+        Ok(_) => assert!(rt; false, "kept"),
+        Err(fault) => assert_eq!(rt; fault, FrameFault::NoSuchPlace(4)),
+    }
+    Ok(())
+}
+
+#[test]
+fn datagrams_left(rt: HostRuntime) -> Result<(), Fail> {
+    let session = three(rt.alloc())?;
+    let left = session.without(rt.alloc(), &[1, 1])?;
+    let file = file_of(rt.alloc(), &left)?;
+    assert_eq!(rt; file.as_slice(), [0, 1, 0, 0, 1, 2].as_slice());
+    assert_eq!(rt; session.without(rt.alloc(), &[])?.len(), 3);
+    match session.without(rt.alloc(), &[3]) {
+        Ok(_) => assert!(rt; false, "thinned"),
+        Err(fault) => assert_eq!(rt; fault, FrameFault::NoSuchPlace(3)),
+    }
+    Ok(())
+}
