@@ -33,7 +33,7 @@ found P b j (s ∷ ss) h all =
     ]
 
 -- the polynomials of one column through the source symbols are one
-same_source : (f : Fti) (object p q : List ℕ) (b c : ℕ) → source_count f b ≤ 255
+pub same_source : (f : Fti) (object p q : List ℕ) (b c : ℕ) → source_count f b ≤ 255
     → IsPolynomial (source_count f b) p → IsPolynomial (source_count f b) q
     → ((i : ℕ) → i < source_count f b → value p (point i) ≡ source_byte f object b i c)
     → ((i : ℕ) → i < source_count f b → value q (point i) ≡ source_byte f object b i c) → p ≡ q

@@ -134,6 +134,7 @@ impl Certificate {
     pub fn from_parts(fti: Fti, coefficients: Vec<u8>) -> Option<Certificate>
         ensures parts { MatchOption result (vec_len coefficients ≢ coefficient_count fti) (λ z. z ≡ record { fti = fti; coefficients = coefficients.items }) }
         ensures count { IfSome result (λ z. vec_len coefficients ≡ coefficient_count fti) }
+        ensures certificate { IfSome result IsCertificate }
     {
         if coefficients.len() as u64 != coefficients_of(&fti) {
             return None;

@@ -11,3 +11,4 @@ pub mod Entries
 pub mod RowProducts
 pub mod CodePoints
 pub mod Generating
+pub mod Interpolating

@@ -1,7 +1,7 @@
 -- The generator matrix of the code (RFC 5510, section 8.2.1), over bytes.
 use Rattle.std.specs.Prelude.{◌≡◌, ◌<◌, ◌*◌, ℕ, List, length, take, slice_index}
 use Rattle.gf256.specs.Arithmetic.{sum_of, product, point, alpha_to, AreBytes}
-use Rattle.poly.specs.Polynomial.{IsWord}
+use Rattle.poly.specs.Polynomial.{IsWord, value}
 use Rattle.elim.specs.Matrices.{row_times, identity_entry}
 use Rattle.elim.specs.Grid.{Grid, entry, row_product}
 
@@ -28,3 +28,7 @@ pub record IsSystematic (k : ℕ) (g : Grid ℕ) : Type 0 where
 pub record Encodes (k n : ℕ) (g : Grid ℕ) : Type 0 where
   pub word : (source : List ℕ) → length source ≡ k → AreBytes source → IsWord k n (row_product sum_of product 0 source g)
   pub begins : (source : List ℕ) → length source ≡ k → AreBytes source → take k (row_product sum_of product 0 source g) ≡ source
+
+-- each row of k bytes times it is the coefficients of the polynomial that has these values at the first k points
+pub record Interpolates (k : ℕ) (g : Grid ℕ) : Type 0 where
+  pub values : (source : List ℕ) → length source ≡ k → AreBytes source → (i : ℕ) → i < k → value (row_product sum_of product 0 source g) (point i) ≡ slice_index source i

@@ -1,6 +1,7 @@
 //! The generator matrix of the code.
 ghost use Rattle.std.specs.Prelude.{◌≡◌, ◌<◌, ◌≤◌, IfOk};
-ghost use Rattle.elim.specs.Generator.{ArePoints, IsGenerator, IsSystematic, Encodes};
+ghost use Rattle.elim.specs.Generator.{ArePoints, IsGenerator, IsSystematic, Encodes, Interpolates};
+ghost use Rattle.elim.specs.Grid.{HasShape};
 
 use crate::combine::{product, vandermonde};
 use crate::eliminate::{ElimError, invert};
@@ -40,4 +41,22 @@ pub fn generator(alloc: Global, k: usize, n: usize) -> Result<Matrix<Gf>, AllocE
         Err(ElimError::Singular) => unreachable!(),
     };
     product(alloc, &inverse, &wide)
+}
+
+/// The inverse of the Vandermonde matrix of the first `k` points: a row of `k` bytes times it is the
+/// coefficients, the constant one first, of the polynomial with these values at the points. Want of
+/// memory is the only error.
+pub fn interpolator(alloc: Global, k: usize) -> Result<Matrix<Gf>, AllocError>
+    requires some { 0 < k }
+    requires few { k ≤ 255 }
+    ensures shape { IfOk result (HasShape k k) }
+    ensures interpolates { IfOk result (Interpolates k) }
+{
+    let points = points(alloc, k)?;
+    let square = vandermonde(alloc, &points, k)?;
+    match invert(alloc, &square) {
+        Ok(inverse) => Ok(inverse),
+        Err(ElimError::NoMemory) => Err(AllocError),
+        Err(ElimError::Singular) => unreachable!(),
+    }
 }

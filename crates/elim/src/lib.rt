@@ -7,7 +7,7 @@ mod combine;
 mod eliminate;
 mod matrix;
 
-pub use code::generator;
+pub use code::{generator, interpolator};
 pub use combine::{product, vandermonde};
 pub use eliminate::{ElimError, invert};
 pub use matrix::Matrix;

@@ -1,0 +1,6 @@
+pub mod RowSums
+pub mod Columns
+pub mod Sizes
+pub mod Sent
+pub mod Places
+pub mod SessionReadings

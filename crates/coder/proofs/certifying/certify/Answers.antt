@@ -1,0 +1,23 @@
+use Rattle.std.proofs.Common.{◌≡◌, ◌∙◌, ◌++◌, ℕ, List, length, take, drop, ap, sym, subst}
+use Rattle.std.proofs.Math.Seq.{take-append_seam}
+use Rattle.cert.specs.Symbols.{IsObject}
+use Rattle.cert.specs.Certificate.{Certificate}
+use Rattle.cert.specs.Verdict.{GivesObject}
+use Rattle.coder.proofs.Columns.{bytes_fit}
+use Rattle.coder.proofs.SessionReadings.{certifies_sent}
+use Rattle.coder.proofs.certifying.certify.Goals as goal
+
+take_front : (n : ℕ) (xs ys : List ℕ) → n ≡ length xs → take n (xs ++ ys) ≡ xs
+take_front n xs ys e = rw e (take-append_seam xs ys)
+
+pub returns-clause-certifies : goal.returns-clause-certifies
+returns-clause-certifies c =
+    let z = c.in-Some.certificate in
+    let whole : length c.args.object.now ≡ c.args.fti.now.transfer_length = c.if-object-length.false ∙ c.length.ensures.value in
+    let fti = ap (λ (x : Certificate). x.fti.transfer_length) c.in-Some.ensures.parts in
+    let form : IsObject z.fti c.args.object.now = record { count = whole ∙ sym fti; bytes = bytes_fit c.args.object.now c.type_inv.object } in
+    let front = take_front c.in-Ok-from_elem-2.coefficients.len c.certify_blocks.new.coefficients (drop (length c.certify_blocks.new.coefficients) c.in-Ok-from_elem-2.coefficients.items) (sym (c.certify_blocks.ensures.len ∙ c.deref_mut-2.ensures.len)) in
+    let gives : GivesObject c.args.object.now z = 
+    subst (GivesObject c.args.object.now) (sym c.in-Some.ensures.parts)
+    (subst (λ (l : List ℕ). GivesObject c.args.object.now (record { fti = c.args.fti.now; coefficients = l })) (sym front) c.certify_blocks.ensures.gives) in
+    certifies_sent z c.args.object.now c.in-Some.ensures.certificate form gives

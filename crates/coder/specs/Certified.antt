@@ -1,0 +1,28 @@
+-- What certifying an object promises of the sessions that are sent of it.
+use Rattle.std.specs.Prelude.{◌≡◌, ◌≢◌, ℕ, ◌<◌, ◌^◌, List, length}
+use Rattle.partition.specs.Fti.{Fti}
+use Rattle.alc.specs.Reading.{Reading}
+use Rattle.cert.specs.Readings.{ReadAll}
+use Rattle.cert.specs.Certificate.{Certificate}
+use Rattle.cert.specs.Verdict.{IsCertificateOf}
+use Rattle.coder.specs.declared.certifying.CertifyFault.{CertifyFault}
+use Rattle.coder.specs.declared.certifying.CertifyFault.TheVariants.{Length, NoMemory}
+use Rattle.coder.specs.declared.sending.Order.{Order}
+use Rattle.coder.specs.Sending.{IsSessionOf}
+
+-- the certificate is one of this session and this object
+pub record Certifies (z : Certificate) (object : List ℕ) (session : List (List ℕ)) : Type 0 where
+  pub readings : List Reading
+  pub read : ReadAll session readings
+  pub granted : IsCertificateOf readings object z
+
+-- it is one of every session that is sent of the object
+abbrev pub CertifiesSent : List ℕ → Certificate → Type 0
+CertifiesSent object z =
+    (tsi toi : ℕ) (order : Order) (session : List (List ℕ)) → tsi < 2 ^ 32 → toi < 2 ^ 32
+    → IsSessionOf object z.fti tsi toi order session → Certifies z object session
+
+-- why an object wasn't certified
+abbrev pub IsCertifyFault : CertifyFault → List ℕ → Fti → Type 0
+IsCertifyFault Length object f = length object ≢ f.transfer_length
+IsCertifyFault NoMemory object f = length object ≡ f.transfer_length

@@ -1,0 +1,13 @@
+//! The coder: an object's encoding symbols as a session, and its certificate.
+#![tactic(auto)]
+
+mod block_matrices;
+mod certifying;
+mod rows;
+mod sending;
+
+pub use certifying::{CertifyFault, certify};
+pub use sending::{Order, SendFault, encode};
+
+#[cfg(test)]
+mod tests;
