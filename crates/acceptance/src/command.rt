@@ -1,5 +1,6 @@
 //! Commands run on files in memory.
-use crate::{MemoryFolder, Sink};
+use crate::MemoryFolder;
+use session::Sink;
 use std::alloc::{AllocError, Global};
 use std::test::Fail;
 use tool::{Usage, request, run};

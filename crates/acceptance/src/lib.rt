@@ -3,7 +3,7 @@
 
 mod memory;
 
-pub use memory::{MemoryFolder, Pieces, Sink};
+pub use memory::MemoryFolder;
 
 #[cfg(test)]
 mod check_tests;
