@@ -1,4 +1,8 @@
 //! The command `check`.
+ghost use Rattle.std.specs.Prelude.{◌≡◌, IfOk, IfErr};
+ghost use Rattle.tool.specs.Outcomes.{IsChecked, IsUnchecked};
+ghost use Rattle.tool.specs.Lines.{IsPrintFault};
+
 use crate::fault::Fault;
 use crate::folder::Folder;
 use crate::input::{read_certificate, read_object, read_session};
@@ -15,7 +19,12 @@ pub fn check<'a, F: Folder, W: Write>(
     session: &'a str,
     object: &'a str,
     certificate: &'a str,
-) -> Result<u8, Fault<'a>> {
+) -> Result<u8, Fault<'a>>
+    // The status is that of the verdict on what the three files hold.
+    ensures ok { IfOk result (IsChecked (F.content folder.old) session.now object.now certificate.now) }
+    ensures fault { IfErr result (IsUnchecked (F.content folder.old) session.now object.now certificate.now (W.failed out.new)) }
+    ensures stays { F.content folder.new ≡ F.content folder.old }
+{
     let session = read_session(alloc, folder, session)?;
     let object = read_object(alloc, folder, object)?;
     let certificate = read_certificate(alloc, folder, certificate)?;
@@ -31,11 +40,9 @@ pub fn check<'a, F: Folder, W: Write>(
     }
 }
 
-fn print_report<'a, W: Write>(
-    alloc: Global,
-    out: &mut W,
-    report: &Report,
-) -> Result<(), Fault<'a>> {
+fn print_report<'a, W: Write>(alloc: Global, out: &mut W, report: &Report) -> Result<(), Fault<'a>>
+    ensures fault { IfErr result (IsPrintFault (W.failed out.new)) }
+{
     let mut yes = Line::new(alloc);
     yes.text("yes")?;
     yes.print(out)?;

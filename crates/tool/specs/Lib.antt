@@ -1,0 +1,4 @@
+pub mod Files
+pub mod Inputs
+pub mod Lines
+pub mod Outcomes
