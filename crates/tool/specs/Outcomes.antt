@@ -1,9 +1,14 @@
 -- What a command does, by what its files hold.
-use Rattle.std.specs.Prelude.{◌≡◌, ◌⊎◌, ℕ, Bool, List}
+use Rattle.std.specs.Prelude.{◌≡◌, ◌<◌, ◌⊎◌, ℕ, Bool, List, [], length, slice_index_or}
+use Rattle.alc.specs.Packet.{Packet, IsPacket}
+use Rattle.alc.specs.PacketFault.{IsPacketFault}
+use Rattle.alc.specs.declared.fault.PacketFault.{PacketFault}
 use Rattle.cert.specs.Certificate.{Certificate}
 use Rattle.cert.specs.Verdict.{IsVerdict}
 use Rattle.cert.specs.declared.verdict.Verdict.{Verdict}
 use Rattle.cert.specs.declared.verdict.Verdict.TheVariants.{Yes, No}
+use Rattle.tool.specs.declared.command.Request.{Request}
+use Rattle.tool.specs.declared.command.Request.TheVariants.{Check, Show}
 use Rattle.tool.specs.declared.fault.Fault.{Fault}
 use Rattle.tool.specs.Inputs.{Contents, HoldsSession, HoldsBytes, HoldsCertificate, IsSessionUnread, IsObjectUnread, IsCertificateUnread}
 use Rattle.tool.specs.Lines.{IsPrintFault}
@@ -29,3 +34,39 @@ abbrev pub IsUnchecked : Contents → List ℕ → List ℕ → List ℕ → Boo
 IsUnchecked contents session object certificate failed fault =
     IsSessionUnread contents session fault ⊎ IsObjectUnread contents object fault
     ⊎ IsCertificateUnread contents certificate fault ⊎ IsPrintFault failed fault
+
+abbrev pub IsSomePacket : List ℕ → Type 0
+IsSomePacket datagram = (p : Packet) × IsPacket datagram p
+
+abbrev pub IsNoPacket : List ℕ → Type 0
+IsNoPacket datagram = (fault : PacketFault) × IsPacketFault datagram fault
+
+-- 0 where the first n datagrams are packets, 1 where one of them is none
+abbrev pub IsShownStatus : List (List ℕ) → ℕ → ℕ → Type 0
+IsShownStatus datagrams n status =
+    ((status ≡ 0) × ((i : ℕ) → i < n → IsSomePacket (slice_index_or datagrams i [])))
+    ⊎ ((status ≡ 1) × ((i : ℕ) × (i < n) × IsNoPacket (slice_index_or datagrams i [])))
+
+-- The status of the session in this file.
+pub record IsShown (contents : Contents) (session : List ℕ) (status : ℕ) : Type 0 where
+  pub datagrams : List (List ℕ)
+  pub sent : HoldsSession contents session datagrams
+  pub told : IsShownStatus datagrams (length datagrams) status
+
+abbrev pub IsUnshown : Contents → List ℕ → Bool → Fault → Type 0
+IsUnshown contents session failed fault = IsSessionUnread contents session fault ⊎ IsPrintFault failed fault
+
+abbrev pub IsDone : Contents → Request → ℕ → Type 0
+IsDone contents (Check session object certificate) status = IsChecked contents session.now object.now certificate.now status
+IsDone contents (Show session) status = IsShown contents session.now status
+
+abbrev pub IsUndone : Contents → Request → Bool → Fault → Type 0
+IsUndone contents (Check session object certificate) failed fault =
+    IsUnchecked contents session.now object.now certificate.now failed fault
+IsUndone contents (Show session) failed fault = IsUnshown contents session.now failed fault
+
+-- The request was done, with this status, or there was a fault, and the status is 1.
+abbrev pub IsRun : Contents → Request → ℕ → Type 0
+IsRun contents request status =
+    IsDone contents request status
+    ⊎ ((status ≡ 1) × (failed : Bool) × (fault : Fault) × IsUndone contents request failed fault)

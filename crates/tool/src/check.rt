@@ -1,5 +1,5 @@
 //! The command `check`.
-ghost use Rattle.std.specs.Prelude.{◌≡◌, IfOk, IfErr};
+ghost use Rattle.std.specs.Prelude.{◌≡◌, ◌≤◌, IfOk, IfErr};
 ghost use Rattle.tool.specs.Outcomes.{IsChecked, IsUnchecked};
 ghost use Rattle.tool.specs.Lines.{IsPrintFault};
 
@@ -23,6 +23,7 @@ pub fn check<'a, F: Folder, W: Write>(
     // The status is that of the verdict on what the three files hold.
     ensures ok { IfOk result (IsChecked (F.content folder.old) session.now object.now certificate.now) }
     ensures fault { IfErr result (IsUnchecked (F.content folder.old) session.now object.now certificate.now (W.failed out.new)) }
+    ensures status { IfOk result (λ status. status ≤ 1) }
     ensures stays { F.content folder.new ≡ F.content folder.old }
 {
     let session = read_session(alloc, folder, session)?;
