@@ -1,9 +1,11 @@
 -- What a command does, by what its files hold.
-use Rattle.std.specs.Prelude.{◌≡◌, ◌<◌, ◌⊎◌, ℕ, Bool, List, [], length, slice_index_or}
+use Rattle.std.specs.Prelude.{◌≡◌, ◌<◌, ◌⊎◌, ℕ, Bool, List, [], Option, length, slice_index_or}
 use Rattle.alc.specs.Packet.{Packet, IsPacket}
 use Rattle.alc.specs.PacketFault.{IsPacketFault}
 use Rattle.alc.specs.declared.fault.PacketFault.{PacketFault}
 use Rattle.cert.specs.Certificate.{Certificate}
+use Rattle.cert.specs.Headline.{DecodesWhereEnough, UndecidedElse}
+use Rattle.cert.specs.Report.{IsReport, OnYes}
 use Rattle.cert.specs.Verdict.{IsVerdict}
 use Rattle.cert.specs.declared.verdict.Verdict.{Verdict}
 use Rattle.cert.specs.declared.verdict.Verdict.TheVariants.{Yes, No}
@@ -11,14 +13,14 @@ use Rattle.tool.specs.declared.command.Request.{Request}
 use Rattle.tool.specs.declared.command.Request.TheVariants.{Check, Show}
 use Rattle.tool.specs.declared.fault.Fault.{Fault}
 use Rattle.tool.specs.Inputs.{Contents, HoldsSession, HoldsBytes, HoldsCertificate, IsSessionUnread, IsObjectUnread, IsCertificateUnread}
-use Rattle.tool.specs.Lines.{IsPrintFault}
+use Rattle.tool.specs.Lines.{IsPrintFault, Prints}
 
 abbrev pub status_of : Verdict → ℕ
 status_of (Yes report) = 0
 status_of (No reason) = 1
 
--- The verdict on the session, the object and the certificate in these files, and its status.
-pub record IsChecked (contents : Contents) (session object certificate : List ℕ) (status : ℕ) : Type 0 where
+-- The verdict on the session, the object and the certificate in these files was printed; its status; what a yes promises.
+pub record IsChecked (contents : Contents) (session object certificate : List ℕ) (before after : Option (List ℕ)) (status : ℕ) : Type 0 where
   pub datagrams : List (List ℕ)
   pub bytes : List ℕ
   pub polynomials : Certificate
@@ -28,6 +30,10 @@ pub record IsChecked (contents : Contents) (session object certificate : List �
   pub certified : HoldsCertificate contents certificate polynomials
   pub judged : IsVerdict datagrams bytes polynomials verdict
   pub told : status ≡ status_of verdict
+  pub printed : Prints verdict before after
+  pub decodes : OnYes verdict (λ _. DecodesWhereEnough polynomials.fti datagrams bytes)
+  pub undecided : OnYes verdict (λ _. UndecidedElse polynomials.fti datagrams bytes)
+  pub report : OnYes verdict (IsReport datagrams polynomials.fti)
 
 -- Why there is none: a file wasn't read, or there was no memory, or the output has failed.
 abbrev pub IsUnchecked : Contents → List ℕ → List ℕ → List ℕ → Bool → Fault → Type 0
@@ -56,9 +62,10 @@ pub record IsShown (contents : Contents) (session : List ℕ) (status : ℕ) : T
 abbrev pub IsUnshown : Contents → List ℕ → Bool → Fault → Type 0
 IsUnshown contents session failed fault = IsSessionUnread contents session fault ⊎ IsPrintFault failed fault
 
-abbrev pub IsDone : Contents → Request → ℕ → Type 0
-IsDone contents (Check session object certificate) status = IsChecked contents session.now object.now certificate.now status
-IsDone contents (Show session) status = IsShown contents session.now status
+abbrev pub IsDone : Contents → Request → Option (List ℕ) → Option (List ℕ) → ℕ → Type 0
+IsDone contents (Check session object certificate) before after status =
+    IsChecked contents session.now object.now certificate.now before after status
+IsDone contents (Show session) before after status = IsShown contents session.now status
 
 abbrev pub IsUndone : Contents → Request → Bool → Fault → Type 0
 IsUndone contents (Check session object certificate) failed fault =
@@ -66,7 +73,7 @@ IsUndone contents (Check session object certificate) failed fault =
 IsUndone contents (Show session) failed fault = IsUnshown contents session.now failed fault
 
 -- The request was done, with this status, or there was a fault, and the status is 1.
-abbrev pub IsRun : Contents → Request → ℕ → Type 0
-IsRun contents request status =
-    IsDone contents request status
+abbrev pub IsRun : Contents → Request → Option (List ℕ) → Option (List ℕ) → ℕ → Type 0
+IsRun contents request before after status =
+    IsDone contents request before after status
     ⊎ ((status ≡ 1) × (failed : Bool) × (fault : Fault) × IsUndone contents request failed fault)

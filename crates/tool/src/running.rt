@@ -20,7 +20,7 @@ pub fn run<F: Folder, W: Write>(
     folder: &mut F,
     out: &mut W,
 ) -> u8
-    ensures run { IsRun (F.content folder.old) request.now result }
+    ensures run { IsRun (F.content folder.old) request.now (W.contents out.old) (W.contents out.new) result }
     ensures status { result ≤ 1 }
 {
     let done = match request {
