@@ -1,12 +1,12 @@
 //! Commands run on files in memory.
-use crate::{MemoryFolder, Sink};
+use session::Sink;
 use std::alloc::{AllocError, Global};
 use std::test::Fail;
-use tool::{Usage, request, run};
+use tool::{MemoryFolder, Usage, request, run};
 
 /// What a command answered: its status, and what it printed.
 #[derive(Drop)]
-pub struct Outcome {
+pub(crate) struct Outcome {
     pub status: u8,
     pub text: String,
     /// How many files it created.
@@ -28,7 +28,7 @@ fn refused(alloc: Global, usage: Usage) -> Result<Outcome, AllocError> {
 }
 
 /// The answer to these words, the first of which is the program's name.
-pub fn answer<'a>(
+pub(crate) fn answer<'a>(
     alloc: Global,
     words: &'a [&'a str],
     files: &'a [(&'a str, &'a [u8])],
@@ -36,21 +36,21 @@ pub fn answer<'a>(
     match request(alloc, words) {
         Err(usage) => Ok(refused(alloc, usage)?),
         Ok(request) => {
-            let mut folder = MemoryFolder::new(alloc, files);
+            let mut folder = MemoryFolder::new(alloc, files, 7);
             let mut out = Sink::new(alloc);
             let status = run(alloc, &request, &mut folder, &mut out);
             let text = std::str::from_utf8(out.bytes())?.to_string(alloc)?;
             Ok(Outcome {
                 status,
                 text,
-                created: folder.created(),
+                created: folder.created().len(),
             })
         }
     }
 }
 
 /// The answer to `alcrs check s o c`.
-pub fn check(
+pub(crate) fn check(
     alloc: Global,
     session: &[u8],
     object: &[u8],

@@ -1,10 +1,6 @@
 //! Whole commands over files in memory.
 #![tactic(auto)]
 
-mod memory;
-
-pub use memory::{MemoryFolder, Pieces, Sink};
-
 #[cfg(test)]
 mod check_tests;
 #[cfg(test)]

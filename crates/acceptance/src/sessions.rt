@@ -2,13 +2,15 @@
 use std::alloc::{AllocError, Global};
 
 /// The object `01 02` with L 2, E 1, B 2 and max_n 3.
-pub const PAIR_FTI: [u8; 10] = [0, 0, 0, 0, 0, 2, 0, 1, 2, 3];
+pub(crate) const PAIR_FTI: [u8; 10] = [0, 0, 0, 0, 0, 2, 0, 1, 2, 3];
 
-pub const PAIR: [u8; 2] = [1, 2];
+pub(crate) const PAIR: [u8; 2] = [1, 2];
 
-pub const PAIR_CERTIFICATE: [u8; 16] = [0x52, 0x53, 0x43, 0x31, 0, 0, 0, 0, 0, 2, 0, 1, 2, 3, 0, 1];
+pub(crate) const PAIR_CERTIFICATE: [u8; 16] = [
+    0x52, 0x53, 0x43, 0x31, 0, 0, 0, 0, 0, 2, 0, 1, 2, 3, 0, 1,
+];
 
-pub const PAIR_SESSION: [u8; 105] = [
+pub(crate) const PAIR_SESSION: [u8; 105] = [
     0x00, 0x21, 0x10, 0xA0, 0x07, 0x05, 0, 0, 0, 0, 0, 0, 0, 1, 0, 0, 0, 1, 0x40, 3, 0, 0, 0, 0, 0,
     2, 0, 1, 2, 3, 0, 0, 0, 0, 1, 0x00, 0x21, 0x10, 0xA0, 0x07, 0x05, 0, 0, 0, 0, 0, 0, 0, 1, 0, 0,
     0, 1, 0x40, 3, 0, 0, 0, 0, 0, 2, 0, 1, 2, 3, 0, 0, 0, 1, 2, 0x00, 0x21, 0x10, 0xA0, 0x07, 0x05,
@@ -16,10 +18,10 @@ pub const PAIR_SESSION: [u8; 105] = [
 ];
 
 /// The bytes of one frame of `PAIR_SESSION`.
-pub const PAIR_FRAME: usize = 35;
+pub(crate) const PAIR_FRAME: usize = 35;
 
 /// An encoding symbol that is sent: its source block number, its ESI and its bytes, at most 223.
-pub type Sent<'a> = (u8, u8, &'a [u8]);
+pub(crate) type Sent<'a> = (u8, u8, &'a [u8]);
 
 // Up to the content of EXT_FTI, with TSI 1 and TOI 1.
 const HEADER: [u8; 18] = [
@@ -37,7 +39,11 @@ fn put_frame(session: &mut Vec<u8>, fti: &[u8], sent: Sent<'_>) -> Result<(), Al
 }
 
 /// The file of the datagrams with these symbols.
-pub fn session_of(alloc: Global, fti: &[u8], sent: &[Sent<'_>]) -> Result<Vec<u8>, AllocError> {
+pub(crate) fn session_of(
+    alloc: Global,
+    fti: &[u8],
+    sent: &[Sent<'_>],
+) -> Result<Vec<u8>, AllocError> {
     let mut session = Vec::new(alloc);
     for one in sent {
         put_frame(&mut session, fti, *one)?;
@@ -46,7 +52,7 @@ pub fn session_of(alloc: Global, fti: &[u8], sent: &[Sent<'_>]) -> Result<Vec<u8
 }
 
 /// The file of the certificate with these coefficients.
-pub fn certificate_of(
+pub(crate) fn certificate_of(
     alloc: Global,
     fti: &[u8],
     coefficients: &[u8],
@@ -59,7 +65,7 @@ pub fn certificate_of(
 }
 
 /// The file of the frames of `PAIR_SESSION` at these places.
-pub fn pair_frames(alloc: Global, places: &[usize]) -> Result<Vec<u8>, AllocError> {
+pub(crate) fn pair_frames(alloc: Global, places: &[usize]) -> Result<Vec<u8>, AllocError> {
     let mut session = Vec::new(alloc);
     for place in places {
         if let Some(frame) = PAIR_SESSION.chunks(PAIR_FRAME).nth(*place) {
@@ -70,7 +76,7 @@ pub fn pair_frames(alloc: Global, places: &[usize]) -> Result<Vec<u8>, AllocErro
 }
 
 /// `PAIR_SESSION` with one byte changed.
-pub fn pair_changed(at: usize, byte: u8) -> [u8; 105] {
+pub(crate) fn pair_changed(at: usize, byte: u8) -> [u8; 105] {
     let mut session = PAIR_SESSION;
     if let Some(place) = session.get_mut(at) {
         *place = byte;

@@ -1,4 +1,6 @@
 //! The host's files.
+ghost use Rattle.std.specs.Prelude.{None};
+
 use session::{Device, Failed};
 use std::fs;
 use std::fs::File;
@@ -21,6 +23,8 @@ impl<R: Files> Folder for HostFolder<'_, R> {
     type Input = Device<R::File>;
 
     type Output = Device<R::File>;
+
+    ghost content = { λ _ _. None };
 
     fn open_file(&mut self, name: &str) -> Result<Device<R::File>, Failed> {
         match fs::open(self.rt, name) {

@@ -1,63 +1,11 @@
-ghost use Rattle.std.specs.Prelude.{◌<◌, Some, true, false, length};
-
 use super::*;
 use partition::{Fti, FtiError};
-use session::{Failed, Read, Write};
+use session::{Pieces, Sink};
 use std::alloc::Global;
 use std::test::Fail;
 
-// A reader that gives so many bytes at a time at most.
-#[derive(Drop)]
-struct Pieces<'a> {
-    bytes: &'a [u8],
-    most: usize,
-    ghost some: { 0 < most },
-}
-
-impl Read for Pieces<'_> {
-    ghost remaining = { λ p. Some p.bytes.now };
-
-    ghost left = { λ p. length p.bytes.now };
-
-    ghost failed = { λ _. false };
-
-    fn read(&mut self, buf: &mut [u8]) -> Result<usize, Failed> {
-        let n = buf.len().min(self.bytes.len()).min(self.most);
-        let (front, rest) = self.bytes.split_at(n);
-        buf[..n].copy_from_slice(front);
-        self.bytes = rest;
-        Ok(n)
-    }
-}
-
-// A writer that keeps what is written.
-#[derive(Drop)]
-struct Sink {
-    bytes: Vec<u8>,
-    failed: bool,
-}
-
-impl Write for Sink {
-    ghost contents = { λ s. Some s.bytes.items };
-
-    ghost failed = { λ s. s.failed };
-
-    fn write(&mut self, bytes: &[u8]) -> Result<usize, Failed> {
-        if self.failed {
-            return Err(Failed);
-        }
-        match self.bytes.extend_from_slice(bytes) {
-            Ok(()) => Ok(bytes.len()),
-            Err(_) => {
-                self.failed = true;
-                Err(Failed)
-            }
-        }
-    }
-}
-
 fn read(alloc: Global, bytes: &[u8]) -> Result<Certificate, CertFault> {
-    let mut reader = Pieces { bytes, most: 5 };
+    let mut reader = Pieces::new(bytes, 5);
     Certificate::read(alloc, &mut reader)
 }
 
@@ -77,12 +25,9 @@ fn two_columns(rt: HostRuntime) -> Result<(), Fail> {
     assert!(rt; 0 < certificate.fti().blocks() && 1 < certificate.fti().symbol());
     assert_eq!(rt; certificate.polynomial(0, 0), [0xF6, 0xF1].as_slice());
     assert_eq!(rt; certificate.polynomial(0, 1), [0xFB, 0xF3].as_slice());
-    let mut sink = Sink {
-        bytes: Vec::new(rt.alloc()),
-        failed: false,
-    };
+    let mut sink = Sink::new(rt.alloc());
     certificate.write(&mut sink)?;
-    assert_eq!(rt; sink.bytes.as_slice(), TWO_COLUMNS.as_slice());
+    assert_eq!(rt; sink.bytes(), TWO_COLUMNS.as_slice());
     Ok(())
 }
 

@@ -4,6 +4,7 @@
 mod device;
 mod frame;
 mod io;
+mod memory;
 mod selection;
 mod session;
 mod whole;
@@ -11,6 +12,7 @@ mod whole;
 pub use device::Device;
 pub use frame::{FrameFault, MOST_BYTES, fill, read_next, write_all, write_one};
 pub use io::{Failed, Read, Write};
+pub use memory::{Pieces, Sink};
 pub use session::Session;
 pub use whole::{ReadFault, read_to_end};
 

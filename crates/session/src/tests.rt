@@ -1,66 +1,6 @@
-ghost use Rattle.std.specs.Prelude.{◌<◌, Some, true, false, length};
-
 use super::*;
 use std::alloc::Global;
 use std::test::Fail;
-
-// A reader that gives so many bytes at a time at most.
-#[derive(Drop)]
-struct Pieces<'a> {
-    bytes: &'a [u8],
-    most: usize,
-    ghost some: { 0 < most },
-}
-
-impl Read for Pieces<'_> {
-    ghost remaining = { λ p. Some p.bytes.now };
-
-    ghost left = { λ p. length p.bytes.now };
-
-    ghost failed = { λ _. false };
-
-    fn read(&mut self, buf: &mut [u8]) -> Result<usize, Failed> {
-        let n = buf.len().min(self.bytes.len()).min(self.most);
-        let (front, rest) = self.bytes.split_at(n);
-        buf[..n].copy_from_slice(front);
-        self.bytes = rest;
-        Ok(n)
-    }
-}
-
-// A writer that takes a byte at a time.
-#[derive(Drop)]
-struct Sink {
-    bytes: Vec<u8>,
-    failed: bool,
-}
-
-impl Write for Sink {
-    ghost contents = { λ s. Some s.bytes.items };
-
-    ghost failed = { λ s. s.failed };
-
-    fn write(&mut self, bytes: &[u8]) -> Result<usize, Failed> {
-        if self.failed {
-            return Err(Failed);
-        }
-        let n = bytes.len().min(1);
-        match self.bytes.extend_from_slice(&bytes[..n]) {
-            Ok(()) => Ok(n),
-            Err(_) => {
-                self.failed = true;
-                Err(Failed)
-            }
-        }
-    }
-}
-
-fn empty_sink(alloc: Global) -> Sink {
-    Sink {
-        bytes: Vec::new(alloc),
-        failed: false,
-    }
-}
 
 #[test]
 fn no_sessions(rt: HostRuntime) {
@@ -74,7 +14,7 @@ fn no_sessions(rt: HostRuntime) {
         ([0, 0x21].as_slice(), FrameFault::CutDatagram),
     ] {
         for most in 1..=8usize {
-            let mut reader = Pieces { bytes, most };
+            let mut reader = Pieces::new(bytes, most);
             match Session::read(rt.alloc(), &mut reader) {
                 Ok(_) => assert!(rt; false, "read"),
                 Err(found) => assert_eq!(rt; found, fault, "pieces of {most}"),
@@ -86,12 +26,9 @@ fn no_sessions(rt: HostRuntime) {
 #[test]
 fn short_sessions(rt: HostRuntime) -> Result<(), Fail> {
     for most in 1..=8usize {
-        let mut reader = Pieces { bytes: &[], most };
+        let mut reader = Pieces::new(&[], most);
         assert!(rt; Session::read(rt.alloc(), &mut reader)?.is_empty());
-        let mut reader = Pieces {
-            bytes: &[0, 0],
-            most,
-        };
+        let mut reader = Pieces::new(&[0, 0], most);
         let session = Session::read(rt.alloc(), &mut reader)?;
         assert_eq!(rt; session.len(), 1);
         assert!(rt; session.get(0).is_empty());
@@ -105,11 +42,11 @@ fn two_datagrams(rt: HostRuntime) -> Result<(), Fail> {
     let mut session = Session::new(rt.alloc());
     assert!(rt; session.push(vec![in rt.alloc(); 7]?).is_ok());
     assert!(rt; session.push(vec![in rt.alloc(); 1, 2, 3]?).is_ok());
-    let mut written = empty_sink(rt.alloc());
+    let mut written = Sink::limited(rt.alloc(), 1, usize::MAX);
     session.write(&mut written)?;
-    assert_eq!(rt; written.bytes.as_slice(), file.as_slice());
+    assert_eq!(rt; written.bytes(), file.as_slice());
     for most in 1..=8usize {
-        let mut reader = Pieces { bytes: &file, most };
+        let mut reader = Pieces::new(&file, most);
         let back = Session::read(rt.alloc(), &mut reader)?;
         let views = back.views(rt.alloc())?;
         assert_eq!(rt; views.len(), 2);
@@ -121,10 +58,7 @@ fn two_datagrams(rt: HostRuntime) -> Result<(), Fail> {
 
 #[test]
 fn byte_by_byte(rt: HostRuntime) -> Result<(), Fail> {
-    let mut reader = Pieces {
-        bytes: &[0, 2, 5, 6, 9, 8],
-        most: 1,
-    };
+    let mut reader = Pieces::new(&[0, 2, 5, 6, 9, 8], 1);
     let Some(datagram) = read_next(rt.alloc(), &mut reader)? else {
         assert!(rt; false, "the end");
         return Ok(());
@@ -137,10 +71,24 @@ fn byte_by_byte(rt: HostRuntime) -> Result<(), Fail> {
         read_to_end(rt.alloc(), &mut reader)?.as_slice(),
         [8].as_slice()
     );
-    let mut written = empty_sink(rt.alloc());
+    let mut written = Sink::limited(rt.alloc(), 1, usize::MAX);
     write_one(&mut written, &[5, 6])?;
     assert_eq!(rt; write_all(&mut written, &[9, 8]), Ok(()));
-    assert_eq!(rt; written.bytes.as_slice(), [0, 2, 5, 6, 9, 8].as_slice());
+    assert_eq!(rt; written.bytes(), [0, 2, 5, 6, 9, 8].as_slice());
+    Ok(())
+}
+
+#[test]
+fn a_writer_that_fails(rt: HostRuntime) -> Result<(), Fail> {
+    let session = three(rt.alloc())?;
+    let file = [0, 1, 0, 0, 1, 1, 0, 1, 2];
+    for room in 0..=9usize {
+        let mut sink = Sink::limited(rt.alloc(), 2, room);
+        let fault = session.write(&mut sink);
+        assert_eq!(rt; fault.is_ok(), room == 9);
+        assert_eq!(rt; sink.bytes(), file.get(..room).unwrap_or(&[]));
+        assert_eq!(rt; write_all(&mut sink, &[1]).is_ok(), false);
+    }
     Ok(())
 }
 
@@ -174,19 +122,15 @@ fn texts(rt: HostRuntime) -> Result<(), Fail> {
 
 // The session of the datagrams `00`, `01`, `02`.
 fn three(alloc: Global) -> Result<Session, Fail> {
-    let mut reader = Pieces {
-        bytes: &[0, 1, 0, 0, 1, 1, 0, 1, 2],
-        most: 2,
-    };
+    let mut reader = Pieces::new(&[0, 1, 0, 0, 1, 1, 0, 1, 2], 2);
     Ok(Session::read(alloc, &mut reader)?)
 }
 
 // The file that a session is written to.
-fn file_of(alloc: Global, session: &Session) -> Result<Vec<u8>, Fail> {
-    let mut sink = empty_sink(alloc);
+fn file_of(alloc: Global, session: &Session) -> Result<Sink, Fail> {
+    let mut sink = Sink::new(alloc);
     session.write(&mut sink)?;
-    let Sink { bytes, failed: _ } = sink;
-    Ok(bytes)
+    Ok(sink)
 }
 
 #[test]
@@ -194,7 +138,7 @@ fn chosen_datagrams(rt: HostRuntime) -> Result<(), Fail> {
     let session = three(rt.alloc())?;
     let kept = session.keep(rt.alloc(), &[2, 0, 0])?;
     let file = file_of(rt.alloc(), &kept)?;
-    assert_eq!(rt; file.as_slice(), [0, 1, 2, 0, 1, 0, 0, 1, 0].as_slice());
+    assert_eq!(rt; file.bytes(), [0, 1, 2, 0, 1, 0, 0, 1, 0].as_slice());
     assert!(rt; session.keep(rt.alloc(), &[])?.is_empty());
     match session.keep(rt.alloc(), &[2, 4, 3]) {
         Ok(_) => assert!(rt; false, "kept"),
@@ -208,7 +152,7 @@ fn datagrams_left(rt: HostRuntime) -> Result<(), Fail> {
     let session = three(rt.alloc())?;
     let left = session.without(rt.alloc(), &[1, 1])?;
     let file = file_of(rt.alloc(), &left)?;
-    assert_eq!(rt; file.as_slice(), [0, 1, 0, 0, 1, 2].as_slice());
+    assert_eq!(rt; file.bytes(), [0, 1, 0, 0, 1, 2].as_slice());
     assert_eq!(rt; session.without(rt.alloc(), &[])?.len(), 3);
     match session.without(rt.alloc(), &[3]) {
         Ok(_) => assert!(rt; false, "thinned"),

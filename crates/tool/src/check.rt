@@ -1,4 +1,9 @@
 //! The command `check`.
+ghost use Rattle.std.specs.Prelude.{◌≡◌, ◌≤◌, IfOk, IfErr, OnOk};
+ghost use Rattle.std.specs.Io.KnownBytes.{Appends};
+ghost use Rattle.tool.specs.Outcomes.{IsChecked, IsUnchecked};
+ghost use Rattle.tool.specs.Lines.{line_of, block_line, report_text, GainsReason, IsNoLine, IsPrintFault};
+
 use crate::fault::Fault;
 use crate::folder::Folder;
 use crate::input::{read_certificate, read_object, read_session};
@@ -15,7 +20,13 @@ pub fn check<'a, F: Folder, W: Write>(
     session: &'a str,
     object: &'a str,
     certificate: &'a str,
-) -> Result<u8, Fault<'a>> {
+) -> Result<u8, Fault<'a>>
+    // The verdict is on what the three files hold.
+    ensures ok { IfOk result (IsChecked (F.content folder.old) session.now object.now certificate.now (W.contents out.old) (W.contents out.new)) }
+    ensures fault { IfErr result (IsUnchecked (F.content folder.old) session.now object.now certificate.now (W.failed out.new)) }
+    ensures status { IfOk result (λ status. status ≤ 1) }
+    ensures stays { F.content folder.new ≡ F.content folder.old }
+{
     let session = read_session(alloc, folder, session)?;
     let object = read_object(alloc, folder, object)?;
     let certificate = read_certificate(alloc, folder, certificate)?;
@@ -31,29 +42,42 @@ pub fn check<'a, F: Folder, W: Write>(
     }
 }
 
-fn print_report<'a, W: Write>(
+fn print_block<'a, W: Write>(
     alloc: Global,
     out: &mut W,
-    report: &Report,
-) -> Result<(), Fault<'a>> {
+    block: usize,
+    counts: (usize, usize),
+) -> Result<(), Fault<'a>>
+    ensures ok { OnOk result (Appends (W.contents out.old) (W.contents out.new) (line_of (block_line block counts))) }
+    ensures fault { IfErr result (IsPrintFault (W.failed out.new)) }
+{
+    let (need, have) = counts;
+    let mut line = Line::new(alloc);
+    line.named("block", block)?;
+    line.named(" need", need)?;
+    line.named(" have", have)?;
+    line.print(out)
+}
+
+fn print_report<'a, W: Write>(alloc: Global, out: &mut W, report: &Report) -> Result<(), Fault<'a>>
+    ensures ok { OnOk result (Appends (W.contents out.old) (W.contents out.new) (report_text report.now)) }
+    ensures fault { IfErr result (IsPrintFault (W.failed out.new)) }
+{
     let mut yes = Line::new(alloc);
     yes.text("yes")?;
     yes.print(out)?;
-    for (block, (need, have)) in report.blocks.iter().enumerate() {
-        let mut line = Line::new(alloc);
-        line.named("block", block)?;
-        line.named(" need", *need)?;
-        line.named(" have", *have)?;
-        line.print(out)?;
+    for (block, counts) in report.blocks.iter().enumerate() {
+        print_block(alloc, out, block, *counts)?;
     }
     Ok(())
 }
 
-fn reason_line(alloc: Global, reason: Reason) -> Result<Line, AllocError> {
-    let mut line = Line::new(alloc);
-    line.text("no ")?;
+// Puts a reason last.
+fn put_reason(alloc: Global, line: &mut Line, reason: Reason) -> Result<(), AllocError>
+    ensures { OnOk result (GainsReason reason line.old line.new) }
+{
     match reason {
-        Reason::ObjectLength => line.text("N1 ObjectLength")?,
+        Reason::ObjectLength => line.text("N1 ObjectLength"),
         Reason::NotObject {
             block,
             column,
@@ -61,26 +85,34 @@ fn reason_line(alloc: Global, reason: Reason) -> Result<Line, AllocError> {
         } => {
             line.named("N2 NotObject block", block)?;
             line.named(" column", column)?;
-            line.named(" symbol", symbol)?;
+            line.named(" symbol", symbol)
         }
-        Reason::Empty => line.text("N3 Empty")?,
+        Reason::Empty => line.text("N3 Empty"),
         Reason::Packet(place, fault) => {
             line.named("N4 Packet place", place)?;
             let text = format!(in alloc; " {fault}")?;
-            line.text(text.as_str())?;
+            line.text(text.as_str())
         }
-        Reason::OtherIdentity(place) => line.named("N5 OtherIdentity place", place)?,
-        Reason::OtherFti(place) => line.named("N6 OtherFti place", place)?,
-        Reason::Range(place) => line.named("N7 Range place", place)?,
+        Reason::OtherIdentity(place) => line.named("N5 OtherIdentity place", place),
+        Reason::OtherFti(place) => line.named("N6 OtherFti place", place),
+        Reason::Range(place) => line.named("N7 Range place", place),
         Reason::Symbol(place, column) => {
             line.named("N8 Symbol place", place)?;
-            line.named(" column", column)?;
+            line.named(" column", column)
         }
         Reason::Thin { block, have, need } => {
             line.named("N9 Thin block", block)?;
             line.named(" have", have)?;
-            line.named(" need", need)?;
+            line.named(" need", need)
         }
     }
+}
+
+fn reason_line(alloc: Global, reason: Reason) -> Result<Line, AllocError>
+    ensures { IfOk result (IsNoLine reason) }
+{
+    let mut line = Line::new(alloc);
+    line.text("no ")?;
+    put_reason(alloc, &mut line, reason)?;
     Ok(line)
 }

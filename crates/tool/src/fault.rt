@@ -1,4 +1,6 @@
 //! Faults of a command.
+ghost use Rattle.std.specs.Prelude.{◌≡◌};
+
 use cert::CertFault;
 use session::FrameFault;
 use std::alloc::AllocError;
@@ -18,6 +20,10 @@ pub enum Fault<'a> {
 }
 
 impl From<AllocError> for Fault<'_> {
+    ghost use Rattle.tool.specs.declared.fault.Fault.TheVariants.{Memory};
+
+    ghost from_gives = { λ _ fault. fault ≡ Memory };
+
     fn from(_: AllocError) -> Self {
         Fault::Memory
     }

@@ -1,4 +1,7 @@
 //! Input files, each read whole.
+ghost use Rattle.std.specs.Prelude.{◌≡◌, IfOk, IfErr};
+ghost use Rattle.tool.specs.Inputs.{HoldsSession, HoldsBytes, HoldsCertificate, IsSessionUnread, IsCertificateUnread, IsObjectUnread};
+
 use crate::fault::Fault;
 use crate::folder::Folder;
 use cert::Certificate;
@@ -10,7 +13,11 @@ pub fn read_session<'a, F: Folder>(
     alloc: Global,
     folder: &mut F,
     name: &'a str,
-) -> Result<Session, Fault<'a>> {
+) -> Result<Session, Fault<'a>>
+    ensures ok { IfOk result (HoldsSession (F.content folder.old) name.now) }
+    ensures fault { IfErr result (IsSessionUnread (F.content folder.old) name.now) }
+    ensures stays { F.content folder.new ≡ F.content folder.old }
+{
     let Ok(mut input) = folder.open_file(name) else {
         return Err(Fault::Open(name));
     };
@@ -25,7 +32,11 @@ pub fn read_certificate<'a, F: Folder>(
     alloc: Global,
     folder: &mut F,
     name: &'a str,
-) -> Result<Certificate, Fault<'a>> {
+) -> Result<Certificate, Fault<'a>>
+    ensures ok { IfOk result (HoldsCertificate (F.content folder.old) name.now) }
+    ensures fault { IfErr result (IsCertificateUnread (F.content folder.old) name.now) }
+    ensures stays { F.content folder.new ≡ F.content folder.old }
+{
     let Ok(mut input) = folder.open_file(name) else {
         return Err(Fault::Open(name));
     };
@@ -40,7 +51,11 @@ pub fn read_object<'a, F: Folder>(
     alloc: Global,
     folder: &mut F,
     name: &'a str,
-) -> Result<Vec<u8>, Fault<'a>> {
+) -> Result<Vec<u8>, Fault<'a>>
+    ensures ok { IfOk result (λ v. HoldsBytes (F.content folder.old) name.now v.items) }
+    ensures fault { IfErr result (IsObjectUnread (F.content folder.old) name.now) }
+    ensures stays { F.content folder.new ≡ F.content folder.old }
+{
     let Ok(mut input) = folder.open_file(name) else {
         return Err(Fault::Open(name));
     };

@@ -1,4 +1,8 @@
 //! The grammar of the command line.
+ghost use Rattle.std.specs.Prelude.{◌≡◌, IfOk, IfErr};
+ghost use Rattle.clap.specs.Words.{found_of};
+ghost use Rattle.tool.specs.Usages.{IsUsage, IsUsageOf, HasValuesOf};
+
 use crate::command::{Request, Usage};
 use clap::error::ErrorKind;
 use clap::{Arg, ArgMatches, Command, Error};
@@ -57,7 +61,10 @@ fn grammar<'a>(alloc: Global) -> Result<Command<'a>, AllocError> {
         .subcommand(show_command(alloc)?)
 }
 
-fn check_request<'a>(matches: &ArgMatches<'a>) -> Result<Request<'a>, Usage> {
+fn check_request<'a>(matches: &ArgMatches<'a>) -> Result<Request<'a>, Usage>
+    ensures ok { IfOk result (HasValuesOf (found_of matches.now)) }
+    ensures err { IfErr result (λ usage. usage ≡ Usage.Value) }
+{
     let (Some(session), Some(object), Some(certificate)) = (
         matches.get_str("SESSION"),
         matches.get_str("OBJECT"),
@@ -72,14 +79,19 @@ fn check_request<'a>(matches: &ArgMatches<'a>) -> Result<Request<'a>, Usage> {
     })
 }
 
-fn show_request<'a>(matches: &ArgMatches<'a>) -> Result<Request<'a>, Usage> {
+fn show_request<'a>(matches: &ArgMatches<'a>) -> Result<Request<'a>, Usage>
+    ensures ok { IfOk result (HasValuesOf (found_of matches.now)) }
+    ensures err { IfErr result (λ usage. usage ≡ Usage.Value) }
+{
     let Some(session) = matches.get_str("SESSION") else {
         return Err(Usage::Value);
     };
     Ok(Request::Show { session })
 }
 
-fn usage_of(error: Error) -> Usage {
+fn usage_of(error: Error) -> Usage
+    ensures { IsUsageOf error result }
+{
     match error.kind() {
         ErrorKind::DisplayHelp => Usage::Help(error),
         ErrorKind::OutOfMemory => Usage::NoMemory,
@@ -88,7 +100,9 @@ fn usage_of(error: Error) -> Usage {
 }
 
 /// Reads the words of a command line, the first of which is the program's name.
-pub fn request<'a>(alloc: Global, words: &'a [&'a str]) -> Result<Request<'a>, Usage> {
+pub fn request<'a>(alloc: Global, words: &'a [&'a str]) -> Result<Request<'a>, Usage>
+    ensures usage { IfErr result IsUsage }
+{
     let Ok(grammar) = grammar(alloc) else {
         return Err(Usage::NoMemory);
     };

@@ -1,4 +1,7 @@
 //! Doing what was asked for.
+ghost use Rattle.std.specs.Prelude.{◌≤◌};
+ghost use Rattle.tool.specs.Outcomes.{IsRun};
+
 use crate::check::check;
 use crate::command::Request;
 use crate::fault::Fault;
@@ -16,7 +19,10 @@ pub fn run<F: Folder, W: Write>(
     request: &Request<'_>,
     folder: &mut F,
     out: &mut W,
-) -> u8 {
+) -> u8
+    ensures run { IsRun (F.content folder.old) request.now (W.contents out.old) (W.contents out.new) result }
+    ensures status { result ≤ 1 }
+{
     let done = match request {
         Request::Check {
             session,

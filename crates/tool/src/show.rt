@@ -1,10 +1,14 @@
 //! The command `show`.
+ghost use Rattle.std.specs.Prelude.{◌≡◌, ◌≤◌, length, IfOk, IfErr};
+ghost use Rattle.tool.specs.Outcomes.{IsShown, IsShownStatus, IsUnshown};
+ghost use Rattle.tool.specs.Lines.{IsPrintFault};
+
 use crate::fault::Fault;
 use crate::folder::Folder;
 use crate::input::read_session;
 use crate::print::Line;
 use alc::{Packet, PacketFault, read};
-use session::Write;
+use session::{Session, Write};
 use std::alloc::{AllocError, Global};
 
 /// Prints a line for each datagram, and answers the status: 0 where all are packets.
@@ -13,8 +17,25 @@ pub fn show<'a, F: Folder, W: Write>(
     folder: &mut F,
     out: &mut W,
     session: &'a str,
-) -> Result<u8, Fault<'a>> {
+) -> Result<u8, Fault<'a>>
+    ensures ok { IfOk result (IsShown (F.content folder.old) session.now) }
+    ensures fault { IfErr result (IsUnshown (F.content folder.old) session.now (W.failed out.new)) }
+    ensures status { IfOk result (λ status. status ≤ 1) }
+    ensures stays { F.content folder.new ≡ F.content folder.old }
+{
     let session = read_session(alloc, folder, session)?;
+    print_datagrams(alloc, out, &session)
+}
+
+fn print_datagrams<'a, W: Write>(
+    alloc: Global,
+    out: &mut W,
+    session: &Session,
+) -> Result<u8, Fault<'a>>
+    ensures ok { IfOk result (IsShownStatus session.now (length session.now)) }
+    ensures fault { IfErr result (IsPrintFault (W.failed out.new)) }
+    ensures status { IfOk result (λ status. status ≤ 1) }
+{
     let mut status = 0;
     for place in 0..session.len() {
         match read(session.get(place)) {

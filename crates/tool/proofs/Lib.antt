@@ -1,0 +1,4 @@
+pub mod Blocks
+pub mod Found
+pub mod Gains
+pub mod Shown

@@ -1,0 +1,63 @@
+-- Printed lines.
+use Rattle.std.specs.Prelude.{◌≡◌, ℕ, zero, suc, Bool, true, List, [], ◌∷◌, ◌++◌, Option, length, slice_index_or, codes, decimal, ⊤}
+use Rattle.std.specs.Io.KnownBytes.{Appends}
+use Rattle.cert.specs.declared.verdict.Report.{Report}
+use Rattle.cert.specs.declared.verdict.Reason.{Reason}
+use Rattle.cert.specs.declared.verdict.Reason.TheVariants.{ObjectLength, NotObject, Empty, Packet, OtherIdentity, OtherFti, Range, Symbol, Thin}
+use Rattle.cert.specs.declared.verdict.Verdict.{Verdict}
+use Rattle.cert.specs.declared.verdict.Verdict.TheVariants.{Yes, No}
+use Rattle.tool.specs.declared.fault.Fault.{Fault}
+use Rattle.tool.specs.declared.fault.Fault.TheVariants.{Memory, Output}
+
+-- a line as it is printed, with its line feed
+abbrev pub line_of : List ℕ → List ℕ
+line_of text = text ++ 10 ∷ []
+
+-- a name, a space, and a number's digits
+abbrev pub named : List ℕ → List ℕ → List ℕ
+named name digits = name ++ 32 ∷ [] ++ digits
+
+-- why a line wasn't printed: there was no memory for it, or the output has failed
+abbrev pub IsPrintFault : Bool → Fault → Type 0
+IsPrintFault failed Memory = ⊤
+IsPrintFault failed Output = failed ≡ true
+IsPrintFault failed _ = ⊥
+
+-- a block's line at a yes, by its number and how many symbols it needs and has
+abbrev pub block_line : ℕ → ℕ × ℕ → List ℕ
+block_line block counts =
+    named (codes "block") (decimal block) ++ named (codes " need") (decimal counts.0) ++ named (codes " have") (decimal counts.1)
+
+-- the lines of the first n blocks
+abbrev pub block_lines : List (ℕ × ℕ) → ℕ → List ℕ
+block_lines blocks zero = []
+block_lines blocks (suc n) = block_lines blocks n ++ line_of (block_line n (slice_index_or blocks n (0, 0)))
+
+-- what a yes prints
+abbrev pub report_text : Report → List ℕ
+report_text report = line_of (codes "yes") ++ block_lines report.blocks.items (length report.blocks.items)
+
+-- What a line gains by a reason. Behind N4 the packet's fault stands in its own words.
+abbrev pub GainsReason : Reason → List ℕ → List ℕ → Type 0
+GainsReason ObjectLength old new = new ≡ old ++ codes "N1 ObjectLength"
+GainsReason (NotObject block column symbol) old new =
+    new ≡ old ++ named (codes "N2 NotObject block") (decimal block) ++ named (codes " column") (decimal column) ++ named (codes " symbol") (decimal symbol)
+GainsReason Empty old new = new ≡ old ++ codes "N3 Empty"
+GainsReason (Packet place fault) old new =
+    (words : List ℕ) × (new ≡ old ++ named (codes "N4 Packet place") (decimal place) ++ words)
+GainsReason (OtherIdentity place) old new = new ≡ old ++ named (codes "N5 OtherIdentity place") (decimal place)
+GainsReason (OtherFti place) old new = new ≡ old ++ named (codes "N6 OtherFti place") (decimal place)
+GainsReason (Range place) old new = new ≡ old ++ named (codes "N7 Range place") (decimal place)
+GainsReason (Symbol place column) old new =
+    new ≡ old ++ named (codes "N8 Symbol place") (decimal place) ++ named (codes " column") (decimal column)
+GainsReason (Thin block have need) old new =
+    new ≡ old ++ named (codes "N9 Thin block") (decimal block) ++ named (codes " have") (decimal have) ++ named (codes " need") (decimal need)
+
+-- the line of a no
+abbrev pub IsNoLine : Reason → List ℕ → Type 0
+IsNoLine reason line = GainsReason reason (codes "no ") line
+
+-- what was printed of a verdict, where it is told
+abbrev pub Prints : Verdict → Option (List ℕ) → Option (List ℕ) → Type 0
+Prints (Yes report) before after = Appends before after (report_text report)
+Prints (No reason) before after = (line : List ℕ) × IsNoLine reason line × Appends before after (line_of line)

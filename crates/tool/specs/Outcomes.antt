@@ -1,0 +1,79 @@
+-- What a command does, by what its files hold.
+use Rattle.std.specs.Prelude.{◌≡◌, ◌<◌, ◌⊎◌, ℕ, Bool, List, [], Option, length, slice_index_or}
+use Rattle.alc.specs.Packet.{Packet, IsPacket}
+use Rattle.alc.specs.PacketFault.{IsPacketFault}
+use Rattle.alc.specs.declared.fault.PacketFault.{PacketFault}
+use Rattle.cert.specs.Certificate.{Certificate}
+use Rattle.cert.specs.Headline.{DecodesWhereEnough, UndecidedElse}
+use Rattle.cert.specs.Report.{IsReport, OnYes}
+use Rattle.cert.specs.Verdict.{IsVerdict}
+use Rattle.cert.specs.declared.verdict.Verdict.{Verdict}
+use Rattle.cert.specs.declared.verdict.Verdict.TheVariants.{Yes, No}
+use Rattle.tool.specs.declared.command.Request.{Request}
+use Rattle.tool.specs.declared.command.Request.TheVariants.{Check, Show}
+use Rattle.tool.specs.declared.fault.Fault.{Fault}
+use Rattle.tool.specs.Inputs.{Contents, HoldsSession, HoldsBytes, HoldsCertificate, IsSessionUnread, IsObjectUnread, IsCertificateUnread}
+use Rattle.tool.specs.Lines.{IsPrintFault, Prints}
+
+abbrev pub status_of : Verdict → ℕ
+status_of (Yes report) = 0
+status_of (No reason) = 1
+
+-- The verdict on the session, the object and the certificate in these files was printed; its status; what a yes promises.
+pub record IsChecked (contents : Contents) (session object certificate : List ℕ) (before after : Option (List ℕ)) (status : ℕ) : Type 0 where
+  pub datagrams : List (List ℕ)
+  pub bytes : List ℕ
+  pub polynomials : Certificate
+  pub verdict : Verdict
+  pub sent : HoldsSession contents session datagrams
+  pub whole : HoldsBytes contents object bytes
+  pub certified : HoldsCertificate contents certificate polynomials
+  pub judged : IsVerdict datagrams bytes polynomials verdict
+  pub told : status ≡ status_of verdict
+  pub printed : Prints verdict before after
+  pub decodes : OnYes verdict (λ _. DecodesWhereEnough polynomials.fti datagrams bytes)
+  pub undecided : OnYes verdict (λ _. UndecidedElse polynomials.fti datagrams bytes)
+  pub report : OnYes verdict (IsReport datagrams polynomials.fti)
+
+-- Why there is none: a file wasn't read, or there was no memory, or the output has failed.
+abbrev pub IsUnchecked : Contents → List ℕ → List ℕ → List ℕ → Bool → Fault → Type 0
+IsUnchecked contents session object certificate failed fault =
+    IsSessionUnread contents session fault ⊎ IsObjectUnread contents object fault
+    ⊎ IsCertificateUnread contents certificate fault ⊎ IsPrintFault failed fault
+
+abbrev pub IsSomePacket : List ℕ → Type 0
+IsSomePacket datagram = (p : Packet) × IsPacket datagram p
+
+abbrev pub IsNoPacket : List ℕ → Type 0
+IsNoPacket datagram = (fault : PacketFault) × IsPacketFault datagram fault
+
+-- 0 where the first n datagrams are packets, 1 where one of them is none
+abbrev pub IsShownStatus : List (List ℕ) → ℕ → ℕ → Type 0
+IsShownStatus datagrams n status =
+    ((status ≡ 0) × ((i : ℕ) → i < n → IsSomePacket (slice_index_or datagrams i [])))
+    ⊎ ((status ≡ 1) × ((i : ℕ) × (i < n) × IsNoPacket (slice_index_or datagrams i [])))
+
+-- The status of the session in this file.
+pub record IsShown (contents : Contents) (session : List ℕ) (status : ℕ) : Type 0 where
+  pub datagrams : List (List ℕ)
+  pub sent : HoldsSession contents session datagrams
+  pub told : IsShownStatus datagrams (length datagrams) status
+
+abbrev pub IsUnshown : Contents → List ℕ → Bool → Fault → Type 0
+IsUnshown contents session failed fault = IsSessionUnread contents session fault ⊎ IsPrintFault failed fault
+
+abbrev pub IsDone : Contents → Request → Option (List ℕ) → Option (List ℕ) → ℕ → Type 0
+IsDone contents (Check session object certificate) before after status =
+    IsChecked contents session.now object.now certificate.now before after status
+IsDone contents (Show session) before after status = IsShown contents session.now status
+
+abbrev pub IsUndone : Contents → Request → Bool → Fault → Type 0
+IsUndone contents (Check session object certificate) failed fault =
+    IsUnchecked contents session.now object.now certificate.now failed fault
+IsUndone contents (Show session) failed fault = IsUnshown contents session.now failed fault
+
+-- The request was done, with this status, or there was a fault, and the status is 1.
+abbrev pub IsRun : Contents → Request → Option (List ℕ) → Option (List ℕ) → ℕ → Type 0
+IsRun contents request before after status =
+    IsDone contents request before after status
+    ⊎ ((status ≡ 1) × (failed : Bool) × (fault : Fault) × IsUndone contents request failed fault)

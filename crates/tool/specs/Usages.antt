@@ -1,0 +1,35 @@
+-- What a command line asks for, and why it is no request.
+use Rattle.std.specs.Prelude.{◌≡◌, ◌≢◌, Some, codes, ⊤}
+use Rattle.clap.specs.Words.{kind_of, first_value}
+use Rattle.clap.specs.declared.parser.matches.Found.{Found}
+use Rattle.clap.specs.declared.error.Error.{Error}
+use Rattle.clap.specs.declared.error.kind.ErrorKind.TheVariants.{DisplayHelp, OutOfMemory}
+use Rattle.tool.specs.declared.command.Request.{Request}
+use Rattle.tool.specs.declared.command.Request.TheVariants.{Check, Show}
+use Rattle.tool.specs.declared.command.Usage.{Usage}
+use Rattle.tool.specs.declared.command.Usage.TheVariants.{Help, Line, Value, NoMemory}
+
+-- the error is a refusal: neither help that was asked for, nor want of memory
+abbrev pub IsRefusal : Error → Type 0
+IsRefusal error = (kind_of error ≢ DisplayHelp) × (kind_of error ≢ OutOfMemory)
+
+-- what the grammar's error says, with its text
+abbrev pub IsUsageOf : Error → Usage → Type 0
+IsUsageOf error (Help told) = (told ≡ error) × (kind_of error ≡ DisplayHelp)
+IsUsageOf error (Line told) = (told ≡ error) × IsRefusal error
+IsUsageOf error NoMemory = kind_of error ≡ OutOfMemory
+IsUsageOf error Value = ⊥
+
+-- help only where the grammar answers help, and a refused line only where it refuses
+abbrev pub IsUsage : Usage → Type 0
+IsUsage (Help told) = kind_of told ≡ DisplayHelp
+IsUsage (Line told) = IsRefusal told
+IsUsage NoMemory = ⊤
+IsUsage Value = ⊤
+
+-- the request's values are those of its arguments
+abbrev pub HasValuesOf : Found → Request → Type 0
+HasValuesOf found (Check session object certificate) =
+    (first_value found (codes "SESSION") ≡ Some session.now) × (first_value found (codes "OBJECT") ≡ Some object.now)
+    × (first_value found (codes "CERT") ≡ Some certificate.now)
+HasValuesOf found (Show session) = first_value found (codes "SESSION") ≡ Some session.now
