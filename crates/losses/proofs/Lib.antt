@@ -15,3 +15,4 @@ pub mod Narrowest
 pub mod Weights
 pub mod Pairs
 pub mod Gathered
+pub mod Transfer

@@ -46,7 +46,26 @@ fn print_report<'a, W: Write>(
         line.named(" have", *have)?;
         line.print(out)?;
     }
-    Ok(())
+    print_losses(alloc, out, report)
+}
+
+fn print_losses<'a, W: Write>(
+    alloc: Global,
+    out: &mut W,
+    report: &Report,
+) -> Result<(), Fault<'a>> {
+    let mut margin = Line::new(alloc);
+    margin.named("margin", report.margin)?;
+    margin.print(out)?;
+    let mut kill = Line::new(alloc);
+    kill.text("kill")?;
+    for place in &report.kill {
+        kill.named("", *place)?;
+    }
+    kill.print(out)?;
+    let mut burst = Line::new(alloc);
+    burst.named("burst", report.burst)?;
+    burst.print(out)
 }
 
 fn reason_line(alloc: Global, reason: Reason) -> Result<Line, AllocError> {
