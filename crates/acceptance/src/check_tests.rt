@@ -23,7 +23,10 @@ fn checked(
 #[test]
 fn yes_to_a_pair(rt: HostRuntime) -> Result<(), Fail> {
     let yes = check(rt.alloc(), &PAIR_SESSION, &PAIR, &PAIR_CERTIFICATE)?;
-    assert_eq!(rt; yes.text.as_str(), "yes\nblock 0 need 2 have 3\n");
+    assert_eq!(rt;
+        yes.text.as_str(),
+        "yes\nblock 0 need 2 have 3\nmargin 1\nkill 0 1\nburst 1\n"
+    );
     assert_eq!(rt; yes.status, 0);
     assert_eq!(rt; yes.created, 0);
     Ok(())
@@ -39,7 +42,10 @@ fn yes_to_one_block(rt: HostRuntime) -> Result<(), Fail> {
         &[0x41, 0x42],
         &[0x40, 0x01],
     )?;
-    assert_eq!(rt; text.as_str(), "yes\nblock 0 need 2 have 3\n");
+    assert_eq!(rt;
+        text.as_str(),
+        "yes\nblock 0 need 2 have 3\nmargin 1\nkill 0 1\nburst 1\n"
+    );
     let text = checked(
         alloc,
         &[0, 0, 0, 0, 0, 3, 0, 1, 3, 5],
@@ -53,7 +59,10 @@ fn yes_to_one_block(rt: HostRuntime) -> Result<(), Fail> {
         &[1, 4, 0x10],
         &[0, 0, 1],
     )?;
-    assert_eq!(rt; text.as_str(), "yes\nblock 0 need 3 have 5\n");
+    assert_eq!(rt;
+        text.as_str(),
+        "yes\nblock 0 need 3 have 5\nmargin 2\nkill 0 1 2\nburst 2\n"
+    );
     Ok(())
 }
 
@@ -66,7 +75,10 @@ fn yes_to_a_padded_symbol(rt: HostRuntime) -> Result<(), Fail> {
         &[7, 8, 9],
         &[0xF6, 0xF1, 0xFB, 0xF3],
     )?;
-    assert_eq!(rt; text.as_str(), "yes\nblock 0 need 2 have 3\n");
+    assert_eq!(rt;
+        text.as_str(),
+        "yes\nblock 0 need 2 have 3\nmargin 1\nkill 0 1\nburst 1\n"
+    );
     Ok(())
 }
 
@@ -76,33 +88,55 @@ const THREE_BLOCKS_OBJECT: [u8; 10] = [1, 8, 0x40, 0x3A, 1, 2, 4, 1, 4, 0x10];
 
 const THREE_BLOCKS_COEFFICIENTS: [u8; 10] = [0, 0, 0, 1, 0, 1, 0, 0, 0, 1];
 
+const THREE_BLOCKS_IN_TURN: [Sent<'static>; 14] = [
+    (0, 0, &[1]),
+    (0, 1, &[8]),
+    (0, 2, &[0x40]),
+    (0, 3, &[0x3A]),
+    (0, 4, &[0xCD]),
+    (0, 5, &[0x26]),
+    (1, 0, &[1]),
+    (1, 1, &[2]),
+    (1, 2, &[4]),
+    (1, 3, &[8]),
+    (2, 0, &[1]),
+    (2, 1, &[4]),
+    (2, 2, &[0x10]),
+    (2, 3, &[0x40]),
+];
+
 #[test]
 fn yes_to_three_blocks_in_turn(rt: HostRuntime) -> Result<(), Fail> {
     let text = checked(
         rt.alloc(),
         &THREE_BLOCKS_FTI,
-        &[
-            (0, 0, &[1]),
-            (0, 1, &[8]),
-            (0, 2, &[0x40]),
-            (0, 3, &[0x3A]),
-            (0, 4, &[0xCD]),
-            (0, 5, &[0x26]),
-            (1, 0, &[1]),
-            (1, 1, &[2]),
-            (1, 2, &[4]),
-            (1, 3, &[8]),
-            (2, 0, &[1]),
-            (2, 1, &[4]),
-            (2, 2, &[0x10]),
-            (2, 3, &[0x40]),
-        ],
+        &THREE_BLOCKS_IN_TURN,
         &THREE_BLOCKS_OBJECT,
         &THREE_BLOCKS_COEFFICIENTS,
     )?;
     assert_eq!(rt;
         text.as_str(),
-        "yes\nblock 0 need 4 have 6\nblock 1 need 3 have 4\nblock 2 need 3 have 4\n"
+        "yes\nblock 0 need 4 have 6\nblock 1 need 3 have 4\nblock 2 need 3 have 4\nmargin 1\nkill 6 7\nburst 1\n"
+    );
+    Ok(())
+}
+
+#[test]
+fn yes_to_a_datagram_sent_again(rt: HostRuntime) -> Result<(), Fail> {
+    let alloc = rt.alloc();
+    let mut sent = Vec::new(alloc);
+    sent.extend_from_slice(&THREE_BLOCKS_IN_TURN)?;
+    sent.push((1, 0, &[1][..]))?;
+    let text = checked(
+        alloc,
+        &THREE_BLOCKS_FTI,
+        sent.as_slice(),
+        &THREE_BLOCKS_OBJECT,
+        &THREE_BLOCKS_COEFFICIENTS,
+    )?;
+    assert_eq!(rt;
+        text.as_str(),
+        "yes\nblock 0 need 4 have 6\nblock 1 need 3 have 4\nblock 2 need 3 have 4\nmargin 1\nkill 7 8\nburst 1\n"
     );
     Ok(())
 }
@@ -133,7 +167,7 @@ fn yes_to_three_blocks_in_rounds(rt: HostRuntime) -> Result<(), Fail> {
     )?;
     assert_eq!(rt;
         text.as_str(),
-        "yes\nblock 0 need 4 have 6\nblock 1 need 3 have 4\nblock 2 need 3 have 4\n"
+        "yes\nblock 0 need 4 have 6\nblock 1 need 3 have 4\nblock 2 need 3 have 4\nmargin 1\nkill 1 4\nburst 3\n"
     );
     Ok(())
 }
@@ -152,7 +186,10 @@ fn yes_to_the_greatest_block(rt: HostRuntime) -> Result<(), Fail> {
         &[0; 255],
         &[0; 255],
     )?;
-    assert_eq!(rt; text.as_str(), "yes\nblock 0 need 255 have 255\n");
+    assert_eq!(rt;
+        text.as_str(),
+        "yes\nblock 0 need 255 have 255\nmargin 0\nkill 0\nburst 0\n"
+    );
     Ok(())
 }
 
@@ -170,7 +207,10 @@ fn yes_to_one_symbol_four_times(rt: HostRuntime) -> Result<(), Fail> {
         &[0xAA],
         &[0xAA],
     )?;
-    assert_eq!(rt; text.as_str(), "yes\nblock 0 need 1 have 4\n");
+    assert_eq!(rt;
+        text.as_str(),
+        "yes\nblock 0 need 1 have 4\nmargin 3\nkill 0 1 2 3\nburst 3\n"
+    );
     Ok(())
 }
 
@@ -276,7 +316,7 @@ fn every_beginning_of_a_session(rt: HostRuntime) -> Result<(), Fail> {
         let line = match (size / 35, size % 35) {
             (0, 0) => "no N3 Empty\n",
             (1, 0) => "no N9 Thin block 0 have 1 need 2\n",
-            (_, 0) => "yes\nblock 0 need 2 have 2\n",
+            (_, 0) => "yes\nblock 0 need 2 have 2\nmargin 0\nkill 0\nburst 0\n",
             (_, 1) => "fault S1 CutLength\n",
             _ => "fault S2 CutDatagram\n",
         };

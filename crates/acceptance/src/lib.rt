@@ -8,6 +8,8 @@ mod command;
 #[cfg(test)]
 mod line_tests;
 #[cfg(test)]
+mod loss_tests;
+#[cfg(test)]
 mod sessions;
 #[cfg(test)]
 mod show_tests;

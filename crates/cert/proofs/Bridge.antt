@@ -22,7 +22,7 @@ use Rattle.cert.specs.Verdict.{first_reason, IsCertifiedReading}
 use Rattle.cert.specs.Report.{block_lines}
 use Rattle.cert.specs.Scan.{readings_of, number_of, numbers_of, AreEnough, IsFirstThin, IsThin, IsNotCertified}
 
-numbers_are : (ds : List (List ℕ)) → numbers_of ds ≡ map number_of (readings_of ds)
+pub numbers_are : (ds : List (List ℕ)) → numbers_of ds ≡ map number_of (readings_of ds)
 numbers_are [] = refl
 numbers_are (d ∷ ds) = ap (λ ns. number_of (read_of d) ∷ ns) (numbers_are ds)
 

@@ -12,3 +12,4 @@ pub mod Scanning
 pub mod Judging
 pub mod Bridge
 pub mod Vectors
+pub mod Losing

@@ -1,22 +1,30 @@
 -- What the report of a yes says.
-use Rattle.std.specs.Prelude.{◌≡◌, ℕ, List, map}
+use Rattle.std.specs.Prelude.{◌≡◌, ℕ, ◌+◌, List, map}
 use Rattle.losses.specs.Numbers.{below}
+use Rattle.losses.specs.Losses.{Blocks, IsMargin, IsKill, IsBurst}
 use Rattle.partition.specs.Fti.{Fti, block_count, source_count}
 use Rattle.alc.specs.Reading.{Reading}
 use Rattle.cert.specs.declared.verdict.Report.{Report}
 use Rattle.cert.specs.declared.verdict.Verdict.{Verdict}
 use Rattle.cert.specs.declared.verdict.Verdict.TheVariants.{Yes, No}
-use Rattle.cert.specs.Symbols.{Symbol, held_count}
+use Rattle.cert.specs.Symbols.{Symbol, is_held, held_count}
 use Rattle.cert.specs.Readings.{ReadAll, counted, symbols}
 
 -- for each block below n its source symbols, and how many different ESIs of it came
 abbrev pub block_lines : Fti → List Symbol → ℕ → List (ℕ × ℕ)
 block_lines f came n = map (λ b. (source_count f b, held_count came b)) (below n)
 
+-- the blocks of an FTI, and which of their symbols a list of readings holds
+abbrev pub blocks_of : Fti → Blocks Reading
+blocks_of f = record { count = block_count f; need = source_count f; has_symbol = λ rs b j. is_held (symbols (counted rs)) b j }
+
 pub record IsReport (datagrams : List (List ℕ)) (f : Fti) (report : Report) : Type 0 where
   pub readings : List Reading
   pub read : ReadAll datagrams readings
   pub blocks : report.blocks.items ≡ block_lines f (symbols (counted readings)) (block_count f)
+  pub margin : IsMargin (blocks_of f) readings report.margin
+  pub kill : IsKill (blocks_of f) readings (report.margin + 1) report.kill.items
+  pub burst : IsBurst (blocks_of f) readings report.burst
 
 -- a fact of the report, at yes
 abbrev pub OnYes : Verdict → (Report → Type 0) → Type 0

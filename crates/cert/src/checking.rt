@@ -13,7 +13,7 @@ use crate::certificate::{Certificate, are_bytes};
 use crate::datagrams::{Refusal, numbers_of_session};
 use crate::source::not_given;
 use crate::verdict::{Reason, Report, Verdict};
-use losses::counts;
+use losses::{Figures, counts, figures_of};
 use partition::Fti;
 use session::Session;
 use std::alloc::{AllocError, Global};
@@ -39,6 +39,18 @@ fn blocks_of(alloc: Global, fti: &Fti, held: &[usize]) -> Result<Vec<(usize, usi
     Ok(blocks)
 }
 
+// How many source symbols each block has.
+fn needs_of(alloc: Global, fti: &Fti) -> Result<Vec<usize>, AllocError>
+    ensures len { IfOk result (λ v. length v.items ≡ block_count fti.now) }
+    ensures needs { IfOk result (λ v. (b : ℕ) → b < block_count fti.now → slice_index v.items b ≡ source_count fti.now b) }
+{
+    let mut needs = Vec::with_capacity(alloc, fti.blocks() as usize)?;
+    for block in 0..fti.blocks() {
+        needs.push(fti.k(block))?;
+    }
+    Ok(needs)
+}
+
 // The report, or the first reason for which the datagrams don't suffice.
 fn report_of(alloc: Global, session: &Session, certificate: &Certificate) -> Result<Report, Refusal>
     requires some { 0 < length session.now }
@@ -55,10 +67,27 @@ fn report_of(alloc: Global, session: &Session, certificate: &Certificate) -> Res
     let Ok(held) = counts(alloc, numbers.as_slice(), fti.blocks() as usize) else {
         return Err(Refusal::NoMemory);
     };
-    match blocks_of(alloc, &fti, held.as_slice()) {
-        Ok(blocks) => Ok(Report { blocks }),
-        Err(refusal) => Err(refusal),
-    }
+    let blocks = match blocks_of(alloc, &fti, held.as_slice()) {
+        Ok(blocks) => blocks,
+        Err(refusal) => return Err(refusal),
+    };
+    let Ok(needs) = needs_of(alloc, &fti) else {
+        return Err(Refusal::NoMemory);
+    };
+    let Ok(figures) = figures_of(alloc, numbers.as_slice(), needs.as_slice()) else {
+        return Err(Refusal::NoMemory);
+    };
+    let Figures {
+        margin,
+        kill,
+        burst,
+    } = figures;
+    Ok(Report {
+        blocks,
+        margin,
+        kill,
+        burst,
+    })
 }
 
 // The verdict, without what a yes promises.

@@ -6,6 +6,13 @@ use alc::PacketFault;
 pub struct Report {
     /// For each block, how many source symbols it has and how many different ESIs of it the session holds.
     pub blocks: Vec<(usize, usize)>,
+    /// The greatest number of datagrams whose loss, whichever they are, leaves no block short.
+    pub margin: usize,
+    /// The places of one datagram more, rising, whose loss does leave a block short: the least block that a loss of so
+    /// many can, and of those losses the one whose lost ESIs, rising, stand first in a dictionary.
+    pub kill: Vec<usize>,
+    /// The greatest number of neighbouring datagrams whose loss, wherever they stand, leaves no block short.
+    pub burst: usize,
 }
 
 /// Why a certificate isn't one of a session and an object. Places count from 0.

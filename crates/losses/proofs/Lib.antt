@@ -2,3 +2,17 @@ pub mod Lists
 pub mod Below
 pub mod Filled
 pub mod Grouping
+pub mod Exchange
+pub mod Copies
+pub mod Places
+pub mod Block
+pub mod Sorted
+pub mod Runs
+pub mod Margins
+pub mod Link
+pub mod Windows
+pub mod Narrowest
+pub mod Weights
+pub mod Pairs
+pub mod Gathered
+pub mod Transfer

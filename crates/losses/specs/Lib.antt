@@ -1,2 +1,4 @@
 pub mod Numbers
 pub mod Members
+pub mod Losses
+pub mod Costs

@@ -4,9 +4,14 @@
 mod counting;
 mod groups;
 mod number;
+mod pricing;
+mod report;
+mod weighing;
+mod window;
 
 pub use counting::counts;
 pub use number::Number;
+pub use report::{Figures, figures_of};
 
 #[cfg(test)]
 mod tests;

@@ -69,7 +69,26 @@ fn print_report<'a, W: Write>(alloc: Global, out: &mut W, report: &Report) -> Re
     for (block, counts) in report.blocks.iter().enumerate() {
         print_block(alloc, out, block, *counts)?;
     }
-    Ok(())
+    print_losses(alloc, out, report)
+}
+
+fn print_losses<'a, W: Write>(
+    alloc: Global,
+    out: &mut W,
+    report: &Report,
+) -> Result<(), Fault<'a>> {
+    let mut margin = Line::new(alloc);
+    margin.named("margin", report.margin)?;
+    margin.print(out)?;
+    let mut kill = Line::new(alloc);
+    kill.text("kill")?;
+    for place in &report.kill {
+        kill.named("", *place)?;
+    }
+    kill.print(out)?;
+    let mut burst = Line::new(alloc);
+    burst.named("burst", report.burst)?;
+    burst.print(out)
 }
 
 // Puts a reason last.

@@ -12,4 +12,5 @@ abbrev pub invariant-loop-place : goal.invariant-loop-place
 invariant-loop-place l = record {
   size : length l.groups.items ≡ l.blocks;
   each : (b : ℕ) (d : _) → b < l.blocks → (get_or l.groups.items b d).items ≡ members b 0 (take l.place l.numbers);
+  bytes : (i : ℕ) → i < l.place → (get_or l.numbers i (record { block = 0; esi = 0 })).esi < 256;
 }

@@ -1,0 +1,81 @@
+-- What a list of packets, or of their numbers, can lose. A loss is a set of places of the list.
+use Rattle.std.specs.Prelude.{◌≡◌, ℕ, ◌+◌, ◌<◌, ◌≤◌, ◌⊎◌, Bool, true, false, not, nat_le, List, [], ◌∷◌, length, filter, slice_index}
+use Rattle.std.specs.List.{AllByRecursion}
+use Rattle.session.specs.Selection.{rest, loss_size, is_run, is_among}
+use Rattle.losses.specs.declared.number.Number.{Number}
+use Rattle.losses.specs.Numbers.{below, has}
+
+-- So many blocks, how many different symbols each of them needs, and whether a list has a symbol of a block by its ESI.
+pub record Blocks (X : Type 0) : Type 0 where
+  pub count : ℕ
+  pub need : ℕ → ℕ
+  pub has_symbol : List X → ℕ → ℕ → Bool
+
+-- the different ESIs of block b in a list, rising
+abbrev pub esis_in : {X : Type 0} → Blocks X → List X → ℕ → List ℕ
+esis_in blocks xs b = filter (blocks.has_symbol xs b) (below 256)
+
+-- whether a list has as many different symbols of block b as it needs
+abbrev pub is_enough : {X : Type 0} → Blocks X → List X → ℕ → Bool
+is_enough blocks xs b = nat_le (blocks.need b) (length (esis_in blocks xs b))
+
+-- what is left is enough for each block
+abbrev pub IsHarmless : {X : Type 0} → Blocks X → List X → (ℕ → Bool) → Type 0
+IsHarmless blocks xs lost = (b : ℕ) → b < blocks.count → is_enough blocks (rest lost xs) b ≡ true
+
+-- every loss of at most m places is harmless
+abbrev pub Bears : {X : Type 0} → Blocks X → List X → ℕ → Type 0
+Bears blocks xs m = (lost : ℕ → Bool) → loss_size lost xs ≤ m → IsHarmless blocks xs lost
+
+-- the greatest such m
+pub record IsMargin {X : Type 0} (blocks : Blocks X) (xs : List X) (m : ℕ) : Type 0 where
+  pub bears : Bears blocks xs m
+  pub greatest : (n : ℕ) → Bears blocks xs n → n ≤ m
+
+-- every loss of m neighbouring places is harmless
+abbrev pub BearsRuns : {X : Type 0} → Blocks X → List X → ℕ → Type 0
+BearsRuns blocks xs m = (a : ℕ) → a + m ≤ length xs → IsHarmless blocks xs (is_run a m)
+
+-- the greatest such m, up to the number of places
+pub record IsBurst {X : Type 0} (blocks : Blocks X) (xs : List X) (m : ℕ) : Type 0 where
+  pub within : m ≤ length xs
+  pub bears : BearsRuns blocks xs m
+  pub greatest : (n : ℕ) → n ≤ length xs → BearsRuns blocks xs n → n ≤ m
+
+-- rising, each number once
+abbrev pub IsRising : List ℕ → Type 0
+IsRising [] = Unit {0}
+IsRising (x ∷ xs) = AllByRecursion (λ y. x < y) xs × IsRising xs
+
+-- one list stands before another in a dictionary
+abbrev pub IsBefore : List ℕ → List ℕ → Type 0
+IsBefore [] [] = ⊥
+IsBefore [] (y ∷ ys) = Unit {0}
+IsBefore (x ∷ xs) [] = ⊥
+IsBefore (x ∷ xs) (y ∷ ys) = (x < y) ⊎ ((x ≡ y) × IsBefore xs ys)
+
+-- the ESIs of block b that a loss takes away wholly, rising
+abbrev pub taken_wholly : {X : Type 0} → Blocks X → List X → (ℕ → Bool) → ℕ → List ℕ
+taken_wholly blocks xs lost b = filter (λ j. not (blocks.has_symbol (rest lost xs) b j)) (esis_in blocks xs b)
+
+-- a loss of n places that leaves block b short
+pub record LeavesShort {X : Type 0} (blocks : Blocks X) (xs : List X) (n b : ℕ) (lost : ℕ → Bool) : Type 0 where
+  pub size : loss_size lost xs ≡ n
+  pub block : b < blocks.count
+  pub short : is_enough blocks (rest lost xs) b ≡ false
+
+-- n places, rising, whose loss leaves short the least block that any loss of n places leaves short; and of all losses of
+-- n places that leave this block short the one whose list of ESIs wholly taken away stands first in a dictionary
+pub record IsKill {X : Type 0} (blocks : Blocks X) (xs : List X) (n : ℕ) (places : List ℕ) : Type 0 where
+  pub rising : IsRising places
+  pub count : length places ≡ n
+  pub within : AllByRecursion (λ p. p < length xs) places
+  pub block : ℕ
+  pub short : LeavesShort blocks xs n block (is_among places)
+  pub least : (b : ℕ) (lost : ℕ → Bool) → LeavesShort blocks xs n b lost → block ≤ b
+  pub first : (lost : ℕ → Bool) → LeavesShort blocks xs n block lost
+      → ¬ IsBefore (taken_wholly blocks xs lost block) (taken_wholly blocks xs (is_among places) block)
+
+-- the blocks of numbers, by what each block needs
+abbrev pub blocks_by : List ℕ → Blocks Number
+blocks_by needs = record { count = length needs; need = slice_index needs; has_symbol = λ ps b j. has b ps j }

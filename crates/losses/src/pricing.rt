@@ -1,0 +1,58 @@
+//! The cheapest symbols of a block.
+ghost use Rattle.std.specs.Prelude.{◌≡◌, ℕ, ◌+◌, ◌-◌, ◌<◌, ◌≤◌, ◌^◌, length, slice_index, IfOk, sum_by};
+ghost use Rattle.losses.specs.Members.{filled};
+ghost use Rattle.losses.specs.Costs.{priced, came, cheapest_of, cost_of};
+
+use std::alloc::{AllocError, Global};
+
+/// Up to which copies and ESI the cheapest symbols of a block go, and how many copies these have together.
+#[derive(Clone, Copy)]
+pub struct Threshold {
+    pub cost: usize,
+    pub copies: usize,
+    pub last: u8,
+}
+
+// Each ESI that came, behind its copies.
+fn pairs_of(alloc: Global, copies: &[usize; 256]) -> Result<Vec<(usize, u8)>, AllocError>
+    ensures { IfOk result (λ v. v.items ≡ priced (slice_index copies.now) (came copies.now)) }
+{
+    let mut pairs = Vec::new(alloc);
+    for esi in 0..256usize {
+        if copies[esi] > 0 {
+            pairs.push((copies[esi], esi as u8))?;
+        }
+    }
+    Ok(pairs)
+}
+
+// The copies of these ESIs together.
+fn sum_of(pairs: &[(usize, u8)]) -> usize
+    requires { sum_by (λ p. p.0) pairs.now < 2 ^ 64 }
+    ensures { result ≡ sum_by (λ p. p.0) pairs.now }
+{
+    let mut sum = 0;
+    for pair in pairs {
+        sum += pair.0;
+    }
+    sum
+}
+
+/// The first `spare` symbols in the order of copies and ESI.
+pub fn cheapest(alloc: Global, copies: &[usize; 256], spare: usize) -> Result<Threshold, AllocError>
+    requires some { 0 < spare }
+    requires enough { spare ≤ filled copies.now }
+    requires fits { cost_of copies.now (came copies.now) < 2 ^ 64 }
+    ensures count { IfOk result (λ c. length (cheapest_of copies.now c.copies c.last) ≡ spare) }
+    ensures cost { IfOk result (λ c. c.cost ≡ cost_of copies.now (cheapest_of copies.now c.copies c.last)) }
+{
+    let mut pairs = pairs_of(alloc, copies)?;
+    pairs.sort()?;
+    let cost = sum_of(&pairs[..spare]);
+    let last = pairs[spare - 1];
+    Ok(Threshold {
+        cost,
+        copies: last.0,
+        last: last.1,
+    })
+}
