@@ -17,7 +17,7 @@ returns-clause-certifies c =
     let fti = ap (λ (x : Certificate). x.fti.transfer_length) c.in-Some.ensures.parts in
     let form : IsObject z.fti c.args.object.now = record { count = whole ∙ sym fti; bytes = bytes_fit c.args.object.now c.type_inv.object } in
     let front = take_front c.in-Ok-from_elem-2.coefficients.len c.certify_blocks.new.coefficients (drop (length c.certify_blocks.new.coefficients) c.in-Ok-from_elem-2.coefficients.items) (sym (c.certify_blocks.ensures.len ∙ c.deref_mut-2.ensures.len)) in
-    let gives : GivesObject c.args.object.now z = 
+    let gives : GivesObject c.args.object.now z =
     subst (GivesObject c.args.object.now) (sym c.in-Some.ensures.parts)
     (subst (λ (l : List ℕ). GivesObject c.args.object.now (record { fti = c.args.fti.now; coefficients = l })) (sym front) c.certify_blocks.ensures.gives) in
     certifies_sent z c.args.object.now c.in-Some.ensures.certificate form gives
