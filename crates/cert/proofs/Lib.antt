@@ -15,3 +15,4 @@ pub mod Vectors
 pub mod Losing
 pub mod Adding
 pub mod TwinObject
+pub mod Few
