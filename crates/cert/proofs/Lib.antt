@@ -3,7 +3,7 @@ pub mod Full
 pub mod Polynomials
 pub mod OneAnswer
 pub mod Promise
-pub mod Twin
+pub mod Twinning
 pub mod Undecided
 pub mod Whole
 pub mod Texts
@@ -13,3 +13,6 @@ pub mod Judging
 pub mod Bridge
 pub mod Vectors
 pub mod Losing
+pub mod Adding
+pub mod TwinObject
+pub mod Few

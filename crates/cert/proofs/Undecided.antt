@@ -23,7 +23,7 @@ use Rattle.losses.proofs.Lists.{all_filter}
 use Rattle.losses.proofs.Below.{all_below, one_missing, at_passing}
 use Rattle.cert.proofs.Full.{found}
 use Rattle.cert.proofs.Promise.{read_chosen, all_chosen, sound_all, unplaced_all, IsSoundReading, clean, fits_sound, solvable, all_right}
-use Rattle.cert.proofs.Twin.{vanishing, twin_of, agrees, twin_form, differs, roots_held}
+use Rattle.cert.proofs.Twinning.{vanishing, twin_of, agrees, twin_form, differs, roots_held}
 
 -- the first short block below n, or none
 first_short : (f : Fti) (came : List Symbol) (n : ℕ) → ((b : ℕ) × (b < n) × (is_full f came b ≡ false) × ((a : ℕ) → a < b → is_full f came a ≡ true)) ⊎ ((a : ℕ) → a < n → is_full f came a ≡ true)
@@ -71,7 +71,7 @@ twin_at : (f : Fti) → IsValidFti f → (came : List Symbol) (object : List ℕ
 twin_at f valid came object fits bytes b hb short =
     let n = counts f valid b hb in
     let few : length (held came b) < source_count f b = leb-false _ _ short in
-    let gap = one_missing (is_held came b) (source_count f b) (omega (arith, n.1)) few in
+    let gap = one_missing (is_held came b) (source_count f b) 256 (omega (arith, n.1)) few in
     let passing : AllByRecursion (λ j. (is_held came b j ≡ true) × (j < 256)) (held came b) =
     all_filter (λ j. j < 256) (is_held came b) (below 256) (all_below (λ j. j < 256) 256 (λ j h. h)) in
     let small : AllByRecursion (λ j. j < 255) (held came b) =

@@ -6,3 +6,4 @@ pub mod Verdict
 pub mod Headline
 pub mod Scan
 pub mod Report
+pub mod Twins

@@ -5,10 +5,12 @@ mod certificate;
 mod checking;
 mod datagrams;
 mod source;
+mod twins;
 mod verdict;
 
 pub use certificate::{CertFault, Certificate, one_certificate};
 pub use checking::check;
+pub use twins::twin;
 pub use verdict::{Reason, Report, Verdict};
 
 #[cfg(test)]

@@ -1,7 +1,7 @@
 use super::*;
 use partition::{Fti, FtiError};
 use session::{Pieces, Sink};
-use std::alloc::Global;
+use std::alloc::{AllocError, Global};
 use std::test::Fail;
 
 fn read(alloc: Global, bytes: &[u8]) -> Result<Certificate, CertFault> {
@@ -98,6 +98,39 @@ fn texts(rt: HostRuntime) -> Result<(), Fail> {
     ] {
         let shown = format!(in rt.alloc(); "{fault}")?;
         assert_eq!(rt; shown.as_str(), text);
+    }
+    Ok(())
+}
+
+// The twin of an object of one block, where these ESIs are held and are too few.
+#[tactic(auto, using(crate::proofs::Few::different_few))]
+fn twin_in_block_0(
+    alloc: Global,
+    fti: &Fti,
+    object: &[u8],
+    held: &[u8],
+) -> Result<Option<Vec<u8>>, AllocError> {
+    if fti.blocks() > 0 && object.len() as u64 == fti.length() && held.len() < fti.k(0) {
+        return Ok(Some(twin(alloc, object, fti, 0, held)?));
+    }
+    Ok(None)
+}
+
+#[test]
+fn twins(rt: HostRuntime) -> Result<(), Fail> {
+    let alloc = rt.alloc();
+    let padded = Fti::new(3, 2, 2, 3)?;
+    let pair = Fti::new(2, 1, 2, 3)?;
+    for (fti, object, held, other) in [
+        (&padded, &[7u8, 8, 9][..], &[0u8][..], &[7u8, 8, 0x0A][..]),
+        (&pair, &[1, 2], &[2], &[4, 4]),
+        (&pair, &[1, 2], &[], &[0, 3]),
+        (&pair, &[1, 2], &[0], &[1, 1]),
+    ] {
+        match twin_in_block_0(alloc, fti, object, held)? {
+            Some(twin) => assert_eq!(rt; twin.as_slice(), other),
+            None => assert!(rt; false, "not too few"),
+        }
     }
     Ok(())
 }

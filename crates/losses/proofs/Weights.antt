@@ -62,7 +62,7 @@ bits_above e (y ∷ hs) h =
       | false ↦ λ q. omega (arith, ih)
     ] refl
 
-bits_once : (e : ℕ) (hs : List ℕ) → IsRising hs → total (λ j. cond (e == j) 1 0) hs ≤ 1
+pub bits_once : (e : ℕ) (hs : List ℕ) → IsRising hs → total (λ j. cond (e == j) 1 0) hs ≤ 1
 bits_once e [] h = omega arith
 bits_once e (y ∷ hs) h =
     elim (e == y) as (λ v. (e == y) ≡ v → cond v 1 0 + total (λ j. cond (e == j) 1 0) hs ≤ 1) [

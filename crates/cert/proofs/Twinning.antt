@@ -7,12 +7,13 @@ use Rattle.std.proofs.lemmas.List.{length-replicate}
 use Rattle.std.proofs.lemmas.Nat.{div-mul-add, mod-mul-add}
 use Rattle.std.proofs.Math.ListN.{get_or-eq_default}
 use Rattle.gf256.specs.Arithmetic.{IsByte, sum_of, product, point, AreBytes}
-use Rattle.poly.specs.Polynomial.{value, IsPolynomial}
+use Rattle.poly.specs.Polynomial.{value, root_product_over, IsPolynomial}
 use Rattle.partition.specs.Fti.{Fti, IsValidFti, source_count, block_count, start_of, source_byte, source_place}
 use Rattle.cert.specs.Symbols.{Symbol, is_held, Agrees, ColumnAgrees, IsObject}
+use Rattle.cert.specs.Twins.{is_first_of}
 use Rattle.gf256.specs.ByteField.{byte_field, point_byte, point_apart}
 use Rattle.poly.proofs.Roots.{sums_over, sums_elements, sums_length, value_of_sums, value_element}
-use Rattle.poly.proofs.Product.{roots_over, roots_elements, roots_length, are_roots, not_a_root, value_of_padded}
+use Rattle.poly.proofs.Product.{roots_over, roots_elements, roots_length, are_roots, not_a_root, value_of_padded, value_is_product}
 use Rattle.partition.proofs.Laws.{counts, apart_blocks, in_object}
 use Rattle.losses.proofs.Lists.{both}
 use Rattle.poly.proofs.Bytes.{bytes_by_recursion, bytes_from_recursion, points_bytes}
@@ -36,8 +37,7 @@ at_place g i (x ∷ xs) (suc n) l =
 
 -- the first column of a source symbol of this block
 abbrev pub is_first_column : Fti → ℕ → ℕ → Bool
-is_first_column f b x =
-    x % f.symbol_length == 0 && (nat_le (start_of f b) (x / f.symbol_length) && nat_lt (x / f.symbol_length) (start_of f b + source_count f b))
+is_first_column f b x = is_first_of f b (source_count f b) x
 
 abbrev pub twin_byte : Fti → ℕ → List ℕ → ℕ → ℕ → ℕ
 twin_byte f b q x y = cond (is_first_column f b x) (sum_of y (value q (point (x / f.symbol_length - start_of f b)))) y
@@ -49,6 +49,7 @@ twin_of f b q object = with_places (twin_byte f b q) 0 object
 -- a polynomial that is nothing at the points held and not at another one
 pub vanishing : (k i : ℕ) (js : List ℕ) → length js < k → i < 255 → AllByRecursion (λ j. j < 255) js → AllByRecursion (λ j. j ≢ i) js
     → (q : List ℕ) × IsPolynomial k q × AllByRecursion (λ j. value q (point j) ≡ 0) js × (value q (point i) ≢ 0)
+    × ((z : ℕ) → z < 256 → value q z ≡ root_product_over sum_of product 1 (map point js) z)
 vanishing k i js few hi small apart =
     let ps = map point js in
     let r = roots_over sum_of product 0 1 (map point js) in
@@ -65,6 +66,7 @@ vanishing k i js few hi small apart =
       },
       back (roots_over sum_of product 0 1 (map point js)) q js small (λ j l. same (point j) (point_byte j)) roots,
       λ h. not_a_root IsByte sum_of product 0 1 byte_field (map point js) (point i) eps (point_byte i) (others js small apart) (sym (same (point i) (point_byte i)) ∙ h),
+      λ z ez. same z ez ∙ value_is_product IsByte sum_of product 0 1 byte_field (map point js) z eps ez,
     )
   where
     elements_padded : (p : List ℕ) (n : ℕ) → AllByRecursion IsByte p → AllByRecursion IsByte (p ++ replicate n 0)
@@ -110,7 +112,7 @@ module _ (f : Fti) (valid : IsValidFti f) where
       rw (x, y, z)
 
   module _ (object q : List ℕ) (form : IsObject f object) (b : ℕ) (hb : b < block_count f) where
-    unchanged : (d i c : ℕ) → d < block_count f → i < source_count f d → c < f.symbol_length → ((d ≡ b) × (c ≡ 0) → ⊥)
+    pub unchanged : (d i c : ℕ) → d < block_count f → i < source_count f d → c < f.symbol_length → ((d ≡ b) × (c ≡ 0) → ⊥)
         → source_byte f (twin_of f b q object) d i c ≡ source_byte f object d i c
     unchanged d i c hd hi hc other =
         let x = source_place f d i c in
@@ -125,7 +127,7 @@ module _ (f : Fti) (valid : IsValidFti f) where
               get_or-eq_default (twin_of f b q object) 0 (omega (arith, length_with_places (twin_byte f b q) 0 object)) ∙ sym (get_or-eq_default object 0 past))
         ] refl
 
-    changed : (i : ℕ) → i < source_count f b → source_byte f (twin_of f b q object) b i 0 ≡ sum_of (source_byte f object b i 0) (value q (point i))
+    pub changed : (i : ℕ) → i < source_count f b → source_byte f (twin_of f b q object) b i 0 ≡ sum_of (source_byte f object b i 0) (value q (point i))
     changed i hi =
         let l : source_place f b i 0 < length object = omega (arith, in_object f valid b i hb hi, form.count) in
         let is = here b i hi in

@@ -1,0 +1,122 @@
+-- An object with a polynomial's values added in the first column of a short block is a twin.
+use Rattle.std.proofs.Common.{◌≡◌, ◌≢◌, ◌<◌, ◌+◌, ◌-◌, ◌/◌, ℕ, true, false, cond, List, [], ◌∷◌, length, get_or, refl, sym, ap, subst, ◌∙◌, arith, ltb-true}
+use Rattle.std.specs.Prelude.{slice_index, nat_lt}
+use Rattle.std.specs.List.{AllByRecursion}
+use Rattle.std.proofs.lemmas.Bool.{ltb-false}
+use Rattle.std.proofs.lemmas.List.{ext_get_or}
+use Rattle.std.proofs.Math.ListN.{get_or-eq_default}
+use Rattle.gf256.specs.Arithmetic.{IsByte, sum_of, product, point, AreBytes}
+use Rattle.gf256.specs.ByteField.{byte_field, point_byte}
+use Rattle.poly.specs.Polynomial.{value, IsPolynomial}
+use Rattle.poly.proofs.Roots.{value_element}
+use Rattle.poly.proofs.Bytes.{bytes_by_recursion}
+use Rattle.poly.proofs.Lists.{all_weaker}
+use Rattle.session.specs.Selection.{is_among}
+use Rattle.losses.specs.Numbers.{below}
+use Rattle.losses.proofs.Lists.{all_filter}
+use Rattle.losses.proofs.Below.{all_below, one_missing, at_passing}
+use Rattle.partition.specs.Fti.{Fti, IsValidFti, source_count, block_count, start_of, source_byte}
+use Rattle.partition.proofs.Laws.{counts}
+use Rattle.cert.specs.Symbols.{Symbol, Agrees, IsObject}
+use Rattle.cert.specs.Twins.{different_esis, root_value, is_first_of, IsTwin}
+use Rattle.cert.proofs.Twinning.{vanishing, twin_byte, twin_of, is_first_column, at_place, length_with_places, agrees, twin_form, differs, changed, unchanged}
+
+-- the symbols of an object are bytes
+symbol_bytes : (f : Fti) (object : List ℕ) (s : Symbol) → Agrees f object s → AreBytes s.bytes
+symbol_bytes f object s a x =
+    elim (nat_lt x f.symbol_length) as (λ v. nat_lt x f.symbol_length ≡ v → slice_index s.bytes x < 256) [
+      | true ↦ λ e.
+          (let c = a.columns x (ltb-true _ _ e) in
+          let small = value_element IsByte sum_of product 0 1 byte_field c.polynomial (point s.esi) (bytes_by_recursion c.polynomial c.form.bytes) (point_byte s.esi) in
+          subst (λ (y : ℕ). y < 256) c.symbol small)
+      | false ↦ λ e.
+          (let l = ltb-false _ _ e in
+          let z : slice_index s.bytes x ≡ 0 = get_or-eq_default s.bytes 0 (omega (arith, l, a.count)) in
+          omega (arith, z))
+    ] refl
+
+module _ (f : Fti) (valid : IsValidFti f) (b : ℕ) (hb : b < block_count f) (q : List ℕ) (hq : IsPolynomial (source_count f b) q) where
+  added_value : (x : ℕ) → value q (point x) < 256
+  added_value x = value_element IsByte sum_of product 0 1 byte_field q (point x) (bytes_by_recursion q hq.bytes) (point_byte x)
+
+  twice : (y v : ℕ) → y < 256 → v < 256 → sum_of (sum_of y v) v ≡ y
+  twice y v hy hv =
+      let e1 = byte_field.add_assoc y v v hy hv hv in
+      let e2 = byte_field.add_self v hv in
+      let e3 = byte_field.add_zero y hy in
+      (cc)
+
+  -- the twin's twin is the object
+  back : (object : List ℕ) → IsObject f object → object ≡ twin_of f b q (twin_of f b q object)
+  back object form =
+      ext_get_or 0 object (twin_of f b q (twin_of f b q object))
+      (sym (length_with_places (twin_byte f b q) 0 (twin_of f b q object) ∙ length_with_places (twin_byte f b q) 0 object))
+      (λ x l.
+      sym (at_place (twin_byte f b q) 0 (twin_of f b q object) x (omega (arith, l, length_with_places (twin_byte f b q) 0 object))
+      ∙ ap (λ (y : ℕ). twin_byte f b q (0 + x) y) (at_place (twin_byte f b q) 0 object x l)
+      ∙ both_bytes (0 + x) (get_or object x 0) (form.bytes x)))
+    where
+      both_bytes : (x y : ℕ) → y < 256 → twin_byte f b q x (twin_byte f b q x y) ≡ y
+      both_bytes x y hy =
+          elim (is_first_column f b x) as (λ v. cond v (sum_of (cond v (sum_of y (value q (point (x / f.symbol_length - start_of f b)))) y) (value q (point (x / f.symbol_length - start_of f b)))) (cond v (sum_of y (value q (point (x / f.symbol_length - start_of f b)))) y) ≡ y) [
+            | true ↦ twice y _ hy (added_value (x / f.symbol_length - start_of f b))
+            | false ↦ refl
+          ]
+
+  module _ (held : List ℕ) (roots : (j : ℕ) → j < 255 → is_among held j ≡ true → value q (point j) ≡ 0) where
+    -- what agrees with an object agrees with its twin
+    agrees_too : (object : List ℕ) → IsObject f object → (s : Symbol) → (s.block ≡ b → is_among held s.esi ≡ true) → Agrees f object s → Agrees f (twin_of f b q object) s
+    agrees_too object form s listed a =
+        let small : s.esi < 255 = (let e = a.esi in let n = (counts f valid s.block a.block).2 in omega (arith, e, n)) in
+        (agrees f valid object q form b hb hq (s ∷ []) ((symbol_bytes f object s a, λ e. roots s.esi small (listed e)), tt) (a, tt)).0
+
+    alike : (object : List ℕ) → IsObject f object → (s : Symbol) → (s.block ≡ b → is_among held s.esi ≡ true)
+        → (Agrees f object s → Agrees f (twin_of f b q object) s) × (Agrees f (twin_of f b q object) s → Agrees f object s)
+    alike object form s listed = (
+      agrees_too object form s listed,
+      λ a. subst (λ (o : List ℕ). Agrees f o s) (sym (back object form)) (agrees_too (twin_of f b q object) (twin_form f valid object q form b hb hq) s listed a),
+    )
+
+    -- a twin of the object, where the added polynomial has these values
+    made : (object : List ℕ) → IsObject f object → (i : ℕ) → i < source_count f b → value q (point i) ≢ 0
+        → ((z : ℕ) → z < 256 → value q z ≡ root_value held z) → IsTwin f b held object (twin_of f b q object)
+    made object form i hi apart same = record {
+      form = twin_form f valid object q form b hb hq;
+      differ = differs f valid object q form b hb hq i hi apart;
+      changed = λ n hn. changed f valid object q form b hb n hn ∙ ap (λ (y : ℕ). sum_of (source_byte f object b n 0) y) (same (point n) (point_byte n));
+      unchanged = unchanged f valid object q form b hb;
+      alike = alike object form;
+    }
+
+  -- an object whose bytes are the twin's
+  same_bytes : (object other p : List ℕ) → length other ≡ length object → ((j : ℕ) → value p (point j) ≡ value q (point j))
+      → ((x : ℕ) → slice_index other x ≡ cond (is_first_of f b (source_count f b) x) (sum_of (slice_index object x) (value p (point (x / f.symbol_length - start_of f b)))) (slice_index object x))
+      → other ≡ twin_of f b q object
+  same_bytes object other p len values bytes =
+      ext_get_or 0 other (twin_of f b q object) (len ∙ sym (length_with_places (twin_byte f b q) 0 object))
+      (λ x l.
+      bytes x
+      ∙ ap (λ (v : ℕ). cond (is_first_of f b (source_count f b) x) (sum_of (slice_index object x) v) (slice_index object x)) (values (x / f.symbol_length - start_of f b))
+      ∙ sym (at_place (twin_byte f b q) 0 object x (omega (arith, l, len)) ∙ (let z : 0 + x ≡ x = omega arith in ap (λ (n : ℕ). twin_byte f b q n (get_or object x 0)) z)))
+
+-- what the code makes is a twin
+pub is_twin : (f : Fti) → IsValidFti f → (b : ℕ) → b < block_count f → (held object other p : List ℕ) → IsObject f object → length (different_esis held) < source_count f b
+    → ((z : ℕ) → z < 256 → value p z ≡ root_value held z) → length other ≡ length object
+    → ((x : ℕ) → slice_index other x ≡ cond (is_first_of f b (source_count f b) x) (sum_of (slice_index object x) (value p (point (x / f.symbol_length - start_of f b)))) (slice_index object x))
+    → IsTwin f b held object other
+is_twin f valid b hb held object other p form few values len bytes =
+    let js = different_esis held in
+    let n = counts f valid b hb in
+    let gap = one_missing (is_among held) (source_count f b) 255 (omega (arith, n.1)) few in
+    let passing : AllByRecursion (λ j. (is_among held j ≡ true) × (j < 255)) (different_esis held) =
+    all_filter (λ j. j < 255) (is_among held) (below 255) (all_below (λ j. j < 255) 255 (λ j h. h)) in
+    let small : AllByRecursion (λ j. j < 255) (different_esis held) =
+    all_weaker (λ j. (is_among held j ≡ true) × (j < 255)) (λ j. j < 255) (λ j h. h.1) _ passing in
+    let apart : AllByRecursion (λ j. j ≢ gap.0) (different_esis held) =
+    all_weaker (λ j. (is_among held j ≡ true) × (j < 255)) (λ j. j ≢ gap.0)
+    (λ j h e. let x = subst (λ (y : ℕ). is_among held y ≡ true) e h.0 in let g = gap.2 in absurd (cc)) _ passing in
+    let w = vanishing (source_count f b) gap.0 (different_esis held) few (omega (arith, gap.1, n.1)) small apart in
+    let same : (z : ℕ) → z < 256 → value w.0 z ≡ root_value held z = w.4 in
+    let twin = made f valid b hb w.0 w.1 held (at_passing (λ j. value w.0 (point j) ≡ 0) (is_among held) 255 w.2) object form gap.0 gap.1 w.3 same in
+    subst (λ (o : List ℕ). IsTwin f b held object o)
+    (sym (same_bytes f valid b hb w.0 w.1 object other p len (λ j. values (point j) (point_byte j) ∙ sym (same (point j) (point_byte j))) bytes)) twin

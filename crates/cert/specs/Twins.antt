@@ -1,0 +1,32 @@
+-- Another object that agrees with all that came, where a block is short.
+use Rattle.std.specs.Prelude.{◌≡◌, ◌≢◌, ◌+◌, ◌/◌, ◌%◌, ◌<◌, ◌==◌, ◌&&◌, ◌↔◌, Bool, true, nat_le, nat_lt, ℕ, List, map, filter}
+use Rattle.gf256.specs.Arithmetic.{sum_of, product, point}
+use Rattle.poly.specs.Polynomial.{root_product_over}
+use Rattle.session.specs.Selection.{is_among}
+use Rattle.losses.specs.Numbers.{below}
+use Rattle.partition.specs.Fti.{Fti, source_count, block_count, start_of, source_byte}
+use Rattle.cert.specs.Symbols.{Symbol, Agrees, IsObject}
+
+-- the different ESIs among these, rising
+abbrev pub different_esis : List ℕ → List ℕ
+different_esis held = filter (is_among held) (below 255)
+
+-- the product of z + point(j) over the different ESIs j
+abbrev pub root_value : List ℕ → ℕ → ℕ
+root_value held z = root_product_over sum_of product 1 (map point (different_esis held)) z
+
+-- whether a place of an object is in the first byte column of one of the first n source symbols of block b
+abbrev pub is_first_of : Fti → ℕ → ℕ → ℕ → Bool
+is_first_of f b n x =
+    x % f.symbol_length == 0 && (nat_le (start_of f b) (x / f.symbol_length) && nat_lt (x / f.symbol_length) (start_of f b + n))
+
+-- The other object is the object with that product's value at the point of each source symbol of block b added to the
+-- symbol's first byte; it is not the object; and a symbol of another block, or of block b with one of these ESIs, is one
+-- of the one exactly where it is one of the other.
+pub record IsTwin (f : Fti) (b : ℕ) (held object other : List ℕ) : Type 0 where
+  pub form : IsObject f other
+  pub differ : object ≢ other
+  pub changed : (i : ℕ) → i < source_count f b → source_byte f other b i 0 ≡ sum_of (source_byte f object b i 0) (root_value held (point i))
+  pub unchanged : (d i c : ℕ) → d < block_count f → i < source_count f d → c < f.symbol_length → ((d ≡ b) × (c ≡ 0) → ⊥)
+      → source_byte f other d i c ≡ source_byte f object d i c
+  pub alike : (s : Symbol) → (s.block ≡ b → is_among held s.esi ≡ true) → Agrees f object s ↔ Agrees f other s

@@ -1,0 +1,66 @@
+//! Another object that agrees with all that came, where a block is short.
+ghost use Rattle.std.specs.Prelude.{◌≡◌, ◌<◌, ◌-◌, ◌/◌, ℕ, cond, length, map, slice_index, IfOk};
+ghost use Rattle.gf256.specs.Arithmetic.{sum_of, point as point_of};
+ghost use Rattle.poly.specs.Polynomial.{value};
+ghost use Rattle.partition.specs.Fti.{IsValidFti, block_count, source_count, start_of};
+ghost use Rattle.cert.specs.Twins.{different_esis, is_first_of, IsTwin};
+
+use crate::certificate::are_bytes;
+use gf256::{Field, Gf, point};
+use partition::Fti;
+use poly::Poly;
+use std::alloc::{AllocError, Global};
+
+// The points of the different ESIs among these, rising.
+fn points_of(alloc: Global, fti: &Fti, held: &[u8]) -> Result<Vec<Gf>, AllocError>
+    ensures points { IfOk result (λ v. v.items ≡ map point_of (different_esis held.now)) }
+    ensures valid { IsValidFti fti.now }
+{
+    let mut points = Vec::with_capacity(alloc, usize::from(fti.block()))?;
+    for esi in 0..255u8 {
+        if held.contains(&esi) {
+            points.push(point(esi))?;
+        }
+    }
+    Ok(points)
+}
+
+// Adds the polynomial's values at the points of a block's source symbols to their first bytes.
+fn add_values(object: &mut [u8], fti: &Fti, block: u32, polynomial: &Poly<Gf>)
+    requires object { length object.old ≡ fti.now.transfer_length }
+    requires block { block < block_count fti.now }
+    ensures length { length object.new ≡ length object.old }
+    ensures bytes { (x : ℕ)
+        → slice_index object.new x
+        ≡ cond (is_first_of fti.now block (source_count fti.now block) x) (sum_of (slice_index object.old x) (value polynomial.now (point_of (x / fti.now.symbol_length - start_of fti.now block)))) (slice_index object.old x) }
+{
+    let start = fti.start(block) as usize;
+    let length = usize::from(fti.symbol());
+    for i in 0..fti.k(block) {
+        let place = (start + i) * length;
+        let added = polynomial.eval(point(i as u8));
+        object[place] = Gf(object[place]).add(added).0;
+    }
+}
+
+/// A twin: another object of this FTI that agrees with every symbol of other blocks with which the object does, and with
+/// every one of this block whose ESI is held, where the ESIs held are too few.
+pub fn twin(
+    alloc: Global,
+    object: &[u8],
+    fti: &Fti,
+    block: u32,
+    held: &[u8],
+) -> Result<Vec<u8>, AllocError>
+    requires object { length object.now ≡ fti.now.transfer_length }
+    requires block { block < block_count fti.now }
+    requires few { length (different_esis held.now) < source_count fti.now block }
+    ensures { IfOk result (λ other. IsTwin fti.now block held.now object.now other.items) }
+{
+    are_bytes(object);
+    let points = points_of(alloc, fti, held)?;
+    let polynomial = Poly::from_roots(points.as_slice());
+    let mut other = object.to_vec(alloc)?;
+    add_values(other.as_mut_slice(), fti, block, &polynomial);
+    Ok(other)
+}
