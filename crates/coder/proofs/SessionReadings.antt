@@ -156,7 +156,7 @@ module _ (z : Certificate) (good : IsCertificate z) (object : List ℕ) (gives :
       elim (nat_le (source_count z.fti b) (held_count came b)) as (λ v. nat_le (source_count z.fti b) (held_count came b) ≡ v → is_full z.fti came b ≡ true) [
         | true ↦ λ e. e
         | false ↦ λ e.
-            (let w = one_missing (is_held came b) (source_count z.fti b) (omega (arith, few)) (leb-false _ _ e) in
+            (let w = one_missing (is_held came b) (source_count z.fti b) 256 (omega (arith, few)) (leb-false _ _ e) in
             let h = w.2 in
             let g = r.numbers 0 b w.0 ∙ all_pairs z.fti good.fti order b w.0 hb (let l = w.1 in omega (arith, l, wide)) in
             absurd (cc))

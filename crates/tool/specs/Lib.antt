@@ -1,5 +1,6 @@
 pub mod Files
 pub mod Inputs
 pub mod Lines
+pub mod Making
 pub mod Outcomes
 pub mod Usages

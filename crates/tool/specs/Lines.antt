@@ -1,5 +1,5 @@
 -- Printed lines.
-use Rattle.std.specs.Prelude.{◌≡◌, ℕ, zero, suc, Bool, true, List, [], ◌∷◌, ◌++◌, Option, length, slice_index_or, codes, decimal, ⊤}
+use Rattle.std.specs.Prelude.{◌≡◌, ℕ, zero, suc, Bool, true, List, [], ◌∷◌, ◌++◌, Option, length, slice_index_or, flat_map, codes, decimal, ⊤}
 use Rattle.std.specs.Io.KnownBytes.{Appends}
 use Rattle.cert.specs.declared.verdict.Report.{Report}
 use Rattle.cert.specs.declared.verdict.Reason.{Reason}
@@ -33,9 +33,18 @@ abbrev pub block_lines : List (ℕ × ℕ) → ℕ → List ℕ
 block_lines blocks zero = []
 block_lines blocks (suc n) = block_lines blocks n ++ line_of (block_line n (slice_index_or blocks n (0, 0)))
 
+-- the line of a kill: each place after one space
+abbrev pub kill_line : List ℕ → List ℕ
+kill_line places = codes "kill" ++ flat_map (λ place. named [] (decimal place)) places
+
+-- the lines of what can be lost
+abbrev pub losses_text : Report → List ℕ
+losses_text report =
+    line_of (named (codes "margin") (decimal report.margin)) ++ (line_of (kill_line report.kill.items) ++ line_of (named (codes "burst") (decimal report.burst)))
+
 -- what a yes prints
 abbrev pub report_text : Report → List ℕ
-report_text report = line_of (codes "yes") ++ block_lines report.blocks.items (length report.blocks.items)
+report_text report = (line_of (codes "yes") ++ block_lines report.blocks.items (length report.blocks.items)) ++ losses_text report
 
 -- What a line gains by a reason. Behind N4 the packet's fault stands in its own words.
 abbrev pub GainsReason : Reason → List ℕ → List ℕ → Type 0

@@ -10,10 +10,11 @@ use Rattle.cert.specs.Verdict.{IsVerdict}
 use Rattle.cert.specs.declared.verdict.Verdict.{Verdict}
 use Rattle.cert.specs.declared.verdict.Verdict.TheVariants.{Yes, No}
 use Rattle.tool.specs.declared.command.Request.{Request}
-use Rattle.tool.specs.declared.command.Request.TheVariants.{Check, Show}
+use Rattle.tool.specs.declared.command.Request.TheVariants.{Check, Show, Encode, Certify, Drop}
 use Rattle.tool.specs.declared.fault.Fault.{Fault}
 use Rattle.tool.specs.Inputs.{Contents, HoldsSession, HoldsBytes, HoldsCertificate, IsSessionUnread, IsObjectUnread, IsCertificateUnread}
 use Rattle.tool.specs.Lines.{IsPrintFault, Prints}
+use Rattle.tool.specs.Making.{IsEncoded, IsNotEncoded, IsCertified, IsNotCertified, IsDropped, IsNotDropped}
 
 abbrev pub status_of : Verdict → ℕ
 status_of (Yes report) = 0
@@ -66,11 +67,17 @@ abbrev pub IsDone : Contents → Request → Option (List ℕ) → Option (List 
 IsDone contents (Check session object certificate) before after status =
     IsChecked contents session.now object.now certificate.now before after status
 IsDone contents (Show session) before after status = IsShown contents session.now status
+IsDone contents (Encode object output sending) before after status = IsEncoded contents object.now sending before after status
+IsDone contents (Certify object output sizes) before after status = IsCertified contents object.now sizes before after status
+IsDone contents (Drop session output places) before after status = IsDropped contents session.now places.items before after status
 
 abbrev pub IsUndone : Contents → Request → Bool → Fault → Type 0
 IsUndone contents (Check session object certificate) failed fault =
     IsUnchecked contents session.now object.now certificate.now failed fault
 IsUndone contents (Show session) failed fault = IsUnshown contents session.now failed fault
+IsUndone contents (Encode object output sending) failed fault = IsNotEncoded contents object.now output.now sending failed fault
+IsUndone contents (Certify object output sizes) failed fault = IsNotCertified contents object.now output.now sizes failed fault
+IsUndone contents (Drop session output places) failed fault = IsNotDropped contents session.now output.now places.items failed fault
 
 -- The request was done, with this status, or there was a fault, and the status is 1.
 abbrev pub IsRun : Contents → Request → Option (List ℕ) → Option (List ℕ) → ℕ → Type 0

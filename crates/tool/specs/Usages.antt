@@ -1,11 +1,12 @@
 -- What a command line asks for, and why it is no request.
-use Rattle.std.specs.Prelude.{◌≡◌, ◌≢◌, Some, codes, ⊤}
+use Rattle.std.specs.Prelude.{◌≡◌, ◌≢◌, ◌<◌, ◌≤◌, ◌^◌, ℕ, List, length, slice_index, Some, codes, ⊤}
 use Rattle.clap.specs.Words.{kind_of, first_value}
 use Rattle.clap.specs.declared.parser.matches.Found.{Found}
 use Rattle.clap.specs.declared.error.Error.{Error}
 use Rattle.clap.specs.declared.error.kind.ErrorKind.TheVariants.{DisplayHelp, OutOfMemory}
+use Rattle.tool.specs.declared.sizes.Sizes.{Sizes}
 use Rattle.tool.specs.declared.command.Request.{Request}
-use Rattle.tool.specs.declared.command.Request.TheVariants.{Check, Show}
+use Rattle.tool.specs.declared.command.Request.TheVariants.{Check, Show, Encode, Certify, Drop}
 use Rattle.tool.specs.declared.command.Usage.{Usage}
 use Rattle.tool.specs.declared.command.Usage.TheVariants.{Help, Line, Value, NoMemory}
 
@@ -27,9 +28,28 @@ IsUsage (Line told) = IsRefusal told
 IsUsage NoMemory = ⊤
 IsUsage Value = ⊤
 
--- the request's values are those of its arguments
+-- the numbers of an FTI that the command line takes
+pub record AreInRange (sizes : Sizes) : Type 0 where
+  pub some_symbol : 1 ≤ sizes.symbol
+  pub symbol : sizes.symbol ≤ 65475
+  pub some_block : 1 ≤ sizes.block
+  pub some_max : 1 ≤ sizes.max_n
+
+-- one place or more, each of 32 bits
+pub record ArePlaces (places : List ℕ) : Type 0 where
+  pub some : 0 < length places
+  pub small : (i : ℕ) → slice_index places i < 2 ^ 32
+
+-- the request's values are those of its arguments, and its numbers are in range
 abbrev pub HasValuesOf : Found → Request → Type 0
 HasValuesOf found (Check session object certificate) =
     (first_value found (codes "SESSION") ≡ Some session.now) × (first_value found (codes "OBJECT") ≡ Some object.now)
     × (first_value found (codes "CERT") ≡ Some certificate.now)
 HasValuesOf found (Show session) = first_value found (codes "SESSION") ≡ Some session.now
+HasValuesOf found (Encode object output sending) =
+    (first_value found (codes "OBJECT") ≡ Some object.now) × (first_value found (codes "OUT") ≡ Some output.now) × AreInRange sending.sizes
+HasValuesOf found (Certify object output sizes) =
+    (first_value found (codes "OBJECT") ≡ Some object.now) × (first_value found (codes "OUT") ≡ Some output.now) × AreInRange sizes
+HasValuesOf found (Drop session output places) =
+    (first_value found (codes "SESSION") ≡ Some session.now) × (first_value found (codes "OUT") ≡ Some output.now)
+    × ArePlaces places.items

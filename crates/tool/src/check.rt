@@ -1,8 +1,8 @@
 //! The command `check`.
-ghost use Rattle.std.specs.Prelude.{◌≡◌, ◌≤◌, IfOk, IfErr, OnOk};
+ghost use Rattle.std.specs.Prelude.{◌≡◌, ◌≤◌, decimal, IfOk, IfErr, OnOk};
 ghost use Rattle.std.specs.Io.KnownBytes.{Appends};
 ghost use Rattle.tool.specs.Outcomes.{IsChecked, IsUnchecked};
-ghost use Rattle.tool.specs.Lines.{line_of, block_line, report_text, GainsReason, IsNoLine, IsPrintFault};
+ghost use Rattle.tool.specs.Lines.{line_of, named, block_line, kill_line, losses_text, report_text, GainsReason, IsNoLine, IsPrintFault};
 
 use crate::fault::Fault;
 use crate::folder::Folder;
@@ -69,26 +69,43 @@ fn print_report<'a, W: Write>(alloc: Global, out: &mut W, report: &Report) -> Re
     for (block, counts) in report.blocks.iter().enumerate() {
         print_block(alloc, out, block, *counts)?;
     }
-    print_losses(alloc, out, report)
+    print_losses(alloc, out, report)?;
+    Ok(())
 }
 
-fn print_losses<'a, W: Write>(
+fn kill_line_of(alloc: Global, places: &[usize]) -> Result<Line, AllocError>
+    ensures { IfOk result (λ line. line ≡ kill_line places.now) }
+{
+    let mut line = Line::new(alloc);
+    line.text("kill")?;
+    for place in places {
+        line.named("", *place)?;
+    }
+    Ok(line)
+}
+
+fn print_number<'a, W: Write>(
     alloc: Global,
     out: &mut W,
-    report: &Report,
-) -> Result<(), Fault<'a>> {
-    let mut margin = Line::new(alloc);
-    margin.named("margin", report.margin)?;
-    margin.print(out)?;
-    let mut kill = Line::new(alloc);
-    kill.text("kill")?;
-    for place in &report.kill {
-        kill.named("", *place)?;
-    }
-    kill.print(out)?;
-    let mut burst = Line::new(alloc);
-    burst.named("burst", report.burst)?;
-    burst.print(out)
+    name: &str,
+    number: usize,
+) -> Result<(), Fault<'a>>
+    ensures ok { OnOk result (Appends (W.contents out.old) (W.contents out.new) (line_of (named name.now (decimal number)))) }
+    ensures fault { IfErr result (IsPrintFault (W.failed out.new)) }
+{
+    let mut line = Line::new(alloc);
+    line.named(name, number)?;
+    line.print(out)
+}
+
+fn print_losses<'a, W: Write>(alloc: Global, out: &mut W, report: &Report) -> Result<(), Fault<'a>>
+    ensures ok { OnOk result (Appends (W.contents out.old) (W.contents out.new) (losses_text report.now)) }
+    ensures fault { IfErr result (IsPrintFault (W.failed out.new)) }
+{
+    print_number(alloc, out, "margin", report.margin)?;
+    kill_line_of(alloc, report.kill.as_slice())?.print(out)?;
+    print_number(alloc, out, "burst", report.burst)?;
+    Ok(())
 }
 
 // Puts a reason last.

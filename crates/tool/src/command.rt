@@ -1,4 +1,6 @@
 //! What a command line asks for.
+use crate::encode::Sending;
+use crate::sizes::Sizes;
 use clap::Error;
 
 /// A command with its values.
@@ -13,6 +15,24 @@ pub enum Request<'a> {
     /// What are the datagrams of the session?
     Show {
         session: &'a str,
+    },
+    /// Send the object into a session file.
+    Encode {
+        object: &'a str,
+        output: &'a str,
+        sending: Sending,
+    },
+    /// Certify the object.
+    Certify {
+        object: &'a str,
+        output: &'a str,
+        sizes: Sizes,
+    },
+    /// Leave the datagrams at these places out, counted from 0; one place or more.
+    Drop {
+        session: &'a str,
+        output: &'a str,
+        places: Vec<usize>,
     },
 }
 

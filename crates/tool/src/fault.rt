@@ -2,6 +2,8 @@
 ghost use Rattle.std.specs.Prelude.{◌≡◌};
 
 use cert::CertFault;
+use coder::SendFault;
+use partition::FtiError;
 use session::FrameFault;
 use std::alloc::AllocError;
 
@@ -15,6 +17,9 @@ pub enum Fault<'a> {
     Memory,
     Frame(FrameFault),
     Certificate(CertFault),
+    /// The object's length and the command's own numbers are no FTI.
+    Fti(FtiError),
+    Send(SendFault),
     /// The output can't be written, so nothing more is printed.
     Output,
 }

@@ -1,16 +1,54 @@
 //! Doing what was asked for.
-ghost use Rattle.std.specs.Prelude.{◌≤◌};
-ghost use Rattle.tool.specs.Outcomes.{IsRun};
+ghost use Rattle.std.specs.Prelude.{◌≤◌, IfOk, IfErr};
+ghost use Rattle.tool.specs.Outcomes.{IsRun, IsDone, IsUndone};
 
+use crate::certify::certify;
 use crate::check::check;
 use crate::command::Request;
+use crate::encode::encode;
 use crate::fault::Fault;
 use crate::folder::Folder;
 use crate::print::Line;
 use crate::show::show;
+use crate::thin_out::drop_places;
 use cert::CertFault;
 use session::{FrameFault, Write, write_all};
 use std::alloc::{AllocError, Global};
+
+fn perform<'a, F: Folder, W: Write>(
+    alloc: Global,
+    request: &Request<'a>,
+    folder: &mut F,
+    out: &mut W,
+) -> Result<u8, Fault<'a>>
+    ensures ok { IfOk result (IsDone (F.content folder.old) request.now (W.contents out.old) (W.contents out.new)) }
+    ensures fault { IfErr result (IsUndone (F.content folder.old) request.now (W.failed out.new)) }
+    ensures status { IfOk result (λ status. status ≤ 1) }
+{
+    match request {
+        Request::Check {
+            session,
+            object,
+            certificate,
+        } => check(alloc, folder, out, session, object, certificate),
+        Request::Show { session } => show(alloc, folder, out, session),
+        Request::Encode {
+            object,
+            output,
+            sending,
+        } => encode(alloc, folder, out, object, output, sending),
+        Request::Certify {
+            object,
+            output,
+            sizes,
+        } => certify(alloc, folder, out, object, output, sizes),
+        Request::Drop {
+            session,
+            output,
+            places,
+        } => drop_places(alloc, folder, out, session, output, places.as_slice()),
+    }
+}
 
 /// Does the command, prints its lines, and answers the status: 0 done or yes, 1 no or a fault. If the output can't be
 /// written it is 1.
@@ -23,15 +61,7 @@ pub fn run<F: Folder, W: Write>(
     ensures run { IsRun (F.content folder.old) request.now (W.contents out.old) (W.contents out.new) result }
     ensures status { result ≤ 1 }
 {
-    let done = match request {
-        Request::Check {
-            session,
-            object,
-            certificate,
-        } => check(alloc, folder, out, session, object, certificate),
-        Request::Show { session } => show(alloc, folder, out, session),
-    };
-    match done {
+    match perform(alloc, request, folder, out) {
         Ok(status) => status,
         Err(fault) => {
             tell(alloc, out, fault);
@@ -79,6 +109,14 @@ fn fault_line(alloc: Global, fault: Fault<'_>) -> Result<Line, AllocError> {
             line.text(text.as_str())?;
         }
         Fault::Certificate(fault) => {
+            let text = format!(in alloc; "{fault}")?;
+            line.text(text.as_str())?;
+        }
+        Fault::Fti(fault) => {
+            let text = format!(in alloc; "{fault}")?;
+            line.text(text.as_str())?;
+        }
+        Fault::Send(fault) => {
             let text = format!(in alloc; "{fault}")?;
             line.text(text.as_str())?;
         }

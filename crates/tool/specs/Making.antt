@@ -1,0 +1,93 @@
+-- What the commands that write a file do, by what their input files hold.
+use Rattle.std.specs.Prelude.{◌≡◌, ◌≤◌, ◌⊎◌, ℕ, Bool, true, List, ◌++◌, Option, None, Some, length, codes, decimal, ⊤}
+use Rattle.std.specs.Io.KnownBytes.{Appends}
+use Rattle.partition.specs.Fti.{Fti, IsValidFti, fti_from, block_count}
+use Rattle.partition.specs.FtiFault.{fti_fault}
+use Rattle.session.specs.Selection.{rest, is_among, first_outside}
+use Rattle.session.specs.declared.frame.FrameFault.{FrameFault}
+use Rattle.session.specs.declared.frame.FrameFault.TheVariants.{Io as FrameIo, NoSuchPlace, NoMemory as NoFrameMemory}
+use Rattle.cert.specs.declared.certificate.CertFault.TheVariants.{Io as CertificateIo}
+use Rattle.coder.specs.Sending.{pairs, CanBeSent}
+use Rattle.coder.specs.declared.sending.SendFault.TheVariants.{SymbolTooLong, Io as SendIo}
+use Rattle.tool.specs.declared.sizes.Sizes.{Sizes}
+use Rattle.tool.specs.declared.encode.Sending.{Sending}
+use Rattle.tool.specs.declared.fault.Fault.{Fault}
+use Rattle.tool.specs.declared.fault.Fault.TheVariants.{Open, Memory, Fti as WrongFti, Send, Frame, Certificate as CertificateFault}
+use Rattle.tool.specs.Inputs.{Contents, HoldsBytes, HoldsSession, IsObjectUnread, IsSessionUnread}
+use Rattle.tool.specs.Lines.{line_of, named, IsPrintFault}
+
+-- the FTI of an object of so many bytes
+abbrev pub sized : Sizes → ℕ → Fti
+sized sizes l = fti_from l sizes.symbol sizes.block sizes.max_n
+
+-- a line that counts something was printed, where it is told what was
+abbrev pub PrintsCount : List ℕ → ℕ → List ℕ → Option (List ℕ) → Option (List ℕ) → Type 0
+PrintsCount name count of before after = Appends before after (line_of (named name (decimal count) ++ of))
+
+-- a session of the object was written, and the number of its datagrams printed
+pub record IsEncoded (contents : Contents) (object : List ℕ) (sending : Sending) (before after : Option (List ℕ)) (status : ℕ) : Type 0 where
+  pub bytes : List ℕ
+  pub whole : HoldsBytes contents object bytes
+  pub can : CanBeSent bytes (sized sending.sizes (length bytes))
+  pub printed : PrintsCount (codes "encoded") (length (pairs sending.order (sized sending.sizes (length bytes)))) (codes " datagrams") before after
+  pub told : status ≡ 0
+
+-- the object's certificate was written, and the number of its blocks printed
+pub record IsCertified (contents : Contents) (object : List ℕ) (sizes : Sizes) (before after : Option (List ℕ)) (status : ℕ) : Type 0 where
+  pub bytes : List ℕ
+  pub whole : HoldsBytes contents object bytes
+  pub printed : PrintsCount (codes "certified") (block_count (sized sizes (length bytes))) (codes " blocks") before after
+  pub told : status ≡ 0
+
+-- the session without these places was written, and the number of its datagrams printed
+pub record IsDropped (contents : Contents) (session places : List ℕ) (before after : Option (List ℕ)) (status : ℕ) : Type 0 where
+  pub datagrams : List (List ℕ)
+  pub sent : HoldsSession contents session datagrams
+  pub inside : first_outside (length datagrams) places ≡ None
+  pub printed : PrintsCount (codes "kept") (length (rest (is_among places) datagrams)) (codes " datagrams") before after
+  pub told : status ≡ 0
+
+-- the output doesn't open, or there is no memory
+abbrev pub IsOutputFault : List ℕ → Fault → Type 0
+IsOutputFault output (Open name) = name.now ≡ output
+IsOutputFault output Memory = ⊤
+IsOutputFault output _ = ⊥
+
+-- an object of these bytes has no FTI of these sizes
+abbrev pub IsUnsized : Contents → List ℕ → Sizes → Fault → Type 0
+IsUnsized contents object sizes (WrongFti fault) =
+    (bytes : List ℕ) × HoldsBytes contents object bytes × (fti_fault (sized sizes (length bytes)) ≡ Some fault)
+IsUnsized contents object sizes _ = ⊥
+
+-- writing has failed, or a symbol is too long
+abbrev pub IsUnsent : Fault → Type 0
+IsUnsent (Send SymbolTooLong) = ⊤
+IsUnsent (Send SendIo) = ⊤
+IsUnsent _ = ⊥
+
+abbrev pub IsNotEncoded : Contents → List ℕ → List ℕ → Sending → Bool → Fault → Type 0
+IsNotEncoded contents object output sending failed fault =
+    IsObjectUnread contents object fault ⊎ IsUnsized contents object sending.sizes fault
+    ⊎ IsOutputFault output fault ⊎ IsUnsent fault ⊎ IsPrintFault failed fault
+
+abbrev pub IsUnwritten : Fault → Type 0
+IsUnwritten (CertificateFault CertificateIo) = ⊤
+IsUnwritten (Frame FrameIo) = ⊤
+IsUnwritten _ = ⊥
+
+abbrev pub IsNotCertified : Contents → List ℕ → List ℕ → Sizes → Bool → Fault → Type 0
+IsNotCertified contents object output sizes failed fault =
+    IsObjectUnread contents object fault ⊎ IsUnsized contents object sizes fault
+    ⊎ IsOutputFault output fault ⊎ IsUnwritten fault ⊎ IsPrintFault failed fault
+
+-- the session hasn't one of the places; the first such is told
+abbrev pub IsOutside : Contents → List ℕ → List ℕ → Fault → Type 0
+IsOutside contents session places (Frame (NoSuchPlace place)) =
+    (datagrams : List (List ℕ)) × HoldsSession contents session datagrams × (first_outside (length datagrams) places ≡ Some place)
+IsOutside contents session places (Frame NoFrameMemory) = ⊤
+IsOutside contents session places _ = ⊥
+
+abbrev pub IsNotDropped : Contents → List ℕ → List ℕ → List ℕ → Bool → Fault → Type 0
+IsNotDropped contents session output places failed fault =
+    IsSessionUnread contents session fault ⊎ IsOutside contents session places fault
+    ⊎ IsOutputFault output fault ⊎ IsUnwritten fault ⊎ IsPrintFault failed fault

@@ -1,0 +1,51 @@
+//! The command `certify`.
+ghost use Rattle.std.specs.Prelude.{◌≡◌, ◌≤◌, IfOk, IfErr};
+ghost use Rattle.tool.specs.Making.{IsCertified, IsNotCertified};
+
+use crate::fault::Fault;
+use crate::folder::Folder;
+use crate::input::read_object;
+use crate::print::Line;
+use crate::sizes::{Sizes, fti_of};
+use coder::CertifyFault;
+use session::Write;
+use std::alloc::Global;
+
+/// Writes the object's certificate, and answers the status. The output is created once the certificate is there.
+pub fn certify<'a, F: Folder, W: Write>(
+    alloc: Global,
+    folder: &mut F,
+    out: &mut W,
+    object: &'a str,
+    output: &'a str,
+    sizes: &Sizes,
+) -> Result<u8, Fault<'a>>
+    ensures ok { IfOk result (IsCertified (F.content folder.old) object.now sizes.now (W.contents out.old) (W.contents out.new)) }
+    ensures fault { IfErr result (IsNotCertified (F.content folder.old) object.now output.now sizes.now (W.failed out.new)) }
+    ensures status { IfOk result (λ status. status ≤ 1) }
+{
+    let object = read_object(alloc, folder, object)?;
+    let fti = match fti_of(sizes, object.len()) {
+        Ok(fti) => fti,
+        Err(fault) => return Err(Fault::Fti(fault)),
+    };
+    let certificate = match coder::certify(alloc, object.as_slice(), &fti) {
+        Ok(certificate) => certificate,
+        Err(CertifyFault::Length) => unreachable!(),
+        Err(CertifyFault::NoMemory) => return Err(Fault::Memory),
+    };
+    let Ok(mut file) = folder.create_file(output) else {
+        return Err(Fault::Open(output));
+    };
+    let written = certificate.write(&mut file);
+    folder.close_file(output, file);
+    match written {
+        Ok(()) => {}
+        Err(fault) => return Err(Fault::Certificate(fault)),
+    }
+    let mut line = Line::new(alloc);
+    line.named("certified", fti.blocks())?;
+    line.text(" blocks")?;
+    line.print(out)?;
+    Ok(0)
+}

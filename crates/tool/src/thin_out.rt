@@ -1,0 +1,44 @@
+//! The command `drop`.
+ghost use Rattle.std.specs.Prelude.{◌≡◌, ◌≤◌, IfOk, IfErr};
+ghost use Rattle.tool.specs.Making.{IsDropped, IsNotDropped};
+
+use crate::fault::Fault;
+use crate::folder::Folder;
+use crate::input::read_session;
+use crate::print::Line;
+use session::Write;
+use std::alloc::Global;
+
+/// Writes the session without these places, and answers the status. The output is created once that session is there.
+pub fn drop_places<'a, F: Folder, W: Write>(
+    alloc: Global,
+    folder: &mut F,
+    out: &mut W,
+    session: &'a str,
+    output: &'a str,
+    places: &[usize],
+) -> Result<u8, Fault<'a>>
+    ensures ok { IfOk result (IsDropped (F.content folder.old) session.now places.now (W.contents out.old) (W.contents out.new)) }
+    ensures fault { IfErr result (IsNotDropped (F.content folder.old) session.now output.now places.now (W.failed out.new)) }
+    ensures status { IfOk result (λ status. status ≤ 1) }
+{
+    let session = read_session(alloc, folder, session)?;
+    let left = match session.without(alloc, places) {
+        Ok(left) => left,
+        Err(fault) => return Err(Fault::Frame(fault)),
+    };
+    let Ok(mut file) = folder.create_file(output) else {
+        return Err(Fault::Open(output));
+    };
+    let written = left.write(&mut file);
+    folder.close_file(output, file);
+    match written {
+        Ok(()) => {}
+        Err(fault) => return Err(Fault::Frame(fault)),
+    }
+    let mut line = Line::new(alloc);
+    line.named("kept", left.len())?;
+    line.text(" datagrams")?;
+    line.print(out)?;
+    Ok(0)
+}
