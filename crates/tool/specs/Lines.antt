@@ -1,6 +1,8 @@
 -- Printed lines.
-use Rattle.std.specs.Prelude.{◌≡◌, ℕ, zero, suc, Bool, true, List, [], ◌∷◌, ◌++◌, Option, length, slice_index_or, flat_map, codes, decimal, ⊤}
+use Rattle.std.specs.Prelude.{◌≡◌, ℕ, zero, suc, Bool, true, List, [], ◌∷◌, ◌++◌, Option, length, slice_index_or, flat_map, codes, decimal, Ok, Err, ⊤}
 use Rattle.std.specs.Io.KnownBytes.{Appends}
+use Rattle.alc.specs.Packet.{Packet as Sent}
+use Rattle.alc.specs.Reading.{Reading, Reads}
 use Rattle.cert.specs.declared.verdict.Report.{Report}
 use Rattle.cert.specs.declared.verdict.Reason.{Reason}
 use Rattle.cert.specs.declared.verdict.Reason.TheVariants.{ObjectLength, NotObject, Empty, Packet, OtherIdentity, OtherFti, Range, Symbol, Thin}
@@ -70,3 +72,30 @@ IsNoLine reason line = GainsReason reason (codes "no ") line
 abbrev pub Prints : Verdict → Option (List ℕ) → Option (List ℕ) → Type 0
 Prints (Yes report) before after = Appends before after (report_text report)
 Prints (No reason) before after = (line : List ℕ) × IsNoLine reason line × Appends before after (line_of line)
+
+-- a packet's line, behind its datagram's place
+abbrev pub packet_text : ℕ → Sent → List ℕ
+packet_text place p =
+    decimal place ++ named (codes " tsi") (decimal p.tsi) ++ named (codes " toi") (decimal p.toi)
+    ++ named (codes " length") (decimal p.fti.transfer_length) ++ named (codes " symbol") (decimal p.fti.symbol_length)
+    ++ named (codes " block") (decimal p.fti.block_length) ++ named (codes " max") (decimal p.fti.max_symbols)
+    ++ named (codes " sbn") (decimal p.block) ++ named (codes " esi") (decimal p.esi)
+
+-- the line of a datagram, read so. Behind the place of one that is no packet its fault stands in its own words.
+abbrev pub IsReadingLine : ℕ → Reading → List ℕ → Type 0
+IsReadingLine place (Ok p) line = line ≡ packet_text place p
+IsReadingLine place (Err fault) line = (words : List ℕ) × (line ≡ decimal place ++ words)
+
+abbrev pub IsDatagramLine : ℕ → List ℕ → List ℕ → Type 0
+IsDatagramLine place datagram line = (reading : Reading) × Reads datagram reading × IsReadingLine place reading line
+
+-- the lines of the first n datagrams
+abbrev pub IsShownText : List (List ℕ) → ℕ → List ℕ → Type 0
+IsShownText datagrams zero text = text ≡ []
+IsShownText datagrams (suc n) text =
+    (front : List ℕ) × (line : List ℕ) × IsShownText datagrams n front × IsDatagramLine n (slice_index_or datagrams n []) line
+    × (text ≡ front ++ line_of line)
+
+-- what was printed of them, where it is told
+abbrev pub PrintsDatagrams : List (List ℕ) → ℕ → Option (List ℕ) → Option (List ℕ) → Type 0
+PrintsDatagrams datagrams n before after = (text : List ℕ) × IsShownText datagrams n text × Appends before after text

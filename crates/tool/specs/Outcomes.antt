@@ -13,7 +13,7 @@ use Rattle.tool.specs.declared.command.Request.{Request}
 use Rattle.tool.specs.declared.command.Request.TheVariants.{Check, Show, Encode, Certify, Drop}
 use Rattle.tool.specs.declared.fault.Fault.{Fault}
 use Rattle.tool.specs.Inputs.{Contents, HoldsSession, HoldsBytes, HoldsCertificate, IsSessionUnread, IsObjectUnread, IsCertificateUnread}
-use Rattle.tool.specs.Lines.{IsPrintFault, Prints}
+use Rattle.tool.specs.Lines.{IsPrintFault, Prints, PrintsDatagrams}
 use Rattle.tool.specs.Making.{IsEncoded, IsNotEncoded, IsCertified, IsNotCertified, IsDropped, IsNotDropped}
 
 abbrev pub status_of : Verdict → ℕ
@@ -54,11 +54,12 @@ IsShownStatus datagrams n status =
     ((status ≡ 0) × ((i : ℕ) → i < n → IsSomePacket (slice_index_or datagrams i [])))
     ⊎ ((status ≡ 1) × ((i : ℕ) × (i < n) × IsNoPacket (slice_index_or datagrams i [])))
 
--- The status of the session in this file.
-pub record IsShown (contents : Contents) (session : List ℕ) (status : ℕ) : Type 0 where
+-- The datagrams of the session in this file were printed; the status.
+pub record IsShown (contents : Contents) (session : List ℕ) (before after : Option (List ℕ)) (status : ℕ) : Type 0 where
   pub datagrams : List (List ℕ)
   pub sent : HoldsSession contents session datagrams
   pub told : IsShownStatus datagrams (length datagrams) status
+  pub printed : PrintsDatagrams datagrams (length datagrams) before after
 
 abbrev pub IsUnshown : Contents → List ℕ → Bool → Fault → Type 0
 IsUnshown contents session failed fault = IsSessionUnread contents session fault ⊎ IsPrintFault failed fault
@@ -66,7 +67,7 @@ IsUnshown contents session failed fault = IsSessionUnread contents session fault
 abbrev pub IsDone : Contents → Request → Option (List ℕ) → Option (List ℕ) → ℕ → Type 0
 IsDone contents (Check session object certificate) before after status =
     IsChecked contents session.now object.now certificate.now before after status
-IsDone contents (Show session) before after status = IsShown contents session.now status
+IsDone contents (Show session) before after status = IsShown contents session.now before after status
 IsDone contents (Encode object output sending) before after status = IsEncoded contents object.now sending before after status
 IsDone contents (Certify object output sizes) before after status = IsCertified contents object.now sizes before after status
 IsDone contents (Drop session output places) before after status = IsDropped contents session.now places.items before after status

@@ -1,7 +1,8 @@
 //! The command `show`.
-ghost use Rattle.std.specs.Prelude.{◌≡◌, ◌≤◌, length, IfOk, IfErr};
+ghost use Rattle.std.specs.Prelude.{◌≡◌, ◌≤◌, length, Err, IfOk, IfErr, OnOk};
+ghost use Rattle.alc.specs.Views.{packet_of};
 ghost use Rattle.tool.specs.Outcomes.{IsShown, IsShownStatus, IsUnshown};
-ghost use Rattle.tool.specs.Lines.{IsPrintFault};
+ghost use Rattle.tool.specs.Lines.{packet_text, IsReadingLine, PrintsDatagrams, IsPrintFault};
 
 use crate::fault::Fault;
 use crate::folder::Folder;
@@ -18,7 +19,7 @@ pub fn show<'a, F: Folder, W: Write>(
     out: &mut W,
     session: &'a str,
 ) -> Result<u8, Fault<'a>>
-    ensures ok { IfOk result (IsShown (F.content folder.old) session.now) }
+    ensures ok { IfOk result (IsShown (F.content folder.old) session.now (W.contents out.old) (W.contents out.new)) }
     ensures fault { IfErr result (IsUnshown (F.content folder.old) session.now (W.failed out.new)) }
     ensures status { IfOk result (λ status. status ≤ 1) }
     ensures stays { F.content folder.new ≡ F.content folder.old }
@@ -33,6 +34,7 @@ fn print_datagrams<'a, W: Write>(
     session: &Session,
 ) -> Result<u8, Fault<'a>>
     ensures ok { IfOk result (IsShownStatus session.now (length session.now)) }
+    ensures printed { OnOk result (PrintsDatagrams session.now (length session.now) (W.contents out.old) (W.contents out.new)) }
     ensures fault { IfErr result (IsPrintFault (W.failed out.new)) }
     ensures status { IfOk result (λ status. status ≤ 1) }
 {
@@ -49,7 +51,9 @@ fn print_datagrams<'a, W: Write>(
     Ok(status)
 }
 
-fn packet_line(alloc: Global, place: usize, packet: &Packet<'_>) -> Result<Line, AllocError> {
+fn packet_line(alloc: Global, place: usize, packet: &Packet<'_>) -> Result<Line, AllocError>
+    ensures { IfOk result (λ line. line ≡ packet_text place (packet_of packet.now)) }
+{
     let mut line = Line::new(alloc);
     line.number(place)?;
     line.named(" tsi", packet.tsi)?;
@@ -63,7 +67,9 @@ fn packet_line(alloc: Global, place: usize, packet: &Packet<'_>) -> Result<Line,
     Ok(line)
 }
 
-fn fault_line(alloc: Global, place: usize, fault: PacketFault) -> Result<Line, AllocError> {
+fn fault_line(alloc: Global, place: usize, fault: PacketFault) -> Result<Line, AllocError>
+    ensures { IfOk result (IsReadingLine place (Err fault)) }
+{
     let mut line = Line::new(alloc);
     line.number(place)?;
     let text = format!(in alloc; " {fault}")?;
