@@ -10,6 +10,8 @@ mod line_tests;
 #[cfg(test)]
 mod loss_tests;
 #[cfg(test)]
+mod making_tests;
+#[cfg(test)]
 mod sessions;
 #[cfg(test)]
 mod show_tests;
