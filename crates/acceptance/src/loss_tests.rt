@@ -262,14 +262,14 @@ fn try_sessions(
 
 #[test]
 fn every_loss_of_one_block(rt: HostRuntime) -> Result<(), Fail> {
-    let yes = try_sessions(&rt, rt.alloc(), &ONE_BLOCK, 7)?;
+    let yes = try_sessions(&rt, rt.alloc(), &ONE_BLOCK, 10)?;
     assert!(rt; yes > 1000);
     Ok(())
 }
 
 #[test]
 fn every_loss_of_two_blocks(rt: HostRuntime) -> Result<(), Fail> {
-    let yes = try_sessions(&rt, rt.alloc(), &TWO_BLOCKS, 6)?;
+    let yes = try_sessions(&rt, rt.alloc(), &TWO_BLOCKS, 8)?;
     assert!(rt; yes > 1000);
     Ok(())
 }

@@ -23,8 +23,8 @@ module _ (f : Fti) (some : 0 < f.symbol_length) (b : ℕ) where
       elim (is_first_of f b 0 x) as (λ v. is_first_of f b 0 x ≡ v → v ≡ false) [
         | false ↦ λ e. refl
         | true ↦ λ e.
-            (let w = both _ _ e in
-            let u = both _ _ w.1 in
+            (let w : ((x % f.symbol_length == 0) ≡ true) × ((nat_le (start_of f b) (x / f.symbol_length) && nat_lt (x / f.symbol_length) (start_of f b + 0)) ≡ true) = both _ _ e in
+            let u : (nat_le (start_of f b) (x / f.symbol_length) ≡ true) × (nat_lt (x / f.symbol_length) (start_of f b + 0) ≡ true) = both _ _ w.1 in
             let low : start_of f b ≤ x / f.symbol_length = leb-true _ _ u.0 in
             let high : x / f.symbol_length < start_of f b + 0 = ltb-true _ _ u.1 in
             absurd (omega (arith, low, high)))

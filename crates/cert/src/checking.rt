@@ -134,6 +134,7 @@ pub fn check(
     ensures decodes { IfOk result (λ v. OnYes v (λ _. DecodesWhereEnough certificate.now.fti session.now object.now)) }
     // At yes, each other selection leaves another object that agrees with all of it, and a decoder says what lacks.
     ensures undecided { IfOk result (λ v. OnYes v (λ _. UndecidedElse certificate.now.fti session.now object.now)) }
+    // At yes, what each block needs and has, and of all losses of datagrams the margin, the kill and the burst.
     ensures report { IfOk result (λ v. OnYes v (IsReport session.now certificate.now.fti)) }
 {
     judge(alloc, session, object, certificate)
