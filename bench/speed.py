@@ -10,6 +10,8 @@ SIZE = 16 << 20
 ROOT = os.path.dirname(os.path.dirname(os.path.abspath(__file__)))
 SIZES = ["--symbol", "1024", "--block", "128", "--max", "160"]
 
+# Builds the program, where it isn't yet.
+subprocess.run([os.path.join(ROOT, "alcrs"), "--help"], check=True, stdout=subprocess.DEVNULL)
 with tempfile.TemporaryDirectory() as folder:
     path = {name: os.path.join(folder, name) for name in ("object", "session", "certificate")}
     with open(path["object"], "wb") as file:

@@ -1,6 +1,6 @@
 -- The places of coefficients: block after block, in a block column after column, in a column as many as the block has
 -- source symbols.
-use Rattle.std.proofs.Common.{◌≡◌, ◌≢◌, ℕ, suc, ◌+◌, ◌-◌, ◌*◌, ◌<◌, ◌≤◌, List, length, get_or, take, drop, set, arith, ap, ◌∙◌, sym, refl, inl, inr, length-take-le, length-take, length-drop, get_or-take}
+use Rattle.std.proofs.Common.{◌≡◌, ℕ, suc, ◌+◌, ◌*◌, ◌<◌, ◌≤◌, List, length, get_or, take, drop, arith, ap, ◌∙◌, sym, inl, inr, length-take-le, length-take, length-drop, get_or-take}
 use Rattle.std.proofs.lemmas.Bool.{cases_lt, cases_eq}
 use Rattle.std.proofs.lemmas.List.{ext_get_or, get_or-drop}
 use Rattle.std.proofs.Math.Nat.{mul-le-mul_right}
@@ -11,7 +11,7 @@ use Rattle.partition.proofs.Laws.{start_step, rising_to}
 use Rattle.elim.specs.Grid.{Grid, entry, row_product}
 use Rattle.elim.specs.Matrices.{row_times}
 use Rattle.elim.proofs.RowProducts.{length-row_product}
-use Rattle.cert.specs.Certificate.{Certificate, coefficient_count, polynomial, certified_byte}
+use Rattle.cert.specs.Certificate.{coefficient_count, polynomial}
 use Rattle.cert.specs.Verdict.{GivesAt}
 use Rattle.cert.proofs.Polynomials.{polynomial_end}
 use Rattle.coder.specs.BlockMatrices.{IsInterpolatorOf}

@@ -3,7 +3,6 @@ use Rattle.std.proofs.Common.{◌≡◌, ℕ, suc, ◌+◌, ◌-◌, ◌<◌, �
 use Rattle.std.proofs.lemmas.Bool.{cases_lt}
 use Rattle.std.proofs.lemmas.List.{get_or_append_left, get_or-append_right, get_or-drop, get_or_past}
 use Rattle.std.proofs.lemmas.Simd.{get_or-zip2, length-zip2}
-use Rattle.std.specs.Simd.Lanes.{zip2}
 use Rattle.std.specs.Int.Bits.{xor_zero_r}
 use Rattle.gf256.specs.Arithmetic.{sum_of, product}
 use Rattle.gf256.specs.ProductLaws.{product_comm, product_zero}

@@ -1,6 +1,6 @@
 -- The datagrams that are sent of an object are packets, as its certificate says, and leave no block short.
-use Rattle.std.proofs.Common.{◌≡◌, ◌≢◌, ℕ, zero, suc, ◌+◌, ◌-◌, ◌^◌, ◌<◌, ◌≤◌, Bool, true, false, ◌&&◌, ◌||◌, ◌==◌, List, [], ◌∷◌, ◌++◌, length, get_or, map, Some, None, Ok, Err, arith, refl, ap, sym, subst, ◌∙◌, inl, inr, leb-true}
-use Rattle.std.specs.Prelude.{flat_map, filter, nat_le, nat_lt}
+use Rattle.std.proofs.Common.{◌≡◌, ◌≢◌, ℕ, ◌+◌, ◌^◌, ◌<◌, Bool, true, false, ◌&&◌, ◌||◌, ◌==◌, List, [], ◌∷◌, ◌++◌, get_or, map, Some, Ok, Err, arith, refl, ap, sym, subst, ◌∙◌, inl, inr}
+use Rattle.std.specs.Prelude.{flat_map, nat_le, nat_lt}
 use Rattle.std.specs.List.{list_any, AllByRecursion}
 use Rattle.std.proofs.lemmas.Bool.{cases_lt, eq-eqb, lt-ltb, leb-false}
 use Rattle.std.proofs.lemmas.List.{get_or_past}
@@ -18,8 +18,8 @@ use Rattle.alc.specs.Packet.{Packet, IsPacket, written}
 use Rattle.alc.specs.Written.{packet_from}
 use Rattle.alc.specs.Reading.{Reading}
 use Rattle.alc.proofs.Writes.{written_packet}
-use Rattle.cert.specs.Symbols.{Symbol, is_of, is_held, held_count, is_full, IsObject, Agrees}
-use Rattle.cert.specs.Readings.{ReadAll, placed_from, counted, first_packet, symbols, symbol_of, in_range, Suffices}
+use Rattle.cert.specs.Symbols.{is_held, held_count, is_full, IsObject, Agrees}
+use Rattle.cert.specs.Readings.{ReadAll, placed_from, counted, first_packet, symbols, Suffices}
 use Rattle.cert.specs.Certificate.{Certificate, IsCertificate, polynomial, certified_byte}
 use Rattle.cert.specs.Verdict.{GivesObject, IsCertifiedReading}
 use Rattle.cert.proofs.Full.{same_source}
@@ -27,7 +27,7 @@ use Rattle.cert.proofs.Polynomials.{forms}
 use Rattle.cert.proofs.Promise.{IsSound, IsSoundReading}
 use Rattle.coder.specs.declared.sending.Order.{Order}
 use Rattle.coder.specs.declared.sending.Order.TheVariants.{Blocks, Rounds}
-use Rattle.coder.specs.Sending.{pairs_of_block, pair_with, pairs_of_round, pairs, IsSent, AreSent, IsSessionOf}
+use Rattle.coder.specs.Sending.{pairs_of_block, pair_with, pairs_of_round, pairs, AreSent, IsSessionOf}
 use Rattle.coder.specs.Certified.{Certifies, CertifiesSent}
 use Rattle.coder.proofs.Sent.{map_next, map_later, flat_next, flat_later, with_pair}
 

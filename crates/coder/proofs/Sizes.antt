@@ -1,6 +1,6 @@
 -- The sizes that source blocks have: the first block's and the last block's.
-use Rattle.std.proofs.Common.{◌≡◌, ◌≢◌, ℕ, ◌+◌, ◌-◌, ◌<◌, ◌≤◌, ◌*◌, ◌/◌, ◌⊎◌, ◌==◌, true, false, arith, ap, ◌∙◌, sym, subst, inl, inr, refl, Option, Some, None}
-use Rattle.std.specs.Prelude.{if◌then◌else◌, IfSome}
+use Rattle.std.proofs.Common.{◌≡◌, ◌≢◌, ℕ, ◌-◌, ◌<◌, ◌≤◌, ◌*◌, ◌/◌, ◌⊎◌, ◌==◌, true, false, arith, ap, ◌∙◌, sym, subst, inl, inr, refl, Option, Some, None}
+use Rattle.std.specs.Prelude.{IfSome}
 use Rattle.std.proofs.lemmas.Bool.{cases_lt, eq-eqb, ne_eqb}
 use Rattle.partition.specs.Fti.{Fti, IsValidFti, block_count, source_count, encoding_count, large_blocks}
 use Rattle.partition.proofs.Laws.{shares, large_count, other_count}

@@ -1,5 +1,5 @@
 -- A row times the inverse of V of the first points is the coefficients of the polynomial through it.
-use Rattle.std.proofs.Common.{◌≡◌, ℕ, zero, suc, ◌<◌, List, [], ◌∷◌, length, get_or, arith, ap, ◌∙◌, sym, refl}
+use Rattle.std.proofs.Common.{◌≡◌, ℕ, zero, suc, ◌<◌, List, length, get_or, arith, ap, ◌∙◌, sym, refl}
 use Rattle.std.proofs.lemmas.List.{ext_get_or}
 use Rattle.gf256.specs.Arithmetic.{IsByte, AreBytes, sum_of, product, point}
 use Rattle.gf256.specs.ByteField.{byte_field, point_byte}
@@ -56,7 +56,7 @@ module _ (k : ℕ) (points : List ℕ) (first : ArePoints k points) (square inve
       ∙ sym (dot_same IsByte sum_of product 0 1 byte_field (row source) (λ m. entry 0 square m i) (power_over product 1 (point i)) k power)
       ∙ row_times_twice IsByte sum_of product 0 1 byte_field s (entry 0 inverse) (entry 0 square) k k i bytes ei es
       ∙ dot_same IsByte sum_of product 0 1 byte_field s (λ a. row_times sum_of product 0 (entry 0 inverse a) (entry 0 square) k i) (identity_entry 0 1 i) k
-        (λ a la. both.left a i la li ∙ unit_swapped IsByte sum_of product 0 1 byte_field a i)
+      (λ a la. both.left a i la li ∙ unit_swapped IsByte sum_of product 0 1 byte_field a i)
       ∙ dot_picks IsByte sum_of product 0 1 byte_field s k i bytes li
 
 -- the inverse of V of the first k points interpolates

@@ -1,4 +1,4 @@
-use Rattle.std.proofs.Common.{◌≡◌, ◌<◌, ◌∙◌, ℕ, List, ap, sym, inl, inr, subst, arith}
+use Rattle.std.proofs.Common.{◌<◌, ◌∙◌, ℕ, List, ap, sym, inl, inr, subst, arith}
 use Rattle.std.proofs.lemmas.Bool.{cases_eq}
 use Rattle.gf256.specs.Arithmetic.{point}
 use Rattle.poly.specs.Polynomial.{value}

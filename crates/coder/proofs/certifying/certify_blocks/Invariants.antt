@@ -1,6 +1,5 @@
 use Rattle.std.proofs.Common.{◌≡◌, ◌<◌, ℕ, length}
 use Rattle.partition.specs.Fti.{source_count}
-use Rattle.cert.specs.Certificate.{coefficient_count}
 use Rattle.cert.specs.Verdict.{GivesAt}
 use Rattle.coder.proofs.certifying.certify_blocks.Given as goal
 

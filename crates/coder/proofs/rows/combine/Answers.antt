@@ -1,4 +1,3 @@
-use Rattle.gf256.specs.Arithmetic.{sum_of, product}
 use Rattle.partition.specs.Fti.{source_byte}
 use Rattle.elim.specs.Grid.{entry}
 use Rattle.std.proofs.Common.{◌∙◌, ℕ}

@@ -1,5 +1,5 @@
-use Rattle.std.proofs.Common.{◌∙◌, ◌<◌, ◌≤◌, ℕ, arith}
-use Rattle.partition.specs.Fti.{source_count, encoding_count}
+use Rattle.std.proofs.Common.{◌∙◌, ◌<◌}
+use Rattle.partition.specs.Fti.{source_count}
 use Rattle.coder.proofs.Columns.{made_agrees, source_agrees, bytes_fit}
 use Rattle.coder.proofs.rows.encoding_symbol.Goals as goal
 

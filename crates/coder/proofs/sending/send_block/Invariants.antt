@@ -1,7 +1,6 @@
-use Rattle.std.proofs.Common.{◌≡◌, ◌≤◌, ◌+◌, ◌*◌, ◌^◌, ℕ, length, map}
-use Rattle.std.specs.Prelude.{flat_map}
+use Rattle.std.proofs.Common.{◌≡◌, ◌+◌, length, map}
 use Rattle.losses.specs.Numbers.{below}
-use Rattle.coder.specs.Sending.{Sends, pairs_of_block, pair_with, pairs_of_round}
+use Rattle.coder.specs.Sending.{Sends}
 use Rattle.coder.proofs.sending.send_block.Given as goal
 
 abbrev pub invariant-loop-esi : goal.invariant-loop-esi

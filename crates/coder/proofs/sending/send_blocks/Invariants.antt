@@ -1,7 +1,7 @@
-use Rattle.std.proofs.Common.{◌≡◌, ◌≤◌, ◌+◌, ◌*◌, ◌^◌, ℕ, length, map}
+use Rattle.std.proofs.Common.{◌≡◌, ◌≤◌, ◌+◌, ◌*◌, length}
 use Rattle.std.specs.Prelude.{flat_map}
 use Rattle.losses.specs.Numbers.{below}
-use Rattle.coder.specs.Sending.{Sends, pairs_of_block, pair_with, pairs_of_round}
+use Rattle.coder.specs.Sending.{Sends, pairs_of_block}
 use Rattle.coder.proofs.sending.send_blocks.Given as goal
 
 abbrev pub invariant-loop-block : goal.invariant-loop-block

@@ -1,4 +1,4 @@
-use Rattle.std.proofs.Common.{◌≡◌, ◌∙◌, ◌<◌, ◌≤◌, ◌+◌, ◌*◌, ℕ, length, ap, arith, refl}
+use Rattle.std.proofs.Common.{◌<◌, ◌≤◌, length, ap, arith, refl}
 use Rattle.losses.specs.Numbers.{below}
 use Rattle.partition.specs.Fti.{encoding_count}
 use Rattle.coder.specs.Sending.{pair_with}

@@ -1,4 +1,4 @@
-use Rattle.std.proofs.Common.{◌≡◌, ◌∙◌, ◌<◌, ◌+◌, ◌*◌, ℕ, sym, arith, refl}
+use Rattle.std.proofs.Common.{arith, refl}
 use Rattle.losses.specs.Numbers.{below}
 use Rattle.coder.specs.Sending.{pairs_of_round}
 use Rattle.coder.proofs.Sent.{nothing_sent, flat_sends, flat_some, if_err, length_next}

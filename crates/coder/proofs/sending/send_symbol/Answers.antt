@@ -1,4 +1,4 @@
-use Rattle.std.proofs.Common.{◌≡◌, ◌∙◌, ◌≤◌, ℕ, length, subst, arith}
+use Rattle.std.proofs.Common.{◌≤◌, ℕ, length, subst, arith}
 use Rattle.alc.specs.Packet.{written}
 use Rattle.cert.specs.Symbols.{Agrees}
 use Rattle.alc.specs.Written.{packet_from}

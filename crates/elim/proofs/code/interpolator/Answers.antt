@@ -1,4 +1,4 @@
-use Rattle.std.proofs.Common.{◌≤◌, ◌∙◌, arith}
+use Rattle.std.proofs.Common.{◌∙◌}
 use Rattle.poly.proofs.Lists.{all_by_place}
 use Rattle.gf256.specs.Arithmetic.{IsByte}
 use Rattle.elim.specs.Generator.{ArePoints}

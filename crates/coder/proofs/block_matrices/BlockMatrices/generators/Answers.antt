@@ -1,6 +1,5 @@
-use Rattle.std.proofs.Common.{◌≡◌, ◌∙◌, ◌-◌, ◌≢◌, ℕ, ap, sym, subst, arith}
-use Rattle.partition.specs.Fti.{block_count, source_count, encoding_count}
-use Rattle.elim.specs.Generator.{Encodes}
+use Rattle.std.proofs.Common.{◌∙◌, ◌-◌, ℕ, ap, sym}
+use Rattle.partition.specs.Fti.{source_count}
 use Rattle.coder.specs.BlockMatrices.{IsCodeOf}
 use Rattle.coder.proofs.Sizes.{one_size, both_sizes, code_of}
 use Rattle.coder.proofs.block_matrices.BlockMatrices.generators.Goals as goal

@@ -1,4 +1,4 @@
-use Rattle.std.proofs.Common.{◌≡◌, ◌∙◌, ◌-◌, ◌≢◌, ℕ, ap, sym, arith}
+use Rattle.std.proofs.Common.{◌∙◌, ◌-◌, ℕ, ap, sym}
 use Rattle.partition.specs.Fti.{source_count}
 use Rattle.coder.specs.BlockMatrices.{IsInterpolatorOf}
 use Rattle.coder.proofs.Sizes.{one_size, both_sizes, interpolator_of}
