@@ -224,6 +224,21 @@ fn nothing_sent(rt: HostRuntime) -> Result<(), Fail> {
     Ok(())
 }
 
+// All 255 encoding symbols are source symbols.
+#[test]
+fn the_greatest_block(rt: HostRuntime) -> Result<(), Fail> {
+    let object = [0u8; 255];
+    let fti = Fti::new(255, 1, 255, 255)?;
+    assert!(rt; is_certified(rt.alloc(), object.as_slice(), &fti, 255)?);
+    let certificate = certify(rt.alloc(), object.as_slice(), &fti)?;
+    let sink = text(rt.alloc(), &certificate)?;
+    assert_eq!(rt; sink.bytes().len(), 14 + 255);
+    for i in 14..sink.bytes().len() {
+        assert_eq!(rt; sink.bytes()[i], 0);
+    }
+    Ok(())
+}
+
 // A writer that fails after 50 bytes has the beginning.
 #[test]
 fn beginning_sent(rt: HostRuntime) -> Result<(), Fail> {
