@@ -13,3 +13,5 @@ mod loss_tests;
 mod sessions;
 #[cfg(test)]
 mod show_tests;
+#[cfg(test)]
+mod twin_tests;
