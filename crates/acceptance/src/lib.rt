@@ -15,3 +15,5 @@ mod making_tests;
 mod sessions;
 #[cfg(test)]
 mod show_tests;
+#[cfg(test)]
+mod twin_tests;

@@ -16,3 +16,4 @@ pub mod Losing
 pub mod Adding
 pub mod TwinObject
 pub mod Few
+pub mod Short

@@ -43,7 +43,7 @@ first_short f came (suc n) =
     ]
 
 -- each that came is held
-held_self : (came : List Symbol) → AllByRecursion (λ s. is_held came s.block s.esi ≡ true) came
+pub held_self : (came : List Symbol) → AllByRecursion (λ s. is_held came s.block s.esi ≡ true) came
 held_self [] = tt
 held_self (s ∷ ss) = (
   (let a : (s.block == s.block) ≡ true = eq-eqb _ _ refl in

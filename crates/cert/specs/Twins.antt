@@ -1,11 +1,17 @@
 -- Another object that agrees with all that came, where a block is short.
-use Rattle.std.specs.Prelude.{◌≡◌, ◌≢◌, ◌+◌, ◌/◌, ◌%◌, ◌<◌, ◌==◌, ◌&&◌, ◌↔◌, Bool, true, nat_le, nat_lt, ℕ, List, map, filter}
+use Rattle.std.specs.Prelude.{◌≡◌, ◌≢◌, ◌+◌, ◌/◌, ◌%◌, ◌<◌, ◌==◌, ◌&&◌, ◌↔◌, Bool, true, if◌then◌else◌, nat_le, nat_lt, ℕ, List, [], ◌∷◌, map, filter, flat_map, Ok, Err}
 use Rattle.gf256.specs.Arithmetic.{sum_of, product, point}
 use Rattle.poly.specs.Polynomial.{root_product_over}
 use Rattle.session.specs.Selection.{is_among}
 use Rattle.losses.specs.Numbers.{below}
 use Rattle.partition.specs.Fti.{Fti, source_count, block_count, start_of, source_byte}
-use Rattle.cert.specs.Symbols.{Symbol, Agrees, IsObject}
+use Rattle.alc.specs.Reading.{Reading}
+use Rattle.cert.specs.declared.verdict.Verdict.TheVariants.{No}
+use Rattle.cert.specs.declared.verdict.Reason.TheVariants.{Thin}
+use Rattle.cert.specs.Symbols.{Symbol, Agrees, AreTwins, IsObject}
+use Rattle.cert.specs.Certificate.{Certificate}
+use Rattle.cert.specs.Readings.{ReadAll, counted, symbols}
+use Rattle.cert.specs.Verdict.{IsVerdict}
 
 -- the different ESIs among these, rising
 abbrev pub different_esis : List ℕ → List ℕ
@@ -30,3 +36,22 @@ pub record IsTwin (f : Fti) (b : ℕ) (held object other : List ℕ) : Type 0 wh
   pub unchanged : (d i c : ℕ) → d < block_count f → i < source_count f d → c < f.symbol_length → ((d ≡ b) × (c ≡ 0) → ⊥)
       → source_byte f other d i c ≡ source_byte f object d i c
   pub alike : (s : Symbol) → (s.block ≡ b → is_among held s.esi ≡ true) → Agrees f object s ↔ Agrees f other s
+
+-- the verdict is that this block is the least that has too few symbols
+abbrev pub IsThinIn : List (List ℕ) → List ℕ → Certificate → ℕ → Type 0
+IsThinIn datagrams object z b = (have : ℕ) × (need : ℕ) × IsVerdict datagrams object z (No (Thin b have need))
+
+abbrev pub esi_in : ℕ → Reading → List ℕ
+esi_in b (Ok p) = if p.block == b then p.esi ∷ [] else []
+esi_in b (Err r) = []
+
+-- the ESIs of this block that came, repeats and all
+abbrev pub esis_of : ℕ → List Reading → List ℕ
+esis_of b rs = flat_map (esi_in b) rs
+
+-- the other object is a twin made for the ESIs of this block that came, and agrees with all that came, as the object does
+pub record IsTwinOfSession (f : Fti) (b : ℕ) (datagrams : List (List ℕ)) (object other : List ℕ) : Type 0 where
+  pub readings : List Reading
+  pub read : ReadAll datagrams readings
+  pub made : IsTwin f b (esis_of b readings) object other
+  pub twins : AreTwins f (symbols (counted readings)) object other

@@ -10,7 +10,7 @@ mod verdict;
 
 pub use certificate::{CertFault, Certificate, one_certificate};
 pub use checking::check;
-pub use twins::twin;
+pub use twins::{session_twin, twin};
 pub use verdict::{Reason, Report, Verdict};
 
 #[cfg(test)]

@@ -3,12 +3,16 @@ ghost use Rattle.std.specs.Prelude.{◌≡◌, ◌<◌, ◌-◌, ◌/◌, ℕ, c
 ghost use Rattle.gf256.specs.Arithmetic.{sum_of, point as point_of};
 ghost use Rattle.poly.specs.Polynomial.{value};
 ghost use Rattle.partition.specs.Fti.{IsValidFti, block_count, source_count, start_of};
-ghost use Rattle.cert.specs.Twins.{different_esis, is_first_of, IsTwin};
+ghost use Rattle.cert.specs.Scan.{readings_of};
+ghost use Rattle.cert.specs.Twins.{different_esis, is_first_of, esis_of, IsTwin, IsThinIn, IsTwinOfSession};
+ghost use Rattle.session.specs.Frames.{AreDatagrams};
 
-use crate::certificate::are_bytes;
+use crate::certificate::{Certificate, are_bytes};
+use alc::read;
 use gf256::{Field, Gf, point};
 use partition::Fti;
 use poly::Poly;
+use session::Session;
 use std::alloc::{AllocError, Global};
 
 // The points of the different ESIs among these, rising.
@@ -63,4 +67,39 @@ pub fn twin(
     let mut other = object.to_vec(alloc)?;
     add_values(other.as_mut_slice(), fti, block, &polynomial);
     Ok(other)
+}
+
+// The ESIs of a block's symbols in the session, as they came.
+fn esis_held(alloc: Global, session: &Session, block: u32) -> Result<Vec<u8>, AllocError>
+    ensures esis { IfOk result (λ v. v.items ≡ esis_of block (readings_of session.now)) }
+    ensures datagrams { AreDatagrams session.now }
+{
+    let mut held = Vec::new(alloc);
+    for place in 0..session.len() {
+        match read(session.get(place)) {
+            Ok(packet) => {
+                if packet.sbn == block {
+                    held.push(packet.esi)?;
+                }
+            }
+            Err(_) => {}
+        }
+    }
+    Ok(held)
+}
+
+/// A twin of the object where the check of the three finds this block short: another object of the certificate's FTI that
+/// agrees with all that the session holds.
+pub fn session_twin(
+    alloc: Global,
+    session: &Session,
+    object: &[u8],
+    certificate: &Certificate,
+    block: u32,
+) -> Result<Vec<u8>, AllocError>
+    requires { IsThinIn session.now object.now certificate.now block }
+    ensures { IfOk result (λ other. IsTwinOfSession certificate.now.fti block session.now object.now other.items) }
+{
+    let held = esis_held(alloc, session, block)?;
+    twin(alloc, object, &certificate.fti(), block, held.as_slice())
 }

@@ -2,3 +2,4 @@ pub mod Blocks
 pub mod Found
 pub mod Gains
 pub mod Shown
+pub mod Twinned

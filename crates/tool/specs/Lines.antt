@@ -73,6 +73,17 @@ abbrev pub Prints : Verdict → Option (List ℕ) → Option (List ℕ) → Type
 Prints (Yes report) before after = Appends before after (report_text report)
 Prints (No reason) before after = (line : List ℕ) × IsNoLine reason line × Appends before after (line_of line)
 
+-- the line of a twin, by its block and how many symbols of it the session has and the block needs
+abbrev pub twin_line : ℕ → ℕ → ℕ → List ℕ
+twin_line block have need =
+    named (codes "twin block") (decimal block) ++ named (codes " have") (decimal have) ++ named (codes " need") (decimal need)
+
+-- what was printed where a twin was asked for and this is the verdict
+abbrev pub PrintsTwin : Verdict → Option (List ℕ) → Option (List ℕ) → Type 0
+PrintsTwin (Yes report) before after = Appends before after (line_of (codes "no twin"))
+PrintsTwin (No (Thin block have need)) before after = Appends before after (line_of (twin_line block have need))
+PrintsTwin (No reason) before after = Prints (No reason) before after
+
 -- a packet's line, behind its datagram's place
 abbrev pub packet_text : ℕ → Sent → List ℕ
 packet_text place p =

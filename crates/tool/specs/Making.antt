@@ -1,10 +1,9 @@
 -- What the commands that write a file do, by what their input files hold.
-use Rattle.std.specs.Prelude.{◌≡◌, ◌≤◌, ◌⊎◌, ℕ, Bool, true, List, ◌++◌, Option, None, Some, length, codes, decimal, ⊤}
+use Rattle.std.specs.Prelude.{◌≡◌, ◌⊎◌, ℕ, Bool, List, ◌++◌, Option, None, Some, length, codes, decimal, ⊤}
 use Rattle.std.specs.Io.KnownBytes.{Appends}
-use Rattle.partition.specs.Fti.{Fti, IsValidFti, fti_from, block_count}
+use Rattle.partition.specs.Fti.{Fti, fti_from, block_count}
 use Rattle.partition.specs.FtiFault.{fti_fault}
 use Rattle.session.specs.Selection.{rest, is_among, first_outside}
-use Rattle.session.specs.declared.frame.FrameFault.{FrameFault}
 use Rattle.session.specs.declared.frame.FrameFault.TheVariants.{Io as FrameIo, NoSuchPlace, NoMemory as NoFrameMemory}
 use Rattle.cert.specs.declared.certificate.CertFault.TheVariants.{Io as CertificateIo}
 use Rattle.coder.specs.Sending.{pairs, CanBeSent}
@@ -12,7 +11,7 @@ use Rattle.coder.specs.declared.sending.SendFault.TheVariants.{SymbolTooLong, Io
 use Rattle.tool.specs.declared.sizes.Sizes.{Sizes}
 use Rattle.tool.specs.declared.encode.Sending.{Sending}
 use Rattle.tool.specs.declared.fault.Fault.{Fault}
-use Rattle.tool.specs.declared.fault.Fault.TheVariants.{Open, Memory, Fti as WrongFti, Send, Frame, Certificate as CertificateFault}
+use Rattle.tool.specs.declared.fault.Fault.TheVariants.{Open, File, Memory, Fti as WrongFti, Send, Frame, Certificate as CertificateFault}
 use Rattle.tool.specs.Inputs.{Contents, HoldsBytes, HoldsSession, IsObjectUnread, IsSessionUnread}
 use Rattle.tool.specs.Lines.{line_of, named, IsPrintFault}
 
@@ -52,6 +51,12 @@ abbrev pub IsOutputFault : List ℕ → Fault → Type 0
 IsOutputFault output (Open name) = name.now ≡ output
 IsOutputFault output Memory = ⊤
 IsOutputFault output _ = ⊥
+
+-- the output doesn't open, or it can't be written
+abbrev pub IsFileFault : List ℕ → Fault → Type 0
+IsFileFault output (Open name) = name.now ≡ output
+IsFileFault output (File name) = name.now ≡ output
+IsFileFault output _ = ⊥
 
 -- an object of these bytes has no FTI of these sizes
 abbrev pub IsUnsized : Contents → List ℕ → Sizes → Fault → Type 0

@@ -1,20 +1,23 @@
 -- What a command does, by what its files hold.
-use Rattle.std.specs.Prelude.{◌≡◌, ◌<◌, ◌⊎◌, ℕ, Bool, List, [], Option, length, slice_index_or}
+use Rattle.std.specs.Prelude.{◌≡◌, ◌<◌, ◌⊎◌, ℕ, Bool, List, [], Option, Some, None, length, slice_index_or, ⊤}
 use Rattle.alc.specs.Packet.{Packet, IsPacket}
 use Rattle.alc.specs.PacketFault.{IsPacketFault}
 use Rattle.alc.specs.declared.fault.PacketFault.{PacketFault}
 use Rattle.cert.specs.Certificate.{Certificate}
 use Rattle.cert.specs.Headline.{DecodesWhereEnough, UndecidedElse}
 use Rattle.cert.specs.Report.{IsReport, OnYes}
+use Rattle.cert.specs.Twins.{IsTwinOfSession}
 use Rattle.cert.specs.Verdict.{IsVerdict}
+use Rattle.cert.specs.declared.verdict.Reason.{Reason}
+use Rattle.cert.specs.declared.verdict.Reason.TheVariants.{Thin}
 use Rattle.cert.specs.declared.verdict.Verdict.{Verdict}
 use Rattle.cert.specs.declared.verdict.Verdict.TheVariants.{Yes, No}
 use Rattle.tool.specs.declared.command.Request.{Request}
-use Rattle.tool.specs.declared.command.Request.TheVariants.{Check, Show, Encode, Certify, Drop}
+use Rattle.tool.specs.declared.command.Request.TheVariants.{Check, Twin, Show, Encode, Certify, Drop}
 use Rattle.tool.specs.declared.fault.Fault.{Fault}
 use Rattle.tool.specs.Inputs.{Contents, HoldsSession, HoldsBytes, HoldsCertificate, IsSessionUnread, IsObjectUnread, IsCertificateUnread}
-use Rattle.tool.specs.Lines.{IsPrintFault, Prints, PrintsDatagrams}
-use Rattle.tool.specs.Making.{IsEncoded, IsNotEncoded, IsCertified, IsNotCertified, IsDropped, IsNotDropped}
+use Rattle.tool.specs.Lines.{IsPrintFault, Prints, PrintsTwin, PrintsDatagrams}
+use Rattle.tool.specs.Making.{IsEncoded, IsNotEncoded, IsCertified, IsNotCertified, IsDropped, IsNotDropped, IsFileFault}
 
 abbrev pub status_of : Verdict → ℕ
 status_of (Yes report) = 0
@@ -42,6 +45,42 @@ IsUnchecked contents session object certificate failed fault =
     IsSessionUnread contents session fault ⊎ IsObjectUnread contents object fault
     ⊎ IsCertificateUnread contents certificate fault ⊎ IsPrintFault failed fault
 
+-- the block that is short, how many symbols it has and how many it needs, where that is the reason
+abbrev pub short_of : Reason → Option (ℕ × ℕ × ℕ)
+short_of (Thin block have need) = Some (block, have, need)
+short_of _ = None
+
+-- 0 where there is a twin to be written
+abbrev pub twin_status_of : Verdict → ℕ
+twin_status_of (Yes report) = 1
+twin_status_of (No (Thin block have need)) = 0
+twin_status_of (No reason) = 1
+
+-- what is said of the block that a verdict finds short
+abbrev pub OnThin : Verdict → (ℕ → Type 0) → Type 0
+OnThin (Yes report) P = ⊤
+OnThin (No (Thin block have need)) P = P block
+OnThin (No reason) P = ⊤
+
+-- What was printed where a twin was asked for; its status; and that there is a twin where one is told.
+pub record IsTwinned (contents : Contents) (session object certificate : List ℕ) (before after : Option (List ℕ)) (status : ℕ) : Type 0 where
+  pub datagrams : List (List ℕ)
+  pub bytes : List ℕ
+  pub polynomials : Certificate
+  pub verdict : Verdict
+  pub sent : HoldsSession contents session datagrams
+  pub whole : HoldsBytes contents object bytes
+  pub certified : HoldsCertificate contents certificate polynomials
+  pub judged : IsVerdict datagrams bytes polynomials verdict
+  pub told : status ≡ twin_status_of verdict
+  pub printed : PrintsTwin verdict before after
+  pub twin : OnThin verdict (λ block. (other : List ℕ) × IsTwinOfSession polynomials.fti block datagrams bytes other)
+
+-- Why not: there was no verdict, or the output wasn't written.
+abbrev pub IsUntwinned : Contents → List ℕ → List ℕ → List ℕ → List ℕ → Bool → Fault → Type 0
+IsUntwinned contents session object certificate output failed fault =
+    IsUnchecked contents session object certificate failed fault ⊎ IsFileFault output fault
+
 abbrev pub IsSomePacket : List ℕ → Type 0
 IsSomePacket datagram = (p : Packet) × IsPacket datagram p
 
@@ -67,6 +106,8 @@ IsUnshown contents session failed fault = IsSessionUnread contents session fault
 abbrev pub IsDone : Contents → Request → Option (List ℕ) → Option (List ℕ) → ℕ → Type 0
 IsDone contents (Check session object certificate) before after status =
     IsChecked contents session.now object.now certificate.now before after status
+IsDone contents (Twin session object certificate output) before after status =
+    IsTwinned contents session.now object.now certificate.now before after status
 IsDone contents (Show session) before after status = IsShown contents session.now before after status
 IsDone contents (Encode object output sending) before after status = IsEncoded contents object.now sending before after status
 IsDone contents (Certify object output sizes) before after status = IsCertified contents object.now sizes before after status
@@ -75,6 +116,8 @@ IsDone contents (Drop session output places) before after status = IsDropped con
 abbrev pub IsUndone : Contents → Request → Bool → Fault → Type 0
 IsUndone contents (Check session object certificate) failed fault =
     IsUnchecked contents session.now object.now certificate.now failed fault
+IsUndone contents (Twin session object certificate output) failed fault =
+    IsUntwinned contents session.now object.now certificate.now output.now failed fault
 IsUndone contents (Show session) failed fault = IsUnshown contents session.now failed fault
 IsUndone contents (Encode object output sending) failed fault = IsNotEncoded contents object.now output.now sending failed fault
 IsUndone contents (Certify object output sizes) failed fault = IsNotCertified contents object.now output.now sizes failed fault

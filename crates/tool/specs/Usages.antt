@@ -6,7 +6,7 @@ use Rattle.clap.specs.declared.error.Error.{Error}
 use Rattle.clap.specs.declared.error.kind.ErrorKind.TheVariants.{DisplayHelp, OutOfMemory}
 use Rattle.tool.specs.declared.sizes.Sizes.{Sizes}
 use Rattle.tool.specs.declared.command.Request.{Request}
-use Rattle.tool.specs.declared.command.Request.TheVariants.{Check, Show, Encode, Certify, Drop}
+use Rattle.tool.specs.declared.command.Request.TheVariants.{Check, Twin, Show, Encode, Certify, Drop}
 use Rattle.tool.specs.declared.command.Usage.{Usage}
 use Rattle.tool.specs.declared.command.Usage.TheVariants.{Help, Line, Value, NoMemory}
 
@@ -45,6 +45,9 @@ abbrev pub HasValuesOf : Found → Request → Type 0
 HasValuesOf found (Check session object certificate) =
     (first_value found (codes "SESSION") ≡ Some session.now) × (first_value found (codes "OBJECT") ≡ Some object.now)
     × (first_value found (codes "CERT") ≡ Some certificate.now)
+HasValuesOf found (Twin session object certificate output) =
+    (first_value found (codes "SESSION") ≡ Some session.now) × (first_value found (codes "OBJECT") ≡ Some object.now)
+    × (first_value found (codes "CERT") ≡ Some certificate.now) × (first_value found (codes "OUT") ≡ Some output.now)
 HasValuesOf found (Show session) = first_value found (codes "SESSION") ≡ Some session.now
 HasValuesOf found (Encode object output sending) =
     (first_value found (codes "OBJECT") ≡ Some object.now) × (first_value found (codes "OUT") ≡ Some output.now) × AreInRange sending.sizes

@@ -144,7 +144,7 @@ fn put_reason(alloc: Global, line: &mut Line, reason: Reason) -> Result<(), Allo
     }
 }
 
-fn reason_line(alloc: Global, reason: Reason) -> Result<Line, AllocError>
+pub fn reason_line(alloc: Global, reason: Reason) -> Result<Line, AllocError>
     ensures { IfOk result (IsNoLine reason) }
 {
     let mut line = Line::new(alloc);

@@ -12,6 +12,13 @@ pub enum Request<'a> {
         object: &'a str,
         certificate: &'a str,
     },
+    /// Write another object that agrees with all datagrams of the session, if a block of it is short.
+    Twin {
+        session: &'a str,
+        object: &'a str,
+        certificate: &'a str,
+        output: &'a str,
+    },
     /// What are the datagrams of the session?
     Show {
         session: &'a str,

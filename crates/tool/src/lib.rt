@@ -15,6 +15,7 @@ mod running;
 mod show;
 mod sizes;
 mod thin_out;
+mod twinning;
 
 pub use command::{Request, Usage};
 pub use encode::Sending;

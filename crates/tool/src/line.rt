@@ -45,6 +45,28 @@ fn check_command<'a>(alloc: Global) -> Result<Command<'a>, AllocError> {
         ))
 }
 
+fn twin_command<'a>(alloc: Global) -> Result<Command<'a>, AllocError> {
+    Command::new(alloc, "twin")
+        .about(
+            "Writes another object that agrees with all datagrams of a session, where a block of it is short",
+        )
+        .after_help(
+            "Prints the first block that is short and how many symbols it has and needs; `no twin` if none is, or `no` and the first reason against the session.\nStatuses: 0 a twin was written, 1 none was or a fault, 2 the command line is refused.\n\nExample: alcrs twin thinned.session bulletin.txt bulletin.rsc other.txt",
+        )
+        .arg(file(
+            alloc,
+            "SESSION",
+            "The session file: each datagram behind its length in two bytes",
+        ))?
+        .arg(file(alloc, "OBJECT", "The file that the session is to carry"))?
+        .arg(file(
+            alloc,
+            "CERT",
+            "The certificate: the polynomial of each byte column of each block",
+        ))?
+        .arg(file(alloc, "OUT", "The other object to write"))
+}
+
 fn show_command<'a>(alloc: Global) -> Result<Command<'a>, AllocError> {
     Command::new(alloc, "show")
         .about("Prints a line for each datagram of a session")
@@ -170,6 +192,7 @@ fn grammar<'a>(alloc: Global) -> Result<Command<'a>, AllocError> {
         .subcommand(certify_command(alloc)?)?
         .subcommand(check_command(alloc)?)?
         .subcommand(drop_command(alloc)?)?
+        .subcommand(twin_command(alloc)?)?
         .subcommand(show_command(alloc)?)
 }
 
@@ -188,6 +211,26 @@ fn check_request<'a>(matches: &ArgMatches<'a>) -> Result<Request<'a>, Usage>
         session,
         object,
         certificate,
+    })
+}
+
+fn twin_request<'a>(matches: &ArgMatches<'a>) -> Result<Request<'a>, Usage>
+    ensures ok { IfOk result (HasValuesOf (found_of matches.now)) }
+    ensures err { IfErr result (λ usage. usage ≡ Usage.Value) }
+{
+    let (Some(session), Some(object), Some(certificate), Some(output)) = (
+        matches.get_str("SESSION"),
+        matches.get_str("OBJECT"),
+        matches.get_str("CERT"),
+        matches.get_str("OUT"),
+    ) else {
+        return Err(Usage::Value);
+    };
+    Ok(Request::Twin {
+        session,
+        object,
+        certificate,
+        output,
     })
 }
 
@@ -343,6 +386,9 @@ pub fn request<'a>(alloc: Global, words: &'a [&'a str]) -> Result<Request<'a>, U
     }
     if let Some(drop) = matches.subcommand_matches("drop") {
         return drop_request(alloc, drop);
+    }
+    if let Some(twin) = matches.subcommand_matches("twin") {
+        return twin_request(twin);
     }
     if let Some(show) = matches.subcommand_matches("show") {
         return show_request(show);

@@ -11,6 +11,7 @@ use crate::folder::Folder;
 use crate::print::Line;
 use crate::show::show;
 use crate::thin_out::drop_places;
+use crate::twinning::twin;
 use cert::CertFault;
 use session::{FrameFault, Write, write_all};
 use std::alloc::{AllocError, Global};
@@ -31,6 +32,12 @@ fn perform<'a, F: Folder, W: Write>(
             object,
             certificate,
         } => check(alloc, folder, out, session, object, certificate),
+        Request::Twin {
+            session,
+            object,
+            certificate,
+            output,
+        } => twin(alloc, folder, out, session, object, certificate, output),
         Request::Show { session } => show(alloc, folder, out, session),
         Request::Encode {
             object,

@@ -1,0 +1,40 @@
+use Rattle.std.proofs.Common.{◌≡◌, ◌∙◌, refl, sym, ap}
+use Rattle.cert.specs.declared.verdict.Reason.TheVariants.{Thin}
+use Rattle.cert.specs.declared.verdict.Verdict.TheVariants.{No}
+use Rattle.tool.proofs.Twinned.{thin_reason, other_reason}
+use Rattle.tool.proofs.twinning.twin.Goals as goal
+
+pub returns-in-Some-clause-ok : goal.returns-in-Some-clause-ok
+returns-in-Some-clause-ok g c =
+    let thin = thin_reason c.in-No.reason (c.in-Some.block, c.in-Some.have, c.in-Some.need) (sym c.short_block.ensures ∙ c.in-Some.is) in
+    let verdict : c.in_ok-check.field-0 ≡ No (Thin c.in-Some.block c.in-Some.have c.in-Some.need) = c.in-No.is ∙ ap No thin in
+    record {
+      datagrams = c.in_ok-session.session;
+      bytes = c.in_ok-object.object.items;
+      polynomials = c.in_ok-certificate.certificate;
+      verdict = No (Thin c.in-Some.block c.in-Some.have c.in-Some.need);
+      sent = c.in_ok-session.ensures.ok;
+      whole = rw c.in_ok-session.ensures.stays at c.in_ok-object.ensures.ok;
+      certified = rw (c.in_ok-object.ensures.stays, c.in_ok-session.ensures.stays) at c.in_ok-certificate.ensures.ok;
+      judged = rw (verdict, c.as_slice.ensures.value) at c.in_ok-check.ensures.verdict;
+      told = refl;
+      printed = rw c.in_ok-twin_line_of-in-Some.ensures at c.in_ok-print-in-Some.ensures.ok;
+      twin = (c.in_ok-other-in-Some.other.items, rw c.as_slice-in-Some.ensures.value at c.in_ok-other-in-Some.ensures);
+    }
+
+pub returns-clause-ok : goal.returns-clause-ok
+returns-clause-ok g c =
+    let other = other_reason c.in-No.reason _ _ _ (sym c.short_block.ensures ∙ c.in-None.is) (c.in_ok-reason_line-in-None.field-0, c.in_ok-reason_line-in-None.ensures, c.in_ok-print-in-None.ensures.ok) in
+    record {
+      datagrams = c.in_ok-session.session;
+      bytes = c.in_ok-object.object.items;
+      polynomials = c.in_ok-certificate.certificate;
+      verdict = No c.in-No.reason;
+      sent = c.in_ok-session.ensures.ok;
+      whole = rw c.in_ok-session.ensures.stays at c.in_ok-object.ensures.ok;
+      certified = rw (c.in_ok-object.ensures.stays, c.in_ok-session.ensures.stays) at c.in_ok-certificate.ensures.ok;
+      judged = rw (c.in-No.is, c.as_slice.ensures.value) at c.in_ok-check.ensures.verdict;
+      told = other.told;
+      printed = other.printed;
+      twin = other.twin;
+    }

@@ -1,0 +1,96 @@
+//! The command `twin`.
+ghost use Rattle.std.specs.Prelude.{◌≡◌, ◌≤◌, IfOk, IfErr};
+ghost use Rattle.tool.specs.Lines.{twin_line};
+ghost use Rattle.tool.specs.Making.{IsFileFault};
+ghost use Rattle.tool.specs.Outcomes.{short_of, IsTwinned, IsUntwinned};
+
+use crate::check::reason_line;
+use crate::fault::Fault;
+use crate::folder::Folder;
+use crate::input::{read_certificate, read_object, read_session};
+use crate::print::Line;
+use cert::{Reason, Verdict, session_twin};
+use session::{Write, write_all};
+use std::alloc::{AllocError, Global};
+
+/// Writes another object that agrees with all datagrams of the session, where the check finds a block short, and answers
+/// the status. The output is created once that object is there.
+pub fn twin<'a, F: Folder, W: Write>(
+    alloc: Global,
+    folder: &mut F,
+    out: &mut W,
+    session: &'a str,
+    object: &'a str,
+    certificate: &'a str,
+    output: &'a str,
+) -> Result<u8, Fault<'a>>
+    ensures ok { IfOk result (IsTwinned (F.content folder.old) session.now object.now certificate.now (W.contents out.old) (W.contents out.new)) }
+    ensures fault { IfErr result (IsUntwinned (F.content folder.old) session.now object.now certificate.now output.now (W.failed out.new)) }
+    ensures status { IfOk result (λ status. status ≤ 1) }
+{
+    let session = read_session(alloc, folder, session)?;
+    let object = read_object(alloc, folder, object)?;
+    let certificate = read_certificate(alloc, folder, certificate)?;
+    match cert::check(alloc, &session, object.as_slice(), &certificate)? {
+        Verdict::Yes(_) => {
+            let mut line = Line::new(alloc);
+            line.text("no twin")?;
+            line.print(out)?;
+            Ok(1)
+        }
+        Verdict::No(reason) => match short_block(reason) {
+            Some((block, have, need)) => {
+                let other = session_twin(alloc, &session, object.as_slice(), &certificate, block)?;
+                write_file(folder, output, other.as_slice())?;
+                twin_line_of(alloc, block, have, need)?.print(out)?;
+                Ok(0)
+            }
+            None => {
+                reason_line(alloc, reason)?.print(out)?;
+                Ok(1)
+            }
+        },
+    }
+}
+
+// The block that is too short, how many symbols it has and how many it needs, where that is the reason.
+fn short_block(reason: Reason) -> Option<(u32, usize, usize)>
+    ensures { result ≡ short_of reason }
+{
+    match reason {
+        Reason::Thin { block, have, need } => Some((block, have, need)),
+        Reason::ObjectLength
+        | Reason::NotObject { .. }
+        | Reason::Empty
+        | Reason::Packet(..)
+        | Reason::OtherIdentity(_)
+        | Reason::OtherFti(_)
+        | Reason::Range(_)
+        | Reason::Symbol(..) => None,
+    }
+}
+
+// Creates a file of these bytes.
+fn write_file<'a, F: Folder>(folder: &mut F, output: &'a str, bytes: &[u8]) -> Result<(), Fault<'a>>
+    ensures { IfErr result (IsFileFault output.now) }
+{
+    let Ok(mut file) = folder.create_file(output) else {
+        return Err(Fault::Open(output));
+    };
+    let written = write_all(&mut file, bytes);
+    folder.close_file(output, file);
+    match written {
+        Ok(()) => Ok(()),
+        Err(_) => Err(Fault::File(output)),
+    }
+}
+
+fn twin_line_of(alloc: Global, block: u32, have: usize, need: usize) -> Result<Line, AllocError>
+    ensures { IfOk result (λ line. line ≡ twin_line block have need) }
+{
+    let mut line = Line::new(alloc);
+    line.named("twin block", block)?;
+    line.named(" have", have)?;
+    line.named(" need", need)?;
+    Ok(line)
+}
