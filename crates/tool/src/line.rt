@@ -27,10 +27,10 @@ fn file<'a>(alloc: Global, name: &'a str, help: &'a str) -> Arg<'a> {
 fn check_command<'a>(alloc: Global) -> Result<Command<'a>, AllocError> {
     Command::new(alloc, "check")
         .about(
-            "Says whether a certificate proves that a session carries an object, and what its blocks need and have",
+            "Says whether a certificate proves that a session carries an object, and how many datagrams may be missed",
         )
         .after_help(
-            "Prints `yes` and for each block how many symbols it needs and has, or `no` and the first reason.\nStatuses: 0 yes, 1 no or a fault, 2 the command line is refused.\n\nExample: alcrs check bulletin.session bulletin.txt bulletin.rsc",
+            "Prints `yes`, for each block how many symbols it needs and has, and how many datagrams may be missed: any (margin), and neighbouring ones (burst); and the places of the first loss that is too great (kill). Else `no` and the first reason.\nStatuses: 0 yes, 1 no or a fault, 2 the command line is refused.\n\nExample: alcrs check bulletin.session bulletin.txt bulletin.rsc",
         )
         .arg(file(
             alloc,
