@@ -257,6 +257,7 @@ fn beginning_sent(rt: HostRuntime) -> Result<(), Fail> {
         ),
         Err(SendFault::Io)
     );
-    assert_eq!(rt; sink.bytes(), whole.bytes().split_at(50).0);
+    assert_eq!(rt; sink.bytes().len(), 50);
+    assert!(rt; whole.bytes().starts_with(sink.bytes()));
     Ok(())
 }
