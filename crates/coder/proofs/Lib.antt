@@ -4,3 +4,5 @@ pub mod Sizes
 pub mod Sent
 pub mod Places
 pub mod SessionReadings
+pub mod Index
+pub mod Receiving

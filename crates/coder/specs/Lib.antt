@@ -1,3 +1,5 @@
 pub mod Sending
 pub mod BlockMatrices
 pub mod Certified
+pub mod Received
+pub mod Answers

@@ -1,11 +1,14 @@
 //! The coder: an object's encoding symbols as a session, and its certificate.
 #![tactic(auto)]
 
+mod answer;
 mod block_matrices;
 mod certifying;
+mod received;
 mod rows;
 mod sending;
 
+pub use answer::{Answer, DecodeFault};
 pub use certifying::{CertifyFault, certify};
 pub use sending::{Order, SendFault, encode};
 
