@@ -5,6 +5,7 @@ mod answer;
 mod block_matrices;
 mod certifying;
 mod received;
+mod recovering;
 mod rows;
 mod sending;
 
