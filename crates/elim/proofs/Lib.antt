@@ -12,3 +12,5 @@ pub mod RowProducts
 pub mod CodePoints
 pub mod Generating
 pub mod Interpolating
+pub mod Replacing
+pub mod Recovering
