@@ -18,7 +18,8 @@ use Rattle.elim.proofs.Interpolation.{listed, length-listed, listed_elements}
 use Rattle.elim.proofs.Interpolating.{get_or-listed}
 use Rattle.elim.proofs.Entries.{elements_by_row}
 use Rattle.elim.proofs.RowProducts.{get_or-row_product}
-use Rattle.elim.proofs.Replacing.{replaced, kept_or_replaced, place_same, replaced_apart}
+use Rattle.elim.proofs.Rising.{place_same}
+use Rattle.elim.proofs.Replacing.{replaced, kept_or_replaced, replaced_apart}
 
 -- the value of a polynomial whose coefficients are zero
 value_none : (p : List ℕ) (z : ℕ) → IsByte z → AllByRecursion (λ c. c ≡ 0) p → value p z ≡ 0

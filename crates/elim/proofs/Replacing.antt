@@ -3,7 +3,8 @@ use Rattle.std.specs.Prelude.{◌==◌, if◌then◌else◌}
 use Rattle.std.proofs.Common.{◌≡◌, ◌≢◌, ℕ, zero, suc, ◌-◌, ◌<◌, ◌≤◌, ◌⊎◌, List, length, get_or, arith, ap, ◌∙◌, sym, refl, inl, inr}
 use Rattle.std.proofs.lemmas.Bool.{cases_eq, cases_lt}
 use Rattle.std.proofs.lemmas.Bool.Decides.{nat_tests}
-use Rattle.elim.specs.Erasures.{AreRising, AreErasures}
+use Rattle.elim.specs.Erasures.{AreErasures}
+use Rattle.elim.proofs.Rising.{place_same, place_at_most}
 
 -- the number i, or the one that takes its place
 abbrev pub replaced : (ℕ → ℕ) → (ℕ → ℕ) → ℕ → ℕ → ℕ
@@ -35,38 +36,20 @@ module _ (missing repair : ℕ → ℕ) where
     | inl same ↦ inr (record { place = e; inside = omega arith; from = sym same; to = test_same i (missing e) (repair e) (replaced missing repair e i) same })
     | inr other ↦ elim (kept_or_replaced e i) [
       | inl kept ↦ inl (record {
-          same = test_other i (missing e) (repair e) (replaced missing repair e i) other ∙ kept.same;
-          apart = λ a lt. elim (cases_eq a e) [
-            | inl last ↦ (λ h. other (sym h ∙ ap missing last))
-            | inr before ↦ kept.apart a (omega arith)
-          ];
-        })
+        same = test_other i (missing e) (repair e) (replaced missing repair e i) other ∙ kept.same;
+        apart = λ a lt. elim (cases_eq a e) [
+          | inl last ↦ (λ h. other (sym h ∙ ap missing last))
+          | inr before ↦ kept.apart a (omega arith)
+        ];
+      })
       | inr gone ↦ inr (record {
-          place = gone.place;
-          inside = (let lt = gone.inside in omega arith);
-          from = gone.from;
-          to = test_other i (missing e) (repair e) (replaced missing repair e i) other ∙ gone.to;
-        })
+        place = gone.place;
+        inside = (let lt = gone.inside in omega arith);
+        from = gone.from;
+        to = test_other i (missing e) (repair e) (replaced missing repair e i) other ∙ gone.to;
+      })
     ]
   ]
-
--- places of rising numbers that are the same
-pub place_same : (xs : List ℕ) → AreRising xs → (a b : ℕ) → a < length xs → b < length xs → get_or xs a 0 ≡ get_or xs b 0 → a ≡ b
-place_same xs rise a b la lb e = elim (cases_lt a b) [
-  | inl lt ↦ absurd (omega (arith, rise a b lt lb))
-  | inr le ↦ elim (cases_lt b a) [
-    | inl lt ↦ absurd (omega (arith, rise b a lt la))
-    | inr le2 ↦ omega arith
-  ]
-]
-
--- rising numbers are no less than their places
-pub place_at_most : (xs : List ℕ) → AreRising xs → (i : ℕ) → i < length xs → i ≤ get_or xs i 0
-place_at_most xs rise zero lt = omega arith
-place_at_most xs rise (suc i) lt =
-    let before : i ≤ get_or xs i 0 = place_at_most xs rise i (omega arith) in
-    let step : get_or xs i 0 < get_or xs (suc i) 0 = rise i (suc i) (omega arith) lt in
-    omega arith
 
 -- at most k are missing
 pub few_missing : (k n : ℕ) (missing repair : List ℕ) → AreErasures k n missing repair → length missing ≤ k

@@ -33,8 +33,9 @@ fn part(alloc: Global, m: &Matrix<Gf>, rows: &[u8], cols: &[u8]) -> Result<Matri
 }
 
 /// The matrix that makes a block's missing source symbols of as many repair symbols, once the source
-/// symbols that came are taken out of them: the inverse of the generator matrix's part in the missing
-/// rows and the repair columns. Both are rising ESIs. Want of memory is the only error.
+/// symbols that came are taken out of them, for decoding (RFC 5510, section 8.3): the inverse of the
+/// generator matrix's part in the missing rows and the repair columns, both given as rising ESIs. It
+/// has as many rows and columns as there are missing. Want of memory is the only error.
 pub fn recovery(
     alloc: Global,
     generator: &Matrix<Gf>,
@@ -46,7 +47,7 @@ pub fn recovery(
     ensures shape { IfOk result (HasShape (length missing.now) (length missing.now)) }
     ensures recovers { IfOk result (Recovers generator.now missing.now repair.now) }
 {
-    // what calls it tells that the generator is a matrix: at most 255 columns, and bytes
+    // with its counts comes what is true of each matrix: at most 255 columns, and bytes in them
     let _rows = generator.rows();
     let part = part(alloc, generator, missing, repair)?;
     match invert(alloc, &part) {
