@@ -6,3 +6,6 @@ pub mod Places
 pub mod SessionReadings
 pub mod Index
 pub mod Receiving
+pub mod RowAdding
+pub mod Erased
+pub mod Those

@@ -3,3 +3,4 @@ pub mod BlockMatrices
 pub mod Certified
 pub mod Received
 pub mod Answers
+pub mod Recovered

@@ -65,6 +65,18 @@ module _ (g : Grid ℕ) (bytes : HasElements IsByte 0 g) (few : g.cols ≤ 255) 
       ∙ dot_same IsByte sum_of product 0 1 byte_field u (λ i. row_times sum_of product 0 (identity_entry 0 1 (get_or missing i 0)) (entry 0 g) g.rows j) (λ i. entry 0 g (get_or missing i 0) j) (length missing)
       (λ i li. picks_dot IsByte sum_of product 0 1 byte_field (λ m. entry 0 g m j) g.rows (get_or missing i 0) (λ m. eg m j) (h.source i li))
 
+  -- the same of each row that is zero at the other places
+  pub spread_sum : (d : ℕ → ℕ) → AreElements IsByte d → ((i : ℕ) → i < g.rows → ((a : ℕ) → a < length missing → get_or missing a 0 ≢ i) → d i ≡ 0) → (j : ℕ)
+      → row_times sum_of product 0 d (entry 0 g) g.rows j ≡ row_times sum_of product 0 (λ a. d (get_or missing a 0)) (λ i. entry 0 g (get_or missing i 0)) (length missing) j
+  spread_sum d ed none j =
+      sum_same IsByte sum_of product 0 1 byte_field (λ i. product (d i) (entry 0 g i j)) (λ i. product (spread (λ a. d (get_or missing a 0)) i) (entry 0 g i j)) g.rows
+      (λ i li. ap (λ (v : ℕ). product v (entry 0 g i j)) (elim (kept_or_replaced (λ a. get_or missing a 0) (λ a. get_or repair a 0) (length missing) i) [
+        | inl kept ↦ none i li kept.apart ∙ sym (spread_others (λ a. d (get_or missing a 0)) (λ a. ed (get_or missing a 0)) i kept.apart)
+        | inr gone ↦ ap d (sym gone.from) ∙ sym (spread_missing (λ a. d (get_or missing a 0)) (λ a. ed (get_or missing a 0)) gone.place gone.inside)
+            ∙ ap (spread (λ a. d (get_or missing a 0))) gone.from
+      ]))
+      ∙ spread_times (λ a. d (get_or missing a 0)) (λ a. ed (get_or missing a 0)) j
+
   abbrev source : (ℕ → ℕ) → List ℕ
   source u = listed (spread u) g.rows
 
@@ -158,17 +170,26 @@ module _ (g : Grid ℕ) (bytes : HasElements IsByte 0 g) (few : g.cols ≤ 255) 
       s.place s.within)
 
 -- an inverse of the part recovers
-pub part_recovers : (g : Grid ℕ) → HasElements IsByte 0 g → (missing repair : List ℕ) (m w : Grid ℕ)
-    → ((i j : ℕ) → i < length missing → j < length missing → entry 0 m i j ≡ part_entry g missing repair i j) → HasElements IsByte 0 w
-    → AreInverseSquares sum_of product 0 1 (length missing) (entry 0 m) (entry 0 w) → Recovers g missing repair w
-part_recovers g bytes missing repair m w same elements both = record {
+pub part_recovers : (g : Grid ℕ) → HasElements IsByte 0 g → (missing repair : List ℕ) (inverted w : Grid ℕ)
+    → ((i j : ℕ) → i < length missing → j < length missing → entry 0 inverted i j ≡ part_entry g missing repair i j) → HasElements IsByte 0 w
+    → AreInverseSquares sum_of product 0 1 (length missing) (entry 0 inverted) (entry 0 w) → Recovers g missing repair w
+part_recovers g bytes missing repair inverted w same elements both = record {
   back = λ x ex a la.
       row_times_twice IsByte sum_of product 0 1 byte_field x (part_entry g missing repair) (entry 0 w) (length missing) (length missing) a ex
       (λ i j. elements_by_row IsByte 0 g bytes (get_or missing i 0) (get_or repair j 0)) (elements_by_row IsByte 0 w elements)
       ∙ dot_same IsByte sum_of product 0 1 byte_field x (λ i. row_times sum_of product 0 (part_entry g missing repair i) (entry 0 w) (length missing) a) (identity_entry 0 1 a) (length missing)
       (λ i li.
-      sum_same IsByte sum_of product 0 1 byte_field (λ l. product (part_entry g missing repair i l) (entry 0 w l a)) (λ l. product (entry 0 m i l) (entry 0 w l a)) (length missing)
+      sum_same IsByte sum_of product 0 1 byte_field (λ l. product (part_entry g missing repair i l) (entry 0 w l a)) (λ l. product (entry 0 inverted i l) (entry 0 w l a)) (length missing)
       (λ l ll. ap (λ (v : ℕ). product v (entry 0 w l a)) (sym (same i l li ll)))
       ∙ both.right i a li la ∙ unit_swapped IsByte sum_of product 0 1 byte_field i a)
       ∙ dot_picks IsByte sum_of product 0 1 byte_field x (length missing) a ex la;
+  forth = λ s es m lm.
+      row_times_twice IsByte sum_of product 0 1 byte_field s (entry 0 w) (part_entry g missing repair) (length missing) (length missing) m es
+      (elements_by_row IsByte 0 w elements) (λ i j. elements_by_row IsByte 0 g bytes (get_or missing i 0) (get_or repair j 0))
+      ∙ dot_same IsByte sum_of product 0 1 byte_field s (λ i. row_times sum_of product 0 (entry 0 w i) (part_entry g missing repair) (length missing) m) (identity_entry 0 1 m) (length missing)
+      (λ i li.
+      sum_same IsByte sum_of product 0 1 byte_field (λ l. product (entry 0 w i l) (part_entry g missing repair l m)) (λ l. product (entry 0 w i l) (entry 0 inverted l m)) (length missing)
+      (λ l ll. ap (product (entry 0 w i l)) (sym (same l m ll lm)))
+      ∙ both.left i m li lm ∙ unit_swapped IsByte sum_of product 0 1 byte_field i m)
+      ∙ dot_picks IsByte sum_of product 0 1 byte_field s (length missing) m es lm;
 }

@@ -1,0 +1,50 @@
+-- A block of which some symbols came: its source symbols as rows of bytes.
+use Rattle.std.specs.Prelude.{◌≡◌, ℕ, ◌<◌, ◌≤◌, ◌+◌, ◌*◌, Bool, true, List, length, filter, slice_index, slice_index_or, Option, Some, None, option_map, is_some}
+use Rattle.std.specs.Borrow.{Bor}
+use Rattle.gf256.specs.Arithmetic.{IsByte, sum_of, product}
+use Rattle.elim.specs.Matrices.{row_times, AreElements}
+use Rattle.elim.specs.Grid.{Grid, entry}
+use Rattle.elim.specs.Erasures.{AreRising}
+use Rattle.losses.specs.Numbers.{below}
+
+-- the bytes of the symbol at an ESI, if it came
+abbrev pub arrived : List (Option (Bor (List ℕ))) → ℕ → Option (List ℕ)
+arrived received j = option_map (λ s. s.now) (slice_index_or received j None)
+
+-- byte c of a symbol, and zero of none
+abbrev pub byte_of : Option (List ℕ) → ℕ → ℕ
+byte_of None c = 0
+byte_of (Some y) c = slice_index y c
+
+-- byte c of row i, where rows of so many bytes stand one behind the other
+abbrev pub row_byte : List ℕ → ℕ → ℕ → ℕ → ℕ
+row_byte rows size c i = slice_index rows (i * size + c)
+
+-- each symbol that came has so many bytes
+abbrev pub HaveLength : ℕ → (ℕ → Option (List ℕ)) → Type 0
+HaveLength size at = (j : ℕ) (y : List ℕ) → at j ≡ Some y → length y ≡ size
+
+-- the numbers from one to below another that pass a test, rising
+pub record AreThose (t : ℕ → Bool) (from to : ℕ) (xs : List ℕ) : Type 0 where
+  pub least : (i : ℕ) → i < length xs → from ≤ slice_index xs i
+  pub most : (i : ℕ) → i < length xs → slice_index xs i < to
+  pub pass : (i : ℕ) → i < length xs → t (slice_index xs i) ≡ true
+  pub all : (j : ℕ) → from ≤ j → j < to → t j ≡ true → (i : ℕ) × (i < length xs) × (slice_index xs i ≡ j)
+  pub rise : AreRising xs
+  pub count : length (filter t (below to)) ≡ length (filter t (below from)) + length xs
+
+-- in column c the row x of source symbols has the symbols that came: those among them, and those that the generator makes
+pub record Meets (at : ℕ → Option (List ℕ)) (g : Grid ℕ) (c : ℕ) (x : ℕ → ℕ) : Type 0 where
+  pub source : (i : ℕ) (y : List ℕ) → i < g.rows → at i ≡ Some y → x i ≡ slice_index y c
+  pub repair : (j : ℕ) (y : List ℕ) → g.rows ≤ j → j < g.cols → at j ≡ Some y → row_times sum_of product 0 x (entry 0 g) g.rows j ≡ slice_index y c
+
+-- some row does
+pub record CanMeet (at : ℕ → Option (List ℕ)) (g : Grid ℕ) (c : ℕ) : Type 0 where
+  pub row : ℕ → ℕ
+  pub bytes : AreElements IsByte row
+  pub meets : Meets at g c row
+
+-- in each column no other row does than this one
+abbrev pub MeetsOnly : (ℕ → Option (List ℕ)) → Grid ℕ → ℕ → List ℕ → Type 0
+MeetsOnly at g size rows =
+    (c : ℕ) (x : ℕ → ℕ) → c < size → AreElements IsByte x → Meets at g c x → (i : ℕ) → i < g.rows → row_byte rows size c i ≡ x i
