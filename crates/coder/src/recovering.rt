@@ -122,3 +122,105 @@ fn residual(
     row.copy_from_slice(symbol);
     add_rows(rows, size, generator, j, row);
 }
+
+// What is left of repair symbols, one behind the other, when what the rows add to them is taken away. `row` is room for
+// one.
+fn residuals(
+    received: &[Option<&[u8]>],
+    repair: &[u8],
+    rows: &[u8],
+    size: usize,
+    generator: &Matrix<Gf>,
+    row: &mut [u8],
+    sums: &mut [u8],
+)
+    requires came { (m : ℕ) → m < length repair.now → is_some (arrived received.now (slice_index repair.now m)) ≡ true }
+    requires within { (m : ℕ) → m < length repair.now → slice_index repair.now m < generator.now.cols }
+    requires all { length received.now ≡ generator.now.cols }
+    requires symbols { HaveLength size (arrived received.now) }
+    requires rows { length rows.now ≡ generator.now.rows * size }
+    requires room { length row.old ≡ size }
+    requires sums { length sums.old ≡ length repair.now * size }
+    ensures room { length row.new ≡ size }
+    ensures len { length sums.new ≡ length sums.old }
+    ensures sums { (m c : ℕ) → m < length repair.now → c < size → row_byte sums.new size c m ≡ sum_of (byte_of (arrived received.now (slice_index repair.now m)) c) (row_times sum_of product 0 (row_byte rows.now size c) (entry 0 generator.now) generator.now.rows (slice_index repair.now m)) }
+{
+    for m in 0..repair.len() {
+        let j = usize::from(repair[m]);
+        let Some(symbol) = received[j] else {
+            unreachable!()
+        };
+        residual(symbol, rows, size, generator, j, row);
+        put_row(sums, size, m, row);
+    }
+}
+
+// Puts the missing source symbols that the matrix makes of the sums at their places. `row` is room for one.
+fn put_solved(
+    recovery: &Matrix<Gf>,
+    missing: &[u8],
+    sums: &[u8],
+    size: usize,
+    row: &mut [u8],
+    rows: &mut [u8],
+)
+    requires shape { HasShape (length missing.now) (length missing.now) recovery.now }
+    requires sums { length sums.now ≡ length missing.now * size }
+    requires room { length row.old ≡ size }
+    requires places { (a : ℕ) → a < length missing.now → slice_index missing.now a * size + size ≤ length rows.old }
+    requires rise { AreRising missing.now }
+    ensures room { length row.new ≡ size }
+    ensures len { length rows.new ≡ length rows.old }
+    ensures here { (a c : ℕ) → a < length missing.now → c < size → row_byte rows.new size c (slice_index missing.now a) ≡ row_times sum_of product 0 (row_byte sums.now size c) (entry 0 recovery.now) (length missing.now) a }
+    ensures elsewhere { (i c : ℕ) → ((a : ℕ) → a < length missing.now → slice_index missing.now a ≢ i) → c < size → row_byte rows.new size c i ≡ row_byte rows.old size c i }
+{
+    for a in 0..missing.len() {
+        row.fill(0);
+        add_rows(sums, size, recovery, a, row);
+        put_row(rows, size, usize::from(missing[a]), row);
+    }
+}
+
+// Whether all bytes are zero.
+fn is_zero(bytes: &[u8]) -> bool
+    ensures zero { result ≡ true → (c : ℕ) → slice_index bytes.now c ≡ 0 }
+    ensures other { result ≡ false → (c : ℕ) × (c < length bytes.now) × (slice_index bytes.now c ≢ 0) }
+{
+    for i in 0..bytes.len() {
+        if bytes[i] != 0 {
+            return false;
+        }
+    }
+    true
+}
+
+// Whether the rows give these repair symbols. `row` is room for one.
+fn give(
+    received: &[Option<&[u8]>],
+    repair: &[u8],
+    rows: &[u8],
+    size: usize,
+    generator: &Matrix<Gf>,
+    row: &mut [u8],
+) -> bool
+    requires came { (m : ℕ) → m < length repair.now → is_some (arrived received.now (slice_index repair.now m)) ≡ true }
+    requires within { (m : ℕ) → m < length repair.now → slice_index repair.now m < generator.now.cols }
+    requires all { length received.now ≡ generator.now.cols }
+    requires symbols { HaveLength size (arrived received.now) }
+    requires rows { length rows.now ≡ generator.now.rows * size }
+    requires room { length row.old ≡ size }
+    ensures given { result ≡ true → (m c : ℕ) → m < length repair.now → c < size → row_times sum_of product 0 (row_byte rows.now size c) (entry 0 generator.now) generator.now.rows (slice_index repair.now m) ≡ byte_of (arrived received.now (slice_index repair.now m)) c }
+    ensures other { result ≡ false → (m : ℕ) × (c : ℕ) × (m < length repair.now) × (c < size) × (row_times sum_of product 0 (row_byte rows.now size c) (entry 0 generator.now) generator.now.rows (slice_index repair.now m) ≢ byte_of (arrived received.now (slice_index repair.now m)) c) }
+{
+    for m in 0..repair.len() {
+        let j = usize::from(repair[m]);
+        let Some(symbol) = received[j] else {
+            unreachable!()
+        };
+        residual(symbol, rows, size, generator, j, row);
+        if !is_zero(row) {
+            return false;
+        }
+    }
+    true
+}
