@@ -1,6 +1,7 @@
 pub mod RowSums
 pub mod Columns
 pub mod Sizes
+pub mod Counts
 pub mod Sent
 pub mod Places
 pub mod SessionReadings
