@@ -1,6 +1,8 @@
 pub mod RowSums
 pub mod Columns
 pub mod Sizes
+pub mod Counts
+pub mod Solving
 pub mod Sent
 pub mod Places
 pub mod SessionReadings

@@ -1,5 +1,6 @@
 pub mod Sending
 pub mod BlockMatrices
+pub mod Columns
 pub mod Certified
 pub mod Received
 pub mod Answers

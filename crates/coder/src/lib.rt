@@ -4,6 +4,7 @@
 mod answer;
 mod block_matrices;
 mod certifying;
+mod counting;
 mod received;
 mod recovering;
 mod rows;
