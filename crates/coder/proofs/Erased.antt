@@ -1,6 +1,7 @@
 -- A byte column of a block of which source symbols are missing: the bytes that its repair symbols give back.
 use Rattle.std.proofs.Common.{◌≡◌, ◌≢◌, ℕ, ◌<◌, ◌≤◌, List, length, get_or, arith, ap, ◌∙◌, sym, refl}
 use Rattle.std.specs.Int.Bits.{xor_assoc, xor_self, xor_zero_r}
+use Rattle.std.proofs.lemmas.Nat.{xor_comm}
 use Rattle.gf256.specs.Arithmetic.{IsByte, sum_of, product}
 use Rattle.gf256.specs.ByteField.{byte_field}
 use Rattle.elim.specs.Matrices.{row_times, AreElements}
@@ -18,6 +19,16 @@ sums_less a b c e =
     let left : sum_of (sum_of a c) c ≡ a = xor_assoc a c c ∙ ap (sum_of a) (xor_self c) ∙ xor_zero_r a in
     let right : sum_of (sum_of b c) c ≡ b = xor_assoc b c c ∙ ap (sum_of b) (xor_self c) ∙ xor_zero_r b in
     sym left ∙ ap (λ (v : ℕ). sum_of v c) e ∙ right
+
+pub sum_itself : (a : ℕ) → sum_of a a ≡ 0
+sum_itself a = xor_self a
+
+pub sum_with_none : (a : ℕ) → sum_of 0 a ≡ a
+sum_with_none a = xor_comm 0 a ∙ xor_zero_r a
+
+-- numbers whose sum is zero are one
+pub sum_none_same : (a b : ℕ) → sum_of a b ≡ 0 → b ≡ a
+sum_none_same a b e = sym (sums_less a b b (e ∙ sym (xor_self b)))
 
 -- two rows with the same values have the same products
 pub row_same : (x y : ℕ → ℕ) (m : ℕ → ℕ → ℕ) (n j : ℕ) → ((i : ℕ) → i < n → x i ≡ y i) → row_times sum_of product 0 x m n j ≡ row_times sum_of product 0 y m n j

@@ -4,18 +4,10 @@ use Rattle.std.specs.Borrow.{Bor}
 use Rattle.std.proofs.Common.{◌≡◌, ℕ, suc, ◌+◌, ◌<◌, ◌≤◌, Bool, true, false, List, [], ◌∷◌, ◌++◌, length, get_or, arith, ap, ◌∙◌, sym, refl, inl, inr, subst}
 use Rattle.std.proofs.lemmas.Bool.{cases_eq, cases_lt}
 use Rattle.std.proofs.lemmas.List.{get_or_append_left, get_or_push, length-append}
-use Rattle.std.proofs.lemmas.List.Elements.{filter-append}
 use Rattle.elim.proofs.Rising.{rising_none, rising_more}
 use Rattle.losses.specs.Numbers.{below}
 use Rattle.coder.specs.Recovered.{AreThose}
-
-pub one_more_held : (t : ℕ → Bool) (n : ℕ) → t n ≡ true → length (filter t (below (suc n))) ≡ length (filter t (below n)) + 1
-unfolding below
-one_more_held t n h = ap length (filter-append t (below n) (n ∷ [])) ∙ length-append (filter t (below n)) (filter t (n ∷ [])) ∙ rw h refl
-
-pub none_more_held : (t : ℕ → Bool) (n : ℕ) → t n ≡ false → length (filter t (below (suc n))) ≡ length (filter t (below n))
-unfolding below
-none_more_held t n h = ap length (filter-append t (below n) (n ∷ [])) ∙ length-append (filter t (below n)) (filter t (n ∷ [])) ∙ rw h (let z : length (filter t (below n)) + 0 ≡ length (filter t (below n)) = omega arith in z)
+use Rattle.coder.proofs.Counts.{one_more_held, none_more_held}
 
 pub those_none : (t : ℕ → Bool) (from : ℕ) → AreThose t from from []
 those_none t from = record {

@@ -1,5 +1,5 @@
 -- A block of which some symbols came: its source symbols as rows of bytes.
-use Rattle.std.specs.Prelude.{◌≡◌, ℕ, ◌<◌, ◌≤◌, ◌+◌, ◌*◌, Bool, true, List, length, filter, slice_index, slice_index_or, Option, Some, None, option_map, is_some}
+use Rattle.std.specs.Prelude.{◌≡◌, ◌≢◌, ℕ, ◌<◌, ◌≤◌, ◌+◌, ◌*◌, Bool, true, List, length, filter, slice_index, slice_index_or, Option, Some, None, option_map, is_some}
 use Rattle.std.specs.Borrow.{Bor}
 use Rattle.gf256.specs.Arithmetic.{IsByte, sum_of, product}
 use Rattle.elim.specs.Matrices.{row_times, AreElements}
@@ -48,3 +48,11 @@ pub record CanMeet (at : ℕ → Option (List ℕ)) (g : Grid ℕ) (c : ℕ) : T
 abbrev pub MeetsOnly : (ℕ → Option (List ℕ)) → Grid ℕ → ℕ → List ℕ → Type 0
 MeetsOnly at g size rows =
     (c : ℕ) (x : ℕ → ℕ) → c < size → AreElements IsByte x → Meets at g c x → (i : ℕ) → i < g.rows → row_byte rows size c i ≡ x i
+
+-- a row that has the other source symbols and the repair symbols has the missing ones that are put in their places
+abbrev pub SolvedOnly : List (Option (Bor (List ℕ))) → List ℕ → List ℕ → ℕ → Grid ℕ → List ℕ → List ℕ → Type 0
+SolvedOnly received missing repair size g old new =
+    (c : ℕ) (x : ℕ → ℕ) → c < size → AreElements IsByte x
+    → ((i : ℕ) → i < g.rows → ((a : ℕ) → a < length missing → slice_index missing a ≢ i) → x i ≡ row_byte old size c i)
+    → ((m : ℕ) → m < length repair → byte_of (arrived received (slice_index repair m)) c ≡ row_times sum_of product 0 x (entry 0 g) g.rows (slice_index repair m))
+    → (a : ℕ) → a < length missing → row_byte new size c (slice_index missing a) ≡ x (slice_index missing a)

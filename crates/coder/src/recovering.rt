@@ -6,7 +6,7 @@ ghost use Rattle.elim.specs.Grid.{HasShape, entry};
 ghost use Rattle.elim.specs.Matrices.{row_times};
 ghost use Rattle.elim.specs.Erasures.{AreErasures, AreRising};
 ghost use Rattle.losses.specs.Numbers.{below};
-ghost use Rattle.coder.specs.Recovered.{arrived, byte_of, row_byte, HaveLength, AreThose, Meets, CanMeet, MeetsOnly};
+ghost use Rattle.coder.specs.Recovered.{arrived, byte_of, row_byte, HaveLength, AreThose, Meets, CanMeet, MeetsOnly, SolvedOnly};
 
 use crate::rows::add_row;
 use elim::{Matrix, recovery};
@@ -223,4 +223,34 @@ fn give(
         }
     }
     true
+}
+
+// Works missing source symbols out of as many repair symbols, and puts them at their places, which are empty.
+fn solve(
+    alloc: Global,
+    received: &[Option<&[u8]>],
+    missing: &[u8],
+    repair: &[u8],
+    size: usize,
+    generator: &Matrix<Gf>,
+    rows: &mut [u8],
+) -> Result<(), AllocError>
+    requires code { Encodes generator.now.rows generator.now.cols generator.now }
+    requires erasures { AreErasures generator.now.rows generator.now.cols missing.now repair.now }
+    requires came { (m : ℕ) → m < length repair.now → is_some (arrived received.now (slice_index repair.now m)) ≡ true }
+    requires all { length received.now ≡ generator.now.cols }
+    requires symbols { HaveLength size (arrived received.now) }
+    requires rows { length rows.old ≡ generator.now.rows * size }
+    requires empty { (a c : ℕ) → a < length missing.now → c < size → row_byte rows.old size c (slice_index missing.now a) ≡ 0 }
+    ensures len { length rows.new ≡ length rows.old }
+    ensures kept { OnOk result ((i c : ℕ) → ((a : ℕ) → a < length missing.now → slice_index missing.now a ≢ i) → c < size → row_byte rows.new size c i ≡ row_byte rows.old size c i) }
+    ensures gives { OnOk result ((m c : ℕ) → m < length repair.now → c < size → row_times sum_of product 0 (row_byte rows.new size c) (entry 0 generator.now) generator.now.rows (slice_index repair.now m) ≡ byte_of (arrived received.now (slice_index repair.now m)) c) }
+    ensures only { OnOk result (SolvedOnly received.now missing.now repair.now size generator.now rows.old rows.new) }
+{
+    let recovery = recovery(alloc, generator, missing, repair)?;
+    let mut row = Vec::from_elem(alloc, 0u8, size)?;
+    let mut sums = Vec::from_elem(alloc, 0u8, missing.len() * size)?;
+    residuals(received, repair, rows, size, generator, &mut row, &mut sums);
+    put_solved(&recovery, missing, &sums, size, &mut row, rows);
+    Ok(())
 }
