@@ -1,4 +1,5 @@
--- A byte column of a block of which source symbols are missing: the bytes that its repair symbols give back.
+-- A byte column of a block of which source symbols are missing: the bytes that its repair symbols give back. `held` has
+-- the others and zeros, and `lacks` is what the missing ones add to the repair symbols.
 use Rattle.std.proofs.Common.{◌≡◌, ◌≢◌, ℕ, ◌<◌, ◌≤◌, List, length, get_or, arith, ap, ◌∙◌, sym, refl}
 use Rattle.std.specs.Int.Bits.{xor_assoc, xor_self, xor_zero_r}
 use Rattle.std.proofs.lemmas.Nat.{xor_comm}
@@ -47,17 +48,11 @@ row_of_sums x y m n j ex ey em =
     e ∙ f ∙ ap (λ (v : ℕ). sum_of v (row_times sum_of product 0 (λ i. m i j) (λ i _. y i) n 0)) (sym g) ∙ ap (sum_of (row_times sum_of product 0 x m n j)) (sym h)
 
 module _ (g : Grid ℕ) (bytes : HasElements IsByte 0 g) (few : g.cols ≤ 255) (code : Encodes g.rows g.cols g) (missing repair : List ℕ) (h : AreErasures g.rows g.cols missing repair)
-    (w : Grid ℕ) (back : Recovers g missing repair w) (wb : HasElements IsByte 0 w) (held y : ℕ → ℕ) (eh : AreElements IsByte held) (ey : AreElements IsByte y)
+    (w : Grid ℕ) (back : Recovers g missing repair w) (held y lacks : ℕ → ℕ) (eh : AreElements IsByte held) (el : AreElements IsByte lacks)
+    (lack : (m : ℕ) → m < length missing → lacks m ≡ sum_of (y m) (row_times sum_of product 0 held (entry 0 g) g.rows (get_or repair m 0)))
     (none : (a : ℕ) → a < length missing → held (get_or missing a 0) ≡ 0) where
   gen_bytes : (i : ℕ) → AreElements IsByte (entry 0 g i)
   gen_bytes = elements_by_row IsByte 0 g bytes
-
-  -- what the missing symbols add to the repair symbols
-  abbrev pub lacks : ℕ → ℕ
-  lacks m = sum_of (y m) (row_times sum_of product 0 held (entry 0 g) g.rows (get_or repair m 0))
-
-  lacks_bytes : AreElements IsByte lacks
-  lacks_bytes m = byte_field.add_element _ _ (ey m) (dot_element IsByte sum_of product 0 1 byte_field held (λ i. entry 0 g i (get_or repair m 0)) g.rows eh (λ i. gen_bytes i (get_or repair m 0)))
 
   module _ (x : ℕ → ℕ) (ex : AreElements IsByte x) (kept : (i : ℕ) → i < g.rows → ((a : ℕ) → a < length missing → get_or missing a 0 ≢ i) → x i ≡ held i) where
     abbrev more : ℕ → ℕ
@@ -85,7 +80,7 @@ module _ (g : Grid ℕ) (bytes : HasElements IsByte 0 g) (few : g.cols ≤ 255) 
         → row_times sum_of product 0 lacks (entry 0 w) (length missing) a ≡ x (get_or missing a 0)
     worked_out gives a la =
         row_same lacks (row_times sum_of product 0 (λ a. x (get_or missing a 0)) (part_entry g missing repair) (length missing)) (entry 0 w) (length missing) a
-        (λ m lm. ap (λ (v : ℕ). sum_of v (row_times sum_of product 0 held (entry 0 g) g.rows (get_or repair m 0))) (gives m lm) ∙ by_missing m)
+        (λ m lm. lack m lm ∙ ap (λ (v : ℕ). sum_of v (row_times sum_of product 0 held (entry 0 g) g.rows (get_or repair m 0))) (gives m lm) ∙ by_missing m)
         ∙ back.back (λ a. x (get_or missing a 0)) (λ a. ex (get_or missing a 0)) a la
 
     -- a row with the missing bytes that are worked out gives the repair symbols
@@ -95,4 +90,4 @@ module _ (g : Grid ℕ) (bytes : HasElements IsByte 0 g) (few : g.cols ≤ 255) 
         sums_less _ _ (row_times sum_of product 0 held (entry 0 g) g.rows (get_or repair m 0))
         (by_missing m
         ∙ row_same (λ a. x (get_or missing a 0)) (row_times sum_of product 0 lacks (entry 0 w) (length missing)) (part_entry g missing repair) (length missing) m solved
-        ∙ back.forth lacks lacks_bytes m lm)
+        ∙ back.forth lacks el m lm ∙ lack m lm)

@@ -1,9 +1,10 @@
 -- A block of which some symbols came: its source symbols as rows of bytes.
-use Rattle.std.specs.Prelude.{◌≡◌, ◌≢◌, ℕ, ◌<◌, ◌≤◌, ◌+◌, ◌*◌, Bool, true, List, length, filter, slice_index, slice_index_or, Option, Some, None, option_map, is_some}
+use Rattle.std.specs.Prelude.{◌≡◌, ◌≢◌, ℕ, ◌<◌, ◌≤◌, ◌+◌, ◌*◌, ◌^◌, Bool, true, List, length, filter, slice_index, slice_index_or, Option, Some, None, option_map, is_some}
 use Rattle.std.specs.Borrow.{Bor}
 use Rattle.gf256.specs.Arithmetic.{IsByte, sum_of, product}
 use Rattle.elim.specs.Matrices.{row_times, AreElements}
-use Rattle.elim.specs.Grid.{Grid, entry}
+use Rattle.elim.specs.Grid.{Grid, entry, IsMatrix}
+use Rattle.elim.specs.Generator.{Encodes}
 use Rattle.elim.specs.Erasures.{AreRising}
 use Rattle.losses.specs.Numbers.{below}
 
@@ -49,10 +50,37 @@ abbrev pub MeetsOnly : (ℕ → Option (List ℕ)) → Grid ℕ → ℕ → List
 MeetsOnly at g size rows =
     (c : ℕ) (x : ℕ → ℕ) → c < size → AreElements IsByte x → Meets at g c x → (i : ℕ) → i < g.rows → row_byte rows size c i ≡ x i
 
+-- the symbols that came of a block, their length, and the block's generator matrix
+pub record IsBlock (received : List (Option (Bor (List ℕ)))) (size : ℕ) (g : Grid ℕ) : Type 0 where
+  pub matrix : IsMatrix IsByte 0 g
+  pub code : Encodes g.rows g.cols g
+  pub all : length received ≡ g.cols
+  pub small : size < 2 ^ 16
+  pub symbols : HaveLength size (arrived received)
+
+-- the other rows than the missing ones are as they were
+abbrev pub Keeps : List ℕ → ℕ → List ℕ → List ℕ → Type 0
+Keeps missing size old new =
+    (i c : ℕ) → ((a : ℕ) → a < length missing → slice_index missing a ≢ i) → c < size → row_byte new size c i ≡ row_byte old size c i
+
+-- the rows give these repair symbols
+abbrev pub Gives : List (Option (Bor (List ℕ))) → List ℕ → ℕ → Grid ℕ → List ℕ → Type 0
+Gives received repair size g rows =
+    (m c : ℕ) → m < length repair → c < size
+    → row_times sum_of product 0 (row_byte rows size c) (entry 0 g) g.rows (slice_index repair m) ≡ byte_of (arrived received (slice_index repair m)) c
+
 -- a row that has the other source symbols and the repair symbols has the missing ones that are put in their places
-abbrev pub SolvedOnly : List (Option (Bor (List ℕ))) → List ℕ → List ℕ → ℕ → Grid ℕ → List ℕ → List ℕ → Type 0
-SolvedOnly received missing repair size g old new =
+abbrev pub SolvesOnly : List (Option (Bor (List ℕ))) → List ℕ → List ℕ → ℕ → Grid ℕ → List ℕ → List ℕ → Type 0
+SolvesOnly received missing repair size g old new =
     (c : ℕ) (x : ℕ → ℕ) → c < size → AreElements IsByte x
     → ((i : ℕ) → i < g.rows → ((a : ℕ) → a < length missing → slice_index missing a ≢ i) → x i ≡ row_byte old size c i)
     → ((m : ℕ) → m < length repair → byte_of (arrived received (slice_index repair m)) c ≡ row_times sum_of product 0 x (entry 0 g) g.rows (slice_index repair m))
     → (a : ℕ) → a < length missing → row_byte new size c (slice_index missing a) ≡ x (slice_index missing a)
+
+-- the rows have the symbols that came in each column
+abbrev pub AreMet : (ℕ → Option (List ℕ)) → Grid ℕ → ℕ → List ℕ → Type 0
+AreMet at g size rows = (c : ℕ) → c < size → Meets at g c (row_byte rows size c)
+
+-- in each column some row has them
+abbrev pub CanBeMet : (ℕ → Option (List ℕ)) → Grid ℕ → ℕ → Type 0
+CanBeMet at g size = (c : ℕ) → c < size → CanMeet at g c

@@ -1,17 +1,26 @@
 //! A block's source symbols, made of as many encoding symbols as it has.
 ghost use Rattle.std.specs.Prelude.{◌≡◌, ◌≢◌, ◌<◌, ◌≤◌, ◌+◌, ◌*◌, ℕ, not, true, false, length, filter, slice_index, is_some, IfOk, OnOk};
-ghost use Rattle.gf256.specs.Arithmetic.{sum_of, product};
+ghost use Rattle.gf256.specs.Arithmetic.{AreBytes, sum_of, product};
 ghost use Rattle.elim.specs.Generator.{Encodes};
 ghost use Rattle.elim.specs.Grid.{HasShape, entry};
 ghost use Rattle.elim.specs.Matrices.{row_times};
-ghost use Rattle.elim.specs.Erasures.{AreErasures, AreRising};
+ghost use Rattle.elim.specs.Erasures.{AreErasures, AreRising, Recovers};
 ghost use Rattle.losses.specs.Numbers.{below};
-ghost use Rattle.coder.specs.Recovered.{arrived, byte_of, row_byte, HaveLength, AreThose, Meets, CanMeet, MeetsOnly, SolvedOnly};
+ghost use Rattle.coder.specs.Recovered.{arrived, byte_of, row_byte, HaveLength, AreThose, IsBlock, Keeps, Gives, SolvesOnly, AreMet, CanBeMet, MeetsOnly};
 
 use crate::rows::add_row;
 use elim::{Matrix, recovery};
 use gf256::Gf;
 use std::alloc::{AllocError, Global};
+
+/// A source block of which some symbols came: at each ESI the symbol, if it did, their size in bytes, and the generator
+/// matrix.
+#[derive(Clone, Copy)]
+pub struct Block<'a> {
+    pub received: &'a [Option<&'a [u8]>],
+    pub size: usize,
+    pub generator: &'a Matrix<Gf>,
+}
 
 // Puts bytes at a place and those behind it.
 fn put(bytes: &mut [u8], at: usize, row: &[u8])
@@ -125,33 +134,25 @@ fn residual(
 
 // What is left of repair symbols, one behind the other, when what the rows add to them is taken away. `row` is room for
 // one.
-fn residuals(
-    received: &[Option<&[u8]>],
-    repair: &[u8],
-    rows: &[u8],
-    size: usize,
-    generator: &Matrix<Gf>,
-    row: &mut [u8],
-    sums: &mut [u8],
-)
-    requires came { (m : ℕ) → m < length repair.now → is_some (arrived received.now (slice_index repair.now m)) ≡ true }
-    requires within { (m : ℕ) → m < length repair.now → slice_index repair.now m < generator.now.cols }
-    requires all { length received.now ≡ generator.now.cols }
-    requires symbols { HaveLength size (arrived received.now) }
-    requires rows { length rows.now ≡ generator.now.rows * size }
-    requires room { length row.old ≡ size }
-    requires sums { length sums.old ≡ length repair.now * size }
-    ensures room { length row.new ≡ size }
+fn residuals(block: &Block<'_>, repair: &[u8], rows: &[u8], row: &mut [u8], sums: &mut [u8])
+    requires block { IsBlock block.now.received.now block.now.size block.now.generator.now }
+    requires came { (m : ℕ) → m < length repair.now → is_some (arrived block.now.received.now (slice_index repair.now m)) ≡ true }
+    requires within { (m : ℕ) → m < length repair.now → slice_index repair.now m < block.now.generator.now.cols }
+    requires rows { length rows.now ≡ block.now.generator.now.rows * block.now.size }
+    requires room { length row.old ≡ block.now.size }
+    requires sums { length sums.old ≡ length repair.now * block.now.size }
+    ensures room { length row.new ≡ block.now.size }
+    ensures bytes { AreBytes rows.now }
     ensures len { length sums.new ≡ length sums.old }
-    ensures sums { (m c : ℕ) → m < length repair.now → c < size → row_byte sums.new size c m ≡ sum_of (byte_of (arrived received.now (slice_index repair.now m)) c) (row_times sum_of product 0 (row_byte rows.now size c) (entry 0 generator.now) generator.now.rows (slice_index repair.now m)) }
+    ensures sums { (m c : ℕ) → m < length repair.now → c < block.now.size → row_byte sums.new block.now.size c m ≡ sum_of (byte_of (arrived block.now.received.now (slice_index repair.now m)) c) (row_times sum_of product 0 (row_byte rows.now block.now.size c) (entry 0 block.now.generator.now) block.now.generator.now.rows (slice_index repair.now m)) }
 {
     for m in 0..repair.len() {
         let j = usize::from(repair[m]);
-        let Some(symbol) = received[j] else {
+        let Some(symbol) = block.received[j] else {
             unreachable!()
         };
-        residual(symbol, rows, size, generator, j, row);
-        put_row(sums, size, m, row);
+        residual(symbol, rows, block.size, block.generator, j, row);
+        put_row(sums, block.size, m, row);
     }
 }
 
@@ -170,6 +171,7 @@ fn put_solved(
     requires places { (a : ℕ) → a < length missing.now → slice_index missing.now a * size + size ≤ length rows.old }
     requires rise { AreRising missing.now }
     ensures room { length row.new ≡ size }
+    ensures bytes { AreBytes sums.now }
     ensures len { length rows.new ≡ length rows.old }
     ensures here { (a c : ℕ) → a < length missing.now → c < size → row_byte rows.new size c (slice_index missing.now a) ≡ row_times sum_of product 0 (row_byte sums.now size c) (entry 0 recovery.now) (length missing.now) a }
     ensures elsewhere { (i c : ℕ) → ((a : ℕ) → a < length missing.now → slice_index missing.now a ≢ i) → c < size → row_byte rows.new size c i ≡ row_byte rows.old size c i }
@@ -195,29 +197,21 @@ fn is_zero(bytes: &[u8]) -> bool
 }
 
 // Whether the rows give these repair symbols. `row` is room for one.
-fn give(
-    received: &[Option<&[u8]>],
-    repair: &[u8],
-    rows: &[u8],
-    size: usize,
-    generator: &Matrix<Gf>,
-    row: &mut [u8],
-) -> bool
-    requires came { (m : ℕ) → m < length repair.now → is_some (arrived received.now (slice_index repair.now m)) ≡ true }
-    requires within { (m : ℕ) → m < length repair.now → slice_index repair.now m < generator.now.cols }
-    requires all { length received.now ≡ generator.now.cols }
-    requires symbols { HaveLength size (arrived received.now) }
-    requires rows { length rows.now ≡ generator.now.rows * size }
-    requires room { length row.old ≡ size }
-    ensures given { result ≡ true → (m c : ℕ) → m < length repair.now → c < size → row_times sum_of product 0 (row_byte rows.now size c) (entry 0 generator.now) generator.now.rows (slice_index repair.now m) ≡ byte_of (arrived received.now (slice_index repair.now m)) c }
-    ensures other { result ≡ false → (m : ℕ) × (c : ℕ) × (m < length repair.now) × (c < size) × (row_times sum_of product 0 (row_byte rows.now size c) (entry 0 generator.now) generator.now.rows (slice_index repair.now m) ≢ byte_of (arrived received.now (slice_index repair.now m)) c) }
+fn give(block: &Block<'_>, repair: &[u8], rows: &[u8], row: &mut [u8]) -> bool
+    requires block { IsBlock block.now.received.now block.now.size block.now.generator.now }
+    requires came { (m : ℕ) → m < length repair.now → is_some (arrived block.now.received.now (slice_index repair.now m)) ≡ true }
+    requires within { (m : ℕ) → m < length repair.now → slice_index repair.now m < block.now.generator.now.cols }
+    requires rows { length rows.now ≡ block.now.generator.now.rows * block.now.size }
+    requires room { length row.old ≡ block.now.size }
+    ensures given { result ≡ true → (m c : ℕ) → m < length repair.now → c < block.now.size → row_times sum_of product 0 (row_byte rows.now block.now.size c) (entry 0 block.now.generator.now) block.now.generator.now.rows (slice_index repair.now m) ≡ byte_of (arrived block.now.received.now (slice_index repair.now m)) c }
+    ensures other { result ≡ false → (m : ℕ) × (c : ℕ) × (m < length repair.now) × (c < block.now.size) × (row_times sum_of product 0 (row_byte rows.now block.now.size c) (entry 0 block.now.generator.now) block.now.generator.now.rows (slice_index repair.now m) ≢ byte_of (arrived block.now.received.now (slice_index repair.now m)) c) }
 {
     for m in 0..repair.len() {
         let j = usize::from(repair[m]);
-        let Some(symbol) = received[j] else {
+        let Some(symbol) = block.received[j] else {
             unreachable!()
         };
-        residual(symbol, rows, size, generator, j, row);
+        residual(symbol, rows, block.size, block.generator, j, row);
         if !is_zero(row) {
             return false;
         }
@@ -225,32 +219,107 @@ fn give(
     true
 }
 
+// Works missing source symbols out of as many repair symbols by the matrix that recovers them, and puts them at their
+// places, which are empty. `row` is room for one symbol, `sums` for as many as are missing.
+fn solve_by(
+    block: &Block<'_>,
+    recovery: &Matrix<Gf>,
+    missing: &[u8],
+    repair: &[u8],
+    row: &mut [u8],
+    sums: &mut [u8],
+    rows: &mut [u8],
+)
+    requires block { IsBlock block.now.received.now block.now.size block.now.generator.now }
+    requires erasures { AreErasures block.now.generator.now.rows block.now.generator.now.cols missing.now repair.now }
+    requires shape { HasShape (length missing.now) (length missing.now) recovery.now }
+    requires recovers { Recovers block.now.generator.now missing.now repair.now recovery.now }
+    requires came { (m : ℕ) → m < length repair.now → is_some (arrived block.now.received.now (slice_index repair.now m)) ≡ true }
+    requires rows { length rows.old ≡ block.now.generator.now.rows * block.now.size }
+    requires room { length row.old ≡ block.now.size }
+    requires sums { length sums.old ≡ length missing.now * block.now.size }
+    requires empty { (a c : ℕ) → a < length missing.now → c < block.now.size → row_byte rows.old block.now.size c (slice_index missing.now a) ≡ 0 }
+    ensures len { length rows.new ≡ length rows.old }
+    ensures kept { Keeps missing.now block.now.size rows.old rows.new }
+    ensures gives { Gives block.now.received.now repair.now block.now.size block.now.generator.now rows.new }
+    ensures only { SolvesOnly block.now.received.now missing.now repair.now block.now.size block.now.generator.now rows.old rows.new }
+{
+    residuals(block, repair, rows, row, sums);
+    put_solved(recovery, missing, sums, block.size, row, rows);
+}
+
 // Works missing source symbols out of as many repair symbols, and puts them at their places, which are empty.
 fn solve(
     alloc: Global,
-    received: &[Option<&[u8]>],
+    block: &Block<'_>,
     missing: &[u8],
     repair: &[u8],
-    size: usize,
-    generator: &Matrix<Gf>,
     rows: &mut [u8],
 ) -> Result<(), AllocError>
-    requires code { Encodes generator.now.rows generator.now.cols generator.now }
-    requires erasures { AreErasures generator.now.rows generator.now.cols missing.now repair.now }
-    requires came { (m : ℕ) → m < length repair.now → is_some (arrived received.now (slice_index repair.now m)) ≡ true }
-    requires all { length received.now ≡ generator.now.cols }
-    requires symbols { HaveLength size (arrived received.now) }
-    requires rows { length rows.old ≡ generator.now.rows * size }
-    requires empty { (a c : ℕ) → a < length missing.now → c < size → row_byte rows.old size c (slice_index missing.now a) ≡ 0 }
+    requires block { IsBlock block.now.received.now block.now.size block.now.generator.now }
+    requires erasures { AreErasures block.now.generator.now.rows block.now.generator.now.cols missing.now repair.now }
+    requires came { (m : ℕ) → m < length repair.now → is_some (arrived block.now.received.now (slice_index repair.now m)) ≡ true }
+    requires rows { length rows.old ≡ block.now.generator.now.rows * block.now.size }
+    requires empty { (a c : ℕ) → a < length missing.now → c < block.now.size → row_byte rows.old block.now.size c (slice_index missing.now a) ≡ 0 }
     ensures len { length rows.new ≡ length rows.old }
-    ensures kept { OnOk result ((i c : ℕ) → ((a : ℕ) → a < length missing.now → slice_index missing.now a ≢ i) → c < size → row_byte rows.new size c i ≡ row_byte rows.old size c i) }
-    ensures gives { OnOk result ((m c : ℕ) → m < length repair.now → c < size → row_times sum_of product 0 (row_byte rows.new size c) (entry 0 generator.now) generator.now.rows (slice_index repair.now m) ≡ byte_of (arrived received.now (slice_index repair.now m)) c) }
-    ensures only { OnOk result (SolvedOnly received.now missing.now repair.now size generator.now rows.old rows.new) }
+    ensures kept { OnOk result (Keeps missing.now block.now.size rows.old rows.new) }
+    ensures gives { OnOk result (Gives block.now.received.now repair.now block.now.size block.now.generator.now rows.new) }
+    ensures only { OnOk result (SolvesOnly block.now.received.now missing.now repair.now block.now.size block.now.generator.now rows.old rows.new) }
 {
-    let recovery = recovery(alloc, generator, missing, repair)?;
-    let mut row = Vec::from_elem(alloc, 0u8, size)?;
-    let mut sums = Vec::from_elem(alloc, 0u8, missing.len() * size)?;
-    residuals(received, repair, rows, size, generator, &mut row, &mut sums);
-    put_solved(&recovery, missing, &sums, size, &mut row, rows);
+    let recovery = recovery(alloc, block.generator, missing, repair)?;
+    let mut row = Vec::from_elem(alloc, 0u8, block.size)?;
+    let mut sums = Vec::from_elem(alloc, 0u8, missing.len() * block.size)?;
+    solve_by(block, &recovery, missing, repair, &mut row, &mut sums, rows);
     Ok(())
+}
+
+// Makes all source symbols of those that came and of repair symbols, and tells whether the other repair symbols are
+// theirs.
+fn recover_by(
+    alloc: Global,
+    block: &Block<'_>,
+    missing: &[u8],
+    repair: &[u8],
+    rows: &mut [u8],
+) -> Result<bool, AllocError>
+    requires block { IsBlock block.now.received.now block.now.size block.now.generator.now }
+    requires missing { AreThose (λ j. not (is_some (arrived block.now.received.now j))) 0 block.now.generator.now.rows missing.now }
+    requires repair { AreThose (λ j. is_some (arrived block.now.received.now j)) block.now.generator.now.rows block.now.generator.now.cols repair.now }
+    requires enough { length missing.now ≤ length repair.now }
+    requires rows { length rows.old ≡ block.now.generator.now.rows * block.now.size }
+    requires placed { (i c : ℕ) → i < block.now.generator.now.rows → c < block.now.size → row_byte rows.old block.now.size c i ≡ byte_of (arrived block.now.received.now i) c }
+    ensures len { length rows.new ≡ length rows.old }
+    ensures met { IfOk result (λ ok. ok ≡ true → AreMet (arrived block.now.received.now) block.now.generator.now block.now.size rows.new) }
+    ensures only { OnOk result (MeetsOnly (arrived block.now.received.now) block.now.generator.now block.now.size rows.new) }
+    ensures none { IfOk result (λ ok. ok ≡ false → CanBeMet (arrived block.now.received.now) block.now.generator.now block.now.size → ⊥) }
+{
+    let used = &repair[..missing.len()];
+    if !missing.is_empty() {
+        solve(alloc, block, missing, used, rows)?;
+    }
+    let mut row = Vec::from_elem(alloc, 0u8, block.size)?;
+    Ok(give(block, &repair[missing.len()..], rows, &mut row))
+}
+
+/// Makes a block's source symbols, as rows one behind the other, of the symbols that came, and tells whether all of
+/// these are symbols of one word.
+pub fn recover(
+    alloc: Global,
+    block: &Block<'_>,
+    rows: &mut [u8],
+) -> Result<bool, AllocError>
+    requires block { IsBlock block.now.received.now block.now.size block.now.generator.now }
+    requires enough { block.now.generator.now.rows ≤ length (filter (λ j. is_some (arrived block.now.received.now j)) (below block.now.generator.now.cols)) }
+    requires rows { length rows.old ≡ block.now.generator.now.rows * block.now.size }
+    requires empty { (p : ℕ) → slice_index rows.old p ≡ 0 }
+    ensures len { length rows.new ≡ length rows.old }
+    ensures met { IfOk result (λ ok. ok ≡ true → AreMet (arrived block.now.received.now) block.now.generator.now block.now.size rows.new) }
+    ensures only { OnOk result (MeetsOnly (arrived block.now.received.now) block.now.generator.now block.now.size rows.new) }
+    ensures none { IfOk result (λ ok. ok ≡ false → CanBeMet (arrived block.now.received.now) block.now.generator.now block.now.size → ⊥) }
+{
+    let k = block.generator.rows();
+    place_sources(block.received, k, block.size, rows);
+    let missing = missing_esis(alloc, block.received, k)?;
+    let repair = repair_esis(alloc, block.received, k)?;
+    recover_by(alloc, block, &missing, &repair, rows)
 }

@@ -20,11 +20,11 @@ byte_is received j r s y e is = ap (λ (n : ℕ). byte_of (arrived received n) y
 pub returns-then-not-is_zero-clause-other : goal.returns-then-not-is_zero-clause-other
 returns-then-not-is_zero-clause-other c = λ _.
     let w = c.is_zero.ensures.other c.if-not-is_zero.true in
-    let ly : w.0 < c.args.size = omega (arith, w.1, c.residual.ensures.len, c.loop-m.invariant.room) in
+    let ly : w.0 < c.args.block.now.size = omega (arith, w.1, c.residual.ensures.len, c.loop-m.invariant.room) in
     (c.loop-m.m, w.0, omega arith, ly, λ e.
     w.2 (c.residual.ensures.sums w.0 ly
-    ∙ ap (λ (j : ℕ). sum_of (slice_index c.in-Some.symbol.now w.0) (given c.args.rows.now c.args.size c.args.generator.now w.0 j)) c.from-j.ensures
-    ∙ ap (sum_of (slice_index c.in-Some.symbol.now w.0)) (e ∙ byte_is c.args.received.now c.from-j.result _ c.in-Some.symbol w.0 c.from-j.ensures c.in-Some.is)
+    ∙ ap (λ (j : ℕ). sum_of (slice_index c.in-Some.symbol.now w.0) (given c.args.rows.now c.args.block.now.size c.args.block.now.generator.now w.0 j)) c.from-j.ensures
+    ∙ ap (sum_of (slice_index c.in-Some.symbol.now w.0)) (e ∙ byte_is c.args.block.now.received.now c.from-j.result _ c.in-Some.symbol w.0 c.from-j.ensures c.in-Some.is)
     ∙ sum_itself (slice_index c.in-Some.symbol.now w.0)))
 
 pub loop-m-preserved : goal.loop-m-preserved
@@ -34,11 +34,11 @@ loop-m-preserved c =
       room = c.residual.ensures.len ∙ c.loop-m.invariant.room;
       given = λ m y lm ly. elim (cases_eq m c.loop-m.m) [
         | inl e ↦
-            (ap (λ (n : ℕ). given c.args.rows.now c.args.size c.args.generator.now y (slice_index c.args.repair.now n)) e
-            ∙ ap (given c.args.rows.now c.args.size c.args.generator.now y) (sym c.from-j.ensures)
-            ∙ sum_none_same (slice_index c.in-Some.symbol.now y) (given c.args.rows.now c.args.size c.args.generator.now y c.from-j.result) (sym (c.residual.ensures.sums y ly) ∙ zero y)
-            ∙ sym (byte_is c.args.received.now c.from-j.result _ c.in-Some.symbol y c.from-j.ensures c.in-Some.is)
-            ∙ ap (λ (n : ℕ). byte_of (arrived c.args.received.now (slice_index c.args.repair.now n)) y) (sym e))
+            (ap (λ (n : ℕ). given c.args.rows.now c.args.block.now.size c.args.block.now.generator.now y (slice_index c.args.repair.now n)) e
+            ∙ ap (given c.args.rows.now c.args.block.now.size c.args.block.now.generator.now y) (sym c.from-j.ensures)
+            ∙ sum_none_same (slice_index c.in-Some.symbol.now y) (given c.args.rows.now c.args.block.now.size c.args.block.now.generator.now y c.from-j.result) (sym (c.residual.ensures.sums y ly) ∙ zero y)
+            ∙ sym (byte_is c.args.block.now.received.now c.from-j.result _ c.in-Some.symbol y c.from-j.ensures c.in-Some.is)
+            ∙ ap (λ (n : ℕ). byte_of (arrived c.args.block.now.received.now (slice_index c.args.repair.now n)) y) (sym e))
         | inr ne ↦ c.loop-m.invariant.given m y (omega (arith, lm, ne)) ly
       ];
     }

@@ -7,6 +7,6 @@ use Rattle.coder.proofs.recovering.give.Given as goal
 
 abbrev pub invariant-loop-m : goal.invariant-loop-m
 invariant-loop-m l = record {
-  room : length l.row ≡ l.size;
-  given : (m c : ℕ) → m < l.m → c < l.size → row_times sum_of product 0 (row_byte l.rows l.size c) (entry 0 l.generator) l.generator.rows (slice_index l.repair m) ≡ byte_of (arrived l.received (slice_index l.repair m)) c;
+  room : length l.row ≡ l.block.size;
+  given : (m c : ℕ) → m < l.m → c < l.block.size → row_times sum_of product 0 (row_byte l.rows l.block.size c) (entry 0 l.block.generator.now) l.block.generator.now.rows (slice_index l.repair m) ≡ byte_of (arrived l.block.received.now (slice_index l.repair m)) c;
 }

@@ -7,7 +7,7 @@ use Rattle.coder.proofs.recovering.residuals.Given as goal
 
 abbrev pub invariant-loop-m : goal.invariant-loop-m
 invariant-loop-m l = record {
-  room : length l.row ≡ l.size;
+  room : length l.row ≡ l.block.size;
   len : length l.sums ≡ length l.initial.sums;
-  sums : (m c : ℕ) → m < l.m → c < l.size → row_byte l.sums l.size c m ≡ sum_of (byte_of (arrived l.received (slice_index l.repair m)) c) (row_times sum_of product 0 (row_byte l.rows l.size c) (entry 0 l.generator) l.generator.rows (slice_index l.repair m));
+  sums : (m c : ℕ) → m < l.m → c < l.block.size → row_byte l.sums l.block.size c m ≡ sum_of (byte_of (arrived l.block.received.now (slice_index l.repair m)) c) (row_times sum_of product 0 (row_byte l.rows l.block.size c) (entry 0 l.block.generator.now) l.block.generator.now.rows (slice_index l.repair m));
 }
