@@ -11,3 +11,4 @@ pub mod Receiving
 pub mod RowAdding
 pub mod Erased
 pub mod Those
+pub mod Meetings

@@ -1,8 +1,8 @@
 -- Numbers that pass a test, listed one by one.
-use Rattle.std.specs.Prelude.{filter, Option, Some, None, option_map, is_some}
+use Rattle.std.specs.Prelude.{filter, not, Option, Some, None, option_map, is_some}
 use Rattle.std.specs.Borrow.{Bor}
-use Rattle.std.proofs.Common.{◌≡◌, ℕ, suc, ◌+◌, ◌<◌, ◌≤◌, Bool, true, false, List, [], ◌∷◌, ◌++◌, length, get_or, arith, ap, ◌∙◌, sym, refl, inl, inr, subst}
-use Rattle.std.proofs.lemmas.Bool.{cases_eq, cases_lt}
+use Rattle.std.proofs.Common.{◌≡◌, ℕ, zero, suc, ◌+◌, ◌<◌, ◌≤◌, Bool, true, false, List, [], ◌∷◌, ◌++◌, length, get_or, arith, ap, ◌∙◌, sym, refl, inl, inr, subst}
+use Rattle.std.proofs.lemmas.Bool.{cases_Bool, cases_eq, cases_lt}
 use Rattle.std.proofs.lemmas.List.{get_or_append_left, get_or_push, length-append}
 use Rattle.elim.proofs.Rising.{rising_none, rising_more}
 use Rattle.losses.specs.Numbers.{below}
@@ -60,3 +60,27 @@ those_same t from to xs those other = record {
 pub came_is : (o : Option (Bor (List ℕ))) → is_some (option_map (λ s. s.now) o) ≡ is_some o
 came_is None = refl
 came_is (Some s) = refl
+
+none_below : (t : ℕ → Bool) → length (filter t (below 0)) ≡ 0
+unfolding below
+none_below t = refl
+
+-- those below a number that pass, and those that don't, are all
+parts : (t : ℕ → Bool) (n : ℕ) → length (filter t (below n)) + length (filter (λ j. not (t j)) (below n)) ≡ n
+parts t zero = omega (arith, none_below t, none_below (λ j. not (t j)))
+parts t (suc n) = elim (cases_Bool (t n)) [
+  | inl passes ↦ omega (arith, parts t n, one_more_held t n passes, none_more_held (λ j. not (t j)) n (rw passes refl))
+  | inr other ↦ omega (arith, parts t n, none_more_held t n other, one_more_held (λ j. not (t j)) n (rw other refl))
+]
+
+pub few_pass : (t : ℕ → Bool) (n : ℕ) → length (filter t (below n)) ≤ n
+few_pass t n = omega (arith, parts t n)
+
+-- where k of all pass, at least as many of those from k on do as don't below k
+pub as_many : (t : ℕ → Bool) (k n : ℕ) (others passing : List ℕ) → AreThose (λ j. not (t j)) 0 k others → AreThose t k n passing → k ≤ length (filter t (below n)) → length others ≤ length passing
+as_many t k n others passing ho hp enough = omega (arith, parts t k, ho.count, hp.count, enough, none_below (λ j. not (t j)))
+
+-- the same between equal bounds, in an equal list
+pub those_same_as : (t : ℕ → Bool) (from from2 to to2 : ℕ) (xs ys : List ℕ) → AreThose t from to xs → from ≡ from2 → to ≡ to2 → ys ≡ xs → AreThose t from2 to2 ys
+those_same_as t from from2 to to2 xs ys those e1 e2 e3 =
+    subst (λ (n : ℕ). AreThose t n to2 ys) e1 (subst (λ (n : ℕ). AreThose t from n ys) e2 (subst (AreThose t from to) (sym e3) those))

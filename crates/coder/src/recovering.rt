@@ -273,6 +273,31 @@ fn solve(
     Ok(())
 }
 
+// The same, where it may be that none is missing.
+fn fill(
+    alloc: Global,
+    block: &Block<'_>,
+    missing: &[u8],
+    repair: &[u8],
+    rows: &mut [u8],
+) -> Result<(), AllocError>
+    requires block { IsBlock block.now.received.now block.now.size block.now.generator.now }
+    requires count { length repair.now ≡ length missing.now }
+    requires erasures { 0 < length missing.now → AreErasures block.now.generator.now.rows block.now.generator.now.cols missing.now repair.now }
+    requires came { (m : ℕ) → m < length repair.now → is_some (arrived block.now.received.now (slice_index repair.now m)) ≡ true }
+    requires rows { length rows.old ≡ block.now.generator.now.rows * block.now.size }
+    requires empty { (a c : ℕ) → a < length missing.now → c < block.now.size → row_byte rows.old block.now.size c (slice_index missing.now a) ≡ 0 }
+    ensures len { length rows.new ≡ length rows.old }
+    ensures kept { OnOk result (Keeps missing.now block.now.size rows.old rows.new) }
+    ensures gives { OnOk result (Gives block.now.received.now repair.now block.now.size block.now.generator.now rows.new) }
+    ensures only { OnOk result (SolvesOnly block.now.received.now missing.now repair.now block.now.size block.now.generator.now rows.old rows.new) }
+{
+    if missing.is_empty() {
+        return Ok(());
+    }
+    solve(alloc, block, missing, repair, rows)
+}
+
 // Makes all source symbols of those that came and of repair symbols, and tells whether the other repair symbols are
 // theirs.
 fn recover_by(
@@ -293,10 +318,7 @@ fn recover_by(
     ensures only { OnOk result (MeetsOnly (arrived block.now.received.now) block.now.generator.now block.now.size rows.new) }
     ensures none { IfOk result (λ ok. ok ≡ false → CanBeMet (arrived block.now.received.now) block.now.generator.now block.now.size → ⊥) }
 {
-    let used = &repair[..missing.len()];
-    if !missing.is_empty() {
-        solve(alloc, block, missing, used, rows)?;
-    }
+    fill(alloc, block, missing, &repair[..missing.len()], rows)?;
     let mut row = Vec::from_elem(alloc, 0u8, block.size)?;
     Ok(give(block, &repair[missing.len()..], rows, &mut row))
 }
