@@ -5,3 +5,4 @@ pub mod Certified
 pub mod Received
 pub mod Answers
 pub mod Recovered
+pub mod Decoded

@@ -20,8 +20,8 @@ pub struct Short {
     pub need: usize,
 }
 
-// How many different ESIs below `n` came of a block.
-fn have(symbols: &Symbols<'_>, b: u32, n: usize) -> usize
+/// How many different ESIs below `n` came of a block.
+pub fn have(symbols: &Symbols<'_>, b: u32, n: usize) -> usize
     requires { n ≤ 255 }
     ensures { result ≡ length (filter (λ j. is_some (stored symbols.now b j)) (below n)) }
 {

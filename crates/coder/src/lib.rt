@@ -5,10 +5,12 @@ mod answer;
 mod block_matrices;
 mod certifying;
 mod counting;
+mod decoding;
 mod received;
 mod recovering;
 mod rows;
 mod sending;
+mod unsolvable;
 
 pub use answer::{Answer, DecodeFault};
 pub use certifying::{CertifyFault, certify};

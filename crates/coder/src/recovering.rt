@@ -183,8 +183,8 @@ fn put_solved(
     }
 }
 
-// Whether all bytes are zero.
-fn is_zero(bytes: &[u8]) -> bool
+/// Whether all bytes are zero.
+pub fn is_zero(bytes: &[u8]) -> bool
     ensures zero { result ≡ true → (c : ℕ) → slice_index bytes.now c ≡ 0 }
     ensures other { result ≡ false → (c : ℕ) × (c < length bytes.now) × (slice_index bytes.now c ≢ 0) }
 {

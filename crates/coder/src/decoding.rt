@@ -1,0 +1,129 @@
+//! Decoding: the object that datagrams give, or why they give none.
+ghost use Rattle.std.specs.Prelude.{◌≡◌, ◌<◌, ◌≤◌, ◌*◌, ℕ, true, false, [], length, map, filter, is_some, slice_index, slice_index_or, IfOk, IfSome, IsNone};
+ghost use Rattle.gf256.specs.Arithmetic.{AreBytes};
+ghost use Rattle.partition.specs.Fti.{block_count, source_count};
+ghost use Rattle.coder.specs.Answers.{answer_value};
+ghost use Rattle.coder.specs.BlockMatrices.{EachBlockHas, IsCodeOf};
+ghost use Rattle.coder.specs.Decoded.{AreWithin, IsEnoughAt, AreRows, IsUnexplained, Answers};
+ghost use Rattle.coder.specs.Received.{stored};
+ghost use Rattle.coder.specs.Recovered.{arrived, IsBlock};
+
+use crate::answer::{Answer, DecodeFault};
+use crate::block_matrices::BlockMatrices;
+use crate::received::{Received, Symbols};
+use crate::recovering::{Block, is_zero, recover};
+use partition::Fti;
+use std::alloc::{AllocError, Global};
+
+// What the type says of a datagram.
+fn are_bytes(datagram: &[u8])
+    ensures { AreBytes datagram.now }
+{
+}
+
+// What it says of each.
+fn all_are_bytes(datagrams: &[&[u8]])
+    ensures { (i : ℕ) → i < length datagrams.now → AreBytes (slice_index_or (map (λ d. d.now) datagrams.now) i []) }
+{
+    for i in 0..datagrams.len() {
+        are_bytes(datagrams[i]);
+    }
+}
+
+// The symbols of a block at its ESIs, those that came.
+fn arrivals<'a>(
+    alloc: Global,
+    symbols: &Symbols<'a>,
+    b: u32,
+    n: usize,
+) -> Result<Vec<Option<&'a [u8]>>, AllocError>
+    requires { n ≤ 255 }
+    ensures len { IfOk result (λ v. length v.items ≡ n) }
+    ensures at { IfOk result (λ v. (j : ℕ) → j < n → arrived v.items j ≡ stored symbols.now b j) }
+{
+    let mut arrivals = Vec::with_capacity(alloc, n)?;
+    for esi in 0..n {
+        arrivals.push(symbols.get(&(b, esi as u8)).copied())?;
+    }
+    Ok(arrivals)
+}
+
+// Makes a block's rows, and tells whether all that came of it are symbols of an object.
+fn decode_rows(
+    alloc: Global,
+    fti: &Fti,
+    b: u32,
+    block: &Block<'_>,
+    rows: &mut [u8],
+) -> Result<bool, AllocError>
+    requires number { b < block_count fti.now }
+    requires block { IsBlock block.now.received.now block.now.size block.now.generator.now }
+    requires code { IsCodeOf fti.now b block.now.generator.now }
+    requires size { block.now.size ≡ fti.now.symbol_length }
+    requires enough { IsEnoughAt fti.now b (arrived block.now.received.now) }
+    requires rows { length rows.old ≡ source_count fti.now b * fti.now.symbol_length }
+    requires empty { (p : ℕ) → slice_index rows.old p ≡ 0 }
+    ensures len { length rows.new ≡ length rows.old }
+    ensures rows { IfOk result (λ ok. ok ≡ true → AreRows fti.now b (arrived block.now.received.now) rows.new) }
+    ensures none { IfOk result (λ ok. ok ≡ false → IsUnexplained fti.now b (arrived block.now.received.now)) }
+{
+    if !recover(alloc, block, rows)? {
+        return Ok(false);
+    }
+    let left = fti.length() - fti.start(b) * u64::from(fti.symbol());
+    let used = left.min(rows.len() as u64) as usize;
+    Ok(is_zero(&rows[used..]))
+}
+
+/// A block's source symbols, if all that came of it are symbols of an object.
+pub fn block_rows(
+    alloc: Global,
+    received: &Received<'_>,
+    generators: &BlockMatrices,
+    b: u32,
+) -> Result<Option<Vec<u8>>, AllocError>
+    requires number { b < block_count received.now.fti }
+    requires generators { EachBlockHas (IsCodeOf received.now.fti) received.now.fti generators.now.large generators.now.small }
+    requires within { AreWithin received.now.fti (stored received.now.symbols) }
+    requires enough { IsEnoughAt received.now.fti b (stored received.now.symbols b) }
+    ensures rows { IfOk result (λ o. IfSome o (λ v. AreRows received.now.fti b (stored received.now.symbols b) v.items)) }
+    ensures none { IfOk result (λ o. IsNone o → IsUnexplained received.now.fti b (stored received.now.symbols b)) }
+{
+    let fti = &received.fti;
+    let size = usize::from(fti.symbol());
+    let arrivals = arrivals(alloc, &received.symbols, b, fti.n(b))?;
+    let mut rows = Vec::from_elem(alloc, 0u8, fti.k(b) * size)?;
+    let block = Block {
+        received: &arrivals,
+        size,
+        generator: generators.of(fti.k(b)),
+    };
+    if decode_rows(alloc, fti, b, &block, &mut rows)? {
+        Ok(Some(rows))
+    } else {
+        Ok(None)
+    }
+}
+
+// The object, or the first block that isn't of one, where no block is short.
+fn decode_all(
+    alloc: Global,
+    received: &Received<'_>,
+    generators: &BlockMatrices,
+) -> Result<Answer, AllocError>
+    requires generators { EachBlockHas (IsCodeOf received.now.fti) received.now.fti generators.now.large generators.now.small }
+    requires within { AreWithin received.now.fti (stored received.now.symbols) }
+    requires enough { (b : ℕ) → b < block_count received.now.fti → IsEnoughAt received.now.fti b (stored received.now.symbols b) }
+    ensures { IfOk result (λ a. Answers received.now.fti (stored received.now.symbols) (answer_value a)) }
+{
+    let fti = &received.fti;
+    let mut object = Vec::with_capacity(alloc, fti.length() as usize)?;
+    for b in 0..fti.blocks() {
+        let Some(rows) = block_rows(alloc, received, generators, b)? else {
+            return Ok(Answer::Fault(DecodeFault::NotCode(b)));
+        };
+        let left = fti.length() as usize - object.len();
+        object.extend_from_slice(&rows[..left.min(rows.len())])?;
+    }
+    Ok(Answer::Object(object))
+}
