@@ -2,8 +2,9 @@
 """Times the program's commands: MB/s of object, and the most memory that each held, in MiB.
 
 Each command runs once for each row, on one core, with files that the program itself made of random bytes. `drop` leaves
-1,000 places out. `decode` gets a session without as many source symbols of each block as it has repair symbols, or
-without all of them where there are as many repair symbols. A command that the program doesn't have is told as `-`.
+1,000 places out, a quarter at most. `decode` gets a session without as many source symbols of each block as it has
+repair symbols, or without all of them where there are as many repair symbols. A command that the program doesn't have
+is told as `-`.
 The tables go to standard output, the seconds to standard error as they come. The whole takes some minutes.
 """
 import argparse
@@ -32,8 +33,7 @@ class Case:
         self.size, self.symbol, self.block, self.most = size, symbol, block, most
 
     def name(self):
-        size = f"{self.size // MIB} MiB" if self.size % MIB == 0 else f"{self.size:,} bytes"
-        return f"{self.block}/{self.most}, E {self.symbol:,}, {size}"
+        return f"{self.block}/{self.most}, E {self.symbol:,}, {self.size / MIB:.2g} MiB"
 
     def blocks(self):
         """The numbers of source and of encoding symbols of each block (RFC 5052, section 9.1)."""
@@ -47,7 +47,7 @@ class Case:
         """The words of each command."""
         sizes = ["--symbol", str(self.symbol), "--block", str(self.block), "--max", str(self.most)]
         datagrams = sum(n for _, n in self.blocks())
-        dropped = min(DROPPED, datagrams)
+        dropped = min(DROPPED, datagrams // 4)
         return {
             "encode": ["object", "session", "--tsi", "1", "--toi", "1", *sizes],
             "certify": ["object", "certificate", *sizes],
@@ -101,8 +101,8 @@ def watch(pid, ended, peaks):
 def wait_for(child):
     """The child's status, and the most memory that it held, in KiB.
 
-    The system counts this script's memory in, as the child began as a copy of it. Where that hides the child's, what was
-    seen while it ran is told.
+    The system counts this script's memory in, as the child began as a copy of it. Where that hides the child's, the
+    most that was seen while it ran is told.
     """
     ended, peaks = threading.Event(), [0]
     watcher = threading.Thread(target=watch, args=(child.pid, ended, peaks))
@@ -154,7 +154,8 @@ def cell(case, result):
     if result is None:
         return "-"
     seconds, mebibytes = result
-    return f"{case.size / seconds / 1e6:.1f} {mebibytes:5.0f}"
+    # A command may end before it was ever seen.
+    return f"{case.size / seconds / 1e6:.1f} " + (f"{mebibytes:5.0f}" if mebibytes else "    -")
 
 
 def row(name, cells):
@@ -190,4 +191,5 @@ def main():
     table("One block of 255 source symbols", [Case(255 * 1400, 1400, 255, 255)], wanted, measured)
 
 
-main()
+if __name__ == "__main__":
+    main()
