@@ -1,7 +1,7 @@
 -- A block's rows in terms of its polynomials.
 use Rattle.std.specs.Prelude.{slice_index, is_some, option_map}
 use Rattle.std.specs.Borrow.{Bor}
-use Rattle.std.proofs.Common.{◌≡◌, ◌≢◌, ℕ, ◌+◌, ◌-◌, ◌*◌, ◌/◌, ◌%◌, ◌<◌, ◌≤◌, List, Option, Some, None, length, get_or, take, drop, get_or-take, length-take, arith, ap, ◌∙◌, sym, subst, inl, inr}
+use Rattle.std.proofs.Common.{◌≡◌, ◌≢◌, ℕ, ◌+◌, ◌-◌, ◌*◌, ◌/◌, ◌%◌, ◌<◌, ◌≤◌, List, Option, Some, None, length, get_or, take, drop, get_or-take, length-take, arith, ap, ◌∙◌, sym, refl, subst, inl, inr}
 use Rattle.std.proofs.lemmas.Bool.{cases_lt}
 use Rattle.std.proofs.lemmas.List.{get_or_past, get_or-drop, length-drop}
 use Rattle.std.proofs.lemmas.Nat.{div-add-mod'}
@@ -11,10 +11,13 @@ use Rattle.poly.specs.Polynomial.{value, IsPolynomial}
 use Rattle.partition.specs.Fti.{Fti, source_count, encoding_count, start_of, source_place}
 use Rattle.elim.specs.Grid.{Grid, entry}
 use Rattle.elim.specs.Matrices.{row_times, AreElements}
+use Rattle.losses.specs.Numbers.{below}
+use Rattle.losses.proofs.Lists.{filter_same}
+use Rattle.losses.proofs.Below.{all_below}
 use Rattle.coder.specs.BlockMatrices.{IsCodeOf}
 use Rattle.coder.specs.Columns.{ColumnExplained}
-use Rattle.coder.specs.Decoded.{RowsColumn, AreRows, IsUnexplained}
-use Rattle.coder.specs.Recovered.{arrived, row_byte, IsBlock, Meets, CanMeet, AreMet, CanBeMet, MeetsOnly}
+use Rattle.coder.specs.Decoded.{AreWithin, IsEnoughAt, RowsColumn, AreRows, IsUnexplained}
+use Rattle.coder.specs.Recovered.{arrived, row_byte, HaveLength, IsBlock, Meets, CanMeet, AreMet, CanBeMet, MeetsOnly}
 use Rattle.coder.proofs.Words.{through, wide, word_of_values, values_bytes}
 
 length-take-most : (n : ℕ) (xs : List ℕ) → length (take n xs) ≤ n
@@ -99,3 +102,49 @@ other_behind rows used p lt ne =
 pub row_and_column : (q k size : ℕ) → 0 < size → q < k * size → (i : ℕ) × (c : ℕ) × (i < k) × (c < size) × (i * size + c ≡ q)
 row_and_column q k size some lt =
     (q / size, q % size, (div-lt_iff_lt-mul {k = size} {x = q} {y = k} some).1 lt, mod-lt q some, div-add-mod' q size)
+
+-- the symbols of a block that were read at its ESIs are those that stand there
+module _ (f : Fti) (b : ℕ) (at : ℕ → ℕ → Option (List ℕ)) (within : AreWithin f at) (received : List (Option (Bor (List ℕ)))) (len : length received ≡ encoding_count f b)
+    (same : (j : ℕ) → j < length received → arrived received j ≡ at b j) where
+  nothing_past : (j : ℕ) (o : Option (List ℕ)) → at b j ≡ o → length received ≤ j → o ≡ None
+  nothing_past j None e past = refl
+  nothing_past j (Some y) e past = let h = within.esi b j y e in absurd (omega (arith, h, past, len))
+
+  pub same_at : (j : ℕ) → arrived received j ≡ at b j
+  same_at j = elim (cases_lt j (length received)) [
+    | inl lt ↦ same j lt
+    | inr past ↦ ap (λ (o : Option (Bor (List ℕ))). option_map (λ s. s.now) o) (get_or_past received j None past) ∙ sym (nothing_past j (at b j) refl past)
+  ]
+
+  pub have_length : HaveLength f.symbol_length (arrived received)
+  have_length j y some = within.count b j y (sym (same_at j) ∙ some)
+
+  pub enough_arrived : IsEnoughAt f b (at b) → IsEnoughAt f b (arrived received)
+  enough_arrived enough =
+      subst (λ (l : List ℕ). source_count f b ≤ length l)
+      (filter_same (λ j. is_some (at b j)) (λ j. is_some (arrived received j)) (below (encoding_count f b))
+      (all_below (λ j. is_some (at b j) ≡ is_some (arrived received j)) (encoding_count f b) (λ j lj. ap is_some (sym (same_at j))))) enough
+
+  pub rows_at : (rows : List ℕ) → AreRows f b (arrived received) rows → AreRows f b (at b) rows
+  rows_at rows h = record {
+    count = h.count;
+    columns = λ c lc. (let w = h.columns c lc in
+        record { polynomial = w.polynomial; form = w.form; source = w.source; symbols = λ j y some. w.symbols j y (same_at j ∙ some) });
+    padding = h.padding;
+  }
+
+  pub unexplained_at : IsUnexplained f b (arrived received) → IsUnexplained f b (at b)
+  unexplained_at h explained = h (λ c lc. (let w = explained c lc in
+      record { polynomial = w.polynomial; form = w.form; symbols = λ j y some. w.symbols j y (sym (same_at j) ∙ some); padding = w.padding }))
+
+-- the symbols that were read at a block's ESIs, where they are in a vector
+pub record AreArrivals (f : Fti) (b : ℕ) (at : ℕ → ℕ → Option (List ℕ)) (received : List (Option (Bor (List ℕ)))) : Type 0 where
+  pub len : length received ≡ encoding_count f b
+  pub same : (j : ℕ) → j < length received → arrived received j ≡ at b j
+
+pub are_arrivals : (f : Fti) (b : ℕ) (at : ℕ → ℕ → Option (List ℕ)) (g : Grid ℕ) (n : ℕ) (items received : List (Option (Bor (List ℕ)))) → IsCodeOf f b g → n ≡ g.cols → length items ≡ n
+    → ((j : ℕ) → j < n → arrived items j ≡ at b j) → received ≡ items → AreArrivals f b at received
+are_arrivals f b at g n items received code count len same is = record {
+  len = ap length is ∙ len ∙ count ∙ code.cols;
+  same = λ j lj. ap (λ (l : List (Option (Bor (List ℕ)))). arrived l j) is ∙ same j (omega (arith, lj, ap length is, len));
+}
