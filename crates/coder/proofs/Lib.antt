@@ -14,3 +14,4 @@ pub mod Those
 pub mod Meetings
 pub mod Words
 pub mod BlockRows
+pub mod ObjectSoFar

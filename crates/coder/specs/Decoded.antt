@@ -1,7 +1,7 @@
 -- What decoding makes of the symbols that came.
 use Rattle.std.specs.Prelude.{◌≡◌, ℕ, ◌<◌, ◌≤◌, ◌*◌, Bool, true, List, length, filter, slice_index, Option, Some, is_some}
 use Rattle.std.specs.List.{AllByRecursion}
-use Rattle.gf256.specs.Arithmetic.{point}
+use Rattle.gf256.specs.Arithmetic.{point, AreBytes}
 use Rattle.poly.specs.Polynomial.{value, IsPolynomial}
 use Rattle.partition.specs.Fti.{Fti, block_count, source_count, encoding_count, source_place}
 use Rattle.losses.specs.Numbers.{below}
@@ -31,6 +31,7 @@ pub record RowsColumn (f : Fti) (b : ℕ) (at : ℕ → Option (List ℕ)) (rows
 -- the rows are the block's source symbols, padded with zeros
 pub record AreRows (f : Fti) (b : ℕ) (at : ℕ → Option (List ℕ)) (rows : List ℕ) : Type 0 where
   pub count : length rows ≡ source_count f b * f.symbol_length
+  pub bytes : AreBytes rows
   pub columns : (c : ℕ) → c < f.symbol_length → RowsColumn f b at rows c
   pub padding : (i c : ℕ) → i < source_count f b → c < f.symbol_length → f.transfer_length ≤ source_place f b i c → row_byte rows f.symbol_length c i ≡ 0
 
