@@ -15,3 +15,4 @@ pub mod Meetings
 pub mod Words
 pub mod BlockRows
 pub mod ObjectSoFar
+pub mod Answering

@@ -7,6 +7,7 @@ use Rattle.partition.specs.Fti.{Fti, block_count, source_count, encoding_count, 
 use Rattle.losses.specs.Numbers.{below}
 use Rattle.cert.specs.Symbols.{Symbol, held_count, AllFull, FullSolvable, FitsOnly, IsFirstShort, IsFirstUnsolvable}
 use Rattle.cert.specs.Answer as value
+use Rattle.coder.specs.declared.counting.Short.{Short}
 use Rattle.coder.specs.Received.{IsIndex, IsWithin}
 use Rattle.coder.specs.Recovered.{row_byte}
 use Rattle.coder.specs.Columns.{ColumnExplained}
@@ -50,3 +51,15 @@ AnswerBy f came _ = ⊥
 -- it answers all lists of symbols that stand so
 abbrev pub Answers : Fti → (ℕ → ℕ → Option (List ℕ)) → value.Answer → Type 0
 Answers f at answer = (came : List Symbol) → IsIndex came at → AllByRecursion (IsWithin f) came → AnswerBy f came answer
+
+-- some symbols that the FTI has stand so
+pub record Stand (f : Fti) (at : ℕ → ℕ → Option (List ℕ)) : Type 0 where
+  pub came : List Symbol
+  pub index : IsIndex came at
+  pub within : AllByRecursion (IsWithin f) came
+
+-- the first block that is short, of all lists of symbols that stand so
+abbrev pub IsShort : Fti → (ℕ → ℕ → Option (List ℕ)) → Short → Type 0
+IsShort f at s =
+    (came : List Symbol) → IsIndex came at → AllByRecursion (IsWithin f) came
+    → IsFirstShort f came s.block × (s.have ≡ held_count came s.block) × (s.need ≡ source_count f s.block)
