@@ -12,3 +12,5 @@ pub mod RowAdding
 pub mod Erased
 pub mod Those
 pub mod Meetings
+pub mod Listing
+pub mod Unsound
