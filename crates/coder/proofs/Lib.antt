@@ -14,3 +14,5 @@ pub mod Those
 pub mod Meetings
 pub mod Listing
 pub mod Unsound
+pub mod Words
+pub mod BlockRows

@@ -91,12 +91,13 @@ pub fn block_rows(
 {
     let fti = &received.fti;
     let size = usize::from(fti.symbol());
-    let arrivals = arrivals(alloc, &received.symbols, b, fti.n(b))?;
-    let mut rows = Vec::from_elem(alloc, 0u8, fti.k(b) * size)?;
+    let generator = generators.of(fti.k(b));
+    let arrivals = arrivals(alloc, &received.symbols, b, generator.cols())?;
+    let mut rows = Vec::from_elem(alloc, 0u8, generator.rows() * size)?;
     let block = Block {
         received: &arrivals,
         size,
-        generator: generators.of(fti.k(b)),
+        generator,
     };
     if decode_rows(alloc, fti, b, &block, &mut rows)? {
         Ok(Some(rows))

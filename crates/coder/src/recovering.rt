@@ -203,6 +203,7 @@ fn give(block: &Block<'_>, repair: &[u8], rows: &[u8], row: &mut [u8]) -> bool
     requires within { (m : ℕ) → m < length repair.now → slice_index repair.now m < block.now.generator.now.cols }
     requires rows { length rows.now ≡ block.now.generator.now.rows * block.now.size }
     requires room { length row.old ≡ block.now.size }
+    ensures bytes { AreBytes rows.now }
     ensures given { result ≡ true → (m c : ℕ) → m < length repair.now → c < block.now.size → row_times sum_of product 0 (row_byte rows.now block.now.size c) (entry 0 block.now.generator.now) block.now.generator.now.rows (slice_index repair.now m) ≡ byte_of (arrived block.now.received.now (slice_index repair.now m)) c }
     ensures other { result ≡ false → (m : ℕ) × (c : ℕ) × (m < length repair.now) × (c < block.now.size) × (row_times sum_of product 0 (row_byte rows.now block.now.size c) (entry 0 block.now.generator.now) block.now.generator.now.rows (slice_index repair.now m) ≢ byte_of (arrived block.now.received.now (slice_index repair.now m)) c) }
 {
@@ -314,6 +315,7 @@ fn recover_by(
     requires rows { length rows.old ≡ block.now.generator.now.rows * block.now.size }
     requires placed { (i c : ℕ) → i < block.now.generator.now.rows → c < block.now.size → row_byte rows.old block.now.size c i ≡ byte_of (arrived block.now.received.now i) c }
     ensures len { length rows.new ≡ length rows.old }
+    ensures bytes { OnOk result (AreBytes rows.new) }
     ensures met { IfOk result (λ ok. ok ≡ true → AreMet (arrived block.now.received.now) block.now.generator.now block.now.size rows.new) }
     ensures only { OnOk result (MeetsOnly (arrived block.now.received.now) block.now.generator.now block.now.size rows.new) }
     ensures none { IfOk result (λ ok. ok ≡ false → CanBeMet (arrived block.now.received.now) block.now.generator.now block.now.size → ⊥) }
@@ -335,6 +337,7 @@ pub fn recover(
     requires rows { length rows.old ≡ block.now.generator.now.rows * block.now.size }
     requires empty { (p : ℕ) → slice_index rows.old p ≡ 0 }
     ensures len { length rows.new ≡ length rows.old }
+    ensures bytes { OnOk result (AreBytes rows.new) }
     ensures met { IfOk result (λ ok. ok ≡ true → AreMet (arrived block.now.received.now) block.now.generator.now block.now.size rows.new) }
     ensures only { OnOk result (MeetsOnly (arrived block.now.received.now) block.now.generator.now block.now.size rows.new) }
     ensures none { IfOk result (λ ok. ok ≡ false → CanBeMet (arrived block.now.received.now) block.now.generator.now block.now.size → ⊥) }

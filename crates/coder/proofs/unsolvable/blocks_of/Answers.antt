@@ -12,7 +12,7 @@ loop-key-init c =
 pub loop-key-preserved-in-Continue-1 : goal.loop-key-preserved-in-Continue-1
 loop-key-preserved-in-Continue-1 c =
     rw c.in_ok-push.ensures.items
-    (listed_more c.args.symbols.now c.in-Some.key.now c.next.new.self c.loop-key.blocks.items (rw c.in-Some.ensures.steps at c.loop-key.invariant))
+    (listed_more c.args.symbols.now c.in-Some.key.now c.next.new.self _ (rw c.in-Some.ensures.steps at c.loop-key.invariant))
 
 pub loop-key-preserved : goal.loop-key-preserved
 loop-key-preserved c =
