@@ -1,7 +1,5 @@
-use Rattle.std.proofs.Common.{◌≡◌, ◌∙◌, sym, subst, ap, length}
-use Rattle.std.specs.Prelude.{◌-◌}
-use Rattle.std.specs.List.{slice_get}
-use Rattle.coder.proofs.Listing.{AreListed, listed_none, listed_more, listed_same, last_stands}
+use Rattle.std.proofs.Common.{◌∙◌, sym}
+use Rattle.coder.proofs.Listing.{listed_none, listed_more, listed_same, last_stands}
 use Rattle.coder.proofs.unsolvable.blocks_of.Goals as goal
 
 pub loop-key-init : goal.loop-key-init
@@ -16,7 +14,6 @@ loop-key-preserved-in-Continue-1 c =
 
 pub loop-key-preserved : goal.loop-key-preserved
 loop-key-preserved c =
-    let blocks = c.loop-key.blocks.items in
     let last = rw c.deref.ensures.value at c.last.ensures.value in
-    listed_same c.args.symbols.now c.in-Some.key.now c.next.new.self blocks (rw c.in-Some.ensures.steps at c.loop-key.invariant)
-    (last_stands blocks c.last.result _ last (sym c.ne.ensures ∙ c.if-ne.false))
+    listed_same c.args.symbols.now c.in-Some.key.now c.next.new.self _ (rw c.in-Some.ensures.steps at c.loop-key.invariant)
+    (last_stands _ c.last.result _ last (sym c.ne.ensures ∙ c.if-ne.false))
