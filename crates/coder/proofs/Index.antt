@@ -60,9 +60,13 @@ number_eq x y = elim (cases_order x y) [
   | inr (inr more) ↦ (rw (le-ltb x y (omega (arith, more)), ne_eqb x y (λ e. omega (arith, e, more))) refl)
 ]
 
+-- keys are equal where their blocks and ESIs are
+pub key_eq : (b j x y : ℕ) → (b == x && j == y) ≡ is_eq (payload_id_cmp (b, j) (x, y))
+key_eq b j x y = both_tied (b == x) (j == y) (nat_cmp b x) (nat_cmp j y) (number_eq b x) (number_eq j y)
+
 -- another block or ESI is another key
 pub other_key : (b j x y : ℕ) → (b == x && j == y) ≡ false → is_eq (payload_id_cmp (b, j) (x, y)) ≡ false
-other_key b j x y other = sym (both_tied (b == x) (j == y) (nat_cmp b x) (nat_cmp j y) (number_eq b x) (number_eq j y)) ∙ other
+other_key b j x y other = sym (key_eq b j x y) ∙ other
 
 -- what is the case of one symbol that came, of all: the list has one more
 pub record Gains (came more : List Symbol) (s : Symbol) : Type 1 where

@@ -12,6 +12,8 @@ pub mod RowAdding
 pub mod Erased
 pub mod Those
 pub mod Meetings
+pub mod Listing
+pub mod Unsound
 pub mod Words
 pub mod BlockRows
 pub mod ObjectSoFar

@@ -61,7 +61,7 @@ pub came_is : (o : Option (Bor (List ℕ))) → is_some (option_map (λ s. s.now
 came_is None = refl
 came_is (Some s) = refl
 
-none_below : (t : ℕ → Bool) → length (filter t (below 0)) ≡ 0
+pub none_below : (t : ℕ → Bool) → length (filter t (below 0)) ≡ 0
 unfolding below
 none_below t = refl
 

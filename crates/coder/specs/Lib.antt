@@ -6,3 +6,4 @@ pub mod Received
 pub mod Answers
 pub mod Recovered
 pub mod Decoded
+pub mod Unsolvable
