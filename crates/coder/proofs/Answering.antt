@@ -1,5 +1,5 @@
 -- The answer to datagrams, from what was received.
-use Rattle.std.specs.Prelude.{◌==◌, ◌&&◌}
+use Rattle.std.specs.Prelude.{◌==◌, ◌&&◌, Result, Ok, Err, IfOk}
 use Rattle.std.specs.List.{AllByRecursion}
 use Rattle.std.proofs.Common.{◌≡◌, ℕ, zero, suc, ◌+◌, ◌<◌, ◌≤◌, true, List, [], ◌∷◌, Option, Some, None, length, map, get_or, arith, ap, ◌∙◌, sym, subst, refl, leb-true}
 use Rattle.gf256.specs.Arithmetic.{AreBytes}
@@ -7,7 +7,7 @@ use Rattle.partition.specs.Fti.{Fti, IsValidFti, block_count, source_count, enco
 use Rattle.partition.proofs.Laws.{counts}
 use Rattle.alc.specs.Computed.{read_of}
 use Rattle.alc.specs.Reading.{Reading, Reads}
-use Rattle.alc.proofs.Again.{exact}
+use Rattle.alc.proofs.Again.{reads}
 use Rattle.cert.specs.Symbols.{Symbol, is_of, AllFull}
 use Rattle.cert.specs.Readings.{ReadAll, counted, symbols}
 use Rattle.cert.specs.Scan.{readings_of}
@@ -31,7 +31,7 @@ answers_came came f (value.Object object) clean h = (f, clean, h.0, h.1, h.2)
 -- each datagram of bytes has its reading
 pub read_all : (ds : List (List ℕ)) → ((i : ℕ) → i < length ds → AreBytes (get_or ds i [])) → ReadAll ds (readings_of ds)
 read_all [] h = tt
-read_all (d ∷ ds) h = (?, read_all ds (λ i l. h (suc i) (omega (arith, l))))
+read_all (d ∷ ds) h = (reads d (h 0 (omega arith)) (read_of d) refl, read_all ds (λ i l. h (suc i) (omega (arith, l))))
 
 module _ (f : Fti) (at : ℕ → ℕ → Option (List ℕ)) (s : Stand f at) where
   stands : (b j : ℕ) (y : List ℕ) → at b j ≡ Some y → IsWithin f (record { block = b; esi = j; bytes = y })
@@ -54,3 +54,8 @@ module _ (f : Fti) (at : ℕ → ℕ → Option (List ℕ)) (s : Stand f at) whe
 -- what is received stands
 pub stand_of : (ds : List (List ℕ)) (f : Fti) (at : ℕ → ℕ → Option (List ℕ)) → AreReceived ds f at → Stand f at
 stand_of ds f at r = record { came = symbols (counted (readings_of ds)); index = r.index; within = r.within }
+
+-- what is so of a result is so of what follows
+pub if_ok : {A E : Type 0} (P Q : A → Type 0) (r : Result A E) → ((a : A) → P a → Q a) → IfOk r P → IfOk r Q
+if_ok P Q (Ok a) f h = f a h
+if_ok P Q (Err e) f h = h

@@ -1,7 +1,7 @@
 //! Decoding: the object that datagrams give, or why they give none.
 ghost use Rattle.std.specs.Prelude.{◌≡◌, ◌<◌, ◌≤◌, ◌*◌, ℕ, true, false, [], length, map, filter, is_some, slice_index, slice_index_or, IfOk, IfSome, IsNone};
 ghost use Rattle.gf256.specs.Arithmetic.{AreBytes};
-ghost use Rattle.partition.specs.Fti.{block_count, source_count};
+ghost use Rattle.partition.specs.Fti.{IsValidFti, block_count, source_count};
 ghost use Rattle.cert.specs.Answer.{IsAnswer};
 ghost use Rattle.coder.specs.Answers.{answer_value};
 ghost use Rattle.coder.specs.BlockMatrices.{EachBlockHas, IsCodeOf};
@@ -156,7 +156,8 @@ fn decode_short(
 
 // What the symbols give.
 fn answer(alloc: Global, received: &Received<'_>) -> Result<Answer, AllocError>
-    requires { Stand received.now.fti (stored received.now.symbols) }
+    requires valid { IsValidFti received.now.fti }
+    requires stand { Stand received.now.fti (stored received.now.symbols) }
     ensures { IfOk result (λ a. Answers received.now.fti (stored received.now.symbols) (answer_value a)) }
 {
     let generators = BlockMatrices::generators(alloc, &received.fti)?;
