@@ -1,6 +1,6 @@
 -- The blocks of a map's keys, listed one by one.
-use Rattle.std.specs.Prelude.{◌||◌, ◌&&◌, ◌==◌, ◌-◌, not, is_some}
-use Rattle.std.proofs.Common.{◌≡◌, ◌⊎◌, ℕ, ◌<◌, ◌+◌, Bool, true, false, Option, Some, None, List, [], ◌∷◌, ◌++◌, refl, sym, ap, subst, ◌∙◌, inl, inr, arith, length, length-append, get_or}
+use Rattle.std.specs.Prelude.{◌&&◌, ◌==◌, ◌-◌, not, is_some}
+use Rattle.std.proofs.Common.{◌≡◌, ◌⊎◌, ℕ, ◌<◌, ◌+◌, Bool, true, false, Option, Some, None, List, [], ◌∷◌, ◌++◌, refl, sym, subst, ◌∙◌, inl, inr, arith, length, length-append, get_or}
 use Rattle.std.specs.Borrow.{Bor}
 use Rattle.std.specs.BTreeMap.{BTreeMap, get}
 use Rattle.std.specs.List.{slice_get}
@@ -56,9 +56,9 @@ module _ (m : BTreeMap (ℕ × ℕ) (Bor (List ℕ))) where
     passed more keeps here b j h = elim (listed.all b j h) [
       | inr stands ↦ inr (keeps b stands)
       | inl member ↦ elim (cases_Bool (b == k.0 && j == k.1)) [
-          | inl same ↦ inr (subst (Stands more) (sym (eqb-true b k.0 (and_parts (b == k.0) (j == k.1) same).0)) here)
-          | inr other ↦ inl (rw (sym (key_eq b j k.0 k.1) ∙ other) at member)
-        ]
+        | inl same ↦ inr (subst (Stands more) (sym (eqb-true b k.0 (and_parts (b == k.0) (j == k.1) same).0)) here)
+        | inr other ↦ inl (rw (sym (key_eq b j k.0 k.1) ∙ other) at member)
+      ]
     ]
 
     rest_left : (q : ℕ × ℕ) → is_key left q ≡ true → is_some (get payload_id_cmp m q) ≡ true

@@ -1,6 +1,6 @@
 -- What each listed block's being sound says of all blocks.
 use Rattle.std.specs.Prelude.{Option, Some, None, Result, Ok, Err, is_some, filter, IfSome, IsNone, IfOk}
-use Rattle.std.proofs.Common.{◌≡◌, ℕ, zero, suc, ◌<◌, ◌≤◌, ◌+◌, Bool, true, false, List, refl, sym, subst, ap, ◌∙◌, inl, inr, arith, length, get_or}
+use Rattle.std.proofs.Common.{◌≡◌, ℕ, zero, suc, ◌<◌, Bool, true, List, refl, sym, subst, ◌∙◌, inl, inr, arith, length, get_or}
 use Rattle.std.specs.List.{AllByRecursion}
 use Rattle.std.proofs.lemmas.Bool.{cases_Bool, le-leb, leb-true}
 use Rattle.losses.specs.Numbers.{below}
@@ -11,7 +11,7 @@ use Rattle.coder.specs.Columns.{ColumnExplained}
 use Rattle.coder.specs.Decoded.{AreWithin, AreRows, IsEnoughAt}
 use Rattle.coder.specs.Received.{IsIndex, IsWithin}
 use Rattle.coder.specs.Unsolvable.{IsSound, IsUnsound}
-use Rattle.coder.proofs.Counts.{held_is, one_more_held, none_more_held}
+use Rattle.coder.proofs.Counts.{held_is, none_more_held}
 use Rattle.coder.proofs.Listing.{Stands}
 use Rattle.coder.proofs.Solving.{solvable_from, solvable_gives}
 use Rattle.coder.proofs.Those.{none_below}

@@ -17,8 +17,10 @@ use std::alloc::{AllocError, Global};
 
 // The source blocks of which something came.
 fn blocks_of(alloc: Global, symbols: &Symbols<'_>) -> Result<Vec<u32>, AllocError>
-    ensures all { IfOk result (λ v. (b j : ℕ) → is_some (stored symbols.now b j) ≡ true → (i : ℕ) × (i < length v.items) × (slice_index v.items i ≡ b)) }
-    ensures some { IfOk result (λ v. (i : ℕ) → i < length v.items → (j : ℕ) × (is_some (stored symbols.now (slice_index v.items i) j) ≡ true)) }
+    ensures all { IfOk result (λ v. (b j : ℕ) → is_some (stored symbols.now b j) ≡ true
+        → (i : ℕ) × (i < length v.items) × (slice_index v.items i ≡ b)) }
+    ensures some { IfOk result (λ v. (i : ℕ) → i < length v.items
+        → (j : ℕ) × (is_some (stored symbols.now (slice_index v.items i) j) ≡ true)) }
 {
     let mut blocks = Vec::new(alloc);
     for key in symbols.keys() {
@@ -71,14 +73,13 @@ fn least_unsound(
     requires generators { EachBlockHas (IsCodeOf received.now.fti) received.now.fti generators.now.large generators.now.small }
     requires within { AreWithin received.now.fti (stored received.now.symbols) }
     ensures unsound { IfOk result (λ o. IfSome o (IsUnsound received.now.fti (stored received.now.symbols))) }
-    ensures least { IfOk result (λ o. (i : ℕ) → i < length blocks.now → IfSome o (λ a. slice_index blocks.now i < a) → IsSound received.now.fti (stored received.now.symbols) (slice_index blocks.now i)) }
+    ensures least { IfOk result (λ o. (i : ℕ) → i < length blocks.now → IfSome o (λ a. slice_index blocks.now i < a)
+        → IsSound received.now.fti (stored received.now.symbols) (slice_index blocks.now i)) }
 {
     let mut least = None;
     for b in blocks {
-        if is_before(*b, least) {
-            if !is_sound(alloc, received, generators, *b)? {
-                least = Some(*b);
-            }
+        if is_before(*b, least) && !is_sound(alloc, received, generators, *b)? {
+            least = Some(*b);
         }
     }
     Ok(least)
