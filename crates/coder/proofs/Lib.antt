@@ -18,3 +18,4 @@ pub mod Words
 pub mod BlockRows
 pub mod ObjectSoFar
 pub mod Answering
+pub mod Promising

@@ -6,4 +6,5 @@ pub mod Received
 pub mod Answers
 pub mod Recovered
 pub mod Decoded
+pub mod Promised
 pub mod Unsolvable

@@ -9,12 +9,14 @@ mod decoding;
 mod received;
 mod recovering;
 mod rows;
+mod selecting;
 mod sending;
 mod unsolvable;
 
 pub use answer::{Answer, DecodeFault};
 pub use certifying::{CertifyFault, certify};
 pub use decoding::decode;
+pub use selecting::{decode_selection, one_answer};
 pub use sending::{Order, SendFault, encode};
 
 #[cfg(test)]

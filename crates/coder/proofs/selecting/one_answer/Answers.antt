@@ -1,0 +1,5 @@
+use Rattle.cert.proofs.OneAnswer.{one_answer}
+use Rattle.coder.proofs.selecting.one_answer.Goals as goal
+
+pub returns : goal.returns
+returns c = one_answer

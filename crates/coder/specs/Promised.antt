@@ -1,0 +1,12 @@
+-- What a check's yes and decoding give together.
+use Rattle.std.specs.Prelude.{◌≡◌, ℕ, List}
+use Rattle.partition.specs.Fti.{Fti}
+use Rattle.cert.specs.Answer.{Answer, Object}
+use Rattle.cert.specs.Headline.{IsEnough, TellsWhatLacks, LeavesTwin}
+
+-- the answer is the object where the datagrams are enough; else it tells what lacks, and another object agrees with all
+-- that came
+pub record IsPromised (f : Fti) (datagrams : List (List ℕ)) (object : List ℕ) (answer : Answer) : Type 0 where
+  pub enough : IsEnough f datagrams → answer ≡ Object object
+  pub lacks : ¬ IsEnough f datagrams → TellsWhatLacks answer datagrams
+  pub twin : ¬ IsEnough f datagrams → LeavesTwin f datagrams object
