@@ -1,5 +1,5 @@
 //! Command lines that are refused, and help.
-use crate::command::answer;
+use fixtures::answer;
 use std::test::Fail;
 
 #[test]

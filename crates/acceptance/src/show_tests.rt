@@ -1,6 +1,5 @@
 //! Lines of datagrams.
-use crate::command::answer;
-use crate::sessions::{PAIR_SESSION, pair_changed};
+use fixtures::{PAIR_SESSION, answer, pair_changed};
 use std::test::Fail;
 
 #[test]

@@ -4,10 +4,11 @@
 mod host;
 
 use host::HostFolder;
+use request::{Usage, parse};
 use session::Device;
 use std::io;
 use std::process::ExitCode;
-use tool::{Usage, request, run};
+use tool::run;
 
 fn main(rt: HostRuntime) -> io::Result<ExitCode> {
     let alloc = rt.alloc();
@@ -16,7 +17,7 @@ fn main(rt: HostRuntime) -> io::Result<ExitCode> {
     for word in &words {
         views.push(word.as_str())?;
     }
-    match request(alloc, views.as_slice()) {
+    match parse(alloc, views.as_slice()) {
         Ok(request) => {
             let mut folder = HostFolder::new(&rt);
             let mut out = Device::new(io::writer(&rt));

@@ -4,7 +4,6 @@ ghost use Rattle.tool.specs.Outcomes.{IsRun, IsDone, IsUndone};
 
 use crate::certify::certify;
 use crate::check::check;
-use crate::command::Request;
 use crate::encode::encode;
 use crate::fault::Fault;
 use crate::folder::Folder;
@@ -13,6 +12,7 @@ use crate::show::show;
 use crate::thin_out::drop_places;
 use crate::twinning::twin;
 use cert::CertFault;
+use request::Request;
 use session::{FrameFault, Write, write_all};
 use std::alloc::{AllocError, Global};
 

@@ -1,42 +1,7 @@
 //! `encode`, `certify` and `drop`.
-use crate::command::answer;
-use crate::sessions::{PAIR, PAIR_CERTIFICATE, PAIR_FRAME, PAIR_SESSION};
-use session::Sink;
+use fixtures::{PAIR, PAIR_CERTIFICATE, PAIR_FRAME, PAIR_SESSION, answer};
 use std::alloc::Global;
 use std::test::Fail;
-use tool::{MemoryFolder, request, run};
-
-/// What a command that makes a file answered.
-#[derive(Drop)]
-struct Made {
-    status: u8,
-    text: String,
-    /// What the files that were created hold.
-    files: Vec<Vec<u8>>,
-}
-
-fn answer_with_files<'a>(
-    alloc: Global,
-    words: &'a [&'a str],
-    files: &'a [(&'a str, &'a [u8])],
-) -> Result<Made, Fail> {
-    let Ok(request) = request(alloc, words) else {
-        return Err(Fail::new("refused"));
-    };
-    let mut folder = MemoryFolder::new(alloc, files, 7);
-    let mut out = Sink::new(alloc);
-    let status = run(alloc, &request, &mut folder, &mut out);
-    let text = std::str::from_utf8(out.bytes())?.to_string(alloc)?;
-    let mut written = Vec::new(alloc);
-    for (_, sink) in folder.created() {
-        written.push(sink.bytes().to_vec(alloc)?)?;
-    }
-    Ok(Made {
-        status,
-        text,
-        files: written,
-    })
-}
 
 const PAIR_SIZES: [&str; 6] = ["--symbol", "1", "--block", "2", "--max", "3"];
 
@@ -46,13 +11,11 @@ fn encoded(rt: HostRuntime) -> Result<(), Fail> {
         "alcrs", "encode", "o", "s", "--tsi", "1", "--toi", "1", "--symbol", "1", "--block", "2",
         "--max", "3",
     ];
-    let made = answer_with_files(rt.alloc(), words.as_slice(), &[("o", &PAIR)])?;
+    let made = answer(rt.alloc(), words.as_slice(), &[("o", &PAIR)])?;
     assert_eq!(rt; made.text.as_str(), "encoded 3 datagrams\n");
     assert_eq!(rt; made.status, 0);
-    assert_eq!(rt; made.files.len(), 1);
-    for file in &made.files {
-        assert_eq!(rt; file.as_slice(), PAIR_SESSION.as_slice());
-    }
+    assert_eq!(rt; made.created.len(), 1);
+    assert_eq!(rt; made.file("s"), PAIR_SESSION.as_slice());
     Ok(())
 }
 
@@ -73,30 +36,28 @@ fn encoded_in_rounds(rt: HostRuntime) -> Result<(), Fail> {
         "alcrs", "encode", "o", "s", "--tsi", "1", "--toi", "1", "--symbol", "1", "--block", "4",
         "--max", "6", "--order", "rounds",
     ];
-    let made = answer_with_files(rt.alloc(), words.as_slice(), &[("o", &THREE_BLOCKS)])?;
+    let made = answer(rt.alloc(), words.as_slice(), &[("o", &THREE_BLOCKS)])?;
     assert_eq!(rt; made.text.as_str(), "encoded 14 datagrams\n");
-    for file in &made.files {
-        assert_eq!(rt;
-            order_of(rt.alloc(), file.as_slice())?.as_slice(),
-            [
-                (0, 0),
-                (1, 0),
-                (2, 0),
-                (0, 1),
-                (1, 1),
-                (2, 1),
-                (0, 2),
-                (1, 2),
-                (2, 2),
-                (0, 3),
-                (1, 3),
-                (2, 3),
-                (0, 4),
-                (0, 5),
-            ]
-            .as_slice()
-        );
-    }
+    assert_eq!(rt;
+        order_of(rt.alloc(), made.file("s"))?.as_slice(),
+        [
+            (0, 0),
+            (1, 0),
+            (2, 0),
+            (0, 1),
+            (1, 1),
+            (2, 1),
+            (0, 2),
+            (1, 2),
+            (2, 2),
+            (0, 3),
+            (1, 3),
+            (2, 3),
+            (0, 4),
+            (0, 5),
+        ]
+        .as_slice()
+    );
     Ok(())
 }
 
@@ -107,30 +68,28 @@ fn encoded_in_blocks(rt: HostRuntime) -> Result<(), Fail> {
         "alcrs", "encode", "o", "s", "--tsi", "1", "--toi", "1", "--symbol", "1", "--block", "4",
         "--max", "6",
     ];
-    let made = answer_with_files(rt.alloc(), words.as_slice(), &[("o", &THREE_BLOCKS)])?;
+    let made = answer(rt.alloc(), words.as_slice(), &[("o", &THREE_BLOCKS)])?;
     assert_eq!(rt; made.text.as_str(), "encoded 14 datagrams\n");
-    for file in &made.files {
-        assert_eq!(rt;
-            order_of(rt.alloc(), file.as_slice())?.as_slice(),
-            [
-                (0, 0),
-                (0, 1),
-                (0, 2),
-                (0, 3),
-                (0, 4),
-                (0, 5),
-                (1, 0),
-                (1, 1),
-                (1, 2),
-                (1, 3),
-                (2, 0),
-                (2, 1),
-                (2, 2),
-                (2, 3),
-            ]
-            .as_slice()
-        );
-    }
+    assert_eq!(rt;
+        order_of(rt.alloc(), made.file("s"))?.as_slice(),
+        [
+            (0, 0),
+            (0, 1),
+            (0, 2),
+            (0, 3),
+            (0, 4),
+            (0, 5),
+            (1, 0),
+            (1, 1),
+            (1, 2),
+            (1, 3),
+            (2, 0),
+            (2, 1),
+            (2, 2),
+            (2, 3),
+        ]
+        .as_slice()
+    );
     Ok(())
 }
 
@@ -139,13 +98,11 @@ fn certified(rt: HostRuntime) -> Result<(), Fail> {
     let words = [
         "alcrs", "certify", "o", "c", "--symbol", "1", "--block", "2", "--max", "3",
     ];
-    let made = answer_with_files(rt.alloc(), words.as_slice(), &[("o", &PAIR)])?;
+    let made = answer(rt.alloc(), words.as_slice(), &[("o", &PAIR)])?;
     assert_eq!(rt; made.text.as_str(), "certified 1 blocks\n");
     assert_eq!(rt; made.status, 0);
-    assert_eq!(rt; made.files.len(), 1);
-    for file in &made.files {
-        assert_eq!(rt; file.as_slice(), PAIR_CERTIFICATE.as_slice());
-    }
+    assert_eq!(rt; made.created.len(), 1);
+    assert_eq!(rt; made.file("c"), PAIR_CERTIFICATE.as_slice());
     Ok(())
 }
 
@@ -167,13 +124,13 @@ fn nothing_made(rt: HostRuntime) -> Result<(), Fail> {
         let refused = answer(rt.alloc(), certify.as_slice(), files.as_slice())?;
         assert_eq!(rt; refused.text.as_str(), text);
         assert_eq!(rt; refused.status, 1);
-        assert_eq!(rt; refused.created, 0);
+        assert_eq!(rt; refused.created.len(), 0);
         let encode = [
             "alcrs", "encode", name, "out", "--tsi", "1", "--toi", "1", a, b, c, d, e, f,
         ];
         let refused = answer(rt.alloc(), encode.as_slice(), files.as_slice())?;
         assert_eq!(rt; refused.text.as_str(), text);
-        assert_eq!(rt; refused.created, 0);
+        assert_eq!(rt; refused.created.len(), 0);
     }
     Ok(())
 }
@@ -203,7 +160,7 @@ fn numbers_out_of_range(rt: HostRuntime) -> Result<(), Fail> {
         }
         let refused = answer(rt.alloc(), words.as_slice(), &[("o", &PAIR)])?;
         assert_eq!(rt; refused.status, 2);
-        assert_eq!(rt; refused.created, 0);
+        assert_eq!(rt; refused.created.len(), 0);
         assert!(rt; refused.text.as_str().contains(name));
     }
     Ok(())
@@ -212,23 +169,15 @@ fn numbers_out_of_range(rt: HostRuntime) -> Result<(), Fail> {
 #[test]
 fn dropped(rt: HostRuntime) -> Result<(), Fail> {
     let words = ["alcrs", "drop", "s", "t", "1", "1"];
-    let made = answer_with_files(rt.alloc(), words.as_slice(), &[("s", &PAIR_SESSION)])?;
+    let made = answer(rt.alloc(), words.as_slice(), &[("s", &PAIR_SESSION)])?;
     assert_eq!(rt; made.text.as_str(), "kept 2 datagrams\n");
     assert_eq!(rt; made.status, 0);
-    assert_eq!(rt; made.files.len(), 1);
-    for file in &made.files {
-        assert_eq!(rt; file.len(), 2 * PAIR_FRAME);
-        assert!(rt;
-            PAIR_SESSION
-                .as_slice()
-                .starts_with(file.as_slice().split_at(PAIR_FRAME.min(file.len())).0)
-        );
-        assert!(rt;
-            PAIR_SESSION
-                .as_slice()
-                .ends_with(file.as_slice().split_at(PAIR_FRAME.min(file.len())).1)
-        );
-    }
+    assert_eq!(rt; made.created.len(), 1);
+    let file = made.file("t");
+    assert_eq!(rt; file.len(), 2 * PAIR_FRAME);
+    let (first, second) = file.split_at(PAIR_FRAME.min(file.len()));
+    assert!(rt; PAIR_SESSION.as_slice().starts_with(first));
+    assert!(rt; PAIR_SESSION.as_slice().ends_with(second));
     Ok(())
 }
 
@@ -239,7 +188,7 @@ fn nothing_dropped(rt: HostRuntime) -> Result<(), Fail> {
     let refused = answer(alloc, outside.as_slice(), &[("s", &PAIR_SESSION)])?;
     assert_eq!(rt; refused.text.as_str(), "fault S6 NoSuchPlace 3\n");
     assert_eq!(rt; refused.status, 1);
-    assert_eq!(rt; refused.created, 0);
+    assert_eq!(rt; refused.created.len(), 0);
     let none = ["alcrs", "drop", "s", "t"];
     assert_eq!(rt;
         answer(alloc, none.as_slice(), &[("s", &PAIR_SESSION)])?.status,
@@ -256,11 +205,9 @@ fn nothing_dropped(rt: HostRuntime) -> Result<(), Fail> {
 #[test]
 fn all_dropped(rt: HostRuntime) -> Result<(), Fail> {
     let words = ["alcrs", "drop", "s", "t", "0", "1", "2"];
-    let made = answer_with_files(rt.alloc(), words.as_slice(), &[("s", &PAIR_SESSION)])?;
+    let made = answer(rt.alloc(), words.as_slice(), &[("s", &PAIR_SESSION)])?;
     assert_eq!(rt; made.text.as_str(), "kept 0 datagrams\n");
-    assert_eq!(rt; made.files.len(), 1);
-    for file in &made.files {
-        assert_eq!(rt; file.len(), 0);
-    }
+    assert_eq!(rt; made.created.len(), 1);
+    assert_eq!(rt; made.file("t").len(), 0);
     Ok(())
 }

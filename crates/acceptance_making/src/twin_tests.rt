@@ -1,45 +1,18 @@
 //! Other objects that agree with short sessions.
-use crate::command::answer;
-use crate::sessions::{
-    PAIR, PAIR_CERTIFICATE, PAIR_FTI, PAIR_SESSION, certificate_of, pair_frames, session_of,
+use fixtures::{
+    Outcome, PAIR, PAIR_CERTIFICATE, PAIR_FTI, PAIR_SESSION, answer, certificate_of, pair_frames,
+    session_of,
 };
-use session::Sink;
 use std::alloc::Global;
 use std::test::Fail;
-use tool::{MemoryFolder, request, run};
 
-/// What `alcrs twin s o c t` answered.
-#[derive(Drop)]
-struct Twinned {
-    status: u8,
-    text: String,
-    /// How many files it created.
-    created: usize,
-    /// What it wrote to `t`.
-    bytes: Vec<u8>,
-}
-
-fn twin(alloc: Global, session: &[u8], object: &[u8], certificate: &[u8]) -> Result<Twinned, Fail> {
-    let words = ["alcrs", "twin", "s", "o", "c", "t"];
-    let files = [("s", session), ("o", object), ("c", certificate)];
-    let mut folder = MemoryFolder::new(alloc, &files, 7);
-    let mut out = Sink::new(alloc);
-    let status = match request(alloc, &words) {
-        Ok(request) => run(alloc, &request, &mut folder, &mut out),
-        Err(_) => 2,
-    };
-    let mut bytes = Vec::new(alloc);
-    for (name, sink) in folder.created() {
-        if name.as_str() == "t" {
-            bytes.extend_from_slice(sink.bytes())?;
-        }
-    }
-    Ok(Twinned {
-        status,
-        text: std::str::from_utf8(out.bytes())?.to_string(alloc)?,
-        created: folder.created().len(),
-        bytes,
-    })
+// The answer to `alcrs twin s o c t`.
+fn twin(alloc: Global, session: &[u8], object: &[u8], certificate: &[u8]) -> Result<Outcome, Fail> {
+    answer(
+        alloc,
+        &["alcrs", "twin", "s", "o", "c", "t"],
+        &[("s", session), ("o", object), ("c", certificate)],
+    )
 }
 
 #[test]
@@ -56,8 +29,8 @@ fn a_twin_of_two_columns(rt: HostRuntime) -> Result<(), Fail> {
     )?;
     assert_eq!(rt; twinned.text.as_str(), "twin block 0 have 1 need 2\n");
     assert_eq!(rt; twinned.status, 0);
-    assert_eq!(rt; twinned.created, 1);
-    assert_eq!(rt; twinned.bytes.as_slice(), [7, 8, 0x0A].as_slice());
+    assert_eq!(rt; twinned.created.len(), 1);
+    assert_eq!(rt; twinned.file("t"), [7, 8, 0x0A].as_slice());
     Ok(())
 }
 
@@ -69,8 +42,8 @@ fn a_twin_where_repeats_came(rt: HostRuntime) -> Result<(), Fail> {
         let twinned = twin(alloc, session.as_slice(), &PAIR, &PAIR_CERTIFICATE)?;
         assert_eq!(rt; twinned.text.as_str(), "twin block 0 have 1 need 2\n");
         assert_eq!(rt; twinned.status, 0);
-        assert_eq!(rt; twinned.created, 1);
-        assert_eq!(rt; twinned.bytes.as_slice(), [4, 4].as_slice());
+        assert_eq!(rt; twinned.created.len(), 1);
+        assert_eq!(rt; twinned.file("t"), [4, 4].as_slice());
     }
     Ok(())
 }
@@ -90,7 +63,7 @@ fn a_twin_of_the_second_block(rt: HostRuntime) -> Result<(), Fail> {
     )?;
     assert_eq!(rt; twinned.text.as_str(), "twin block 1 have 0 need 1\n");
     assert_eq!(rt; twinned.status, 0);
-    assert_eq!(rt; twinned.bytes.as_slice(), [5, 7, 7].as_slice());
+    assert_eq!(rt; twinned.file("t"), [5, 7, 7].as_slice());
     Ok(())
 }
 
@@ -100,16 +73,16 @@ fn no_twin(rt: HostRuntime) -> Result<(), Fail> {
     let whole = twin(alloc, &PAIR_SESSION, &PAIR, &PAIR_CERTIFICATE)?;
     assert_eq!(rt; whole.text.as_str(), "no twin\n");
     assert_eq!(rt; whole.status, 1);
-    assert_eq!(rt; whole.created, 0);
+    assert_eq!(rt; whole.created.len(), 0);
     let empty = twin(alloc, &[], &PAIR, &PAIR_CERTIFICATE)?;
     assert_eq!(rt; empty.text.as_str(), "no N3 Empty\n");
     assert_eq!(rt; empty.status, 1);
-    assert_eq!(rt; empty.created, 0);
+    assert_eq!(rt; empty.created.len(), 0);
     let wrong = session_of(alloc, &PAIR_FTI, &[(0, 2, &[5])])?;
     let wrong = twin(alloc, wrong.as_slice(), &PAIR, &PAIR_CERTIFICATE)?;
     assert_eq!(rt; wrong.text.as_str(), "no N8 Symbol place 0 column 0\n");
     assert_eq!(rt; wrong.status, 1);
-    assert_eq!(rt; wrong.created, 0);
+    assert_eq!(rt; wrong.created.len(), 0);
     Ok(())
 }
 
