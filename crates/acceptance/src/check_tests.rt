@@ -1,7 +1,8 @@
 //! Verdicts on worked sessions.
 use fixtures::{
-    PAIR, PAIR_CERTIFICATE, PAIR_SESSION, Sent, answer, certificate_of, check, pair_changed,
-    pair_frames, session_of,
+    PAIR, PAIR_CERTIFICATE, PAIR_SESSION, Sent, THREE_BLOCKS, THREE_BLOCKS_COEFFICIENTS,
+    THREE_BLOCKS_FTI, THREE_BLOCKS_IN_ROUNDS, THREE_BLOCKS_IN_TURN, answer, certificate_of, check,
+    pair_changed, pair_frames, session_of,
 };
 use std::alloc::Global;
 use std::test::Fail;
@@ -81,36 +82,13 @@ fn yes_to_a_padded_symbol(rt: HostRuntime) -> Result<(), Fail> {
     Ok(())
 }
 
-const THREE_BLOCKS_FTI: [u8; 10] = [0, 0, 0, 0, 0, 10, 0, 1, 4, 6];
-
-const THREE_BLOCKS_OBJECT: [u8; 10] = [1, 8, 0x40, 0x3A, 1, 2, 4, 1, 4, 0x10];
-
-const THREE_BLOCKS_COEFFICIENTS: [u8; 10] = [0, 0, 0, 1, 0, 1, 0, 0, 0, 1];
-
-const THREE_BLOCKS_IN_TURN: [Sent<'static>; 14] = [
-    (0, 0, &[1]),
-    (0, 1, &[8]),
-    (0, 2, &[0x40]),
-    (0, 3, &[0x3A]),
-    (0, 4, &[0xCD]),
-    (0, 5, &[0x26]),
-    (1, 0, &[1]),
-    (1, 1, &[2]),
-    (1, 2, &[4]),
-    (1, 3, &[8]),
-    (2, 0, &[1]),
-    (2, 1, &[4]),
-    (2, 2, &[0x10]),
-    (2, 3, &[0x40]),
-];
-
 #[test]
 fn yes_to_three_blocks_in_turn(rt: HostRuntime) -> Result<(), Fail> {
     let text = checked(
         rt.alloc(),
         &THREE_BLOCKS_FTI,
         &THREE_BLOCKS_IN_TURN,
-        &THREE_BLOCKS_OBJECT,
+        &THREE_BLOCKS,
         &THREE_BLOCKS_COEFFICIENTS,
     )?;
     assert_eq!(rt;
@@ -130,7 +108,7 @@ fn yes_to_a_datagram_sent_again(rt: HostRuntime) -> Result<(), Fail> {
         alloc,
         &THREE_BLOCKS_FTI,
         sent.as_slice(),
-        &THREE_BLOCKS_OBJECT,
+        &THREE_BLOCKS,
         &THREE_BLOCKS_COEFFICIENTS,
     )?;
     assert_eq!(rt;
@@ -145,23 +123,8 @@ fn yes_to_three_blocks_in_rounds(rt: HostRuntime) -> Result<(), Fail> {
     let text = checked(
         rt.alloc(),
         &THREE_BLOCKS_FTI,
-        &[
-            (0, 0, &[1]),
-            (1, 0, &[1]),
-            (2, 0, &[1]),
-            (0, 1, &[8]),
-            (1, 1, &[2]),
-            (2, 1, &[4]),
-            (0, 2, &[0x40]),
-            (1, 2, &[4]),
-            (2, 2, &[0x10]),
-            (0, 3, &[0x3A]),
-            (1, 3, &[8]),
-            (2, 3, &[0x40]),
-            (0, 4, &[0xCD]),
-            (0, 5, &[0x26]),
-        ],
-        &THREE_BLOCKS_OBJECT,
+        &THREE_BLOCKS_IN_ROUNDS,
+        &THREE_BLOCKS,
         &THREE_BLOCKS_COEFFICIENTS,
     )?;
     assert_eq!(rt;
