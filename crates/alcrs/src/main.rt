@@ -4,7 +4,7 @@
 mod host;
 
 use host::HostFolder;
-use request::{Usage, parse};
+use request::{Usage, request};
 use session::Device;
 use std::io;
 use std::process::ExitCode;
@@ -17,7 +17,7 @@ fn main(rt: HostRuntime) -> io::Result<ExitCode> {
     for word in &words {
         views.push(word.as_str())?;
     }
-    match parse(alloc, views.as_slice()) {
+    match request(alloc, views.as_slice()) {
         Ok(request) => {
             let mut folder = HostFolder::new(&rt);
             let mut out = Device::new(io::writer(&rt));

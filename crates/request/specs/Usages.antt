@@ -56,3 +56,12 @@ HasValuesOf found (Certify object output sizes) =
 HasValuesOf found (Drop session output places) =
     (first_value found (codes "SESSION") ≡ Some session.now) × (first_value found (codes "OUT") ≡ Some output.now)
     × ArePlaces places.items
+
+-- the request's numbers are in their ranges
+abbrev pub IsInRange : Request → Type 0
+IsInRange (Check session object certificate) = ⊤
+IsInRange (Twin session object certificate output) = ⊤
+IsInRange (Show session) = ⊤
+IsInRange (Encode object output sending) = AreInRange sending.sizes
+IsInRange (Certify object output sizes) = AreInRange sizes
+IsInRange (Drop session output places) = ArePlaces places.items

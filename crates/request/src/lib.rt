@@ -7,6 +7,6 @@ mod matched;
 mod requests;
 mod usage;
 
-pub use line::parse;
+pub use line::request;
 pub use requests::{Request, Sending, Sizes};
 pub use usage::Usage;

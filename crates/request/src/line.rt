@@ -1,6 +1,6 @@
 //! Command lines.
-ghost use Rattle.std.specs.Prelude.{IfErr};
-ghost use Rattle.request.specs.Usages.{IsUsage, IsUsageOf};
+ghost use Rattle.std.specs.Prelude.{IfOk, IfErr};
+ghost use Rattle.request.specs.Usages.{IsUsage, IsUsageOf, IsInRange};
 
 use crate::grammar::grammar;
 use crate::matched::{
@@ -23,7 +23,9 @@ fn usage_of(error: Error) -> Usage
 }
 
 /// The request that the words of a command line make, the first of which is the program's name.
-pub fn parse<'a>(alloc: Global, words: &'a [&'a str]) -> Result<Request<'a>, Usage>
+pub fn request<'a>(alloc: Global, words: &'a [&'a str]) -> Result<Request<'a>, Usage>
+    // The numbers are in their ranges, and there is a place or more.
+    ensures ok { IfOk result IsInRange }
     ensures usage { IfErr result IsUsage }
 {
     let Ok(grammar) = grammar(alloc) else {

@@ -1,7 +1,7 @@
 //! Requests of what the grammar matched.
 ghost use Rattle.std.specs.Prelude.{◌≡◌, IfOk, IfErr};
 ghost use Rattle.clap.specs.Words.{found_of};
-ghost use Rattle.request.specs.Usages.{IsUsage, HasValuesOf, AreInRange, ArePlaces};
+ghost use Rattle.request.specs.Usages.{IsUsage, HasValuesOf, IsInRange, AreInRange, ArePlaces};
 
 use crate::requests::{Request, Sending, Sizes};
 use crate::usage::Usage;
@@ -9,8 +9,10 @@ use clap::ArgMatches;
 use coder::Order;
 use std::alloc::Global;
 
+/// The request of `check`, or a value that the grammar let through and that is none.
 pub fn check_request<'a>(matches: &ArgMatches<'a>) -> Result<Request<'a>, Usage>
     ensures ok { IfOk result (HasValuesOf (found_of matches.now)) }
+    ensures range { IfOk result IsInRange }
     ensures err { IfErr result (λ usage. usage ≡ Usage.Value) }
 {
     let (Some(session), Some(object), Some(certificate)) = (
@@ -27,8 +29,10 @@ pub fn check_request<'a>(matches: &ArgMatches<'a>) -> Result<Request<'a>, Usage>
     })
 }
 
+/// The request of `twin`, or a value that the grammar let through and that is none.
 pub fn twin_request<'a>(matches: &ArgMatches<'a>) -> Result<Request<'a>, Usage>
     ensures ok { IfOk result (HasValuesOf (found_of matches.now)) }
+    ensures range { IfOk result IsInRange }
     ensures err { IfErr result (λ usage. usage ≡ Usage.Value) }
 {
     let (Some(session), Some(object), Some(certificate), Some(output)) = (
@@ -47,8 +51,10 @@ pub fn twin_request<'a>(matches: &ArgMatches<'a>) -> Result<Request<'a>, Usage>
     })
 }
 
+/// The request of `show`, or a value that the grammar let through and that is none.
 pub fn show_request<'a>(matches: &ArgMatches<'a>) -> Result<Request<'a>, Usage>
     ensures ok { IfOk result (HasValuesOf (found_of matches.now)) }
+    ensures range { IfOk result IsInRange }
     ensures err { IfErr result (λ usage. usage ≡ Usage.Value) }
 {
     let Some(session) = matches.get_str("SESSION") else {
@@ -89,8 +95,10 @@ fn order(matches: &ArgMatches<'_>) -> Result<Order, Usage>
     }
 }
 
+/// The request of `encode`, or a value that the grammar let through and that is none.
 pub fn encode_request<'a>(matches: &ArgMatches<'a>) -> Result<Request<'a>, Usage>
     ensures ok { IfOk result (HasValuesOf (found_of matches.now)) }
+    ensures range { IfOk result IsInRange }
     ensures err { IfErr result (λ usage. usage ≡ Usage.Value) }
 {
     let (Some(object), Some(output)) = (matches.get_str("OBJECT"), matches.get_str("OUT")) else {
@@ -114,8 +122,10 @@ pub fn encode_request<'a>(matches: &ArgMatches<'a>) -> Result<Request<'a>, Usage
     })
 }
 
+/// The request of `certify`, or a value that the grammar let through and that is none.
 pub fn certify_request<'a>(matches: &ArgMatches<'a>) -> Result<Request<'a>, Usage>
     ensures ok { IfOk result (HasValuesOf (found_of matches.now)) }
+    ensures range { IfOk result IsInRange }
     ensures err { IfErr result (λ usage. usage ≡ Usage.Value) }
 {
     let (Some(object), Some(output)) = (matches.get_str("OBJECT"), matches.get_str("OUT")) else {
@@ -152,8 +162,10 @@ fn places(alloc: Global, matches: &ArgMatches<'_>) -> Result<Vec<usize>, Usage>
     Ok(places)
 }
 
+/// The request of `drop`, or a value that the grammar let through and that is none.
 pub fn drop_request<'a>(alloc: Global, matches: &ArgMatches<'a>) -> Result<Request<'a>, Usage>
     ensures ok { IfOk result (HasValuesOf (found_of matches.now)) }
+    ensures range { IfOk result IsInRange }
     ensures err { IfErr result IsUsage }
 {
     let (Some(session), Some(output)) = (matches.get_str("SESSION"), matches.get_str("OUT")) else {
