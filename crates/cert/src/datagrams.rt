@@ -23,8 +23,8 @@ pub enum Refusal {
     NoMemory,
 }
 
-// Whether there is such a block, and in it such an encoding symbol.
-fn is_in_range(packet: &Packet<'_>, fti: &Fti) -> bool
+/// Whether the FTI has the packet's source block, and the block its encoding symbol.
+pub fn is_in_range(packet: &Packet<'_>, fti: &Fti) -> bool
     ensures { result ≡ in_range (packet_of packet.now) fti.now }
 {
     packet.sbn < fti.blocks() && usize::from(packet.esi) < fti.n(packet.sbn)

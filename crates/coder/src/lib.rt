@@ -1,12 +1,20 @@
 //! The coder: an object's encoding symbols as a session, and its certificate.
 #![tactic(auto)]
 
+mod answer;
 mod block_matrices;
 mod certifying;
+mod counting;
+mod decoding;
+mod received;
+mod recovering;
 mod rows;
 mod sending;
+mod unsolvable;
 
+pub use answer::{Answer, DecodeFault};
 pub use certifying::{CertifyFault, certify};
+pub use decoding::decode;
 pub use sending::{Order, SendFault, encode};
 
 #[cfg(test)]

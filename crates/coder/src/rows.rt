@@ -27,7 +27,7 @@ pub fn source_symbol<'a>(object: &'a [u8], fti: &Fti, b: u32, i: usize) -> &'a [
 }
 
 // Adds a multiple of a row to the front of another.
-fn add_row(out: &mut [u8], scale: Gf, row: &[u8])
+pub fn add_row(out: &mut [u8], scale: Gf, row: &[u8])
     requires { length row.now ≤ length out.old }
     ensures len { length out.new ≡ length out.old }
     ensures sums { (c : ℕ) → slice_index out.new c ≡ sum_of (slice_index out.old c) (product scale (slice_index row.now c)) }
@@ -36,7 +36,7 @@ fn add_row(out: &mut [u8], scale: Gf, row: &[u8])
 }
 
 // A row, and zeros behind it.
-fn copy_padded(out: &mut [u8], row: &[u8])
+pub fn copy_padded(out: &mut [u8], row: &[u8])
     requires { length row.now ≤ length out.old }
     ensures len { length out.new ≡ length out.old }
     ensures bytes { (c : ℕ) → slice_index out.new c ≡ slice_index row.now c }

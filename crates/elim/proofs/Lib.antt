@@ -12,3 +12,6 @@ pub mod RowProducts
 pub mod CodePoints
 pub mod Generating
 pub mod Interpolating
+pub mod Rising
+pub mod Replacing
+pub mod Recovering

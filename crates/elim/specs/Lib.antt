@@ -4,3 +4,4 @@ pub mod Steps
 pub mod Pivot
 pub mod Vandermonde
 pub mod Generator
+pub mod Erasures

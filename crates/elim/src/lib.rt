@@ -5,11 +5,13 @@
 mod code;
 mod combine;
 mod eliminate;
+mod erasure;
 mod matrix;
 
 pub use code::{generator, interpolator};
 pub use combine::{product, vandermonde};
 pub use eliminate::{ElimError, invert};
+pub use erasure::recovery;
 pub use matrix::Matrix;
 
 #[cfg(test)]

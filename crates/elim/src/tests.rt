@@ -1,9 +1,9 @@
 //! Matrices that were worked out elsewhere.
-ghost use Rattle.std.specs.Prelude.{◌≤◌, IfOk};
+ghost use Rattle.std.specs.Prelude.{◌≡◌, ◌<◌, ◌≤◌, ◌+◌, ◌*◌, ℕ, IfOk, length, slice_index};
 ghost use Rattle.elim.specs.Grid.{HasShape};
 
-use crate::{ElimError, Matrix, generator, invert, product, vandermonde};
-use gf256::Gf;
+use crate::{ElimError, Matrix, generator, invert, product, recovery, vandermonde};
+use gf256::{Field, Gf};
 use std::alloc::{AllocError, Global};
 use std::test::Fail;
 
@@ -106,5 +106,75 @@ fn begins_generators_with_the_identity(rt: HostRuntime) -> Result<(), Fail> {
 fn generates_the_largest(rt: HostRuntime) -> Result<(), Fail> {
     let generator = generator(rt.alloc(), 255, 255)?;
     assert!(rt; begins_with_identity(&generator, 255));
+    Ok(())
+}
+
+/// As many ESIs, the first of which is `from`, and each of which is `step` above the one before it.
+fn rising(alloc: Global, from: u8, step: u8, count: usize) -> Result<Vec<u8>, AllocError>
+    requires { from + step * count ≤ 255 }
+    ensures count { IfOk result (λ v. length v.items ≡ count) }
+    ensures at { IfOk result (λ v. (i : ℕ) → i < count → slice_index v.items i ≡ from + step * i) }
+{
+    let mut esis = Vec::with_capacity(alloc, count)?;
+    let mut next = from;
+    for _i in 0..count {
+        esis.push(next)?;
+        next += step;
+    }
+    Ok(esis)
+}
+
+/// A row of 20 source symbols of a byte each. Those with odd ESIs are zero unless they are wanted.
+fn source_symbols(alloc: Global, odd: bool) -> Result<Matrix<Gf>, AllocError>
+    ensures { IfOk result (HasShape 1 20) }
+{
+    let mut row = Matrix::try_new(alloc, 1, 20)?;
+    for i in 0..20 {
+        if odd || i % 2 == 0 {
+            row.set(0, i, Gf(7 * i as u8 + 3));
+        }
+    }
+    Ok(row)
+}
+
+/// The sums of the last ten of 30 symbols in two rows.
+fn repair_sums(alloc: Global, a: &Matrix<Gf>, b: &Matrix<Gf>) -> Result<Matrix<Gf>, AllocError>
+    requires first { HasShape 1 30 a.now }
+    requires second { HasShape 1 30 b.now }
+    ensures { IfOk result (HasShape 1 10) }
+{
+    let mut row = Matrix::try_new(alloc, 1, 10)?;
+    for j in 0..10 {
+        row.set(0, j, a.get(0, 20 + j).add(b.get(0, 20 + j)));
+    }
+    Ok(row)
+}
+
+#[test]
+fn recovers_one_of_two(rt: HostRuntime) -> Result<(), Fail> {
+    let generator = generator(rt.alloc(), 2, 3)?;
+    let missing = rising(rt.alloc(), 0, 1, 1)?;
+    let repair = rising(rt.alloc(), 2, 1, 1)?;
+    let recovery = recovery(rt.alloc(), &generator, &missing, &repair)?;
+    // the inverse of 2
+    assert_eq!(rt; recovery.get(0, 0), Gf(0x8e));
+    Ok(())
+}
+
+#[test]
+fn recovers_half_of_a_block(rt: HostRuntime) -> Result<(), Fail> {
+    let generator = generator(rt.alloc(), 20, 30)?;
+    let missing = rising(rt.alloc(), 1, 2, 10)?;
+    let repair = rising(rt.alloc(), 20, 1, 10)?;
+    let sent = source_symbols(rt.alloc(), true)?;
+    let came = source_symbols(rt.alloc(), false)?;
+    let word = product(rt.alloc(), &sent, &generator)?;
+    let known = product(rt.alloc(), &came, &generator)?;
+    let sums = repair_sums(rt.alloc(), &word, &known)?;
+    let recovery = recovery(rt.alloc(), &generator, &missing, &repair)?;
+    let made = product(rt.alloc(), &sums, &recovery)?;
+    for i in 0..10 {
+        assert_eq!(rt; made.get(0, i), sent.get(0, 2 * i + 1), "at {i}");
+    }
     Ok(())
 }

@@ -1,0 +1,9 @@
+use Rattle.std.proofs.Common.{◌≡◌, ◌<◌, ℕ, true, List}
+use Rattle.std.specs.List.{AllByRecursion}
+use Rattle.cert.specs.Symbols.{Symbol, is_full}
+use Rattle.coder.specs.Received.{stored, IsIndex, IsWithin}
+use Rattle.coder.proofs.counting.first_short.Given as goal
+
+abbrev pub invariant-loop-block : goal.invariant-loop-block
+invariant-loop-block l = (came : List Symbol) → IsIndex came (stored l.symbols) → AllByRecursion (IsWithin l.fti) came
+    → (a : ℕ) → a < l.block → is_full l.fti came a ≡ true

@@ -1,0 +1,11 @@
+use Rattle.std.proofs.Common.{List, arith, subst, inl, inr}
+use Rattle.std.proofs.lemmas.Bool.{cases_eq}
+use Rattle.gf256.specs.Arithmetic.{AreBytes}
+use Rattle.coder.proofs.Receiving.{borrowed_at}
+use Rattle.coder.proofs.decoding.all_are_bytes.Goals as goal
+
+pub loop-i-preserved : goal.loop-i-preserved
+loop-i-preserved c = λ i li. elim (cases_eq i c.loop-i.i) [
+  | inl e ↦ rw e (subst AreBytes (borrowed_at c.args.datagrams.now c.loop-i.i _ (omega arith)) c.are_bytes.ensures)
+  | inr ne ↦ c.loop-i.invariant i (omega (arith, li, ne))
+]

@@ -1,0 +1,42 @@
+-- The encoding symbols that came, found by block and ESI.
+use Rattle.std.specs.Prelude.{◌≡◌, ℕ, ◌<◌, true, false, List, length, Option, Some, None, option_map}
+use Rattle.std.specs.Borrow.{Bor}
+use Rattle.std.specs.List.{AllByRecursion}
+use Rattle.std.specs.declared.cmp.Ordering.{Ordering}
+use Rattle.std.specs.Ordering.{nat_cmp, ordering_then}
+use Rattle.std.specs.BTreeMap.{BTreeMap, get}
+use Rattle.partition.specs.Fti.{Fti, block_count, encoding_count}
+use Rattle.cert.specs.Symbols.{Symbol, is_of, is_held}
+use Rattle.cert.specs.Readings.{counted, symbols}
+use Rattle.cert.specs.Answer.{IsClean, came_of}
+use Rattle.cert.specs.Scan.{readings_of}
+
+-- by block, and in a block by ESI
+abbrev pub payload_id_cmp : ℕ × ℕ → ℕ × ℕ → Ordering
+payload_id_cmp x y = ordering_then (nat_cmp x.0 y.0) (nat_cmp x.1 y.1)
+
+-- the bytes that a map has at a block and an ESI
+abbrev pub stored : BTreeMap (ℕ × ℕ) (Bor (List ℕ)) → ℕ → ℕ → Option (List ℕ)
+stored m b j = option_map (λ s. s.now) (get payload_id_cmp m (b, j))
+
+-- the symbol came, and wherever it did with these bytes
+pub record Came (came : List Symbol) (b j : ℕ) (bytes : List ℕ) : Type 0 where
+  pub is_there : is_held came b j ≡ true
+  pub same : AllByRecursion (λ s. is_of b j s ≡ true → s.bytes ≡ bytes) came
+
+-- at each block and ESI stand the bytes of the symbol that came, if it did
+pub record IsIndex (came : List Symbol) (at : ℕ → ℕ → Option (List ℕ)) : Type 0 where
+  pub none : (b j : ℕ) → at b j ≡ None → is_held came b j ≡ false
+  pub some : (b j : ℕ) (bytes : List ℕ) → at b j ≡ Some bytes → Came came b j bytes
+
+-- a symbol that the FTI has
+pub record IsWithin (f : Fti) (s : Symbol) : Type 0 where
+  pub block : s.block < block_count f
+  pub esi : s.esi < encoding_count f s.block
+  pub count : length s.bytes ≡ f.symbol_length
+
+-- the datagrams have no fault at any place and this FTI, and their symbols stand at their blocks and ESIs
+pub record AreReceived (datagrams : List (List ℕ)) (f : Fti) (at : ℕ → ℕ → Option (List ℕ)) : Type 0 where
+  pub clean : IsClean (came_of (readings_of datagrams)) f
+  pub index : IsIndex (symbols (counted (readings_of datagrams))) at
+  pub within : AllByRecursion (IsWithin f) (symbols (counted (readings_of datagrams)))

@@ -1,0 +1,44 @@
+//! What a decoder answers.
+
+use alc::PacketFault;
+use thiserror::Error;
+
+/// Why datagrams are of no object. A place is that of a datagram, counted from 0.
+#[derive(Debug, Clone, Copy, PartialEq, Eq, Error)]
+pub enum DecodeFault {
+    /// The datagram is no packet.
+    #[error("R1 Packet place {0} {1}")]
+    Packet(usize, PacketFault),
+    /// TSI or TOI isn't that of the first packet.
+    #[error("R2 OtherIdentity place {0}")]
+    OtherIdentity(usize),
+    /// The FTI isn't that of the first packet.
+    #[error("R3 OtherFti place {0}")]
+    OtherFti(usize),
+    /// The FTI has no such block, or the block no such encoding symbol.
+    #[error("R4 Range place {0}")]
+    Range(usize),
+    /// An earlier symbol of the same block and ESI has other bytes.
+    #[error("R5 Clash place {0}")]
+    Clash(usize),
+    /// The block has enough symbols, and they aren't those of any object.
+    #[error("R6 NotCode block {0}")]
+    NotCode(u32),
+}
+
+/// What datagrams say of the object that was sent.
+#[derive(Drop)]
+pub enum Answer {
+    /// Nothing came.
+    Empty,
+    Fault(DecodeFault),
+    /// The first block that has fewer symbols than it needs: its source block number, how many different ESIs it has,
+    /// and how many source symbols.
+    Missing {
+        block: u32,
+        have: usize,
+        need: usize,
+    },
+    /// The object, of the FTI's transfer length.
+    Object(Vec<u8>),
+}
