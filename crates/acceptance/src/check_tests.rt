@@ -1,52 +1,84 @@
 //! Verdicts on worked sessions.
-use crate::command::{answer, check};
-use crate::sessions::{
-    PAIR, PAIR_CERTIFICATE, PAIR_SESSION, Sent, certificate_of, pair_changed, pair_frames,
-    session_of,
+use fixtures::{
+    PAIR, PAIR_CERTIFICATE, PAIR_SESSION, Sent, THREE_BLOCKS, THREE_BLOCKS_COEFFICIENTS,
+    THREE_BLOCKS_FTI, THREE_BLOCKS_IN_ROUNDS, THREE_BLOCKS_IN_TURN, Wanted, certificate_of, expect,
+    pair_changed, pair_frames, session_of,
 };
 use std::alloc::Global;
 use std::test::Fail;
 
-// The status and the lines of `check` of these symbols.
-fn checked(
+// `alcrs check s o c` of these files ends with this status, and prints this.
+fn checks(
+    alloc: Global,
+    session: &[u8],
+    object: &[u8],
+    certificate: &[u8],
+    status: u8,
+    text: &str,
+) -> Result<(), Fail> {
+    let wanted = Wanted {
+        status,
+        text,
+        created: &[],
+    };
+    expect(
+        alloc,
+        &["alcrs", "check", "s", "o", "c"],
+        &[("s", session), ("o", object), ("c", certificate)],
+        &wanted,
+    )
+}
+
+// A check of these symbols says yes, and prints this.
+fn says_yes(
     alloc: Global,
     fti: &[u8],
     sent: &[Sent<'_>],
     object: &[u8],
     coefficients: &[u8],
-) -> Result<String, Fail> {
+    text: &str,
+) -> Result<(), Fail> {
     let session = session_of(alloc, fti, sent)?;
     let certificate = certificate_of(alloc, fti, coefficients)?;
-    Ok(check(alloc, session.as_slice(), object, certificate.as_slice())?.text)
+    checks(
+        alloc,
+        session.as_slice(),
+        object,
+        certificate.as_slice(),
+        0,
+        text,
+    )
+}
+
+// A check of this session, with the object and the certificate of the pair, ends with 1, and prints this.
+fn refuses(alloc: Global, session: &[u8], text: &str) -> Result<(), Fail> {
+    checks(alloc, session, &PAIR, &PAIR_CERTIFICATE, 1, text)
 }
 
 #[test]
 fn yes_to_a_pair(rt: HostRuntime) -> Result<(), Fail> {
-    let yes = check(rt.alloc(), &PAIR_SESSION, &PAIR, &PAIR_CERTIFICATE)?;
-    assert_eq!(rt;
-        yes.text.as_str(),
-        "yes\nblock 0 need 2 have 3\nmargin 1\nkill 0 1\nburst 1\n"
-    );
-    assert_eq!(rt; yes.status, 0);
-    assert_eq!(rt; yes.created, 0);
-    Ok(())
+    checks(
+        rt.alloc(),
+        &PAIR_SESSION,
+        &PAIR,
+        &PAIR_CERTIFICATE,
+        0,
+        "yes\nblock 0 need 2 have 3\nmargin 1\nkill 0 1\nburst 1\n",
+    )
 }
 
 #[test]
 fn yes_to_one_block(rt: HostRuntime) -> Result<(), Fail> {
     let alloc = rt.alloc();
-    let text = checked(
+    says_yes(
         alloc,
         &[0, 0, 0, 0, 0, 2, 0, 1, 2, 3],
         &[(0, 0, &[0x41]), (0, 1, &[0x42]), (0, 2, &[0x44])],
         &[0x41, 0x42],
         &[0x40, 0x01],
+        "yes\nblock 0 need 2 have 3\nmargin 1\nkill 0 1\nburst 1\n",
     )?;
-    assert_eq!(rt;
-        text.as_str(),
-        "yes\nblock 0 need 2 have 3\nmargin 1\nkill 0 1\nburst 1\n"
-    );
-    let text = checked(
+    says_yes(
         alloc,
         &[0, 0, 0, 0, 0, 3, 0, 1, 3, 5],
         &[
@@ -58,67 +90,32 @@ fn yes_to_one_block(rt: HostRuntime) -> Result<(), Fail> {
         ],
         &[1, 4, 0x10],
         &[0, 0, 1],
-    )?;
-    assert_eq!(rt;
-        text.as_str(),
-        "yes\nblock 0 need 3 have 5\nmargin 2\nkill 0 1 2\nburst 2\n"
-    );
-    Ok(())
+        "yes\nblock 0 need 3 have 5\nmargin 2\nkill 0 1 2\nburst 2\n",
+    )
 }
 
 #[test]
 fn yes_to_a_padded_symbol(rt: HostRuntime) -> Result<(), Fail> {
-    let text = checked(
+    says_yes(
         rt.alloc(),
         &[0, 0, 0, 0, 0, 3, 0, 2, 2, 3],
         &[(0, 0, &[7, 8]), (0, 1, &[9, 0]), (0, 2, &[0x15, 0x10])],
         &[7, 8, 9],
         &[0xF6, 0xF1, 0xFB, 0xF3],
-    )?;
-    assert_eq!(rt;
-        text.as_str(),
-        "yes\nblock 0 need 2 have 3\nmargin 1\nkill 0 1\nburst 1\n"
-    );
-    Ok(())
+        "yes\nblock 0 need 2 have 3\nmargin 1\nkill 0 1\nburst 1\n",
+    )
 }
-
-const THREE_BLOCKS_FTI: [u8; 10] = [0, 0, 0, 0, 0, 10, 0, 1, 4, 6];
-
-const THREE_BLOCKS_OBJECT: [u8; 10] = [1, 8, 0x40, 0x3A, 1, 2, 4, 1, 4, 0x10];
-
-const THREE_BLOCKS_COEFFICIENTS: [u8; 10] = [0, 0, 0, 1, 0, 1, 0, 0, 0, 1];
-
-const THREE_BLOCKS_IN_TURN: [Sent<'static>; 14] = [
-    (0, 0, &[1]),
-    (0, 1, &[8]),
-    (0, 2, &[0x40]),
-    (0, 3, &[0x3A]),
-    (0, 4, &[0xCD]),
-    (0, 5, &[0x26]),
-    (1, 0, &[1]),
-    (1, 1, &[2]),
-    (1, 2, &[4]),
-    (1, 3, &[8]),
-    (2, 0, &[1]),
-    (2, 1, &[4]),
-    (2, 2, &[0x10]),
-    (2, 3, &[0x40]),
-];
 
 #[test]
 fn yes_to_three_blocks_in_turn(rt: HostRuntime) -> Result<(), Fail> {
-    let text = checked(
+    says_yes(
         rt.alloc(),
         &THREE_BLOCKS_FTI,
         &THREE_BLOCKS_IN_TURN,
-        &THREE_BLOCKS_OBJECT,
+        &THREE_BLOCKS,
         &THREE_BLOCKS_COEFFICIENTS,
-    )?;
-    assert_eq!(rt;
-        text.as_str(),
-        "yes\nblock 0 need 4 have 6\nblock 1 need 3 have 4\nblock 2 need 3 have 4\nmargin 1\nkill 6 7\nburst 1\n"
-    );
-    Ok(())
+        "yes\nblock 0 need 4 have 6\nblock 1 need 3 have 4\nblock 2 need 3 have 4\nmargin 1\nkill 6 7\nburst 1\n",
+    )
 }
 
 #[test]
@@ -127,49 +124,26 @@ fn yes_to_a_datagram_sent_again(rt: HostRuntime) -> Result<(), Fail> {
     let mut sent = Vec::new(alloc);
     sent.extend_from_slice(&THREE_BLOCKS_IN_TURN)?;
     sent.push((1, 0, &[1][..]))?;
-    let text = checked(
+    says_yes(
         alloc,
         &THREE_BLOCKS_FTI,
         sent.as_slice(),
-        &THREE_BLOCKS_OBJECT,
+        &THREE_BLOCKS,
         &THREE_BLOCKS_COEFFICIENTS,
-    )?;
-    assert_eq!(rt;
-        text.as_str(),
-        "yes\nblock 0 need 4 have 6\nblock 1 need 3 have 4\nblock 2 need 3 have 4\nmargin 1\nkill 7 8\nburst 1\n"
-    );
-    Ok(())
+        "yes\nblock 0 need 4 have 6\nblock 1 need 3 have 4\nblock 2 need 3 have 4\nmargin 1\nkill 7 8\nburst 1\n",
+    )
 }
 
 #[test]
 fn yes_to_three_blocks_in_rounds(rt: HostRuntime) -> Result<(), Fail> {
-    let text = checked(
+    says_yes(
         rt.alloc(),
         &THREE_BLOCKS_FTI,
-        &[
-            (0, 0, &[1]),
-            (1, 0, &[1]),
-            (2, 0, &[1]),
-            (0, 1, &[8]),
-            (1, 1, &[2]),
-            (2, 1, &[4]),
-            (0, 2, &[0x40]),
-            (1, 2, &[4]),
-            (2, 2, &[0x10]),
-            (0, 3, &[0x3A]),
-            (1, 3, &[8]),
-            (2, 3, &[0x40]),
-            (0, 4, &[0xCD]),
-            (0, 5, &[0x26]),
-        ],
-        &THREE_BLOCKS_OBJECT,
+        &THREE_BLOCKS_IN_ROUNDS,
+        &THREE_BLOCKS,
         &THREE_BLOCKS_COEFFICIENTS,
-    )?;
-    assert_eq!(rt;
-        text.as_str(),
-        "yes\nblock 0 need 4 have 6\nblock 1 need 3 have 4\nblock 2 need 3 have 4\nmargin 1\nkill 1 4\nburst 3\n"
-    );
-    Ok(())
+        "yes\nblock 0 need 4 have 6\nblock 1 need 3 have 4\nblock 2 need 3 have 4\nmargin 1\nkill 1 4\nburst 3\n",
+    )
 }
 
 #[test]
@@ -179,23 +153,19 @@ fn yes_to_the_greatest_block(rt: HostRuntime) -> Result<(), Fail> {
     for esi in 0..255u8 {
         sent.push((0, esi, &[0][..]))?;
     }
-    let text = checked(
+    says_yes(
         alloc,
         &[0, 0, 0, 0, 0, 255, 0, 1, 255, 255],
         sent.as_slice(),
         &[0; 255],
         &[0; 255],
-    )?;
-    assert_eq!(rt;
-        text.as_str(),
-        "yes\nblock 0 need 255 have 255\nmargin 0\nkill 0\nburst 0\n"
-    );
-    Ok(())
+        "yes\nblock 0 need 255 have 255\nmargin 0\nkill 0\nburst 0\n",
+    )
 }
 
 #[test]
 fn yes_to_one_symbol_four_times(rt: HostRuntime) -> Result<(), Fail> {
-    let text = checked(
+    says_yes(
         rt.alloc(),
         &[0, 0, 0, 0, 0, 1, 0, 1, 1, 4],
         &[
@@ -206,12 +176,8 @@ fn yes_to_one_symbol_four_times(rt: HostRuntime) -> Result<(), Fail> {
         ],
         &[0xAA],
         &[0xAA],
-    )?;
-    assert_eq!(rt;
-        text.as_str(),
-        "yes\nblock 0 need 1 have 4\nmargin 3\nkill 0 1 2 3\nburst 3\n"
-    );
-    Ok(())
+        "yes\nblock 0 need 1 have 4\nmargin 3\nkill 0 1 2 3\nburst 3\n",
+    )
 }
 
 #[test]
@@ -219,31 +185,29 @@ fn no_to_a_thin_block(rt: HostRuntime) -> Result<(), Fail> {
     let alloc = rt.alloc();
     for places in [&[2][..], &[2, 2, 2]] {
         let session = pair_frames(alloc, places)?;
-        let no = check(alloc, session.as_slice(), &PAIR, &PAIR_CERTIFICATE)?;
-        assert_eq!(rt; no.text.as_str(), "no N9 Thin block 0 have 1 need 2\n");
-        assert_eq!(rt; no.status, 1);
+        refuses(
+            alloc,
+            session.as_slice(),
+            "no N9 Thin block 0 have 1 need 2\n",
+        )?;
     }
     Ok(())
 }
 
 #[test]
 fn no_to_nothing(rt: HostRuntime) -> Result<(), Fail> {
-    let no = check(rt.alloc(), &[], &PAIR, &PAIR_CERTIFICATE)?;
-    assert_eq!(rt; no.text.as_str(), "no N3 Empty\n");
-    assert_eq!(rt; no.status, 1);
-    Ok(())
+    refuses(rt.alloc(), &[], "no N3 Empty\n")
 }
 
 #[test]
 fn no_to_another_object(rt: HostRuntime) -> Result<(), Fail> {
     let alloc = rt.alloc();
-    let no = check(alloc, &PAIR_SESSION, &[1, 3], &PAIR_CERTIFICATE)?;
-    assert_eq!(rt;
-        no.text.as_str(),
-        "no N2 NotObject block 0 column 0 symbol 1\n"
-    );
-    let no = check(alloc, &PAIR_SESSION, &[1, 2, 0], &PAIR_CERTIFICATE)?;
-    assert_eq!(rt; no.text.as_str(), "no N1 ObjectLength\n");
+    for (object, text) in [
+        (&[1, 3][..], "no N2 NotObject block 0 column 0 symbol 1\n"),
+        (&[1, 2, 0], "no N1 ObjectLength\n"),
+    ] {
+        checks(alloc, &PAIR_SESSION, object, &PAIR_CERTIFICATE, 1, text)?;
+    }
     Ok(())
 }
 
@@ -265,9 +229,7 @@ fn no_to_one_byte_changed(rt: HostRuntime) -> Result<(), Fail> {
         ),
     ] {
         let session = pair_changed(at, byte);
-        let no = check(alloc, &session, &PAIR, &PAIR_CERTIFICATE)?;
-        assert_eq!(rt; no.text.as_str(), line, "byte {at} is {byte}");
-        assert_eq!(rt; no.status, 1);
+        refuses(alloc, &session, line)?;
     }
     Ok(())
 }
@@ -276,9 +238,7 @@ fn no_to_one_byte_changed(rt: HostRuntime) -> Result<(), Fail> {
 fn no_at_the_least_place(rt: HostRuntime) -> Result<(), Fail> {
     let mut session = pair_changed(104, 5);
     session[39] = 6;
-    let no = check(rt.alloc(), &session, &PAIR, &PAIR_CERTIFICATE)?;
-    assert_eq!(rt; no.text.as_str(), "no N4 Packet place 1 P7 Extension\n");
-    Ok(())
+    refuses(rt.alloc(), &session, "no N4 Packet place 1 P7 Extension\n")
 }
 
 #[test]
@@ -286,9 +246,7 @@ fn no_to_a_symbol_of_no_block(rt: HostRuntime) -> Result<(), Fail> {
     let alloc = rt.alloc();
     let fti = [0, 0, 0, 0, 0, 2, 0, 1, 2, 3];
     let session = session_of(alloc, &fti, &[(0, 3, &[1])])?;
-    let no = check(alloc, session.as_slice(), &PAIR, &PAIR_CERTIFICATE)?;
-    assert_eq!(rt; no.text.as_str(), "no N7 Range place 0\n");
-    Ok(())
+    refuses(alloc, session.as_slice(), "no N7 Range place 0\n")
 }
 
 #[test]
@@ -300,9 +258,7 @@ fn cut_sessions(rt: HostRuntime) -> Result<(), Fail> {
         (&[0, 0x21, 0x10], "fault S2 CutDatagram\n"),
         (&[0, 0], "no N4 Packet place 0 P1 TooShort\n"),
     ] {
-        let fault = check(alloc, session, &PAIR, &PAIR_CERTIFICATE)?;
-        assert_eq!(rt; fault.text.as_str(), line);
-        assert_eq!(rt; fault.status, 1);
+        refuses(alloc, session, line)?;
     }
     Ok(())
 }
@@ -313,15 +269,14 @@ fn every_beginning_of_a_session(rt: HostRuntime) -> Result<(), Fail> {
     let alloc = rt.alloc();
     for size in 0..105usize {
         let beginning = PAIR_SESSION.get(..size).unwrap_or(&[]);
-        let line = match (size / 35, size % 35) {
-            (0, 0) => "no N3 Empty\n",
-            (1, 0) => "no N9 Thin block 0 have 1 need 2\n",
-            (_, 0) => "yes\nblock 0 need 2 have 2\nmargin 0\nkill 0\nburst 0\n",
-            (_, 1) => "fault S1 CutLength\n",
-            _ => "fault S2 CutDatagram\n",
+        let (status, line) = match (size / 35, size % 35) {
+            (0, 0) => (1, "no N3 Empty\n"),
+            (1, 0) => (1, "no N9 Thin block 0 have 1 need 2\n"),
+            (_, 0) => (0, "yes\nblock 0 need 2 have 2\nmargin 0\nkill 0\nburst 0\n"),
+            (_, 1) => (1, "fault S1 CutLength\n"),
+            _ => (1, "fault S2 CutDatagram\n"),
         };
-        let told = check(alloc, beginning, &PAIR, &PAIR_CERTIFICATE)?;
-        assert_eq!(rt; told.text.as_str(), line, "{size} bytes");
+        checks(alloc, beginning, &PAIR, &PAIR_CERTIFICATE, status, line)?;
     }
     Ok(())
 }
@@ -348,9 +303,7 @@ fn cut_and_wrong_certificates(rt: HostRuntime) -> Result<(), Fail> {
         (&no_block, "fault Z2 Fti F4 BlockZero\n"),
         (&claim, "fault Z3 Size\n"),
     ] {
-        let fault = check(alloc, &PAIR_SESSION, &PAIR, certificate)?;
-        assert_eq!(rt; fault.text.as_str(), line);
-        assert_eq!(rt; fault.status, 1);
+        checks(alloc, &PAIR_SESSION, &PAIR, certificate, 1, line)?;
     }
     Ok(())
 }
@@ -369,10 +322,12 @@ fn files_that_are_not_there(rt: HostRuntime) -> Result<(), Fail> {
         (1, "fault open o\n"),
         (2, "fault open c\n"),
     ] {
-        let fault = answer(alloc, &words, &files[..count])?;
-        assert_eq!(rt; fault.text.as_str(), line);
-        assert_eq!(rt; fault.status, 1);
-        assert_eq!(rt; fault.created, 0);
+        let wanted = Wanted {
+            status: 1,
+            text: line,
+            created: &[],
+        };
+        expect(alloc, &words, &files[..count], &wanted)?;
     }
     Ok(())
 }

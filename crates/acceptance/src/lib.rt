@@ -1,19 +1,11 @@
-//! Whole commands over files in memory.
+//! Whole commands that read: the command line, `check`, `show`, and the losses that a report tells.
 #![tactic(auto)]
 
 #[cfg(test)]
 mod check_tests;
 #[cfg(test)]
-mod command;
-#[cfg(test)]
 mod line_tests;
 #[cfg(test)]
 mod loss_tests;
 #[cfg(test)]
-mod making_tests;
-#[cfg(test)]
-mod sessions;
-#[cfg(test)]
 mod show_tests;
-#[cfg(test)]
-mod twin_tests;

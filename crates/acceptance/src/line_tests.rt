@@ -1,5 +1,5 @@
 //! Command lines that are refused, and help.
-use crate::command::answer;
+use fixtures::answer;
 use std::test::Fail;
 
 #[test]
@@ -15,6 +15,8 @@ fn refused_lines(rt: HostRuntime) -> Result<(), Fail> {
         &["alcrs", "check", "s", "o", "c", "--fast"],
         &["alcrs", "show"],
         &["alcrs", "show", "s", "t"],
+        &["alcrs", "drop", "s", "t"],
+        &["alcrs", "drop", "s", "t", "4294967296"],
     ] {
         let refused = answer(alloc, words, &[])?;
         assert_eq!(rt; refused.status, 2);
@@ -74,6 +76,46 @@ fn help_on_check(rt: HostRuntime) -> Result<(), Fail> {
         "Example: alcrs check bulletin.session bulletin.txt bulletin.rsc",
     ] {
         assert!(rt; help.text.as_str().contains(line), "{line}");
+    }
+    Ok(())
+}
+
+#[test]
+fn help_on_twin(rt: HostRuntime) -> Result<(), Fail> {
+    let help = answer(rt.alloc(), &["alcrs", "twin", "--help"], &[])?;
+    assert_eq!(rt; help.status, 0);
+    for line in [
+        "Usage: alcrs twin <SESSION> <OBJECT> <CERT> <OUT>\n",
+        "  <OUT>      The other object to write\n",
+        "Example: alcrs twin thinned.session bulletin.txt bulletin.rsc other.txt",
+    ] {
+        assert!(rt; help.text.as_str().contains(line), "{line}");
+    }
+    Ok(())
+}
+
+// Numbers that the command line doesn't take: each is named by what is printed.
+#[test]
+fn numbers_out_of_range(rt: HostRuntime) -> Result<(), Fail> {
+    let alloc = rt.alloc();
+    for (tsi, toi, symbol, block, max, order, name) in [
+        ("4294967296", "1", "1", "2", "3", "rounds", "--tsi"),
+        ("1", "x", "1", "2", "3", "rounds", "--toi"),
+        ("1", "1", "0", "2", "3", "rounds", "--symbol"),
+        ("1", "1", "65476", "2", "3", "rounds", "--symbol"),
+        ("1", "1", "1", "0", "3", "rounds", "--block"),
+        ("1", "1", "1", "256", "3", "rounds", "--block"),
+        ("1", "1", "1", "2", "0", "rounds", "--max"),
+        ("1", "1", "1", "2", "256", "rounds", "--max"),
+        ("1", "1", "1", "2", "3", "both", "--order"),
+    ] {
+        let words = [
+            "alcrs", "encode", "o", "s", "--tsi", tsi, "--toi", toi, "--symbol", symbol, "--block",
+            block, "--max", max, "--order", order,
+        ];
+        let refused = answer(alloc, &words, &[])?;
+        assert_eq!(rt; refused.status, 2);
+        assert!(rt; refused.text.as_str().contains(name), "{name}");
     }
     Ok(())
 }

@@ -1,27 +1,33 @@
 //! Lines of datagrams.
-use crate::command::answer;
-use crate::sessions::{PAIR_SESSION, pair_changed};
+use fixtures::{PAIR_SESSION, Wanted, expect, pair_changed};
+use std::alloc::Global;
 use std::test::Fail;
+
+// `alcrs show s` of this session ends with this status, and prints this.
+fn shows(alloc: Global, session: &[u8], status: u8, text: &str) -> Result<(), Fail> {
+    let wanted = Wanted {
+        status,
+        text,
+        created: &[],
+    };
+    expect(alloc, &["alcrs", "show", "s"], &[("s", session)], &wanted)
+}
 
 #[test]
 fn a_pair(rt: HostRuntime) -> Result<(), Fail> {
-    let shown = answer(rt.alloc(), &["alcrs", "show", "s"], &[("s", &PAIR_SESSION)])?;
-    assert_eq!(rt;
-        shown.text.as_str(),
+    shows(
+        rt.alloc(),
+        &PAIR_SESSION,
+        0,
         "0 tsi 1 toi 1 length 2 symbol 1 block 2 max 3 sbn 0 esi 0\n\
          1 tsi 1 toi 1 length 2 symbol 1 block 2 max 3 sbn 0 esi 1\n\
-         2 tsi 1 toi 1 length 2 symbol 1 block 2 max 3 sbn 0 esi 2\n"
-    );
-    assert_eq!(rt; shown.status, 0);
-    Ok(())
+         2 tsi 1 toi 1 length 2 symbol 1 block 2 max 3 sbn 0 esi 2\n",
+    )
 }
 
 #[test]
 fn nothing(rt: HostRuntime) -> Result<(), Fail> {
-    let shown = answer(rt.alloc(), &["alcrs", "show", "s"], &[("s", &[])])?;
-    assert_eq!(rt; shown.text.as_str(), "");
-    assert_eq!(rt; shown.status, 0);
-    Ok(())
+    shows(rt.alloc(), &[], 0, "")
 }
 
 #[test]
@@ -49,25 +55,19 @@ fn no_packets(rt: HostRuntime) -> Result<(), Fail> {
         (25, 2, "P12 PayloadLength"),
     ] {
         let session = pair_changed(37 + at, byte);
-        let shown = answer(alloc, &["alcrs", "show", "s"], &[("s", &session)])?;
-        let mut lines = shown.text.as_str().split('\n');
-        let first = "0 tsi 1 toi 1 length 2 symbol 1 block 2 max 3 sbn 0 esi 0";
-        assert_eq!(rt; lines.next(), Some(first));
-        let second = format!(in alloc; "1 {fault}")?;
-        assert_eq!(rt; lines.next(), Some(second.as_str()), "byte {at} is {byte}");
-        let third = "2 tsi 1 toi 1 length 2 symbol 1 block 2 max 3 sbn 0 esi 2";
-        assert_eq!(rt; lines.next(), Some(third));
-        assert_eq!(rt; shown.status, 1);
+        let text = format!(in alloc;
+            "0 tsi 1 toi 1 length 2 symbol 1 block 2 max 3 sbn 0 esi 0\n\
+             1 {fault}\n\
+             2 tsi 1 toi 1 length 2 symbol 1 block 2 max 3 sbn 0 esi 2\n"
+        )?;
+        shows(alloc, &session, 1, text.as_str())?;
     }
     Ok(())
 }
 
 #[test]
 fn a_datagram_of_no_bytes(rt: HostRuntime) -> Result<(), Fail> {
-    let shown = answer(rt.alloc(), &["alcrs", "show", "s"], &[("s", &[0, 0])])?;
-    assert_eq!(rt; shown.text.as_str(), "0 P1 TooShort\n");
-    assert_eq!(rt; shown.status, 1);
-    Ok(())
+    shows(rt.alloc(), &[0, 0], 1, "0 P1 TooShort\n")
 }
 
 #[test]
@@ -77,10 +77,8 @@ fn another_form_of_header(rt: HostRuntime) -> Result<(), Fail> {
         0, 29, 0x10, 0x10, 6, 5, 0, 0, 0, 0, 0, 1, 0, 1, 0x40, 3, 0, 0, 0, 0, 0, 2, 0, 1, 2, 3, 0,
         0, 0, 0, 1,
     ];
-    let shown = answer(rt.alloc(), &["alcrs", "show", "s"], &[("s", &session)])?;
     let line = "0 tsi 1 toi 1 length 2 symbol 1 block 2 max 3 sbn 0 esi 0\n";
-    assert_eq!(rt; shown.text.as_str(), line);
-    Ok(())
+    shows(rt.alloc(), &session, 0, line)
 }
 
 #[test]
@@ -91,10 +89,10 @@ fn the_greatest_numbers(rt: HostRuntime) -> Result<(), Fail> {
         255, 255, 255, 255, 255, 255, 255, 255, 255, 255, 200, 0, 0, 0, 0x40, 3, 0, 0, 0, 0, 0, 2,
         0, 1, 2, 3, 255, 255, 255, 255, 9,
     ];
-    let shown = answer(rt.alloc(), &["alcrs", "show", "s"], &[("s", &session)])?;
-    assert_eq!(rt;
-        shown.text.as_str(),
-        "0 tsi 281474976710655 toi 5192296858534827628530496329220095 length 2 symbol 1 block 2 max 3 sbn 16777215 esi 255\n"
-    );
-    Ok(())
+    shows(
+        rt.alloc(),
+        &session,
+        0,
+        "0 tsi 281474976710655 toi 5192296858534827628530496329220095 length 2 symbol 1 block 2 max 3 sbn 16777215 esi 255\n",
+    )
 }

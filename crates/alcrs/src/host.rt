@@ -1,5 +1,5 @@
 //! The host's files.
-ghost use Rattle.std.specs.Prelude.{None};
+ghost use Rattle.std.specs.Prelude.{◌≡◌, None};
 
 use session::{Device, Failed};
 use std::fs;
@@ -14,7 +14,10 @@ pub struct HostFolder<'a, R> {
 }
 
 impl<'a, R> HostFolder<'a, R> {
-    pub fn new(rt: &'a R) -> HostFolder<'a, R> {
+    /// The folder, through the host's runtime.
+    pub fn new(rt: &'a R) -> HostFolder<'a, R>
+        ensures { result.rt.now ≡ rt.now }
+    {
         HostFolder { rt }
     }
 }

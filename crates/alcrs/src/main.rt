@@ -4,10 +4,11 @@
 mod host;
 
 use host::HostFolder;
+use request::{Usage, request};
 use session::Device;
 use std::io;
 use std::process::ExitCode;
-use tool::{Usage, request, run};
+use tool::run;
 
 fn main(rt: HostRuntime) -> io::Result<ExitCode> {
     let alloc = rt.alloc();

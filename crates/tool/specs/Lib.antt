@@ -3,4 +3,3 @@ pub mod Inputs
 pub mod Lines
 pub mod Making
 pub mod Outcomes
-pub mod Usages

@@ -8,8 +8,8 @@ use Rattle.session.specs.declared.frame.FrameFault.TheVariants.{Io as FrameIo, N
 use Rattle.cert.specs.declared.certificate.CertFault.TheVariants.{Io as CertificateIo}
 use Rattle.coder.specs.Sending.{pairs, CanBeSent}
 use Rattle.coder.specs.declared.sending.SendFault.TheVariants.{SymbolTooLong, Io as SendIo}
-use Rattle.tool.specs.declared.sizes.Sizes.{Sizes}
-use Rattle.tool.specs.declared.encode.Sending.{Sending}
+use Rattle.request.specs.declared.requests.Sizes.{Sizes}
+use Rattle.request.specs.declared.requests.Sending.{Sending}
 use Rattle.tool.specs.declared.fault.Fault.{Fault}
 use Rattle.tool.specs.declared.fault.Fault.TheVariants.{Open, File, Memory, Fti as WrongFti, Send, Frame, Certificate as CertificateFault}
 use Rattle.tool.specs.Inputs.{Contents, HoldsBytes, HoldsSession, IsObjectUnread, IsSessionUnread}

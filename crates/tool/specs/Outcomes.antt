@@ -12,8 +12,8 @@ use Rattle.cert.specs.declared.verdict.Reason.{Reason}
 use Rattle.cert.specs.declared.verdict.Reason.TheVariants.{Thin}
 use Rattle.cert.specs.declared.verdict.Verdict.{Verdict}
 use Rattle.cert.specs.declared.verdict.Verdict.TheVariants.{Yes, No}
-use Rattle.tool.specs.declared.command.Request.{Request}
-use Rattle.tool.specs.declared.command.Request.TheVariants.{Check, Twin, Show, Encode, Certify, Drop}
+use Rattle.request.specs.declared.requests.Request.{Request}
+use Rattle.request.specs.declared.requests.Request.TheVariants.{Check, Twin, Show, Encode, Certify, Drop}
 use Rattle.tool.specs.declared.fault.Fault.{Fault}
 use Rattle.tool.specs.Inputs.{Contents, HoldsSession, HoldsBytes, HoldsCertificate, IsSessionUnread, IsObjectUnread, IsCertificateUnread}
 use Rattle.tool.specs.Lines.{IsPrintFault, Prints, PrintsTwin, PrintsDatagrams}

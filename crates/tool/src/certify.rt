@@ -6,8 +6,9 @@ use crate::fault::Fault;
 use crate::folder::Folder;
 use crate::input::read_object;
 use crate::print::Line;
-use crate::sizes::{Sizes, fti_of};
+use crate::sizes::fti_of;
 use coder::CertifyFault;
+use request::Sizes;
 use session::Write;
 use std::alloc::Global;
 

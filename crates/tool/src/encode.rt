@@ -7,19 +7,11 @@ use crate::fault::Fault;
 use crate::folder::Folder;
 use crate::input::read_object;
 use crate::print::Line;
-use crate::sizes::{Sizes, fti_of};
-use coder::{Order, SendFault};
+use crate::sizes::fti_of;
+use coder::SendFault;
+use request::Sending;
 use session::Write;
 use std::alloc::Global;
-
-/// What is sent, and how.
-#[derive(Clone, Copy, Debug, PartialEq, Eq)]
-pub struct Sending {
-    pub tsi: u32,
-    pub toi: u32,
-    pub sizes: Sizes,
-    pub order: Order,
-}
 
 /// Writes the object's session, and answers the status. The output is created once all else that can be refused was.
 pub fn encode<'a, F: Folder, W: Write>(

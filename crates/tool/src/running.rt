@@ -4,7 +4,6 @@ ghost use Rattle.tool.specs.Outcomes.{IsRun, IsDone, IsUndone};
 
 use crate::certify::certify;
 use crate::check::check;
-use crate::command::Request;
 use crate::encode::encode;
 use crate::fault::Fault;
 use crate::folder::Folder;
@@ -13,8 +12,10 @@ use crate::show::show;
 use crate::thin_out::drop_places;
 use crate::twinning::twin;
 use cert::CertFault;
+use request::Request;
 use session::{FrameFault, Write, write_all};
 use std::alloc::{AllocError, Global};
+use std::fmt::Display;
 
 fn perform<'a, F: Folder, W: Write>(
     alloc: Global,
@@ -96,6 +97,12 @@ fn tell_memory<W: Write>(out: &mut W) {
     let _ = write_all(out, b"fault memory\n");
 }
 
+// Puts a fault's own words last.
+fn put<D: Display + Drop>(alloc: Global, line: &mut Line, fault: D) -> Result<(), AllocError> {
+    let text = format!(in alloc; "{fault}")?;
+    line.text(text.as_str())
+}
+
 fn fault_line(alloc: Global, fault: Fault<'_>) -> Result<Line, AllocError> {
     let mut line = Line::new(alloc);
     line.text("fault ")?;
@@ -111,22 +118,10 @@ fn fault_line(alloc: Global, fault: Fault<'_>) -> Result<Line, AllocError> {
         Fault::Frame(FrameFault::NoMemory)
         | Fault::Certificate(CertFault::NoMemory)
         | Fault::Memory => line.text("memory")?,
-        Fault::Frame(fault) => {
-            let text = format!(in alloc; "{fault}")?;
-            line.text(text.as_str())?;
-        }
-        Fault::Certificate(fault) => {
-            let text = format!(in alloc; "{fault}")?;
-            line.text(text.as_str())?;
-        }
-        Fault::Fti(fault) => {
-            let text = format!(in alloc; "{fault}")?;
-            line.text(text.as_str())?;
-        }
-        Fault::Send(fault) => {
-            let text = format!(in alloc; "{fault}")?;
-            line.text(text.as_str())?;
-        }
+        Fault::Frame(fault) => put(alloc, &mut line, fault)?,
+        Fault::Certificate(fault) => put(alloc, &mut line, fault)?,
+        Fault::Fti(fault) => put(alloc, &mut line, fault)?,
+        Fault::Send(fault) => put(alloc, &mut line, fault)?,
         Fault::Output => {}
     }
     Ok(line)

@@ -1,21 +1,11 @@
-//! What the command line tells of an FTI.
+//! The FTI of an object, by the command line's numbers.
 ghost use Rattle.std.specs.Prelude.{◌≡◌, IfOk, IfErr};
 ghost use Rattle.partition.specs.Fti.{fti_from, IsValidFti};
 ghost use Rattle.partition.specs.FtiFault.{fti_fault};
 ghost use Rattle.std.specs.Prelude.{Some};
 
 use partition::{Fti, FtiError};
-
-/// All of an FTI but the transfer length, which is the object's own.
-#[derive(Clone, Copy, Debug, PartialEq, Eq)]
-pub struct Sizes {
-    /// E: the bytes of an encoding symbol, 1 to 65,475.
-    pub symbol: u16,
-    /// B: the most source symbols of a block, 1 to 255.
-    pub block: u8,
-    /// The most encoding symbols of a block, 1 to 255.
-    pub max_n: u8,
-}
+use request::Sizes;
 
 /// The FTI of an object of so many bytes.
 pub fn fti_of(sizes: &Sizes, length: usize) -> Result<Fti, FtiError>

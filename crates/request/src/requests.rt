@@ -1,7 +1,25 @@
 //! What a command line asks for.
-use crate::encode::Sending;
-use crate::sizes::Sizes;
-use clap::Error;
+use coder::Order;
+
+/// All of an FTI but the transfer length, which is the object's own.
+#[derive(Clone, Copy, Debug, PartialEq, Eq)]
+pub struct Sizes {
+    /// E: the bytes of an encoding symbol, 1 to 65,475.
+    pub symbol: u16,
+    /// B: the most source symbols of a block, 1 to 255.
+    pub block: u8,
+    /// The most encoding symbols of a block, 1 to 255.
+    pub max_n: u8,
+}
+
+/// What is sent, and how.
+#[derive(Clone, Copy, Debug, PartialEq, Eq)]
+pub struct Sending {
+    pub tsi: u32,
+    pub toi: u32,
+    pub sizes: Sizes,
+    pub order: Order,
+}
 
 /// A command with its values.
 #[derive(Drop)]
@@ -41,16 +59,4 @@ pub enum Request<'a> {
         output: &'a str,
         places: Vec<usize>,
     },
-}
-
-/// Why a command line is no request.
-#[derive(Drop)]
-pub enum Usage {
-    /// Help was asked for; the text is the error's.
-    Help(Error),
-    /// U1: the line is refused; why is the error's text.
-    Line(Error),
-    /// U2: a value that the line's grammar lets through is none.
-    Value,
-    NoMemory,
 }

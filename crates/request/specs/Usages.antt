@@ -4,11 +4,11 @@ use Rattle.clap.specs.Words.{kind_of, first_value}
 use Rattle.clap.specs.declared.parser.matches.Found.{Found}
 use Rattle.clap.specs.declared.error.Error.{Error}
 use Rattle.clap.specs.declared.error.kind.ErrorKind.TheVariants.{DisplayHelp, OutOfMemory}
-use Rattle.tool.specs.declared.sizes.Sizes.{Sizes}
-use Rattle.tool.specs.declared.command.Request.{Request}
-use Rattle.tool.specs.declared.command.Request.TheVariants.{Check, Twin, Show, Encode, Certify, Drop}
-use Rattle.tool.specs.declared.command.Usage.{Usage}
-use Rattle.tool.specs.declared.command.Usage.TheVariants.{Help, Line, Value, NoMemory}
+use Rattle.request.specs.declared.requests.Sizes.{Sizes}
+use Rattle.request.specs.declared.requests.Request.{Request}
+use Rattle.request.specs.declared.requests.Request.TheVariants.{Check, Twin, Show, Encode, Certify, Drop}
+use Rattle.request.specs.declared.usage.Usage.{Usage}
+use Rattle.request.specs.declared.usage.Usage.TheVariants.{Help, Line, Value, NoMemory}
 
 -- the error is a refusal: neither help that was asked for, nor want of memory
 abbrev pub IsRefusal : Error → Type 0
@@ -56,3 +56,12 @@ HasValuesOf found (Certify object output sizes) =
 HasValuesOf found (Drop session output places) =
     (first_value found (codes "SESSION") ≡ Some session.now) × (first_value found (codes "OUT") ≡ Some output.now)
     × ArePlaces places.items
+
+-- the request's numbers are in their ranges
+abbrev pub IsInRange : Request → Type 0
+IsInRange (Check session object certificate) = ⊤
+IsInRange (Twin session object certificate output) = ⊤
+IsInRange (Show session) = ⊤
+IsInRange (Encode object output sending) = AreInRange sending.sizes
+IsInRange (Certify object output sizes) = AreInRange sizes
+IsInRange (Drop session output places) = ArePlaces places.items

@@ -1,0 +1,234 @@
+//! The grammar: the commands, their arguments and their help.
+use clap::builder::ValueParser;
+use clap::{Arg, Command};
+use std::alloc::{AllocError, Global};
+
+const ABOUT: &str =
+    "Certifies file-delivery sessions: ALC datagrams with Reed-Solomon symbols (RFC 5510, FEC Encoding ID 5)";
+
+const ORDERS: [&str; 2] = ["blocks", "rounds"];
+
+const STATUSES: &str =
+    "Statuses: 0 done or yes, 1 no or a fault, 2 the command line is refused.\n\nExample: alcrs check bulletin.session bulletin.txt bulletin.rsc";
+
+/// An argument that names a file: its name and its help.
+type FileArgument<'a> = (&'a str, &'a str);
+
+const SESSION: FileArgument<'static> = (
+    "SESSION",
+    "The session file: each datagram behind its length in two bytes",
+);
+
+const CARRIED_OBJECT: FileArgument<'static> = ("OBJECT", "The file that the session is to carry");
+
+const CERTIFICATE: FileArgument<'static> = (
+    "CERT",
+    "The certificate: the polynomial of each byte column of each block",
+);
+
+const SESSION_TO_WRITE: FileArgument<'static> = ("OUT", "The session file to write");
+
+// The command with these arguments last, in this order, each of which has to be given.
+fn with_files<'a>(
+    alloc: Global,
+    command: Command<'a>,
+    files: &[FileArgument<'a>],
+) -> Result<Command<'a>, AllocError> {
+    let mut command = command;
+    for (name, help) in files {
+        command = command.arg(Arg::new(alloc, *name).required(true).help(*help))?;
+    }
+    Ok(command)
+}
+
+fn check_command<'a>(alloc: Global) -> Result<Command<'a>, AllocError> {
+    let command = Command::new(alloc, "check")
+        .about(
+            "Says whether a certificate proves that a session carries an object, and how many datagrams may be missed",
+        )
+        .after_help(
+            "Prints `yes`, for each block how many symbols it needs and has, and how many datagrams may be missed: any (margin), and neighbouring ones (burst); and the places of the first loss that is too great (kill). Else `no` and the first reason.\nStatuses: 0 yes, 1 no or a fault, 2 the command line is refused.\n\nExample: alcrs check bulletin.session bulletin.txt bulletin.rsc",
+        );
+    with_files(alloc, command, &[SESSION, CARRIED_OBJECT, CERTIFICATE])
+}
+
+fn twin_command<'a>(alloc: Global) -> Result<Command<'a>, AllocError> {
+    let command = Command::new(alloc, "twin")
+        .about(
+            "Writes another object that agrees with all datagrams of a session, where a block of it is short",
+        )
+        .after_help(
+            "Prints the first block that is short and how many symbols it has and needs; `no twin` if none is, or `no` and the first reason against the session.\nStatuses: 0 a twin was written, 1 none was or a fault, 2 the command line is refused.\n\nExample: alcrs twin thinned.session bulletin.txt bulletin.rsc other.txt",
+        );
+    with_files(
+        alloc,
+        command,
+        &[
+            SESSION,
+            CARRIED_OBJECT,
+            CERTIFICATE,
+            ("OUT", "The other object to write"),
+        ],
+    )
+}
+
+fn show_command<'a>(alloc: Global) -> Result<Command<'a>, AllocError> {
+    let command = Command::new(alloc, "show")
+        .about("Prints a line for each datagram of a session")
+        .after_help(
+            "Prints each datagram's place, TSI, TOI, FTI, source block number and encoding symbol ID, or why it is no packet.\nStatuses: 0 all are packets, 1 some are not or a fault, 2 the command line is refused.\n\nExample: alcrs show bulletin.session",
+        );
+    with_files(alloc, command, &[SESSION])
+}
+
+/// An option with a whole number in a range.
+struct NumberOption<'a> {
+    name: &'a str,
+    help: &'a str,
+    least: u64,
+    most: u64,
+}
+
+// The identity of an object's datagrams.
+const IDENTITY: [NumberOption<'static>; 2] = [
+    NumberOption {
+        name: "tsi",
+        help: "The transport session identifier, 0 to 4294967295",
+        least: 0,
+        most: 4_294_967_295,
+    },
+    NumberOption {
+        name: "toi",
+        help: "The transport object identifier, 0 to 4294967295",
+        least: 0,
+        most: 4_294_967_295,
+    },
+];
+
+// The numbers of an FTI.
+const SIZES: [NumberOption<'static>; 3] = [
+    NumberOption {
+        name: "symbol",
+        help: "The encoding symbol length in bytes, 1 to 65475",
+        least: 1,
+        most: 65_475,
+    },
+    NumberOption {
+        name: "block",
+        help: "The maximum source block length in symbols, 1 to 255",
+        least: 1,
+        most: 255,
+    },
+    NumberOption {
+        name: "max",
+        help: "The maximum number of encoding symbols of a block, 1 to 255, not below --block",
+        least: 1,
+        most: 255,
+    },
+];
+
+fn number<'a>(alloc: Global, option: &NumberOption<'a>) -> Arg<'a> {
+    Arg::new(alloc, option.name)
+        .long(option.name)
+        .value_name("N")
+        .required(true)
+        .value_parser(ValueParser::unsigned(option.least, option.most))
+        .help(option.help)
+}
+
+// The command with these options last, in this order, each of which has to be given.
+fn with_numbers<'a>(
+    alloc: Global,
+    command: Command<'a>,
+    options: &[NumberOption<'a>],
+) -> Result<Command<'a>, AllocError> {
+    let mut command = command;
+    for option in options {
+        command = command.arg(number(alloc, option))?;
+    }
+    Ok(command)
+}
+
+fn encode_command<'a>(alloc: Global) -> Result<Command<'a>, AllocError> {
+    let command = Command::new(alloc, "encode")
+        .about("Writes the session file of an object: all encoding symbols of all its blocks")
+        .after_help(
+            "Prints how many datagrams there are.\nStatuses: 0 done, 1 a fault, 2 the command line is refused.\n\nExample: alcrs encode bulletin.txt bulletin.session --tsi 1 --toi 1 --symbol 64 --block 20 --max 30",
+        );
+    let command = with_files(
+        alloc,
+        command,
+        &[("OBJECT", "The file to send"), SESSION_TO_WRITE],
+    )?;
+    let command = with_numbers(alloc, command, &IDENTITY)?;
+    with_numbers(alloc, command, &SIZES)?.arg(order(alloc))
+}
+
+// In which order the encoding symbols are sent.
+fn order<'a>(alloc: Global) -> Arg<'a> {
+    Arg::new(alloc, "order")
+        .long("order")
+        .value_name("ORDER")
+        .value_parser(ORDERS.as_slice())
+        .default_value("blocks")
+        .help("Block after block, or one symbol of each block in turn")
+}
+
+fn certify_command<'a>(alloc: Global) -> Result<Command<'a>, AllocError> {
+    let command = Command::new(alloc, "certify")
+        .about(
+            "Writes the certificate of an object: the polynomial of each byte column of each block",
+        )
+        .after_help(
+            "Prints how many blocks there are.\nStatuses: 0 done, 1 a fault, 2 the command line is refused.\n\nExample: alcrs certify bulletin.txt bulletin.rsc --symbol 64 --block 20 --max 30",
+        );
+    let command = with_files(
+        alloc,
+        command,
+        &[
+            ("OBJECT", "The file to certify"),
+            ("OUT", "The certificate to write"),
+        ],
+    )?;
+    with_numbers(alloc, command, &SIZES)
+}
+
+fn drop_command<'a>(alloc: Global) -> Result<Command<'a>, AllocError> {
+    let command = Command::new(alloc, "drop")
+        .about("Writes a session file without the datagrams at some places")
+        .after_help(
+            "Prints how many datagrams are left.\nStatuses: 0 done, 1 a fault, 2 the command line is refused.\n\nExample: alcrs drop bulletin.session thinned.session 0 3 7",
+        );
+    with_files(alloc, command, &[SESSION, SESSION_TO_WRITE])?.arg(places(alloc))
+}
+
+// The places to leave out, one or more.
+fn places<'a>(alloc: Global) -> Arg<'a> {
+    Arg::new(alloc, "PLACE")
+        .required(true)
+        .num_args(1usize..)
+        .value_parser(ValueParser::unsigned(0, u64::from(u32::MAX)))
+        .help("The places of the datagrams to leave out, counted from 0; repeats count once")
+}
+
+// The command with one more of its own.
+fn with_command<'a>(
+    command: Command<'a>,
+    added: Result<Command<'a>, AllocError>,
+) -> Result<Command<'a>, AllocError> {
+    command.subcommand(added?)
+}
+
+/// The grammar of the whole command line.
+pub fn grammar<'a>(alloc: Global) -> Result<Command<'a>, AllocError> {
+    let command = Command::new(alloc, "alcrs")
+        .about(ABOUT)
+        .after_help(STATUSES)
+        .subcommand_required(true);
+    let command = with_command(command, encode_command(alloc))?;
+    let command = with_command(command, certify_command(alloc))?;
+    let command = with_command(command, check_command(alloc))?;
+    let command = with_command(command, drop_command(alloc))?;
+    let command = with_command(command, twin_command(alloc))?;
+    with_command(command, show_command(alloc))
+}
