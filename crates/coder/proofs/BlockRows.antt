@@ -128,6 +128,7 @@ module _ (f : Fti) (b : ℕ) (at : ℕ → ℕ → Option (List ℕ)) (within : 
   pub rows_at : (rows : List ℕ) → AreRows f b (arrived received) rows → AreRows f b (at b) rows
   rows_at rows h = record {
     count = h.count;
+    bytes = h.bytes;
     columns = λ c lc. (let w = h.columns c lc in
         record { polynomial = w.polynomial; form = w.form; source = w.source; symbols = λ j y some. w.symbols j y (same_at j ∙ some) });
     padding = h.padding;

@@ -16,3 +16,5 @@ pub mod Listing
 pub mod Unsound
 pub mod Words
 pub mod BlockRows
+pub mod ObjectSoFar
+pub mod Answering

@@ -1,12 +1,13 @@
 -- What decoding makes of the symbols that came.
 use Rattle.std.specs.Prelude.{◌≡◌, ℕ, ◌<◌, ◌≤◌, ◌*◌, Bool, true, List, length, filter, slice_index, Option, Some, is_some}
 use Rattle.std.specs.List.{AllByRecursion}
-use Rattle.gf256.specs.Arithmetic.{point}
+use Rattle.gf256.specs.Arithmetic.{point, AreBytes}
 use Rattle.poly.specs.Polynomial.{value, IsPolynomial}
 use Rattle.partition.specs.Fti.{Fti, block_count, source_count, encoding_count, source_place}
 use Rattle.losses.specs.Numbers.{below}
 use Rattle.cert.specs.Symbols.{Symbol, held_count, AllFull, FullSolvable, FitsOnly, IsFirstShort, IsFirstUnsolvable}
 use Rattle.cert.specs.Answer as value
+use Rattle.coder.specs.declared.counting.Short.{Short}
 use Rattle.coder.specs.Received.{IsIndex, IsWithin}
 use Rattle.coder.specs.Recovered.{row_byte}
 use Rattle.coder.specs.Columns.{ColumnExplained}
@@ -31,6 +32,7 @@ pub record RowsColumn (f : Fti) (b : ℕ) (at : ℕ → Option (List ℕ)) (rows
 -- the rows are the block's source symbols, padded with zeros
 pub record AreRows (f : Fti) (b : ℕ) (at : ℕ → Option (List ℕ)) (rows : List ℕ) : Type 0 where
   pub count : length rows ≡ source_count f b * f.symbol_length
+  pub bytes : AreBytes rows
   pub columns : (c : ℕ) → c < f.symbol_length → RowsColumn f b at rows c
   pub padding : (i c : ℕ) → i < source_count f b → c < f.symbol_length → f.transfer_length ≤ source_place f b i c → row_byte rows f.symbol_length c i ≡ 0
 
@@ -49,3 +51,15 @@ AnswerBy f came _ = ⊥
 -- it answers all lists of symbols that stand so
 abbrev pub Answers : Fti → (ℕ → ℕ → Option (List ℕ)) → value.Answer → Type 0
 Answers f at answer = (came : List Symbol) → IsIndex came at → AllByRecursion (IsWithin f) came → AnswerBy f came answer
+
+-- some symbols that the FTI has stand so
+pub record Stand (f : Fti) (at : ℕ → ℕ → Option (List ℕ)) : Type 0 where
+  pub came : List Symbol
+  pub index : IsIndex came at
+  pub within : AllByRecursion (IsWithin f) came
+
+-- the first block that is short, of all lists of symbols that stand so
+abbrev pub IsShort : Fti → (ℕ → ℕ → Option (List ℕ)) → Short → Type 0
+IsShort f at s =
+    (came : List Symbol) → IsIndex came at → AllByRecursion (IsWithin f) came
+    → IsFirstShort f came s.block × (s.have ≡ held_count came s.block) × (s.need ≡ source_count f s.block)

@@ -1,17 +1,20 @@
 //! Decoding: the object that datagrams give, or why they give none.
 ghost use Rattle.std.specs.Prelude.{◌≡◌, ◌<◌, ◌≤◌, ◌*◌, ℕ, true, false, [], length, map, filter, is_some, slice_index, slice_index_or, IfOk, IfSome, IsNone};
 ghost use Rattle.gf256.specs.Arithmetic.{AreBytes};
-ghost use Rattle.partition.specs.Fti.{block_count, source_count};
+ghost use Rattle.partition.specs.Fti.{IsValidFti, block_count, source_count};
+ghost use Rattle.cert.specs.Answer.{IsAnswer};
 ghost use Rattle.coder.specs.Answers.{answer_value};
 ghost use Rattle.coder.specs.BlockMatrices.{EachBlockHas, IsCodeOf};
-ghost use Rattle.coder.specs.Decoded.{AreWithin, IsEnoughAt, AreRows, IsUnexplained, Answers};
+ghost use Rattle.coder.specs.Decoded.{AreWithin, IsEnoughAt, AreRows, IsUnexplained, Answers, IsShort, Stand};
 ghost use Rattle.coder.specs.Received.{stored};
 ghost use Rattle.coder.specs.Recovered.{arrived, IsBlock};
 
 use crate::answer::{Answer, DecodeFault};
 use crate::block_matrices::BlockMatrices;
-use crate::received::{Received, Symbols};
+use crate::counting::{Short, first_short};
+use crate::received::{Received, Refusal, Symbols, receive};
 use crate::recovering::{Block, is_zero, recover};
+use crate::unsolvable::first_unsolvable;
 use partition::Fti;
 use std::alloc::{AllocError, Global};
 
@@ -127,4 +130,57 @@ fn decode_all(
         object.extend_from_slice(&rows[..left.min(rows.len())])?;
     }
     Ok(Answer::Object(object))
+}
+
+// What the symbols give where a block is short: the first block that is of no object, or that short one.
+fn decode_short(
+    alloc: Global,
+    received: &Received<'_>,
+    generators: &BlockMatrices,
+    short: Short,
+) -> Result<Answer, AllocError>
+    requires generators { EachBlockHas (IsCodeOf received.now.fti) received.now.fti generators.now.large generators.now.small }
+    requires within { AreWithin received.now.fti (stored received.now.symbols) }
+    requires short { IsShort received.now.fti (stored received.now.symbols) short }
+    ensures { IfOk result (λ a. Answers received.now.fti (stored received.now.symbols) (answer_value a)) }
+{
+    match first_unsolvable(alloc, received, generators)? {
+        Some(b) => Ok(Answer::Fault(DecodeFault::NotCode(b))),
+        None => Ok(Answer::Missing {
+            block: short.block,
+            have: short.have,
+            need: short.need,
+        }),
+    }
+}
+
+// What the symbols give.
+fn answer(alloc: Global, received: &Received<'_>) -> Result<Answer, AllocError>
+    requires valid { IsValidFti received.now.fti }
+    requires stand { Stand received.now.fti (stored received.now.symbols) }
+    ensures { IfOk result (λ a. Answers received.now.fti (stored received.now.symbols) (answer_value a)) }
+{
+    let generators = BlockMatrices::generators(alloc, &received.fti)?;
+    match first_short(&received.symbols, &received.fti) {
+        Some(short) => decode_short(alloc, received, &generators, short),
+        None => decode_all(alloc, received, &generators),
+    }
+}
+
+/// What the datagrams say of the object that was sent (RFC 5510, section 8): the object, or why they give none. The
+/// first packet's identity and FTI hold. No datagram and no sender is trusted: the answer is exact for every list of
+/// datagrams. Memory for the object is asked for only where no block is short, and for a block only where it has enough
+/// symbols.
+pub fn decode(alloc: Global, datagrams: &[&[u8]]) -> Result<Answer, AllocError>
+    ensures { IfOk result (λ a. IsAnswer (map (λ d. d.now) datagrams.now) (answer_value a)) }
+{
+    all_are_bytes(datagrams);
+    if datagrams.is_empty() {
+        return Ok(Answer::Empty);
+    }
+    match receive(alloc, datagrams) {
+        Ok(received) => answer(alloc, &received),
+        Err(Refusal::Fault(fault)) => Ok(Answer::Fault(fault)),
+        Err(Refusal::NoMemory) => Err(AllocError),
+    }
 }

@@ -14,6 +14,7 @@ mod unsolvable;
 
 pub use answer::{Answer, DecodeFault};
 pub use certifying::{CertifyFault, certify};
+pub use decoding::decode;
 pub use sending::{Order, SendFault, encode};
 
 #[cfg(test)]

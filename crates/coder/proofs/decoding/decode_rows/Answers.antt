@@ -31,6 +31,7 @@ returns-clause-rows c = λ ok.
     let e = products c.start.result c.from.result (start_of f c.args.b) f.symbol_length c.start.ensures.value (c.from.ensures ∙ c.symbol.ensures.value) in
     record {
       count = c.recover.ensures.len ∙ c.requires.rows;
+      bytes = c.in_ok-recover.ensures.bytes;
       columns = column_of f c.args.b b.received.now b.generator.now b.size c.requires.block c.requires.code c.requires.size
           c.recover.new.rows c.in_ok-recover.ensures.bytes (c.in_ok-recover.ensures.met c.if-not-branch.false);
       padding = λ i y li ly past.
