@@ -6,7 +6,7 @@ use Rattle.clap.specs.declared.error.Error.{Error}
 use Rattle.clap.specs.declared.error.kind.ErrorKind.TheVariants.{DisplayHelp, OutOfMemory}
 use Rattle.request.specs.declared.requests.Sizes.{Sizes}
 use Rattle.request.specs.declared.requests.Request.{Request}
-use Rattle.request.specs.declared.requests.Request.TheVariants.{Check, Twin, Show, Encode, Certify, Drop}
+use Rattle.request.specs.declared.requests.Request.TheVariants.{Check, Twin, Show, Encode, Certify, Decode, Drop}
 use Rattle.request.specs.declared.usage.Usage.{Usage}
 use Rattle.request.specs.declared.usage.Usage.TheVariants.{Help, Line, Value, NoMemory}
 
@@ -53,6 +53,8 @@ HasValuesOf found (Encode object output sending) =
     (first_value found (codes "OBJECT") ≡ Some object.now) × (first_value found (codes "OUT") ≡ Some output.now) × AreInRange sending.sizes
 HasValuesOf found (Certify object output sizes) =
     (first_value found (codes "OBJECT") ≡ Some object.now) × (first_value found (codes "OUT") ≡ Some output.now) × AreInRange sizes
+HasValuesOf found (Decode session output) =
+    (first_value found (codes "SESSION") ≡ Some session.now) × (first_value found (codes "OUT") ≡ Some output.now)
 HasValuesOf found (Drop session output places) =
     (first_value found (codes "SESSION") ≡ Some session.now) × (first_value found (codes "OUT") ≡ Some output.now)
     × ArePlaces places.items
@@ -64,4 +66,5 @@ IsInRange (Twin session object certificate output) = ⊤
 IsInRange (Show session) = ⊤
 IsInRange (Encode object output sending) = AreInRange sending.sizes
 IsInRange (Certify object output sizes) = AreInRange sizes
+IsInRange (Decode session output) = ⊤
 IsInRange (Drop session output places) = ArePlaces places.items

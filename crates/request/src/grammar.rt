@@ -9,7 +9,7 @@ const ABOUT: &str =
 const ORDERS: [&str; 2] = ["blocks", "rounds"];
 
 const STATUSES: &str =
-    "Statuses: 0 done or yes, 1 no or a fault, 2 the command line is refused.\n\nExample: alcrs check bulletin.session bulletin.txt bulletin.rsc";
+    "Statuses: 0 done or yes, 1 no or a fault, 2 the command line is refused, 3 decode has too little.\n\nExample: alcrs check bulletin.session bulletin.txt bulletin.rsc";
 
 /// An argument that names a file: its name and its help.
 type FileArgument<'a> = (&'a str, &'a str);
@@ -202,6 +202,19 @@ fn drop_command<'a>(alloc: Global) -> Result<Command<'a>, AllocError> {
     with_files(alloc, command, &[SESSION, SESSION_TO_WRITE])?.arg(places(alloc))
 }
 
+fn decode_command<'a>(alloc: Global) -> Result<Command<'a>, AllocError> {
+    let command = Command::new(alloc, "decode")
+        .about("Writes the object that the datagrams of a session give")
+        .after_help(
+            "Prints `object` and its length in bytes, and writes it; else `empty`, or `missing`, the first block that is short and how many symbols it has and needs, or `fault` and why the datagrams are of no object.\nStatuses: 0 the object was written, 1 a fault, 2 the command line is refused, 3 nothing came or a block is short.\n\nExample: alcrs decode bulletin.session received.txt",
+        );
+    with_files(
+        alloc,
+        command,
+        &[SESSION, ("OUT", "The object to write, where there is one")],
+    )
+}
+
 // The places to leave out, one or more.
 fn places<'a>(alloc: Global) -> Arg<'a> {
     Arg::new(alloc, "PLACE")
@@ -229,6 +242,7 @@ pub fn grammar<'a>(alloc: Global) -> Result<Command<'a>, AllocError> {
     let command = with_command(command, certify_command(alloc))?;
     let command = with_command(command, check_command(alloc))?;
     let command = with_command(command, drop_command(alloc))?;
+    let command = with_command(command, decode_command(alloc))?;
     let command = with_command(command, twin_command(alloc))?;
     with_command(command, show_command(alloc))
 }

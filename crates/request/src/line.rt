@@ -4,7 +4,8 @@ ghost use Rattle.request.specs.Usages.{IsUsage, IsUsageOf, IsInRange};
 
 use crate::grammar::grammar;
 use crate::matched::{
-    certify_request, check_request, drop_request, encode_request, show_request, twin_request,
+    certify_request, check_request, decode_request, drop_request, encode_request, show_request,
+    twin_request,
 };
 use crate::requests::Request;
 use crate::usage::Usage;
@@ -46,6 +47,9 @@ pub fn request<'a>(alloc: Global, words: &'a [&'a str]) -> Result<Request<'a>, U
     }
     if let Some(drop) = matches.subcommand_matches("drop") {
         return drop_request(alloc, drop);
+    }
+    if let Some(decode) = matches.subcommand_matches("decode") {
+        return decode_request(decode);
     }
     if let Some(twin) = matches.subcommand_matches("twin") {
         return twin_request(twin);

@@ -51,6 +51,18 @@ pub fn twin_request<'a>(matches: &ArgMatches<'a>) -> Result<Request<'a>, Usage>
     })
 }
 
+/// The request of `decode`, or a value that the grammar let through and that is none.
+pub fn decode_request<'a>(matches: &ArgMatches<'a>) -> Result<Request<'a>, Usage>
+    ensures ok { IfOk result (HasValuesOf (found_of matches.now)) }
+    ensures range { IfOk result IsInRange }
+    ensures err { IfErr result (λ usage. usage ≡ Usage.Value) }
+{
+    let (Some(session), Some(output)) = (matches.get_str("SESSION"), matches.get_str("OUT")) else {
+        return Err(Usage::Value);
+    };
+    Ok(Request::Decode { session, output })
+}
+
 /// The request of `show`, or a value that the grammar let through and that is none.
 pub fn show_request<'a>(matches: &ArgMatches<'a>) -> Result<Request<'a>, Usage>
     ensures ok { IfOk result (HasValuesOf (found_of matches.now)) }

@@ -53,6 +53,11 @@ pub enum Request<'a> {
         output: &'a str,
         sizes: Sizes,
     },
+    /// Write the object that the session's datagrams give.
+    Decode {
+        session: &'a str,
+        output: &'a str,
+    },
     /// Leave the datagrams at these places out, counted from 0; one place or more.
     Drop {
         session: &'a str,

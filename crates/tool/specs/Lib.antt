@@ -2,4 +2,5 @@ pub mod Files
 pub mod Inputs
 pub mod Lines
 pub mod Making
+pub mod Decoding
 pub mod Outcomes

@@ -13,10 +13,11 @@ use Rattle.cert.specs.declared.verdict.Reason.TheVariants.{Thin}
 use Rattle.cert.specs.declared.verdict.Verdict.{Verdict}
 use Rattle.cert.specs.declared.verdict.Verdict.TheVariants.{Yes, No}
 use Rattle.request.specs.declared.requests.Request.{Request}
-use Rattle.request.specs.declared.requests.Request.TheVariants.{Check, Twin, Show, Encode, Certify, Drop}
+use Rattle.request.specs.declared.requests.Request.TheVariants.{Check, Twin, Show, Encode, Certify, Decode, Drop}
 use Rattle.tool.specs.declared.fault.Fault.{Fault}
 use Rattle.tool.specs.Inputs.{Contents, HoldsSession, HoldsBytes, HoldsCertificate, IsSessionUnread, IsObjectUnread, IsCertificateUnread}
 use Rattle.tool.specs.Lines.{IsPrintFault, Prints, PrintsTwin, PrintsDatagrams}
+use Rattle.tool.specs.Decoding.{IsDecoded, IsNotDecoded}
 use Rattle.tool.specs.Making.{IsEncoded, IsNotEncoded, IsCertified, IsNotCertified, IsDropped, IsNotDropped, IsFileFault}
 
 abbrev pub status_of : Verdict → ℕ
@@ -111,6 +112,7 @@ IsDone contents (Twin session object certificate output) before after status =
 IsDone contents (Show session) before after status = IsShown contents session.now before after status
 IsDone contents (Encode object output sending) before after status = IsEncoded contents object.now sending before after status
 IsDone contents (Certify object output sizes) before after status = IsCertified contents object.now sizes before after status
+IsDone contents (Decode session output) before after status = IsDecoded contents session.now before after status
 IsDone contents (Drop session output places) before after status = IsDropped contents session.now places.items before after status
 
 abbrev pub IsUndone : Contents → Request → Bool → Fault → Type 0
@@ -121,6 +123,7 @@ IsUndone contents (Twin session object certificate output) failed fault =
 IsUndone contents (Show session) failed fault = IsUnshown contents session.now failed fault
 IsUndone contents (Encode object output sending) failed fault = IsNotEncoded contents object.now output.now sending failed fault
 IsUndone contents (Certify object output sizes) failed fault = IsNotCertified contents object.now output.now sizes failed fault
+IsUndone contents (Decode session output) failed fault = IsNotDecoded contents session.now output.now failed fault
 IsUndone contents (Drop session output places) failed fault = IsNotDropped contents session.now output.now places.items failed fault
 
 -- The request was done, with this status, or there was a fault, and the status is 1.

@@ -3,11 +3,13 @@
 
 mod certify;
 mod check;
+mod decode;
 mod encode;
 mod fault;
 mod folder;
 mod input;
 mod memory;
+mod output;
 mod print;
 mod running;
 mod show;

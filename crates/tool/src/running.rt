@@ -4,6 +4,7 @@ ghost use Rattle.tool.specs.Outcomes.{IsRun, IsDone, IsUndone};
 
 use crate::certify::certify;
 use crate::check::check;
+use crate::decode::decode;
 use crate::encode::encode;
 use crate::fault::Fault;
 use crate::folder::Folder;
@@ -25,7 +26,7 @@ fn perform<'a, F: Folder, W: Write>(
 ) -> Result<u8, Fault<'a>>
     ensures ok { IfOk result (IsDone (F.content folder.old) request.now (W.contents out.old) (W.contents out.new)) }
     ensures fault { IfErr result (IsUndone (F.content folder.old) request.now (W.failed out.new)) }
-    ensures status { IfOk result (λ status. status ≤ 1) }
+    ensures status { IfOk result (λ status. status ≤ 3) }
 {
     match request {
         Request::Check {
@@ -50,6 +51,7 @@ fn perform<'a, F: Folder, W: Write>(
             output,
             sizes,
         } => certify(alloc, folder, out, object, output, sizes),
+        Request::Decode { session, output } => decode(alloc, folder, out, session, output),
         Request::Drop {
             session,
             output,
@@ -58,8 +60,8 @@ fn perform<'a, F: Folder, W: Write>(
     }
 }
 
-/// Does the command, prints its lines, and answers the status: 0 done or yes, 1 no or a fault. If the output can't be
-/// written it is 1.
+/// Does the command, prints its lines, and answers the status: 0 done or yes, 1 no or a fault, 3 where decoding has too
+/// little. If the output can't be written it is 1.
 pub fn run<F: Folder, W: Write>(
     alloc: Global,
     request: &Request<'_>,
@@ -67,7 +69,7 @@ pub fn run<F: Folder, W: Write>(
     out: &mut W,
 ) -> u8
     ensures run { IsRun (F.content folder.old) request.now (W.contents out.old) (W.contents out.new) result }
-    ensures status { result ≤ 1 }
+    ensures status { result ≤ 3 }
 {
     match perform(alloc, request, folder, out) {
         Ok(status) => status,

@@ -1,16 +1,16 @@
 //! The command `twin`.
 ghost use Rattle.std.specs.Prelude.{◌≡◌, ◌≤◌, IfOk, IfErr};
 ghost use Rattle.tool.specs.Lines.{twin_line};
-ghost use Rattle.tool.specs.Making.{IsFileFault};
 ghost use Rattle.tool.specs.Outcomes.{short_of, IsTwinned, IsUntwinned};
 
 use crate::check::reason_line;
 use crate::fault::Fault;
 use crate::folder::Folder;
 use crate::input::{read_certificate, read_object, read_session};
+use crate::output::write_file;
 use crate::print::Line;
 use cert::{Reason, Verdict, session_twin};
-use session::{Write, write_all};
+use session::Write;
 use std::alloc::{AllocError, Global};
 
 /// Writes another object that agrees with all datagrams of the session, where the check finds a block short, and answers
@@ -67,21 +67,6 @@ fn short_block(reason: Reason) -> Option<(u32, usize, usize)>
         | Reason::OtherFti(_)
         | Reason::Range(_)
         | Reason::Symbol(..) => None,
-    }
-}
-
-// Creates a file of these bytes.
-fn write_file<'a, F: Folder>(folder: &mut F, output: &'a str, bytes: &[u8]) -> Result<(), Fault<'a>>
-    ensures { IfErr result (IsFileFault output.now) }
-{
-    let Ok(mut file) = folder.create_file(output) else {
-        return Err(Fault::Open(output));
-    };
-    let written = write_all(&mut file, bytes);
-    folder.close_file(output, file);
-    match written {
-        Ok(()) => Ok(()),
-        Err(_) => Err(Fault::File(output)),
     }
 }
 

@@ -1,0 +1,122 @@
+//! The command `decode`.
+ghost use Rattle.std.specs.Prelude.{◌≡◌, ◌≤◌, IfOk, IfErr, OnOk, codes};
+ghost use Rattle.tool.specs.Decoding.{GainsFault, missing_text, object_text, IsAnswerLine, answer_status, IsDecoded, IsNotDecoded};
+ghost use Rattle.tool.specs.Making.{IsFileFault};
+
+use crate::fault::Fault;
+use crate::folder::Folder;
+use crate::input::read_session;
+use crate::output::write_file;
+use crate::print::Line;
+use coder::{Answer, DecodeFault};
+use session::Write;
+use std::alloc::{AllocError, Global};
+
+/// Writes the object that the session's datagrams give, prints what they give, and answers the status. The output is
+/// created only where there is an object.
+pub fn decode<'a, F: Folder, W: Write>(
+    alloc: Global,
+    folder: &mut F,
+    out: &mut W,
+    session: &'a str,
+    output: &'a str,
+) -> Result<u8, Fault<'a>>
+    ensures ok { IfOk result (IsDecoded (F.content folder.old) session.now (W.contents out.old) (W.contents out.new)) }
+    ensures fault { IfErr result (IsNotDecoded (F.content folder.old) session.now output.now (W.failed out.new)) }
+    ensures status { IfOk result (λ status. status ≤ 3) }
+{
+    let session = read_session(alloc, folder, session)?;
+    let datagrams = session.views(alloc)?;
+    let answer = coder::decode(alloc, &datagrams)?;
+    write_object(folder, output, &answer)?;
+    answer_line(alloc, &answer)?.print(out)?;
+    Ok(status_of(&answer))
+}
+
+fn write_object<'a, F: Folder>(
+    folder: &mut F,
+    output: &'a str,
+    answer: &Answer,
+) -> Result<(), Fault<'a>>
+    ensures { IfErr result (IsFileFault output.now) }
+{
+    match answer {
+        Answer::Object(object) => write_file(folder, output, object.as_slice()),
+        Answer::Empty | Answer::Fault(_) | Answer::Missing { .. } => Ok(()),
+    }
+}
+
+fn status_of(answer: &Answer) -> u8
+    ensures { result ≡ answer_status answer.now }
+{
+    match answer {
+        Answer::Object(_) => 0,
+        Answer::Fault(_) => 1,
+        Answer::Empty | Answer::Missing { .. } => 3,
+    }
+}
+
+// Puts a fault last.
+fn put_fault(alloc: Global, line: &mut Line, fault: DecodeFault) -> Result<(), AllocError>
+    ensures { OnOk result (GainsFault fault line.old line.new) }
+{
+    match fault {
+        DecodeFault::Packet(place, fault) => {
+            line.named("R1 Packet place", place)?;
+            let text = format!(in alloc; " {fault}")?;
+            line.text(text.as_str())
+        }
+        DecodeFault::OtherIdentity(place) => line.named("R2 OtherIdentity place", place),
+        DecodeFault::OtherFti(place) => line.named("R3 OtherFti place", place),
+        DecodeFault::Range(place) => line.named("R4 Range place", place),
+        DecodeFault::Clash(place) => line.named("R5 Clash place", place),
+        DecodeFault::NotCode(block) => line.named("R6 NotCode block", block),
+    }
+}
+
+fn missing_line(alloc: Global, block: u32, have: usize, need: usize) -> Result<Line, AllocError>
+    ensures { IfOk result (λ line. line ≡ missing_text block have need) }
+{
+    let mut line = Line::new(alloc);
+    line.named("missing block", block)?;
+    line.named(" have", have)?;
+    line.named(" need", need)?;
+    Ok(line)
+}
+
+fn object_line(alloc: Global, length: usize) -> Result<Line, AllocError>
+    ensures { IfOk result (λ line. line ≡ object_text length) }
+{
+    let mut line = Line::new(alloc);
+    line.named("object", length)?;
+    line.text(" bytes")?;
+    Ok(line)
+}
+
+fn empty_line(alloc: Global) -> Result<Line, AllocError>
+    ensures { IfOk result (λ line. line ≡ codes "empty") }
+{
+    let mut line = Line::new(alloc);
+    line.text("empty")?;
+    Ok(line)
+}
+
+fn fault_line(alloc: Global, fault: DecodeFault) -> Result<Line, AllocError>
+    ensures { IfOk result (GainsFault fault (codes "fault ")) }
+{
+    let mut line = Line::new(alloc);
+    line.text("fault ")?;
+    put_fault(alloc, &mut line, fault)?;
+    Ok(line)
+}
+
+fn answer_line(alloc: Global, answer: &Answer) -> Result<Line, AllocError>
+    ensures { IfOk result (IsAnswerLine answer.now) }
+{
+    match answer {
+        Answer::Empty => empty_line(alloc),
+        Answer::Fault(fault) => fault_line(alloc, *fault),
+        Answer::Missing { block, have, need } => missing_line(alloc, *block, *have, *need),
+        Answer::Object(object) => object_line(alloc, object.len()),
+    }
+}
