@@ -20,4 +20,6 @@ pub use selecting::{decode_selection, one_answer};
 pub use sending::{Order, SendFault, encode};
 
 #[cfg(test)]
+mod decode_tests;
+#[cfg(test)]
 mod tests;

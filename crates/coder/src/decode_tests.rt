@@ -1,0 +1,297 @@
+use super::*;
+use alc::PacketFault;
+use partition::Fti;
+use session::{FrameFault, Pieces, Session, Sink};
+use std::alloc::{AllocError, Global};
+use std::test::Fail;
+
+// The datagrams that are sent of an object, block after block.
+fn sent(alloc: Global, object: &[u8], fti: &Fti) -> Result<Session, Fail> {
+    let mut sink = Sink::new(alloc);
+    encode(alloc, object, 1, 1, fti, Order::Blocks, &mut sink)?;
+    let mut reader = Pieces::new(sink.bytes(), 100);
+    Ok(Session::read(alloc, &mut reader)?)
+}
+
+// What the datagrams at these places say.
+fn of_places(alloc: Global, session: &Session, places: &[usize]) -> Result<Answer, Fail> {
+    let chosen = session.keep(alloc, places)?;
+    let datagrams = chosen.views(alloc)?;
+    Ok(decode(alloc, &datagrams)?)
+}
+
+// What these datagrams say.
+fn of_datagrams(alloc: Global, datagrams: &[Vec<u8>]) -> Result<Answer, Fail> {
+    let mut views = Vec::new(alloc);
+    for datagram in datagrams {
+        views.push(datagram.as_slice())?;
+    }
+    Ok(decode(alloc, &views)?)
+}
+
+// The FTI of a packet: bytes of the transfer length, E, B and max_n.
+const TWO_OF_THREE: [u8; 10] = [0, 0, 0, 0, 0, 2, 0, 1, 2, 3];
+
+// The datagram of a packet with TSI 1.
+fn datagram(
+    alloc: Global,
+    toi: u8,
+    fti: [u8; 10],
+    payload_id: [u8; 4],
+    symbol: &[u8],
+) -> Result<Vec<u8>, AllocError> {
+    let fixed_part = [
+        0x10, 0xA0, 7, 5, 0, 0, 0, 0, 0, 0, 0, 1, 0, 0, 0, toi, 0x40, 3,
+    ];
+    let mut bytes = Vec::new(alloc);
+    bytes.extend_from_slice(&fixed_part)?;
+    bytes.extend_from_slice(&fti)?;
+    bytes.extend_from_slice(&payload_id)?;
+    bytes.extend_from_slice(symbol)?;
+    Ok(bytes)
+}
+
+// The datagram of a symbol of a byte, of block 0 of an object of two source symbols and one repair symbol.
+fn of_two(alloc: Global, esi: u8, byte: u8) -> Result<Vec<u8>, AllocError> {
+    datagram(alloc, 1, TWO_OF_THREE, [0, 0, 0, esi], &[byte])
+}
+
+fn is_object(answer: &Answer, bytes: &[u8]) -> bool {
+    match answer {
+        Answer::Object(object) => object.as_slice() == bytes,
+        _ => false,
+    }
+}
+
+fn is_missing(answer: &Answer, number: u32, count: usize, size: usize) -> bool {
+    match answer {
+        Answer::Missing { block, have, need } => {
+            *block == number && *have == count && *need == size
+        }
+        _ => false,
+    }
+}
+
+fn is_fault(answer: &Answer, wanted: DecodeFault) -> bool {
+    match answer {
+        Answer::Fault(fault) => *fault == wanted,
+        _ => false,
+    }
+}
+
+fn is_empty(answer: &Answer) -> bool {
+    match answer {
+        Answer::Empty => true,
+        _ => false,
+    }
+}
+
+#[test]
+fn any_two_of_three(rt: HostRuntime) -> Result<(), Fail> {
+    let object = [1, 2];
+    let session = sent(rt.alloc(), &object, &Fti::new(2, 1, 2, 3)?)?;
+    for places in [
+        [0, 1, 2].as_slice(),
+        [2, 1, 0].as_slice(),
+        [0, 1].as_slice(),
+        [1, 0].as_slice(),
+        [0, 2].as_slice(),
+        [2, 0].as_slice(),
+        [1, 2].as_slice(),
+        [2, 1].as_slice(),
+        [2, 2, 0, 2, 0].as_slice(),
+    ] {
+        let answer = of_places(rt.alloc(), &session, places)?;
+        assert!(rt; is_object(&answer, &object));
+    }
+    for place in 0..3usize {
+        let answer = of_places(rt.alloc(), &session, &[place, place])?;
+        assert!(rt; is_missing(&answer, 0, 1, 2), "place {place}");
+    }
+    assert!(rt; is_empty(&decode(rt.alloc(), &[])?));
+    Ok(())
+}
+
+#[test]
+fn selections(rt: HostRuntime) -> Result<(), Fail> {
+    let object = [1, 2];
+    let session = sent(rt.alloc(), &object, &Fti::new(2, 1, 2, 3)?)?;
+    one_answer();
+    let answer = decode_selection(rt.alloc(), &session, &[2, 0, 2])?;
+    assert!(rt; is_object(&answer, &object));
+    let answer = decode_selection(rt.alloc(), &session, &[1])?;
+    assert!(rt; is_missing(&answer, 0, 1, 2));
+    match decode_selection(rt.alloc(), &session, &[0, 4, 3]) {
+        Ok(_) => assert!(rt; false, "decoded"),
+        Err(fault) => assert_eq!(rt; fault, FrameFault::NoSuchPlace(4)),
+    }
+    Ok(())
+}
+
+#[test]
+fn three_blocks(rt: HostRuntime) -> Result<(), Fail> {
+    let object = [0x01, 0x08, 0x40, 0x3A, 1, 2, 4, 1, 4, 0x10];
+    let session = sent(rt.alloc(), &object, &Fti::new(10, 1, 4, 6)?)?;
+    for places in [
+        [2, 3, 4, 5, 7, 8, 9, 10, 12, 13].as_slice(),
+        [13, 6, 5, 12, 8, 1, 11, 9, 4, 0].as_slice(),
+        [0, 1, 2, 3, 4, 5, 6, 7, 8, 9, 10, 11, 12, 13].as_slice(),
+    ] {
+        let answer = of_places(rt.alloc(), &session, places)?;
+        assert!(rt; is_object(&answer, &object));
+    }
+    for (places, block, have, need) in [
+        ([0, 1, 2, 6, 7, 8, 10, 11, 12].as_slice(), 0, 3, 4),
+        ([0, 1, 2, 3, 6, 9, 10, 11, 12].as_slice(), 1, 2, 3),
+        ([0, 1, 2, 3, 4, 5, 7, 8, 9, 13].as_slice(), 2, 1, 3),
+        ([13, 12, 11, 10, 3, 2, 1, 0].as_slice(), 1, 0, 3),
+    ] {
+        let answer = of_places(rt.alloc(), &session, places)?;
+        assert!(rt; is_missing(&answer, block, have, need), "block {block}");
+    }
+    Ok(())
+}
+
+// The places whose bits are set.
+fn places_of(alloc: Global, set: u8) -> Result<Vec<usize>, Fail> {
+    let mut places = Vec::new(alloc);
+    for place in 0..5usize {
+        if (set >> place) & 1 == 1 {
+            places.push(place)?;
+        }
+    }
+    Ok(places)
+}
+
+#[test]
+fn every_set_of_five(rt: HostRuntime) -> Result<(), Fail> {
+    let object = [1, 4, 0x10];
+    let session = sent(rt.alloc(), &object, &Fti::new(3, 1, 3, 5)?)?;
+    let mut objects: u8 = 0;
+    for set in 0..32u8 {
+        let places = places_of(rt.alloc(), set)?;
+        let answer = of_places(rt.alloc(), &session, &places)?;
+        let right = match places.len() {
+            0 => is_empty(&answer),
+            1 => is_missing(&answer, 0, 1, 3),
+            2 => is_missing(&answer, 0, 2, 3),
+            _ => is_object(&answer, &object),
+        };
+        assert!(rt; right, "set {set}");
+        objects = objects.wrapping_add(u8::from(places.len() > 2));
+    }
+    assert_eq!(rt; objects, 16);
+    Ok(())
+}
+
+// The last symbol's padding has to be zero.
+#[test]
+fn padding(rt: HostRuntime) -> Result<(), Fail> {
+    let object = [7, 8, 9];
+    let session = sent(rt.alloc(), &object, &Fti::new(3, 2, 2, 3)?)?;
+    let answer = of_places(rt.alloc(), &session, &[0, 2])?;
+    assert!(rt; is_object(&answer, &object));
+    let fti = [0, 0, 0, 0, 0, 3, 0, 2, 2, 3];
+    let first = datagram(rt.alloc(), 1, fti, [0, 0, 0, 0], &[7, 8])?;
+    let second = datagram(rt.alloc(), 1, fti, [0, 0, 0, 1], &[9, 1])?;
+    let answer = decode(rt.alloc(), &[first.as_slice(), second.as_slice()])?;
+    assert!(rt; is_fault(&answer, DecodeFault::NotCode(0)));
+    Ok(())
+}
+
+// Two symbols are always those of an object, three aren't.
+#[test]
+fn another_repair_symbol(rt: HostRuntime) -> Result<(), Fail> {
+    let first = of_two(rt.alloc(), 0, 1)?;
+    let second = of_two(rt.alloc(), 1, 2)?;
+    let repair = of_two(rt.alloc(), 2, 5)?;
+    let (first, second, repair) = (first.as_slice(), second.as_slice(), repair.as_slice());
+    let answer = decode(rt.alloc(), &[first, second, repair])?;
+    assert!(rt; is_fault(&answer, DecodeFault::NotCode(0)));
+    assert!(rt; is_object(&decode(rt.alloc(), &[first, second])?, &[1, 2]));
+    assert!(rt; is_object(&decode(rt.alloc(), &[first, repair])?, &[1, 0xF6]));
+    Ok(())
+}
+
+// A full block of no object comes before a block that is short.
+#[test]
+fn no_object_before_missing(rt: HostRuntime) -> Result<(), Fail> {
+    let fti = [0, 0, 0, 0, 0, 10, 0, 1, 4, 6];
+    let first = datagram(rt.alloc(), 1, fti, [0, 0, 1, 0], &[1])?;
+    let second = datagram(rt.alloc(), 1, fti, [0, 0, 1, 1], &[2])?;
+    let third = datagram(rt.alloc(), 1, fti, [0, 0, 1, 2], &[4])?;
+    let repair = datagram(rt.alloc(), 1, fti, [0, 0, 1, 3], &[9])?;
+    let datagrams = [first, second, third, repair];
+    let answer = of_datagrams(rt.alloc(), &datagrams)?;
+    assert!(rt; is_fault(&answer, DecodeFault::NotCode(1)));
+    let answer = of_datagrams(rt.alloc(), &datagrams[..3])?;
+    assert!(rt; is_missing(&answer, 0, 0, 4));
+    Ok(())
+}
+
+// The second of two datagrams has a fault.
+#[test]
+fn faults_of_the_second(rt: HostRuntime) -> Result<(), Fail> {
+    let first = of_two(rt.alloc(), 0, 1)?;
+    let other_fti = [0, 0, 0, 0, 0, 2, 0, 1, 2, 4];
+    for (toi, fti, payload_id, fault) in [
+        (1, TWO_OF_THREE, [0, 0, 0, 0], DecodeFault::Clash(1)),
+        (1, TWO_OF_THREE, [0, 0, 0, 3], DecodeFault::Range(1)),
+        (1, TWO_OF_THREE, [0, 0, 1, 0], DecodeFault::Range(1)),
+        (1, other_fti, [0, 0, 0, 1], DecodeFault::OtherFti(1)),
+        (2, other_fti, [0, 0, 0, 1], DecodeFault::OtherIdentity(1)),
+    ] {
+        let second = datagram(rt.alloc(), toi, fti, payload_id, &[2])?;
+        let answer = decode(rt.alloc(), &[first.as_slice(), second.as_slice()])?;
+        assert!(rt; is_fault(&answer, fault), "{fault}");
+    }
+    let no_packet = DecodeFault::Packet(1, PacketFault::TooShort);
+    let answer = decode(rt.alloc(), &[first.as_slice(), &[]])?;
+    assert!(rt; is_fault(&answer, no_packet));
+    Ok(())
+}
+
+#[test]
+fn faults_of_the_first(rt: HostRuntime) -> Result<(), Fail> {
+    let past = of_two(rt.alloc(), 3, 1)?;
+    let answer = decode(rt.alloc(), &[past.as_slice()])?;
+    assert!(rt; is_fault(&answer, DecodeFault::Range(0)));
+    let answer = decode(rt.alloc(), &[&[], past.as_slice()])?;
+    assert!(rt; is_fault(&answer, DecodeFault::Packet(0, PacketFault::TooShort)));
+    Ok(())
+}
+
+// No memory is asked for what a packet claims alone: its object has 2^40 bytes, in 65,855 blocks.
+#[test]
+fn a_great_object_claimed(rt: HostRuntime) -> Result<(), Fail> {
+    let fti = [1, 0, 0, 0, 0, 0, 0xFF, 0xC3, 255, 255];
+    let symbol = Vec::from_elem(rt.alloc(), 7u8, 65475)?;
+    let first = datagram(rt.alloc(), 1, fti, [0, 0, 0, 0], &symbol)?;
+    assert_eq!(rt; first.len(), 65507);
+    let answer = decode(rt.alloc(), &[first.as_slice()])?;
+    assert!(rt; is_missing(&answer, 0, 1, 255));
+    let last = datagram(rt.alloc(), 1, fti, [1, 1, 0x3E, 0], &symbol)?;
+    let answer = decode(rt.alloc(), &[last.as_slice()])?;
+    assert!(rt; is_missing(&answer, 0, 0, 255));
+    let past = datagram(rt.alloc(), 1, fti, [1, 1, 0x3F, 0], &symbol)?;
+    let answer = decode(rt.alloc(), &[past.as_slice()])?;
+    assert!(rt; is_fault(&answer, DecodeFault::Range(0)));
+    Ok(())
+}
+
+#[test]
+fn texts_of_faults(rt: HostRuntime) -> Result<(), Fail> {
+    let no_packet = DecodeFault::Packet(0, PacketFault::TooShort);
+    for (fault, text) in [
+        (no_packet, "R1 Packet place 0 P1 TooShort"),
+        (DecodeFault::OtherIdentity(3), "R2 OtherIdentity place 3"),
+        (DecodeFault::OtherFti(4), "R3 OtherFti place 4"),
+        (DecodeFault::Range(5), "R4 Range place 5"),
+        (DecodeFault::Clash(1), "R5 Clash place 1"),
+        (DecodeFault::NotCode(2), "R6 NotCode block 2"),
+    ] {
+        let shown = format!(in rt.alloc(); "{fault}")?;
+        assert_eq!(rt; shown.as_str(), text);
+    }
+    Ok(())
+}
