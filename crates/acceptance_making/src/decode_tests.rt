@@ -52,7 +52,12 @@ fn too_little(rt: HostRuntime) -> Result<(), Fail> {
     decodes_nothing(alloc, &[], 3, "empty\n")?;
     for places in [&[2][..], &[1, 1, 1]] {
         let session = pair_frames(alloc, places)?;
-        decodes_nothing(alloc, session.as_slice(), 3, "missing block 0 have 1 need 2\n")?;
+        decodes_nothing(
+            alloc,
+            session.as_slice(),
+            3,
+            "missing block 0 have 1 need 2\n",
+        )?;
     }
     Ok(())
 }
@@ -72,18 +77,17 @@ fn the_object_of_three_blocks(rt: HostRuntime) -> Result<(), Fail> {
 #[test]
 fn of_no_object(rt: HostRuntime) -> Result<(), Fail> {
     let alloc = rt.alloc();
-    let wrong = session_of(alloc, &PAIR_FTI, &[(0, 0, &[1]), (0, 1, &[2]), (0, 2, &[5])])?;
+    let wrong = session_of(
+        alloc,
+        &PAIR_FTI,
+        &[(0, 0, &[1]), (0, 1, &[2]), (0, 2, &[5])],
+    )?;
     decodes_nothing(alloc, wrong.as_slice(), 1, "fault R6 NotCode block 0\n")?;
     let clash = session_of(alloc, &PAIR_FTI, &[(0, 0, &[1]), (0, 0, &[2])])?;
     decodes_nothing(alloc, clash.as_slice(), 1, "fault R5 Clash place 1\n")?;
     let range = session_of(alloc, &PAIR_FTI, &[(0, 3, &[1])])?;
     decodes_nothing(alloc, range.as_slice(), 1, "fault R4 Range place 0\n")?;
-    decodes_nothing(
-        alloc,
-        &[0, 0],
-        1,
-        "fault R1 Packet place 0 P1 TooShort\n",
-    )
+    decodes_nothing(alloc, &[0, 0], 1, "fault R1 Packet place 0 P1 TooShort\n")
 }
 
 // The padding of the last symbol isn't zero.

@@ -1,14 +1,12 @@
 -- The answer to datagrams, from what was received.
-use Rattle.std.specs.Prelude.{◌==◌, ◌&&◌, Result, Ok, Err, IfOk}
-use Rattle.std.specs.List.{AllByRecursion}
-use Rattle.std.proofs.Common.{◌≡◌, ℕ, zero, suc, ◌+◌, ◌<◌, ◌≤◌, true, List, [], ◌∷◌, Option, Some, None, length, map, get_or, arith, ap, ◌∙◌, sym, subst, refl, leb-true}
+use Rattle.std.specs.Prelude.{◌==◌, Result, Ok, Err, IfOk}
+use Rattle.std.proofs.Common.{◌≡◌, ℕ, suc, ◌<◌, true, List, [], ◌∷◌, Option, Some, length, get_or, arith, subst, refl, leb-true}
 use Rattle.gf256.specs.Arithmetic.{AreBytes}
-use Rattle.partition.specs.Fti.{Fti, IsValidFti, block_count, source_count, encoding_count}
+use Rattle.partition.specs.Fti.{Fti, IsValidFti, block_count}
 use Rattle.partition.proofs.Laws.{counts}
 use Rattle.alc.specs.Computed.{read_of}
-use Rattle.alc.specs.Reading.{Reading, Reads}
 use Rattle.alc.proofs.Again.{reads}
-use Rattle.cert.specs.Symbols.{Symbol, is_of, AllFull}
+use Rattle.cert.specs.Symbols.{is_of, AllFull}
 use Rattle.cert.specs.Readings.{ReadAll, counted, symbols}
 use Rattle.cert.specs.Scan.{readings_of}
 use Rattle.cert.specs.Answer as value
@@ -17,7 +15,7 @@ use Rattle.std.proofs.lemmas.Bool.{and_from, eq-eqb}
 use Rattle.losses.proofs.Lists.{all_both}
 use Rattle.cert.proofs.Full.{found}
 use Rattle.coder.specs.Decoded.{AreWithin, IsEnoughAt, AnswerBy, Stand}
-use Rattle.coder.specs.Received.{IsIndex, IsWithin, AreReceived}
+use Rattle.coder.specs.Received.{IsWithin, AreReceived}
 use Rattle.coder.proofs.Counts.{held_is}
 
 -- an answer to symbols is one to what came, where no datagram has a fault

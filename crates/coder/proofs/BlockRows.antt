@@ -1,24 +1,24 @@
 -- A block's rows in terms of its polynomials.
-use Rattle.std.specs.Prelude.{slice_index, is_some, option_map}
+use Rattle.std.specs.Prelude.{is_some, option_map}
 use Rattle.std.specs.Borrow.{Bor}
 use Rattle.std.proofs.Common.{◌≡◌, ◌≢◌, ℕ, ◌+◌, ◌-◌, ◌*◌, ◌/◌, ◌%◌, ◌<◌, ◌≤◌, List, Option, Some, None, length, get_or, take, drop, get_or-take, length-take, arith, ap, ◌∙◌, sym, refl, subst, inl, inr}
 use Rattle.std.proofs.lemmas.Bool.{cases_lt}
-use Rattle.std.proofs.lemmas.List.{get_or_past, get_or-drop, length-drop}
+use Rattle.std.proofs.lemmas.List.{get_or_past, get_or-drop}
 use Rattle.std.proofs.lemmas.Nat.{div-add-mod'}
 use Rattle.std.proofs.Math.Nat.{mod-lt, div-lt_iff_lt-mul}
-use Rattle.gf256.specs.Arithmetic.{IsByte, AreBytes, sum_of, product, point}
+use Rattle.gf256.specs.Arithmetic.{IsByte, AreBytes, point}
 use Rattle.poly.specs.Polynomial.{value, IsPolynomial}
-use Rattle.partition.specs.Fti.{Fti, source_count, encoding_count, start_of, source_place}
-use Rattle.elim.specs.Grid.{Grid, entry}
-use Rattle.elim.specs.Matrices.{row_times, AreElements}
+use Rattle.partition.specs.Fti.{Fti, source_count, encoding_count, source_place}
+use Rattle.elim.specs.Grid.{Grid}
+use Rattle.elim.specs.Matrices.{AreElements}
 use Rattle.losses.specs.Numbers.{below}
 use Rattle.losses.proofs.Lists.{filter_same}
 use Rattle.losses.proofs.Below.{all_below}
 use Rattle.coder.specs.BlockMatrices.{IsCodeOf}
 use Rattle.coder.specs.Columns.{ColumnExplained}
 use Rattle.coder.specs.Decoded.{AreWithin, IsEnoughAt, RowsColumn, AreRows, IsUnexplained}
-use Rattle.coder.specs.Recovered.{arrived, row_byte, HaveLength, IsBlock, Meets, CanMeet, AreMet, CanBeMet, MeetsOnly}
-use Rattle.coder.proofs.Words.{through, wide, word_of_values, values_bytes}
+use Rattle.coder.specs.Recovered.{arrived, row_byte, HaveLength, IsBlock, Meets, AreMet, CanBeMet, MeetsOnly}
+use Rattle.coder.proofs.Words.{through, word_of_values, values_bytes}
 
 length-take-most : (n : ℕ) (xs : List ℕ) → length (take n xs) ≤ n
 length-take-most n xs = simp length-take (omega arith)

@@ -1,6 +1,6 @@
 -- A byte column of a block of which source symbols are missing: the bytes that its repair symbols give back. `held` has
 -- the others and zeros, and `lacks` is what the missing ones add to the repair symbols.
-use Rattle.std.proofs.Common.{◌≡◌, ◌≢◌, ℕ, ◌<◌, ◌≤◌, List, length, get_or, arith, ap, ◌∙◌, sym, refl}
+use Rattle.std.proofs.Common.{◌≡◌, ◌≢◌, ℕ, ◌<◌, ◌≤◌, List, length, get_or, ap, ◌∙◌, sym}
 use Rattle.std.specs.Int.Bits.{xor_assoc, xor_self, xor_zero_r}
 use Rattle.std.proofs.lemmas.Nat.{xor_comm}
 use Rattle.gf256.specs.Arithmetic.{IsByte, sum_of, product}
@@ -10,7 +10,7 @@ use Rattle.elim.specs.Grid.{Grid, entry, HasElements}
 use Rattle.elim.specs.Generator.{Encodes}
 use Rattle.elim.specs.Erasures.{AreErasures, Recovers, part_entry}
 use Rattle.elim.proofs.Sums.{sum_same}
-use Rattle.elim.proofs.RowTimes.{dot_element, dot_swapped, dot_of_sums}
+use Rattle.elim.proofs.RowTimes.{dot_swapped, dot_of_sums}
 use Rattle.elim.proofs.Entries.{elements_by_row}
 use Rattle.elim.proofs.Recovering.{spread_sum}
 

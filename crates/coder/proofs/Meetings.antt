@@ -1,13 +1,13 @@
 -- A block's rows, made of the symbols that came: they are the only ones that can have all of them.
-use Rattle.std.specs.Prelude.{slice_index, slice_index_or, is_some, not, option_map}
+use Rattle.std.specs.Prelude.{slice_index, is_some, not}
 use Rattle.std.specs.Borrow.{Bor}
-use Rattle.std.proofs.Common.{◌≡◌, ◌≢◌, ℕ, ◌+◌, ◌-◌, ◌<◌, ◌≤◌, Bool, true, false, List, Option, Some, None, length, get_or, take, drop, arith, ap, ◌∙◌, sym, refl, inl, inr, get_or-take, length-take-le, subst}
-use Rattle.std.proofs.lemmas.Bool.{cases_lt, cases_Bool, not-false}
+use Rattle.std.proofs.Common.{◌≡◌, ◌≢◌, ℕ, ◌+◌, ◌-◌, ◌<◌, ◌≤◌, true, List, Option, Some, None, length, get_or, take, drop, arith, ap, ◌∙◌, sym, refl, inl, inr, get_or-take, length-take-le, subst}
+use Rattle.std.proofs.lemmas.Bool.{cases_lt, cases_Bool}
 use Rattle.std.proofs.lemmas.List.{get_or-drop, length-drop}
-use Rattle.gf256.specs.Arithmetic.{IsByte, sum_of, product}
-use Rattle.elim.specs.Matrices.{row_times, AreElements}
+use Rattle.gf256.specs.Arithmetic.{sum_of, product}
+use Rattle.elim.specs.Matrices.{row_times}
 use Rattle.elim.specs.Grid.{Grid, entry}
-use Rattle.coder.specs.Recovered.{arrived, byte_of, row_byte, AreThose, IsBlock, Keeps, Gives, SolvesOnly, Meets, CanMeet, AreMet, CanBeMet, MeetsOnly}
+use Rattle.coder.specs.Recovered.{arrived, byte_of, row_byte, AreThose, Keeps, Gives, SolvesOnly, AreMet, CanBeMet, MeetsOnly}
 use Rattle.coder.proofs.Erased.{row_same}
 
 -- an option that isn't none

@@ -1,18 +1,16 @@
 -- An object that is put together block by block.
-use Rattle.std.specs.Prelude.{slice_index, is_some, nat_le}
 use Rattle.std.specs.List.{AllByRecursion}
-use Rattle.std.proofs.Common.{◌≡◌, ℕ, suc, ◌+◌, ◌-◌, ◌*◌, ◌<◌, ◌≤◌, true, List, [], ◌++◌, Option, length, min, get_or, take, get_or-take, length-take-le, length-append, arith, ap, ◌∙◌, sym, subst, refl, inl, inr}
-use Rattle.std.proofs.lemmas.Bool.{cases_lt, cases_eq, le-leb}
+use Rattle.std.proofs.Common.{◌≡◌, ℕ, suc, ◌+◌, ◌-◌, ◌*◌, ◌<◌, ◌≤◌, List, [], ◌++◌, Option, length, min, get_or, take, get_or-take, length-take-le, length-append, arith, ap, ◌∙◌, sym, subst, inl, inr}
+use Rattle.std.proofs.lemmas.Bool.{cases_lt, le-leb}
 use Rattle.std.proofs.Math.Nat.{mul-le-mul_right}
 use Rattle.std.proofs.lemmas.List.{get_or_append_left, get_or-append-add, get_or_past}
-use Rattle.gf256.specs.Arithmetic.{AreBytes, point}
-use Rattle.poly.specs.Polynomial.{value}
-use Rattle.partition.specs.Fti.{Fti, IsValidFti, symbol_count, block_count, source_count, encoding_count, start_of, source_place, source_byte}
-use Rattle.partition.proofs.Laws.{counts, in_object, start_step, start_end, rising_to, symbols_bounds, symbol_end}
-use Rattle.cert.specs.Symbols.{Symbol, AllFull, IsObject, is_full, IsFirstUnsolvable}
+use Rattle.gf256.specs.Arithmetic.{AreBytes}
+use Rattle.partition.specs.Fti.{Fti, IsValidFti, symbol_count, block_count, source_count, start_of, source_place, source_byte}
+use Rattle.partition.proofs.Laws.{counts, in_object, start_step, start_end, rising_to, symbols_bounds}
+use Rattle.cert.specs.Symbols.{Symbol, AllFull, IsObject}
 use Rattle.cert.specs.Answer as value_of
-use Rattle.coder.specs.Columns.{ColumnExplained, BlockColumn}
-use Rattle.coder.specs.Decoded.{IsEnoughAt, AreRows, IsUnexplained, AnswerBy, Answers}
+use Rattle.coder.specs.Columns.{BlockColumn}
+use Rattle.coder.specs.Decoded.{IsEnoughAt, AreRows, IsUnexplained, Answers}
 use Rattle.coder.specs.Received.{IsIndex, IsWithin}
 use Rattle.coder.specs.Recovered.{row_byte}
 use Rattle.coder.proofs.Counts.{held_is}

@@ -1,9 +1,9 @@
 -- One answer, joined with what a check promises.
-use Rattle.std.proofs.Common.{◌≡◌, ℕ, List, ◌∙◌, sym, subst}
+use Rattle.std.proofs.Common.{ℕ, List, subst}
 use Rattle.partition.specs.Fti.{Fti}
 use Rattle.session.specs.Selection.{chosen}
 use Rattle.cert.specs.Answer.{Answer, Object, IsAnswer}
-use Rattle.cert.specs.Headline.{IsEnough, TellsWhatLacks, LeavesTwin, DecodesWhereEnough, UndecidedElse}
+use Rattle.cert.specs.Headline.{TellsWhatLacks, DecodesWhereEnough, UndecidedElse}
 use Rattle.cert.proofs.OneAnswer.{one_answer}
 use Rattle.coder.specs.Promised.{IsPromised}
 

@@ -1,17 +1,17 @@
 -- Datagrams that are received one by one.
-use Rattle.std.specs.Prelude.{◌==◌, ◌&&◌, not, flat_map, option_map, Result}
-use Rattle.std.proofs.Common.{◌≡◌, ◌⊎◌, ℕ, suc, zero, ◌+◌, ◌<◌, ◌≤◌, Bool, true, false, List, [], ◌∷◌, ◌++◌, Option, Some, None, Ok, Err, refl, sym, ap, subst, ◌∙◌, inl, inr, arith, length, map, take, drop, get_or, append_assoc, append-nil}
+use Rattle.std.specs.Prelude.{◌==◌, ◌&&◌, option_map}
+use Rattle.std.proofs.Common.{◌≡◌, ◌⊎◌, ℕ, ◌+◌, ◌<◌, ◌≤◌, true, false, List, [], ◌∷◌, ◌++◌, Option, Some, None, Ok, Err, refl, sym, ap, subst, ◌∙◌, inl, inr, arith, length, map, take, drop, get_or, append_assoc, append-nil}
 use Rattle.std.specs.List.{AllByRecursion}
 use Rattle.std.proofs.lemmas.Bool.{cases_Bool, eqb-true, ltb-true, and_parts}
 use Rattle.std.proofs.lemmas.List.{get_or-map, length-map, take_more, take_all as take_past, drop_more, drop_all}
 use Rattle.losses.proofs.Lists.{both}
-use Rattle.partition.specs.Fti.{Fti, block_count, encoding_count}
+use Rattle.partition.specs.Fti.{Fti}
 use Rattle.alc.specs.Packet.{Packet}
 use Rattle.alc.specs.Reading.{Reading, Reads}
 use Rattle.alc.specs.Computed.{read_of}
 use Rattle.alc.specs.declared.fault.PacketFault.{PacketFault}
 use Rattle.cert.specs.Symbols.{Symbol, is_of}
-use Rattle.cert.specs.Readings.{Placed, placed_from, counted, first_packet, fti_of, symbols, symbols_in, symbol_of, same_identity, same_fti, in_range, clashes}
+use Rattle.cert.specs.Readings.{placed_from, counted, first_packet, symbols, symbols_in, symbol_of, same_identity, same_fti, in_range, clashes}
 use Rattle.cert.specs.Answer as value
 use Rattle.cert.specs.Answer.{PlaceFault, packet_fault, reading_fault, fault_after, first_fault, or_else, at_place, came_of, AnswerTo}
 use Rattle.cert.specs.Scan.{readings_of}
@@ -37,15 +37,15 @@ pub faultless : (first : Packet) (earlier : List Symbol) (p : Packet) → packet
 faultless first earlier p none = elim (cases_Bool (same_identity p first)) [
   | inr e ↦ (let x : Some value.OtherIdentity ≡ None = rw e at none in absurd (cc))
   | inl e1 ↦ elim (cases_Bool (same_fti p.fti first.fti)) [
-      | inr e ↦ (let x : Some value.OtherFti ≡ None = rw e at rw e1 at none in absurd (cc))
-      | inl e2 ↦ elim (cases_Bool (in_range p first.fti)) [
-          | inr e ↦ (let x : Some value.Range ≡ None = rw e at rw e2 at rw e1 at none in absurd (cc))
-          | inl e3 ↦ elim (cases_Bool (clashes p earlier)) [
-              | inl e ↦ (let x : Some value.Clash ≡ None = rw e at rw e3 at rw e2 at rw e1 at none in absurd (cc))
-              | inr e4 ↦ record { fti = e2; range = e3; free = e4 }
-            ]
-        ]
+    | inr e ↦ (let x : Some value.OtherFti ≡ None = rw e at rw e1 at none in absurd (cc))
+    | inl e2 ↦ elim (cases_Bool (in_range p first.fti)) [
+      | inr e ↦ (let x : Some value.Range ≡ None = rw e at rw e2 at rw e1 at none in absurd (cc))
+      | inl e3 ↦ elim (cases_Bool (clashes p earlier)) [
+        | inl e ↦ (let x : Some value.Clash ≡ None = rw e at rw e3 at rw e2 at rw e1 at none in absurd (cc))
+        | inr e4 ↦ record { fti = e2; range = e3; free = e4 }
+      ]
     ]
+  ]
 ]
 
 symbols_behind : (i : ℕ) (rs : List Reading) (r : Reading) → symbols (placed_from i (rs ++ r ∷ [])) ≡ symbols (placed_from i rs) ++ symbols_in r

@@ -1,5 +1,5 @@
 -- Rows of bytes that stand one behind the other.
-use Rattle.std.proofs.Common.{◌≡◌, ℕ, suc, ◌+◌, ◌-◌, ◌*◌, ◌<◌, ◌≤◌, List, get_or, take, drop, arith, ap, ◌∙◌, sym, get_or-take}
+use Rattle.std.proofs.Common.{◌≡◌, ℕ, suc, ◌+◌, ◌-◌, ◌*◌, ◌<◌, ◌≤◌, List, get_or, take, drop, arith, ap, ◌∙◌, get_or-take}
 use Rattle.std.proofs.lemmas.List.{get_or-drop}
 use Rattle.std.specs.Int.Bits.{xor_assoc}
 use Rattle.gf256.specs.Arithmetic.{sum_of, product}

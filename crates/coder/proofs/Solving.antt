@@ -1,12 +1,11 @@
 -- What the polynomials of a block's columns say of the symbols that came.
-use Rattle.std.specs.Prelude.{◌==◌, ◌&&◌, ◌||◌}
-use Rattle.std.proofs.Common.{◌≡◌, ℕ, ◌<◌, ◌≤◌, Bool, true, false, List, [], ◌∷◌, Option, Some, None, refl, sym, ap, subst, ◌∙◌, arith, length, slice_index}
+use Rattle.std.proofs.Common.{◌≡◌, ℕ, ◌<◌, true, false, List, [], ◌∷◌, Option, Some, None, refl, sym, ap, subst, ◌∙◌, arith, slice_index}
 use Rattle.std.specs.List.{AllByRecursion}
-use Rattle.std.proofs.lemmas.Bool.{and_from, or_left, or_parts, eq-eqb}
+use Rattle.std.proofs.lemmas.Bool.{and_from, or_parts, eq-eqb}
 use Rattle.std.proofs.lemmas.List.{get_or_past}
 use Rattle.gf256.specs.Arithmetic.{point}
 use Rattle.poly.specs.Polynomial.{value}
-use Rattle.partition.specs.Fti.{Fti, IsValidFti, block_count, source_place, source_byte}
+use Rattle.partition.specs.Fti.{Fti, IsValidFti, block_count, source_place}
 use Rattle.losses.proofs.Lists.{all_both, all_to}
 use Rattle.cert.specs.Symbols.{Symbol, is_of, is_held, IsObject, Agrees, Fits, Solvable, AllFull, FullSolvable, FitsOnly}
 use Rattle.cert.proofs.Full.{found, fits_only}

@@ -1,7 +1,6 @@
 -- A row of source bytes, the polynomial through it, and the word that the generator makes.
-use Rattle.std.proofs.Common.{◌≡◌, ℕ, ◌+◌, ◌<◌, ◌≤◌, List, length, get_or, take, arith, ap, ◌∙◌, sym, subst, get_or-take, length-take, refl}
-use Rattle.std.specs.List.{AllByRecursion}
-use Rattle.gf256.specs.Arithmetic.{IsByte, AreBytes, sum_of, product, point}
+use Rattle.std.proofs.Common.{◌≡◌, ℕ, ◌<◌, ◌≤◌, List, length, get_or, take, arith, ap, ◌∙◌, sym, get_or-take, length-take, refl}
+use Rattle.gf256.specs.Arithmetic.{IsByte, sum_of, product, point}
 use Rattle.gf256.specs.ByteField.{byte_field, point_byte}
 use Rattle.poly.specs.Polynomial.{value, IsPolynomial}
 use Rattle.poly.proofs.Bytes.{bytes_by_recursion, same_polynomial}

@@ -1,5 +1,5 @@
 -- What decoding makes of the symbols that came.
-use Rattle.std.specs.Prelude.{◌≡◌, ℕ, ◌<◌, ◌≤◌, ◌*◌, Bool, true, List, length, filter, slice_index, Option, Some, is_some}
+use Rattle.std.specs.Prelude.{◌≡◌, ℕ, ◌<◌, ◌≤◌, ◌*◌, List, length, filter, slice_index, Option, Some, is_some}
 use Rattle.std.specs.List.{AllByRecursion}
 use Rattle.gf256.specs.Arithmetic.{point, AreBytes}
 use Rattle.poly.specs.Polynomial.{value, IsPolynomial}

@@ -1,5 +1,5 @@
 -- A block of which some symbols came: its source symbols as rows of bytes.
-use Rattle.std.specs.Prelude.{◌≡◌, ◌≢◌, ℕ, ◌<◌, ◌≤◌, ◌+◌, ◌*◌, ◌^◌, Bool, true, List, length, filter, slice_index, slice_index_or, Option, Some, None, option_map, is_some}
+use Rattle.std.specs.Prelude.{◌≡◌, ◌≢◌, ℕ, ◌<◌, ◌≤◌, ◌+◌, ◌*◌, ◌^◌, Bool, true, List, length, filter, slice_index, slice_index_or, Option, Some, None, option_map}
 use Rattle.std.specs.Borrow.{Bor}
 use Rattle.gf256.specs.Arithmetic.{IsByte, sum_of, product}
 use Rattle.elim.specs.Matrices.{row_times, AreElements}

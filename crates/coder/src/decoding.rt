@@ -21,8 +21,7 @@ use std::alloc::{AllocError, Global};
 // What the type says of a datagram.
 fn are_bytes(datagram: &[u8])
     ensures { AreBytes datagram.now }
-{
-}
+{}
 
 // What it says of each.
 fn all_are_bytes(datagrams: &[&[u8]])

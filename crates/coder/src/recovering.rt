@@ -58,11 +58,7 @@ fn add_rows(rows: &[u8], size: usize, matrix: &Matrix<Gf>, j: usize, out: &mut [
 }
 
 // The ESIs of a block's `k` source symbols that are missing.
-fn missing_esis(
-    alloc: Global,
-    received: &[Option<&[u8]>],
-    k: usize,
-) -> Result<Vec<u8>, AllocError>
+fn missing_esis(alloc: Global, received: &[Option<&[u8]>], k: usize) -> Result<Vec<u8>, AllocError>
     requires few { k ≤ 255 }
     requires within { k ≤ length received.now }
     ensures { IfOk result (λ v. AreThose (λ j. not (is_some (arrived received.now j))) 0 k v.items) }
@@ -77,11 +73,7 @@ fn missing_esis(
 }
 
 // The ESIs of the repair symbols that came, of a block of `k` source symbols.
-fn repair_esis(
-    alloc: Global,
-    received: &[Option<&[u8]>],
-    k: usize,
-) -> Result<Vec<u8>, AllocError>
+fn repair_esis(alloc: Global, received: &[Option<&[u8]>], k: usize) -> Result<Vec<u8>, AllocError>
     requires few { length received.now ≤ 255 }
     requires within { k ≤ length received.now }
     ensures { IfOk result (λ v. AreThose (λ j. is_some (arrived received.now j)) k (length received.now) v.items) }
@@ -327,11 +319,7 @@ fn recover_by(
 
 /// Makes a block's source symbols, as rows one behind the other, of the symbols that came, and tells whether all of
 /// these are symbols of one word.
-pub fn recover(
-    alloc: Global,
-    block: &Block<'_>,
-    rows: &mut [u8],
-) -> Result<bool, AllocError>
+pub fn recover(alloc: Global, block: &Block<'_>, rows: &mut [u8]) -> Result<bool, AllocError>
     requires block { IsBlock block.now.received.now block.now.size block.now.generator.now }
     requires enough { block.now.generator.now.rows ≤ length (filter (λ j. is_some (arrived block.now.received.now j)) (below block.now.generator.now.cols)) }
     requires rows { length rows.old ≡ block.now.generator.now.rows * block.now.size }

@@ -16,8 +16,7 @@ use std::alloc::Global;
 /// No list of datagrams has two answers: whoever meets the definition of an answer gives what `decode` gives.
 pub fn one_answer()
     ensures { (datagrams : List (List ℕ)) (a b : AnswerValue) → IsAnswer datagrams a → IsAnswer datagrams b → a ≡ b }
-{
-}
+{}
 
 /// What `decode` answers to a selection of a session's datagrams, in any order and with repeats.
 pub fn decode_selection(

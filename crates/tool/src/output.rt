@@ -7,7 +7,11 @@ use crate::folder::Folder;
 use session::write_all;
 
 /// Creates a file of these bytes.
-pub fn write_file<'a, F: Folder>(folder: &mut F, output: &'a str, bytes: &[u8]) -> Result<(), Fault<'a>>
+pub fn write_file<'a, F: Folder>(
+    folder: &mut F,
+    output: &'a str,
+    bytes: &[u8],
+) -> Result<(), Fault<'a>>
     ensures { IfErr result (IsFileFault output.now) }
 {
     let Ok(mut file) = folder.create_file(output) else {

@@ -1,4 +1,4 @@
-use Rattle.std.proofs.Common.{List, arith, subst, inl, inr}
+use Rattle.std.proofs.Common.{arith, subst, inl, inr}
 use Rattle.std.proofs.lemmas.Bool.{cases_eq}
 use Rattle.gf256.specs.Arithmetic.{AreBytes}
 use Rattle.coder.proofs.Receiving.{borrowed_at}

@@ -1,10 +1,10 @@
-use Rattle.std.proofs.Common.{◌≡◌, ◌<◌, ℕ, List, map, length, arith}
+use Rattle.std.proofs.Common.{◌<◌, ℕ, List, map, length, arith}
 use Rattle.std.specs.Borrow.{Bor}
 use Rattle.std.proofs.lemmas.List.{length-map}
-use Rattle.cert.specs.Answer.{IsAnswer, came_of, AnswerTo}
+use Rattle.cert.specs.Answer.{IsAnswer, came_of}
 use Rattle.cert.specs.Scan.{readings_of}
 use Rattle.coder.specs.declared.answer.Answer.{Answer}
-use Rattle.coder.specs.Answers.{answer_value, IsRefusal}
+use Rattle.coder.specs.Answers.{answer_value}
 use Rattle.coder.specs.Decoded.{Answers}
 use Rattle.coder.specs.Received.{stored}
 use Rattle.coder.proofs.Answering.{answers_came, read_all, stand_of, if_ok}

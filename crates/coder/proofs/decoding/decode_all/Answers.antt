@@ -1,4 +1,4 @@
-use Rattle.std.proofs.Common.{◌≡◌, ◌≤◌, ◌∙◌, arith, sym, ap, refl, length}
+use Rattle.std.proofs.Common.{◌≡◌, ◌∙◌, arith, sym, ap, refl, length}
 use Rattle.partition.proofs.Laws.{in_object, some_source}
 use Rattle.coder.specs.Received.{stored}
 use Rattle.coder.proofs.ObjectSoFar.{nothing_yet, one_more_block, object_answers, not_code_answers}

@@ -1,4 +1,4 @@
-use Rattle.std.proofs.Common.{◌≡◌, ◌≢◌, ◌<◌, ◌≤◌, ◌∙◌, ◌+◌, ◌*◌, ◌-◌, ℕ, length, get_or, arith, ap, sym}
+use Rattle.std.proofs.Common.{◌≤◌, ◌∙◌, ◌+◌, ◌*◌, ℕ, get_or, arith, ap, sym}
 use Rattle.partition.specs.Fti.{start_of, source_count, source_place}
 use Rattle.partition.proofs.Laws.{in_object, some_source}
 use Rattle.coder.specs.Recovered.{row_byte}

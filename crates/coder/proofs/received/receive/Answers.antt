@@ -1,4 +1,4 @@
-use Rattle.std.proofs.Common.{◌≡◌, ◌∙◌, ◌<◌, ℕ, length, map, List, Ok, Err, Option, refl, sym, ap, subst, arith}
+use Rattle.std.proofs.Common.{◌∙◌, ◌<◌, ℕ, length, map, List, Ok, Err, refl, sym, ap, subst, arith}
 use Rattle.std.specs.Option.{option_map}
 use Rattle.std.proofs.lemmas.List.{length-map}
 use Rattle.std.specs.Borrow.{Bor}
@@ -6,7 +6,6 @@ use Rattle.alc.specs.Views.{packet_of}
 use Rattle.alc.specs.Reading.{Reads}
 use Rattle.cert.specs.Answer.{AnswerTo, came_of}
 use Rattle.cert.specs.Scan.{readings_of}
-use Rattle.coder.specs.declared.answer.DecodeFault.{DecodeFault}
 use Rattle.coder.specs.Answers.{fault_value}
 use Rattle.coder.specs.Received.{stored}
 use Rattle.coder.proofs.Receiving.{bad_first, borrowed_at, told, none_told, starts, faulty, goes_on, received}

@@ -1,8 +1,7 @@
-use Rattle.std.proofs.Common.{◌≡◌, ◌∙◌, ◌+◌, ◌*◌, ℕ, get_or}
+use Rattle.std.proofs.Common.{◌∙◌, ◌+◌, ◌*◌, ℕ, get_or}
 use Rattle.elim.specs.Grid.{entry}
 use Rattle.coder.proofs.Columns.{bytes_fit}
 use Rattle.coder.proofs.RowAdding.{row_at, added}
-use Rattle.coder.proofs.Those.{those_more}
 use Rattle.coder.proofs.recovering.add_rows.Goals as goal
 
 pub loop-i-preserved : goal.loop-i-preserved

@@ -20,12 +20,17 @@ byte_is received j r s y e is = ap (λ (n : ℕ). byte_of (arrived received n) y
 pub returns-then-not-is_zero-clause-other : goal.returns-then-not-is_zero-clause-other
 returns-then-not-is_zero-clause-other c = λ _.
     let w = c.is_zero.ensures.other c.if-not-is_zero.true in
-    let ly : w.0 < c.args.block.now.size = omega (arith, w.1, c.residual.ensures.len, c.loop-m.invariant.room) in
-    (c.loop-m.m, w.0, omega arith, ly, λ e.
-    w.2 (c.residual.ensures.sums w.0 ly
-    ∙ ap (λ (j : ℕ). sum_of (slice_index c.in-Some.symbol.now w.0) (given c.args.rows.now c.args.block.now.size c.args.block.now.generator.now w.0 j)) c.from-j.ensures
-    ∙ ap (sum_of (slice_index c.in-Some.symbol.now w.0)) (e ∙ byte_is c.args.block.now.received.now c.from-j.result _ c.in-Some.symbol w.0 c.from-j.ensures c.in-Some.is)
-    ∙ sum_itself (slice_index c.in-Some.symbol.now w.0)))
+    let ly : w.0 < c.args.block.now.size = omega (arith, w.1, c.residual.ensures.len, c.loop-m.invariant.room) in (
+      c.loop-m.m,
+      w.0,
+      omega arith,
+      ly,
+      λ e.
+          w.2 (c.residual.ensures.sums w.0 ly
+          ∙ ap (λ (j : ℕ). sum_of (slice_index c.in-Some.symbol.now w.0) (given c.args.rows.now c.args.block.now.size c.args.block.now.generator.now w.0 j)) c.from-j.ensures
+          ∙ ap (sum_of (slice_index c.in-Some.symbol.now w.0)) (e ∙ byte_is c.args.block.now.received.now c.from-j.result _ c.in-Some.symbol w.0 c.from-j.ensures c.in-Some.is)
+          ∙ sum_itself (slice_index c.in-Some.symbol.now w.0)),
+    )
 
 pub loop-m-preserved : goal.loop-m-preserved
 loop-m-preserved c =

@@ -1,7 +1,7 @@
-use Rattle.std.proofs.Common.{refl, arith}
+use Rattle.std.proofs.Common.{arith}
 use Rattle.std.specs.Prelude.{is_some}
 use Rattle.coder.specs.Recovered.{arrived}
-use Rattle.coder.proofs.Those.{those_none, those_more, those_same, came_is}
+use Rattle.coder.proofs.Those.{those_more, those_same, came_is}
 use Rattle.coder.proofs.recovering.repair_esis.Goals as goal
 use Rattle.coder.proofs.recovering.repair_esis.Goals.{then-is_some+in_ok-push, else-is_some}
 

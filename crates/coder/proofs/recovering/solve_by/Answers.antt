@@ -1,4 +1,4 @@
-use Rattle.std.proofs.Common.{◌≡◌, ◌<◌, ◌∙◌, ◌+◌, ◌*◌, arith, sym, ap, ℕ, List, length}
+use Rattle.std.proofs.Common.{◌∙◌, ◌+◌, ◌*◌, arith}
 use Rattle.std.specs.Prelude.{slice_index}
 use Rattle.coder.specs.Recovered.{arrived, byte_of, row_byte}
 use Rattle.coder.proofs.Columns.{bytes_fit}
