@@ -77,10 +77,6 @@ module _ (f : Fti) (b : ℕ) (received : List (Option (Bor (List ℕ)))) (g : Gr
       only c (λ i. value e.polynomial (point i)) (omega (arith, lc, is)) (values_bytes g.rows e.polynomial (form_of c e)) (meets_values c e) i (omega (arith, li, code.rows))
       ∙ e.padding i li past
 
--- two products of equal factors
-pub products : (a b x y : ℕ) → a ≡ x → b ≡ y → a * b ≡ x * y
-products a b x y e g = ap (λ (v : ℕ). v * b) e ∙ ap (λ (v : ℕ). x * v) g
-
 -- what stands behind a place is zero
 pub zero_behind : (rows : List ℕ) (used : ℕ) → ((p : ℕ) → get_or (take (length rows - used) (drop used rows)) p 0 ≡ 0) → (q : ℕ) → used ≤ q → get_or rows q 0 ≡ 0
 zero_behind rows used zero q past = elim (cases_lt q (length rows)) [

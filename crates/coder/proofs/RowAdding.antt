@@ -1,10 +1,19 @@
 -- Rows of bytes that stand one behind the other.
-use Rattle.std.proofs.Common.{◌≡◌, ℕ, suc, ◌+◌, ◌-◌, ◌*◌, ◌<◌, ◌≤◌, List, get_or, take, drop, arith, ap, ◌∙◌, get_or-take}
+use Rattle.std.proofs.Common.{◌≡◌, ℕ, suc, ◌+◌, ◌-◌, ◌*◌, ◌<◌, ◌≤◌, List, ◌++◌, length, get_or, take, drop, arith, ap, ◌∙◌, get_or-take}
+use Rattle.std.proofs.Math.Seq.{take-append_seam}
 use Rattle.std.proofs.lemmas.List.{get_or-drop}
 use Rattle.std.specs.Int.Bits.{xor_assoc}
 use Rattle.gf256.specs.Arithmetic.{sum_of, product}
 use Rattle.gf256.specs.ProductLaws.{product_comm}
 use Rattle.elim.specs.Matrices.{row_times}
+
+-- two products of equal factors
+pub products : (a b x y : ℕ) → a ≡ x → b ≡ y → a * b ≡ x * y
+products a b x y e g = ap (λ (v : ℕ). v * b) e ∙ ap (λ (v : ℕ). x * v) g
+
+-- the front of two lists put together
+pub take_front : (n : ℕ) (xs ys : List ℕ) → n ≡ length xs → take n (xs ++ ys) ≡ xs
+take_front n xs ys e = rw e (take-append_seam xs ys)
 
 -- a byte of a row
 pub row_at : (rows : List ℕ) (size i c : ℕ) → c < size → get_or (take ((i + 1) * size - i * size) (drop (i * size) rows)) c 0 ≡ get_or rows (i * size + c) 0

@@ -1,14 +1,11 @@
-use Rattle.std.proofs.Common.{◌≡◌, ◌∙◌, ◌++◌, ℕ, List, length, take, drop, ap, sym, subst}
-use Rattle.std.proofs.Math.Seq.{take-append_seam}
+use Rattle.std.proofs.Common.{◌≡◌, ◌∙◌, ℕ, List, length, drop, ap, sym, subst}
 use Rattle.cert.specs.Symbols.{IsObject}
 use Rattle.cert.specs.Certificate.{Certificate}
 use Rattle.cert.specs.Verdict.{GivesObject}
 use Rattle.coder.proofs.Columns.{bytes_fit}
 use Rattle.coder.proofs.SessionReadings.{certifies_sent}
+use Rattle.coder.proofs.RowAdding.{take_front}
 use Rattle.coder.proofs.certifying.certify.Goals as goal
-
-take_front : (n : ℕ) (xs ys : List ℕ) → n ≡ length xs → take n (xs ++ ys) ≡ xs
-take_front n xs ys e = rw e (take-append_seam xs ys)
 
 pub returns-clause-certifies : goal.returns-clause-certifies
 returns-clause-certifies c =

@@ -6,11 +6,8 @@ use Rattle.elim.specs.Grid.{entry}
 use Rattle.elim.specs.Matrices.{row_times}
 use Rattle.coder.proofs.Columns.{bytes_fit}
 use Rattle.coder.proofs.Places.{place_within, remainders_apart, gives_from_places}
+use Rattle.coder.proofs.RowAdding.{products}
 use Rattle.coder.proofs.certifying.certify_block.Goals as goal
-
--- two products of equal factors
-products : (a b x y : ℕ) → a ≡ x → b ≡ y → a * b ≡ x * y
-products a b x y e g = ap (λ (v : ℕ). v * b) e ∙ ap (λ (v : ℕ). x * v) g
 
 pub scatter-requires-clause-room : goal.scatter-requires-clause-room
 scatter-requires-clause-room c = λ y ly.

@@ -1,5 +1,4 @@
-use Rattle.std.proofs.Common.{◌≡◌, ◌∙◌, ◌++◌, ℕ, List, length, take, drop, arith, sym, subst}
-use Rattle.std.proofs.Math.Seq.{take-append_seam}
+use Rattle.std.proofs.Common.{◌∙◌, ℕ, length, drop, arith, sym, subst}
 use Rattle.coder.specs.BlockMatrices.{IsCodeOf}
 use Rattle.coder.specs.Decoded.{AreRows}
 use Rattle.coder.specs.Received.{stored}
@@ -7,11 +6,9 @@ use Rattle.coder.specs.Recovered.{arrived, HaveLength}
 use Rattle.partition.specs.Fti.{source_count}
 use Rattle.elim.specs.Generator.{Encodes}
 use Rattle.coder.proofs.Sizes.{picked_has, some_picked}
-use Rattle.coder.proofs.BlockRows.{are_arrivals, have_length, enough_arrived, rows_at, unexplained_at, products}
+use Rattle.coder.proofs.BlockRows.{are_arrivals, have_length, enough_arrived, rows_at, unexplained_at}
+use Rattle.coder.proofs.RowAdding.{products, take_front}
 use Rattle.coder.proofs.decoding.block_rows.Goals as goal
-
-take_front : (n : ℕ) (xs ys : List ℕ) → n ≡ length xs → take n (xs ++ ys) ≡ xs
-take_front n xs ys e = rw e (take-append_seam xs ys)
 
 pub of-generator-requires : goal.of-generator-requires
 of-generator-requires c =

@@ -2,7 +2,8 @@ use Rattle.std.proofs.Common.{◌≤◌, ◌∙◌, ◌+◌, ◌*◌, ℕ, get_o
 use Rattle.partition.specs.Fti.{start_of, source_count, source_place}
 use Rattle.partition.proofs.Laws.{in_object, some_source}
 use Rattle.coder.specs.Recovered.{row_byte}
-use Rattle.coder.proofs.BlockRows.{unexplained, column_of, padding_zero, products, zero_behind, other_behind, row_and_column}
+use Rattle.coder.proofs.BlockRows.{unexplained, column_of, padding_zero, zero_behind, other_behind, row_and_column}
+use Rattle.coder.proofs.RowAdding.{products}
 use Rattle.coder.proofs.decoding.decode_rows.Goals as goal
 
 pub returns-then-not-branch-clause-none : goal.returns-then-not-branch-clause-none
