@@ -29,6 +29,10 @@ impl<R: Files> Folder for HostFolder<'_, R> {
 
     ghost content = { λ _ _. None };
 
+    ghost blank = { None };
+
+    ghost written = { λ _ _. None };
+
     fn open_file(&mut self, name: &str) -> Result<Device<R::File>, Failed> {
         match fs::open(self.rt, name) {
             Ok(file) => Ok(Device::new(file)),
@@ -43,7 +47,8 @@ impl<R: Files> Folder for HostFolder<'_, R> {
         }
     }
 
-    fn close_file(&mut self, _name: &str, output: Device<R::File>) {
+    fn close_file(&mut self, _name: &str, output: Device<R::File>) -> Result<(), Failed> {
         drop(output);
+        Ok(())
     }
 }

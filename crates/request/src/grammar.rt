@@ -233,7 +233,7 @@ fn with_command<'a>(
 }
 
 /// The grammar of the whole command line.
-pub fn grammar<'a>(alloc: Global) -> Result<Command<'a>, AllocError> {
+pub(crate) fn grammar<'a>(alloc: Global) -> Result<Command<'a>, AllocError> {
     let command = Command::new(alloc, "alcrs")
         .about(ABOUT)
         .after_help(STATUSES)

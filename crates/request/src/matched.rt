@@ -10,7 +10,7 @@ use coder::Order;
 use std::alloc::Global;
 
 /// The request of `check`, or a value that the grammar let through and that is none.
-pub fn check_request<'a>(matches: &ArgMatches<'a>) -> Result<Request<'a>, Usage>
+pub(crate) fn check_request<'a>(matches: &ArgMatches<'a>) -> Result<Request<'a>, Usage>
     ensures ok { IfOk result (HasValuesOf (found_of matches.now)) }
     ensures range { IfOk result IsInRange }
     ensures err { IfErr result (λ usage. usage ≡ Usage.Value) }
@@ -30,7 +30,7 @@ pub fn check_request<'a>(matches: &ArgMatches<'a>) -> Result<Request<'a>, Usage>
 }
 
 /// The request of `twin`, or a value that the grammar let through and that is none.
-pub fn twin_request<'a>(matches: &ArgMatches<'a>) -> Result<Request<'a>, Usage>
+pub(crate) fn twin_request<'a>(matches: &ArgMatches<'a>) -> Result<Request<'a>, Usage>
     ensures ok { IfOk result (HasValuesOf (found_of matches.now)) }
     ensures range { IfOk result IsInRange }
     ensures err { IfErr result (λ usage. usage ≡ Usage.Value) }
@@ -52,7 +52,7 @@ pub fn twin_request<'a>(matches: &ArgMatches<'a>) -> Result<Request<'a>, Usage>
 }
 
 /// The request of `decode`, or a value that the grammar let through and that is none.
-pub fn decode_request<'a>(matches: &ArgMatches<'a>) -> Result<Request<'a>, Usage>
+pub(crate) fn decode_request<'a>(matches: &ArgMatches<'a>) -> Result<Request<'a>, Usage>
     ensures ok { IfOk result (HasValuesOf (found_of matches.now)) }
     ensures range { IfOk result IsInRange }
     ensures err { IfErr result (λ usage. usage ≡ Usage.Value) }
@@ -64,7 +64,7 @@ pub fn decode_request<'a>(matches: &ArgMatches<'a>) -> Result<Request<'a>, Usage
 }
 
 /// The request of `show`, or a value that the grammar let through and that is none.
-pub fn show_request<'a>(matches: &ArgMatches<'a>) -> Result<Request<'a>, Usage>
+pub(crate) fn show_request<'a>(matches: &ArgMatches<'a>) -> Result<Request<'a>, Usage>
     ensures ok { IfOk result (HasValuesOf (found_of matches.now)) }
     ensures range { IfOk result IsInRange }
     ensures err { IfErr result (λ usage. usage ≡ Usage.Value) }
@@ -108,7 +108,7 @@ fn order(matches: &ArgMatches<'_>) -> Result<Order, Usage>
 }
 
 /// The request of `encode`, or a value that the grammar let through and that is none.
-pub fn encode_request<'a>(matches: &ArgMatches<'a>) -> Result<Request<'a>, Usage>
+pub(crate) fn encode_request<'a>(matches: &ArgMatches<'a>) -> Result<Request<'a>, Usage>
     ensures ok { IfOk result (HasValuesOf (found_of matches.now)) }
     ensures range { IfOk result IsInRange }
     ensures err { IfErr result (λ usage. usage ≡ Usage.Value) }
@@ -135,7 +135,7 @@ pub fn encode_request<'a>(matches: &ArgMatches<'a>) -> Result<Request<'a>, Usage
 }
 
 /// The request of `certify`, or a value that the grammar let through and that is none.
-pub fn certify_request<'a>(matches: &ArgMatches<'a>) -> Result<Request<'a>, Usage>
+pub(crate) fn certify_request<'a>(matches: &ArgMatches<'a>) -> Result<Request<'a>, Usage>
     ensures ok { IfOk result (HasValuesOf (found_of matches.now)) }
     ensures range { IfOk result IsInRange }
     ensures err { IfErr result (λ usage. usage ≡ Usage.Value) }
@@ -175,7 +175,10 @@ fn places(alloc: Global, matches: &ArgMatches<'_>) -> Result<Vec<usize>, Usage>
 }
 
 /// The request of `drop`, or a value that the grammar let through and that is none.
-pub fn drop_request<'a>(alloc: Global, matches: &ArgMatches<'a>) -> Result<Request<'a>, Usage>
+pub(crate) fn drop_request<'a>(
+    alloc: Global,
+    matches: &ArgMatches<'a>,
+) -> Result<Request<'a>, Usage>
     ensures ok { IfOk result (HasValuesOf (found_of matches.now)) }
     ensures range { IfOk result IsInRange }
     ensures err { IfErr result IsUsage }

@@ -1,10 +1,14 @@
 -- Looking for a file, one after the other.
-use Rattle.std.proofs.Common.{◌≡◌, ◌<◌, ◌+◌, Bool, true, false, cond, ℕ, suc, List, length, drop, get_or, ap, ◌∙◌, arith}
-use Rattle.std.specs.Prelude.{Option, Some}
+use Rattle.std.proofs.Common.{◌≡◌, ◌<◌, ◌+◌, ◌++◌, Bool, true, false, cond, ℕ, suc, List, [], ◌∷◌, length, drop, get_or, ap, sym, ◌∙◌, arith}
+use Rattle.std.specs.Prelude.{Option, Some, None, String, string_bytes}
+use Rattle.std.specs.declared.alloc.Global.{Global}
+use Rattle.session.specs.declared.memory.Sink.{Sink}
 use Rattle.std.specs.List.{find}
-use Rattle.std.specs.Option.{option_map}
+use Rattle.std.specs.Option.{option_map, option_or}
 use Rattle.std.proofs.Math.Seq.{drop-cons}
-use Rattle.tool.specs.Files.{File, has_name, content_of}
+use Rattle.std.specs.Str.{bytes_eq}
+use Rattle.std.proofs.lemmas.Slice.Eq.{bytes_eq-Decides}
+use Rattle.tool.specs.Files.{File, Created, has_name, content_of, written_under}
 
 -- what is found, where the file in front has the name or hasn't
 abbrev found_by : List File → List ℕ → ℕ → File → Bool → Option (List ℕ)
@@ -24,3 +28,21 @@ pub found_later : (files : List File) (name : List ℕ) (i : ℕ) (d : File) →
 found_later files name i d l e =
     let next : suc i ≡ i + 1 = omega arith in
     in_front files name i d l ∙ ap (found_by files name i d) e ∙ ap (λ (n : ℕ). content_of (drop n files) name) next
+
+-- a file that was just created is the last of its name
+abbrev last_of : Created → Bool → Option (List ℕ)
+last_of file v = cond v (Some file.1.bytes.items) None
+
+just_last : (files : List Created) (file : Created) → written_under (files ++ (file ∷ [])) (string_bytes file.0) ≡ Some file.1.bytes.items
+unfolding written_under
+just_last [] file =
+    let same : bytes_eq (string_bytes file.0) (string_bytes file.0) ≡ true = grind (arith, bytes_eq-Decides (string_bytes file.0) (string_bytes file.0)) in
+    ap (λ (v : Bool). option_or None (last_of file v)) same
+just_last (x ∷ files) file =
+    ap (λ (o : Option (List ℕ)). option_or o (last_of x (bytes_eq (string_bytes x.0) (string_bytes file.0)))) (just_last files file)
+
+pub just_written : (files after : List Created) (kept : String Global) (output : Sink) (name : List ℕ)
+    → after ≡ files ++ ((kept, output) ∷ []) → string_bytes kept ≡ name → written_under after name ≡ Some output.bytes.items
+just_written files after kept output name pushed same =
+    ap (λ (fs : List Created). written_under fs name) pushed
+    ∙ ap (λ (n : List ℕ). written_under (files ++ ((kept, output) ∷ [])) n) (sym same) ∙ just_last files (kept, output)

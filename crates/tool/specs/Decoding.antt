@@ -1,5 +1,5 @@
 -- What decoding a session file prints.
-use Rattle.std.specs.Prelude.{◌≡◌, ◌⊎◌, ℕ, Bool, List, ◌++◌, Option, length, codes, decimal}
+use Rattle.std.specs.Prelude.{◌≡◌, ◌⊎◌, ℕ, Bool, List, ◌++◌, Option, length, codes, decimal, ⊤}
 use Rattle.std.specs.Io.KnownBytes.{Appends}
 use Rattle.cert.specs.Answer.{IsAnswer}
 use Rattle.coder.specs.Answers.{answer_value}
@@ -42,12 +42,18 @@ answer_status (NoObject fault) = 1
 answer_status (Missing block have need) = 3
 answer_status (Object object) = 0
 
--- The answer to the session in this file was printed; its status.
-pub record IsDecoded (contents : Contents) (session : List ℕ) (before after : Option (List ℕ)) (status : ℕ) : Type 0 where
+-- the object is written to the output, which was blank, where there is one
+abbrev pub WritesObject : Answer → Option (List ℕ) → Option (List ℕ) → Type 0
+WritesObject (Object object) blank written = Appends blank written object.items
+WritesObject _ blank written = ⊤
+
+-- The answer to the session in this file was printed, and the object written; its status.
+pub record IsDecoded (contents : Contents) (session : List ℕ) (blank written : Option (List ℕ)) (before after : Option (List ℕ)) (status : ℕ) : Type 0 where
   pub datagrams : List (List ℕ)
   pub answer : Answer
   pub sent : HoldsSession contents session datagrams
   pub right : IsAnswer datagrams (answer_value answer)
+  pub object : WritesObject answer blank written
   pub told : status ≡ answer_status answer
   pub line : List ℕ
   pub spelled : IsAnswerLine answer line

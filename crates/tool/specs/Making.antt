@@ -3,10 +3,14 @@ use Rattle.std.specs.Prelude.{◌≡◌, ◌⊎◌, ℕ, Bool, List, ◌++◌, O
 use Rattle.std.specs.Io.KnownBytes.{Appends}
 use Rattle.partition.specs.Fti.{Fti, fti_from, block_count}
 use Rattle.partition.specs.FtiFault.{fti_fault}
+use Rattle.session.specs.Frames.{frames}
 use Rattle.session.specs.Selection.{rest, is_among, first_outside}
 use Rattle.session.specs.declared.frame.FrameFault.TheVariants.{Io as FrameIo, NoSuchPlace, NoMemory as NoFrameMemory}
 use Rattle.cert.specs.declared.certificate.CertFault.TheVariants.{Io as CertificateIo}
-use Rattle.coder.specs.Sending.{pairs, CanBeSent}
+use Rattle.cert.specs.Certificate.{Certificate, certificate_text}
+use Rattle.cert.specs.Verdict.{GivesObject}
+use Rattle.coder.specs.Sending.{pairs, CanBeSent, Sends}
+use Rattle.coder.specs.Certified.{CertifiesSent}
 use Rattle.coder.specs.declared.sending.SendFault.TheVariants.{SymbolTooLong, Io as SendIo}
 use Rattle.request.specs.declared.requests.Sizes.{Sizes}
 use Rattle.request.specs.declared.requests.Sending.{Sending}
@@ -23,32 +27,46 @@ sized sizes l = fti_from l sizes.symbol sizes.block sizes.max_n
 abbrev pub PrintsCount : List ℕ → ℕ → List ℕ → Option (List ℕ) → Option (List ℕ) → Type 0
 PrintsCount name count of before after = Appends before after (line_of (named name (decimal count) ++ of))
 
--- a session of the object was written, and the number of its datagrams printed
-pub record IsEncoded (contents : Contents) (object : List ℕ) (sending : Sending) (before after : Option (List ℕ)) (status : ℕ) : Type 0 where
+-- A session of the object was written to the output, which was blank, and the number of its datagrams printed.
+pub record IsEncoded (contents : Contents) (object : List ℕ) (blank written : Option (List ℕ)) (sending : Sending) (before after : Option (List ℕ)) (status : ℕ) : Type 0 where
   pub bytes : List ℕ
   pub whole : HoldsBytes contents object bytes
   pub can : CanBeSent bytes (sized sending.sizes (length bytes))
+  pub sent : Sends bytes (sized sending.sizes (length bytes)) sending.tsi sending.toi (pairs sending.order (sized sending.sizes (length bytes))) blank written
   pub printed : PrintsCount (codes "encoded") (length (pairs sending.order (sized sending.sizes (length bytes)))) (codes " datagrams") before after
   pub told : status ≡ 0
 
--- the object's certificate was written, and the number of its blocks printed
-pub record IsCertified (contents : Contents) (object : List ℕ) (sizes : Sizes) (before after : Option (List ℕ)) (status : ℕ) : Type 0 where
+-- A certificate of the object, which is one of every session sent of it, was written to the output, which was blank, and
+-- the number of its blocks printed.
+pub record IsCertified (contents : Contents) (object : List ℕ) (blank written : Option (List ℕ)) (sizes : Sizes) (before after : Option (List ℕ)) (status : ℕ) : Type 0 where
   pub bytes : List ℕ
   pub whole : HoldsBytes contents object bytes
+  pub polynomials : Certificate
+  pub fti : polynomials.fti ≡ sized sizes (length bytes)
+  pub gives : GivesObject bytes polynomials
+  pub certifies : CertifiesSent bytes polynomials
+  pub sent : Appends blank written (certificate_text polynomials)
   pub printed : PrintsCount (codes "certified") (block_count (sized sizes (length bytes))) (codes " blocks") before after
   pub told : status ≡ 0
 
--- the session without these places was written, and the number of its datagrams printed
-pub record IsDropped (contents : Contents) (session places : List ℕ) (before after : Option (List ℕ)) (status : ℕ) : Type 0 where
+-- The session without these places was written to the output, which was blank, and the number of its datagrams printed.
+pub record IsDropped (contents : Contents) (session : List ℕ) (blank written : Option (List ℕ)) (places : List ℕ) (before after : Option (List ℕ)) (status : ℕ) : Type 0 where
   pub datagrams : List (List ℕ)
   pub sent : HoldsSession contents session datagrams
   pub inside : first_outside (length datagrams) places ≡ None
+  pub left : Appends blank written (frames (rest (is_among places) datagrams))
   pub printed : PrintsCount (codes "kept") (length (rest (is_among places) datagrams)) (codes " datagrams") before after
   pub told : status ≡ 0
 
--- the output doesn't open, or there is no memory
+-- the output can't be kept
+abbrev pub IsCloseFault : List ℕ → Fault → Type 0
+IsCloseFault output (File name) = name.now ≡ output
+IsCloseFault output _ = ⊥
+
+-- the output doesn't open or can't be kept, or there is no memory
 abbrev pub IsOutputFault : List ℕ → Fault → Type 0
 IsOutputFault output (Open name) = name.now ≡ output
+IsOutputFault output (File name) = name.now ≡ output
 IsOutputFault output Memory = ⊤
 IsOutputFault output _ = ⊥
 

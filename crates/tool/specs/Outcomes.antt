@@ -1,5 +1,6 @@
 -- What a command does, by what its files hold.
 use Rattle.std.specs.Prelude.{◌≡◌, ◌<◌, ◌⊎◌, ℕ, Bool, List, [], Option, Some, None, length, slice_index_or, ⊤}
+use Rattle.std.specs.Io.KnownBytes.{Appends}
 use Rattle.alc.specs.Packet.{Packet, IsPacket}
 use Rattle.alc.specs.PacketFault.{IsPacketFault}
 use Rattle.alc.specs.declared.fault.PacketFault.{PacketFault}
@@ -63,8 +64,9 @@ OnThin (Yes report) P = ⊤
 OnThin (No (Thin block have need)) P = P block
 OnThin (No reason) P = ⊤
 
--- What was printed where a twin was asked for; its status; and that there is a twin where one is told.
-pub record IsTwinned (contents : Contents) (session object certificate : List ℕ) (before after : Option (List ℕ)) (status : ℕ) : Type 0 where
+-- What was printed where a twin was asked for; its status; and the twin that was written to the output, which was blank,
+-- where one is told.
+pub record IsTwinned (contents : Contents) (session object certificate : List ℕ) (blank written : Option (List ℕ)) (before after : Option (List ℕ)) (status : ℕ) : Type 0 where
   pub datagrams : List (List ℕ)
   pub bytes : List ℕ
   pub polynomials : Certificate
@@ -75,7 +77,7 @@ pub record IsTwinned (contents : Contents) (session object certificate : List �
   pub judged : IsVerdict datagrams bytes polynomials verdict
   pub told : status ≡ twin_status_of verdict
   pub printed : PrintsTwin verdict before after
-  pub twin : OnThin verdict (λ block. (other : List ℕ) × IsTwinOfSession polynomials.fti block datagrams bytes other)
+  pub twin : OnThin verdict (λ block. (other : List ℕ) × IsTwinOfSession polynomials.fti block datagrams bytes other × Appends blank written other)
 
 -- Why not: there was no verdict, or the output wasn't written.
 abbrev pub IsUntwinned : Contents → List ℕ → List ℕ → List ℕ → List ℕ → Bool → Fault → Type 0
@@ -104,16 +106,21 @@ pub record IsShown (contents : Contents) (session : List ℕ) (before after : Op
 abbrev pub IsUnshown : Contents → List ℕ → Bool → Fault → Type 0
 IsUnshown contents session failed fault = IsSessionUnread contents session fault ⊎ IsPrintFault failed fault
 
-abbrev pub IsDone : Contents → Request → Option (List ℕ) → Option (List ℕ) → ℕ → Type 0
-IsDone contents (Check session object certificate) before after status =
+-- The request was done: contents tells of files before, written of those that were created.
+abbrev pub IsDone : Contents → Option (List ℕ) → Contents → Request → Option (List ℕ) → Option (List ℕ) → ℕ → Type 0
+IsDone contents blank written (Check session object certificate) before after status =
     IsChecked contents session.now object.now certificate.now before after status
-IsDone contents (Twin session object certificate output) before after status =
-    IsTwinned contents session.now object.now certificate.now before after status
-IsDone contents (Show session) before after status = IsShown contents session.now before after status
-IsDone contents (Encode object output sending) before after status = IsEncoded contents object.now sending before after status
-IsDone contents (Certify object output sizes) before after status = IsCertified contents object.now sizes before after status
-IsDone contents (Decode session output) before after status = IsDecoded contents session.now before after status
-IsDone contents (Drop session output places) before after status = IsDropped contents session.now places.items before after status
+IsDone contents blank written (Twin session object certificate output) before after status =
+    IsTwinned contents session.now object.now certificate.now blank (written output.now) before after status
+IsDone contents blank written (Show session) before after status = IsShown contents session.now before after status
+IsDone contents blank written (Encode object output sending) before after status =
+    IsEncoded contents object.now blank (written output.now) sending before after status
+IsDone contents blank written (Certify object output sizes) before after status =
+    IsCertified contents object.now blank (written output.now) sizes before after status
+IsDone contents blank written (Decode session output) before after status =
+    IsDecoded contents session.now blank (written output.now) before after status
+IsDone contents blank written (Drop session output places) before after status =
+    IsDropped contents session.now blank (written output.now) places.items before after status
 
 abbrev pub IsUndone : Contents → Request → Bool → Fault → Type 0
 IsUndone contents (Check session object certificate) failed fault =
@@ -127,7 +134,7 @@ IsUndone contents (Decode session output) failed fault = IsNotDecoded contents s
 IsUndone contents (Drop session output places) failed fault = IsNotDropped contents session.now output.now places.items failed fault
 
 -- The request was done, with this status, or there was a fault, and the status is 1.
-abbrev pub IsRun : Contents → Request → Option (List ℕ) → Option (List ℕ) → ℕ → Type 0
-IsRun contents request before after status =
-    IsDone contents request before after status
+abbrev pub IsRun : Contents → Option (List ℕ) → Contents → Request → Option (List ℕ) → Option (List ℕ) → ℕ → Type 0
+IsRun contents blank written request before after status =
+    IsDone contents blank written request before after status
     ⊎ ((status ≡ 1) × (failed : Bool) × (fault : Fault) × IsUndone contents request failed fault)

@@ -5,6 +5,7 @@ ghost use Rattle.tool.specs.Making.{IsCertified, IsNotCertified};
 use crate::fault::Fault;
 use crate::folder::Folder;
 use crate::input::read_object;
+use crate::output::close;
 use crate::print::Line;
 use crate::sizes::fti_of;
 use coder::CertifyFault;
@@ -13,7 +14,7 @@ use session::Write;
 use std::alloc::Global;
 
 /// Writes the object's certificate, and answers the status. The output is created once the certificate is there.
-pub fn certify<'a, F: Folder, W: Write>(
+pub(crate) fn certify<'a, F: Folder, W: Write>(
     alloc: Global,
     folder: &mut F,
     out: &mut W,
@@ -21,7 +22,7 @@ pub fn certify<'a, F: Folder, W: Write>(
     output: &'a str,
     sizes: &Sizes,
 ) -> Result<u8, Fault<'a>>
-    ensures ok { IfOk result (IsCertified (F.content folder.old) object.now sizes.now (W.contents out.old) (W.contents out.new)) }
+    ensures ok { IfOk result (IsCertified (F.content folder.old) object.now F.blank (F.written folder.new output.now) sizes.now (W.contents out.old) (W.contents out.new)) }
     ensures fault { IfErr result (IsNotCertified (F.content folder.old) object.now output.now sizes.now (W.failed out.new)) }
     ensures status { IfOk result (λ status. status ≤ 1) }
 {
@@ -39,9 +40,9 @@ pub fn certify<'a, F: Folder, W: Write>(
         return Err(Fault::Open(output));
     };
     let written = certificate.write(&mut file);
-    folder.close_file(output, file);
+    let closed = close(folder, output, file);
     match written {
-        Ok(()) => {}
+        Ok(()) => closed?,
         Err(fault) => return Err(Fault::Certificate(fault)),
     }
     let mut line = Line::new(alloc);

@@ -13,7 +13,7 @@ use session::Write;
 use std::alloc::{AllocError, Global};
 
 /// Prints the verdict, and answers the status.
-pub fn check<'a, F: Folder, W: Write>(
+pub(crate) fn check<'a, F: Folder, W: Write>(
     alloc: Global,
     folder: &mut F,
     out: &mut W,
@@ -144,7 +144,7 @@ fn put_reason(alloc: Global, line: &mut Line, reason: Reason) -> Result<(), Allo
     }
 }
 
-pub fn reason_line(alloc: Global, reason: Reason) -> Result<Line, AllocError>
+pub(crate) fn reason_line(alloc: Global, reason: Reason) -> Result<Line, AllocError>
     ensures { IfOk result (IsNoLine reason) }
 {
     let mut line = Line::new(alloc);

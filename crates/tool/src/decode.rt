@@ -1,6 +1,6 @@
 //! The command `decode`.
 ghost use Rattle.std.specs.Prelude.{◌≡◌, ◌≤◌, IfOk, IfErr, OnOk, codes};
-ghost use Rattle.tool.specs.Decoding.{GainsFault, missing_text, object_text, IsAnswerLine, answer_status, IsDecoded, IsNotDecoded};
+ghost use Rattle.tool.specs.Decoding.{GainsFault, missing_text, object_text, IsAnswerLine, answer_status, WritesObject, IsDecoded, IsNotDecoded};
 ghost use Rattle.tool.specs.Making.{IsFileFault};
 
 use crate::fault::Fault;
@@ -14,14 +14,14 @@ use std::alloc::{AllocError, Global};
 
 /// Writes the object that the session's datagrams give, prints what they give, and answers the status. The output is
 /// created only where there is an object.
-pub fn decode<'a, F: Folder, W: Write>(
+pub(crate) fn decode<'a, F: Folder, W: Write>(
     alloc: Global,
     folder: &mut F,
     out: &mut W,
     session: &'a str,
     output: &'a str,
 ) -> Result<u8, Fault<'a>>
-    ensures ok { IfOk result (IsDecoded (F.content folder.old) session.now (W.contents out.old) (W.contents out.new)) }
+    ensures ok { IfOk result (IsDecoded (F.content folder.old) session.now F.blank (F.written folder.new output.now) (W.contents out.old) (W.contents out.new)) }
     ensures fault { IfErr result (IsNotDecoded (F.content folder.old) session.now output.now (W.failed out.new)) }
     ensures status { IfOk result (λ status. status ≤ 3) }
 {
@@ -38,7 +38,8 @@ fn write_object<'a, F: Folder>(
     output: &'a str,
     answer: &Answer,
 ) -> Result<(), Fault<'a>>
-    ensures { IfErr result (IsFileFault output.now) }
+    ensures ok { OnOk result (WritesObject answer.now F.blank (F.written folder.new output.now)) }
+    ensures fault { IfErr result (IsFileFault output.now) }
 {
     match answer {
         Answer::Object(object) => write_file(folder, output, object.as_slice()),

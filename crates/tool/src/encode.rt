@@ -6,6 +6,7 @@ ghost use Rattle.tool.specs.Making.{IsEncoded, IsNotEncoded};
 use crate::fault::Fault;
 use crate::folder::Folder;
 use crate::input::read_object;
+use crate::output::close;
 use crate::print::Line;
 use crate::sizes::fti_of;
 use coder::SendFault;
@@ -14,7 +15,7 @@ use session::Write;
 use std::alloc::Global;
 
 /// Writes the object's session, and answers the status. The output is created once all else that can be refused was.
-pub fn encode<'a, F: Folder, W: Write>(
+pub(crate) fn encode<'a, F: Folder, W: Write>(
     alloc: Global,
     folder: &mut F,
     out: &mut W,
@@ -22,7 +23,7 @@ pub fn encode<'a, F: Folder, W: Write>(
     output: &'a str,
     sending: &Sending,
 ) -> Result<u8, Fault<'a>>
-    ensures ok { IfOk result (IsEncoded (F.content folder.old) object.now sending.now (W.contents out.old) (W.contents out.new)) }
+    ensures ok { IfOk result (IsEncoded (F.content folder.old) object.now F.blank (F.written folder.new output.now) sending.now (W.contents out.old) (W.contents out.new)) }
     ensures fault { IfErr result (IsNotEncoded (F.content folder.old) object.now output.now sending.now (W.failed out.new)) }
     ensures status { IfOk result (λ status. status ≤ 1) }
 {
@@ -43,9 +44,10 @@ pub fn encode<'a, F: Folder, W: Write>(
         sending.order,
         &mut file,
     );
-    folder.close_file(output, file);
+    let closed = close(folder, output, file);
     match sent {
         Ok(count) => {
+            closed?;
             let mut line = Line::new(alloc);
             line.named("encoded", count)?;
             line.text(" datagrams")?;

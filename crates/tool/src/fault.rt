@@ -9,7 +9,7 @@ use std::alloc::AllocError;
 
 /// Why a command ended.
 #[derive(Clone, Copy)]
-pub enum Fault<'a> {
+pub(crate) enum Fault<'a> {
     /// A file can't be opened or created.
     Open(&'a str),
     /// An object can't be read, or a file can't be written.

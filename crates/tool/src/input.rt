@@ -9,7 +9,7 @@ use session::{ReadFault, Session, read_to_end};
 use std::alloc::Global;
 
 /// The session in a file.
-pub fn read_session<'a, F: Folder>(
+pub(crate) fn read_session<'a, F: Folder>(
     alloc: Global,
     folder: &mut F,
     name: &'a str,
@@ -28,7 +28,7 @@ pub fn read_session<'a, F: Folder>(
 }
 
 /// The certificate in a file.
-pub fn read_certificate<'a, F: Folder>(
+pub(crate) fn read_certificate<'a, F: Folder>(
     alloc: Global,
     folder: &mut F,
     name: &'a str,
@@ -47,7 +47,7 @@ pub fn read_certificate<'a, F: Folder>(
 }
 
 /// The bytes of a file.
-pub fn read_object<'a, F: Folder>(
+pub(crate) fn read_object<'a, F: Folder>(
     alloc: Global,
     folder: &mut F,
     name: &'a str,

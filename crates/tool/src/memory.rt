@@ -1,7 +1,7 @@
 //! A folder in memory.
-ghost use Rattle.std.specs.Prelude.{◌≡◌, ◌<◌, [], length};
+ghost use Rattle.std.specs.Prelude.{◌≡◌, ◌<◌, [], Some, length};
 ghost use Rattle.std.specs.Option.{option_map};
-ghost use Rattle.tool.specs.Files.{content_of};
+ghost use Rattle.tool.specs.Files.{content_of, written_under};
 
 use crate::folder::Folder;
 use session::{Failed, Pieces, Sink};
@@ -60,6 +60,10 @@ impl<'a> Folder for MemoryFolder<'a> {
 
     ghost content = { λ folder. content_of folder.files.now };
 
+    ghost blank = { Some [] };
+
+    ghost written = { λ folder. written_under folder.created.items };
+
     fn open_file(&mut self, name: &str) -> Result<Pieces<'a>, Failed> {
         match bytes_of(self.files, name) {
             Some(bytes) => Ok(Pieces::new(bytes, self.most)),
@@ -71,9 +75,14 @@ impl<'a> Folder for MemoryFolder<'a> {
         Ok(Sink::new(self.alloc))
     }
 
-    fn close_file(&mut self, name: &str, output: Sink) {
-        if let Ok(kept) = name.to_string(self.alloc) {
-            let _ = self.created.push((kept, output));
+    #[tactic(auto, using(crate::proofs::Found::just_written))]
+    fn close_file(&mut self, name: &str, output: Sink) -> Result<(), Failed> {
+        let Ok(kept) = name.to_string(self.alloc) else {
+            return Err(Failed);
+        };
+        match self.created.push((kept, output)) {
+            Ok(()) => Ok(()),
+            Err(_) => Err(Failed),
         }
     }
 }

@@ -12,7 +12,7 @@ use std::marker::Model;
 
 /// A line that is being made.
 #[derive(Drop)]
-pub struct Line {
+pub(crate) struct Line {
     bytes: Vec<u8>,
 }
 
@@ -26,7 +26,7 @@ impl Model for Line {
 
 impl Line {
     /// The empty line.
-    pub fn new(alloc: Global) -> Line
+    pub(crate) fn new(alloc: Global) -> Line
         ensures { result ≡ [] }
     {
         Line {
@@ -35,7 +35,7 @@ impl Line {
     }
 
     /// Puts a text last.
-    pub fn text(&mut self, text: &str) -> Result<(), AllocError>
+    pub(crate) fn text(&mut self, text: &str) -> Result<(), AllocError>
         ensures ok { OnOk result (self.new ≡ self.old ++ text.now) }
         ensures err { OnErr result (self.new ≡ self.old) }
     {
@@ -43,7 +43,7 @@ impl Line {
     }
 
     /// Puts a number's decimal digits last.
-    pub fn number<I: Integer>(&mut self, number: I) -> Result<(), AllocError>
+    pub(crate) fn number<I: Integer>(&mut self, number: I) -> Result<(), AllocError>
         ensures ok { OnOk result (self.new ≡ self.old ++ I.text number) }
         ensures err { OnErr result (self.new ≡ self.old) }
     {
@@ -53,7 +53,7 @@ impl Line {
     }
 
     /// Puts a text, a space and a number last. After a fault the line has a beginning of them.
-    pub fn named<I: Integer>(&mut self, name: &str, number: I) -> Result<(), AllocError>
+    pub(crate) fn named<I: Integer>(&mut self, name: &str, number: I) -> Result<(), AllocError>
         ensures { OnOk result (self.new ≡ self.old ++ named name.now (I.text number)) }
     {
         self.text(name)?;
@@ -62,7 +62,7 @@ impl Line {
     }
 
     /// Writes the line, and a line feed.
-    pub fn print<'a, W: Write>(self, out: &mut W) -> Result<(), Fault<'a>>
+    pub(crate) fn print<'a, W: Write>(self, out: &mut W) -> Result<(), Fault<'a>>
         ensures ok { OnOk result (Appends (W.contents out.old) (W.contents out.new) (line_of self)) }
         ensures err { OnErr result (AppendsSome (W.contents out.old) (W.contents out.new) (line_of self)) }
         ensures fault { IfErr result (IsPrintFault (W.failed out.new)) }

@@ -13,7 +13,7 @@ use session::{Session, Write};
 use std::alloc::{AllocError, Global};
 
 /// Prints a line for each datagram, and answers the status: 0 where all are packets.
-pub fn show<'a, F: Folder, W: Write>(
+pub(crate) fn show<'a, F: Folder, W: Write>(
     alloc: Global,
     folder: &mut F,
     out: &mut W,

@@ -8,7 +8,7 @@ use partition::{Fti, FtiError};
 use request::Sizes;
 
 /// The FTI of an object of so many bytes.
-pub fn fti_of(sizes: &Sizes, length: usize) -> Result<Fti, FtiError>
+pub(crate) fn fti_of(sizes: &Sizes, length: usize) -> Result<Fti, FtiError>
     ensures fti { IfOk result (λ f. f ≡ fti_from length sizes.now.symbol sizes.now.block sizes.now.max_n) }
     ensures fault { IfErr result (λ e. fti_fault (fti_from length sizes.now.symbol sizes.now.block sizes.now.max_n) ≡ Some e) }
 {

@@ -5,12 +5,13 @@ ghost use Rattle.tool.specs.Making.{IsDropped, IsNotDropped};
 use crate::fault::Fault;
 use crate::folder::Folder;
 use crate::input::read_session;
+use crate::output::close;
 use crate::print::Line;
 use session::Write;
 use std::alloc::Global;
 
 /// Writes the session without these places, and answers the status. The output is created once that session is there.
-pub fn drop_places<'a, F: Folder, W: Write>(
+pub(crate) fn drop_places<'a, F: Folder, W: Write>(
     alloc: Global,
     folder: &mut F,
     out: &mut W,
@@ -18,7 +19,7 @@ pub fn drop_places<'a, F: Folder, W: Write>(
     output: &'a str,
     places: &[usize],
 ) -> Result<u8, Fault<'a>>
-    ensures ok { IfOk result (IsDropped (F.content folder.old) session.now places.now (W.contents out.old) (W.contents out.new)) }
+    ensures ok { IfOk result (IsDropped (F.content folder.old) session.now F.blank (F.written folder.new output.now) places.now (W.contents out.old) (W.contents out.new)) }
     ensures fault { IfErr result (IsNotDropped (F.content folder.old) session.now output.now places.now (W.failed out.new)) }
     ensures status { IfOk result (λ status. status ≤ 1) }
 {
@@ -31,9 +32,9 @@ pub fn drop_places<'a, F: Folder, W: Write>(
         return Err(Fault::Open(output));
     };
     let written = left.write(&mut file);
-    folder.close_file(output, file);
+    let closed = close(folder, output, file);
     match written {
-        Ok(()) => {}
+        Ok(()) => closed?,
         Err(fault) => return Err(Fault::Frame(fault)),
     }
     let mut line = Line::new(alloc);

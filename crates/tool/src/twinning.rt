@@ -15,7 +15,7 @@ use std::alloc::{AllocError, Global};
 
 /// Writes another object that agrees with all datagrams of the session, where the check finds a block short, and answers
 /// the status. The output is created once that object is there.
-pub fn twin<'a, F: Folder, W: Write>(
+pub(crate) fn twin<'a, F: Folder, W: Write>(
     alloc: Global,
     folder: &mut F,
     out: &mut W,
@@ -24,7 +24,7 @@ pub fn twin<'a, F: Folder, W: Write>(
     certificate: &'a str,
     output: &'a str,
 ) -> Result<u8, Fault<'a>>
-    ensures ok { IfOk result (IsTwinned (F.content folder.old) session.now object.now certificate.now (W.contents out.old) (W.contents out.new)) }
+    ensures ok { IfOk result (IsTwinned (F.content folder.old) session.now object.now certificate.now F.blank (F.written folder.new output.now) (W.contents out.old) (W.contents out.new)) }
     ensures fault { IfErr result (IsUntwinned (F.content folder.old) session.now object.now certificate.now output.now (W.failed out.new)) }
     ensures status { IfOk result (λ status. status ≤ 1) }
 {

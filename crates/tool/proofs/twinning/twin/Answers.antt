@@ -19,7 +19,7 @@ returns-in-Some-clause-ok g c =
       judged = rw (verdict, c.as_slice.ensures.value) at c.in_ok-check.ensures.verdict;
       told = refl;
       printed = rw c.in_ok-twin_line_of-in-Some.ensures at c.in_ok-print-in-Some.ensures.ok;
-      twin = (c.in_ok-other-in-Some.other.items, rw c.as_slice-in-Some.ensures.value at c.in_ok-other-in-Some.ensures);
+      twin = (c.in_ok-other-in-Some.other.items, rw c.as_slice-in-Some.ensures.value at c.in_ok-other-in-Some.ensures, rw c.as_slice-in-Some-2.ensures.value at c.in_ok-write_file-in-Some.ensures.ok);
     }
 
 pub returns-clause-ok : goal.returns-clause-ok
