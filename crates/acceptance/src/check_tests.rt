@@ -1,8 +1,9 @@
 //! Verdicts on worked sessions.
-use fixtures::{
+use crate::command::{Wanted, expect};
+use crate::sessions::{
     PAIR, PAIR_CERTIFICATE, PAIR_SESSION, Sent, THREE_BLOCKS, THREE_BLOCKS_COEFFICIENTS,
-    THREE_BLOCKS_FTI, THREE_BLOCKS_IN_ROUNDS, THREE_BLOCKS_IN_TURN, Wanted, certificate_of, expect,
-    pair_changed, pair_frames, session_of,
+    THREE_BLOCKS_FTI, THREE_BLOCKS_IN_ROUNDS, THREE_BLOCKS_IN_TURN, certificate_of, pair_changed,
+    pair_frames, session_of,
 };
 use std::alloc::Global;
 use std::test::Fail;

@@ -1,11 +1,21 @@
-//! Whole commands that read: the command line, `check`, `show`, and the losses that a report tells.
+//! Whole commands over files in memory, against worked values from outside.
 #![tactic(auto)]
 
 #[cfg(test)]
 mod check_tests;
 #[cfg(test)]
+mod command;
+#[cfg(test)]
+mod decode_tests;
+#[cfg(test)]
 mod line_tests;
 #[cfg(test)]
 mod loss_tests;
 #[cfg(test)]
+mod making_tests;
+#[cfg(test)]
+mod sessions;
+#[cfg(test)]
 mod show_tests;
+#[cfg(test)]
+mod twin_tests;

@@ -1,5 +1,5 @@
 //! Command lines that are refused, and help.
-use fixtures::answer;
+use crate::command::answer;
 use std::test::Fail;
 
 #[test]
@@ -60,36 +60,6 @@ fn help(rt: HostRuntime) -> Result<(), Fail> {
         assert_eq!(rt; help.status, 0);
         assert!(rt; help.text.as_str().starts_with(first));
         assert!(rt; help.text.as_str().contains("Example: alcrs "));
-    }
-    Ok(())
-}
-
-#[test]
-fn help_on_check(rt: HostRuntime) -> Result<(), Fail> {
-    let help = answer(rt.alloc(), &["alcrs", "check", "--help"], &[])?;
-    for line in [
-        "Usage: alcrs check <SESSION> <OBJECT> <CERT>\n",
-        "  <SESSION>  The session file: each datagram behind its length in two bytes\n",
-        "  <OBJECT>   The file that the session is to carry\n",
-        "  <CERT>     The certificate: the polynomial of each byte column of each block\n",
-        "Statuses: 0 yes, 1 no or a fault, 2 the command line is refused.\n",
-        "Example: alcrs check bulletin.session bulletin.txt bulletin.rsc",
-    ] {
-        assert!(rt; help.text.as_str().contains(line), "{line}");
-    }
-    Ok(())
-}
-
-#[test]
-fn help_on_twin(rt: HostRuntime) -> Result<(), Fail> {
-    let help = answer(rt.alloc(), &["alcrs", "twin", "--help"], &[])?;
-    assert_eq!(rt; help.status, 0);
-    for line in [
-        "Usage: alcrs twin <SESSION> <OBJECT> <CERT> <OUT>\n",
-        "  <OUT>      The other object to write\n",
-        "Example: alcrs twin thinned.session bulletin.txt bulletin.rsc other.txt",
-    ] {
-        assert!(rt; help.text.as_str().contains(line), "{line}");
     }
     Ok(())
 }

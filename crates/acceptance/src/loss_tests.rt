@@ -1,5 +1,6 @@
 //! The losses that a report tells, against worked sessions and a plain program that tries every loss.
-use fixtures::{Sent, certificate_of, check, session_of};
+use crate::command::check;
+use crate::sessions::{Sent, certificate_of, session_of};
 use std::alloc::Global;
 use std::process::Abort;
 use std::test::Fail;

@@ -1,5 +1,6 @@
 //! Lines of datagrams.
-use fixtures::{PAIR_SESSION, Wanted, expect, pair_changed};
+use crate::command::{Wanted, expect};
+use crate::sessions::{PAIR_SESSION, pair_changed};
 use std::alloc::Global;
 use std::test::Fail;
 

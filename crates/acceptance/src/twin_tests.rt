@@ -1,7 +1,7 @@
 //! Other objects that agree with short sessions.
-use fixtures::{
-    PAIR, PAIR_CERTIFICATE, PAIR_FTI, PAIR_SESSION, Wanted, certificate_of, expect, pair_frames,
-    session_of,
+use crate::command::{Wanted, expect};
+use crate::sessions::{
+    PAIR, PAIR_CERTIFICATE, PAIR_FTI, PAIR_SESSION, certificate_of, pair_frames, session_of,
 };
 use std::alloc::Global;
 use std::test::Fail;

@@ -1,7 +1,8 @@
 //! What sessions decode to.
-use fixtures::{
-    PAIR, PAIR_FTI, PAIR_SESSION, THREE_BLOCKS, THREE_BLOCKS_FTI, THREE_BLOCKS_IN_TURN, Wanted,
-    expect, pair_frames, session_of,
+use crate::command::{Wanted, expect};
+use crate::sessions::{
+    PAIR, PAIR_FTI, PAIR_SESSION, THREE_BLOCKS, THREE_BLOCKS_FTI, THREE_BLOCKS_IN_TURN,
+    pair_frames, session_of,
 };
 use std::alloc::Global;
 use std::test::Fail;
