@@ -14,6 +14,3 @@ mod writing;
 pub use fault::PacketFault;
 pub use reading::{Packet, one_reading, read};
 pub use writing::write;
-
-#[cfg(test)]
-mod tests;

@@ -13,6 +13,3 @@ pub use checking::check;
 pub use datagrams::is_in_range;
 pub use twins::{session_twin, twin};
 pub use verdict::{Reason, Report, Verdict};
-
-#[cfg(test)]
-mod tests;

@@ -18,8 +18,3 @@ pub use certifying::{CertifyFault, certify};
 pub use decoding::decode;
 pub use selecting::{decode_selection, one_answer};
 pub use sending::{Order, SendFault, encode};
-
-#[cfg(test)]
-mod decode_tests;
-#[cfg(test)]
-mod tests;

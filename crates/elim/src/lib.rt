@@ -13,6 +13,3 @@ pub use combine::{product, vandermonde};
 pub use eliminate::{ElimError, invert};
 pub use erasure::recovery;
 pub use matrix::Matrix;
-
-#[cfg(test)]
-mod tests;

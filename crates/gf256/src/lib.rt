@@ -12,6 +12,3 @@ mod tables;
 pub use field::Field;
 pub use gf::{Gf, point};
 pub use rows::add_scaled;
-
-#[cfg(test)]
-mod tests;

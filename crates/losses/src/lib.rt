@@ -12,6 +12,3 @@ mod window;
 pub use counting::counts;
 pub use number::Number;
 pub use report::{Figures, figures_of};
-
-#[cfg(test)]
-mod tests;

@@ -11,9 +11,6 @@ ghost use Rattle.partition.specs.Fti.{symbol_count, block_count, source_count, s
 use std::marker::Model;
 use thiserror::Error;
 
-#[cfg(test)]
-mod tests;
-
 /// Why four numbers are no FTI.
 #[derive(Debug, Clone, Copy, PartialEq, Eq, Error)]
 pub enum FtiError {

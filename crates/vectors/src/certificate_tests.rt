@@ -1,4 +1,5 @@
-use super::*;
+//! Certificates and twins.
+use cert::{CertFault, Certificate, one_certificate, twin};
 use partition::{Fti, FtiError};
 use session::{Pieces, Sink};
 use std::alloc::{AllocError, Global};
@@ -103,7 +104,7 @@ fn texts(rt: HostRuntime) -> Result<(), Fail> {
 }
 
 // The twin of an object of one block, where these ESIs are held and are too few.
-#[tactic(auto, using(crate::proofs::Few::different_few))]
+#[tactic(auto, using(cert::proofs::Few::different_few))]
 fn twin_in_block_0(
     alloc: Global,
     fti: &Fti,

@@ -1,5 +1,6 @@
-use super::*;
+//! What datagrams give.
 use alc::PacketFault;
+use coder::{Answer, DecodeFault, Order, decode, decode_selection, encode, one_answer};
 use partition::Fti;
 use session::{FrameFault, Pieces, Session, Sink};
 use std::alloc::{AllocError, Global};

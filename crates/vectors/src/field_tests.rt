@@ -1,5 +1,5 @@
-//! Values that were worked out elsewhere.
-use crate::{Field, Gf, add_scaled, point};
+//! The field, its points and rows of bytes.
+use gf256::{Field, Gf, add_scaled, point};
 
 #[test]
 fn multiplies(rt: HostRuntime) {

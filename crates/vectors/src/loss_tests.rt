@@ -1,4 +1,5 @@
-use super::*;
+//! What a session can lose.
+use losses::{Figures, Number, counts, figures_of};
 use std::alloc::{AllocError, Global};
 use std::test::Fail;
 

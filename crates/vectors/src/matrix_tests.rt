@@ -1,8 +1,8 @@
-//! Matrices that were worked out elsewhere.
+//! Matrices.
 ghost use Rattle.std.specs.Prelude.{◌≡◌, ◌<◌, ◌≤◌, ◌+◌, ◌*◌, ℕ, IfOk, length, slice_index};
 ghost use Rattle.elim.specs.Grid.{HasShape};
 
-use crate::{ElimError, Matrix, generator, invert, product, recovery, vandermonde};
+use elim::{ElimError, Matrix, generator, invert, product, recovery, vandermonde};
 use gf256::{Field, Gf};
 use std::alloc::{AllocError, Global};
 use std::test::Fail;

@@ -1,4 +1,5 @@
-use super::*;
+//! Packets.
+use alc::{Packet, PacketFault, one_reading, read, write};
 use partition::{Fti, FtiError};
 use std::test::Fail;
 

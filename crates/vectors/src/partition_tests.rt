@@ -1,4 +1,5 @@
-use super::*;
+//! FTIs and source blocks.
+use partition::Fti;
 use std::test::Fail;
 
 #[test]

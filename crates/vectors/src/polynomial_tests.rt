@@ -1,6 +1,6 @@
-//! Values that were worked out elsewhere.
-use crate::{Poly, points_determine};
+//! Polynomials.
 use gf256::{Field, Gf};
+use poly::{Poly, points_determine};
 
 #[test]
 fn multiplies_roots(rt: HostRuntime) {

@@ -1,5 +1,6 @@
-use super::*;
+//! What is sent, and its certificate.
 use cert::{Certificate, Verdict, check};
+use coder::{CertifyFault, Order, SendFault, certify, encode};
 use partition::Fti;
 use session::{Pieces, Session, Sink};
 use std::alloc::Global;

@@ -1,4 +1,7 @@
-use super::*;
+//! Sessions and their frames.
+use session::{
+    Device, FrameFault, Pieces, Session, Sink, fill, read_next, read_to_end, write_all, write_one,
+};
 use std::alloc::Global;
 use std::test::Fail;
 

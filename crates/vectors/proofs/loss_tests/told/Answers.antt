@@ -1,6 +1,6 @@
 use Rattle.std.proofs.Common.{◌<◌, length, arith}
 use Rattle.losses.proofs.Lists.{all_from}
-use Rattle.losses.proofs.tests.told.Goals as goal
+use Rattle.vectors.proofs.loss_tests.told.Goals as goal
 
 pub counts-requires : goal.counts-requires
 counts-requires c = all_from (λ n. n.block < length c.args.needs.now) c.args.numbers.now record { block = 0; esi = 0 } (λ i l. c.loop-number.invariant i (omega arith))

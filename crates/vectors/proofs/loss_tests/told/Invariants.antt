@@ -1,6 +1,6 @@
 use Rattle.std.proofs.Common.{ℕ, ◌<◌, ◌≤◌, length, get_or}
 use Rattle.losses.specs.Numbers.{present}
-use Rattle.losses.proofs.tests.told.Given as goal
+use Rattle.vectors.proofs.loss_tests.told.Given as goal
 
 abbrev pub invariant-loop-number : goal.invariant-loop-number
 invariant-loop-number l = (i : ℕ) → i < l.number-index → (get_or l.numbers i (record { block = 0; esi = 0 })).block < length l.needs

@@ -1,0 +1,23 @@
+//! Worked vectors, made outside, against each crate's public calls.
+#![tactic(auto)]
+
+#[cfg(test)]
+mod certificate_tests;
+#[cfg(test)]
+mod decoding_tests;
+#[cfg(test)]
+mod field_tests;
+#[cfg(test)]
+mod loss_tests;
+#[cfg(test)]
+mod matrix_tests;
+#[cfg(test)]
+mod packet_tests;
+#[cfg(test)]
+mod partition_tests;
+#[cfg(test)]
+mod polynomial_tests;
+#[cfg(test)]
+mod sending_tests;
+#[cfg(test)]
+mod session_tests;
