@@ -1,8 +1,9 @@
-//! Inverts the Vandermonde matrix of all 255 points, to be timed from outside.
+//! Inverts the Vandermonde matrix of all 255 points, to be timed from outside, and multiplies a row
+//! of bytes.
 #![tactic(auto)]
 
 use elim::{ElimError, invert, vandermonde};
-use gf256::{Gf, point};
+use gf256::{Gf, add_scaled, point};
 use std::io;
 
 fn main(rt: HostRuntime) -> io::Result<()> {
@@ -17,5 +18,16 @@ fn main(rt: HostRuntime) -> io::Result<()> {
         Err(ElimError::Singular) => println!(rt; "singular")?,
         Err(ElimError::NoMemory) => println!(rt; "no memory")?,
     }
-    Ok(())
+    println!(rt; "{} points times alpha are the next point", next_points())
+}
+
+/// How many points but the last, in one row times alpha, are the next point.
+fn next_points() -> usize {
+    let mut row = [0u8; 255];
+    for esi in 0..255u8 {
+        row[usize::from(esi)] = point(esi).0;
+    }
+    let mut scaled = [0u8; 255];
+    add_scaled(&mut scaled, Gf::ALPHA, &row);
+    (0..254).filter(|&i| scaled[i] == row[i + 1]).count()
 }

@@ -1,3 +1,4 @@
 pub mod TableEntries
 pub mod Vectors
 pub mod RowLoop
+pub mod Shuffles

@@ -1,6 +1,7 @@
 pub mod Arithmetic
 pub mod FieldLaws
 pub mod Rows
+pub mod Multiplier
 pub mod Computing
 pub mod Doubling
 pub mod ProductLaws

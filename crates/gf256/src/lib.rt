@@ -6,6 +6,7 @@
 
 mod field;
 mod gf;
+mod multiplier;
 mod rows;
 mod tables;
 

@@ -70,3 +70,20 @@ fn adds_a_scaled_row(rt: HostRuntime) {
     add_scaled(&mut none, Gf(0x02), &[]);
     assert_eq!(rt; none, []);
 }
+
+#[test]
+fn adds_a_scaled_row_of_blocks(rt: HostRuntime) {
+    let mut bytes = [0u8; 35];
+    let mut other = [0u8; 35];
+    for i in 0..35u8 {
+        bytes[usize::from(i)] = 3 * i;
+        other[usize::from(i)] = (7 * i).wrapping_add(200);
+    }
+    add_scaled(&mut bytes, Gf(0xF4), &other);
+    let sums: [u8; 35] = [
+        0xB3, 0x46, 0xBF, 0x42, 0x50, 0x56, 0xB7, 0x42, 0x18, 0xED, 0xEF, 0xD9, 0xDB, 0xCD, 0xC7,
+        0xC9, 0xD3, 0x26, 0xFF, 0x02, 0xFB, 0xFD, 0x97, 0x62, 0x93, 0x66, 0x64, 0xD9, 0xDB, 0x26,
+        0x2C, 0xC9, 0xF3, 0x06, 0xFF,
+    ];
+    assert_eq!(rt; bytes, sums);
+}
