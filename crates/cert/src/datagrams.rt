@@ -48,7 +48,7 @@ fn wrong_symbol_column(certificate: &Certificate, packet: &Packet<'_>) -> Option
     None
 }
 
-// The same column: looked for only where the symbol isn't the certified one, which takes the place of `row`.
+// The same column, looked for only where the symbol isn't the certified one. `row` is room for that.
 fn wrong_in_symbol(
     symbols: &CertifiedSymbols<'_>,
     packet: &Packet<'_>,

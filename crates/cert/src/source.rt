@@ -113,7 +113,7 @@ fn is_given(object: &[u8], symbols: &CertifiedSymbols<'_>, block: u32, symbol: &
     true
 }
 
-// The least such column of a block, and the least symbol of that: looked for only where the block isn't given.
+// The same as `wrong_column`, which is asked only where the block isn't given. `symbol` is room for one.
 fn wrong_in_block(
     object: &[u8],
     symbols: &CertifiedSymbols<'_>,
