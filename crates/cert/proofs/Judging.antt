@@ -169,6 +169,12 @@ no_object rs object z (Range i) len h = absurd h
 no_object rs object z (Symbol i c) len h = absurd h
 no_object rs object z (Thin b have need) len h = absurd h
 
+-- the verdict where there are no datagrams
+pub empty_session : (ds : List (List ℕ)) (object : List ℕ) (z : Certificate) → length ds ≡ 0 → IsObject z.fti object → GivesObject object z
+    → VerdictOn (readings_of ds) object z (No Empty)
+empty_session [] object z none form gives = (form, gives, refl)
+empty_session (d ∷ ds) object z none form gives = absurd (omega arith)
+
 -- a refusal of the scan
 pub scan_refused : (ds : List (List ℕ)) (z : Certificate) (e : Refusal) → IsRefusal ds z e → IsNotCertified ds z e
 scan_refused ds z NoMemory h = tt

@@ -17,3 +17,5 @@ pub mod Adding
 pub mod TwinObject
 pub mod Few
 pub mod Short
+pub mod RowValues
+pub mod CoefficientRows

@@ -1,6 +1,7 @@
 -- A certificate's polynomials have as many coefficients as their block has source symbols.
-use Rattle.std.specs.Prelude.{◌≡◌, ◌<◌, ◌≤◌, ◌+◌, ◌*◌, ℕ, length}
-use Rattle.std.proofs.Common.{arith, length-take-le, length-drop}
+use Rattle.std.specs.Prelude.{◌≡◌, ◌<◌, ◌≤◌, ◌+◌, ◌*◌, ℕ, length, slice_index}
+use Rattle.std.proofs.Common.{◌∙◌, ap, arith, drop, length-take-le, length-drop, get_or-take}
+use Rattle.std.proofs.lemmas.List.{get_or-drop}
 use Rattle.std.proofs.Math.Nat.{mul-le-mul_right, mul_comm}
 use Rattle.poly.specs.Polynomial.{IsPolynomial}
 use Rattle.partition.specs.Fti.{Fti, IsValidFti, symbol_count, block_count, source_count, start_of}
@@ -27,3 +28,13 @@ length_polynomial z good b c hb hc =
 pub forms : (z : Certificate) → IsCertificate z → (b c : ℕ) → b < block_count z.fti → c < z.fti.symbol_length → IsPolynomial (source_count z.fti b) (polynomial z b c)
 unfolding polynomial
 forms z good b c hb hc = record { count = length_polynomial z good b c hb hc; bytes = AreBytes-take _ _ (AreBytes-drop _ _ good.bytes) }
+
+-- where a coefficient stands
+pub coefficient_at : (z : Certificate) (b c i : ℕ) → i < source_count z.fti b
+    → slice_index (polynomial z b c) i ≡ slice_index z.coefficients (start_of z.fti b * z.fti.symbol_length + i + c * source_count z.fti b)
+unfolding polynomial
+coefficient_at z b c i lt =
+    let k = source_count z.fti b in
+    let from = start_of z.fti b * z.fti.symbol_length + c * k in
+    let place : from + i ≡ start_of z.fti b * z.fti.symbol_length + i + c * k = omega arith in
+    get_or-take k (drop from z.coefficients) i 0 lt ∙ get_or-drop from z.coefficients i 0 ∙ ap (λ (p : ℕ). slice_index z.coefficients p) place

@@ -26,6 +26,14 @@ column_right z p c n l e =
     let t = eq-eqb (slice_index p.bytes c) (certified_byte z p.block p.esi c) e in
     rw (left, t) refl
 
+-- columns that are all right
+pub all_columns_right : (z : Certificate) (p : Packet) (c n : ℕ) → ((x : ℕ) → c ≤ x → x < c + n → slice_index p.bytes x ≡ certified_byte z p.block p.esi x)
+    → wrong_column z p c n ≡ None
+all_columns_right z p c zero h = refl
+all_columns_right z p c (suc n) h =
+    let t = eq-eqb (slice_index p.bytes c) (certified_byte z p.block p.esi c) (h c (omega arith) (omega arith)) in
+    rw t (all_columns_right z p (c + 1) n (λ x low high. h x (omega arith) (omega arith)))
+
 -- an ESI in range is below 255
 pub in_range_small : (f : Fti) (p : Packet) → IsValidFti f → in_range p f ≡ true → p.esi < 255
 in_range_small f p valid range =

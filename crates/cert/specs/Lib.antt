@@ -2,6 +2,7 @@ pub mod Symbols
 pub mod Readings
 pub mod Answer
 pub mod Certificate
+pub mod CoefficientRows
 pub mod Verdict
 pub mod Headline
 pub mod Scan

@@ -69,6 +69,17 @@ fn part(bytes: &[u8], from: usize, count: usize) -> &[u8]
     &bytes[from..from + count]
 }
 
+// Puts the bytes at the places `from`, `from + step` and so on into a row.
+fn gather(bytes: &[u8], from: usize, step: usize, row: &mut [u8])
+    requires { (c : ℕ) → c < length row.old → from + c * step < length bytes.now }
+    ensures len { length row.new ≡ length row.old }
+    ensures bytes { (c : ℕ) → c < length row.old → slice_index row.new c ≡ slice_index bytes.now (from + c * step) }
+{
+    for c in 0..row.len() {
+        row[c] = bytes[from + c * step];
+    }
+}
+
 const MAGIC: [u8; 4] = *b"RSC1";
 
 // What stands before the coefficients: the magic number and the FTI.
@@ -160,6 +171,19 @@ impl Certificate {
         let count = self.fti.k(b);
         let from = self.fti.start(b) as usize * usize::from(self.fti.symbol()) + c * count;
         part(self.coefficients.as_slice(), from, count)
+    }
+
+    // Makes this row that of coefficient `i` of the polynomial of each column of block `b`.
+    pub(crate) fn put_row(&self, b: u32, i: usize, row: &mut [u8])
+        requires block { b < block_count self.now.fti }
+        requires coefficient { i < source_count self.now.fti b }
+        requires room { length row.old ≡ self.now.fti.symbol_length }
+        ensures len { length row.new ≡ length row.old }
+        ensures bytes { (c : ℕ) → c < self.now.fti.symbol_length → slice_index row.new c ≡ slice_index (polynomial_of self.now b c) i }
+    {
+        let count = self.fti.k(b);
+        let from = self.fti.start(b) as usize * usize::from(self.fti.symbol()) + i;
+        gather(self.coefficients.as_slice(), from, count, row);
     }
 
     /// The certificate in all bytes up to the reader's end. Memory grows with the bytes that come, never with what the

@@ -10,6 +10,7 @@ ghost use Rattle.cert.specs.Scan.{AreEnough, IsThin, AreCertified, IsNotCertifie
 ghost use Rattle.cert.specs.Verdict.{IsVerdict};
 
 use crate::certificate::{Certificate, are_bytes};
+use crate::certified_symbols::CertifiedSymbols;
 use crate::datagrams::{Refusal, numbers_of_session};
 use crate::source::not_given;
 use crate::verdict::{Reason, Report, Verdict};
@@ -51,19 +52,25 @@ fn needs_of(alloc: Global, fti: &Fti) -> Result<Vec<usize>, AllocError>
     Ok(needs)
 }
 
-// The report, or the first reason for which the datagrams don't suffice.
-fn report_of(alloc: Global, session: &Session, certificate: &Certificate) -> Result<Report, Refusal>
+// The report, or the first reason for which the datagrams don't suffice. `row` is room for one symbol.
+fn report_of(
+    alloc: Global,
+    session: &Session,
+    symbols: &CertifiedSymbols<'_>,
+    row: &mut [u8],
+) -> Result<Report, Refusal>
     requires some { 0 < length session.now }
     requires datagrams { AreDatagrams session.now }
-    ensures report { IfOk result (IsReport session.now certificate.now.fti) }
-    ensures certified { OnOk result (AreCertified session.now certificate.now) }
-    ensures refusal { IfErr result (IsNotCertified session.now certificate.now) }
+    requires room { length row.old ≡ symbols.now.certificate.now.fti.symbol_length }
+    ensures report { IfOk result (IsReport session.now symbols.now.certificate.now.fti) }
+    ensures certified { OnOk result (AreCertified session.now symbols.now.certificate.now) }
+    ensures refusal { IfErr result (IsNotCertified session.now symbols.now.certificate.now) }
 {
-    let numbers = match numbers_of_session(alloc, session, certificate) {
+    let numbers = match numbers_of_session(alloc, session, symbols, row) {
         Ok(numbers) => numbers,
         Err(refusal) => return Err(refusal),
     };
-    let fti = certificate.fti();
+    let fti = symbols.certificate.fti();
     let Ok(held) = counts(alloc, numbers.as_slice(), fti.blocks() as usize) else {
         return Err(Refusal::NoMemory);
     };
@@ -106,14 +113,16 @@ fn judge(
     if object.len() as u64 != certificate.fti().length() {
         return Ok(Verdict::No(Reason::ObjectLength));
     }
-    match not_given(object, certificate) {
+    let symbols = CertifiedSymbols::new(alloc, certificate)?;
+    let mut row = Vec::from_elem(alloc, 0u8, usize::from(certificate.fti().symbol()))?;
+    match not_given(object, &symbols, &mut row) {
         Some(reason) => return Ok(Verdict::No(reason)),
         None => {}
     }
     if datagrams == 0 {
         return Ok(Verdict::No(Reason::Empty));
     }
-    match report_of(alloc, session, certificate) {
+    match report_of(alloc, session, &symbols, &mut row) {
         Ok(report) => Ok(Verdict::Yes(report)),
         Err(Refusal::Reason(reason)) => Ok(Verdict::No(reason)),
         Err(Refusal::NoMemory) => Err(AllocError),

@@ -7,6 +7,7 @@ ghost use Rattle.cert.specs.Verdict.{wrong_column, packet_reason, first_reason};
 ghost use Rattle.cert.specs.Scan.{readings_of, numbers_of, AreAllCertified, IsRefusal};
 
 use crate::certificate::Certificate;
+use crate::certified_symbols::CertifiedSymbols;
 use crate::source::value_at;
 use crate::verdict::Reason;
 use alc::{Packet, PacketFault, read};
@@ -47,17 +48,40 @@ fn wrong_symbol_column(certificate: &Certificate, packet: &Packet<'_>) -> Option
     None
 }
 
-// The first reason against the packet at a place, the session's first packet being the other.
+// The same column, looked for only where the symbol isn't the certified one. `row` is room for that.
+fn wrong_in_symbol(
+    symbols: &CertifiedSymbols<'_>,
+    packet: &Packet<'_>,
+    row: &mut [u8],
+) -> Option<usize>
+    requires range { in_range (packet_of packet.now) symbols.now.certificate.now.fti ≡ true }
+    requires symbol { length packet.now.symbol.now ≡ symbols.now.certificate.now.fti.symbol_length }
+    requires room { length row.old ≡ symbols.now.certificate.now.fti.symbol_length }
+    ensures len { length row.new ≡ length row.old }
+    ensures column { result ≡ wrong_column symbols.now.certificate.now (packet_of packet.now) 0 symbols.now.certificate.now.fti.symbol_length }
+{
+    symbols.put(packet.sbn, packet.esi, row);
+    if *row == *packet.symbol {
+        return None;
+    }
+    wrong_symbol_column(symbols.certificate, packet)
+}
+
+// The first reason against the packet at a place, the session's first packet being the other. `row` is room for one
+// symbol.
 fn reason_against(
-    certificate: &Certificate,
+    symbols: &CertifiedSymbols<'_>,
     first: &Packet<'_>,
     place: usize,
     packet: &Packet<'_>,
+    row: &mut [u8],
 ) -> Option<Reason>
-    requires { length packet.now.symbol.now ≡ packet.now.fti.symbol_length }
-    ensures { result ≡ packet_reason certificate.now (packet_of first.now) place (packet_of packet.now) }
+    requires symbol { length packet.now.symbol.now ≡ packet.now.fti.symbol_length }
+    requires room { length row.old ≡ symbols.now.certificate.now.fti.symbol_length }
+    ensures len { length row.new ≡ length row.old }
+    ensures reason { result ≡ packet_reason symbols.now.certificate.now (packet_of first.now) place (packet_of packet.now) }
 {
-    let fti = certificate.fti();
+    let fti = symbols.certificate.fti();
     if packet.tsi != first.tsi || packet.toi != first.toi {
         return Some(Reason::OtherIdentity(place));
     }
@@ -67,23 +91,25 @@ fn reason_against(
     if !is_in_range(packet, &fti) {
         return Some(Reason::Range(place));
     }
-    match wrong_symbol_column(certificate, packet) {
+    match wrong_in_symbol(symbols, packet, row) {
         Some(column) => Some(Reason::Symbol(place, column)),
         None => None,
     }
 }
 
-// The numbers of the datagrams in their order, or the first reason against one of them.
+// The numbers of the datagrams in their order, or the first reason against one of them. `row` is room for one symbol.
 pub fn numbers_of_session(
     alloc: Global,
     session: &Session,
-    certificate: &Certificate,
+    symbols: &CertifiedSymbols<'_>,
+    row: &mut [u8],
 ) -> Result<Vec<Number>, Refusal>
-    requires { 0 < length session.now }
-    ensures none { IfOk result (λ _. first_reason certificate.now (counted (readings_of session.now)) ≡ None) }
-    ensures certified { OnOk result (AreAllCertified session.now certificate.now) }
+    requires some { 0 < length session.now }
+    requires room { length row.old ≡ symbols.now.certificate.now.fti.symbol_length }
+    ensures none { IfOk result (λ _. first_reason symbols.now.certificate.now (counted (readings_of session.now)) ≡ None) }
+    ensures certified { OnOk result (AreAllCertified session.now symbols.now.certificate.now) }
     ensures numbers { IfOk result (λ v. v.items ≡ numbers_of session.now) }
-    ensures refusal { IfErr result (IsRefusal session.now certificate.now) }
+    ensures refusal { IfErr result (IsRefusal session.now symbols.now.certificate.now) }
 {
     let first = match read(session.get(0)) {
         Ok(packet) => packet,
@@ -95,7 +121,7 @@ pub fn numbers_of_session(
             Ok(packet) => packet,
             Err(fault) => return Err(Refusal::Reason(Reason::Packet(place, fault))),
         };
-        match reason_against(certificate, &first, place, &packet) {
+        match reason_against(symbols, &first, place, &packet, row) {
             Some(reason) => return Err(Refusal::Reason(reason)),
             None => {}
         }

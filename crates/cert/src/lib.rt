@@ -2,6 +2,7 @@
 #![tactic(auto)]
 
 mod certificate;
+mod certified_symbols;
 mod checking;
 mod datagrams;
 mod source;

@@ -1,11 +1,13 @@
 //! Whether the polynomials give the object.
-ghost use Rattle.std.specs.Prelude.{◌≡◌, ◌≢◌, ◌+◌, ◌<◌, ◌≤◌, ◌^◌, ℕ, length, slice_index, IsNone, IfSome};
+ghost use Rattle.std.specs.Prelude.{◌≡◌, ◌≢◌, ◌+◌, ◌<◌, ◌≤◌, ◌^◌, ◌↔◌, ℕ, length, slice_index, IsTrue, IsNone, IfSome};
 ghost use Rattle.gf256.specs.Arithmetic.{IsByte};
 ghost use Rattle.poly.specs.Polynomial.{value};
 ghost use Rattle.partition.specs.Fti.{block_count, source_count};
+ghost use Rattle.cert.specs.CoefficientRows.{GivesBlock};
 ghost use Rattle.cert.specs.Verdict.{GivesAt, GivesObject, IsFirstIn, IsFirstInBlock, IsNotGiven};
 
 use crate::certificate::Certificate;
+use crate::certified_symbols::CertifiedSymbols;
 use crate::verdict::Reason;
 use gf256::{Field, Gf, point};
 
@@ -71,14 +73,75 @@ fn wrong_column(object: &[u8], certificate: &Certificate, block: u32) -> Option<
     None
 }
 
-/// The reason against the object, if the polynomials don't give it: the least block, in it the least column, in that
-/// the least symbol.
-pub fn not_given(object: &[u8], certificate: &Certificate) -> Option<Reason>
-    ensures none { IsNone result → GivesObject object.now certificate.now }
-    ensures some { IfSome result (IsNotGiven object.now certificate.now) }
+// The object's bytes from a place on, `count` of them, or fewer where it ends.
+fn part_of(object: &[u8], from: usize, count: usize) -> &[u8]
+    ensures bytes { (c : ℕ) → c < count → slice_index result.now c ≡ slice_index object.now (from + c) }
+    ensures most { length result.now ≤ count }
 {
-    for block in 0..certificate.fti().blocks() {
-        if let Some((column, symbol)) = wrong_column(object, certificate, block) {
+    let rest = &object[from.min(object.len())..];
+    &rest[..count.min(rest.len())]
+}
+
+// Whether a symbol is these bytes with zeros behind them.
+fn is_padded(symbol: &[u8], bytes: &[u8]) -> bool
+    ensures { IsTrue result ↔ ((c : ℕ) → c < length symbol.now → slice_index symbol.now c ≡ slice_index bytes.now c) }
+{
+    for c in 0..symbol.len() {
+        if symbol[c] != byte_at(bytes, c) {
+            return false;
+        }
+    }
+    true
+}
+
+// Whether the polynomials give a block of the object, symbol by symbol. `symbol` is room for one.
+fn is_given(object: &[u8], symbols: &CertifiedSymbols<'_>, block: u32, symbol: &mut [u8]) -> bool
+    requires block { block < block_count symbols.now.certificate.now.fti }
+    requires room { length symbol.old ≡ symbols.now.certificate.now.fti.symbol_length }
+    ensures len { length symbol.new ≡ length symbol.old }
+    ensures given { IsTrue result ↔ GivesBlock object.now symbols.now.certificate.now block }
+{
+    let fti = symbols.certificate.fti();
+    let start = fti.start(block) as usize;
+    let length = usize::from(fti.symbol());
+    for i in 0..fti.k(block) {
+        symbols.put(block, i as u8, symbol);
+        if !is_padded(symbol, part_of(object, (start + i) * length, length)) {
+            return false;
+        }
+    }
+    true
+}
+
+// The same as `wrong_column`, which is asked only where the block isn't given. `symbol` is room for one.
+fn wrong_in_block(
+    object: &[u8],
+    symbols: &CertifiedSymbols<'_>,
+    block: u32,
+    symbol: &mut [u8],
+) -> Option<(usize, usize)>
+    requires block { block < block_count symbols.now.certificate.now.fti }
+    requires room { length symbol.old ≡ symbols.now.certificate.now.fti.symbol_length }
+    ensures len { length symbol.new ≡ length symbol.old }
+    ensures none { IsNone result → GivesBlock object.now symbols.now.certificate.now block }
+    ensures some { IfSome result (λ w. IsFirstInBlock object.now symbols.now.certificate.now block w.0 w.1) }
+{
+    if is_given(object, symbols, block, symbol) {
+        return None;
+    }
+    wrong_column(object, symbols.certificate, block)
+}
+
+/// The reason against the object, if the polynomials don't give it: the least block, in it the least column, in that
+/// the least symbol. `row` is room for one symbol.
+pub fn not_given(object: &[u8], symbols: &CertifiedSymbols<'_>, row: &mut [u8]) -> Option<Reason>
+    requires { length row.old ≡ symbols.now.certificate.now.fti.symbol_length }
+    ensures len { length row.new ≡ length row.old }
+    ensures none { IsNone result → GivesObject object.now symbols.now.certificate.now }
+    ensures some { IfSome result (IsNotGiven object.now symbols.now.certificate.now) }
+{
+    for block in 0..symbols.certificate.fti().blocks() {
+        if let Some((column, symbol)) = wrong_in_block(object, symbols, block, row) {
             return Some(Reason::NotObject {
                 block,
                 column,

@@ -1,7 +1,9 @@
-use Rattle.std.proofs.Common.{◌∙◌, sym, arith, ap, refl}
+use Rattle.std.proofs.Common.{◌∙◌, sym, arith, ap, refl, subst}
 use Rattle.partition.specs.Fti.{Fti}
-use Rattle.cert.specs.Scan.{readings_of}
-use Rattle.cert.proofs.Judging.{read_all, no_object, no_datagrams, yes_all}
+use Rattle.cert.specs.Certificate.{Certificate}
+use Rattle.cert.specs.Scan.{readings_of, IsNotCertified}
+use Rattle.cert.specs.declared.datagrams.Refusal.TheVariants.{Reason as ByReason}
+use Rattle.cert.proofs.Judging.{read_all, no_object, empty_session, no_datagrams, yes_all}
 use Rattle.cert.proofs.checking.judge.Goals as goal
 
 pub returns-then-object-length-clause-verdict : goal.returns-then-object-length-clause-verdict
@@ -19,7 +21,18 @@ returns-in-Some-clause-verdict c =
     record {
       readings = readings_of c.args.session.now;
       read = read_all c.args.session.now c.len-datagrams.ensures.datagrams;
-      judged = no_object (readings_of c.args.session.now) c.args.object.now c.args.certificate.now c.in-Some.reason (c.if-object-length.false ∙ told) c.in-Some.ensures.some;
+      judged = no_object (readings_of c.args.session.now) c.args.object.now c.args.certificate.now c.in-Some.reason (c.if-object-length.false ∙ told)
+          (rw c.in_ok-symbols.ensures at c.in-Some.ensures.some);
+    }
+
+pub returns-then-datagrams-eq0-clause-verdict : goal.returns-then-datagrams-eq0-clause-verdict
+returns-then-datagrams-eq0-clause-verdict c =
+    let told = c.length.ensures.value ∙ ap (λ (f : Fti). f.transfer_length) c.fti.ensures.value in
+    record {
+      readings = readings_of c.args.session.now;
+      read = read_all c.args.session.now c.len-datagrams.ensures.datagrams;
+      judged = empty_session c.args.session.now c.args.object.now c.args.certificate.now (omega (arith, c.len-datagrams.ensures.value))
+          (record { count = c.if-object-length.false ∙ told; bytes = c.are_bytes.ensures }) (rw c.in_ok-symbols.ensures at (c.in-None.ensures.none refl));
     }
 
 pub returns-in-Ok-clause-verdict : goal.returns-in-Ok-clause-verdict
@@ -29,7 +42,8 @@ returns-in-Ok-clause-verdict c =
       readings = readings_of c.args.session.now;
       read = read_all c.args.session.now c.len-datagrams.ensures.datagrams;
       judged = yes_all c.args.session.now c.args.object.now c.args.certificate.now c.in-Ok.report
-          (record { count = c.if-object-length.false ∙ told; bytes = c.are_bytes.ensures }) (c.in-None.ensures.none refl) c.in-Ok.ensures.certified;
+          (record { count = c.if-object-length.false ∙ told; bytes = c.are_bytes.ensures }) (rw c.in_ok-symbols.ensures at (c.in-None.ensures.none refl))
+          (rw c.in_ok-symbols.ensures at c.in-Ok.ensures.certified);
     }
 
 pub returns-in-Err-Reason-clause-verdict : goal.returns-in-Err-Reason-clause-verdict
@@ -39,6 +53,7 @@ returns-in-Err-Reason-clause-verdict c =
       readings = readings_of c.args.session.now;
       read = read_all c.args.session.now c.len-datagrams.ensures.datagrams;
       judged = no_datagrams c.args.session.now c.args.object.now c.args.certificate.now c.in-Err-Reason.reason (omega (arith, c.len-datagrams.ensures.value))
-          (record { count = c.if-object-length.false ∙ told; bytes = c.are_bytes.ensures }) (c.in-None.ensures.none refl)
-          (rw c.in-Err-Reason.field-0-is at c.in-Err-Reason.ensures.refusal);
+          (record { count = c.if-object-length.false ∙ told; bytes = c.are_bytes.ensures }) (rw c.in_ok-symbols.ensures at (c.in-None.ensures.none refl))
+          (subst (λ (z : Certificate). IsNotCertified c.args.session.now z (ByReason c.in-Err-Reason.reason)) c.in_ok-symbols.ensures
+          (rw c.in-Err-Reason.field-0-is at c.in-Err-Reason.ensures.refusal));
     }

@@ -1,4 +1,4 @@
-use Rattle.std.proofs.Common.{◌≡◌, take}
+use Rattle.std.proofs.Common.{◌≡◌, length, take}
 use Rattle.alc.specs.Views.{packet_of}
 use Rattle.cert.specs.Scan.{numbers_of}
 use Rattle.cert.proofs.Scanning.{Scanned}
@@ -6,6 +6,7 @@ use Rattle.cert.proofs.datagrams.numbers_of_session.Given as goal
 
 abbrev pub invariant-loop-place : goal.invariant-loop-place
 invariant-loop-place l = record {
-  scanned : Scanned l.certificate l.session (packet_of l.first) l.place;
+  len : length l.row ≡ length l.initial.row;
+  scanned : Scanned l.symbols.certificate.now l.session (packet_of l.first) l.place;
   numbers : l.numbers.items ≡ numbers_of (take l.place l.session);
 }

@@ -1,0 +1,91 @@
+//! The symbols that a certificate gives, row by row.
+ghost use Rattle.std.specs.Prelude.{◌≡◌, ◌+◌, ◌*◌, ◌<◌, ℕ, length, slice_index, IfOk};
+ghost use Rattle.partition.specs.Fti.{block_count, source_count, start_of};
+ghost use Rattle.cert.specs.Certificate.{IsCertificate, coefficient_count};
+ghost use Rattle.cert.specs.CoefficientRows.{HasRow, AreRowsOf, IsCertifiedSymbol};
+
+use crate::certificate::Certificate;
+use gf256::{Field, Gf, add_scaled, point};
+use std::alloc::{AllocError, Global};
+
+// Puts the rows of a block at their places.
+fn put_block(rows: &mut [u8], certificate: &Certificate, block: u32)
+    requires block { block < block_count certificate.now.fti }
+    requires room { length rows.old ≡ coefficient_count certificate.now.fti }
+    ensures len { length rows.new ≡ length rows.old }
+    ensures here { (i : ℕ) → i < source_count certificate.now.fti block → HasRow certificate.now rows.new block i }
+    ensures before { (p : ℕ) → p < start_of certificate.now.fti block * certificate.now.fti.symbol_length → slice_index rows.new p ≡ slice_index rows.old p }
+{
+    let fti = certificate.fti();
+    let start = fti.start(block) as usize;
+    let length = usize::from(fti.symbol());
+    for i in 0..fti.k(block) {
+        let from = (start + i) * length;
+        certificate.put_row(block, i, &mut rows[from..from + length]);
+    }
+}
+
+// Puts the rows of all blocks at their places.
+fn put_blocks(rows: &mut [u8], certificate: &Certificate)
+    requires { length rows.old ≡ coefficient_count certificate.now.fti }
+    ensures { AreRowsOf certificate.now rows.new }
+{
+    for block in 0..certificate.fti().blocks() {
+        put_block(rows, certificate, block);
+    }
+}
+
+// Makes a row of zeros.
+fn clear(row: &mut [u8])
+    ensures len { length row.new ≡ length row.old }
+    ensures zeros { (c : ℕ) → slice_index row.new c ≡ 0 }
+{
+    row.fill(0);
+}
+
+/// A certificate, and its coefficients a second time: as a row of bytes for each source symbol, which has one coefficient
+/// of each column. So a symbol is a sum of rows, each times a constant.
+#[derive(Drop)]
+pub struct CertifiedSymbols<'a> {
+    pub certificate: &'a Certificate,
+    rows: Vec<u8>,
+    ghost valid: { IsCertificate certificate.now },
+    ghost row_by_row: { AreRowsOf certificate.now rows.items },
+}
+
+impl<'a> CertifiedSymbols<'a> {
+    pub fn new(
+        alloc: Global,
+        certificate: &'a Certificate,
+    ) -> Result<CertifiedSymbols<'a>, AllocError>
+        ensures { IfOk result (λ s. s.certificate.now ≡ certificate.now) }
+    {
+        let fti = certificate.fti();
+        let count = fti.symbols() as usize * usize::from(fti.symbol());
+        let mut rows = Vec::from_elem(alloc, 0u8, count)?;
+        put_blocks(&mut rows, certificate);
+        Ok(CertifiedSymbols { certificate, rows })
+    }
+
+    /// Makes these bytes the symbol of a block that has this ESI.
+    pub fn put(&self, block: u32, esi: u8, symbol: &mut [u8])
+        requires block { block < block_count self.now.certificate.now.fti }
+        requires esi { esi < 255 }
+        requires room { length symbol.old ≡ self.now.certificate.now.fti.symbol_length }
+        ensures len { length symbol.new ≡ length symbol.old }
+        ensures certified { IsCertifiedSymbol self.now.certificate.now block esi symbol.new }
+    {
+        let fti = self.certificate.fti();
+        let start = fti.start(block) as usize;
+        let length = usize::from(fti.symbol());
+        let x = point(esi);
+        x.is_element();
+        clear(symbol);
+        let mut power = Gf::ONE;
+        for i in 0..fti.k(block) {
+            let from = (start + i) * length;
+            add_scaled(symbol, power, &self.rows[from..from + length]);
+            power = x.mul(power);
+        }
+    }
+}
