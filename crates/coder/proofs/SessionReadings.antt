@@ -25,8 +25,8 @@ use Rattle.cert.specs.Verdict.{GivesObject, IsCertifiedReading}
 use Rattle.cert.proofs.Full.{same_source}
 use Rattle.cert.proofs.Polynomials.{forms}
 use Rattle.cert.proofs.Promise.{IsSound, IsSoundReading}
-use Rattle.coder.specs.declared.sending.Order.{Order}
-use Rattle.coder.specs.declared.sending.Order.TheVariants.{Blocks, Rounds}
+use Rattle.partition.specs.declared.order.Order.{Order}
+use Rattle.partition.specs.declared.order.Order.TheVariants.{Blocks, Rounds}
 use Rattle.coder.specs.Sending.{pairs_of_block, pair_with, pairs_of_round, pairs, AreSent, IsSessionOf}
 use Rattle.coder.specs.Certified.{Certifies, CertifiesSent}
 use Rattle.coder.proofs.Sent.{map_next, map_later, flat_next, flat_later, with_pair}

@@ -7,7 +7,7 @@ use Rattle.cert.specs.Certificate.{Certificate}
 use Rattle.cert.specs.Verdict.{IsCertificateOf}
 use Rattle.coder.specs.declared.certifying.CertifyFault.{CertifyFault}
 use Rattle.coder.specs.declared.certifying.CertifyFault.TheVariants.{Length, NoMemory}
-use Rattle.coder.specs.declared.sending.Order.{Order}
+use Rattle.partition.specs.declared.order.Order.{Order}
 use Rattle.coder.specs.Sending.{IsSessionOf}
 
 -- the certificate is one of this session and this object

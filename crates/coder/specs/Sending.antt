@@ -7,8 +7,8 @@ use Rattle.alc.specs.Packet.{written}
 use Rattle.alc.specs.Written.{packet_from}
 use Rattle.session.specs.Frames.{frames, AppendsSome}
 use Rattle.cert.specs.Symbols.{Agrees}
-use Rattle.coder.specs.declared.sending.Order.{Order}
-use Rattle.coder.specs.declared.sending.Order.TheVariants.{Blocks, Rounds}
+use Rattle.partition.specs.declared.order.Order.{Order}
+use Rattle.partition.specs.declared.order.Order.TheVariants.{Blocks, Rounds}
 use Rattle.coder.specs.declared.sending.SendFault.{SendFault}
 use Rattle.coder.specs.declared.sending.SendFault.TheVariants.{Length, SymbolTooLong, Io, NoMemory}
 

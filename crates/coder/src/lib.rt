@@ -17,4 +17,4 @@ pub use answer::{Answer, DecodeFault};
 pub use certifying::{CertifyFault, certify};
 pub use decoding::decode;
 pub use selecting::{decode_selection, one_answer};
-pub use sending::{Order, SendFault, encode};
+pub use sending::{SendFault, encode};

@@ -7,19 +7,10 @@ ghost use Rattle.coder.specs.Sending.{pairs, pairs_of_block, pairs_of_round, Sen
 use crate::block_matrices::BlockMatrices;
 use crate::rows::encoding_symbol;
 use alc::write;
-use partition::Fti;
+use partition::{Fti, Order};
 use session::{Write, write_one};
 use std::alloc::Global;
 use thiserror::Error;
-
-/// In which order the encoding symbols are sent.
-#[derive(Debug, Clone, Copy, PartialEq, Eq)]
-pub enum Order {
-    /// Block after block, in a block ESIs rising.
-    Blocks,
-    /// ESI after ESI, with one ESI the blocks that have it, rising.
-    Rounds,
-}
 
 /// Why a session wasn't sent.
 #[derive(Debug, Clone, Copy, PartialEq, Eq, Error)]

@@ -8,6 +8,9 @@
 ghost use Rattle.std.specs.Prelude.{◌≡◌, ℕ, ◌+◌, ◌*◌, ◌^◌, ◌<◌, ◌≤◌, min, Some, None, IfOk, IfErr};
 ghost use Rattle.partition.specs.Fti.{symbol_count, block_count, source_count, start_of, encoding_count, last_length, IsValidFti, fti_from};
 
+mod order;
+
+pub use order::Order;
 use std::marker::Model;
 use thiserror::Error;
 

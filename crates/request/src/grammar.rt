@@ -1,4 +1,8 @@
 //! The grammar: the commands, their arguments and their help.
+ghost use Rattle.std.specs.Prelude.{◌≡◌, map, false, IfOk};
+ghost use Rattle.clap.specs.Words.{rule_of};
+ghost use Rattle.request.specs.Grammar.{file as file_rule, number as number_rule, order as order_rule, places as places_rule, encode_command as encode_shape, certify_command as certify_shape, check_command as check_shape, drop_command as drop_shape, decode_command as decode_shape, twin_command as twin_shape, show_command as show_shape, HasGrammar, IsShaped, AddsRules, AddsCommand, IsOrders};
+
 use clap::builder::ValueParser;
 use clap::{Arg, Command};
 use std::alloc::{AllocError, Global};
@@ -29,11 +33,14 @@ const CERTIFICATE: FileArgument<'static> = (
 const SESSION_TO_WRITE: FileArgument<'static> = ("OUT", "The session file to write");
 
 // The command with these arguments last, in this order, each of which has to be given.
+#[tactic(auto, using(crate::proofs::Rules::no_rules))]
 fn with_files<'a>(
     alloc: Global,
     command: Command<'a>,
     files: &[FileArgument<'a>],
-) -> Result<Command<'a>, AllocError> {
+) -> Result<Command<'a>, AllocError>
+    ensures { IfOk result (AddsRules command.entry (map (λ file. file_rule file.0.now) files.now)) }
+{
     let mut command = command;
     for (name, help) in files {
         command = command.arg(Arg::new(alloc, *name).required(true).help(*help))?;
@@ -41,7 +48,9 @@ fn with_files<'a>(
     Ok(command)
 }
 
-fn check_command<'a>(alloc: Global) -> Result<Command<'a>, AllocError> {
+fn check_command<'a>(alloc: Global) -> Result<Command<'a>, AllocError>
+    ensures { IfOk result (IsShaped check_shape) }
+{
     let command = Command::new(alloc, "check")
         .about(
             "Says whether a certificate proves that a session carries an object, and how many datagrams may be missed",
@@ -52,7 +61,9 @@ fn check_command<'a>(alloc: Global) -> Result<Command<'a>, AllocError> {
     with_files(alloc, command, &[SESSION, CARRIED_OBJECT, CERTIFICATE])
 }
 
-fn twin_command<'a>(alloc: Global) -> Result<Command<'a>, AllocError> {
+fn twin_command<'a>(alloc: Global) -> Result<Command<'a>, AllocError>
+    ensures { IfOk result (IsShaped twin_shape) }
+{
     let command = Command::new(alloc, "twin")
         .about(
             "Writes another object that agrees with all datagrams of a session, where a block of it is short",
@@ -72,7 +83,9 @@ fn twin_command<'a>(alloc: Global) -> Result<Command<'a>, AllocError> {
     )
 }
 
-fn show_command<'a>(alloc: Global) -> Result<Command<'a>, AllocError> {
+fn show_command<'a>(alloc: Global) -> Result<Command<'a>, AllocError>
+    ensures { IfOk result (IsShaped show_shape) }
+{
     let command = Command::new(alloc, "show")
         .about("Prints a line for each datagram of a session")
         .after_help(
@@ -127,7 +140,10 @@ const SIZES: [NumberOption<'static>; 3] = [
     },
 ];
 
-fn number<'a>(alloc: Global, option: &NumberOption<'a>) -> Arg<'a> {
+fn number<'a>(alloc: Global, option: &NumberOption<'a>) -> Arg<'a>
+    ensures rule { rule_of result ≡ number_rule option.now.name.now option.now.least option.now.most }
+    ensures local { result.global ≡ false }
+{
     Arg::new(alloc, option.name)
         .long(option.name)
         .value_name("N")
@@ -137,11 +153,14 @@ fn number<'a>(alloc: Global, option: &NumberOption<'a>) -> Arg<'a> {
 }
 
 // The command with these options last, in this order, each of which has to be given.
+#[tactic(auto, using(crate::proofs::Rules::no_rules))]
 fn with_numbers<'a>(
     alloc: Global,
     command: Command<'a>,
     options: &[NumberOption<'a>],
-) -> Result<Command<'a>, AllocError> {
+) -> Result<Command<'a>, AllocError>
+    ensures { IfOk result (AddsRules command.entry (map (λ option. number_rule option.name.now option.least option.most) options.now)) }
+{
     let mut command = command;
     for option in options {
         command = command.arg(number(alloc, option))?;
@@ -149,7 +168,9 @@ fn with_numbers<'a>(
     Ok(command)
 }
 
-fn encode_command<'a>(alloc: Global) -> Result<Command<'a>, AllocError> {
+fn encode_command<'a>(alloc: Global) -> Result<Command<'a>, AllocError>
+    ensures { IfOk result (λ command. (orders : _) × IsOrders orders × IsShaped (encode_shape orders) command) }
+{
     let command = Command::new(alloc, "encode")
         .about("Writes the session file of an object: all encoding symbols of all its blocks")
         .after_help(
@@ -165,7 +186,10 @@ fn encode_command<'a>(alloc: Global) -> Result<Command<'a>, AllocError> {
 }
 
 // In which order the encoding symbols are sent.
-fn order<'a>(alloc: Global) -> Arg<'a> {
+fn order<'a>(alloc: Global) -> Arg<'a>
+    ensures rule { (orders : _) × IsOrders orders × (rule_of result ≡ order_rule orders) }
+    ensures local { result.global ≡ false }
+{
     Arg::new(alloc, "order")
         .long("order")
         .value_name("ORDER")
@@ -174,7 +198,9 @@ fn order<'a>(alloc: Global) -> Arg<'a> {
         .help("Block after block, or one symbol of each block in turn")
 }
 
-fn certify_command<'a>(alloc: Global) -> Result<Command<'a>, AllocError> {
+fn certify_command<'a>(alloc: Global) -> Result<Command<'a>, AllocError>
+    ensures { IfOk result (IsShaped certify_shape) }
+{
     let command = Command::new(alloc, "certify")
         .about(
             "Writes the certificate of an object: the polynomial of each byte column of each block",
@@ -193,7 +219,9 @@ fn certify_command<'a>(alloc: Global) -> Result<Command<'a>, AllocError> {
     with_numbers(alloc, command, &SIZES)
 }
 
-fn drop_command<'a>(alloc: Global) -> Result<Command<'a>, AllocError> {
+fn drop_command<'a>(alloc: Global) -> Result<Command<'a>, AllocError>
+    ensures { IfOk result (IsShaped drop_shape) }
+{
     let command = Command::new(alloc, "drop")
         .about("Writes a session file without the datagrams at some places")
         .after_help(
@@ -202,7 +230,9 @@ fn drop_command<'a>(alloc: Global) -> Result<Command<'a>, AllocError> {
     with_files(alloc, command, &[SESSION, SESSION_TO_WRITE])?.arg(places(alloc))
 }
 
-fn decode_command<'a>(alloc: Global) -> Result<Command<'a>, AllocError> {
+fn decode_command<'a>(alloc: Global) -> Result<Command<'a>, AllocError>
+    ensures { IfOk result (IsShaped decode_shape) }
+{
     let command = Command::new(alloc, "decode")
         .about("Writes the object that the datagrams of a session give")
         .after_help(
@@ -216,7 +246,10 @@ fn decode_command<'a>(alloc: Global) -> Result<Command<'a>, AllocError> {
 }
 
 // The places to leave out, one or more.
-fn places<'a>(alloc: Global) -> Arg<'a> {
+fn places<'a>(alloc: Global) -> Arg<'a>
+    ensures rule { rule_of result ≡ places_rule }
+    ensures local { result.global ≡ false }
+{
     Arg::new(alloc, "PLACE")
         .required(true)
         .num_args(1usize..)
@@ -224,25 +257,29 @@ fn places<'a>(alloc: Global) -> Arg<'a> {
         .help("The places of the datagrams to leave out, counted from 0; repeats count once")
 }
 
-// The command with one more of its own.
+// The parser with a command last.
 fn with_command<'a>(
-    command: Command<'a>,
-    added: Result<Command<'a>, AllocError>,
-) -> Result<Command<'a>, AllocError> {
-    command.subcommand(added?)
+    parser: Command<'a>,
+    command: Result<Command<'a>, AllocError>,
+) -> Result<Command<'a>, AllocError>
+    ensures { IfOk result (AddsCommand parser.entry command.entry) }
+{
+    parser.subcommand(command?)
 }
 
 /// The grammar of the whole command line.
-pub(crate) fn grammar<'a>(alloc: Global) -> Result<Command<'a>, AllocError> {
-    let command = Command::new(alloc, "alcrs")
+pub(crate) fn grammar<'a>(alloc: Global) -> Result<Command<'a>, AllocError>
+    ensures { IfOk result HasGrammar }
+{
+    let parser = Command::new(alloc, "alcrs")
         .about(ABOUT)
         .after_help(STATUSES)
         .subcommand_required(true);
-    let command = with_command(command, encode_command(alloc))?;
-    let command = with_command(command, certify_command(alloc))?;
-    let command = with_command(command, check_command(alloc))?;
-    let command = with_command(command, drop_command(alloc))?;
-    let command = with_command(command, decode_command(alloc))?;
-    let command = with_command(command, twin_command(alloc))?;
-    with_command(command, show_command(alloc))
+    let parser = with_command(parser, encode_command(alloc))?;
+    let parser = with_command(parser, certify_command(alloc))?;
+    let parser = with_command(parser, check_command(alloc))?;
+    let parser = with_command(parser, drop_command(alloc))?;
+    let parser = with_command(parser, decode_command(alloc))?;
+    let parser = with_command(parser, twin_command(alloc))?;
+    with_command(parser, show_command(alloc))
 }

@@ -6,7 +6,7 @@ ghost use Rattle.request.specs.Usages.{IsUsage, HasValuesOf, IsInRange, AreInRan
 use crate::requests::{Request, Sending, Sizes};
 use crate::usage::Usage;
 use clap::ArgMatches;
-use coder::Order;
+use partition::Order;
 use std::alloc::Global;
 
 /// The request of `check`, or a value that the grammar let through and that is none.

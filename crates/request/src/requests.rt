@@ -1,5 +1,5 @@
 //! What a command line asks for.
-use coder::Order;
+use partition::Order;
 
 /// All of an FTI but the transfer length, which is the object's own.
 #[derive(Clone, Copy, Debug, PartialEq, Eq)]

@@ -1,7 +1,7 @@
 //! What datagrams give.
 use alc::PacketFault;
-use coder::{Answer, DecodeFault, Order, decode, decode_selection, encode, one_answer};
-use partition::Fti;
+use coder::{Answer, DecodeFault, decode, decode_selection, encode, one_answer};
+use partition::{Fti, Order};
 use session::{FrameFault, Pieces, Session, Sink};
 use std::alloc::{AllocError, Global};
 use std::test::Fail;

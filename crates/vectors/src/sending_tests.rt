@@ -1,7 +1,7 @@
 //! What is sent, and its certificate.
 use cert::{Certificate, Verdict, check};
-use coder::{CertifyFault, Order, SendFault, certify, encode};
-use partition::Fti;
+use coder::{CertifyFault, SendFault, certify, encode};
+use partition::{Fti, Order};
 use session::{Pieces, Session, Sink};
 use std::alloc::Global;
 use std::test::Fail;

@@ -1,0 +1,6 @@
+use Rattle.std.proofs.Common.{map, ℕ, take}
+use Rattle.request.specs.Grammar.{file, AddsRules}
+use Rattle.request.proofs.grammar.with_files.Given as goal
+
+abbrev pub invariant-loop-name : goal.invariant-loop-name
+invariant-loop-name l = AddsRules l.fn.command (map (λ name. file name.0.now) (take l.name-index l.files)) l.command

@@ -1,0 +1,105 @@
+-- The command line's grammar: the commands, with their arguments and options.
+use Rattle.std.specs.Prelude.{◌≡◌, ◌^◌, ◌∷◌, ◌++◌, [], ℕ, List, Some, Result, Ok, codes, true, false, map}
+use Rattle.std.specs.Borrow.{Bor}
+use Rattle.clap.specs.Lexer.{usize_max}
+use Rattle.clap.specs.Words.{App, Rule, Shape, Text, app_of, new_rule, shape_of, with_subcommand}
+use Rattle.clap.specs.Simple.{new_shape}
+use Rattle.clap.specs.declared.builder.command.Command.{Command}
+use Rattle.clap.specs.declared.builder.command.Command.TheViews.{out-Command as fields_of}
+use Rattle.clap.specs.declared.builder.value_parser.ValueParser.TheVariants.{Names, Unsigned}
+
+-- the name of a file, which has to be given
+abbrev pub file : Text → Rule
+file name = record (new_rule name) { required = true }
+
+-- `--name N`, a whole number from least to most, which has to be given
+abbrev pub number : Text → ℕ → ℕ → Rule
+number name least most = record (new_rule name) {
+  long = Some name;
+  value_names = 1;
+  parser = Some (Unsigned least most);
+  required = true;
+}
+
+-- `--order ORDER`, one of the orders, and the first where it isn't given
+abbrev pub order : Bor (List (Bor Text)) → Rule
+order orders = record (new_rule (codes "order")) {
+  long = Some (codes "order");
+  value_names = 1;
+  parser = Some (Names orders);
+  defaults = codes "blocks" ∷ [];
+}
+
+-- one place or more, of 32 bits
+abbrev pub places : Rule
+places = record (new_rule (codes "PLACE")) {
+  range = Some (record { start_inclusive = 1; end_inclusive = usize_max });
+  parser = Some (Unsigned 0 4294967295);
+  required = true;
+}
+
+abbrev pub identity : List Rule
+identity = number (codes "tsi") 0 4294967295 ∷ number (codes "toi") 0 4294967295 ∷ []
+
+-- the numbers of an FTI
+abbrev pub sizes : List Rule
+sizes = number (codes "symbol") 1 65475 ∷ number (codes "block") 1 255 ∷ number (codes "max") 1 255 ∷ []
+
+abbrev pub command : Text → List Rule → Shape
+command name rules = record (new_shape name) { rules = rules }
+
+abbrev pub encode_command : Bor (List (Bor Text)) → Shape
+encode_command orders = command (codes "encode")
+    (file (codes "OBJECT") ∷ file (codes "OUT") ∷ identity ++ sizes ++ order orders ∷ [])
+
+abbrev pub certify_command : Shape
+certify_command = command (codes "certify") (file (codes "OBJECT") ∷ file (codes "OUT") ∷ sizes)
+
+abbrev pub check_command : Shape
+check_command = command (codes "check") (file (codes "SESSION") ∷ file (codes "OBJECT") ∷ file (codes "CERT") ∷ [])
+
+abbrev pub drop_command : Shape
+drop_command = command (codes "drop") (file (codes "SESSION") ∷ file (codes "OUT") ∷ places ∷ [])
+
+abbrev pub decode_command : Shape
+decode_command = command (codes "decode") (file (codes "SESSION") ∷ file (codes "OUT") ∷ [])
+
+abbrev pub twin_command : Shape
+twin_command = command (codes "twin")
+    (file (codes "SESSION") ∷ file (codes "OBJECT") ∷ file (codes "CERT") ∷ file (codes "OUT") ∷ [])
+
+abbrev pub show_command : Shape
+show_command = command (codes "show") (file (codes "SESSION") ∷ [])
+
+-- `alcrs`, with one of its commands
+abbrev pub grammar_of : Bor (List (Bor Text)) → App
+grammar_of orders = record {
+  top = record (new_shape (codes "alcrs")) { is_leaf = false; subcommand_required = true };
+  subs = encode_command orders ∷ certify_command ∷ check_command ∷ drop_command ∷ decode_command ∷ twin_command
+      ∷ show_command ∷ [];
+}
+
+-- the orders' names
+abbrev pub IsOrders : Bor (List (Bor Text)) → Type 0
+IsOrders orders = map (λ name. name.now) orders.now ≡ codes "blocks" ∷ codes "rounds" ∷ []
+
+-- the parser has this grammar
+pub record HasGrammar (parser : Command) : Type 0 where
+  pub orders : Bor (List (Bor Text))
+  pub names : IsOrders orders
+  pub app : app_of parser ≡ grammar_of orders
+
+-- the command has this shape, and no argument of all commands
+pub record IsShaped (shape : Shape) (parser : Command) : Type 0 where
+  pub shaped : shape_of parser ≡ shape
+  pub local : (fields_of parser).has_globals ≡ false
+
+-- the command with these arguments last
+pub record AddsRules (old : Command) (rules : List Rule) (new : Command) : Type 0 where
+  pub shape : shape_of new ≡ record (shape_of old) { rules = (shape_of old).rules ++ rules }
+  pub local : (fields_of new).has_globals ≡ (fields_of old).has_globals
+
+-- the parser with the command that was made, last
+abbrev pub AddsCommand : {E : Type 0} → Command → Result Command E → Command → Type 0
+AddsCommand old made new =
+    (sub : Command) × (made ≡ Ok sub) × ((fields_of sub).has_globals ≡ false → app_of new ≡ with_subcommand (app_of old) (shape_of sub))
