@@ -1,1 +1,4 @@
+pub mod Getters
+pub mod Places
+pub mod Reading
 pub mod Rules

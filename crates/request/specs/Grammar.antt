@@ -1,5 +1,5 @@
 -- The command line's grammar: the commands, with their arguments and options.
-use Rattle.std.specs.Prelude.{◌≡◌, ◌^◌, ◌∷◌, ◌++◌, [], ℕ, List, Some, Result, Ok, codes, true, false, map}
+use Rattle.std.specs.Prelude.{◌≡◌, ◌∷◌, ◌++◌, [], ℕ, List, Some, Result, Ok, codes, true, false, map}
 use Rattle.std.specs.Borrow.{Bor}
 use Rattle.clap.specs.Lexer.{usize_max}
 use Rattle.clap.specs.Words.{App, Rule, Shape, Text, app_of, new_rule, shape_of, with_subcommand}

@@ -1,2 +1,3 @@
 pub mod Grammar
+pub mod Requests
 pub mod Usages

@@ -1,92 +1,44 @@
 //! Requests of what the grammar matched.
-ghost use Rattle.std.specs.Prelude.{◌≡◌, IfOk, IfErr};
-ghost use Rattle.clap.specs.Words.{found_of};
-ghost use Rattle.request.specs.Usages.{IsUsage, HasValuesOf, IsInRange, AreInRange, ArePlaces};
+ghost use Rattle.std.specs.Prelude.{◌≡◌, ℕ, ◌∷◌, None, Some, Ok, IfOk, IfErr, codes};
+ghost use Rattle.clap.specs.Words.{found_of, first_of, one_of, rows_of, subcommand_rows_of};
+ghost use Rattle.request.specs.Requests.{AnswersRead, HasPlaces, HasSending, HasSizes, HasText, IsNoPlaces, LacksNumber, order_name};
+ghost use Rattle.request.specs.declared.requests.Sizes.{Sizes as SizesValue};
+ghost use Rattle.request.specs.declared.requests.Sending.{Sending as SendingValue};
+ghost use Rattle.partition.specs.declared.order.Order.{Order as OrderValue};
 
 use crate::requests::{Request, Sending, Sizes};
 use crate::usage::Usage;
 use clap::ArgMatches;
 use partition::Order;
 use std::alloc::Global;
+use std::str::FromStr;
 
-/// The request of `check`, or a value that the grammar let through and that is none.
-pub(crate) fn check_request<'a>(matches: &ArgMatches<'a>) -> Result<Request<'a>, Usage>
-    ensures ok { IfOk result (HasValuesOf (found_of matches.now)) }
-    ensures range { IfOk result IsInRange }
-    ensures err { IfErr result (λ usage. usage ≡ Usage.Value) }
+// The text of an argument.
+fn text<'a>(matches: &ArgMatches<'a>, name: &str) -> Result<&'a str, Usage>
+    ensures ok { IfOk result (HasText (rows_of (found_of matches.now)) name.now) }
+    ensures err { IfErr result (λ usage. (usage ≡ Usage.Value) × (first_of name.now (rows_of (found_of matches.now)) ≡ None)) }
 {
-    let (Some(session), Some(object), Some(certificate)) = (
-        matches.get_str("SESSION"),
-        matches.get_str("OBJECT"),
-        matches.get_str("CERT"),
-    ) else {
-        return Err(Usage::Value);
-    };
-    Ok(Request::Check {
-        session,
-        object,
-        certificate,
-    })
+    matches.get_str(name).ok_or(Usage::Value)
 }
 
-/// The request of `twin`, or a value that the grammar let through and that is none.
-pub(crate) fn twin_request<'a>(matches: &ArgMatches<'a>) -> Result<Request<'a>, Usage>
-    ensures ok { IfOk result (HasValuesOf (found_of matches.now)) }
-    ensures range { IfOk result IsInRange }
-    ensures err { IfErr result (λ usage. usage ≡ Usage.Value) }
+// The number of an option.
+fn number<T: FromStr>(matches: &ArgMatches<'_>, name: &str) -> Result<T, Usage>
+where
+    T::Err: Drop,
+    ensures ok { IfOk result (λ n. (text : _) × (one_of name.now (rows_of (found_of matches.now)) ≡ Some text) × T.from_str_gives text (Ok n)) }
+    ensures err { IfErr result (λ usage. (usage ≡ Usage.Value) × LacksNumber T.from_str_gives (one_of name.now (rows_of (found_of matches.now)))) }
 {
-    let (Some(session), Some(object), Some(certificate), Some(output)) = (
-        matches.get_str("SESSION"),
-        matches.get_str("OBJECT"),
-        matches.get_str("CERT"),
-        matches.get_str("OUT"),
-    ) else {
-        return Err(Usage::Value);
-    };
-    Ok(Request::Twin {
-        session,
-        object,
-        certificate,
-        output,
-    })
-}
-
-/// The request of `decode`, or a value that the grammar let through and that is none.
-pub(crate) fn decode_request<'a>(matches: &ArgMatches<'a>) -> Result<Request<'a>, Usage>
-    ensures ok { IfOk result (HasValuesOf (found_of matches.now)) }
-    ensures range { IfOk result IsInRange }
-    ensures err { IfErr result (λ usage. usage ≡ Usage.Value) }
-{
-    let (Some(session), Some(output)) = (matches.get_str("SESSION"), matches.get_str("OUT")) else {
-        return Err(Usage::Value);
-    };
-    Ok(Request::Decode { session, output })
-}
-
-/// The request of `show`, or a value that the grammar let through and that is none.
-pub(crate) fn show_request<'a>(matches: &ArgMatches<'a>) -> Result<Request<'a>, Usage>
-    ensures ok { IfOk result (HasValuesOf (found_of matches.now)) }
-    ensures range { IfOk result IsInRange }
-    ensures err { IfErr result (λ usage. usage ≡ Usage.Value) }
-{
-    let Some(session) = matches.get_str("SESSION") else {
-        return Err(Usage::Value);
-    };
-    Ok(Request::Show { session })
+    matches.get_one::<T>(name).ok_or(Usage::Value)
 }
 
 // The numbers of an FTI, each in its range.
 fn sizes(matches: &ArgMatches<'_>) -> Result<Sizes, Usage>
-    ensures ok { IfOk result AreInRange }
-    ensures err { IfErr result (λ usage. usage ≡ Usage.Value) }
+    ensures ok { IfOk result (HasSizes (rows_of (found_of matches.now))) }
+    ensures err { IfErr result (λ usage. (usage ≡ Usage.Value) × ((sizes : SizesValue) → HasSizes (rows_of (found_of matches.now)) sizes → ⊥)) }
 {
-    let (Some(symbol), Some(block), Some(max_n)) = (
-        matches.get_one::<u16>("symbol"),
-        matches.get_one::<u8>("block"),
-        matches.get_one::<u8>("max"),
-    ) else {
-        return Err(Usage::Value);
-    };
+    let symbol = number::<u16>(matches, "symbol")?;
+    let block = number::<u8>(matches, "block")?;
+    let max_n = number::<u8>(matches, "max")?;
     if symbol == 0 || symbol > 65475 || block == 0 || max_n == 0 {
         return Err(Usage::Value);
     }
@@ -98,63 +50,35 @@ fn sizes(matches: &ArgMatches<'_>) -> Result<Sizes, Usage>
 }
 
 fn order(matches: &ArgMatches<'_>) -> Result<Order, Usage>
-    ensures { IfErr result (λ usage. usage ≡ Usage.Value) }
+    ensures ok { IfOk result (λ order. first_of (codes "order") (rows_of (found_of matches.now)) ≡ Some (order_name order)) }
+    ensures err { IfErr result (λ usage. (usage ≡ Usage.Value) × ((order : OrderValue) → first_of (codes "order") (rows_of (found_of matches.now)) ≡ Some (order_name order) → ⊥)) }
 {
-    match matches.get_str("order") {
-        Some("blocks") => Ok(Order::Blocks),
-        Some("rounds") => Ok(Order::Rounds),
+    match text(matches, "order")? {
+        "blocks" => Ok(Order::Blocks),
+        "rounds" => Ok(Order::Rounds),
         _ => Err(Usage::Value),
     }
 }
 
-/// The request of `encode`, or a value that the grammar let through and that is none.
-pub(crate) fn encode_request<'a>(matches: &ArgMatches<'a>) -> Result<Request<'a>, Usage>
-    ensures ok { IfOk result (HasValuesOf (found_of matches.now)) }
-    ensures range { IfOk result IsInRange }
-    ensures err { IfErr result (λ usage. usage ≡ Usage.Value) }
+// What is sent, and how.
+#[tactic(auto, using(crate::proofs::Getters::no_sending))]
+fn sending(matches: &ArgMatches<'_>) -> Result<Sending, Usage>
+    ensures ok { IfOk result (HasSending (rows_of (found_of matches.now))) }
+    ensures err { IfErr result (λ usage. (usage ≡ Usage.Value) × ((sending : SendingValue) → HasSending (rows_of (found_of matches.now)) sending → ⊥)) }
 {
-    let (Some(object), Some(output)) = (matches.get_str("OBJECT"), matches.get_str("OUT")) else {
-        return Err(Usage::Value);
-    };
-    let (Some(tsi), Some(toi)) = (matches.get_one::<u32>("tsi"), matches.get_one::<u32>("toi"))
-    else {
-        return Err(Usage::Value);
-    };
-    let sizes = sizes(matches)?;
-    let order = order(matches)?;
-    Ok(Request::Encode {
-        object,
-        output,
-        sending: Sending {
-            tsi,
-            toi,
-            sizes,
-            order,
-        },
-    })
-}
-
-/// The request of `certify`, or a value that the grammar let through and that is none.
-pub(crate) fn certify_request<'a>(matches: &ArgMatches<'a>) -> Result<Request<'a>, Usage>
-    ensures ok { IfOk result (HasValuesOf (found_of matches.now)) }
-    ensures range { IfOk result IsInRange }
-    ensures err { IfErr result (λ usage. usage ≡ Usage.Value) }
-{
-    let (Some(object), Some(output)) = (matches.get_str("OBJECT"), matches.get_str("OUT")) else {
-        return Err(Usage::Value);
-    };
-    let sizes = sizes(matches)?;
-    Ok(Request::Certify {
-        object,
-        output,
-        sizes,
+    Ok(Sending {
+        tsi: number::<u32>(matches, "tsi")?,
+        toi: number::<u32>(matches, "toi")?,
+        sizes: sizes(matches)?,
+        order: order(matches)?,
     })
 }
 
 // The values of PLACE.
+#[tactic(auto, using(crate::proofs::Getters::no_places))]
 fn places(alloc: Global, matches: &ArgMatches<'_>) -> Result<Vec<usize>, Usage>
-    ensures ok { IfOk result (λ v. ArePlaces v.items) }
-    ensures err { IfErr result IsUsage }
+    ensures ok { IfOk result (λ places. HasPlaces (rows_of (found_of matches.now)) places.items) }
+    ensures err { IfErr result (IsNoPlaces (rows_of (found_of matches.now))) }
 {
     let Some(given) = matches.get_many::<u32>("PLACE") else {
         return Err(Usage::Value);
@@ -174,22 +98,106 @@ fn places(alloc: Global, matches: &ArgMatches<'_>) -> Result<Vec<usize>, Usage>
     Ok(places)
 }
 
-/// The request of `drop`, or a value that the grammar let through and that is none.
-pub(crate) fn drop_request<'a>(
+#[tactic(auto, using(crate::proofs::Getters::no_encode))]
+fn encode_request<'a>(matches: &ArgMatches<'a>) -> Result<Request<'a>, Usage>
+    ensures { AnswersRead (Some (codes "encode", rows_of (found_of matches.now))) result }
+{
+    Ok(Request::Encode {
+        object: text(matches, "OBJECT")?,
+        output: text(matches, "OUT")?,
+        sending: sending(matches)?,
+    })
+}
+
+#[tactic(auto, using(crate::proofs::Getters::no_certify))]
+fn certify_request<'a>(matches: &ArgMatches<'a>) -> Result<Request<'a>, Usage>
+    ensures { AnswersRead (Some (codes "certify", rows_of (found_of matches.now))) result }
+{
+    Ok(Request::Certify {
+        object: text(matches, "OBJECT")?,
+        output: text(matches, "OUT")?,
+        sizes: sizes(matches)?,
+    })
+}
+
+fn check_request<'a>(matches: &ArgMatches<'a>) -> Result<Request<'a>, Usage>
+    ensures { AnswersRead (Some (codes "check", rows_of (found_of matches.now))) result }
+{
+    Ok(Request::Check {
+        session: text(matches, "SESSION")?,
+        object: text(matches, "OBJECT")?,
+        certificate: text(matches, "CERT")?,
+    })
+}
+
+#[tactic(auto, using(crate::proofs::Getters::no_drop))]
+fn drop_request<'a>(alloc: Global, matches: &ArgMatches<'a>) -> Result<Request<'a>, Usage>
+    ensures { AnswersRead (Some (codes "drop", rows_of (found_of matches.now))) result }
+{
+    Ok(Request::Drop {
+        session: text(matches, "SESSION")?,
+        output: text(matches, "OUT")?,
+        places: places(alloc, matches)?,
+    })
+}
+
+fn decode_request<'a>(matches: &ArgMatches<'a>) -> Result<Request<'a>, Usage>
+    ensures { AnswersRead (Some (codes "decode", rows_of (found_of matches.now))) result }
+{
+    Ok(Request::Decode {
+        session: text(matches, "SESSION")?,
+        output: text(matches, "OUT")?,
+    })
+}
+
+fn twin_request<'a>(matches: &ArgMatches<'a>) -> Result<Request<'a>, Usage>
+    ensures { AnswersRead (Some (codes "twin", rows_of (found_of matches.now))) result }
+{
+    Ok(Request::Twin {
+        session: text(matches, "SESSION")?,
+        object: text(matches, "OBJECT")?,
+        certificate: text(matches, "CERT")?,
+        output: text(matches, "OUT")?,
+    })
+}
+
+fn show_request<'a>(matches: &ArgMatches<'a>) -> Result<Request<'a>, Usage>
+    ensures { AnswersRead (Some (codes "show", rows_of (found_of matches.now))) result }
+{
+    Ok(Request::Show {
+        session: text(matches, "SESSION")?,
+    })
+}
+
+// The request of a command of this name.
+fn command_request<'a>(
+    alloc: Global,
+    name: &str,
+    matches: &ArgMatches<'a>,
+) -> Result<Request<'a>, Usage>
+    ensures { AnswersRead (Some (name.now, rows_of (found_of matches.now))) result }
+{
+    match name {
+        "encode" => encode_request(matches),
+        "certify" => certify_request(matches),
+        "check" => check_request(matches),
+        "drop" => drop_request(alloc, matches),
+        "decode" => decode_request(matches),
+        "twin" => twin_request(matches),
+        "show" => show_request(matches),
+        _ => Err(Usage::Value),
+    }
+}
+
+/// The request of what the grammar matched.
+pub(crate) fn matched_request<'a>(
     alloc: Global,
     matches: &ArgMatches<'a>,
 ) -> Result<Request<'a>, Usage>
-    ensures ok { IfOk result (HasValuesOf (found_of matches.now)) }
-    ensures range { IfOk result IsInRange }
-    ensures err { IfErr result IsUsage }
+    ensures { AnswersRead (subcommand_rows_of matches.now) result }
 {
-    let (Some(session), Some(output)) = (matches.get_str("SESSION"), matches.get_str("OUT")) else {
+    let Some((name, values)) = matches.subcommand() else {
         return Err(Usage::Value);
     };
-    let places = places(alloc, matches)?;
-    Ok(Request::Drop {
-        session,
-        output,
-        places,
-    })
+    command_request(alloc, name, values)
 }

@@ -3,7 +3,7 @@ use Rattle.std.proofs.lemmas.Result.{IfOk-weaker}
 use Rattle.clap.specs.Words.{App, Shape, app_of, with_subcommand}
 use Rattle.clap.specs.Simple.{new_shape}
 use Rattle.clap.specs.declared.builder.command.Command.{Command}
-use Rattle.request.specs.Grammar.{AddsCommand, HasGrammar, grammar_of, certify_command, check_command, drop_command, decode_command, twin_command, show_command}
+use Rattle.request.specs.Grammar.{AddsCommand, HasGrammar, certify_command, check_command, drop_command, decode_command, twin_command, show_command}
 use Rattle.request.proofs.Rules.{command_added, encode_added}
 use Rattle.request.proofs.grammar.grammar.Goals as goal
 
@@ -23,7 +23,7 @@ returns c =
     let decode = command_added c.in_ok-parser-4.parser c.in_ok-parser-5.parser c.decode_command.result decode_command c.in_ok-parser-5.ensures c.decode_command.ensures in
     let twin = command_added c.in_ok-parser-5.parser c.in_ok-parser-6.parser c.twin_command.result twin_command c.in_ok-parser-6.ensures c.twin_command.ensures in
     let last = λ (new : Command) (added : AddsCommand c.in_ok-parser-6.parser c.show_command.result new).
-        command_added c.in_ok-parser-6.parser new c.show_command.result show_command added c.show_command.ensures in
+    command_added c.in_ok-parser-6.parser new c.show_command.result show_command added c.show_command.ensures in
     IfOk-weaker c.with_command-7.result (AddsCommand c.in_ok-parser-6.parser c.show_command.result) HasGrammar (λ new added. record {
       orders = encode.0;
       names = encode.1;

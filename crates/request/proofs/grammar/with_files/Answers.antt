@@ -1,4 +1,4 @@
-use Rattle.std.proofs.Common.{rules, ◌≡◌, map, ℕ, Bor, List, [], slice_index_or}
+use Rattle.std.proofs.Common.{rules, ℕ, Bor, List, []}
 use Rattle.request.specs.Grammar.{file}
 use Rattle.request.proofs.Rules.{rule_added}
 use Rattle.request.proofs.grammar.with_files.Goals as goal

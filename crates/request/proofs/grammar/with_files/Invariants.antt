@@ -1,4 +1,4 @@
-use Rattle.std.proofs.Common.{map, ℕ, take}
+use Rattle.std.proofs.Common.{map, take}
 use Rattle.request.specs.Grammar.{file, AddsRules}
 use Rattle.request.proofs.grammar.with_files.Given as goal
 

@@ -1,4 +1,4 @@
-use Rattle.std.proofs.Common.{map, ℕ, take}
+use Rattle.std.proofs.Common.{map, take}
 use Rattle.request.specs.Grammar.{number, AddsRules}
 use Rattle.request.proofs.grammar.with_numbers.Given as goal
 

@@ -1,5 +1,7 @@
-use Rattle.std.proofs.Common.{ℕ, ◌<◌, ◌^◌, slice_index}
+use Rattle.clap.specs.Words.{found_of, rows_of}
+use Rattle.clap.specs.Matches.{values_left}
+use Rattle.request.proofs.Places.{Reads}
 use Rattle.request.proofs.matched.places.Given as goal
 
 abbrev pub invariant-loop-place : goal.invariant-loop-place
-invariant-loop-place l = (i : ℕ) → slice_index l.places.items i < 2 ^ 32
+invariant-loop-place l = Reads (rows_of (found_of l.fn.matches)) (values_left l.place-iterator) l.places.items

@@ -1,0 +1,26 @@
+use Rattle.std.proofs.Common.{map}
+use Rattle.clap.specs.Words.{app_of}
+use Rattle.request.proofs.Reading.{some_orders, are_orders, matched, refused}
+use Rattle.request.proofs.line.request.Goals as goal
+
+pub returns-in_default : goal.returns-in_default
+returns-in_default c = (some_orders, are_orders, tt)
+
+pub returns-in-Ok-try_get_matches_from : goal.returns-in-Ok-try_get_matches_from
+returns-in-Ok-try_get_matches_from c =
+    let grammar = c.in-Ok.ensures in (
+      grammar.orders,
+      grammar.names,
+      matched grammar.orders (map (λ word. word.now) c.args.words.now) c.in-Ok-try_get_matches_from.matches c.try_get_matches_from.result
+          (app_of c.in-Ok.grammar) c.matched_request.result grammar.app c.in-Ok-try_get_matches_from.ensures.matches c.try_get_matches_from.ensures.kinds
+          c.in-Ok-try_get_matches_from.is c.matched_request.ensures,
+    )
+
+pub returns-in-Err : goal.returns-in-Err
+returns-in-Err c =
+    let grammar = c.in-Ok.ensures in (
+      grammar.orders,
+      grammar.names,
+      refused grammar.orders (map (λ word. word.now) c.args.words.now) c.in-Err.error c.try_get_matches_from.result
+          (app_of c.in-Ok.grammar) c.usage_of.result grammar.app c.try_get_matches_from.ensures.kinds c.in-Err.is c.usage_of.ensures,
+    )

@@ -1,0 +1,124 @@
+-- What the words of a command line ask for.
+use Rattle.std.specs.Prelude.{◌≡◌, ◌<◌, ◌≤◌, ◌^◌, ◌∷◌, [], ℕ, List, Option, Some, None, Result, Ok, Err, length, codes, ⊤}
+use Rattle.std.specs.Borrow.{Bor}
+use Rattle.std.specs.Str.Parse.{IsNumeral, digits_value, without_leading_plus}
+use Rattle.clap.specs.Words.{App, IsAmong, Row, Text, fault_of, first_of, kind_of, many_of, one_of, subcommand_of}
+use Rattle.clap.specs.declared.error.kind.ErrorKind.TheVariants.{DisplayHelp}
+use Rattle.partition.specs.declared.order.Order.{Order}
+use Rattle.partition.specs.declared.order.Order.TheVariants.{Blocks, Rounds}
+use Rattle.request.specs.declared.requests.Sizes.{Sizes}
+use Rattle.request.specs.declared.requests.Sending.{Sending}
+use Rattle.request.specs.declared.requests.Request.{Request}
+use Rattle.request.specs.declared.requests.Request.TheVariants.{Check, Twin, Show, Encode, Certify, Decode, Drop}
+use Rattle.request.specs.declared.usage.Usage.{Usage}
+use Rattle.request.specs.declared.usage.Usage.TheVariants.{Help, Line, Value, NoMemory}
+use Rattle.request.specs.Usages.{IsRefusal}
+
+-- ---- values, by the rows that the grammar reads from a command's words
+
+abbrev pub HasText : List Row → Text → Bor Text → Type 0
+HasText rows name value = first_of name rows ≡ Some value.now
+
+-- a number of so many bits, in decimal digits
+pub record IsNumber (bits : ℕ) (text : Text) (n : ℕ) : Type 0 where
+  pub digits : IsNumeral 10 (without_leading_plus text)
+  pub fits : digits_value 10 (without_leading_plus text) < 2 ^ bits
+  pub value : n ≡ digits_value 10 (without_leading_plus text)
+
+abbrev pub HasNumber : ℕ → List Row → Text → ℕ → Type 0
+HasNumber bits rows name n = (text : Text) × (one_of name rows ≡ Some text) × IsNumber bits text n
+
+-- the numbers of an FTI
+pub record HasSizes (rows : List Row) (sizes : Sizes) : Type 0 where
+  pub symbol : HasNumber 16 rows (codes "symbol") sizes.symbol
+  pub block : HasNumber 8 rows (codes "block") sizes.block
+  pub max_n : HasNumber 8 rows (codes "max") sizes.max_n
+  pub some_symbol : 1 ≤ sizes.symbol
+  pub sendable : sizes.symbol ≤ 65475
+  pub some_block : 1 ≤ sizes.block
+  pub some_max : 1 ≤ sizes.max_n
+
+abbrev pub order_name : Order → Text
+order_name Blocks = codes "blocks"
+order_name Rounds = codes "rounds"
+
+-- what is sent, and how
+pub record HasSending (rows : List Row) (sending : Sending) : Type 0 where
+  pub tsi : HasNumber 32 rows (codes "tsi") sending.tsi
+  pub toi : HasNumber 32 rows (codes "toi") sending.toi
+  pub sizes : HasSizes rows sending.sizes
+  pub order : first_of (codes "order") rows ≡ Some (order_name sending.order)
+
+-- each text is a number of 32 bits, place by place
+abbrev pub AreNumbers : List Text → List ℕ → Type 0
+AreNumbers [] [] = ⊤
+AreNumbers [] (n ∷ ns) = ⊥
+AreNumbers (text ∷ texts) [] = ⊥
+AreNumbers (text ∷ texts) (n ∷ ns) = IsNumber 32 text n × AreNumbers texts ns
+
+-- one place or more
+pub record HasPlaces (rows : List Row) (places : List ℕ) : Type 0 where
+  pub texts : List Text
+  pub given : many_of (codes "PLACE") rows ≡ Some texts
+  pub numbers : AreNumbers texts places
+  pub some : 0 < length places
+
+-- no text was read, or one that gives no number
+abbrev pub LacksNumber : {N E : Type 0} → (Text → Result N E → Type 0) → Option Text → Type 0
+LacksNumber gives None = ⊤
+LacksNumber {N} {E} gives (Some text) = (e : E) × gives text (Err e)
+
+-- why there are no places
+abbrev pub IsNoPlaces : List Row → Usage → Type 0
+IsNoPlaces rows Value = (places : List ℕ) → HasPlaces rows places → ⊥
+IsNoPlaces rows NoMemory = ⊤
+IsNoPlaces rows (Help told) = ⊥
+IsNoPlaces rows (Line told) = ⊥
+
+-- ---- requests
+
+abbrev pub name_of : Request → Text
+name_of (Encode object output sending) = codes "encode"
+name_of (Certify object output sizes) = codes "certify"
+name_of (Check session object certificate) = codes "check"
+name_of (Drop session output places) = codes "drop"
+name_of (Decode session output) = codes "decode"
+name_of (Twin session object certificate output) = codes "twin"
+name_of (Show session) = codes "show"
+
+-- each value is that of its argument
+abbrev pub HasValues : List Row → Request → Type 0
+HasValues rows (Encode object output sending) =
+    HasText rows (codes "OBJECT") object × HasText rows (codes "OUT") output × HasSending rows sending
+HasValues rows (Certify object output sizes) =
+    HasText rows (codes "OBJECT") object × HasText rows (codes "OUT") output × HasSizes rows sizes
+HasValues rows (Check session object certificate) =
+    HasText rows (codes "SESSION") session × HasText rows (codes "OBJECT") object × HasText rows (codes "CERT") certificate
+HasValues rows (Drop session output places) =
+    HasText rows (codes "SESSION") session × HasText rows (codes "OUT") output × HasPlaces rows places.items
+HasValues rows (Decode session output) = HasText rows (codes "SESSION") session × HasText rows (codes "OUT") output
+HasValues rows (Twin session object certificate output) =
+    HasText rows (codes "SESSION") session × HasText rows (codes "OBJECT") object × HasText rows (codes "CERT") certificate
+    × HasText rows (codes "OUT") output
+HasValues rows (Show session) = HasText rows (codes "SESSION") session
+
+-- what was read, a command's name and rows, is this request
+abbrev pub IsRead : Option (Text × List Row) → Request → Type 0
+IsRead read request = (rows : List Row) × (read ≡ Some (name_of request, rows)) × HasValues rows request
+
+-- the answer to what was read: the request that it is, or that it is none
+abbrev pub AnswersRead : Option (Text × List Row) → Result Request Usage → Type 0
+AnswersRead read (Ok request) = IsRead read request
+AnswersRead read (Err Value) = (request : Request) → IsRead read request → ⊥
+AnswersRead read (Err NoMemory) = ⊤
+AnswersRead read (Err (Help told)) = ⊥
+AnswersRead read (Err (Line told)) = ⊥
+
+-- the answer to the words, by the grammar
+abbrev pub Answers : App → List Text → Result Request Usage → Type 0
+Answers grammar words (Ok request) = (fault_of grammar words ≡ []) × IsRead (subcommand_of grammar words) request
+Answers grammar words (Err Value) =
+    (fault_of grammar words ≡ []) × ((request : Request) → IsRead (subcommand_of grammar words) request → ⊥)
+Answers grammar words (Err (Help told)) = (kind_of told ≡ DisplayHelp) × IsAmong DisplayHelp (fault_of grammar words)
+Answers grammar words (Err (Line told)) = IsRefusal told × IsAmong (kind_of told) (fault_of grammar words)
+Answers grammar words (Err NoMemory) = ⊤
