@@ -2,3 +2,4 @@ pub mod Getters
 pub mod Places
 pub mod Reading
 pub mod Rules
+mod Worked

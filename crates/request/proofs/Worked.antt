@@ -1,0 +1,73 @@
+-- Command lines that are written out: what the grammar reads from them, and why they are refused.
+use Rattle.std.proofs.Common.{List, [], ◌∷◌, ◌≡◌, Option, Some, codes, option_map, refl}
+use Rattle.clap.specs.Words.{App, Text, fault_of, many_of, one_of, subcommand_of}
+use Rattle.clap.specs.declared.error.kind.ErrorKind.TheVariants as kind
+use Rattle.clap.proofs.OnLiterals.{clap_on_literals}
+use Rattle.request.specs.Grammar.{grammar_of}
+use Rattle.request.proofs.Reading.{some_orders}
+
+abbrev grammar : App
+grammar = grammar_of some_orders
+
+-- the command's name, and the first value of an argument of it
+abbrev read : Text → List Text → Option (Text × Option Text)
+read name words = option_map (λ found. (found.0, one_of name found.1)) (subcommand_of grammar words)
+
+abbrev check : List Text
+check = codes "alcrs" ∷ codes "check" ∷ codes "a" ∷ codes "b" ∷ codes "c" ∷ []
+
+check_taken : fault_of grammar check ≡ []
+unfolding clap_on_literals
+check_taken = refl
+
+check_read : read (codes "CERT") check ≡ Some (codes "check", Some (codes "c"))
+unfolding clap_on_literals
+check_read = refl
+
+abbrev drop : List Text
+drop = codes "alcrs" ∷ codes "drop" ∷ codes "a" ∷ codes "b" ∷ codes "3" ∷ codes "0" ∷ []
+
+drop_taken : fault_of grammar drop ≡ []
+unfolding clap_on_literals
+drop_taken = refl
+
+drop_read : option_map (λ found. many_of (codes "PLACE") found.1) (subcommand_of grammar drop) ≡ Some (Some (codes "3" ∷ codes "0" ∷ []))
+unfolding clap_on_literals
+drop_read = refl
+
+-- an option may stand anywhere, its value behind `=` or as the next word; the order of sending has a default
+abbrev encode : List Text → List Text
+encode last = codes "alcrs" ∷ codes "encode" ∷ codes "--tsi=7" ∷ codes "a" ∷ codes "--toi" ∷ codes "1" ∷ codes "b" ∷ codes "--symbol=64"
+    ∷ codes "--block=20" ∷ last
+
+encode_taken : fault_of grammar (encode (codes "--max=30" ∷ [])) ≡ []
+unfolding clap_on_literals
+encode_taken = refl
+
+encode_tsi : read (codes "tsi") (encode (codes "--max=30" ∷ [])) ≡ Some (codes "encode", Some (codes "7"))
+unfolding clap_on_literals
+encode_tsi = refl
+
+encode_order : read (codes "order") (encode (codes "--max=30" ∷ [])) ≡ Some (codes "encode", Some (codes "blocks"))
+unfolding clap_on_literals
+encode_order = refl
+
+out_of_range : fault_of grammar (encode (codes "--max=256" ∷ [])) ≡ kind.ValueValidation ∷ []
+unfolding clap_on_literals
+out_of_range = refl
+
+no_order : fault_of grammar (encode (codes "--max=30" ∷ codes "--order=columns" ∷ [])) ≡ kind.InvalidValue ∷ []
+unfolding clap_on_literals
+no_order = refl
+
+option_missing : fault_of grammar (encode []) ≡ kind.MissingRequiredArgument ∷ []
+unfolding clap_on_literals
+option_missing = refl
+
+no_command : fault_of grammar (codes "alcrs" ∷ []) ≡ kind.MissingSubcommand ∷ []
+unfolding clap_on_literals
+no_command = refl
+
+help_asked_for : fault_of grammar (codes "alcrs" ∷ codes "show" ∷ codes "--help" ∷ []) ≡ kind.DisplayHelp ∷ []
+unfolding clap_on_literals
+help_asked_for = refl
