@@ -1,5 +1,5 @@
 -- What the getters of matches give, by rows.
-use Rattle.std.proofs.Common.{ℕ, List, ◌≡◌, ◌∙◌, Option, Some, None, Result, Ok, Err, IfOk, IfErr, IsErrAnd, option_map, codes, true, false, ap, refl, sym, subst}
+use Rattle.std.proofs.Common.{List, ◌≡◌, ◌∙◌, Option, Some, None, Result, Ok, Err, IfOk, IfErr, IsErrAnd, option_map, codes, true, false, ap, refl, sym, subst}
 use Rattle.std.specs.Borrow.{Bor}
 use Rattle.std.specs.Option.{ok_or, unwrap_or}
 use Rattle.std.specs.Str.{bytes_eq}
@@ -9,35 +9,26 @@ use Rattle.clap.specs.Matches.{ReadsOne, values_left}
 use Rattle.clap.specs.declared.parser.matches.ValuesRef.{ValuesRef}
 use Rattle.clap.specs.declared.parser.matches.Found.{Found}
 use Rattle.clap.proofs.WalkLemmas.{first_value-rows, one_text-rows, typed_values-rows}
-use Rattle.request.specs.Requests.{AnswersRead, IsNoPlaces, HasPlaces, HasSending, HasSizes, HasText, HasValues, IsRead, LacksNumber, name_of}
+use Rattle.request.specs.Requests.{AnswersRead, Finds, Gives, GivesNone, IsNoPlaces, NoneIs, HasOrder, HasPlaces, HasSending, HasSizes, HasText, HasValues, IsRead, name_of, order_name}
 use Rattle.request.specs.declared.requests.Request.{Request}
 use Rattle.request.specs.declared.requests.Request.TheVariants.{Check, Twin, Show, Encode, Certify, Decode, Drop}
-use Rattle.request.specs.declared.requests.Sending.{Sending}
-use Rattle.request.specs.declared.requests.Sizes.{Sizes}
 use Rattle.request.specs.declared.usage.Usage.{Usage}
 use Rattle.request.specs.declared.usage.Usage.TheVariants.{Help, Line, Value, NoMemory}
 
-pub text_ok : (f : Found) (name : Text) (value : Option (Bor Text)) (result : Result (Bor Text) Usage)
+pub text_found : (f : Found) (name : Text) (value : Option (Bor Text)) (result : Result (Bor Text) Usage)
     → option_map (λ s. s.now) value ≡ first_value f name → result ≡ ok_or value Value
-    → IfOk result (HasText (rows_of f) name)
-text_ok f name None result given is = rw is tt
-text_ok f name (Some text) result given is = rw is (sym (first_value-rows f name) ∙ sym given)
-
-pub text_err : (f : Found) (name : Text) (value : Option (Bor Text)) (result : Result (Bor Text) Usage)
-    → option_map (λ s. s.now) value ≡ first_value f name → result ≡ ok_or value Value
-    → IfErr result (λ usage. (usage ≡ Value) × (first_of name (rows_of f) ≡ None))
-text_err f name None result given is = rw is (refl, sym (first_value-rows f name) ∙ sym given)
-text_err f name (Some text) result given is = rw is tt
+    → Finds (HasText (rows_of f) name) result
+text_found f name None result given is =
+    let none : first_of name (rows_of f) ≡ None = sym (first_value-rows f name) ∙ sym given in
+    rw is (tt, (refl, λ text has. let bad : None ≡ Some text.now = sym none ∙ has in cc))
+text_found f name (Some text) result given is = rw is (sym (first_value-rows f name) ∙ sym given, tt)
 
 module _ {N E : Type 0} (gives : Text → Result N E → Type 0) where
   abbrev Reads : Option Text → Option N → Type 0
   Reads read value = (read ≡ None → value ≡ None) × ((t : Text) → read ≡ Some t → ReadsOne gives t value)
 
-  abbrev Gives : Option Text → N → Type 0
-  Gives read n = (text : Text) × (read ≡ Some text) × gives text (Ok n)
-
   number_answer : (read : Option Text) (value : Option N) → Reads read value
-      → IfOk (ok_or value Value) (Gives read) × IfErr (ok_or value Value) (λ usage. (usage ≡ Value) × LacksNumber gives read)
+      → IfOk (ok_or value Value) (Gives gives read) × IfErr (ok_or value Value) (λ usage. (usage ≡ Value) × GivesNone gives read)
   number_answer None None reads = (tt, (refl, tt))
   number_answer None (Some n) reads = let bad : Some n ≡ None = reads.0 refl in cc
   number_answer (Some text) None reads = (tt, (refl, reads.1 text refl))
@@ -45,20 +36,24 @@ module _ {N E : Type 0} (gives : Text → Result N E → Type 0) where
 
   pub number_ok : (f : Found) (name : Text) (value : Option N) (result : Result N Usage)
       → (one_text f name ≡ None → value ≡ None) → ((t : Text) → one_text f name ≡ Some t → ReadsOne gives t value)
-      → result ≡ ok_or value Value → IfOk result (Gives (one_of name (rows_of f)))
+      → result ≡ ok_or value Value → IfOk result (Gives gives (one_of name (rows_of f)))
   number_ok f name value result none some is =
       let reads : Reads (one_of name (rows_of f)) value = subst (λ read. Reads read value) (one_text-rows f name) (none, some) in
       rw is (number_answer (one_of name (rows_of f)) value reads).0
 
   pub number_err : (f : Found) (name : Text) (value : Option N) (result : Result N Usage)
       → (one_text f name ≡ None → value ≡ None) → ((t : Text) → one_text f name ≡ Some t → ReadsOne gives t value)
-      → result ≡ ok_or value Value → IfErr result (λ usage. (usage ≡ Value) × LacksNumber gives (one_of name (rows_of f)))
+      → result ≡ ok_or value Value → IfErr result (λ usage. (usage ≡ Value) × GivesNone gives (one_of name (rows_of f)))
   number_err f name value result none some is =
       let reads : Reads (one_of name (rows_of f)) value = subst (λ read. Reads read value) (one_text-rows f name) (none, some) in
       rw is (number_answer (one_of name (rows_of f)) value reads).1
 
+-- with no text there is no order
+pub no_order : (rows : List Row) → NoneIs (HasText rows (codes "order")) → NoneIs (HasOrder rows)
+no_order rows none order has = none (record { ref_ptr = (0, 0); now = order_name order }) has
+
 -- with no sizes there is nothing to send
-pub no_sending : (rows : List Row) → ((sizes : Sizes) → HasSizes rows sizes → ⊥) → (sending : Sending) → HasSending rows sending → ⊥
+pub no_sending : (rows : List Row) → NoneIs (HasSizes rows) → NoneIs (HasSending rows)
 no_sending rows none sending has = none sending.sizes has.sizes
 
 -- ---- what was read is no request, where a value of it is none
@@ -72,8 +67,7 @@ same_command name rows request read =
     let same = ap (λ found. unwrap_or found (name, rows)) read.1 in
     (ap (λ found. found.0) same, subst (λ r. HasValues r request) (sym (ap (λ found. found.1) same)) read.2)
 
-pub no_encode : (rows : List Row) → ((x : Sending) → HasSending rows x → ⊥)
-    → (request : Request) → IsRead (Some (codes "encode", rows)) request → ⊥
+pub no_encode : (rows : List Row) → NoneIs (HasSending rows) → NoneIs (IsRead (Some (codes "encode", rows)))
 no_encode rows none request read = go request (same_command (codes "encode") rows request read).0 (same_command (codes "encode") rows request read).1
   where
     go : (request : Request) → codes "encode" ≡ name_of request → HasValues rows request → ⊥
@@ -85,8 +79,7 @@ no_encode rows none request read = go request (same_command (codes "encode") row
     go (Twin session object certificate output) same values = different (codes "encode") (codes "twin") refl same
     go (Show session) same values = different (codes "encode") (codes "show") refl same
 
-pub no_certify : (rows : List Row) → ((x : Sizes) → HasSizes rows x → ⊥)
-    → (request : Request) → IsRead (Some (codes "certify", rows)) request → ⊥
+pub no_certify : (rows : List Row) → NoneIs (HasSizes rows) → NoneIs (IsRead (Some (codes "certify", rows)))
 no_certify rows none request read = go request (same_command (codes "certify") rows request read).0 (same_command (codes "certify") rows request read).1
   where
     go : (request : Request) → codes "certify" ≡ name_of request → HasValues rows request → ⊥
@@ -98,8 +91,7 @@ no_certify rows none request read = go request (same_command (codes "certify") r
     go (Twin session object certificate output) same values = different (codes "certify") (codes "twin") refl same
     go (Show session) same values = different (codes "certify") (codes "show") refl same
 
-pub no_drop : (rows : List Row) → ((x : List ℕ) → HasPlaces rows x → ⊥)
-    → (request : Request) → IsRead (Some (codes "drop", rows)) request → ⊥
+pub no_drop : (rows : List Row) → NoneIs (HasPlaces rows) → NoneIs (IsRead (Some (codes "drop", rows)))
 no_drop rows none request read = go request (same_command (codes "drop") rows request read).0 (same_command (codes "drop") rows request read).1
   where
     go : (request : Request) → codes "drop" ≡ name_of request → HasValues rows request → ⊥
@@ -114,13 +106,13 @@ no_drop rows none request read = go request (same_command (codes "drop") rows re
 -- with no values of PLACE there are no places
 pub no_places : {N : Type 0} (f : Found) (given : Option (ValuesRef N)) → given ≡ None
     → option_map values_left given ≡ option_map typed_values (matched_of f (codes "PLACE"))
-    → (places : List ℕ) → HasPlaces (rows_of f) places → ⊥
+    → NoneIs (HasPlaces (rows_of f))
 no_places f given none is places has =
     let left : None ≡ Some has.texts = rw none at is ∙ typed_values-rows f (codes "PLACE") ∙ has.given in cc
 
 -- the same of what a `?` hands on
 pub refuses : (read : Option (Text × List Row)) (result : Result Request Usage) (usage : Usage)
-    → IsErrAnd result (λ e. e ≡ usage) → usage ≡ Value → ((request : Request) → IsRead read request → ⊥) → AnswersRead read result
+    → IsErrAnd result (λ e. e ≡ usage) → usage ≡ Value → NoneIs (IsRead read) → AnswersRead read result
 refuses read (Ok request) usage is value none = absurd is
 refuses read (Err e) usage is value none = subst (λ u. AnswersRead read (Err u)) (sym (is ∙ value)) none
 

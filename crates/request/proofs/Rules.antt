@@ -6,7 +6,8 @@ use Rattle.std.specs.Borrow.{Bor}
 use Rattle.clap.specs.Words.{AddsArg, App, Rule, Shape, Text, app_of, rule_of, shape_of, with_subcommand}
 use Rattle.clap.specs.declared.builder.arg.Arg.{Arg}
 use Rattle.clap.specs.declared.builder.command.Command.{Command}
-use Rattle.request.specs.Grammar.{AddsCommand, AddsRules, IsOrders, IsShaped, encode_command}
+use Rattle.request.specs.Building.{AddsCommand, AddsRules, IsShaped}
+use Rattle.request.specs.Grammar.{IsOrders, encode_command}
 
 one_more : {X : Type 0} (f : X → Rule) (xs : List X) (i : ℕ) (d : X) → i < length xs
     → map f (take (suc i) xs) ≡ map f (take i xs) ++ f (slice_index_or xs i d) ∷ []

@@ -1,11 +1,9 @@
 -- The command line's grammar: the commands, with their arguments and options.
-use Rattle.std.specs.Prelude.{◌≡◌, ◌∷◌, ◌++◌, [], ℕ, List, Some, Result, Ok, codes, true, false, map}
+use Rattle.std.specs.Prelude.{◌≡◌, ◌∷◌, ◌++◌, [], ℕ, List, Some, codes, true, false, map}
 use Rattle.std.specs.Borrow.{Bor}
 use Rattle.clap.specs.Lexer.{usize_max}
-use Rattle.clap.specs.Words.{App, Rule, Shape, Text, app_of, new_rule, shape_of, with_subcommand}
+use Rattle.clap.specs.Words.{App, Rule, Shape, Text, new_rule}
 use Rattle.clap.specs.Simple.{new_shape}
-use Rattle.clap.specs.declared.builder.command.Command.{Command}
-use Rattle.clap.specs.declared.builder.command.Command.TheViews.{out-Command as fields_of}
 use Rattle.clap.specs.declared.builder.value_parser.ValueParser.TheVariants.{Names, Unsigned}
 
 -- the name of a file, which has to be given
@@ -82,24 +80,3 @@ grammar_of orders = record {
 -- the orders' names
 abbrev pub IsOrders : Bor (List (Bor Text)) → Type 0
 IsOrders orders = map (λ name. name.now) orders.now ≡ codes "blocks" ∷ codes "rounds" ∷ []
-
--- the parser has this grammar
-pub record HasGrammar (parser : Command) : Type 0 where
-  pub orders : Bor (List (Bor Text))
-  pub names : IsOrders orders
-  pub app : app_of parser ≡ grammar_of orders
-
--- the command has this shape, and no argument of all commands
-pub record IsShaped (shape : Shape) (parser : Command) : Type 0 where
-  pub shaped : shape_of parser ≡ shape
-  pub local : (fields_of parser).has_globals ≡ false
-
--- the command with these arguments last
-pub record AddsRules (old : Command) (rules : List Rule) (new : Command) : Type 0 where
-  pub shape : shape_of new ≡ record (shape_of old) { rules = (shape_of old).rules ++ rules }
-  pub local : (fields_of new).has_globals ≡ (fields_of old).has_globals
-
--- the parser with the command that was made, last
-abbrev pub AddsCommand : {E : Type 0} → Command → Result Command E → Command → Type 0
-AddsCommand old made new =
-    (sub : Command) × (made ≡ Ok sub) × ((fields_of sub).has_globals ≡ false → app_of new ≡ with_subcommand (app_of old) (shape_of sub))

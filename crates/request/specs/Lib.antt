@@ -1,3 +1,4 @@
+pub mod Building
 pub mod Grammar
 pub mod Requests
 pub mod Usages

@@ -1,8 +1,9 @@
 -- What the words of a command line ask for.
-use Rattle.std.specs.Prelude.{◌≡◌, ◌<◌, ◌≤◌, ◌^◌, ◌∷◌, [], ℕ, List, Option, Some, None, Result, Ok, Err, length, codes, ⊤}
+use Rattle.std.specs.Prelude.{◌≡◌, ◌<◌, ◌≤◌, ◌^◌, ◌∷◌, [], ℕ, List, Option, Some, None, Result, Ok, Err, IfOk, IfErr, length, codes, ⊤}
 use Rattle.std.specs.Borrow.{Bor}
 use Rattle.std.specs.Str.Parse.{IsNumeral, digits_value, without_leading_plus}
-use Rattle.clap.specs.Words.{App, IsAmong, Row, Text, fault_of, first_of, kind_of, many_of, one_of, subcommand_of}
+use Rattle.clap.specs.Words.{App, IsAmong, Row, Text, fault_of, first_of, found_of, kind_of, many_of, one_of, rows_of, subcommand_of}
+use Rattle.clap.specs.declared.parser.matches.ArgMatches.{ArgMatches}
 use Rattle.clap.specs.declared.error.kind.ErrorKind.TheVariants.{DisplayHelp}
 use Rattle.partition.specs.declared.order.Order.{Order}
 use Rattle.partition.specs.declared.order.Order.TheVariants.{Blocks, Rounds}
@@ -15,6 +16,9 @@ use Rattle.request.specs.declared.usage.Usage.TheVariants.{Help, Line, Value, No
 use Rattle.request.specs.Usages.{IsRefusal}
 
 -- ---- values, by the rows that the grammar reads from a command's words
+
+abbrev pub rows_in : ArgMatches → List Row
+rows_in matches = rows_of (found_of matches)
 
 abbrev pub HasText : List Row → Text → Bor Text → Type 0
 HasText rows name value = first_of name rows ≡ Some value.now
@@ -38,16 +42,20 @@ pub record HasSizes (rows : List Row) (sizes : Sizes) : Type 0 where
   pub some_block : 1 ≤ sizes.block
   pub some_max : 1 ≤ sizes.max_n
 
+-- the word for an order
 abbrev pub order_name : Order → Text
 order_name Blocks = codes "blocks"
 order_name Rounds = codes "rounds"
+
+abbrev pub HasOrder : List Row → Order → Type 0
+HasOrder rows order = first_of (codes "order") rows ≡ Some (order_name order)
 
 -- what is sent, and how
 pub record HasSending (rows : List Row) (sending : Sending) : Type 0 where
   pub tsi : HasNumber 32 rows (codes "tsi") sending.tsi
   pub toi : HasNumber 32 rows (codes "toi") sending.toi
   pub sizes : HasSizes rows sending.sizes
-  pub order : first_of (codes "order") rows ≡ Some (order_name sending.order)
+  pub order : HasOrder rows sending.order
 
 -- each text is a number of 32 bits, place by place
 abbrev pub AreNumbers : List Text → List ℕ → Type 0
@@ -63,14 +71,25 @@ pub record HasPlaces (rows : List Row) (places : List ℕ) : Type 0 where
   pub numbers : AreNumbers texts places
   pub some : 0 < length places
 
+-- the text that was read gives this number
+abbrev pub Gives : {N E : Type 0} → (Text → Result N E → Type 0) → Option Text → N → Type 0
+Gives gives read n = (text : Text) × (read ≡ Some text) × gives text (Ok n)
+
 -- no text was read, or one that gives no number
-abbrev pub LacksNumber : {N E : Type 0} → (Text → Result N E → Type 0) → Option Text → Type 0
-LacksNumber gives None = ⊤
-LacksNumber {N} {E} gives (Some text) = (e : E) × gives text (Err e)
+abbrev pub GivesNone : {N E : Type 0} → (Text → Result N E → Type 0) → Option Text → Type 0
+GivesNone gives None = ⊤
+GivesNone {N} {E} gives (Some text) = (e : E) × gives text (Err e)
+
+abbrev pub NoneIs : {X : Type 0} → (X → Type 0) → Type 0
+NoneIs {X} Is = (x : X) → Is x → ⊥
+
+-- a value that is as it should be, or `Value` where none is
+abbrev pub Finds : {X : Type 0} → (X → Type 0) → Result X Usage → Type 0
+Finds Is result = IfOk result Is × IfErr result (λ usage. (usage ≡ Value) × NoneIs Is)
 
 -- why there are no places
 abbrev pub IsNoPlaces : List Row → Usage → Type 0
-IsNoPlaces rows Value = (places : List ℕ) → HasPlaces rows places → ⊥
+IsNoPlaces rows Value = NoneIs (HasPlaces rows)
 IsNoPlaces rows NoMemory = ⊤
 IsNoPlaces rows (Help told) = ⊥
 IsNoPlaces rows (Line told) = ⊥
@@ -109,7 +128,7 @@ IsRead read request = (rows : List Row) × (read ≡ Some (name_of request, rows
 -- the answer to what was read: the request that it is, or that it is none
 abbrev pub AnswersRead : Option (Text × List Row) → Result Request Usage → Type 0
 AnswersRead read (Ok request) = IsRead read request
-AnswersRead read (Err Value) = (request : Request) → IsRead read request → ⊥
+AnswersRead read (Err Value) = NoneIs (IsRead read)
 AnswersRead read (Err NoMemory) = ⊤
 AnswersRead read (Err (Help told)) = ⊥
 AnswersRead read (Err (Line told)) = ⊥
@@ -117,8 +136,7 @@ AnswersRead read (Err (Line told)) = ⊥
 -- the answer to the words, by the grammar
 abbrev pub Answers : App → List Text → Result Request Usage → Type 0
 Answers grammar words (Ok request) = (fault_of grammar words ≡ []) × IsRead (subcommand_of grammar words) request
-Answers grammar words (Err Value) =
-    (fault_of grammar words ≡ []) × ((request : Request) → IsRead (subcommand_of grammar words) request → ⊥)
+Answers grammar words (Err Value) = (fault_of grammar words ≡ []) × NoneIs (IsRead (subcommand_of grammar words))
 Answers grammar words (Err (Help told)) = (kind_of told ≡ DisplayHelp) × IsAmong DisplayHelp (fault_of grammar words)
 Answers grammar words (Err (Line told)) = IsRefusal told × IsAmong (kind_of told) (fault_of grammar words)
 Answers grammar words (Err NoMemory) = ⊤

@@ -1,7 +1,8 @@
 //! The grammar: the commands, their arguments and their help.
 ghost use Rattle.std.specs.Prelude.{◌≡◌, map, false, IfOk};
 ghost use Rattle.clap.specs.Words.{rule_of};
-ghost use Rattle.request.specs.Grammar.{file as file_rule, number as number_rule, order as order_rule, places as places_rule, encode_command as encode_shape, certify_command as certify_shape, check_command as check_shape, drop_command as drop_shape, decode_command as decode_shape, twin_command as twin_shape, show_command as show_shape, HasGrammar, IsShaped, AddsRules, AddsCommand, IsOrders};
+ghost use Rattle.request.specs.Grammar.{file as file_rule, number as number_rule, order as order_rule, places as places_rule, encode_command as encode_shape, certify_command as certify_shape, check_command as check_shape, drop_command as drop_shape, decode_command as decode_shape, twin_command as twin_shape, show_command as show_shape, IsOrders};
+ghost use Rattle.request.specs.Building.{HasGrammar, IsShaped, AddsRules, AddsCommand};
 
 use clap::builder::ValueParser;
 use clap::{Arg, Command};

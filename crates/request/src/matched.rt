@@ -1,10 +1,7 @@
 //! Requests of what the grammar matched.
-ghost use Rattle.std.specs.Prelude.{◌≡◌, ℕ, ◌∷◌, None, Some, Ok, IfOk, IfErr, codes};
-ghost use Rattle.clap.specs.Words.{found_of, first_of, one_of, rows_of, subcommand_rows_of};
-ghost use Rattle.request.specs.Requests.{AnswersRead, HasPlaces, HasSending, HasSizes, HasText, IsNoPlaces, LacksNumber, order_name};
-ghost use Rattle.request.specs.declared.requests.Sizes.{Sizes as SizesValue};
-ghost use Rattle.request.specs.declared.requests.Sending.{Sending as SendingValue};
-ghost use Rattle.partition.specs.declared.order.Order.{Order as OrderValue};
+ghost use Rattle.std.specs.Prelude.{◌≡◌, ◌∷◌, Some, IfOk, IfErr, codes};
+ghost use Rattle.clap.specs.Words.{one_of, subcommand_rows_of};
+ghost use Rattle.request.specs.Requests.{AnswersRead, Finds, Gives, GivesNone, HasOrder, HasPlaces, HasSending, HasSizes, HasText, IsNoPlaces, rows_in};
 
 use crate::requests::{Request, Sending, Sizes};
 use crate::usage::Usage;
@@ -15,8 +12,7 @@ use std::str::FromStr;
 
 // The text of an argument.
 fn text<'a>(matches: &ArgMatches<'a>, name: &str) -> Result<&'a str, Usage>
-    ensures ok { IfOk result (HasText (rows_of (found_of matches.now)) name.now) }
-    ensures err { IfErr result (λ usage. (usage ≡ Usage.Value) × (first_of name.now (rows_of (found_of matches.now)) ≡ None)) }
+    ensures { Finds (HasText (rows_in matches.now) name.now) result }
 {
     matches.get_str(name).ok_or(Usage::Value)
 }
@@ -25,16 +21,15 @@ fn text<'a>(matches: &ArgMatches<'a>, name: &str) -> Result<&'a str, Usage>
 fn number<T: FromStr>(matches: &ArgMatches<'_>, name: &str) -> Result<T, Usage>
 where
     T::Err: Drop,
-    ensures ok { IfOk result (λ n. (text : _) × (one_of name.now (rows_of (found_of matches.now)) ≡ Some text) × T.from_str_gives text (Ok n)) }
-    ensures err { IfErr result (λ usage. (usage ≡ Usage.Value) × LacksNumber T.from_str_gives (one_of name.now (rows_of (found_of matches.now)))) }
+    ensures ok { IfOk result (Gives T.from_str_gives (one_of name.now (rows_in matches.now))) }
+    ensures err { IfErr result (λ usage. (usage ≡ Usage.Value) × GivesNone T.from_str_gives (one_of name.now (rows_in matches.now))) }
 {
     matches.get_one::<T>(name).ok_or(Usage::Value)
 }
 
 // The numbers of an FTI, each in its range.
 fn sizes(matches: &ArgMatches<'_>) -> Result<Sizes, Usage>
-    ensures ok { IfOk result (HasSizes (rows_of (found_of matches.now))) }
-    ensures err { IfErr result (λ usage. (usage ≡ Usage.Value) × ((sizes : SizesValue) → HasSizes (rows_of (found_of matches.now)) sizes → ⊥)) }
+    ensures { Finds (HasSizes (rows_in matches.now)) result }
 {
     let symbol = number::<u16>(matches, "symbol")?;
     let block = number::<u8>(matches, "block")?;
@@ -49,9 +44,9 @@ fn sizes(matches: &ArgMatches<'_>) -> Result<Sizes, Usage>
     })
 }
 
+#[tactic(auto, using(crate::proofs::Getters::no_order))]
 fn order(matches: &ArgMatches<'_>) -> Result<Order, Usage>
-    ensures ok { IfOk result (λ order. first_of (codes "order") (rows_of (found_of matches.now)) ≡ Some (order_name order)) }
-    ensures err { IfErr result (λ usage. (usage ≡ Usage.Value) × ((order : OrderValue) → first_of (codes "order") (rows_of (found_of matches.now)) ≡ Some (order_name order) → ⊥)) }
+    ensures { Finds (HasOrder (rows_in matches.now)) result }
 {
     match text(matches, "order")? {
         "blocks" => Ok(Order::Blocks),
@@ -63,8 +58,7 @@ fn order(matches: &ArgMatches<'_>) -> Result<Order, Usage>
 // What is sent, and how.
 #[tactic(auto, using(crate::proofs::Getters::no_sending))]
 fn sending(matches: &ArgMatches<'_>) -> Result<Sending, Usage>
-    ensures ok { IfOk result (HasSending (rows_of (found_of matches.now))) }
-    ensures err { IfErr result (λ usage. (usage ≡ Usage.Value) × ((sending : SendingValue) → HasSending (rows_of (found_of matches.now)) sending → ⊥)) }
+    ensures { Finds (HasSending (rows_in matches.now)) result }
 {
     Ok(Sending {
         tsi: number::<u32>(matches, "tsi")?,
@@ -77,8 +71,8 @@ fn sending(matches: &ArgMatches<'_>) -> Result<Sending, Usage>
 // The values of PLACE.
 #[tactic(auto, using(crate::proofs::Getters::no_places))]
 fn places(alloc: Global, matches: &ArgMatches<'_>) -> Result<Vec<usize>, Usage>
-    ensures ok { IfOk result (λ places. HasPlaces (rows_of (found_of matches.now)) places.items) }
-    ensures err { IfErr result (IsNoPlaces (rows_of (found_of matches.now))) }
+    ensures ok { IfOk result (λ places. HasPlaces (rows_in matches.now) places.items) }
+    ensures err { IfErr result (IsNoPlaces (rows_in matches.now)) }
 {
     let Some(given) = matches.get_many::<u32>("PLACE") else {
         return Err(Usage::Value);
@@ -100,7 +94,7 @@ fn places(alloc: Global, matches: &ArgMatches<'_>) -> Result<Vec<usize>, Usage>
 
 #[tactic(auto, using(crate::proofs::Getters::no_encode))]
 fn encode_request<'a>(matches: &ArgMatches<'a>) -> Result<Request<'a>, Usage>
-    ensures { AnswersRead (Some (codes "encode", rows_of (found_of matches.now))) result }
+    ensures { AnswersRead (Some (codes "encode", rows_in matches.now)) result }
 {
     Ok(Request::Encode {
         object: text(matches, "OBJECT")?,
@@ -111,7 +105,7 @@ fn encode_request<'a>(matches: &ArgMatches<'a>) -> Result<Request<'a>, Usage>
 
 #[tactic(auto, using(crate::proofs::Getters::no_certify))]
 fn certify_request<'a>(matches: &ArgMatches<'a>) -> Result<Request<'a>, Usage>
-    ensures { AnswersRead (Some (codes "certify", rows_of (found_of matches.now))) result }
+    ensures { AnswersRead (Some (codes "certify", rows_in matches.now)) result }
 {
     Ok(Request::Certify {
         object: text(matches, "OBJECT")?,
@@ -121,7 +115,7 @@ fn certify_request<'a>(matches: &ArgMatches<'a>) -> Result<Request<'a>, Usage>
 }
 
 fn check_request<'a>(matches: &ArgMatches<'a>) -> Result<Request<'a>, Usage>
-    ensures { AnswersRead (Some (codes "check", rows_of (found_of matches.now))) result }
+    ensures { AnswersRead (Some (codes "check", rows_in matches.now)) result }
 {
     Ok(Request::Check {
         session: text(matches, "SESSION")?,
@@ -132,7 +126,7 @@ fn check_request<'a>(matches: &ArgMatches<'a>) -> Result<Request<'a>, Usage>
 
 #[tactic(auto, using(crate::proofs::Getters::no_drop))]
 fn drop_request<'a>(alloc: Global, matches: &ArgMatches<'a>) -> Result<Request<'a>, Usage>
-    ensures { AnswersRead (Some (codes "drop", rows_of (found_of matches.now))) result }
+    ensures { AnswersRead (Some (codes "drop", rows_in matches.now)) result }
 {
     Ok(Request::Drop {
         session: text(matches, "SESSION")?,
@@ -142,7 +136,7 @@ fn drop_request<'a>(alloc: Global, matches: &ArgMatches<'a>) -> Result<Request<'
 }
 
 fn decode_request<'a>(matches: &ArgMatches<'a>) -> Result<Request<'a>, Usage>
-    ensures { AnswersRead (Some (codes "decode", rows_of (found_of matches.now))) result }
+    ensures { AnswersRead (Some (codes "decode", rows_in matches.now)) result }
 {
     Ok(Request::Decode {
         session: text(matches, "SESSION")?,
@@ -151,7 +145,7 @@ fn decode_request<'a>(matches: &ArgMatches<'a>) -> Result<Request<'a>, Usage>
 }
 
 fn twin_request<'a>(matches: &ArgMatches<'a>) -> Result<Request<'a>, Usage>
-    ensures { AnswersRead (Some (codes "twin", rows_of (found_of matches.now))) result }
+    ensures { AnswersRead (Some (codes "twin", rows_in matches.now)) result }
 {
     Ok(Request::Twin {
         session: text(matches, "SESSION")?,
@@ -162,7 +156,7 @@ fn twin_request<'a>(matches: &ArgMatches<'a>) -> Result<Request<'a>, Usage>
 }
 
 fn show_request<'a>(matches: &ArgMatches<'a>) -> Result<Request<'a>, Usage>
-    ensures { AnswersRead (Some (codes "show", rows_of (found_of matches.now))) result }
+    ensures { AnswersRead (Some (codes "show", rows_in matches.now)) result }
 {
     Ok(Request::Show {
         session: text(matches, "SESSION")?,
@@ -175,7 +169,7 @@ fn command_request<'a>(
     name: &str,
     matches: &ArgMatches<'a>,
 ) -> Result<Request<'a>, Usage>
-    ensures { AnswersRead (Some (name.now, rows_of (found_of matches.now))) result }
+    ensures { AnswersRead (Some (name.now, rows_in matches.now)) result }
 {
     match name {
         "encode" => encode_request(matches),

@@ -3,7 +3,8 @@ use Rattle.std.proofs.lemmas.Result.{IfOk-weaker}
 use Rattle.clap.specs.Words.{App, Shape, app_of, with_subcommand}
 use Rattle.clap.specs.Simple.{new_shape}
 use Rattle.clap.specs.declared.builder.command.Command.{Command}
-use Rattle.request.specs.Grammar.{AddsCommand, HasGrammar, certify_command, check_command, drop_command, decode_command, twin_command, show_command}
+use Rattle.request.specs.Building.{AddsCommand, HasGrammar}
+use Rattle.request.specs.Grammar.{certify_command, check_command, drop_command, decode_command, twin_command, show_command}
 use Rattle.request.proofs.Rules.{command_added, encode_added}
 use Rattle.request.proofs.grammar.grammar.Goals as goal
 

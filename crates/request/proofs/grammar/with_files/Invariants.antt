@@ -1,5 +1,6 @@
 use Rattle.std.proofs.Common.{map, take}
-use Rattle.request.specs.Grammar.{file, AddsRules}
+use Rattle.request.specs.Building.{AddsRules}
+use Rattle.request.specs.Grammar.{file}
 use Rattle.request.proofs.grammar.with_files.Given as goal
 
 abbrev pub invariant-loop-name : goal.invariant-loop-name

@@ -1,5 +1,6 @@
 use Rattle.std.proofs.Common.{map, take}
-use Rattle.request.specs.Grammar.{number, AddsRules}
+use Rattle.request.specs.Building.{AddsRules}
+use Rattle.request.specs.Grammar.{number}
 use Rattle.request.proofs.grammar.with_numbers.Given as goal
 
 abbrev pub invariant-loop-option : goal.invariant-loop-option

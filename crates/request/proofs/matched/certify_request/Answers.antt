@@ -6,5 +6,5 @@ use Rattle.request.proofs.matched.certify_request.Goals as goal
 pub returns-in_err-sizes : goal.returns-in_err-sizes
 returns-in_err-sizes c =
     let rows = rows_of (found_of c.args.matches.now) in
-    let err = c.in_err-sizes.ensures.err in
+    let err = c.in_err-sizes.ensures.1 in
     refuses (Some (codes "certify", rows)) c.from_residual-in_err-sizes.result c.in_err-sizes.field-0.0 c.from_residual-in_err-sizes.ensures.1 err.0 (no_certify rows err.1)

@@ -1,0 +1,28 @@
+-- How a parser comes to have the grammar.
+use Rattle.std.specs.Prelude.{◌≡◌, ◌++◌, List, Result, Ok, false}
+use Rattle.std.specs.Borrow.{Bor}
+use Rattle.clap.specs.Words.{Rule, Shape, Text, app_of, shape_of, with_subcommand}
+use Rattle.clap.specs.declared.builder.command.Command.{Command}
+use Rattle.clap.specs.declared.builder.command.Command.TheViews.{out-Command as fields_of}
+use Rattle.request.specs.Grammar.{IsOrders, grammar_of}
+
+-- the parser has this grammar
+pub record HasGrammar (parser : Command) : Type 0 where
+  pub orders : Bor (List (Bor Text))
+  pub names : IsOrders orders
+  pub app : app_of parser ≡ grammar_of orders
+
+-- the command has this shape, and no argument of all commands
+pub record IsShaped (shape : Shape) (parser : Command) : Type 0 where
+  pub shaped : shape_of parser ≡ shape
+  pub local : (fields_of parser).has_globals ≡ false
+
+-- the command with these arguments last
+pub record AddsRules (old : Command) (rules : List Rule) (new : Command) : Type 0 where
+  pub shape : shape_of new ≡ record (shape_of old) { rules = (shape_of old).rules ++ rules }
+  pub local : (fields_of new).has_globals ≡ (fields_of old).has_globals
+
+-- the parser with the command that was made, last
+abbrev pub AddsCommand : {E : Type 0} → Command → Result Command E → Command → Type 0
+AddsCommand old made new =
+    (sub : Command) × (made ≡ Ok sub) × ((fields_of sub).has_globals ≡ false → app_of new ≡ with_subcommand (app_of old) (shape_of sub))
