@@ -8,10 +8,10 @@ use byteorder::{BigEndian, ByteOrder};
 use partition::Fti;
 
 /// The header extension type of EXT_FTI.
-pub const EXT_FTI: u8 = 64;
+pub(crate) const EXT_FTI: u8 = 64;
 
 /// The bytes of EXT_FTI: its type, its length in words, and ten bytes of content.
-pub const EXT_FTI_SIZE: usize = 12;
+pub(crate) const EXT_FTI_SIZE: usize = 12;
 
 // The bytes that the extension in front says it takes: one word, or below type 128 as many as its second byte says.
 fn size_in_front(rest: &[u8]) -> usize
@@ -25,7 +25,7 @@ fn size_in_front(rest: &[u8]) -> usize
 }
 
 /// The content of EXT_FTI among the header extensions, where they are whole and at most one of them is EXT_FTI.
-pub fn fti_content(extensions: &[u8]) -> Result<Option<&[u8]>, PacketFault>
+pub(crate) fn fti_content(extensions: &[u8]) -> Result<Option<&[u8]>, PacketFault>
     ensures found { IfOk result
         (λ found. walk (length extensions.now) extensions.now None ≡ Ok (option_map (λ content. content.now) found)) }
     ensures fault { IfErr result (λ e. walk (length extensions.now) extensions.now None ≡ Err e) }
@@ -55,7 +55,7 @@ pub fn fti_content(extensions: &[u8]) -> Result<Option<&[u8]>, PacketFault>
 
 /// The FTI in the content of EXT_FTI: L in six bytes, E in two, B and max_n in one each.
 #[tactic(auto, using(crate::proofs::FtiFields::length_field, crate::proofs::FtiFields::symbol_field))]
-pub fn fti_of(content: &[u8]) -> Result<Fti, PacketFault>
+pub(crate) fn fti_of(content: &[u8]) -> Result<Fti, PacketFault>
     requires { length content.now ≡ 10 }
     ensures numbers { IfOk result (λ f. f ≡ fti_in content.now) }
     ensures no_fault { IfOk result (λ _. fti_fault (fti_in content.now) ≡ None) }

@@ -8,16 +8,16 @@ use crate::fault::PacketFault;
 /// Where the fields of a header begin, as places in the datagram. Each ends where the next begins, and behind `end`
 /// stands the payload ID.
 #[derive(Clone, Copy)]
-pub struct Header {
-    pub tsi: usize,
-    pub toi: usize,
-    pub extensions: usize,
-    pub end: usize,
+pub(crate) struct Header {
+    pub(crate) tsi: usize,
+    pub(crate) toi: usize,
+    pub(crate) extensions: usize,
+    pub(crate) end: usize,
 }
 
 /// The places of the fields, where the fixed part has no fault.
 #[tactic(auto, using(std::proofs::lemmas::Bool::Decides::nat_tests), unfolding(crate::specs::Computed::read_of))]
-pub fn header_of(datagram: &[u8]) -> Result<Header, PacketFault>
+pub(crate) fn header_of(datagram: &[u8]) -> Result<Header, PacketFault>
     ensures found { IfOk result (λ h. Lies h datagram.now) }
     ensures fault { IfErr result (λ e. read_of datagram.now ≡ Err e) }
 {

@@ -48,7 +48,7 @@ impl Model for Certificate {
 }
 
 /// What the type of a slice says: its members are bytes.
-pub fn are_bytes(bytes: &[u8])
+pub(crate) fn are_bytes(bytes: &[u8])
     ensures { (i : ℕ) → slice_index bytes.now i < 256 }
 {}
 

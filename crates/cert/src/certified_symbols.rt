@@ -46,15 +46,15 @@ fn clear(row: &mut [u8])
 /// A certificate, and its coefficients a second time: as a row of bytes for each source symbol, which has one coefficient
 /// of each column. So a symbol is a sum of rows, each times a constant.
 #[derive(Drop)]
-pub struct CertifiedSymbols<'a> {
-    pub certificate: &'a Certificate,
+pub(crate) struct CertifiedSymbols<'a> {
+    pub(crate) certificate: &'a Certificate,
     rows: Vec<u8>,
     ghost valid: { IsCertificate certificate.now },
     ghost row_by_row: { AreRowsOf certificate.now rows.items },
 }
 
 impl<'a> CertifiedSymbols<'a> {
-    pub fn new(
+    pub(crate) fn new(
         alloc: Global,
         certificate: &'a Certificate,
     ) -> Result<CertifiedSymbols<'a>, AllocError>
@@ -68,7 +68,7 @@ impl<'a> CertifiedSymbols<'a> {
     }
 
     /// Makes these bytes the symbol of a block that has this ESI.
-    pub fn put(&self, block: u32, esi: u8, symbol: &mut [u8])
+    pub(crate) fn put(&self, block: u32, esi: u8, symbol: &mut [u8])
         requires block { block < block_count self.now.certificate.now.fti }
         requires esi { esi < 255 }
         requires room { length symbol.old ≡ self.now.certificate.now.fti.symbol_length }

@@ -19,7 +19,7 @@ use std::alloc::Global;
 
 /// Why the datagrams' numbers weren't told.
 #[derive(Clone, Copy)]
-pub enum Refusal {
+pub(crate) enum Refusal {
     Reason(Reason),
     NoMemory,
 }
@@ -98,7 +98,7 @@ fn reason_against(
 }
 
 // The numbers of the datagrams in their order, or the first reason against one of them. `row` is room for one symbol.
-pub fn numbers_of_session(
+pub(crate) fn numbers_of_session(
     alloc: Global,
     session: &Session,
     symbols: &CertifiedSymbols<'_>,

@@ -12,7 +12,7 @@ use crate::verdict::Reason;
 use gf256::{Field, Gf, point};
 
 /// The value at `x` of the polynomial with these coefficients, the constant one first.
-pub fn value_at(coefficients: &[u8], x: Gf) -> u8
+pub(crate) fn value_at(coefficients: &[u8], x: Gf) -> u8
     ensures { result ≡ value coefficients.now x }
 {
     x.is_element();
@@ -134,7 +134,11 @@ fn wrong_in_block(
 
 /// The reason against the object, if the polynomials don't give it: the least block, in it the least column, in that
 /// the least symbol. `row` is room for one symbol.
-pub fn not_given(object: &[u8], symbols: &CertifiedSymbols<'_>, row: &mut [u8]) -> Option<Reason>
+pub(crate) fn not_given(
+    object: &[u8],
+    symbols: &CertifiedSymbols<'_>,
+    row: &mut [u8],
+) -> Option<Reason>
     requires { length row.old ≡ symbols.now.certificate.now.fti.symbol_length }
     ensures len { length row.new ≡ length row.old }
     ensures none { IsNone result → GivesObject object.now symbols.now.certificate.now }

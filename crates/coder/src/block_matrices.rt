@@ -9,14 +9,14 @@ use std::alloc::{AllocError, Global};
 
 /// A matrix for the first blocks, and one for the others if they are smaller.
 #[derive(Drop)]
-pub struct BlockMatrices {
-    pub large: Matrix<Gf>,
-    pub small: Option<Matrix<Gf>>,
+pub(crate) struct BlockMatrices {
+    pub(crate) large: Matrix<Gf>,
+    pub(crate) small: Option<Matrix<Gf>>,
 }
 
 impl BlockMatrices {
     // The generator matrices of all blocks.
-    pub fn generators(alloc: Global, fti: &Fti) -> Result<BlockMatrices, AllocError>
+    pub(crate) fn generators(alloc: Global, fti: &Fti) -> Result<BlockMatrices, AllocError>
         ensures { IfOk result (λ m. EachBlockHas (IsCodeOf fti.now) fti.now m.large m.small) }
     {
         let last = fti.blocks() - 1;
@@ -32,7 +32,7 @@ impl BlockMatrices {
     }
 
     // The matrices that make a block's coefficients of its source symbols.
-    pub fn interpolators(alloc: Global, fti: &Fti) -> Result<BlockMatrices, AllocError>
+    pub(crate) fn interpolators(alloc: Global, fti: &Fti) -> Result<BlockMatrices, AllocError>
         ensures { IfOk result (λ m. EachBlockHas (IsInterpolatorOf fti.now) fti.now m.large m.small) }
     {
         let last = fti.blocks() - 1;
@@ -48,7 +48,7 @@ impl BlockMatrices {
     }
 
     // The matrix of a block with so many source symbols.
-    pub fn of(&self, k: usize) -> &Matrix<Gf>
+    pub(crate) fn of(&self, k: usize) -> &Matrix<Gf>
         requires { matrix_for k self.now.large self.now.small ≢ None }
         ensures { matrix_for k self.now.large self.now.small ≡ Some result.now }
     {

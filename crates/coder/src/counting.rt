@@ -11,17 +11,17 @@ use partition::Fti;
 
 /// A block that has fewer encoding symbols than it needs.
 #[derive(Clone, Copy)]
-pub struct Short {
+pub(crate) struct Short {
     /// Its source block number.
-    pub block: u32,
+    pub(crate) block: u32,
     /// How many different ESIs of it came.
-    pub have: usize,
+    pub(crate) have: usize,
     /// How many source symbols it has.
-    pub need: usize,
+    pub(crate) need: usize,
 }
 
 /// How many different ESIs below `n` came of a block.
-pub fn have(symbols: &Symbols<'_>, b: u32, n: usize) -> usize
+pub(crate) fn have(symbols: &Symbols<'_>, b: u32, n: usize) -> usize
     requires { n ≤ 255 }
     ensures { result ≡ length (filter (λ j. is_some (stored symbols.now b j)) (below n)) }
 {
@@ -35,7 +35,7 @@ pub fn have(symbols: &Symbols<'_>, b: u32, n: usize) -> usize
 }
 
 /// The first block that has fewer encoding symbols than source symbols.
-pub fn first_short(symbols: &Symbols<'_>, fti: &Fti) -> Option<Short>
+pub(crate) fn first_short(symbols: &Symbols<'_>, fti: &Fti) -> Option<Short>
     ensures short { (came : List Symbol) → IsIndex came (stored symbols.now)
         → AllByRecursion (IsWithin fti.now) came
         → IfSome result (λ s. IsFirstShort fti.now came s.block

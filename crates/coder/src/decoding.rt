@@ -78,7 +78,7 @@ fn decode_rows(
 }
 
 /// A block's source symbols, if all that came of it are symbols of an object.
-pub fn block_rows(
+pub(crate) fn block_rows(
     alloc: Global,
     received: &Received<'_>,
     generators: &BlockMatrices,

@@ -17,19 +17,19 @@ use std::collections::BTreeMap;
 
 /// Why datagrams weren't received.
 #[derive(Clone, Copy)]
-pub enum Refusal {
+pub(crate) enum Refusal {
     Fault(DecodeFault),
     NoMemory,
 }
 
 /// The symbols of a session: at a source block number and an ESI the bytes of the symbol, in its datagram.
-pub type Symbols<'a> = BTreeMap<(u32, u8), &'a [u8]>;
+pub(crate) type Symbols<'a> = BTreeMap<(u32, u8), &'a [u8]>;
 
 /// What came of an object.
 #[derive(Drop)]
-pub struct Received<'a> {
-    pub fti: Fti,
-    pub symbols: Symbols<'a>,
+pub(crate) struct Received<'a> {
+    pub(crate) fti: Fti,
+    pub(crate) symbols: Symbols<'a>,
 }
 
 // Whether an earlier symbol of the packet's block and ESI has other bytes.
@@ -77,7 +77,7 @@ fn keep<'a>(symbols: &mut Symbols<'a>, packet: &Packet<'a>) -> Result<(), AllocE
 }
 
 /// The symbols of the datagrams, or the first fault at the least place that has one.
-pub fn receive<'a>(alloc: Global, datagrams: &[&'a [u8]]) -> Result<Received<'a>, Refusal>
+pub(crate) fn receive<'a>(alloc: Global, datagrams: &[&'a [u8]]) -> Result<Received<'a>, Refusal>
     requires { 0 < length datagrams.now }
     ensures received { IfOk result (λ r. AreReceived (map (λ d. d.now) datagrams.now) r.fti (stored r.symbols)) }
     ensures valid { IfOk result (λ r. IsValidFti r.fti) }

@@ -16,10 +16,10 @@ use std::alloc::{AllocError, Global};
 /// A source block of which some symbols came: at each ESI the symbol, if it did, their size in bytes, and the generator
 /// matrix.
 #[derive(Clone, Copy)]
-pub struct Block<'a> {
-    pub received: &'a [Option<&'a [u8]>],
-    pub size: usize,
-    pub generator: &'a Matrix<Gf>,
+pub(crate) struct Block<'a> {
+    pub(crate) received: &'a [Option<&'a [u8]>],
+    pub(crate) size: usize,
+    pub(crate) generator: &'a Matrix<Gf>,
 }
 
 // Puts bytes at a place and those behind it.
@@ -176,7 +176,7 @@ fn put_solved(
 }
 
 /// Whether all bytes are zero.
-pub fn is_zero(bytes: &[u8]) -> bool
+pub(crate) fn is_zero(bytes: &[u8]) -> bool
     ensures zero { result ≡ true → (c : ℕ) → slice_index bytes.now c ≡ 0 }
     ensures other { result ≡ false → (c : ℕ) × (c < length bytes.now) × (slice_index bytes.now c ≢ 0) }
 {
@@ -319,7 +319,7 @@ fn recover_by(
 
 /// Makes a block's source symbols, as rows one behind the other, of the symbols that came, and tells whether all of
 /// these are symbols of one word.
-pub fn recover(alloc: Global, block: &Block<'_>, rows: &mut [u8]) -> Result<bool, AllocError>
+pub(crate) fn recover(alloc: Global, block: &Block<'_>, rows: &mut [u8]) -> Result<bool, AllocError>
     requires block { IsBlock block.now.received.now block.now.size block.now.generator.now }
     requires enough { block.now.generator.now.rows ≤ length (filter (λ j. is_some (arrived block.now.received.now j)) (below block.now.generator.now.cols)) }
     requires rows { length rows.old ≡ block.now.generator.now.rows * block.now.size }

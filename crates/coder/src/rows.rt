@@ -13,7 +13,7 @@ use partition::Fti;
 
 // The object's bytes in source symbol `i` of block `b`: E of them, or fewer at the object's end.
 #[tactic(auto, using(partition::proofs::Laws::in_object, partition::proofs::Laws::place_fits, partition::proofs::Laws::start_fits, partition::proofs::Laws::source_most))]
-pub fn source_symbol<'a>(object: &'a [u8], fti: &Fti, b: u32, i: usize) -> &'a [u8]
+fn source_symbol<'a>(object: &'a [u8], fti: &Fti, b: u32, i: usize) -> &'a [u8]
     requires object { length object.now ≡ fti.now.transfer_length }
     requires block { b < block_count fti.now }
     requires symbol { i < source_count fti.now b }
@@ -27,7 +27,7 @@ pub fn source_symbol<'a>(object: &'a [u8], fti: &Fti, b: u32, i: usize) -> &'a [
 }
 
 // Adds a multiple of a row to the front of another.
-pub fn add_row(out: &mut [u8], scale: Gf, row: &[u8])
+pub(crate) fn add_row(out: &mut [u8], scale: Gf, row: &[u8])
     requires { length row.now ≤ length out.old }
     ensures len { length out.new ≡ length out.old }
     ensures sums { (c : ℕ) → slice_index out.new c ≡ sum_of (slice_index out.old c) (product scale (slice_index row.now c)) }
@@ -36,7 +36,7 @@ pub fn add_row(out: &mut [u8], scale: Gf, row: &[u8])
 }
 
 // A row, and zeros behind it.
-pub fn copy_padded(out: &mut [u8], row: &[u8])
+fn copy_padded(out: &mut [u8], row: &[u8])
     requires { length row.now ≤ length out.old }
     ensures len { length out.new ≡ length out.old }
     ensures bytes { (c : ℕ) → slice_index out.new c ≡ slice_index row.now c }
@@ -47,7 +47,14 @@ pub fn copy_padded(out: &mut [u8], row: &[u8])
 }
 
 // The sum of a block's source symbols, each times its row's entry in column `j` of the matrix.
-pub fn combine(object: &[u8], fti: &Fti, b: u32, matrix: &Matrix<Gf>, j: usize, out: &mut [u8])
+pub(crate) fn combine(
+    object: &[u8],
+    fti: &Fti,
+    b: u32,
+    matrix: &Matrix<Gf>,
+    j: usize,
+    out: &mut [u8],
+)
     requires object { length object.now ≡ fti.now.transfer_length }
     requires block { b < block_count fti.now }
     requires rows { matrix.now.rows ≡ source_count fti.now b }
@@ -63,7 +70,7 @@ pub fn combine(object: &[u8], fti: &Fti, b: u32, matrix: &Matrix<Gf>, j: usize, 
 }
 
 // The encoding symbol `j` of block `b`, by the block's generator matrix.
-pub fn encoding_symbol(
+pub(crate) fn encoding_symbol(
     object: &[u8],
     fti: &Fti,
     b: u32,

@@ -93,7 +93,7 @@ fn is_valid(fti: &Fti)
 }
 
 /// The least block that has enough symbols and whose symbols are those of no object.
-pub fn first_unsolvable(
+pub(crate) fn first_unsolvable(
     alloc: Global,
     received: &Received<'_>,
     generators: &BlockMatrices,

@@ -9,7 +9,7 @@ use crate::number::Number;
 use std::alloc::{AllocError, Global};
 
 /// How often each ESI stands among the members.
-pub fn copies_of(members: &[Member]) -> [usize; 256]
+pub(crate) fn copies_of(members: &[Member]) -> [usize; 256]
     ensures { (j : ℕ) → j < 256 → slice_index result j ≡ count_by (has_esi j) members.now }
 {
     let mut copies = [0usize; 256];
@@ -21,7 +21,7 @@ pub fn copies_of(members: &[Member]) -> [usize; 256]
 }
 
 /// How many of the counts aren't zero.
-pub fn different(copies: &[usize; 256]) -> usize
+pub(crate) fn different(copies: &[usize; 256]) -> usize
     ensures { result ≡ filled copies.now }
 {
     let mut different = 0;

@@ -8,9 +8,9 @@ use std::alloc::{AllocError, Global};
 
 /// A packet of a block: its place in the session, and its encoding symbol ID.
 #[derive(Clone, Copy, PartialEq, Eq, Debug)]
-pub struct Member {
-    pub place: usize,
-    pub esi: u8,
+pub(crate) struct Member {
+    pub(crate) place: usize,
+    pub(crate) esi: u8,
 }
 
 // The member that the number at a place gives its block. That its ESI is a byte is what its type says.
@@ -25,7 +25,7 @@ fn member_at(place: usize, number: Number) -> Member
 }
 
 /// The members of each block, in their order.
-pub fn grouped(
+pub(crate) fn grouped(
     alloc: Global,
     numbers: &[Number],
     blocks: usize,

@@ -7,10 +7,10 @@ use std::alloc::{AllocError, Global};
 
 /// Up to which copies and ESI the cheapest symbols of a block go, and how many copies these have together.
 #[derive(Clone, Copy)]
-pub struct Threshold {
-    pub cost: usize,
-    pub copies: usize,
-    pub last: u8,
+pub(crate) struct Threshold {
+    pub(crate) cost: usize,
+    pub(crate) copies: usize,
+    pub(crate) last: u8,
 }
 
 // Each ESI that came, behind its copies.
@@ -39,7 +39,11 @@ fn sum_of(pairs: &[(usize, u8)]) -> usize
 }
 
 /// The first `spare` symbols in the order of copies and ESI.
-pub fn cheapest(alloc: Global, copies: &[usize; 256], spare: usize) -> Result<Threshold, AllocError>
+pub(crate) fn cheapest(
+    alloc: Global,
+    copies: &[usize; 256],
+    spare: usize,
+) -> Result<Threshold, AllocError>
     requires some { 0 < spare }
     requires enough { spare ≤ filled copies.now }
     requires fits { cost_of copies.now (came copies.now) < 2 ^ 64 }

@@ -11,13 +11,13 @@ use std::alloc::{AllocError, Global};
 
 /// The cheapest symbols whose loss leaves a block short, and how far the places of the narrowest run that does lie apart.
 #[derive(Clone, Copy)]
-pub struct Weight {
-    pub threshold: Threshold,
-    pub gap: usize,
+pub(crate) struct Weight {
+    pub(crate) threshold: Threshold,
+    pub(crate) gap: usize,
 }
 
 /// The cheapest loss and the narrowest run that leave a block fewer than `need` different ESIs.
-pub fn weigh(alloc: Global, members: &[Member], need: usize) -> Result<Weight, AllocError>
+pub(crate) fn weigh(alloc: Global, members: &[Member], need: usize) -> Result<Weight, AllocError>
     requires placed { ArePlaced members.now }
     requires some { 0 < need }
     requires enough { need ≤ different_outside members.now 0 0 }
@@ -39,7 +39,7 @@ fn is_up_to(copies: usize, esi: u8, threshold: Threshold) -> bool
 }
 
 /// All places of the cheapest symbols.
-pub fn doomed_places(
+pub(crate) fn doomed_places(
     alloc: Global,
     members: &[Member],
     threshold: Threshold,

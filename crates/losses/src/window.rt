@@ -39,7 +39,7 @@ fn give_back(copies: &mut [usize; 256], different: usize, esi: u8) -> usize
 
 /// From the first to the last place of the narrowest window whose loss leaves fewer than `need` different ESIs. The
 /// window's end never goes back: each member enters it once and leaves it once.
-pub fn least_gap(members: &[Member], need: usize) -> usize
+pub(crate) fn least_gap(members: &[Member], need: usize) -> usize
     requires placed { ArePlaced members.now }
     requires some { 0 < need }
     requires enough { need ≤ different_outside members.now 0 0 }

@@ -1,14 +1,13 @@
 -- Looking for a file, one after the other.
 use Rattle.std.proofs.Common.{◌≡◌, ◌<◌, ◌+◌, ◌++◌, Bool, true, false, cond, ℕ, suc, List, [], ◌∷◌, length, drop, get_or, ap, sym, ◌∙◌, arith}
-use Rattle.std.specs.Prelude.{Option, Some, None, String, string_bytes}
-use Rattle.std.specs.declared.alloc.Global.{Global}
+use Rattle.std.specs.Prelude.{Option, Some, None, string_bytes}
 use Rattle.session.specs.declared.memory.Sink.{Sink}
 use Rattle.std.specs.List.{find}
 use Rattle.std.specs.Option.{option_map, option_or}
 use Rattle.std.proofs.Math.Seq.{drop-cons}
 use Rattle.std.specs.Str.{bytes_eq}
 use Rattle.std.proofs.lemmas.Slice.Eq.{bytes_eq-Decides}
-use Rattle.tool.specs.Files.{File, Created, has_name, content_of, written_under}
+use Rattle.tool.specs.Files.{File, Created, AddsFile, has_name, content_of, written_under}
 
 -- what is found, where the file in front has the name or hasn't
 abbrev found_by : List File → List ℕ → ℕ → File → Bool → Option (List ℕ)
@@ -41,8 +40,8 @@ just_last [] file =
 just_last (x ∷ files) file =
     ap (λ (o : Option (List ℕ)). option_or o (last_of x (bytes_eq (string_bytes x.0) (string_bytes file.0)))) (just_last files file)
 
-pub just_written : (files after : List Created) (kept : String Global) (output : Sink) (name : List ℕ)
-    → after ≡ files ++ ((kept, output) ∷ []) → string_bytes kept ≡ name → written_under after name ≡ Some output.bytes.items
-just_written files after kept output name pushed same =
-    ap (λ (fs : List Created). written_under fs name) pushed
-    ∙ ap (λ (n : List ℕ). written_under (files ++ ((kept, output) ∷ [])) n) (sym same) ∙ just_last files (kept, output)
+pub just_written : (old new : List Created) (name : List ℕ) (output : Sink)
+    → AddsFile old new name output → written_under new name ≡ Some output.bytes.items
+just_written old new name output added =
+    ap (λ (files : List Created). written_under files name) added.behind
+    ∙ ap (λ (n : List ℕ). written_under (old ++ ((added.kept, output) ∷ [])) n) (sym added.named) ∙ just_last old (added.kept, output)

@@ -8,7 +8,8 @@ use Rattle.coder.specs.declared.answer.Answer.TheVariants.{Empty, Fault as NoObj
 use Rattle.coder.specs.declared.answer.DecodeFault.{DecodeFault}
 use Rattle.coder.specs.declared.answer.DecodeFault.TheVariants.{Packet, OtherIdentity, OtherFti, Range, Clash, NotCode}
 use Rattle.tool.specs.declared.fault.Fault.{Fault}
-use Rattle.tool.specs.Inputs.{Contents, HoldsSession, IsSessionUnread}
+use Rattle.tool.specs.Folder.{Contents, Told}
+use Rattle.tool.specs.Inputs.{HoldsSession, IsSessionUnread}
 use Rattle.tool.specs.Lines.{line_of, named, IsPrintFault}
 use Rattle.tool.specs.Making.{IsFileFault}
 
@@ -48,12 +49,12 @@ WritesObject (Object object) blank written = Appends blank written object.items
 WritesObject _ blank written = ⊤
 
 -- The answer to the session in this file was printed, and the object written; its status.
-pub record IsDecoded (contents : Contents) (session : List ℕ) (blank written : Option (List ℕ)) (before after : Option (List ℕ)) (status : ℕ) : Type 0 where
+pub record IsDecoded (folder : Told) (session output : List ℕ) (before after : Option (List ℕ)) (status : ℕ) : Type 0 where
   pub datagrams : List (List ℕ)
   pub answer : Answer
-  pub sent : HoldsSession contents session datagrams
+  pub sent : HoldsSession folder.contents session datagrams
   pub right : IsAnswer datagrams (answer_value answer)
-  pub object : WritesObject answer blank written
+  pub object : WritesObject answer folder.blank (folder.written output)
   pub told : status ≡ answer_status answer
   pub line : List ℕ
   pub spelled : IsAnswerLine answer line

@@ -1,5 +1,5 @@
 -- Named files.
-use Rattle.std.specs.Prelude.{ℕ, Bool, List, [], ◌∷◌, Option, Some, None, String, string_bytes, if◌then◌else◌}
+use Rattle.std.specs.Prelude.{◌≡◌, ◌-◌, ◌^◌, ℕ, Bool, false, List, [], ◌∷◌, ◌++◌, Option, Some, None, String, string_bytes, if◌then◌else◌}
 use Rattle.std.specs.Borrow.{Bor}
 use Rattle.std.specs.List.{find}
 use Rattle.std.specs.Option.{option_map, option_or}
@@ -21,6 +21,18 @@ content_of files name = option_map (λ file. file.1.now) (find (has_name name) f
 -- a file that was created: its name and what was written
 abbrev pub Created : Type 0
 Created = String Global × Sink
+
+-- a file of nothing yet, which takes all that there is memory for
+pub record IsBlank (file : Sink) : Type 0 where
+  pub empty : file.bytes.items ≡ []
+  pub room : file.room ≡ 2 ^ 64 - 1
+  pub sound : file.failed ≡ false
+
+-- A file of this name and of what was written stands behind those that were created before.
+pub record AddsFile (old new : List Created) (name : List ℕ) (output : Sink) : Type 0 where
+  pub kept : String Global
+  pub named : string_bytes kept ≡ name
+  pub behind : new ≡ old ++ (kept, output) ∷ []
 
 -- what the last file of this name holds that was created
 unfoldable pub written_under : List Created → List ℕ → Option (List ℕ)

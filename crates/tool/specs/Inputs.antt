@@ -1,13 +1,10 @@
 -- What a file that is read whole holds, and why it wasn't read.
-use Rattle.std.specs.Prelude.{◌≡◌, ℕ, Bool, List, Option, None, ⊤, IfSome}
+use Rattle.std.specs.Prelude.{◌≡◌, ℕ, Bool, List, None, ⊤, IfSome}
 use Rattle.session.specs.Frames.{IsFramed, IsSessionFault}
 use Rattle.cert.specs.Certificate.{Certificate, certificate_text, IsCertFault}
+use Rattle.tool.specs.Folder.{Contents}
 use Rattle.tool.specs.declared.fault.Fault.{Fault}
 use Rattle.tool.specs.declared.fault.Fault.TheVariants.{Open, File, Memory, Frame, Certificate as NoCertificate}
-
--- A folder's contents, by name, where they are told.
-abbrev pub Contents : Type 0
-Contents = List ℕ → Option (List ℕ)
 
 -- a session of these datagrams stands there
 abbrev pub HoldsSession : Contents → List ℕ → List (List ℕ) → Type 0

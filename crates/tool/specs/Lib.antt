@@ -1,4 +1,5 @@
 pub mod Files
+pub mod Folder
 pub mod Inputs
 pub mod Lines
 pub mod Making

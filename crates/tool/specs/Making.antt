@@ -16,7 +16,8 @@ use Rattle.request.specs.declared.requests.Sizes.{Sizes}
 use Rattle.request.specs.declared.requests.Sending.{Sending}
 use Rattle.tool.specs.declared.fault.Fault.{Fault}
 use Rattle.tool.specs.declared.fault.Fault.TheVariants.{Open, File, Memory, Fti as WrongFti, Send, Frame, Certificate as CertificateFault}
-use Rattle.tool.specs.Inputs.{Contents, HoldsBytes, HoldsSession, IsObjectUnread, IsSessionUnread}
+use Rattle.tool.specs.Folder.{Contents, Told}
+use Rattle.tool.specs.Inputs.{HoldsBytes, HoldsSession, IsObjectUnread, IsSessionUnread}
 use Rattle.tool.specs.Lines.{line_of, named, IsPrintFault}
 
 -- the FTI of an object of so many bytes
@@ -28,33 +29,33 @@ abbrev pub PrintsCount : List ℕ → ℕ → List ℕ → Option (List ℕ) →
 PrintsCount name count of before after = Appends before after (line_of (named name (decimal count) ++ of))
 
 -- A session of the object was written to the output, which was blank, and the number of its datagrams printed.
-pub record IsEncoded (contents : Contents) (object : List ℕ) (blank written : Option (List ℕ)) (sending : Sending) (before after : Option (List ℕ)) (status : ℕ) : Type 0 where
+pub record IsEncoded (folder : Told) (object output : List ℕ) (sending : Sending) (before after : Option (List ℕ)) (status : ℕ) : Type 0 where
   pub bytes : List ℕ
-  pub whole : HoldsBytes contents object bytes
+  pub whole : HoldsBytes folder.contents object bytes
   pub can : CanBeSent bytes (sized sending.sizes (length bytes))
-  pub sent : Sends bytes (sized sending.sizes (length bytes)) sending.tsi sending.toi (pairs sending.order (sized sending.sizes (length bytes))) blank written
+  pub sent : Sends bytes (sized sending.sizes (length bytes)) sending.tsi sending.toi (pairs sending.order (sized sending.sizes (length bytes))) folder.blank (folder.written output)
   pub printed : PrintsCount (codes "encoded") (length (pairs sending.order (sized sending.sizes (length bytes)))) (codes " datagrams") before after
   pub told : status ≡ 0
 
 -- A certificate of the object, which is one of every session sent of it, was written to the output, which was blank, and
 -- the number of its blocks printed.
-pub record IsCertified (contents : Contents) (object : List ℕ) (blank written : Option (List ℕ)) (sizes : Sizes) (before after : Option (List ℕ)) (status : ℕ) : Type 0 where
+pub record IsCertified (folder : Told) (object output : List ℕ) (sizes : Sizes) (before after : Option (List ℕ)) (status : ℕ) : Type 0 where
   pub bytes : List ℕ
-  pub whole : HoldsBytes contents object bytes
+  pub whole : HoldsBytes folder.contents object bytes
   pub polynomials : Certificate
   pub fti : polynomials.fti ≡ sized sizes (length bytes)
   pub gives : GivesObject bytes polynomials
   pub certifies : CertifiesSent bytes polynomials
-  pub sent : Appends blank written (certificate_text polynomials)
+  pub sent : Appends folder.blank (folder.written output) (certificate_text polynomials)
   pub printed : PrintsCount (codes "certified") (block_count (sized sizes (length bytes))) (codes " blocks") before after
   pub told : status ≡ 0
 
 -- The session without these places was written to the output, which was blank, and the number of its datagrams printed.
-pub record IsDropped (contents : Contents) (session : List ℕ) (blank written : Option (List ℕ)) (places : List ℕ) (before after : Option (List ℕ)) (status : ℕ) : Type 0 where
+pub record IsDropped (folder : Told) (session output : List ℕ) (places : List ℕ) (before after : Option (List ℕ)) (status : ℕ) : Type 0 where
   pub datagrams : List (List ℕ)
-  pub sent : HoldsSession contents session datagrams
+  pub sent : HoldsSession folder.contents session datagrams
   pub inside : first_outside (length datagrams) places ≡ None
-  pub left : Appends blank written (frames (rest (is_among places) datagrams))
+  pub left : Appends folder.blank (folder.written output) (frames (rest (is_among places) datagrams))
   pub printed : PrintsCount (codes "kept") (length (rest (is_among places) datagrams)) (codes " datagrams") before after
   pub told : status ≡ 0
 

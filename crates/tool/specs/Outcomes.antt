@@ -16,7 +16,8 @@ use Rattle.cert.specs.declared.verdict.Verdict.TheVariants.{Yes, No}
 use Rattle.request.specs.declared.requests.Request.{Request}
 use Rattle.request.specs.declared.requests.Request.TheVariants.{Check, Twin, Show, Encode, Certify, Decode, Drop}
 use Rattle.tool.specs.declared.fault.Fault.{Fault}
-use Rattle.tool.specs.Inputs.{Contents, HoldsSession, HoldsBytes, HoldsCertificate, IsSessionUnread, IsObjectUnread, IsCertificateUnread}
+use Rattle.tool.specs.Folder.{Contents, Told}
+use Rattle.tool.specs.Inputs.{HoldsSession, HoldsBytes, HoldsCertificate, IsSessionUnread, IsObjectUnread, IsCertificateUnread}
 use Rattle.tool.specs.Lines.{IsPrintFault, Prints, PrintsTwin, PrintsDatagrams}
 use Rattle.tool.specs.Decoding.{IsDecoded, IsNotDecoded}
 use Rattle.tool.specs.Making.{IsEncoded, IsNotEncoded, IsCertified, IsNotCertified, IsDropped, IsNotDropped, IsFileFault}
@@ -66,18 +67,18 @@ OnThin (No reason) P = ⊤
 
 -- What was printed where a twin was asked for; its status; and the twin that was written to the output, which was blank,
 -- where one is told.
-pub record IsTwinned (contents : Contents) (session object certificate : List ℕ) (blank written : Option (List ℕ)) (before after : Option (List ℕ)) (status : ℕ) : Type 0 where
+pub record IsTwinned (folder : Told) (session object certificate output : List ℕ) (before after : Option (List ℕ)) (status : ℕ) : Type 0 where
   pub datagrams : List (List ℕ)
   pub bytes : List ℕ
   pub polynomials : Certificate
   pub verdict : Verdict
-  pub sent : HoldsSession contents session datagrams
-  pub whole : HoldsBytes contents object bytes
-  pub certified : HoldsCertificate contents certificate polynomials
+  pub sent : HoldsSession folder.contents session datagrams
+  pub whole : HoldsBytes folder.contents object bytes
+  pub certified : HoldsCertificate folder.contents certificate polynomials
   pub judged : IsVerdict datagrams bytes polynomials verdict
   pub told : status ≡ twin_status_of verdict
   pub printed : PrintsTwin verdict before after
-  pub twin : OnThin verdict (λ block. (other : List ℕ) × IsTwinOfSession polynomials.fti block datagrams bytes other × Appends blank written other)
+  pub twin : OnThin verdict (λ block. (other : List ℕ) × IsTwinOfSession polynomials.fti block datagrams bytes other × Appends folder.blank (folder.written output) other)
 
 -- Why not: there was no verdict, or the output wasn't written.
 abbrev pub IsUntwinned : Contents → List ℕ → List ℕ → List ℕ → List ℕ → Bool → Fault → Type 0
@@ -106,21 +107,20 @@ pub record IsShown (contents : Contents) (session : List ℕ) (before after : Op
 abbrev pub IsUnshown : Contents → List ℕ → Bool → Fault → Type 0
 IsUnshown contents session failed fault = IsSessionUnread contents session fault ⊎ IsPrintFault failed fault
 
--- The request was done: contents tells of files before, written of those that were created.
-abbrev pub IsDone : Contents → Option (List ℕ) → Contents → Request → Option (List ℕ) → Option (List ℕ) → ℕ → Type 0
-IsDone contents blank written (Check session object certificate) before after status =
-    IsChecked contents session.now object.now certificate.now before after status
-IsDone contents blank written (Twin session object certificate output) before after status =
-    IsTwinned contents session.now object.now certificate.now blank (written output.now) before after status
-IsDone contents blank written (Show session) before after status = IsShown contents session.now before after status
-IsDone contents blank written (Encode object output sending) before after status =
-    IsEncoded contents object.now blank (written output.now) sending before after status
-IsDone contents blank written (Certify object output sizes) before after status =
-    IsCertified contents object.now blank (written output.now) sizes before after status
-IsDone contents blank written (Decode session output) before after status =
-    IsDecoded contents session.now blank (written output.now) before after status
-IsDone contents blank written (Drop session output places) before after status =
-    IsDropped contents session.now blank (written output.now) places.items before after status
+-- The request was done: the folder tells of files before, and of those that were created.
+abbrev pub IsDone : Told → Request → Option (List ℕ) → Option (List ℕ) → ℕ → Type 0
+IsDone folder (Check session object certificate) before after status =
+    IsChecked folder.contents session.now object.now certificate.now before after status
+IsDone folder (Twin session object certificate output) before after status =
+    IsTwinned folder session.now object.now certificate.now output.now before after status
+IsDone folder (Show session) before after status = IsShown folder.contents session.now before after status
+IsDone folder (Encode object output sending) before after status =
+    IsEncoded folder object.now output.now sending before after status
+IsDone folder (Certify object output sizes) before after status =
+    IsCertified folder object.now output.now sizes before after status
+IsDone folder (Decode session output) before after status = IsDecoded folder session.now output.now before after status
+IsDone folder (Drop session output places) before after status =
+    IsDropped folder session.now output.now places.items before after status
 
 abbrev pub IsUndone : Contents → Request → Bool → Fault → Type 0
 IsUndone contents (Check session object certificate) failed fault =
@@ -134,7 +134,7 @@ IsUndone contents (Decode session output) failed fault = IsNotDecoded contents s
 IsUndone contents (Drop session output places) failed fault = IsNotDropped contents session.now output.now places.items failed fault
 
 -- The request was done, with this status, or there was a fault, and the status is 1.
-abbrev pub IsRun : Contents → Option (List ℕ) → Contents → Request → Option (List ℕ) → Option (List ℕ) → ℕ → Type 0
-IsRun contents blank written request before after status =
-    IsDone contents blank written request before after status
-    ⊎ ((status ≡ 1) × (failed : Bool) × (fault : Fault) × IsUndone contents request failed fault)
+abbrev pub IsRun : Told → Request → Option (List ℕ) → Option (List ℕ) → ℕ → Type 0
+IsRun folder request before after status =
+    IsDone folder request before after status
+    ⊎ ((status ≡ 1) × (failed : Bool) × (fault : Fault) × IsUndone folder.contents request failed fault)

@@ -1,5 +1,6 @@
 //! The command `certify`.
 ghost use Rattle.std.specs.Prelude.{◌≡◌, ◌≤◌, IfOk, IfErr};
+ghost use Rattle.tool.specs.Folder.{told_by};
 ghost use Rattle.tool.specs.Making.{IsCertified, IsNotCertified};
 
 use crate::fault::Fault;
@@ -22,7 +23,7 @@ pub(crate) fn certify<'a, F: Folder, W: Write>(
     output: &'a str,
     sizes: &Sizes,
 ) -> Result<u8, Fault<'a>>
-    ensures ok { IfOk result (IsCertified (F.content folder.old) object.now F.blank (F.written folder.new output.now) sizes.now (W.contents out.old) (W.contents out.new)) }
+    ensures ok { IfOk result (IsCertified (told_by (F.content folder.old) F.blank (F.written folder.new)) object.now output.now sizes.now (W.contents out.old) (W.contents out.new)) }
     ensures fault { IfErr result (IsNotCertified (F.content folder.old) object.now output.now sizes.now (W.failed out.new)) }
     ensures status { IfOk result (λ status. status ≤ 1) }
 {

@@ -1,6 +1,7 @@
 //! The command `encode`.
 ghost use Rattle.std.specs.Prelude.{◌≡◌, ◌≤◌, IfOk, IfErr, OnOk};
 ghost use Rattle.std.specs.Io.KnownBytes.{Appends};
+ghost use Rattle.tool.specs.Folder.{told_by};
 ghost use Rattle.tool.specs.Making.{IsEncoded, IsNotEncoded};
 
 use crate::fault::Fault;
@@ -23,7 +24,7 @@ pub(crate) fn encode<'a, F: Folder, W: Write>(
     output: &'a str,
     sending: &Sending,
 ) -> Result<u8, Fault<'a>>
-    ensures ok { IfOk result (IsEncoded (F.content folder.old) object.now F.blank (F.written folder.new output.now) sending.now (W.contents out.old) (W.contents out.new)) }
+    ensures ok { IfOk result (IsEncoded (told_by (F.content folder.old) F.blank (F.written folder.new)) object.now output.now sending.now (W.contents out.old) (W.contents out.new)) }
     ensures fault { IfErr result (IsNotEncoded (F.content folder.old) object.now output.now sending.now (W.failed out.new)) }
     ensures status { IfOk result (λ status. status ≤ 1) }
 {

@@ -1,7 +1,7 @@
 //! A folder in memory.
-ghost use Rattle.std.specs.Prelude.{◌≡◌, ◌<◌, [], Some, length};
+ghost use Rattle.std.specs.Prelude.{◌≡◌, ◌<◌, [], None, Some, length, IsOk, IfOk, OnOk, OnErr};
 ghost use Rattle.std.specs.Option.{option_map};
-ghost use Rattle.tool.specs.Files.{content_of, written_under};
+ghost use Rattle.tool.specs.Files.{content_of, written_under, IsBlank, AddsFile};
 
 use crate::folder::Folder;
 use session::{Failed, Pieces, Sink};
@@ -64,19 +64,34 @@ impl<'a> Folder for MemoryFolder<'a> {
 
     ghost written = { λ folder. written_under folder.created.items };
 
-    fn open_file(&mut self, name: &str) -> Result<Pieces<'a>, Failed> {
+    /// Opens each file that is there to be read.
+    fn open_file(&mut self, name: &str) -> Result<Pieces<'a>, Failed>
+        ensures input { IfOk result (λ file. Some file.bytes.now ≡ content_of self.old.files.now name.now) }
+        ensures fails { OnErr result (content_of self.old.files.now name.now ≡ None) }
+        ensures stays { self.new ≡ self.old }
+    {
         match bytes_of(self.files, name) {
             Some(bytes) => Ok(Pieces::new(bytes, self.most)),
             None => Err(Failed),
         }
     }
 
-    fn create_file(&mut self, _name: &str) -> Result<Sink, Failed> {
+    /// Always creates a file, of which the folder knows once it is given back.
+    fn create_file(&mut self, _name: &str) -> Result<Sink, Failed>
+        ensures ok { IsOk result }
+        ensures blank { IfOk result IsBlank }
+        ensures stays { self.new ≡ self.old }
+    {
         Ok(Sink::new(self.alloc))
     }
 
-    #[tactic(auto, using(crate::proofs::Found::just_written))]
-    fn close_file(&mut self, name: &str, output: Sink) -> Result<(), Failed> {
+    /// Puts the file behind those that were created. Fails only for want of memory, and then they stay as they were.
+    fn close_file(&mut self, name: &str, output: Sink) -> Result<(), Failed>
+        ensures ok { OnOk result (AddsFile self.old.created.items self.new.created.items name.now output) }
+        ensures err { OnErr result (self.new.created.items ≡ self.old.created.items) }
+        ensures files { self.new.files ≡ self.old.files }
+        ensures most { self.new.most ≡ self.old.most }
+    {
         let Ok(kept) = name.to_string(self.alloc) else {
             return Err(Failed);
         };

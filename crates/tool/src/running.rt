@@ -1,5 +1,6 @@
 //! Doing what was asked for.
 ghost use Rattle.std.specs.Prelude.{◌≤◌, IfOk, IfErr};
+ghost use Rattle.tool.specs.Folder.{told_by};
 ghost use Rattle.tool.specs.Outcomes.{IsRun, IsDone, IsUndone};
 
 use crate::certify::certify;
@@ -24,7 +25,7 @@ fn perform<'a, F: Folder, W: Write>(
     folder: &mut F,
     out: &mut W,
 ) -> Result<u8, Fault<'a>>
-    ensures ok { IfOk result (IsDone (F.content folder.old) F.blank (F.written folder.new) request.now (W.contents out.old) (W.contents out.new)) }
+    ensures ok { IfOk result (IsDone (told_by (F.content folder.old) F.blank (F.written folder.new)) request.now (W.contents out.old) (W.contents out.new)) }
     ensures fault { IfErr result (IsUndone (F.content folder.old) request.now (W.failed out.new)) }
     ensures status { IfOk result (λ status. status ≤ 3) }
 {
@@ -68,7 +69,7 @@ pub fn run<F: Folder, W: Write>(
     folder: &mut F,
     out: &mut W,
 ) -> u8
-    ensures run { IsRun (F.content folder.old) F.blank (F.written folder.new) request.now (W.contents out.old) (W.contents out.new) result }
+    ensures run { IsRun (told_by (F.content folder.old) F.blank (F.written folder.new)) request.now (W.contents out.old) (W.contents out.new) result }
     ensures status { result ≤ 3 }
 {
     match perform(alloc, request, folder, out) {

@@ -1,5 +1,6 @@
 //! The command `drop`.
 ghost use Rattle.std.specs.Prelude.{◌≡◌, ◌≤◌, IfOk, IfErr};
+ghost use Rattle.tool.specs.Folder.{told_by};
 ghost use Rattle.tool.specs.Making.{IsDropped, IsNotDropped};
 
 use crate::fault::Fault;
@@ -19,7 +20,7 @@ pub(crate) fn drop_places<'a, F: Folder, W: Write>(
     output: &'a str,
     places: &[usize],
 ) -> Result<u8, Fault<'a>>
-    ensures ok { IfOk result (IsDropped (F.content folder.old) session.now F.blank (F.written folder.new output.now) places.now (W.contents out.old) (W.contents out.new)) }
+    ensures ok { IfOk result (IsDropped (told_by (F.content folder.old) F.blank (F.written folder.new)) session.now output.now places.now (W.contents out.old) (W.contents out.new)) }
     ensures fault { IfErr result (IsNotDropped (F.content folder.old) session.now output.now places.now (W.failed out.new)) }
     ensures status { IfOk result (λ status. status ≤ 1) }
 {

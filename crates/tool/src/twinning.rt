@@ -1,5 +1,6 @@
 //! The command `twin`.
 ghost use Rattle.std.specs.Prelude.{◌≡◌, ◌≤◌, IfOk, IfErr};
+ghost use Rattle.tool.specs.Folder.{told_by};
 ghost use Rattle.tool.specs.Lines.{twin_line};
 ghost use Rattle.tool.specs.Outcomes.{short_of, IsTwinned, IsUntwinned};
 
@@ -24,7 +25,7 @@ pub(crate) fn twin<'a, F: Folder, W: Write>(
     certificate: &'a str,
     output: &'a str,
 ) -> Result<u8, Fault<'a>>
-    ensures ok { IfOk result (IsTwinned (F.content folder.old) session.now object.now certificate.now F.blank (F.written folder.new output.now) (W.contents out.old) (W.contents out.new)) }
+    ensures ok { IfOk result (IsTwinned (told_by (F.content folder.old) F.blank (F.written folder.new)) session.now object.now certificate.now output.now (W.contents out.old) (W.contents out.new)) }
     ensures fault { IfErr result (IsUntwinned (F.content folder.old) session.now object.now certificate.now output.now (W.failed out.new)) }
     ensures status { IfOk result (λ status. status ≤ 1) }
 {
