@@ -7,7 +7,7 @@ ghost use Rattle.cert.specs.Certificate.{IsCertificate};
 ghost use Rattle.cert.specs.Headline.{DecodesWhereEnough, UndecidedElse};
 ghost use Rattle.cert.specs.Report.{IsReport, OnYes};
 ghost use Rattle.cert.specs.Scan.{AreEnough, IsThin, AreCertified, IsNotCertified};
-ghost use Rattle.cert.specs.Verdict.{IsVerdict};
+ghost use Rattle.cert.specs.Verdict.{GivesObject, IsVerdict};
 
 use crate::certificate::{Certificate, are_bytes};
 use crate::certified_symbols::CertifiedSymbols;
@@ -57,8 +57,10 @@ fn report_of(
     alloc: Global,
     session: &Session,
     symbols: &CertifiedSymbols<'_>,
+    object: &[u8],
     row: &mut [u8],
 ) -> Result<Report, Refusal>
+    requires gives { GivesObject object.now symbols.now.certificate.now }
     requires some { 0 < length session.now }
     requires datagrams { AreDatagrams session.now }
     requires room { length row.old ≡ symbols.now.certificate.now.fti.symbol_length }
@@ -66,7 +68,7 @@ fn report_of(
     ensures certified { OnOk result (AreCertified session.now symbols.now.certificate.now) }
     ensures refusal { IfErr result (IsNotCertified session.now symbols.now.certificate.now) }
 {
-    let numbers = match numbers_of_session(alloc, session, symbols, row) {
+    let numbers = match numbers_of_session(alloc, session, symbols, object, row) {
         Ok(numbers) => numbers,
         Err(refusal) => return Err(refusal),
     };
@@ -122,7 +124,7 @@ fn judge(
     if datagrams == 0 {
         return Ok(Verdict::No(Reason::Empty));
     }
-    match report_of(alloc, session, &symbols, &mut row) {
+    match report_of(alloc, session, &symbols, object, &mut row) {
         Ok(report) => Ok(Verdict::Yes(report)),
         Err(Refusal::Reason(reason)) => Ok(Verdict::No(reason)),
         Err(Refusal::NoMemory) => Err(AllocError),

@@ -2,7 +2,7 @@
 ghost use Rattle.std.specs.Prelude.{◌≡◌, ◌≢◌, ◌+◌, ◌<◌, ◌≤◌, ◌^◌, ◌↔◌, ℕ, length, slice_index, IsTrue, IsNone, IfSome};
 ghost use Rattle.gf256.specs.Arithmetic.{IsByte};
 ghost use Rattle.poly.specs.Polynomial.{value};
-ghost use Rattle.partition.specs.Fti.{block_count, source_count};
+ghost use Rattle.partition.specs.Fti.{block_count, source_byte, source_count};
 ghost use Rattle.cert.specs.CoefficientRows.{GivesBlock};
 ghost use Rattle.cert.specs.Verdict.{GivesAt, GivesObject, IsFirstIn, IsFirstInBlock, IsNotGiven};
 
@@ -10,6 +10,7 @@ use crate::certificate::Certificate;
 use crate::certified_symbols::CertifiedSymbols;
 use crate::verdict::Reason;
 use gf256::{Field, Gf, point};
+use partition::Fti;
 
 /// The value at `x` of the polynomial with these coefficients, the constant one first.
 pub(crate) fn value_at(coefficients: &[u8], x: Gf) -> u8
@@ -94,6 +95,24 @@ fn is_padded(symbol: &[u8], bytes: &[u8]) -> bool
     true
 }
 
+/// Whether these bytes are a source symbol of a block of the object, with zeros where there is padding.
+pub(crate) fn is_source_symbol(
+    object: &[u8],
+    fti: &Fti,
+    block: u32,
+    i: usize,
+    symbol: &[u8],
+) -> bool
+    requires block { block < block_count fti.now }
+    requires source { i < source_count fti.now block }
+    requires symbol { length symbol.now ≡ fti.now.symbol_length }
+    ensures { IsTrue result ↔ ((c : ℕ) → c < fti.now.symbol_length → slice_index symbol.now c ≡ source_byte fti.now object.now block i c) }
+{
+    let length = usize::from(fti.symbol());
+    let from = (fti.start(block) as usize + i) * length;
+    is_padded(symbol, part_of(object, from, length))
+}
+
 // Whether the polynomials give a block of the object, symbol by symbol. `symbol` is room for one.
 fn is_given(object: &[u8], symbols: &CertifiedSymbols<'_>, block: u32, symbol: &mut [u8]) -> bool
     requires block { block < block_count symbols.now.certificate.now.fti }
@@ -102,11 +121,9 @@ fn is_given(object: &[u8], symbols: &CertifiedSymbols<'_>, block: u32, symbol: &
     ensures given { IsTrue result ↔ GivesBlock object.now symbols.now.certificate.now block }
 {
     let fti = symbols.certificate.fti();
-    let start = fti.start(block) as usize;
-    let length = usize::from(fti.symbol());
     for i in 0..fti.k(block) {
         symbols.put(block, i as u8, symbol);
-        if !is_padded(symbol, part_of(object, (start + i) * length, length)) {
+        if !is_source_symbol(object, &fti, block, i, symbol) {
             return false;
         }
     }
