@@ -1,4 +1,3 @@
-pub mod Blocks
 pub mod Found
 pub mod Gains
 pub mod Shown

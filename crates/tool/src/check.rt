@@ -1,8 +1,7 @@
 //! The command `check`.
-ghost use Rattle.std.specs.Prelude.{◌≡◌, ◌≤◌, decimal, IfOk, IfErr, OnOk};
-ghost use Rattle.std.specs.Io.KnownBytes.{Appends};
+ghost use Rattle.std.specs.Prelude.{◌≡◌, ◌≤◌, ◌++◌, decimal, IfOk, IfErr, OnOk};
 ghost use Rattle.tool.specs.Outcomes.{IsChecked, IsUnchecked};
-ghost use Rattle.tool.specs.Lines.{line_of, named, block_line, kill_line, losses_text, report_text, GainsReason, IsNoLine, IsPrintFault};
+ghost use Rattle.tool.specs.Lines.{line_of, named, block_line, kill_line, losses_text, report_text, GainsReason, IsNoLine};
 
 use crate::fault::Fault;
 use crate::folder::Folder;
@@ -32,7 +31,7 @@ pub(crate) fn check<'a, F: Folder, W: Write>(
     let certificate = read_certificate(alloc, folder, certificate)?;
     match cert::check(alloc, &session, object.as_slice(), &certificate)? {
         Verdict::Yes(report) => {
-            print_report(alloc, out, &report)?;
+            report_lines(alloc, &report)?.print(out)?;
             Ok(0)
         }
         Verdict::No(reason) => {
@@ -42,35 +41,15 @@ pub(crate) fn check<'a, F: Folder, W: Write>(
     }
 }
 
-fn print_block<'a, W: Write>(
-    alloc: Global,
-    out: &mut W,
-    block: usize,
-    counts: (usize, usize),
-) -> Result<(), Fault<'a>>
-    ensures ok { OnOk result (Appends (W.contents out.old) (W.contents out.new) (line_of (block_line block counts))) }
-    ensures fault { IfErr result (IsPrintFault (W.failed out.new)) }
+fn block_line_of(alloc: Global, block: usize, counts: (usize, usize)) -> Result<Line, AllocError>
+    ensures { IfOk result (λ line. line ≡ block_line block counts) }
 {
     let (need, have) = counts;
     let mut line = Line::new(alloc);
     line.named("block", block)?;
     line.named(" need", need)?;
     line.named(" have", have)?;
-    line.print(out)
-}
-
-fn print_report<'a, W: Write>(alloc: Global, out: &mut W, report: &Report) -> Result<(), Fault<'a>>
-    ensures ok { OnOk result (Appends (W.contents out.old) (W.contents out.new) (report_text report.now)) }
-    ensures fault { IfErr result (IsPrintFault (W.failed out.new)) }
-{
-    let mut yes = Line::new(alloc);
-    yes.text("yes")?;
-    yes.print(out)?;
-    for (block, counts) in report.blocks.iter().enumerate() {
-        print_block(alloc, out, block, *counts)?;
-    }
-    print_losses(alloc, out, report)?;
-    Ok(())
+    Ok(line)
 }
 
 fn kill_line_of(alloc: Global, places: &[usize]) -> Result<Line, AllocError>
@@ -84,28 +63,34 @@ fn kill_line_of(alloc: Global, places: &[usize]) -> Result<Line, AllocError>
     Ok(line)
 }
 
-fn print_number<'a, W: Write>(
-    alloc: Global,
-    out: &mut W,
-    name: &str,
-    number: usize,
-) -> Result<(), Fault<'a>>
-    ensures ok { OnOk result (Appends (W.contents out.old) (W.contents out.new) (line_of (named name.now (decimal number)))) }
-    ensures fault { IfErr result (IsPrintFault (W.failed out.new)) }
+fn number_line(alloc: Global, name: &str, number: usize) -> Result<Line, AllocError>
+    ensures { IfOk result (λ line. line ≡ named name.now (decimal number)) }
 {
     let mut line = Line::new(alloc);
     line.named(name, number)?;
-    line.print(out)
+    Ok(line)
 }
 
-fn print_losses<'a, W: Write>(alloc: Global, out: &mut W, report: &Report) -> Result<(), Fault<'a>>
-    ensures ok { OnOk result (Appends (W.contents out.old) (W.contents out.new) (losses_text report.now)) }
-    ensures fault { IfErr result (IsPrintFault (W.failed out.new)) }
+// Puts the lines of what can be lost last.
+fn put_losses(alloc: Global, lines: &mut Line, report: &Report) -> Result<(), AllocError>
+    ensures { OnOk result (line_of lines.new ≡ line_of lines.old ++ losses_text report.now) }
 {
-    print_number(alloc, out, "margin", report.margin)?;
-    kill_line_of(alloc, report.kill.as_slice())?.print(out)?;
-    print_number(alloc, out, "burst", report.burst)?;
-    Ok(())
+    lines.put_line(&number_line(alloc, "margin", report.margin)?)?;
+    lines.put_line(&kill_line_of(alloc, report.kill.as_slice())?)?;
+    lines.put_line(&number_line(alloc, "burst", report.burst)?)
+}
+
+// The lines of a yes: they are printed together, so that want of memory leaves no yes behind.
+fn report_lines(alloc: Global, report: &Report) -> Result<Line, AllocError>
+    ensures { IfOk result (λ lines. line_of lines ≡ report_text report.now) }
+{
+    let mut lines = Line::new(alloc);
+    lines.text("yes")?;
+    for (block, counts) in report.blocks.iter().enumerate() {
+        lines.put_line(&block_line_of(alloc, block, *counts)?)?;
+    }
+    put_losses(alloc, &mut lines, report)?;
+    Ok(lines)
 }
 
 // Puts a reason last.

@@ -10,7 +10,7 @@ use session::{Write, write_all};
 use std::alloc::{AllocError, Global};
 use std::marker::Model;
 
-/// A line that is being made.
+/// A line that is being made, or some.
 #[derive(Drop)]
 pub(crate) struct Line {
     bytes: Vec<u8>,
@@ -59,6 +59,14 @@ impl Line {
         self.text(name)?;
         self.text(" ")?;
         self.number(number)
+    }
+
+    /// Puts a line feed and another line last. After a fault there may be the line feed alone.
+    pub(crate) fn put_line(&mut self, line: &Line) -> Result<(), AllocError>
+        ensures { OnOk result (line_of self.new ≡ line_of self.old ++ line_of line.now) }
+    {
+        self.bytes.push(b'\n')?;
+        self.bytes.extend_from_slice(line.bytes.as_slice())
     }
 
     /// Writes the line, and a line feed.
