@@ -1,5 +1,5 @@
 -- Printed lines.
-use Rattle.std.specs.Prelude.{◌≡◌, ℕ, zero, suc, Bool, true, List, [], ◌∷◌, ◌++◌, Option, length, slice_index_or, flat_map, codes, decimal, Ok, Err, ⊤}
+use Rattle.std.specs.Prelude.{◌≡◌, ℕ, zero, suc, Bool, true, List, [], ◌∷◌, ◌++◌, Option, length, slice_index_or, flat_map, ◌⊎◌, codes, decimal, Ok, Err, ⊤}
 use Rattle.std.specs.Io.KnownBytes.{Appends}
 use Rattle.alc.specs.Packet.{Packet as Sent}
 use Rattle.alc.specs.Reading.{Reading, Reads}
@@ -9,7 +9,7 @@ use Rattle.cert.specs.declared.verdict.Reason.TheVariants.{ObjectLength, NotObje
 use Rattle.cert.specs.declared.verdict.Verdict.{Verdict}
 use Rattle.cert.specs.declared.verdict.Verdict.TheVariants.{Yes, No}
 use Rattle.tool.specs.declared.fault.Fault.{Fault}
-use Rattle.tool.specs.declared.fault.Fault.TheVariants.{Memory, Output}
+use Rattle.tool.specs.declared.fault.Fault.TheVariants.{Open, File, Memory, Output}
 
 -- a line as it is printed, with its line feed
 abbrev pub line_of : List ℕ → List ℕ
@@ -24,6 +24,24 @@ abbrev pub IsPrintFault : Bool → Fault → Type 0
 IsPrintFault failed Memory = ⊤
 IsPrintFault failed Output = failed ≡ true
 IsPrintFault failed _ = ⊥
+
+-- nothing was printed before a fault, if it isn't one of the output
+abbrev pub IsSilent : Fault → Option (List ℕ) → Option (List ℕ) → Type 0
+IsSilent Output before after = ⊤
+IsSilent fault before after = after ≡ before
+
+-- what the line of a fault says; faults of formats have their own words
+abbrev pub IsFaultText : Fault → List ℕ → Type 0
+IsFaultText (Open name) text = text ≡ codes "open " ++ name.now
+IsFaultText (File name) text = text ≡ codes "file " ++ name.now
+IsFaultText Memory text = text ≡ codes "memory"
+IsFaultText _ text = ⊤
+
+-- The line of the fault was printed, or that there was no memory for it, unless the output has failed.
+abbrev pub TellsFault : Fault → Bool → Option (List ℕ) → Option (List ℕ) → Type 0
+TellsFault fault failed before after =
+    (failed ≡ true)
+    ⊎ ((text : List ℕ) × (IsFaultText fault text ⊎ (text ≡ codes "memory")) × Appends before after (line_of (codes "fault " ++ text)))
 
 -- a block's line at a yes, by its number and how many symbols it needs and has
 abbrev pub block_line : ℕ → ℕ × ℕ → List ℕ

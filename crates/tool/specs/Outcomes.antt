@@ -16,9 +16,10 @@ use Rattle.cert.specs.declared.verdict.Verdict.TheVariants.{Yes, No}
 use Rattle.request.specs.declared.requests.Request.{Request}
 use Rattle.request.specs.declared.requests.Request.TheVariants.{Check, Twin, Show, Encode, Certify, Decode, Drop}
 use Rattle.tool.specs.declared.fault.Fault.{Fault}
+use Rattle.tool.specs.declared.fault.Fault.TheVariants.{Output}
 use Rattle.tool.specs.Folder.{Contents, Told}
 use Rattle.tool.specs.Inputs.{HoldsSession, HoldsBytes, HoldsCertificate, IsSessionUnread, IsObjectUnread, IsCertificateUnread}
-use Rattle.tool.specs.Lines.{IsPrintFault, Prints, PrintsTwin, PrintsDatagrams}
+use Rattle.tool.specs.Lines.{IsPrintFault, IsSilent, TellsFault, Prints, PrintsTwin, PrintsDatagrams}
 use Rattle.tool.specs.Decoding.{IsDecoded, IsNotDecoded}
 use Rattle.tool.specs.Making.{IsEncoded, IsNotEncoded, IsCertified, IsNotCertified, IsDropped, IsNotDropped, IsFileFault}
 
@@ -133,8 +134,22 @@ IsUndone contents (Certify object output sizes) failed fault = IsNotCertified co
 IsUndone contents (Decode session output) failed fault = IsNotDecoded contents session.now output.now failed fault
 IsUndone contents (Drop session output places) failed fault = IsNotDropped contents session.now output.now places.items failed fault
 
--- The request was done, with this status, or there was a fault, and the status is 1.
-abbrev pub IsRun : Told → Request → Option (List ℕ) → Option (List ℕ) → ℕ → Type 0
-IsRun folder request before after status =
-    IsDone folder request before after status
-    ⊎ ((status ≡ 1) × (failed : Bool) × (fault : Fault) × IsUndone folder.contents request failed fault)
+-- What was printed before a fault: nothing, but of datagrams that are shown some lines.
+abbrev pub IsCut : Request → Fault → Option (List ℕ) → Option (List ℕ) → Type 0
+IsCut (Show session) fault before after = ⊤
+IsCut request fault before after = IsSilent fault before after
+
+-- The request wasn't done. Behind what was printed before, the fault was told, if it isn't one of the output.
+pub record HasFault (folder : Told) (request : Request) (failed : Bool) (before after : Option (List ℕ)) (status : ℕ) : Type 0 where
+  pub fault : Fault
+  pub failed_then : Bool
+  pub undone : IsUndone folder.contents request failed_then fault
+  pub printed : Option (List ℕ)
+  pub cut : IsCut request fault before printed
+  pub told : (fault ≡ Output) ⊎ TellsFault fault failed printed after
+  pub one : status ≡ 1
+
+-- The request was done, with this status, or there was a fault.
+abbrev pub IsRun : Told → Request → Bool → Option (List ℕ) → Option (List ℕ) → ℕ → Type 0
+IsRun folder request failed before after status =
+    IsDone folder request before after status ⊎ HasFault folder request failed before after status

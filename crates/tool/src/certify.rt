@@ -1,6 +1,7 @@
 //! The command `certify`.
 ghost use Rattle.std.specs.Prelude.{◌≡◌, ◌≤◌, IfOk, IfErr};
 ghost use Rattle.tool.specs.Folder.{told_by};
+ghost use Rattle.tool.specs.Lines.{IsSilent};
 ghost use Rattle.tool.specs.Making.{IsCertified, IsNotCertified};
 
 use crate::fault::Fault;
@@ -25,6 +26,7 @@ pub(crate) fn certify<'a, F: Folder, W: Write>(
 ) -> Result<u8, Fault<'a>>
     ensures ok { IfOk result (IsCertified (told_by (F.content folder.old) F.blank (F.written folder.new)) object.now output.now sizes.now (W.contents out.old) (W.contents out.new)) }
     ensures fault { IfErr result (IsNotCertified (F.content folder.old) object.now output.now sizes.now (W.failed out.new)) }
+    ensures silent { IfErr result (λ fault. IsSilent fault (W.contents out.old) (W.contents out.new)) }
     ensures status { IfOk result (λ status. status ≤ 1) }
 {
     let object = read_object(alloc, folder, object)?;

@@ -1,7 +1,7 @@
 //! The command `check`.
 ghost use Rattle.std.specs.Prelude.{◌≡◌, ◌≤◌, ◌++◌, decimal, IfOk, IfErr, OnOk};
 ghost use Rattle.tool.specs.Outcomes.{IsChecked, IsUnchecked};
-ghost use Rattle.tool.specs.Lines.{line_of, named, block_line, kill_line, losses_text, report_text, GainsReason, IsNoLine};
+ghost use Rattle.tool.specs.Lines.{line_of, named, block_line, kill_line, losses_text, report_text, GainsReason, IsNoLine, IsSilent};
 
 use crate::fault::Fault;
 use crate::folder::Folder;
@@ -23,6 +23,7 @@ pub(crate) fn check<'a, F: Folder, W: Write>(
     // The verdict is on what the three files hold.
     ensures ok { IfOk result (IsChecked (F.content folder.old) session.now object.now certificate.now (W.contents out.old) (W.contents out.new)) }
     ensures fault { IfErr result (IsUnchecked (F.content folder.old) session.now object.now certificate.now (W.failed out.new)) }
+    ensures silent { IfErr result (λ fault. IsSilent fault (W.contents out.old) (W.contents out.new)) }
     ensures status { IfOk result (λ status. status ≤ 1) }
     ensures stays { F.content folder.new ≡ F.content folder.old }
 {

@@ -2,6 +2,7 @@
 ghost use Rattle.std.specs.Prelude.{◌≡◌, ◌≤◌, IfOk, IfErr, OnOk, codes};
 ghost use Rattle.tool.specs.Decoding.{GainsFault, missing_text, object_text, IsAnswerLine, answer_status, WritesObject, IsDecoded, IsNotDecoded};
 ghost use Rattle.tool.specs.Folder.{told_by};
+ghost use Rattle.tool.specs.Lines.{IsSilent};
 ghost use Rattle.tool.specs.Making.{IsFileFault};
 
 use crate::fault::Fault;
@@ -24,6 +25,7 @@ pub(crate) fn decode<'a, F: Folder, W: Write>(
 ) -> Result<u8, Fault<'a>>
     ensures ok { IfOk result (IsDecoded (told_by (F.content folder.old) F.blank (F.written folder.new)) session.now output.now (W.contents out.old) (W.contents out.new)) }
     ensures fault { IfErr result (IsNotDecoded (F.content folder.old) session.now output.now (W.failed out.new)) }
+    ensures silent { IfErr result (λ fault. IsSilent fault (W.contents out.old) (W.contents out.new)) }
     ensures status { IfOk result (λ status. status ≤ 3) }
 {
     let session = read_session(alloc, folder, session)?;

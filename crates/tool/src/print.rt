@@ -2,7 +2,7 @@
 ghost use Rattle.std.specs.Prelude.{◌≡◌, ◌++◌, ◌∷◌, [], IfErr, OnErr, OnOk};
 ghost use Rattle.std.specs.Io.KnownBytes.{Appends};
 ghost use Rattle.session.specs.Frames.{AppendsSome};
-ghost use Rattle.tool.specs.Lines.{line_of, named, IsPrintFault};
+ghost use Rattle.tool.specs.Lines.{line_of, named, IsPrintFault, IsSilent};
 
 use crate::fault::Fault;
 use itoa::{Buffer, Integer};
@@ -74,6 +74,7 @@ impl Line {
         ensures ok { OnOk result (Appends (W.contents out.old) (W.contents out.new) (line_of self)) }
         ensures err { OnErr result (AppendsSome (W.contents out.old) (W.contents out.new) (line_of self)) }
         ensures fault { IfErr result (IsPrintFault (W.failed out.new)) }
+        ensures silent { IfErr result (λ fault. IsSilent fault (W.contents out.old) (W.contents out.new)) }
     {
         let Line { mut bytes } = self;
         let Ok(()) = bytes.push(b'\n') else {

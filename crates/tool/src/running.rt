@@ -1,7 +1,10 @@
 //! Doing what was asked for.
-ghost use Rattle.std.specs.Prelude.{◌≤◌, IfOk, IfErr};
+ghost use Rattle.std.specs.Prelude.{◌≡◌, ◌⊎◌, ◌≤◌, ◌++◌, ℕ, List, true, codes, IfOk, IfErr, OnOk};
+ghost use Rattle.std.specs.Io.KnownBytes.{Appends};
 ghost use Rattle.tool.specs.Folder.{told_by};
-ghost use Rattle.tool.specs.Outcomes.{IsRun, IsDone, IsUndone};
+ghost use Rattle.tool.specs.Lines.{line_of, IsFaultText, IsPrintFault, IsSilent, TellsFault};
+ghost use Rattle.tool.specs.Outcomes.{IsRun, IsDone, IsUndone, IsCut};
+ghost use Rattle.tool.specs.declared.fault.Fault.TheVariants.{Output};
 
 use crate::certify::certify;
 use crate::check::check;
@@ -27,6 +30,7 @@ fn perform<'a, F: Folder, W: Write>(
 ) -> Result<u8, Fault<'a>>
     ensures ok { IfOk result (IsDone (told_by (F.content folder.old) F.blank (F.written folder.new)) request.now (W.contents out.old) (W.contents out.new)) }
     ensures fault { IfErr result (IsUndone (F.content folder.old) request.now (W.failed out.new)) }
+    ensures cut { IfErr result (λ fault. IsCut request.now fault (W.contents out.old) (W.contents out.new)) }
     ensures status { IfOk result (λ status. status ≤ 3) }
 {
     match request {
@@ -69,7 +73,7 @@ pub fn run<F: Folder, W: Write>(
     folder: &mut F,
     out: &mut W,
 ) -> u8
-    ensures run { IsRun (told_by (F.content folder.old) F.blank (F.written folder.new)) request.now (W.contents out.old) (W.contents out.new) result }
+    ensures run { IsRun (told_by (F.content folder.old) F.blank (F.written folder.new)) request.now (W.failed out.new) (W.contents out.old) (W.contents out.new) result }
     ensures status { result ≤ 3 }
 {
     match perform(alloc, request, folder, out) {
@@ -81,32 +85,46 @@ pub fn run<F: Folder, W: Write>(
     }
 }
 
-// Prints a fault, if there is an output and memory for it.
-fn tell<W: Write>(alloc: Global, out: &mut W, fault: Fault<'_>) {
+// Prints a fault, or, if there is no memory for its line, that; nothing where the output has failed.
+fn tell<W: Write>(alloc: Global, out: &mut W, fault: Fault<'_>)
+    ensures { (fault.entry ≡ Output) ⊎ TellsFault fault.entry (W.failed out.new) (W.contents out.old) (W.contents out.new) }
+{
     match fault {
         Fault::Output => {}
         Fault::Memory => tell_memory(out),
-        _ => match fault_line(alloc, fault) {
-            Ok(line) => {
-                let _ = line.print(out);
-            }
-            Err(_) => tell_memory(out),
+        _ => match print_fault(alloc, out, fault) {
+            Err(Fault::Memory) => tell_memory(out),
+            _ => {}
         },
     }
 }
 
+fn print_fault<'a, W: Write>(alloc: Global, out: &mut W, fault: Fault<'_>) -> Result<(), Fault<'a>>
+    ensures ok { OnOk result ((text : List ℕ) × IsFaultText fault.entry text × Appends (W.contents out.old) (W.contents out.new) (line_of (codes "fault " ++ text))) }
+    ensures fault { IfErr result (IsPrintFault (W.failed out.new)) }
+    ensures silent { IfErr result (λ fault. IsSilent fault (W.contents out.old) (W.contents out.new)) }
+{
+    fault_line(alloc, fault)?.print(out)
+}
+
 // Takes no memory.
-fn tell_memory<W: Write>(out: &mut W) {
+fn tell_memory<W: Write>(out: &mut W)
+    ensures { (W.failed out.new ≡ true) ⊎ Appends (W.contents out.old) (W.contents out.new) (codes "fault memory\n") }
+{
     let _ = write_all(out, b"fault memory\n");
 }
 
 // Puts a fault's own words last.
-fn put<D: Display + Drop>(alloc: Global, line: &mut Line, fault: D) -> Result<(), AllocError> {
+fn put<D: Display + Drop>(alloc: Global, line: &mut Line, fault: D) -> Result<(), AllocError>
+    ensures { OnOk result ((words : List ℕ) × (line.new ≡ line.old ++ words)) }
+{
     let text = format!(in alloc; "{fault}")?;
     line.text(text.as_str())
 }
 
-fn fault_line(alloc: Global, fault: Fault<'_>) -> Result<Line, AllocError> {
+fn fault_line(alloc: Global, fault: Fault<'_>) -> Result<Line, AllocError>
+    ensures { IfOk result (λ line. (text : List ℕ) × IsFaultText fault.entry text × (line ≡ codes "fault " ++ text)) }
+{
     let mut line = Line::new(alloc);
     line.text("fault ")?;
     match fault {
