@@ -128,3 +128,8 @@ IsShownText datagrams (suc n) text =
 -- what was printed of them, where it is told
 abbrev pub PrintsDatagrams : List (List ℕ) → ℕ → Option (List ℕ) → Option (List ℕ) → Type 0
 PrintsDatagrams datagrams n before after = (text : List ℕ) × IsShownText datagrams n text × Appends before after text
+
+-- the lines of the first of them were printed before a fault, if it isn't one of the output
+abbrev pub PrintsSome : List (List ℕ) → Fault → Option (List ℕ) → Option (List ℕ) → Type 0
+PrintsSome datagrams Output before after = ⊤
+PrintsSome datagrams fault before after = (n : ℕ) × PrintsDatagrams datagrams n before after

@@ -19,7 +19,7 @@ use Rattle.tool.specs.declared.fault.Fault.{Fault}
 use Rattle.tool.specs.declared.fault.Fault.TheVariants.{Output}
 use Rattle.tool.specs.Folder.{Contents, Told}
 use Rattle.tool.specs.Inputs.{HoldsSession, HoldsBytes, HoldsCertificate, IsSessionUnread, IsObjectUnread, IsCertificateUnread}
-use Rattle.tool.specs.Lines.{IsPrintFault, IsSilent, TellsFault, Prints, PrintsTwin, PrintsDatagrams}
+use Rattle.tool.specs.Lines.{IsPrintFault, IsSilent, TellsFault, Prints, PrintsTwin, PrintsDatagrams, PrintsSome}
 use Rattle.tool.specs.Decoding.{IsDecoded, IsNotDecoded}
 use Rattle.tool.specs.Making.{IsEncoded, IsNotEncoded, IsCertified, IsNotCertified, IsDropped, IsNotDropped, IsFileFault}
 
@@ -134,10 +134,16 @@ IsUndone contents (Certify object output sizes) failed fault = IsNotCertified co
 IsUndone contents (Decode session output) failed fault = IsNotDecoded contents session.now output.now failed fault
 IsUndone contents (Drop session output places) failed fault = IsNotDropped contents session.now output.now places.items failed fault
 
--- What was printed before a fault: nothing, but of datagrams that are shown some lines.
-abbrev pub IsCut : Request → Fault → Option (List ℕ) → Option (List ℕ) → Type 0
-IsCut (Show session) fault before after = ⊤
-IsCut request fault before after = IsSilent fault before after
+-- the lines of the first datagrams were printed before a fault, or none
+abbrev pub IsShownInPart : Contents → List ℕ → Fault → Option (List ℕ) → Option (List ℕ) → Type 0
+IsShownInPart contents session fault before after =
+    IsSilent fault before after
+    ⊎ ((datagrams : List (List ℕ)) × HoldsSession contents session datagrams × PrintsSome datagrams fault before after)
+
+-- What was printed before a fault: nothing, but of datagrams that are shown the lines of the first.
+abbrev pub IsCut : Contents → Request → Fault → Option (List ℕ) → Option (List ℕ) → Type 0
+IsCut contents (Show session) fault before after = IsShownInPart contents session.now fault before after
+IsCut contents request fault before after = IsSilent fault before after
 
 -- The request wasn't done. Behind what was printed before, the fault was told, if it isn't one of the output.
 pub record HasFault (folder : Told) (request : Request) (failed : Bool) (before after : Option (List ℕ)) (status : ℕ) : Type 0 where
@@ -145,7 +151,7 @@ pub record HasFault (folder : Told) (request : Request) (failed : Bool) (before 
   pub failed_then : Bool
   pub undone : IsUndone folder.contents request failed_then fault
   pub printed : Option (List ℕ)
-  pub cut : IsCut request fault before printed
+  pub cut : IsCut folder.contents request fault before printed
   pub told : (fault ≡ Output) ⊎ TellsFault fault failed printed after
   pub one : status ≡ 1
 

@@ -30,7 +30,7 @@ fn perform<'a, F: Folder, W: Write>(
 ) -> Result<u8, Fault<'a>>
     ensures ok { IfOk result (IsDone (told_by (F.content folder.old) F.blank (F.written folder.new)) request.now (W.contents out.old) (W.contents out.new)) }
     ensures fault { IfErr result (IsUndone (F.content folder.old) request.now (W.failed out.new)) }
-    ensures cut { IfErr result (λ fault. IsCut request.now fault (W.contents out.old) (W.contents out.new)) }
+    ensures cut { IfErr result (λ fault. IsCut (F.content folder.old) request.now fault (W.contents out.old) (W.contents out.new)) }
     ensures status { IfOk result (λ status. status ≤ 3) }
 {
     match request {

@@ -1,8 +1,8 @@
 //! The command `show`.
 ghost use Rattle.std.specs.Prelude.{◌≡◌, ◌≤◌, length, Err, IfOk, IfErr, OnOk};
 ghost use Rattle.alc.specs.Views.{packet_of};
-ghost use Rattle.tool.specs.Outcomes.{IsShown, IsShownStatus, IsUnshown};
-ghost use Rattle.tool.specs.Lines.{packet_text, IsReadingLine, PrintsDatagrams, IsPrintFault};
+ghost use Rattle.tool.specs.Outcomes.{IsShown, IsShownStatus, IsUnshown, IsShownInPart};
+ghost use Rattle.tool.specs.Lines.{packet_text, IsReadingLine, PrintsDatagrams, PrintsSome, IsPrintFault};
 
 use crate::fault::Fault;
 use crate::folder::Folder;
@@ -21,6 +21,7 @@ pub(crate) fn show<'a, F: Folder, W: Write>(
 ) -> Result<u8, Fault<'a>>
     ensures ok { IfOk result (IsShown (F.content folder.old) session.now (W.contents out.old) (W.contents out.new)) }
     ensures fault { IfErr result (IsUnshown (F.content folder.old) session.now (W.failed out.new)) }
+    ensures cut { IfErr result (λ fault. IsShownInPart (F.content folder.old) session.now fault (W.contents out.old) (W.contents out.new)) }
     ensures status { IfOk result (λ status. status ≤ 1) }
     ensures stays { F.content folder.new ≡ F.content folder.old }
 {
@@ -36,6 +37,7 @@ fn print_datagrams<'a, W: Write>(
     ensures ok { IfOk result (IsShownStatus session.now (length session.now)) }
     ensures printed { OnOk result (PrintsDatagrams session.now (length session.now) (W.contents out.old) (W.contents out.new)) }
     ensures fault { IfErr result (IsPrintFault (W.failed out.new)) }
+    ensures some { IfErr result (λ fault. PrintsSome session.now fault (W.contents out.old) (W.contents out.new)) }
     ensures status { IfOk result (λ status. status ≤ 1) }
 {
     let mut status = 0;
