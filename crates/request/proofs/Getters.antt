@@ -9,19 +9,22 @@ use Rattle.clap.specs.Matches.{ReadsOne, values_left}
 use Rattle.clap.specs.declared.parser.matches.ValuesRef.{ValuesRef}
 use Rattle.clap.specs.declared.parser.matches.Found.{Found}
 use Rattle.clap.proofs.WalkLemmas.{first_value-rows, one_text-rows, typed_values-rows}
-use Rattle.request.specs.Requests.{AnswersRead, Finds, Gives, GivesNone, IsNoPlaces, NoneIs, HasOrder, HasPlaces, HasSending, HasSizes, HasText, HasValues, IsRead, name_of, order_name}
+use Rattle.request.specs.Requests.{Asked, EncodeAsked, CertifyAsked, CheckAsked, DropAsked, DecodeAsked, TwinAsked, ShowAsked, AnswersRead, Gives, GivesNone, IsNoPlaces, NoneIs, HasOrder, HasPlaces, HasSending, HasSizes, HasText, HasValues, IsRead, name_of, order_name}
 use Rattle.request.specs.declared.requests.Request.{Request}
-use Rattle.request.specs.declared.requests.Request.TheVariants.{Check, Twin, Show, Encode, Certify, Decode, Drop}
 use Rattle.request.specs.declared.usage.Usage.{Usage}
 use Rattle.request.specs.declared.usage.Usage.TheVariants.{Help, Line, Value, NoMemory}
 
-pub text_found : (f : Found) (name : Text) (value : Option (Bor Text)) (result : Result (Bor Text) Usage)
+pub text_ok : (f : Found) (name : Text) (value : Option (Bor Text)) (result : Result (Bor Text) Usage)
     → option_map (λ s. s.now) value ≡ first_value f name → result ≡ ok_or value Value
-    → Finds (HasText (rows_of f) name) result
-text_found f name None result given is =
-    let none : first_of name (rows_of f) ≡ None = sym (first_value-rows f name) ∙ sym given in
-    rw is (tt, (refl, λ text has. let bad : None ≡ Some text.now = sym none ∙ has in cc))
-text_found f name (Some text) result given is = rw is (sym (first_value-rows f name) ∙ sym given, tt)
+    → IfOk result (λ text. HasText (rows_of f) name text.now)
+text_ok f name None result given is = rw is tt
+text_ok f name (Some text) result given is = rw is (sym (first_value-rows f name) ∙ sym given)
+
+pub text_err : (f : Found) (name : Text) (value : Option (Bor Text)) (result : Result (Bor Text) Usage)
+    → option_map (λ s. s.now) value ≡ first_value f name → result ≡ ok_or value Value
+    → IfErr result (λ usage. (usage ≡ Value) × (first_of name (rows_of f) ≡ None))
+text_err f name None result given is = rw is (refl, sym (first_value-rows f name) ∙ sym given)
+text_err f name (Some text) result given is = rw is tt
 
 module _ {N E : Type 0} (gives : Text → Result N E → Type 0) where
   abbrev Reads : Option Text → Option N → Type 0
@@ -49,8 +52,8 @@ module _ {N E : Type 0} (gives : Text → Result N E → Type 0) where
       rw is (number_answer (one_of name (rows_of f)) value reads).1
 
 -- with no text there is no order
-pub no_order : (rows : List Row) → NoneIs (HasText rows (codes "order")) → NoneIs (HasOrder rows)
-no_order rows none order has = none (record { ref_ptr = (0, 0); now = order_name order }) has
+pub no_order : (rows : List Row) → first_of (codes "order") rows ≡ None → NoneIs (HasOrder rows)
+no_order rows none order has = let bad : None ≡ Some (order_name order) = sym none ∙ has in cc
 
 -- with no sizes there is nothing to send
 pub no_sending : (rows : List Row) → NoneIs (HasSizes rows) → NoneIs (HasSending rows)
@@ -61,7 +64,7 @@ no_sending rows none sending has = none sending.sizes has.sizes
 pub different : (a b : Text) → bytes_eq a b ≡ false → a ≡ b → ⊥
 different a b unlike same = let bad : true ≡ false = sym ((bytes_eq-Decides a b).1 same) ∙ unlike in cc
 
-same_command : (name : Text) (rows : List Row) (request : Request) → IsRead (Some (name, rows)) request
+same_command : (name : Text) (rows : List Row) (request : Asked) → IsRead (Some (name, rows)) request
     → (name ≡ name_of request) × HasValues rows request
 same_command name rows request read =
     let same = ap (λ found. unwrap_or found (name, rows)) read.1 in
@@ -70,38 +73,38 @@ same_command name rows request read =
 pub no_encode : (rows : List Row) → NoneIs (HasSending rows) → NoneIs (IsRead (Some (codes "encode", rows)))
 no_encode rows none request read = go request (same_command (codes "encode") rows request read).0 (same_command (codes "encode") rows request read).1
   where
-    go : (request : Request) → codes "encode" ≡ name_of request → HasValues rows request → ⊥
-    go (Encode object output sending) same values = none sending values.2
-    go (Certify object output sizes) same values = different (codes "encode") (codes "certify") refl same
-    go (Check session object certificate) same values = different (codes "encode") (codes "check") refl same
-    go (Drop session output places) same values = different (codes "encode") (codes "drop") refl same
-    go (Decode session output) same values = different (codes "encode") (codes "decode") refl same
-    go (Twin session object certificate output) same values = different (codes "encode") (codes "twin") refl same
-    go (Show session) same values = different (codes "encode") (codes "show") refl same
+    go : (request : Asked) → codes "encode" ≡ name_of request → HasValues rows request → ⊥
+    go (EncodeAsked object output sending) same values = none sending values.2
+    go (CertifyAsked object output sizes) same values = different (codes "encode") (codes "certify") refl same
+    go (CheckAsked session object certificate) same values = different (codes "encode") (codes "check") refl same
+    go (DropAsked session output places) same values = different (codes "encode") (codes "drop") refl same
+    go (DecodeAsked session output) same values = different (codes "encode") (codes "decode") refl same
+    go (TwinAsked session object certificate output) same values = different (codes "encode") (codes "twin") refl same
+    go (ShowAsked session) same values = different (codes "encode") (codes "show") refl same
 
 pub no_certify : (rows : List Row) → NoneIs (HasSizes rows) → NoneIs (IsRead (Some (codes "certify", rows)))
 no_certify rows none request read = go request (same_command (codes "certify") rows request read).0 (same_command (codes "certify") rows request read).1
   where
-    go : (request : Request) → codes "certify" ≡ name_of request → HasValues rows request → ⊥
-    go (Encode object output sending) same values = different (codes "certify") (codes "encode") refl same
-    go (Certify object output sizes) same values = none sizes values.2
-    go (Check session object certificate) same values = different (codes "certify") (codes "check") refl same
-    go (Drop session output places) same values = different (codes "certify") (codes "drop") refl same
-    go (Decode session output) same values = different (codes "certify") (codes "decode") refl same
-    go (Twin session object certificate output) same values = different (codes "certify") (codes "twin") refl same
-    go (Show session) same values = different (codes "certify") (codes "show") refl same
+    go : (request : Asked) → codes "certify" ≡ name_of request → HasValues rows request → ⊥
+    go (EncodeAsked object output sending) same values = different (codes "certify") (codes "encode") refl same
+    go (CertifyAsked object output sizes) same values = none sizes values.2
+    go (CheckAsked session object certificate) same values = different (codes "certify") (codes "check") refl same
+    go (DropAsked session output places) same values = different (codes "certify") (codes "drop") refl same
+    go (DecodeAsked session output) same values = different (codes "certify") (codes "decode") refl same
+    go (TwinAsked session object certificate output) same values = different (codes "certify") (codes "twin") refl same
+    go (ShowAsked session) same values = different (codes "certify") (codes "show") refl same
 
 pub no_drop : (rows : List Row) → NoneIs (HasPlaces rows) → NoneIs (IsRead (Some (codes "drop", rows)))
 no_drop rows none request read = go request (same_command (codes "drop") rows request read).0 (same_command (codes "drop") rows request read).1
   where
-    go : (request : Request) → codes "drop" ≡ name_of request → HasValues rows request → ⊥
-    go (Encode object output sending) same values = different (codes "drop") (codes "encode") refl same
-    go (Certify object output sizes) same values = different (codes "drop") (codes "certify") refl same
-    go (Check session object certificate) same values = different (codes "drop") (codes "check") refl same
-    go (Drop session output places) same values = none places.items values.2
-    go (Decode session output) same values = different (codes "drop") (codes "decode") refl same
-    go (Twin session object certificate output) same values = different (codes "drop") (codes "twin") refl same
-    go (Show session) same values = different (codes "drop") (codes "show") refl same
+    go : (request : Asked) → codes "drop" ≡ name_of request → HasValues rows request → ⊥
+    go (EncodeAsked object output sending) same values = different (codes "drop") (codes "encode") refl same
+    go (CertifyAsked object output sizes) same values = different (codes "drop") (codes "certify") refl same
+    go (CheckAsked session object certificate) same values = different (codes "drop") (codes "check") refl same
+    go (DropAsked session output places) same values = none places values.2
+    go (DecodeAsked session output) same values = different (codes "drop") (codes "decode") refl same
+    go (TwinAsked session object certificate output) same values = different (codes "drop") (codes "twin") refl same
+    go (ShowAsked session) same values = different (codes "drop") (codes "show") refl same
 
 -- with no values of PLACE there are no places
 pub no_places : {N : Type 0} (f : Found) (given : Option (ValuesRef N)) → given ≡ None

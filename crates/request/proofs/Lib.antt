@@ -1,3 +1,5 @@
+pub mod Existing
+pub mod Walks
 pub mod Getters
 pub mod Places
 pub mod Reading

@@ -8,6 +8,7 @@ use Rattle.clap.proofs.OnLiterals.{clap_on_literals}
 use Rattle.request.specs.Grammar.{IsOrders, grammar_of}
 use Rattle.request.specs.Requests.{Answers, AnswersRead}
 use Rattle.request.specs.Usages.{IsUsageOf}
+use Rattle.request.proofs.Existing.{asks}
 use Rattle.request.specs.declared.requests.Request.{Request}
 use Rattle.request.specs.declared.usage.Usage.{Usage}
 use Rattle.request.specs.declared.usage.Usage.TheVariants.{Help, Line, Value, NoMemory}
@@ -29,7 +30,7 @@ simple_and_free : (orders : Bor (List (Bor Text))) → is_simple_and_free (gramm
 unfolding clap_on_literals
 simple_and_free orders = refl
 
-module _ (orders : Bor (List (Bor Text))) (words : List Text) where
+module _ (orders : Bor (List (Bor Text))) (are : IsOrders orders) (words : List Text) where
   pub matched : (m : ArgMatches) (parsed : Result ArgMatches Error) (app : App) (result : Result Request Usage)
       → app ≡ grammar_of orders → HasMatchesOf app words m → (is_simple_and_free app ≡ true → FailsBy (fault_of app words) parsed)
       → parsed ≡ Ok m → AnswersRead (subcommand_rows_of m) result → Answers (grammar_of orders) words result
@@ -42,7 +43,7 @@ module _ (orders : Bor (List (Bor Text))) (words : List Text) where
       go : (r : Result Request Usage) → fault_of (grammar_of orders) words ≡ [] → AnswersRead (subcommand_of (grammar_of orders) words) r
           → Answers (grammar_of orders) words r
       go (Ok request) none read = (none, read)
-      go (Err Value) none read = (none, read)
+      go (Err Value) none read = let asked = asks orders are words none in absurd (read asked.0 asked.1)
       go (Err NoMemory) none read = tt
       go (Err (Help told)) none read = absurd read
       go (Err (Line told)) none read = absurd read

@@ -1,6 +1,5 @@
 -- What the words of a command line ask for.
 use Rattle.std.specs.Prelude.{◌≡◌, ◌<◌, ◌≤◌, ◌^◌, ◌∷◌, [], ℕ, List, Option, Some, None, Result, Ok, Err, IfOk, IfErr, length, codes, ⊤}
-use Rattle.std.specs.Borrow.{Bor}
 use Rattle.std.specs.Str.Parse.{IsNumeral, digits_value, without_leading_plus}
 use Rattle.clap.specs.Words.{App, IsAmong, Row, Text, fault_of, first_of, found_of, kind_of, many_of, one_of, rows_of, subcommand_of}
 use Rattle.clap.specs.declared.parser.matches.ArgMatches.{ArgMatches}
@@ -20,8 +19,8 @@ use Rattle.request.specs.Usages.{IsRefusal}
 abbrev pub rows_in : ArgMatches → List Row
 rows_in matches = rows_of (found_of matches)
 
-abbrev pub HasText : List Row → Text → Bor Text → Type 0
-HasText rows name value = first_of name rows ≡ Some value.now
+abbrev pub HasText : List Row → Text → Text → Type 0
+HasText rows name value = first_of name rows ≡ Some value
 
 -- a number of so many bits, in decimal digits
 pub record IsNumber (bits : ℕ) (text : Text) (n : ℕ) : Type 0 where
@@ -96,47 +95,66 @@ IsNoPlaces rows (Line told) = ⊥
 
 -- ---- requests
 
-abbrev pub name_of : Request → Text
-name_of (Encode object output sending) = codes "encode"
-name_of (Certify object output sizes) = codes "certify"
-name_of (Check session object certificate) = codes "check"
-name_of (Drop session output places) = codes "drop"
-name_of (Decode session output) = codes "decode"
-name_of (Twin session object certificate output) = codes "twin"
-name_of (Show session) = codes "show"
+-- a request's values: files by their names, what is sent, an FTI's numbers, places
+pub data Asked : Type 0 where
+  EncodeAsked : Text → Text → Sending → Asked
+  CertifyAsked : Text → Text → Sizes → Asked
+  CheckAsked : Text → Text → Text → Asked
+  DropAsked : Text → Text → List ℕ → Asked
+  DecodeAsked : Text → Text → Asked
+  TwinAsked : Text → Text → Text → Text → Asked
+  ShowAsked : Text → Asked
+
+abbrev pub asked_of : Request → Asked
+asked_of (Encode object output sending) = EncodeAsked object.now output.now sending
+asked_of (Certify object output sizes) = CertifyAsked object.now output.now sizes
+asked_of (Check session object certificate) = CheckAsked session.now object.now certificate.now
+asked_of (Drop session output places) = DropAsked session.now output.now places.items
+asked_of (Decode session output) = DecodeAsked session.now output.now
+asked_of (Twin session object certificate output) = TwinAsked session.now object.now certificate.now output.now
+asked_of (Show session) = ShowAsked session.now
+
+abbrev pub name_of : Asked → Text
+name_of (EncodeAsked object output sending) = codes "encode"
+name_of (CertifyAsked object output sizes) = codes "certify"
+name_of (CheckAsked session object certificate) = codes "check"
+name_of (DropAsked session output places) = codes "drop"
+name_of (DecodeAsked session output) = codes "decode"
+name_of (TwinAsked session object certificate output) = codes "twin"
+name_of (ShowAsked session) = codes "show"
 
 -- each value is that of its argument
-abbrev pub HasValues : List Row → Request → Type 0
-HasValues rows (Encode object output sending) =
+abbrev pub HasValues : List Row → Asked → Type 0
+HasValues rows (EncodeAsked object output sending) =
     HasText rows (codes "OBJECT") object × HasText rows (codes "OUT") output × HasSending rows sending
-HasValues rows (Certify object output sizes) =
+HasValues rows (CertifyAsked object output sizes) =
     HasText rows (codes "OBJECT") object × HasText rows (codes "OUT") output × HasSizes rows sizes
-HasValues rows (Check session object certificate) =
+HasValues rows (CheckAsked session object certificate) =
     HasText rows (codes "SESSION") session × HasText rows (codes "OBJECT") object × HasText rows (codes "CERT") certificate
-HasValues rows (Drop session output places) =
-    HasText rows (codes "SESSION") session × HasText rows (codes "OUT") output × HasPlaces rows places.items
-HasValues rows (Decode session output) = HasText rows (codes "SESSION") session × HasText rows (codes "OUT") output
-HasValues rows (Twin session object certificate output) =
+HasValues rows (DropAsked session output places) =
+    HasText rows (codes "SESSION") session × HasText rows (codes "OUT") output × HasPlaces rows places
+HasValues rows (DecodeAsked session output) = HasText rows (codes "SESSION") session × HasText rows (codes "OUT") output
+HasValues rows (TwinAsked session object certificate output) =
     HasText rows (codes "SESSION") session × HasText rows (codes "OBJECT") object × HasText rows (codes "CERT") certificate
     × HasText rows (codes "OUT") output
-HasValues rows (Show session) = HasText rows (codes "SESSION") session
+HasValues rows (ShowAsked session) = HasText rows (codes "SESSION") session
 
--- what was read, a command's name and rows, is this request
-abbrev pub IsRead : Option (Text × List Row) → Request → Type 0
-IsRead read request = (rows : List Row) × (read ≡ Some (name_of request, rows)) × HasValues rows request
+-- what was read, a command's name and rows, asks for this
+abbrev pub IsRead : Option (Text × List Row) → Asked → Type 0
+IsRead read asked = (rows : List Row) × (read ≡ Some (name_of asked, rows)) × HasValues rows asked
 
 -- the answer to what was read: the request that it is, or that it is none
 abbrev pub AnswersRead : Option (Text × List Row) → Result Request Usage → Type 0
-AnswersRead read (Ok request) = IsRead read request
+AnswersRead read (Ok request) = IsRead read (asked_of request)
 AnswersRead read (Err Value) = NoneIs (IsRead read)
 AnswersRead read (Err NoMemory) = ⊤
 AnswersRead read (Err (Help told)) = ⊥
 AnswersRead read (Err (Line told)) = ⊥
 
--- the answer to the words, by the grammar
+-- The answer to the words, by the grammar: a request where they have no fault, else why there is none; or want of memory.
 abbrev pub Answers : App → List Text → Result Request Usage → Type 0
-Answers grammar words (Ok request) = (fault_of grammar words ≡ []) × IsRead (subcommand_of grammar words) request
-Answers grammar words (Err Value) = (fault_of grammar words ≡ []) × NoneIs (IsRead (subcommand_of grammar words))
+Answers grammar words (Ok request) = (fault_of grammar words ≡ []) × IsRead (subcommand_of grammar words) (asked_of request)
+Answers grammar words (Err Value) = ⊥
 Answers grammar words (Err (Help told)) = (kind_of told ≡ DisplayHelp) × IsAmong DisplayHelp (fault_of grammar words)
 Answers grammar words (Err (Line told)) = IsRefusal told × IsAmong (kind_of told) (fault_of grammar words)
 Answers grammar words (Err NoMemory) = ⊤

@@ -24,7 +24,7 @@ fn usage_of(error: Error) -> Usage
 
 /// The request that the words of a command line make, the first of which is the program's name.
 pub fn request<'a>(alloc: Global, words: &'a [&'a str]) -> Result<Request<'a>, Usage>
-    // The request that the grammar reads from the words, or why they are none, want of memory aside.
+    // The request that the grammar reads from the words where they have no fault, else why they are none; or no memory.
     ensures { (orders : _) × IsOrders orders × Answers (grammar_of orders) (map (λ word. word.now) words.now) result }
 {
     let Ok(grammar) = grammar(alloc) else {

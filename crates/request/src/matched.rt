@@ -1,6 +1,6 @@
 //! Requests of what the grammar matched.
-ghost use Rattle.std.specs.Prelude.{◌≡◌, ◌∷◌, Some, IfOk, IfErr, codes};
-ghost use Rattle.clap.specs.Words.{one_of, subcommand_rows_of};
+ghost use Rattle.std.specs.Prelude.{◌≡◌, ◌∷◌, None, Some, IfOk, IfErr, codes};
+ghost use Rattle.clap.specs.Words.{first_of, one_of, subcommand_rows_of};
 ghost use Rattle.request.specs.Requests.{AnswersRead, Finds, Gives, GivesNone, HasOrder, HasPlaces, HasSending, HasSizes, HasText, IsNoPlaces, rows_in};
 
 use crate::requests::{Request, Sending, Sizes};
@@ -12,7 +12,8 @@ use std::str::FromStr;
 
 // The text of an argument.
 fn text<'a>(matches: &ArgMatches<'a>, name: &str) -> Result<&'a str, Usage>
-    ensures { Finds (HasText (rows_in matches.now) name.now) result }
+    ensures ok { IfOk result (λ text. HasText (rows_in matches.now) name.now text.now) }
+    ensures err { IfErr result (λ usage. (usage ≡ Usage.Value) × (first_of name.now (rows_in matches.now) ≡ None)) }
 {
     matches.get_str(name).ok_or(Usage::Value)
 }

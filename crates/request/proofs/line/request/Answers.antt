@@ -11,7 +11,7 @@ returns-in-Ok-try_get_matches_from c =
     let grammar = c.in-Ok.ensures in (
       grammar.orders,
       grammar.names,
-      matched grammar.orders (map (λ word. word.now) c.args.words.now) c.in-Ok-try_get_matches_from.matches c.try_get_matches_from.result
+      matched grammar.orders grammar.names (map (λ word. word.now) c.args.words.now) c.in-Ok-try_get_matches_from.matches c.try_get_matches_from.result
           (app_of c.in-Ok.grammar) c.matched_request.result grammar.app c.in-Ok-try_get_matches_from.ensures.matches c.try_get_matches_from.ensures.kinds
           c.in-Ok-try_get_matches_from.is c.matched_request.ensures,
     )
@@ -21,6 +21,6 @@ returns-in-Err c =
     let grammar = c.in-Ok.ensures in (
       grammar.orders,
       grammar.names,
-      refused grammar.orders (map (λ word. word.now) c.args.words.now) c.in-Err.error c.try_get_matches_from.result
+      refused grammar.orders grammar.names (map (λ word. word.now) c.args.words.now) c.in-Err.error c.try_get_matches_from.result
           (app_of c.in-Ok.grammar) c.usage_of.result grammar.app c.try_get_matches_from.ensures.kinds c.in-Err.is c.usage_of.ensures,
     )
