@@ -1,15 +1,64 @@
 -- Telling a fault.
-use Rattle.std.proofs.Common.{◌≡◌, ◌⊎◌, List, ℕ, Bool, true, Option, inl, inr, refl, codes, subst}
+use Rattle.std.proofs.Common.{◌≡◌, ◌⊎◌, ◌++◌, List, ℕ, Bool, true, Option, inl, inr, refl, codes, subst}
 use Rattle.std.specs.Io.KnownBytes.{Appends}
-use Rattle.tool.specs.Lines.{IsSilent, TellsFault}
+use Rattle.request.specs.declared.requests.Request.{Request}
+use Rattle.request.specs.declared.requests.Request.TheVariants as request
+use Rattle.tool.specs.Folder.{Contents}
+use Rattle.tool.specs.Lines.{line_of, IsFaultText, IsSilent, TellsFault}
+use Rattle.tool.specs.Outcomes.{IsCut}
 use Rattle.tool.specs.declared.fault.Fault.{Fault}
-use Rattle.tool.specs.declared.fault.Fault.TheVariants.{Memory}
+use Rattle.tool.specs.declared.fault.Fault.TheVariants.{Open, File, Memory, Frame, Certificate, Fti, Send, Output}
+
+abbrev Told : Fault → Bool → Option (List ℕ) → Option (List ℕ) → Type 0
+Told fault failed before after =
+    (failed ≡ true) ⊎ ((text : List ℕ) × (IsFaultText fault text ⊎ (text ≡ codes "memory")) × Appends before after (line_of (codes "fault " ++ text)))
+
+-- any fault but that of the output is told by a line
+not_output : (fault : Fault) (failed : Bool) (before after : Option (List ℕ)) → (fault ≡ Output → ⊥) → Told fault failed before after → TellsFault fault failed before after
+not_output (Open name) failed before after other told = told
+not_output (File name) failed before after other told = told
+not_output Memory failed before after other told = told
+not_output (Frame f) failed before after other told = told
+not_output (Certificate f) failed before after other told = told
+not_output (Fti f) failed before after other told = told
+not_output (Send f) failed before after other told = told
+not_output Output failed before after other told = absurd (other refl)
+
+pub failed_told : (fault : Fault) (failed : Bool) (before after : Option (List ℕ)) → failed ≡ true → TellsFault fault failed before after
+failed_told (Open name) failed before after e = inl e
+failed_told (File name) failed before after e = inl e
+failed_told Memory failed before after e = inl e
+failed_told (Frame f) failed before after e = inl e
+failed_told (Certificate f) failed before after e = inl e
+failed_told (Fti f) failed before after e = inl e
+failed_told (Send f) failed before after e = inl e
+failed_told Output failed before after e = e
+
+pub line_told : (fault : Fault) (failed : Bool) (before after : Option (List ℕ)) → (fault ≡ Output → ⊥)
+    → (text : List ℕ) × IsFaultText fault text × Appends before after (line_of (codes "fault " ++ text)) → TellsFault fault failed before after
+line_told fault failed before after other line = not_output fault failed before after other (inr (line.0, inl line.1, line.2))
 
 -- that there was no memory for it
-pub memory_told : (fault : Fault) (failed : Bool) (before middle after : Option (List ℕ)) → middle ≡ before
+pub memory_told : (fault : Fault) (failed : Bool) (before middle after : Option (List ℕ)) → (fault ≡ Output → ⊥) → middle ≡ before
     → (failed ≡ true) ⊎ Appends middle after (codes "fault memory\n") → TellsFault fault failed before after
-memory_told fault failed before middle after same (inl out) = inl out
-memory_told fault failed before middle after same (inr printed) = inr (codes "memory", inr refl, subst (λ b. Appends b after (codes "fault memory\n")) same printed)
+memory_told fault failed before middle after other same (inl out) = failed_told fault failed before after out
+memory_told fault failed before middle after other same (inr printed) =
+    not_output fault failed before after other (inr (codes "memory", inr refl, subst (λ b. Appends b after (codes "fault memory\n")) same printed))
 
-pub nothing_printed : (fault : Fault) (before after : Option (List ℕ)) → fault ≡ Memory → IsSilent fault before after → after ≡ before
-nothing_printed fault before after memory silent = subst (λ (f : Fault). IsSilent f before after) memory silent
+pub nothing_printed : (fault : Fault) (failed : Bool) (before after : Option (List ℕ)) → fault ≡ Memory → IsSilent fault failed before after → after ≡ before
+nothing_printed fault failed before after memory silent = subst (λ (f : Fault). IsSilent f failed before after) memory silent
+
+-- a fault of the output is one
+pub output_failed : (contents : Contents) (r : Request) (fault : Fault) (failed : Bool) (before after : Option (List ℕ)) → IsCut contents r fault failed before after
+    → fault ≡ Output → failed ≡ true
+output_failed contents r fault failed before after cut is = go r (subst (λ f. IsCut contents r f failed before after) is cut)
+  where
+    go : (r : Request) → IsCut contents r Output failed before after → failed ≡ true
+    go (request.Check session object certificate) cut = cut
+    go (request.Twin session object certificate output) cut = cut
+    go (request.Show session) (inl silent) = silent
+    go (request.Show session) (inr part) = part.2
+    go (request.Encode object output sending) cut = cut
+    go (request.Certify object output sizes) cut = cut
+    go (request.Decode session output) cut = cut
+    go (request.Drop session output places) cut = cut

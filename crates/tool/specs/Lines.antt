@@ -25,10 +25,10 @@ IsPrintFault failed Memory = ⊤
 IsPrintFault failed Output = failed ≡ true
 IsPrintFault failed _ = ⊥
 
--- nothing was printed before a fault, if it isn't one of the output
-abbrev pub IsSilent : Fault → Option (List ℕ) → Option (List ℕ) → Type 0
-IsSilent Output before after = ⊤
-IsSilent fault before after = after ≡ before
+-- nothing was printed before a fault, or it is that the output has failed
+abbrev pub IsSilent : Fault → Bool → Option (List ℕ) → Option (List ℕ) → Type 0
+IsSilent Output failed before after = failed ≡ true
+IsSilent fault failed before after = after ≡ before
 
 -- what the line of a fault says; faults of formats have their own words
 abbrev pub IsFaultText : Fault → List ℕ → Type 0
@@ -39,6 +39,7 @@ IsFaultText _ text = ⊤
 
 -- The line of the fault was printed, or that there was no memory for it, unless the output has failed.
 abbrev pub TellsFault : Fault → Bool → Option (List ℕ) → Option (List ℕ) → Type 0
+TellsFault Output failed before after = failed ≡ true
 TellsFault fault failed before after =
     (failed ≡ true)
     ⊎ ((text : List ℕ) × (IsFaultText fault text ⊎ (text ≡ codes "memory")) × Appends before after (line_of (codes "fault " ++ text)))
@@ -129,7 +130,7 @@ IsShownText datagrams (suc n) text =
 abbrev pub PrintsDatagrams : List (List ℕ) → ℕ → Option (List ℕ) → Option (List ℕ) → Type 0
 PrintsDatagrams datagrams n before after = (text : List ℕ) × IsShownText datagrams n text × Appends before after text
 
--- the lines of the first of them were printed before a fault, if it isn't one of the output
-abbrev pub PrintsSome : List (List ℕ) → Fault → Option (List ℕ) → Option (List ℕ) → Type 0
-PrintsSome datagrams Output before after = ⊤
-PrintsSome datagrams fault before after = (n : ℕ) × PrintsDatagrams datagrams n before after
+-- the lines of the first of them were printed before a fault, or it is that the output has failed
+abbrev pub PrintsSome : List (List ℕ) → Fault → Bool → Option (List ℕ) → Option (List ℕ) → Type 0
+PrintsSome datagrams Output failed before after = failed ≡ true
+PrintsSome datagrams fault failed before after = (n : ℕ) × PrintsDatagrams datagrams n before after

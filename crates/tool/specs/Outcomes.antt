@@ -16,7 +16,6 @@ use Rattle.cert.specs.declared.verdict.Verdict.TheVariants.{Yes, No}
 use Rattle.request.specs.declared.requests.Request.{Request}
 use Rattle.request.specs.declared.requests.Request.TheVariants.{Check, Twin, Show, Encode, Certify, Decode, Drop}
 use Rattle.tool.specs.declared.fault.Fault.{Fault}
-use Rattle.tool.specs.declared.fault.Fault.TheVariants.{Output}
 use Rattle.tool.specs.Folder.{Contents, Told}
 use Rattle.tool.specs.Inputs.{HoldsSession, HoldsBytes, HoldsCertificate, IsSessionUnread, IsObjectUnread, IsCertificateUnread}
 use Rattle.tool.specs.Lines.{IsPrintFault, IsSilent, TellsFault, Prints, PrintsTwin, PrintsDatagrams, PrintsSome}
@@ -135,24 +134,24 @@ IsUndone contents (Decode session output) failed fault = IsNotDecoded contents s
 IsUndone contents (Drop session output places) failed fault = IsNotDropped contents session.now output.now places.items failed fault
 
 -- the lines of the first datagrams were printed before a fault, or none
-abbrev pub IsShownInPart : Contents → List ℕ → Fault → Option (List ℕ) → Option (List ℕ) → Type 0
-IsShownInPart contents session fault before after =
-    IsSilent fault before after
-    ⊎ ((datagrams : List (List ℕ)) × HoldsSession contents session datagrams × PrintsSome datagrams fault before after)
+abbrev pub IsShownInPart : Contents → List ℕ → Fault → Bool → Option (List ℕ) → Option (List ℕ) → Type 0
+IsShownInPart contents session fault failed before after =
+    IsSilent fault failed before after
+    ⊎ ((datagrams : List (List ℕ)) × HoldsSession contents session datagrams × PrintsSome datagrams fault failed before after)
 
 -- What was printed before a fault: nothing, but of datagrams that are shown the lines of the first.
-abbrev pub IsCut : Contents → Request → Fault → Option (List ℕ) → Option (List ℕ) → Type 0
-IsCut contents (Show session) fault before after = IsShownInPart contents session.now fault before after
-IsCut contents request fault before after = IsSilent fault before after
+abbrev pub IsCut : Contents → Request → Fault → Bool → Option (List ℕ) → Option (List ℕ) → Type 0
+IsCut contents (Show session) fault failed before after = IsShownInPart contents session.now fault failed before after
+IsCut contents request fault failed before after = IsSilent fault failed before after
 
--- The request wasn't done. Behind what was printed before, the fault was told, if it isn't one of the output.
+-- The request wasn't done. Behind what was printed before, the fault was told, or it is that the output has failed.
 pub record HasFault (folder : Told) (request : Request) (failed : Bool) (before after : Option (List ℕ)) (status : ℕ) : Type 0 where
   pub fault : Fault
   pub failed_then : Bool
   pub undone : IsUndone folder.contents request failed_then fault
   pub printed : Option (List ℕ)
-  pub cut : IsCut folder.contents request fault before printed
-  pub told : (fault ≡ Output) ⊎ TellsFault fault failed printed after
+  pub cut : IsCut folder.contents request fault failed_then before printed
+  pub told : TellsFault fault failed printed after
   pub one : status ≡ 1
 
 -- The request was done, with this status, or there was a fault.

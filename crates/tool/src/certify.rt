@@ -26,7 +26,7 @@ pub(crate) fn certify<'a, F: Folder, W: Write>(
 ) -> Result<u8, Fault<'a>>
     ensures ok { IfOk result (IsCertified (told_by (F.content folder.old) F.blank (F.written folder.new)) object.now output.now sizes.now (W.contents out.old) (W.contents out.new)) }
     ensures fault { IfErr result (IsNotCertified (F.content folder.old) object.now output.now sizes.now (W.failed out.new)) }
-    ensures silent { IfErr result (λ fault. IsSilent fault (W.contents out.old) (W.contents out.new)) }
+    ensures silent { IfErr result (λ fault. IsSilent fault (W.failed out.new) (W.contents out.old) (W.contents out.new)) }
     ensures status { IfOk result (λ status. status ≤ 1) }
 {
     let object = read_object(alloc, folder, object)?;

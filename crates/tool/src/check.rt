@@ -23,7 +23,7 @@ pub(crate) fn check<'a, F: Folder, W: Write>(
     // The verdict is on what the three files hold.
     ensures ok { IfOk result (IsChecked (F.content folder.old) session.now object.now certificate.now (W.contents out.old) (W.contents out.new)) }
     ensures fault { IfErr result (IsUnchecked (F.content folder.old) session.now object.now certificate.now (W.failed out.new)) }
-    ensures silent { IfErr result (λ fault. IsSilent fault (W.contents out.old) (W.contents out.new)) }
+    ensures silent { IfErr result (λ fault. IsSilent fault (W.failed out.new) (W.contents out.old) (W.contents out.new)) }
     ensures status { IfOk result (λ status. status ≤ 1) }
     ensures stays { F.content folder.new ≡ F.content folder.old }
 {

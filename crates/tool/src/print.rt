@@ -74,7 +74,7 @@ impl Line {
         ensures ok { OnOk result (Appends (W.contents out.old) (W.contents out.new) (line_of self)) }
         ensures err { OnErr result (AppendsSome (W.contents out.old) (W.contents out.new) (line_of self)) }
         ensures fault { IfErr result (IsPrintFault (W.failed out.new)) }
-        ensures silent { IfErr result (λ fault. IsSilent fault (W.contents out.old) (W.contents out.new)) }
+        ensures silent { IfErr result (λ fault. IsSilent fault (W.failed out.new) (W.contents out.old) (W.contents out.new)) }
     {
         let Line { mut bytes } = self;
         let Ok(()) = bytes.push(b'\n') else {

@@ -30,7 +30,7 @@ fn perform<'a, F: Folder, W: Write>(
 ) -> Result<u8, Fault<'a>>
     ensures ok { IfOk result (IsDone (told_by (F.content folder.old) F.blank (F.written folder.new)) request.now (W.contents out.old) (W.contents out.new)) }
     ensures fault { IfErr result (IsUndone (F.content folder.old) request.now (W.failed out.new)) }
-    ensures cut { IfErr result (λ fault. IsCut (F.content folder.old) request.now fault (W.contents out.old) (W.contents out.new)) }
+    ensures cut { IfErr result (λ fault. IsCut (F.content folder.old) request.now fault (W.failed out.new) (W.contents out.old) (W.contents out.new)) }
     ensures status { IfOk result (λ status. status ≤ 3) }
 {
     match request {
@@ -87,7 +87,8 @@ pub fn run<F: Folder, W: Write>(
 
 // Prints a fault, or, if there is no memory for its line, that; nothing where the output has failed.
 fn tell<W: Write>(alloc: Global, out: &mut W, fault: Fault<'_>)
-    ensures { (fault.entry ≡ Output) ⊎ TellsFault fault.entry (W.failed out.new) (W.contents out.old) (W.contents out.new) }
+    requires { fault ≡ Output → W.failed out.old ≡ true }
+    ensures { TellsFault fault.entry (W.failed out.new) (W.contents out.old) (W.contents out.new) }
 {
     match fault {
         Fault::Output => {}
@@ -102,7 +103,7 @@ fn tell<W: Write>(alloc: Global, out: &mut W, fault: Fault<'_>)
 fn print_fault<'a, W: Write>(alloc: Global, out: &mut W, fault: Fault<'_>) -> Result<(), Fault<'a>>
     ensures ok { OnOk result ((text : List ℕ) × IsFaultText fault.entry text × Appends (W.contents out.old) (W.contents out.new) (line_of (codes "fault " ++ text))) }
     ensures fault { IfErr result (IsPrintFault (W.failed out.new)) }
-    ensures silent { IfErr result (λ fault. IsSilent fault (W.contents out.old) (W.contents out.new)) }
+    ensures silent { IfErr result (λ fault. IsSilent fault (W.failed out.new) (W.contents out.old) (W.contents out.new)) }
 {
     fault_line(alloc, fault)?.print(out)
 }

@@ -23,7 +23,7 @@ pub(crate) fn drop_places<'a, F: Folder, W: Write>(
 ) -> Result<u8, Fault<'a>>
     ensures ok { IfOk result (IsDropped (told_by (F.content folder.old) F.blank (F.written folder.new)) session.now output.now places.now (W.contents out.old) (W.contents out.new)) }
     ensures fault { IfErr result (IsNotDropped (F.content folder.old) session.now output.now places.now (W.failed out.new)) }
-    ensures silent { IfErr result (λ fault. IsSilent fault (W.contents out.old) (W.contents out.new)) }
+    ensures silent { IfErr result (λ fault. IsSilent fault (W.failed out.new) (W.contents out.old) (W.contents out.new)) }
     ensures status { IfOk result (λ status. status ≤ 1) }
 {
     let session = read_session(alloc, folder, session)?;
