@@ -4,7 +4,7 @@ use Rattle.std.specs.List.{list_all}
 use Rattle.std.proofs.lemmas.Bool.{and_parts, eq-eqb}
 use Rattle.std.proofs.lemmas.Bool.Decides.{nat_tests}
 use Rattle.std.proofs.lemmas.List.{length-append, get_or_at, drop_at}
-use Rattle.gf256.specs.Arithmetic.{AreBytes}
+use Rattle.lists.specs.Bytes.{AreBytes}
 use Rattle.partition.specs.Fti.{Fti}
 use Rattle.byteorder.specs.Endian.{big_bytes}
 use Rattle.alc.specs.Packet.{Packet, IsPacket, IsForm, Form, is_extension, is_other, joined, extensions, header_length, fti_extension}

@@ -4,7 +4,7 @@ use Rattle.std.specs.List.{list_all}
 use Rattle.std.proofs.lemmas.Bool.{and_parts, cases_lt, ltb-true}
 use Rattle.std.proofs.lemmas.List.{get_or-drop, get_or-take, get_or_past, get_or_append_left, get_or-append_right, length-take, length-drop, take-append-drop, drop-drop, take_at, drop_at}
 use Rattle.byteorder.specs.Endian.{big_bytes}
-use Rattle.gf256.specs.Arithmetic.{AreBytes}
+use Rattle.lists.specs.Bytes.{AreBytes}
 use Rattle.alc.specs.Computed.{part}
 use Rattle.alc.proofs.Digits.{byte_at-pow}
 

@@ -5,7 +5,7 @@ use Rattle.std.proofs.Math.Nat.{add-mul-div_right, div-eq_of_lt, mul_assoc, pow-
 use Rattle.std.specs.Int.{byte_at}
 use Rattle.byteorder.specs.Endian.{big_from, big_bytes}
 use Rattle.byteorder.specs.Numbers.{big_from-cons, big_from-lt, big_from-take, big_number-reads_back, length-bytes_high_first}
-use Rattle.gf256.specs.Arithmetic.{AreBytes}
+use Rattle.lists.specs.Bytes.{AreBytes}
 use Rattle.alc.specs.Computed.{number_of}
 
 -- a byte of a number, by its place from the end

@@ -3,7 +3,7 @@ use Rattle.std.proofs.Common.{◌≡◌, ℕ, suc, ◌+◌, ◌^◌, ◌<◌, �
 use Rattle.std.proofs.lemmas.Bool.{eqb-true}
 use Rattle.std.proofs.lemmas.Bool.Decides.{nat_tests}
 use Rattle.std.proofs.lemmas.List.{length-drop, take_all, get_or-drop}
-use Rattle.gf256.specs.Arithmetic.{AreBytes}
+use Rattle.lists.specs.Bytes.{AreBytes}
 use Rattle.partition.specs.Fti.{Fti, IsValidFti}
 use Rattle.alc.specs.Packet.{is_extension, fti_extension}
 use Rattle.alc.specs.PacketFault.{is_fti, HasFields}

@@ -4,7 +4,7 @@ use Rattle.std.specs.Prelude.{count_by}
 use Rattle.std.specs.List.{list_all, list_any}
 use Rattle.std.proofs.lemmas.Bool.{cases_eq, eq-eqb, ne_eqb, or_right, or_left}
 use Rattle.std.proofs.lemmas.List.{append-nil, length-take, length-drop}
-use Rattle.gf256.specs.Arithmetic.{AreBytes}
+use Rattle.lists.specs.Bytes.{AreBytes}
 use Rattle.partition.specs.Fti.{Fti}
 use Rattle.alc.specs.Packet.{IsPacket, is_other, joined, extensions, fti_extension}
 use Rattle.partition.specs.FtiFault.{fti_fault}

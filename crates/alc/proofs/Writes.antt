@@ -1,7 +1,7 @@
 -- What is written is the packet.
 use Rattle.std.proofs.Common.{◌≡◌, ℕ, ◌+◌, ◌^◌, ◌<◌, List, [], ◌∷◌, ◌++◌, length, take, drop, arith, refl, ap, sym, subst, ◌∙◌}
 use Rattle.std.proofs.lemmas.List.{take_at, drop-drop}
-use Rattle.gf256.specs.Arithmetic.{AreBytes}
+use Rattle.lists.specs.Bytes.{AreBytes}
 use Rattle.partition.specs.Fti.{Fti, IsValidFti}
 use Rattle.byteorder.specs.Endian.{big_bytes}
 use Rattle.alc.specs.Packet.{Packet, IsPacket, written, written_form, header_length}

@@ -1,6 +1,6 @@
 // Reading a datagram.
 ghost use Rattle.std.specs.Prelude.{◌≡◌, ◌+◌, ◌<◌, ◌^◌, ℕ, List, length, IfOk};
-ghost use Rattle.gf256.specs.Arithmetic.{AreBytes};
+ghost use Rattle.lists.specs.Bytes.{AreBytes};
 ghost use Rattle.partition.specs.Fti.{IsValidFti};
 ghost use Rattle.alc.specs.Computed.{read_of, packet_with};
 ghost use Rattle.alc.specs.Layout.{Lies};

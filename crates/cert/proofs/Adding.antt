@@ -7,9 +7,9 @@ use Rattle.std.proofs.Math.Nat.{div-add-mod}
 use Rattle.std.proofs.lemmas.List.{append-nil, map-append}
 use Rattle.std.proofs.lemmas.List.Elements.{filter-append}
 use Rattle.gf256.specs.Arithmetic.{sum_of, point}
-use Rattle.losses.specs.Numbers.{below}
+use Rattle.lists.specs.Below.{below}
 use Rattle.partition.specs.Fti.{Fti, start_of}
-use Rattle.losses.proofs.Lists.{both}
+use Rattle.lists.proofs.Lists.{both}
 use Rattle.cert.specs.Twins.{is_first_of}
 
 -- what an object is after values were added at n source symbols

@@ -4,9 +4,9 @@ use Rattle.std.specs.List.{AllByRecursion}
 use Rattle.std.proofs.Common.{arith}
 use Rattle.poly.specs.Polynomial.{AreDifferent}
 use Rattle.poly.proofs.Lists.{all_weaker}
-use Rattle.losses.specs.Numbers.{below}
-use Rattle.losses.proofs.Lists.{all_filter, all_take, all_append}
-use Rattle.losses.proofs.Below.{all_below}
+use Rattle.lists.specs.Below.{below}
+use Rattle.lists.proofs.Lists.{all_filter, all_take, all_append}
+use Rattle.lists.proofs.Below.{all_below}
 
 pub different_filter : (t : ℕ → Bool) (xs : List ℕ) → AreDifferent xs → AreDifferent (filter t xs)
 different_filter t [] h = tt

@@ -1,8 +1,8 @@
 -- There are no more different ESIs in a list than members.
 use Rattle.std.proofs.Common.{◌≡◌, ◌≤◌, ◌+◌, ◌||◌, ℕ, Bool, true, false, cond, List, [], ◌∷◌, length, refl, arith}
 use Rattle.std.specs.Prelude.{◌==◌}
-use Rattle.session.specs.Selection.{is_among}
-use Rattle.losses.specs.Numbers.{below}
+use Rattle.lists.specs.Selection.{is_among}
+use Rattle.lists.specs.Below.{below}
 use Rattle.losses.specs.Costs.{total, count}
 use Rattle.losses.specs.Losses.{IsRising}
 use Rattle.losses.proofs.Copies.{length_count}

@@ -7,12 +7,12 @@ use Rattle.std.proofs.lemmas.Grind.{same_number_lists}
 use Rattle.gf256.specs.Arithmetic.{point}
 use Rattle.poly.specs.Polynomial.{value, IsPolynomial}
 use Rattle.partition.specs.Fti.{Fti, IsValidFti, source_count, encoding_count, source_byte}
-use Rattle.losses.specs.Numbers.{below}
+use Rattle.lists.specs.Below.{below}
 use Rattle.partition.proofs.Laws.{counts, covers}
-use Rattle.cert.specs.Symbols.{Symbol, is_of, is_held, held, is_full, AllFull, Agrees, Fits, FitsOnly}
+use Rattle.reception.specs.Symbols.{Symbol, is_of, is_held, held, is_full, AllFull, Agrees, Fits, FitsOnly}
 use Rattle.poly.proofs.Lists.{all_weaker}
-use Rattle.losses.proofs.Lists.{both, either, all_both, all_filter, all_take, some_member}
-use Rattle.losses.proofs.Below.{all_below, length_below}
+use Rattle.lists.proofs.Lists.{both, either, all_both, all_filter, all_take, some_member}
+use Rattle.lists.proofs.Below.{all_below, length_below}
 use Rattle.poly.specs.Polynomial.{AreDifferent}
 use Rattle.poly.proofs.Bytes.{same_polynomial}
 use Rattle.cert.proofs.Different.{different_below, different_filter, different_take}

@@ -1,7 +1,6 @@
 pub mod Different
 pub mod Full
 pub mod Polynomials
-pub mod OneAnswer
 pub mod Promise
 pub mod Twinning
 pub mod Undecided

@@ -3,21 +3,22 @@ use Rattle.std.proofs.Common.{◌≡◌, ℕ, ◌+◌, ◌<◌, Bool, true, fals
 use Rattle.std.specs.Prelude.{slice_index, ◌==◌, if◌then◌else◌}
 use Rattle.std.specs.List.{AllByRecursion}
 use Rattle.std.proofs.lemmas.List.{length-map}
-use Rattle.session.specs.Selection.{rest_from, rest}
+use Rattle.lists.specs.Selection.{rest_from, rest}
 use Rattle.losses.specs.declared.number.Number.{Number}
 use Rattle.losses.specs.Numbers.{has}
 use Rattle.losses.specs.Losses.{IsMargin, IsKill, IsBurst, IsHarmless, blocks_by}
 use Rattle.losses.proofs.Transfer.{margin_same, kill_same, burst_same}
 use Rattle.partition.specs.Fti.{Fti, block_count, source_count}
-use Rattle.alc.specs.Packet.{Packet}
+use Rattle.reception.specs.declared.scope.Identity.{Identity}
 use Rattle.alc.specs.Reading.{Reading}
 use Rattle.cert.specs.Certificate.{Certificate}
-use Rattle.cert.specs.Symbols.{is_held}
-use Rattle.cert.specs.Readings.{ReadAll, placed_from, counted, symbols}
-use Rattle.cert.specs.Headline.{IsEnough}
+use Rattle.reception.specs.Symbols.{is_held}
+use Rattle.reception.specs.Reception.{ReadAll, counted_from, counted, symbols}
+use Rattle.reception.specs.Headline.{IsEnough}
 use Rattle.cert.specs.Verdict.{IsCertifiedReading}
 use Rattle.cert.specs.Report.{blocks_of}
-use Rattle.cert.specs.Scan.{readings_of, number_of, numbers_of}
+use Rattle.reception.specs.Step.{readings_of}
+use Rattle.cert.specs.Scan.{number_of, numbers_of}
 use Rattle.cert.proofs.Bridge.{numbers_are}
 
 -- a packet
@@ -25,12 +26,12 @@ abbrev pub IsPacket : Reading → Type 0
 IsPacket (Ok p) = Unit {0}
 IsPacket (Err r) = ⊥
 
-are_packets : (z : Certificate) (first : Packet) (i : ℕ) (rs : List Reading) → AllByRecursion (λ x. IsCertifiedReading z first x.reading) (placed_from i rs) → AllByRecursion IsPacket rs
-are_packets z first i [] h = tt
-are_packets z first i (Ok p ∷ rs) h = (tt, are_packets z first (i + 1) rs h.1)
-are_packets z first i (Err r ∷ rs) h = absurd h.0
+are_packets : (z : Certificate) (who : Identity) (i : ℕ) (rs : List Reading) → AllByRecursion (λ x. IsCertifiedReading z who x.reading) (counted_from i rs) → AllByRecursion IsPacket rs
+are_packets z who i [] h = tt
+are_packets z who i (Ok p ∷ rs) h = (tt, are_packets z who (i + 1) rs h.1)
+are_packets z who i (Err r ∷ rs) h = absurd h.0
 
-held_number : (i b j : ℕ) (rs : List Reading) → AllByRecursion IsPacket rs → is_held (symbols (placed_from i rs)) b j ≡ has b (map number_of rs) j
+held_number : (i b j : ℕ) (rs : List Reading) → AllByRecursion IsPacket rs → is_held (symbols (counted_from i rs)) b j ≡ has b (map number_of rs) j
 held_number i b j [] h = refl
 held_number i b j (Ok p ∷ rs) h = ap (λ (v : Bool). (p.block == b && p.esi == j) || v) (held_number (i + 1) b j rs h.1)
 held_number i b j (Err r ∷ rs) h = absurd h.0
@@ -51,17 +52,17 @@ rest_numbers lost i (r ∷ rs) =
       | false ↦ ap (λ (ns : List Number). number_of r ∷ ns) (rest_numbers lost (i + 1) rs)
     ]
 
-module _ (z : Certificate) (first : Packet) (ds : List (List ℕ)) (packets : AllByRecursion (λ x. IsCertifiedReading z first x.reading) (counted (readings_of ds)))
+module _ (z : Certificate) (who : Identity) (ds : List (List ℕ)) (packets : AllByRecursion (λ x. IsCertifiedReading z who x.reading) (counted (readings_of ds)))
     (needs : List ℕ) (count : length needs ≡ block_count z.fti) (need : (b : ℕ) → b < block_count z.fti → slice_index needs b ≡ source_count z.fti b) where
   len : length (readings_of ds) ≡ length (numbers_of ds)
   len = sym (ap (λ (ns : List Number). length ns) (numbers_are ds) ∙ length-map (readings_of ds) number_of)
 
   whole : (b j : ℕ) → is_held (symbols (counted (readings_of ds))) b j ≡ has b (numbers_of ds) j
-  whole b j = held_number 0 b j (readings_of ds) (are_packets z first 0 (readings_of ds) packets) ∙ ap (λ (ns : List Number). has b ns j) (sym (numbers_are ds))
+  whole b j = held_number 0 b j (readings_of ds) (are_packets z who 0 (readings_of ds) packets) ∙ ap (λ (ns : List Number). has b ns j) (sym (numbers_are ds))
 
   left : (lost : ℕ → Bool) (b j : ℕ) → is_held (symbols (counted (rest lost (readings_of ds)))) b j ≡ has b (rest lost (numbers_of ds)) j
   left lost b j =
-      held_number 0 b j (rest lost (readings_of ds)) (rest_packets lost 0 (readings_of ds) (are_packets z first 0 (readings_of ds) packets))
+      held_number 0 b j (rest lost (readings_of ds)) (rest_packets lost 0 (readings_of ds) (are_packets z who 0 (readings_of ds) packets))
       ∙ ap (λ (ns : List Number). has b ns j) (rest_numbers lost 0 (readings_of ds) ∙ ap (λ (ns : List Number). rest lost ns) (sym (numbers_are ds)))
 
   needed : (b : ℕ) → b < length needs → source_count z.fti b ≡ slice_index needs b

@@ -9,21 +9,25 @@ use Rattle.std.proofs.Math.ListN.{get_or-eq_default}
 use Rattle.gf256.specs.Arithmetic.{point}
 use Rattle.poly.specs.Polynomial.{value}
 use Rattle.partition.specs.Fti.{Fti, IsValidFti, source_count, encoding_count, block_count}
-use Rattle.losses.specs.Numbers.{below}
-use Rattle.cert.specs.Symbols.{Symbol, is_held, is_full, Agrees, IsObject, FullSolvable}
+use Rattle.lists.specs.Below.{below}
+use Rattle.reception.specs.Symbols.{Symbol, is_held, is_full, Agrees, IsObject, FullSolvable}
 use Rattle.alc.specs.Packet.{Packet}
 use Rattle.alc.specs.PacketFault.{same}
 use Rattle.alc.specs.Reading.{Reading}
-use Rattle.cert.specs.Readings.{ReadAll, placed_from, counted, symbol_of, symbols, same_fti, in_range, clashes, Suffices}
-use Rattle.cert.specs.Answer.{packet_fault, fault_after, came_of, IsClean}
+use Rattle.reception.specs.declared.scope.Identity.{Identity}
+use Rattle.reception.specs.declared.scope.Scope.{Scope}
+use Rattle.reception.specs.Reception.{ReadAll, counted_from, counted, identity_in, symbol_of, symbols, in_range, packet_fault, unknown, scope_from, wrong_after, IsClean, Suffices}
+use Rattle.reception.specs.Answer.{clashes, clash, came_of}
+use Rattle.reception.proofs.Stepping.{scope, stays}
+use Rattle.reception.proofs.Within.{IsFaultless, no_fault}
 use Rattle.cert.specs.Certificate.{Certificate, IsCertificate, polynomial, certified_byte}
 use Rattle.cert.specs.Verdict.{GivesObject, IsCertifiedReading, IsCertificateOf}
-use Rattle.session.specs.Selection.{chosen}
-use Rattle.cert.specs.Headline.{DecodesWhereEnough}
+use Rattle.lists.specs.Selection.{chosen}
+use Rattle.reception.specs.Headline.{DecodesWhereEnough}
 use Rattle.partition.proofs.Laws.{some_block, counts}
-use Rattle.losses.proofs.Lists.{both, all_append}
+use Rattle.lists.proofs.Lists.{both, all_append}
 use Rattle.cert.proofs.Polynomials.{forms}
-use Rattle.cert.proofs.OneAnswer.{same_readings}
+use Rattle.reception.proofs.OneAnswer.{same_readings}
 use Rattle.cert.proofs.Full.{fits_only}
 
 -- ---- selections
@@ -64,41 +68,33 @@ same_refl : (xs : List ℕ) → same xs xs ≡ true
 same_refl [] = refl
 same_refl (x ∷ xs) = let a : (x == x) ≡ true = eq-eqb x x refl in rw a (same_refl xs)
 
-same_fti_refl : (f : Fti) → same_fti f f ≡ true
-same_fti_refl f =
-    let a : (f.transfer_length == f.transfer_length) ≡ true = eq-eqb _ _ refl in
-    let b : (f.symbol_length == f.symbol_length) ≡ true = eq-eqb _ _ refl in
-    let c : (f.block_length == f.block_length) ≡ true = eq-eqb _ _ refl in
-    let d : (f.max_symbols == f.max_symbols) ≡ true = eq-eqb _ _ refl in
-    rw (a, b, c, d)
-
 -- ---- certified packets
 
 -- of a certified reading: it is a packet, of this identity
-pub record IsSound (z : Certificate) (t u : ℕ) (p : Packet) : Type 0 where
-  pub tsi : p.tsi ≡ t
-  pub toi : p.toi ≡ u
+pub record IsSound (z : Certificate) (who : Identity) (p : Packet) : Type 0 where
+  pub tsi : p.tsi ≡ who.tsi
+  pub toi : p.toi ≡ who.toi
   pub fti : p.fti ≡ z.fti
   pub range : in_range p z.fti ≡ true
   pub count : length p.bytes ≡ z.fti.symbol_length
   pub symbol : (c : ℕ) → c < z.fti.symbol_length → slice_index p.bytes c ≡ certified_byte z p.block p.esi c
 
-abbrev pub IsSoundReading : Certificate → ℕ → ℕ → Reading → Type 0
-IsSoundReading z t u (Ok p) = IsSound z t u p
-IsSoundReading z t u (Err r) = ⊥
+abbrev pub IsSoundReading : Certificate → Identity → Reading → Type 0
+IsSoundReading z who (Ok p) = IsSound z who p
+IsSoundReading z who (Err r) = ⊥
 
 -- what holds of each reading that counts holds of each
-pub unplaced_all : (P : Reading → Type 0) (i : ℕ) (rs : List Reading) → AllByRecursion (λ x. P x.reading) (placed_from i rs) → AllByRecursion P rs
+pub unplaced_all : (P : Reading → Type 0) (i : ℕ) (rs : List Reading) → AllByRecursion (λ x. P x.reading) (counted_from i rs) → AllByRecursion P rs
 unplaced_all P i [] h = tt
 unplaced_all P i (r ∷ rs) h = (h.0, unplaced_all P (i + 1) rs h.1)
 
-pub sound_all : (z : Certificate) (first : Packet) (ds : List (List ℕ)) (rs : List Reading) → ReadAll ds rs
-    → AllByRecursion (IsCertifiedReading z first) rs → AllByRecursion (IsSoundReading z first.tsi first.toi) rs
-sound_all z first [] [] read h = tt
-sound_all z first [] (r ∷ rs) read h = absurd read
-sound_all z first (d ∷ ds) [] read h = absurd read
-sound_all z first (d ∷ ds) (Err r ∷ rs) read h = absurd h.0
-sound_all z first (d ∷ ds) (Ok p ∷ rs) read h = (
+pub sound_all : (z : Certificate) (who : Identity) (ds : List (List ℕ)) (rs : List Reading) → ReadAll ds rs
+    → AllByRecursion (IsCertifiedReading z who) rs → AllByRecursion (IsSoundReading z who) rs
+sound_all z who [] [] read h = tt
+sound_all z who [] (r ∷ rs) read h = absurd read
+sound_all z who (d ∷ ds) [] read h = absurd read
+sound_all z who (d ∷ ds) (Err r ∷ rs) read h = absurd h.0
+sound_all z who (d ∷ ds) (Ok p ∷ rs) read h = (
   record {
     tsi = h.0.tsi;
     toi = h.0.toi;
@@ -107,7 +103,7 @@ sound_all z first (d ∷ ds) (Ok p ∷ rs) read h = (
     count = read.0.valid.symbol ∙ ap (λ (f : Fti). f.symbol_length) h.0.fti;
     symbol = h.0.symbol;
   },
-  sound_all z first ds rs read.1 h.1,
+  sound_all z who ds rs read.1 h.1,
 )
 
 -- a symbol as certified
@@ -115,14 +111,14 @@ pub record IsRight (z : Certificate) (s : Symbol) : Type 0 where
   pub count : length s.bytes ≡ z.fti.symbol_length
   pub symbol : (c : ℕ) → c < z.fti.symbol_length → slice_index s.bytes c ≡ certified_byte z s.block s.esi c
 
-pub no_clash : (z : Certificate) (t u : ℕ) (p : Packet) → IsSound z t u p → (earlier : List Symbol) → AllByRecursion (IsRight z) earlier → clashes p earlier ≡ false
-no_clash z t u p sound [] h = refl
-no_clash z t u p sound (s ∷ ss) h =
-    elim (s.block == p.block) as (λ v. (s.block == p.block) ≡ v → ((v && s.esi == p.esi) && not (same s.bytes p.bytes) || clashes p ss) ≡ false) [
-      | false ↦ λ e. no_clash z t u p sound ss h.1
+pub no_clash : (z : Certificate) (who : Identity) (p : Packet) → IsSound z who p → (earlier : List Symbol) → AllByRecursion (IsRight z) earlier → clashes earlier (symbol_of p) ≡ false
+no_clash z who p sound [] h = refl
+no_clash z who p sound (s ∷ ss) h =
+    elim (s.block == p.block) as (λ v. (s.block == p.block) ≡ v → ((v && s.esi == p.esi) && not (same s.bytes p.bytes) || clashes ss (symbol_of p)) ≡ false) [
+      | false ↦ λ e. no_clash z who p sound ss h.1
       | true ↦ λ e.
-          (elim (s.esi == p.esi) as (λ w. (s.esi == p.esi) ≡ w → (w && not (same s.bytes p.bytes) || clashes p ss) ≡ false) [
-            | false ↦ λ g. no_clash z t u p sound ss h.1
+          (elim (s.esi == p.esi) as (λ w. (s.esi == p.esi) ≡ w → (w && not (same s.bytes p.bytes) || clashes ss (symbol_of p)) ≡ false) [
+            | false ↦ λ g. no_clash z who p sound ss h.1
             | true ↦ λ g.
                 (let eb = eqb-true s.block p.block e in
                 let ej = eqb-true s.esi p.esi g in
@@ -131,46 +127,48 @@ no_clash z t u p sound (s ∷ ss) h =
                 let lt : c < z.fti.symbol_length = omega (arith, h.0.count) in
                 h.0.symbol c lt ∙ ap (λ (b : ℕ). certified_byte z b s.esi c) eb ∙ ap (λ (j : ℕ). certified_byte z p.block j c) ej ∙ sym (sound.symbol c lt)) in
                 let granted : same s.bytes p.bytes ≡ true = rw one (same_refl p.bytes) in
-                rw granted (no_clash z t u p sound ss h.1))
+                rw granted (no_clash z who p sound ss h.1))
           ] refl)
     ] refl
 
-no_packet_fault : (z : Certificate) (first p : Packet) (t u : ℕ) → IsSound z t u first → IsSound z t u p → (earlier : List Symbol) → AllByRecursion (IsRight z) earlier
-    → packet_fault first earlier p ≡ None
-no_packet_fault z first p t u sf sp earlier h =
-    let a : (p.tsi == first.tsi) ≡ true = eq-eqb _ _ (sp.tsi ∙ sym sf.tsi) in
-    let b : (p.toi == first.toi) ≡ true = eq-eqb _ _ (sp.toi ∙ sym sf.toi) in
-    let c : same_fti p.fti first.fti ≡ true = rw (sp.fti, sf.fti) (same_fti_refl z.fti) in
-    let d : in_range p first.fti ≡ true = rw sf.fti sp.range in
-    let e : clashes p earlier ≡ false = no_clash z t u p sp earlier h in
-    rw (a, b, c, d, e)
+-- whose packet it is
+abbrev identity_of : Packet → Identity
+identity_of p = record { tsi = p.tsi; toi = p.toi }
 
-no_fault_after : (z : Certificate) (first : Packet) (t u : ℕ) → IsSound z t u first → (rs : List Reading) → AllByRecursion (IsSoundReading z t u) rs
-    → (earlier : List Symbol) → AllByRecursion (IsRight z) earlier → (i : ℕ) → fault_after (Some first) earlier (placed_from i rs) ≡ None
-no_fault_after z first t u sf [] h earlier g i = refl
-no_fault_after z first t u sf (Err r ∷ rs) h earlier g i = absurd h.0
-no_fault_after z first t u sf (Ok p ∷ rs) h earlier g i =
-    let a : packet_fault first earlier p ≡ None = no_packet_fault z first p t u sf h.0 earlier g in
-    let b : fault_after (Some first) (symbol_of p ∷ earlier) (placed_from (i + 1) rs) ≡ None =
-    no_fault_after z first t u sf rs h.1 (symbol_of p ∷ earlier) (record { count = h.0.count; symbol = h.0.symbol }, g) (i + 1) in
-    rw (a, b)
+no_packet_fault : (z : Certificate) (who : Identity) (first p : Packet) → IsSound z who first → IsSound z who p → packet_fault (identity_of first) first.fti p ≡ None
+no_packet_fault z who first p sf sp =
+    no_fault (identity_of first) first.fti p (record { tsi = sp.tsi ∙ sym sf.tsi; toi = sp.toi ∙ sym sf.toi; fti = sp.fti ∙ sym sf.fti; range = rw sf.fti sp.range })
+
+no_fault_after : (z : Certificate) (who : Identity) (first : Packet) → IsSound z who first → (rs : List Reading) → AllByRecursion (IsSoundReading z who) rs
+    → (earlier : List Symbol) → AllByRecursion (IsRight z) earlier → (i : ℕ) → wrong_after clash (scope (Some (identity_of first)) (Some first.fti)) earlier (counted_from i rs) ≡ None
+no_fault_after z who first sf [] h earlier g i = refl
+no_fault_after z who first sf (Err r ∷ rs) h earlier g i = absurd h.0
+no_fault_after z who first sf (Ok p ∷ rs) h earlier g i =
+    let a : packet_fault (identity_of first) first.fti p ≡ None = no_packet_fault z who first p sf h.0 in
+    let b : clashes earlier (symbol_of p) ≡ false = no_clash z who p h.0 earlier g in
+    let c : wrong_after clash (scope (Some (identity_of first)) (Some first.fti)) (earlier ++ symbol_of p ∷ []) (counted_from (i + 1) rs) ≡ None =
+    no_fault_after z who first sf rs h.1 (earlier ++ symbol_of p ∷ [])
+    (all_append (IsRight z) earlier (symbol_of p ∷ []) g (record { count = h.0.count; symbol = h.0.symbol }, tt)) (i + 1) in
+    rw (a, b, c) refl
 
 -- sound readings, some, are without a fault and of the certificate's FTI
-pub clean : (z : Certificate) (t u : ℕ) (rs : List Reading) → AllByRecursion (IsSoundReading z t u) rs → rs ≢ [] → IsClean (came_of rs) z.fti
-clean z t u [] h some = absurd (some refl)
-clean z t u (Err r ∷ rs) h some = absurd h.0
-clean z t u (Ok p ∷ rs) h some = record {
-  clean = no_fault_after z p t u h.0 (Ok p ∷ rs) h [] tt 0;
-  some = ap Some h.0.fti;
-}
+pub clean : (z : Certificate) (who : Identity) (rs : List Reading) → AllByRecursion (IsSoundReading z who) rs → rs ≢ [] → IsClean (came_of rs) z.fti
+clean z who [] h some = absurd (some refl)
+clean z who (Err r ∷ rs) h some = absurd h.0
+clean z who (Ok p ∷ rs) h some =
+    let is : scope_from unknown (counted (Ok p ∷ rs)) ≡ scope (Some (identity_of p)) (Some p.fti) = stays (identity_of p) p.fti (counted_from 1 rs) in
+    record {
+      clean = subst (λ (s : Scope). wrong_after clash s [] (counted (Ok p ∷ rs)) ≡ None) (sym is) (no_fault_after z who p h.0 (Ok p ∷ rs) h [] tt 0);
+      some = ap (λ (s : Scope). s.fti) is ∙ ap Some h.0.fti;
+    }
 
 none_held : (xs : List ℕ) → length (filter (is_held [] 0) xs) ≡ 0
 none_held [] = refl
 none_held (x ∷ xs) = none_held xs
 
 -- a sound packet's symbol is one of the object's
-pub agrees_of : (z : Certificate) (t u : ℕ) (object : List ℕ) → IsCertificate z → GivesObject object z → (p : Packet) → IsSound z t u p → Agrees z.fti object (symbol_of p)
-agrees_of z t u object good gives p sound =
+pub agrees_of : (z : Certificate) (who : Identity) (object : List ℕ) → IsCertificate z → GivesObject object z → (p : Packet) → IsSound z who p → Agrees z.fti object (symbol_of p)
+agrees_of z who object good gives p sound =
     let w = both _ _ sound.range in
     let hb = ltb-true p.block (block_count z.fti) w.0 in
     record {
@@ -185,16 +183,16 @@ agrees_of z t u object good gives p sound =
       };
     }
 
-pub fits_sound : (z : Certificate) (t u : ℕ) (object : List ℕ) → IsCertificate z → GivesObject object z
-    → (i : ℕ) (rs : List Reading) → AllByRecursion (IsSoundReading z t u) rs → AllByRecursion (Agrees z.fti object) (symbols (placed_from i rs))
-fits_sound z t u object good gives i [] h = tt
-fits_sound z t u object good gives i (Err r ∷ rs) h = absurd h.0
-fits_sound z t u object good gives i (Ok p ∷ rs) h = (agrees_of z t u object good gives p h.0, fits_sound z t u object good gives (i + 1) rs h.1)
+pub fits_sound : (z : Certificate) (who : Identity) (object : List ℕ) → IsCertificate z → GivesObject object z
+    → (i : ℕ) (rs : List Reading) → AllByRecursion (IsSoundReading z who) rs → AllByRecursion (Agrees z.fti object) (symbols (counted_from i rs))
+fits_sound z who object good gives i [] h = tt
+fits_sound z who object good gives i (Err r ∷ rs) h = absurd h.0
+fits_sound z who object good gives i (Ok p ∷ rs) h = (agrees_of z who object good gives p h.0, fits_sound z who object good gives (i + 1) rs h.1)
 
-pub all_right : (z : Certificate) (t u i : ℕ) (rs : List Reading) → AllByRecursion (IsSoundReading z t u) rs → AllByRecursion (IsRight z) (symbols (placed_from i rs))
-all_right z t u i [] h = tt
-all_right z t u i (Err r ∷ rs) h = absurd h.0
-all_right z t u i (Ok p ∷ rs) h = (record { count = h.0.count; symbol = h.0.symbol }, all_right z t u (i + 1) rs h.1)
+pub all_right : (z : Certificate) (who : Identity) (i : ℕ) (rs : List Reading) → AllByRecursion (IsSoundReading z who) rs → AllByRecursion (IsRight z) (symbols (counted_from i rs))
+all_right z who i [] h = tt
+all_right z who i (Err r ∷ rs) h = absurd h.0
+all_right z who i (Ok p ∷ rs) h = (record { count = h.0.count; symbol = h.0.symbol }, all_right z who (i + 1) rs h.1)
 
 through : (z : Certificate) (b c : ℕ) → c < z.fti.symbol_length → (came : List Symbol) → AllByRecursion (IsRight z) came
     → AllByRecursion (λ s. s.block ≡ b → value (polynomial z b c) (point s.esi) ≡ slice_index s.bytes c) came
@@ -227,8 +225,8 @@ some_came f valid rs full none =
 pub decodes : (session : List (List ℕ)) (rs : List Reading) (object : List ℕ) (z : Certificate) → ReadAll session rs → IsCertificate z
     → IsCertificateOf rs object z → DecodesWhereEnough z.fti session object
 decodes session rs object z read good granted = λ q enough.
-    let first = granted.first in
-    let sound = all_chosen (IsSoundReading z first.tsi first.toi) rs (sound_all z first session rs read (unplaced_all (IsCertifiedReading z first) 0 rs granted.packets)) q in
+    let who = granted.certified.who in
+    let sound = all_chosen (IsSoundReading z who) rs (sound_all z who session rs read (unplaced_all (IsCertifiedReading z who) 0 rs granted.certified.packets)) q in
     let is : enough.readings ≡ chosen rs q = same_readings _ _ _ enough.read (read_chosen session rs read q) in
     let full : Suffices z.fti (chosen rs q) = subst (λ (x : List Reading). Suffices z.fti x) is enough.full in
     record {
@@ -236,10 +234,10 @@ decodes session rs object z read good granted = λ q enough.
       read = read_chosen session rs read q;
       answers = (
         z.fti,
-        clean z first.tsi first.toi (chosen rs q) sound (some_came z.fti good.fti (chosen rs q) full),
-        solvable z object good granted.form granted.gives (symbols (counted (chosen rs q))) (all_right z first.tsi first.toi 0 (chosen rs q) sound),
+        clean z who (chosen rs q) sound (some_came z.fti good.fti (chosen rs q) full),
+        solvable z object good granted.form granted.gives (symbols (counted (chosen rs q))) (all_right z who 0 (chosen rs q) sound),
         full,
         fits_only z.fti (symbols (counted (chosen rs q))) object good.fti full
-            (record { form = granted.form; agrees = fits_sound z first.tsi first.toi object good granted.gives 0 (chosen rs q) sound }),
+            (record { form = granted.form; agrees = fits_sound z who object good granted.gives 0 (chosen rs q) sound }),
       );
     }

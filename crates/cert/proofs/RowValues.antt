@@ -2,7 +2,8 @@
 use Rattle.std.proofs.Common.{◌≡◌, ℕ, zero, suc, ◌+◌, ◌-◌, ◌<◌, List, [], ◌∷◌, length, get_or, take, drop, sym, ap, ◌∙◌, arith, get_or-take}
 use Rattle.std.proofs.lemmas.List.{get_or-drop}
 use Rattle.std.specs.Int.Bits.{xor_assoc, xor_zero_r}
-use Rattle.gf256.specs.Arithmetic.{IsByte, AreBytes, sum_of, product}
+use Rattle.lists.specs.Bytes.{IsByte, AreBytes}
+use Rattle.gf256.specs.Arithmetic.{sum_of, product}
 use Rattle.gf256.specs.ProductLaws.{product_sum, product_assoc, product_byte, product_comm, product_one, product_zero}
 use Rattle.gf256.specs.ByteField.{byte_field}
 use Rattle.poly.specs.Polynomial.{value, value_over, power_over}

@@ -5,19 +5,20 @@ use Rattle.std.specs.List.{AllByRecursion}
 use Rattle.std.proofs.lemmas.Bool.{ltb-false}
 use Rattle.std.proofs.lemmas.List.{ext_get_or}
 use Rattle.std.proofs.Math.ListN.{get_or-eq_default}
-use Rattle.gf256.specs.Arithmetic.{IsByte, sum_of, product, point, AreBytes}
+use Rattle.lists.specs.Bytes.{IsByte, AreBytes}
+use Rattle.gf256.specs.Arithmetic.{sum_of, product, point}
 use Rattle.gf256.specs.ByteField.{byte_field, point_byte}
 use Rattle.poly.specs.Polynomial.{value, IsPolynomial}
 use Rattle.poly.proofs.Roots.{value_element}
 use Rattle.poly.proofs.Bytes.{bytes_by_recursion}
 use Rattle.poly.proofs.Lists.{all_weaker}
-use Rattle.session.specs.Selection.{is_among}
-use Rattle.losses.specs.Numbers.{below}
-use Rattle.losses.proofs.Lists.{all_filter}
-use Rattle.losses.proofs.Below.{all_below, one_missing, at_passing}
+use Rattle.lists.specs.Selection.{is_among}
+use Rattle.lists.specs.Below.{below}
+use Rattle.lists.proofs.Lists.{all_filter}
+use Rattle.lists.proofs.Below.{all_below, one_missing, at_passing}
 use Rattle.partition.specs.Fti.{Fti, IsValidFti, source_count, block_count, start_of, source_byte}
 use Rattle.partition.proofs.Laws.{counts}
-use Rattle.cert.specs.Symbols.{Symbol, Agrees, IsObject}
+use Rattle.reception.specs.Symbols.{Symbol, Agrees, IsObject}
 use Rattle.cert.specs.Twins.{different_esis, root_value, is_first_of, IsTwin}
 use Rattle.cert.proofs.Twinning.{vanishing, twin_byte, twin_of, is_first_column, at_place, length_with_places, agrees, twin_form, differs, changed, unchanged}
 

@@ -6,16 +6,17 @@ use Rattle.std.proofs.lemmas.Bool.{eqb-true, eq-eqb, le-leb}
 use Rattle.std.proofs.lemmas.List.{length-replicate}
 use Rattle.std.proofs.lemmas.Nat.{div-mul-add, mod-mul-add}
 use Rattle.std.proofs.Math.ListN.{get_or-eq_default}
-use Rattle.gf256.specs.Arithmetic.{IsByte, sum_of, product, point, AreBytes}
+use Rattle.lists.specs.Bytes.{IsByte, AreBytes}
+use Rattle.gf256.specs.Arithmetic.{sum_of, product, point}
 use Rattle.poly.specs.Polynomial.{value, root_product_over, IsPolynomial}
 use Rattle.partition.specs.Fti.{Fti, IsValidFti, source_count, block_count, start_of, source_byte, source_place}
-use Rattle.cert.specs.Symbols.{Symbol, is_held, Agrees, ColumnAgrees, IsObject}
+use Rattle.reception.specs.Symbols.{Symbol, is_held, Agrees, ColumnAgrees, IsObject}
 use Rattle.cert.specs.Twins.{is_first_of}
 use Rattle.gf256.specs.ByteField.{byte_field, point_byte, point_apart}
 use Rattle.poly.proofs.Roots.{sums_over, sums_elements, sums_length, value_of_sums, value_element}
 use Rattle.poly.proofs.Product.{roots_over, roots_elements, roots_length, are_roots, not_a_root, value_of_padded, value_is_product}
 use Rattle.partition.proofs.Laws.{counts, apart_blocks, in_object}
-use Rattle.losses.proofs.Lists.{both}
+use Rattle.lists.proofs.Lists.{both}
 use Rattle.poly.proofs.Bytes.{bytes_by_recursion, bytes_from_recursion, points_bytes}
 use Rattle.std.proofs.lemmas.List.{length-map}
 

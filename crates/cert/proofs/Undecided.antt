@@ -4,23 +4,25 @@ use Rattle.std.specs.List.{AllByRecursion}
 use Rattle.std.proofs.Common.{sym, subst, arith, inl, inr}
 use Rattle.std.proofs.lemmas.Bool.{eqb-true, eq-eqb, leb-false}
 use Rattle.std.proofs.Math.Bool.{or-true}
-use Rattle.gf256.specs.Arithmetic.{point, AreBytes}
+use Rattle.lists.specs.Bytes.{AreBytes}
+use Rattle.gf256.specs.Arithmetic.{point}
 use Rattle.poly.specs.Polynomial.{value}
 use Rattle.partition.specs.Fti.{Fti, IsValidFti, source_count, block_count}
-use Rattle.losses.specs.Numbers.{below}
-use Rattle.cert.specs.Symbols.{Symbol, is_of, is_held, held, held_count, is_full, IsFirstShort, Agrees, Fits, AreTwins}
+use Rattle.lists.specs.Below.{below}
+use Rattle.reception.specs.Symbols.{Symbol, is_of, is_held, held, held_count, is_full, IsFirstShort, Agrees, Fits, AreTwins}
 use Rattle.alc.specs.Reading.{Reading}
-use Rattle.cert.specs.Readings.{ReadAll, placed_from, counted, symbols}
-use Rattle.cert.specs.Answer.{Empty, Missing}
+use Rattle.reception.specs.declared.scope.Identity.{Identity}
+use Rattle.reception.specs.Reception.{ReadAll, counted_from, counted, symbols}
+use Rattle.reception.specs.Answer.{Empty, Missing}
 use Rattle.cert.specs.Certificate.{Certificate, IsCertificate}
 use Rattle.cert.specs.Verdict.{GivesObject, IsCertificateOf, IsCertifiedReading}
-use Rattle.session.specs.Selection.{chosen}
-use Rattle.cert.specs.Headline.{IsUndecided, LeavesTwin, UndecidedElse}
+use Rattle.lists.specs.Selection.{chosen}
+use Rattle.reception.specs.Headline.{IsUndecided, LeavesTwin, UndecidedElse}
 use Rattle.partition.proofs.Laws.{counts}
 use Rattle.alc.proofs.Packets.{packet_bytes}
 use Rattle.poly.proofs.Lists.{all_weaker}
-use Rattle.losses.proofs.Lists.{all_filter}
-use Rattle.losses.proofs.Below.{all_below, one_missing, at_passing}
+use Rattle.lists.proofs.Lists.{all_filter}
+use Rattle.lists.proofs.Below.{all_below, one_missing, at_passing}
 use Rattle.cert.proofs.Full.{found}
 use Rattle.cert.proofs.Promise.{read_chosen, all_chosen, sound_all, unplaced_all, IsSoundReading, clean, fits_sound, solvable, all_right}
 use Rattle.cert.proofs.Twinning.{vanishing, twin_of, agrees, twin_form, differs, roots_held}
@@ -52,7 +54,7 @@ held_self (s ∷ ss) = (
   all_weaker (λ x. is_held ss x.block x.esi ≡ true) (λ x. is_held (s ∷ ss) x.block x.esi ≡ true) (λ x h. rw h (or-true (is_of x.block x.esi s))) ss (held_self ss),
 )
 
-bytes_came : (i : ℕ) (ds : List (List ℕ)) (rs : List Reading) → ReadAll ds rs → AllByRecursion (λ s. AreBytes s.bytes × (s.esi < 256)) (symbols (placed_from i rs))
+bytes_came : (i : ℕ) (ds : List (List ℕ)) (rs : List Reading) → ReadAll ds rs → AllByRecursion (λ s. AreBytes s.bytes × (s.esi < 256)) (symbols (counted_from i rs))
 bytes_came i [] [] h = tt
 bytes_came i [] (r ∷ rs) h = absurd h
 bytes_came i (d ∷ ds) [] h = absurd h
@@ -95,27 +97,27 @@ twin_at f valid came object fits bytes b hb short =
     )
 
 -- the answer where block b is the first short one
-told : (z : Certificate) (t u : ℕ) (object : List ℕ) → IsCertificate z → Fits z.fti [] object → GivesObject object z
-    → (ds : List (List ℕ)) (rs : List Reading) → ReadAll ds rs → AllByRecursion (IsSoundReading z t u) rs
+told : (z : Certificate) (who : Identity) (object : List ℕ) → IsCertificate z → Fits z.fti [] object → GivesObject object z
+    → (ds : List (List ℕ)) (rs : List Reading) → ReadAll ds rs → AllByRecursion (IsSoundReading z who) rs
     → (b : ℕ) → IsFirstShort z.fti (symbols (counted rs)) b → LeavesTwin z.fti ds object → IsUndecided z.fti ds object
-told z t u object good form gives [] [] read sound b first twin = record {
+told z who object good form gives [] [] read sound b first twin = record {
   answer = Empty;
   told = record { readings = []; read = tt; answers = (refl, refl) };
   lacks = refl;
   twin = twin;
 }
-told z t u object good form gives [] (r ∷ rs) read sound b first twin = absurd read
-told z t u object good form gives (d ∷ ds) [] read sound b first twin = absurd read
-told z t u object good form gives (d ∷ ds) (r ∷ rs) read sound b first twin = record {
+told z who object good form gives [] (r ∷ rs) read sound b first twin = absurd read
+told z who object good form gives (d ∷ ds) [] read sound b first twin = absurd read
+told z who object good form gives (d ∷ ds) (r ∷ rs) read sound b first twin = record {
   answer = Missing b (held_count (symbols (counted (r ∷ rs))) b) (source_count z.fti b);
   told = record {
     readings = r ∷ rs;
     read = read;
     answers = (
       z.fti,
-      clean z t u (r ∷ rs) sound (λ e. absurd (cc)),
+      clean z who (r ∷ rs) sound (λ e. absurd (cc)),
       solvable z object good form.form gives (symbols (counted (r ∷ rs)))
-          (all_right z t u 0 (r ∷ rs) sound),
+          (all_right z who 0 (r ∷ rs) sound),
       first,
       refl,
       refl,
@@ -129,18 +131,18 @@ told z t u object good form gives (d ∷ ds) (r ∷ rs) read sound b first twin 
 pub undecided : (session : List (List ℕ)) (rs : List Reading) (object : List ℕ) (z : Certificate) → ReadAll session rs → IsCertificate z
     → IsCertificateOf rs object z → UndecidedElse z.fti session object
 undecided session rs object z read good granted = λ q lacking.
-    let first = granted.first in
-    let sound = all_chosen (IsSoundReading z first.tsi first.toi) rs (sound_all z first session rs read (unplaced_all (IsCertifiedReading z first) 0 rs granted.packets)) q in
+    let who = granted.certified.who in
+    let sound = all_chosen (IsSoundReading z who) rs (sound_all z who session rs read (unplaced_all (IsCertifiedReading z who) 0 rs granted.certified.packets)) q in
     let read_q = read_chosen session rs read q in
     let fits : Fits z.fti (symbols (counted (chosen rs q))) object = record {
       form = granted.form;
-      agrees = fits_sound z first.tsi first.toi object good granted.gives 0 (chosen rs q) sound;
+      agrees = fits_sound z who object good granted.gives 0 (chosen rs q) sound;
     } in
     elim (first_short z.fti (symbols (counted (chosen rs q))) (block_count z.fti)) [
       | inr all ↦ absurd (lacking (record { readings = chosen rs q; read = read_q; full = all }))
       | inl w ↦
           (let twin = twin_at z.fti good.fti (symbols (counted (chosen rs q))) object fits (bytes_came 0 _ _ read_q) w.0 w.1 w.2 in
-          told z first.tsi first.toi object good (record { form = granted.form; agrees = tt }) granted.gives (chosen session q) (chosen rs q) read_q sound w.0
+          told z who object good (record { form = granted.form; agrees = tt }) granted.gives (chosen session q) (chosen rs q) read_q sound w.0
           (record { in_range = w.1; short = w.2; least = w.3 })
           (record { readings = chosen rs q; read = read_q; other = twin.0; twins = twin.1 }))
     ]

@@ -4,7 +4,7 @@ use Rattle.cert.specs.declared.verdict.Verdict.{Verdict}
 use Rattle.cert.specs.declared.verdict.Verdict.TheVariants.{Yes, No}
 use Rattle.cert.specs.Certificate.{Certificate, IsCertificate}
 use Rattle.cert.specs.Verdict.{IsVerdict}
-use Rattle.cert.specs.Headline.{DecodesWhereEnough, UndecidedElse}
+use Rattle.reception.specs.Headline.{DecodesWhereEnough, UndecidedElse}
 use Rattle.cert.specs.Report.{OnYes}
 use Rattle.cert.proofs.Promise.{decodes}
 use Rattle.cert.proofs.Undecided.{undecided}

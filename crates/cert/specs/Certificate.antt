@@ -2,7 +2,8 @@
 use Rattle.std.specs.Prelude.{◌≡◌, ℕ, ◌+◌, ◌*◌, List, [], ◌∷◌, ◌++◌, length, take, drop, slice_index, nat_eq, nat_lt, ◌==◌, not, Bool, true, if◌then◌else◌, Option, Some, None, IfSome}
 use Rattle.std.specs.List.{starts_with}
 use Rattle.byteorder.specs.Endian.{big_bytes, big_number}
-use Rattle.gf256.specs.Arithmetic.{AreBytes, point}
+use Rattle.lists.specs.Bytes.{AreBytes}
+use Rattle.gf256.specs.Arithmetic.{point}
 use Rattle.poly.specs.Polynomial.{value}
 use Rattle.partition.specs.Fti.{Fti, IsValidFti, symbol_count, source_count, start_of}
 use Rattle.partition.specs.FtiFault.{fti_fault}

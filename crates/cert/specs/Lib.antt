@@ -1,10 +1,6 @@
-pub mod Symbols
-pub mod Readings
-pub mod Answer
 pub mod Certificate
 pub mod CoefficientRows
 pub mod Verdict
-pub mod Headline
 pub mod Scan
 pub mod Report
 pub mod Twins

@@ -1,14 +1,14 @@
 -- What the report of a yes says.
 use Rattle.std.specs.Prelude.{◌≡◌, ℕ, ◌+◌, List, map}
-use Rattle.losses.specs.Numbers.{below}
+use Rattle.lists.specs.Below.{below}
 use Rattle.losses.specs.Losses.{Blocks, IsMargin, IsKill, IsBurst}
 use Rattle.partition.specs.Fti.{Fti, block_count, source_count}
 use Rattle.alc.specs.Reading.{Reading}
 use Rattle.cert.specs.declared.verdict.Report.{Report}
 use Rattle.cert.specs.declared.verdict.Verdict.{Verdict}
 use Rattle.cert.specs.declared.verdict.Verdict.TheVariants.{Yes, No}
-use Rattle.cert.specs.Symbols.{Symbol, is_held, held_count}
-use Rattle.cert.specs.Readings.{ReadAll, counted, symbols}
+use Rattle.reception.specs.Symbols.{Symbol, is_held, held_count}
+use Rattle.reception.specs.Reception.{ReadAll, counted, symbols}
 
 -- for each block below n its source symbols, and how many different ESIs of it came
 abbrev pub block_lines : Fti → List Symbol → ℕ → List (ℕ × ℕ)

@@ -1,22 +1,16 @@
 -- What a scan over the datagrams finds.
-use Rattle.std.specs.Prelude.{◌≡◌, ℕ, ◌<◌, ◌≤◌, List, map, slice_index, Some, None, Ok, Err}
-use Rattle.std.specs.List.{AllByRecursion}
+use Rattle.std.specs.Prelude.{◌≡◌, ℕ, ◌<◌, ◌≤◌, List, map, slice_index, Ok, Err}
 use Rattle.losses.specs.declared.number.Number.{Number}
 use Rattle.partition.specs.Fti.{Fti, block_count, source_count}
-use Rattle.alc.specs.Packet.{Packet}
 use Rattle.alc.specs.Reading.{Reading}
 use Rattle.alc.specs.Computed.{read_of}
+use Rattle.reception.specs.Reception.{Suffices}
+use Rattle.reception.specs.Step.{readings_of}
 use Rattle.cert.specs.declared.datagrams.Refusal.{Refusal}
 use Rattle.cert.specs.declared.datagrams.Refusal.TheVariants.{Reason as ByReason, NoMemory}
 use Rattle.cert.specs.declared.verdict.Reason.TheVariants.{Thin}
 use Rattle.cert.specs.Certificate.{Certificate}
-use Rattle.cert.specs.Symbols.{held_count, IsFirstShort}
-use Rattle.cert.specs.Readings.{counted, symbols, first_packet, Suffices}
-use Rattle.cert.specs.Verdict.{first_reason, IsCertifiedReading}
-
--- the readings of datagrams, computed
-abbrev pub readings_of : List (List ℕ) → List Reading
-readings_of datagrams = map read_of datagrams
+use Rattle.cert.specs.Verdict.{IsAgainst, AreCertified}
 
 -- a packet's block and ESI
 abbrev pub number_of : Reading → Number
@@ -27,9 +21,9 @@ number_of (Err r) = record { block = 0; esi = 0 }
 abbrev pub numbers_of : List (List ℕ) → List Number
 numbers_of datagrams = map (λ d. number_of (read_of d)) datagrams
 
--- a scan stopped for the first reason, or for want of memory
+-- the datagrams are refused for a reason, or for want of memory
 abbrev pub IsRefusal : List (List ℕ) → Certificate → Refusal → Type 0
-IsRefusal datagrams z (ByReason r) = first_reason z (counted (readings_of datagrams)) ≡ Some r
+IsRefusal datagrams z (ByReason r) = IsAgainst (readings_of datagrams) z r
 IsRefusal datagrams z NoMemory = Unit {0}
 
 -- each block has at least as many different ESIs as source symbols, by these counts
@@ -49,21 +43,7 @@ IsThin f held (ByReason (Thin b have need)) = IsFirstThin f held b have need
 IsThin f held (ByReason _) = ⊥
 IsThin f held NoMemory = Unit {0}
 
--- all datagrams are packets as certified
-pub record AreAllCertified (datagrams : List (List ℕ)) (z : Certificate) : Type 0 where
-  pub first : Packet
-  pub some : first_packet (counted (readings_of datagrams)) ≡ Some first
-  pub packets : AllByRecursion (λ x. IsCertifiedReading z first x.reading) (counted (readings_of datagrams))
-
 -- what a yes says of the datagrams
-pub record AreCertified (datagrams : List (List ℕ)) (z : Certificate) : Type 0 where
-  pub all : AreAllCertified datagrams z
+pub record AreEnoughCertified (datagrams : List (List ℕ)) (z : Certificate) : Type 0 where
+  pub all : AreCertified (readings_of datagrams) z
   pub full : Suffices z.fti (readings_of datagrams)
-
--- what a no says of them
-abbrev pub IsNotCertified : List (List ℕ) → Certificate → Refusal → Type 0
-IsNotCertified datagrams z (ByReason (Thin b have need)) =
-    (first_reason z (counted (readings_of datagrams)) ≡ None)
-    × IsFirstShort z.fti (symbols (counted (readings_of datagrams))) b × (have ≡ held_count (symbols (counted (readings_of datagrams))) b) × (need ≡ source_count z.fti b)
-IsNotCertified datagrams z (ByReason r) = first_reason z (counted (readings_of datagrams)) ≡ Some r
-IsNotCertified datagrams z NoMemory = Unit {0}

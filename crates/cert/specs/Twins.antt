@@ -1,16 +1,16 @@
 -- Another object that agrees with all that came, where a block is short.
-use Rattle.std.specs.Prelude.{◌≡◌, ◌≢◌, ◌+◌, ◌/◌, ◌%◌, ◌<◌, ◌==◌, ◌&&◌, ◌↔◌, Bool, true, if◌then◌else◌, nat_le, nat_lt, ℕ, List, [], ◌∷◌, map, filter, flat_map, Ok, Err}
+use Rattle.std.specs.Prelude.{◌≡◌, ◌≢◌, ◌+◌, ◌/◌, ◌%◌, ◌<◌, ◌==◌, ◌&&◌, ◌↔◌, Bool, true, if◌then◌else◌, nat_le, nat_lt, ℕ, List, [], ◌∷◌, map, filter, flat_map}
 use Rattle.gf256.specs.Arithmetic.{sum_of, product, point}
 use Rattle.poly.specs.Polynomial.{root_product_over}
-use Rattle.session.specs.Selection.{is_among}
-use Rattle.losses.specs.Numbers.{below}
+use Rattle.lists.specs.Selection.{is_among}
+use Rattle.lists.specs.Below.{below}
 use Rattle.partition.specs.Fti.{Fti, source_count, block_count, start_of, source_byte}
 use Rattle.alc.specs.Reading.{Reading}
 use Rattle.cert.specs.declared.verdict.Verdict.TheVariants.{No}
 use Rattle.cert.specs.declared.verdict.Reason.TheVariants.{Thin}
-use Rattle.cert.specs.Symbols.{Symbol, Agrees, AreTwins, IsObject}
+use Rattle.reception.specs.Symbols.{Symbol, Agrees, AreTwins, IsObject}
 use Rattle.cert.specs.Certificate.{Certificate}
-use Rattle.cert.specs.Readings.{ReadAll, counted, symbols}
+use Rattle.reception.specs.Reception.{ReadAll, counted, symbols}
 use Rattle.cert.specs.Verdict.{IsVerdict}
 
 -- the different ESIs among these, rising
@@ -41,17 +41,16 @@ pub record IsTwin (f : Fti) (b : ℕ) (held object other : List ℕ) : Type 0 wh
 abbrev pub IsThinIn : List (List ℕ) → List ℕ → Certificate → ℕ → Type 0
 IsThinIn datagrams object z b = (have : ℕ) × (need : ℕ) × IsVerdict datagrams object z (No (Thin b have need))
 
-abbrev pub esi_in : ℕ → Reading → List ℕ
-esi_in b (Ok p) = if p.block == b then p.esi ∷ [] else []
-esi_in b (Err r) = []
+abbrev pub esi_in : ℕ → Symbol → List ℕ
+esi_in b s = if s.block == b then s.esi ∷ [] else []
 
 -- the ESIs of this block that came, repeats and all
-abbrev pub esis_of : ℕ → List Reading → List ℕ
-esis_of b rs = flat_map (esi_in b) rs
+abbrev pub esis_of : ℕ → List Symbol → List ℕ
+esis_of b came = flat_map (esi_in b) came
 
 -- the other object is a twin made for the ESIs of this block that came, and agrees with all that came, as the object does
 pub record IsTwinOfSession (f : Fti) (b : ℕ) (datagrams : List (List ℕ)) (object other : List ℕ) : Type 0 where
   pub readings : List Reading
   pub read : ReadAll datagrams readings
-  pub made : IsTwin f b (esis_of b readings) object other
+  pub made : IsTwin f b (esis_of b (symbols (counted readings))) object other
   pub twins : AreTwins f (symbols (counted readings)) object other

@@ -1,5 +1,5 @@
 -- What a check of a session, an object and a certificate answers.
-use Rattle.std.specs.Prelude.{◌≡◌, ◌≢◌, true, ℕ, zero, suc, ◌+◌, ◌<◌, ◌==◌, not, if◌then◌else◌, List, [], ◌∷◌, length, slice_index, Option, Some, None, Ok, Err}
+use Rattle.std.specs.Prelude.{◌≡◌, ◌≢◌, true, ℕ, zero, suc, ◌+◌, ◌<◌, ◌==◌, if◌then◌else◌, List, [], length, slice_index, Option, Some, None, Ok, Err, option_map}
 use Rattle.std.specs.List.{AllByRecursion}
 use Rattle.partition.specs.Fti.{source_count, block_count, source_byte}
 use Rattle.alc.specs.Packet.{Packet}
@@ -8,9 +8,11 @@ use Rattle.cert.specs.declared.verdict.Verdict.{Verdict}
 use Rattle.cert.specs.declared.verdict.Verdict.TheVariants.{Yes, No}
 use Rattle.cert.specs.declared.verdict.Reason.{Reason}
 use Rattle.cert.specs.declared.verdict.Reason.TheVariants.{ObjectLength, NotObject, Empty, Packet as NoPacket, OtherIdentity, OtherFti, Range, Symbol, Thin}
-use Rattle.cert.specs.Symbols.{held_count, IsFirstShort, IsObject}
+use Rattle.reception.specs.declared.scope.Identity.{Identity}
+use Rattle.reception.specs.declared.scope.PlaceFault.TheVariants as fault
+use Rattle.reception.specs.Symbols.{Symbol as Received, held_count, IsFirstShort, IsObject}
 use Rattle.cert.specs.Certificate.{Certificate, certified_byte}
-use Rattle.cert.specs.Readings.{ReadAll, Placed, counted, first_packet, symbols, same_identity, same_fti, in_range, Suffices}
+use Rattle.reception.specs.Reception.{ReadAll, Judge, Wrong, Faulty, Judged, Came, counted, symbols, came_with, with_fti, in_range, Suffices}
 
 abbrev pub GivesAt : List ℕ → Certificate → ℕ → ℕ → ℕ → Type 0
 GivesAt object z b c i = certified_byte z b i c ≡ source_byte z.fti object b i c
@@ -42,73 +44,72 @@ abbrev pub IsNotGiven : List ℕ → Certificate → Reason → Type 0
 IsNotGiven object z (NotObject b c i) = IsFirstNotGiven object z b c i
 IsNotGiven object z _ = ⊥
 
--- the first of n columns, from column c on, in which the packet's symbol isn't the certified one
-abbrev pub wrong_column : Certificate → Packet → ℕ → ℕ → Option ℕ
-wrong_column z p c zero = None
-wrong_column z p c (suc n) =
-    if slice_index p.bytes c == certified_byte z p.block p.esi c then wrong_column z p (c + 1) n else Some c
+-- the first of n columns, from column c on, in which the symbol isn't the certified one
+abbrev pub wrong_column : Certificate → Received → ℕ → ℕ → Option ℕ
+wrong_column z s c zero = None
+wrong_column z s c (suc n) =
+    if slice_index s.bytes c == certified_byte z s.block s.esi c then wrong_column z s (c + 1) n else Some c
 
-abbrev pub symbol_reason : ℕ → Option ℕ → Option Reason
-symbol_reason i None = None
-symbol_reason i (Some c) = Some (Symbol i c)
+-- what a check says against a symbol in range: the least column
+abbrev pub uncertified : Certificate → Judge ℕ
+uncertified z earlier s = wrong_column z s 0 z.fti.symbol_length
 
--- the first reason against the packet at place i, the session's first packet being the other
-abbrev pub packet_reason : Certificate → Packet → ℕ → Packet → Option Reason
-packet_reason z first i p =
-    if not (same_identity p first) then Some (OtherIdentity i)
-    else if not (same_fti p.fti z.fti) then Some (OtherFti i)
-    else if not (in_range p z.fti) then Some (Range i)
-    else symbol_reason i (wrong_column z p 0 z.fti.symbol_length)
+-- what came, to a check, which knows the certificate's FTI before
+abbrev pub came_to : Certificate → List Reading → Came ℕ
+came_to z rs = came_with (uncertified z) (with_fti z.fti) rs
 
-abbrev pub reading_reason : Certificate → Option Packet → ℕ → Reading → Option Reason
-reading_reason z first i (Err r) = Some (NoPacket i r)
-reading_reason z None i (Ok p) = None
-reading_reason z (Some first) i (Ok p) = packet_reason z first i p
-
--- a reason, or else another
-abbrev pub or_else : Option Reason → Option Reason → Option Reason
-or_else None other = other
-or_else (Some r) other = Some r
-
-abbrev pub reason_from : Certificate → Option Packet → List Placed → Option Reason
-reason_from z first [] = None
-reason_from z first (x ∷ xs) = or_else (reading_reason z first x.place x.reading) (reason_from z first xs)
+-- the reason that something is wrong at a place
+abbrev pub reason_at : ℕ → Wrong ℕ → Reason
+reason_at i (Faulty (fault.NoPacket r)) = NoPacket i r
+reason_at i (Faulty fault.OtherIdentity) = OtherIdentity i
+reason_at i (Faulty fault.OtherFti) = OtherFti i
+reason_at i (Faulty fault.Range) = Range i
+reason_at i (Judged c) = Symbol i c
 
 -- the reason at the least place that has one, and there the first
-abbrev pub first_reason : Certificate → List Placed → Option Reason
-first_reason z xs = reason_from z (first_packet xs) xs
+abbrev pub first_reason : Certificate → List Reading → Option Reason
+first_reason z rs = option_map (λ x. reason_at x.0 x.1) (came_to z rs).wrong
 
--- each packet is of one identity and of the certificate's FTI, in range, and has the certified symbol
-pub record IsCertified (z : Certificate) (first p : Packet) : Type 0 where
-  pub tsi : p.tsi ≡ first.tsi
-  pub toi : p.toi ≡ first.toi
+-- the packet is of this identity and of the certificate's FTI, in range, and has the certified symbol
+pub record IsCertified (z : Certificate) (who : Identity) (p : Packet) : Type 0 where
+  pub tsi : p.tsi ≡ who.tsi
+  pub toi : p.toi ≡ who.toi
   pub fti : p.fti ≡ z.fti
   pub range : in_range p z.fti ≡ true
   pub symbol : (c : ℕ) → c < z.fti.symbol_length → slice_index p.bytes c ≡ certified_byte z p.block p.esi c
 
-abbrev pub IsCertifiedReading : Certificate → Packet → Reading → Type 0
-IsCertifiedReading z first (Ok p) = IsCertified z first p
-IsCertifiedReading z first (Err r) = ⊥
+abbrev pub IsCertifiedReading : Certificate → Identity → Reading → Type 0
+IsCertifiedReading z who (Ok p) = IsCertified z who p
+IsCertifiedReading z who (Err r) = ⊥
+
+-- some packets came, all of one identity and as certified
+pub record AreCertified (rs : List Reading) (z : Certificate) : Type 0 where
+  pub who : Identity
+  pub some : (came_to z rs).scope.identity ≡ Some who
+  pub packets : AllByRecursion (λ x. IsCertifiedReading z who x.reading) (counted rs)
 
 -- the certificate is one of these readings and this object
 pub record IsCertificateOf (rs : List Reading) (object : List ℕ) (z : Certificate) : Type 0 where
   pub form : IsObject z.fti object
   pub gives : GivesObject object z
-  pub first : Packet
-  pub some : first_packet (counted rs) ≡ Some first
-  pub packets : AllByRecursion (λ x. IsCertifiedReading z first x.reading) (counted rs)
+  pub certified : AreCertified rs z
   pub full : Suffices z.fti rs
+
+-- why the readings don't have the certificate, where it gives the object: the first that is wrong at a place; nothing came;
+-- a short block
+abbrev pub IsAgainst : List Reading → Certificate → Reason → Type 0
+IsAgainst rs z Empty = (first_reason z rs ≡ None) × (counted rs ≡ [])
+IsAgainst rs z (Thin b have need) =
+    (first_reason z rs ≡ None) × (counted rs ≢ []) × IsFirstShort z.fti (symbols (counted rs)) b
+    × (have ≡ held_count (symbols (counted rs)) b) × (need ≡ source_count z.fti b)
+IsAgainst rs z reason = first_reason z rs ≡ Some reason
 
 -- Yes where the certificate is one, and each no the first reason in this order.
 abbrev pub VerdictOn : List Reading → List ℕ → Certificate → Verdict → Type 0
 VerdictOn rs object z (Yes report) = IsCertificateOf rs object z
 VerdictOn rs object z (No ObjectLength) = length object ≢ z.fti.transfer_length
 VerdictOn rs object z (No (NotObject b c i)) = (length object ≡ z.fti.transfer_length) × IsFirstNotGiven object z b c i
-VerdictOn rs object z (No Empty) = IsObject z.fti object × GivesObject object z × (counted rs ≡ [])
-VerdictOn rs object z (No (Thin b have need)) =
-    IsObject z.fti object × GivesObject object z × (first_reason z (counted rs) ≡ None) × (counted rs ≢ [])
-    × IsFirstShort z.fti (symbols (counted rs)) b × (have ≡ held_count (symbols (counted rs)) b) × (need ≡ source_count z.fti b)
-VerdictOn rs object z (No reason) = IsObject z.fti object × GivesObject object z × (first_reason z (counted rs) ≡ Some reason)
+VerdictOn rs object z (No reason) = IsObject z.fti object × GivesObject object z × IsAgainst rs z reason
 
 pub record IsVerdict (datagrams : List (List ℕ)) (object : List ℕ) (z : Certificate) (verdict : Verdict) : Type 0 where
   pub readings : List Reading

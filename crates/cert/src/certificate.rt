@@ -6,6 +6,7 @@ ghost use Rattle.partition.specs.Fti.{IsValidFti, symbol_count, source_count, bl
 ghost use Rattle.cert.specs.Certificate.{Certificate as CertificateValue, IsCertificate, coefficient_count, polynomial as polynomial_of, head_text, certificate_text, text_fault, IsCertFault, IsReadFault, IsTold, IsHead};
 
 use byteorder::{BigEndian, ByteOrder};
+use lists::are_bytes;
 use partition::{Fti, FtiError};
 use session::{Read, ReadFault, Write, fill, read_to_end, write_all};
 use std::alloc::Global;
@@ -46,11 +47,6 @@ impl Model for Certificate {
 
     ghost invariant = { λ z. IsCertificate (record { fti = z.fti; coefficients = z.coefficients.items }) };
 }
-
-/// What the type of a slice says: its members are bytes.
-pub(crate) fn are_bytes(bytes: &[u8])
-    ensures { (i : ℕ) → slice_index bytes.now i < 256 }
-{}
 
 // How many coefficients a certificate of this FTI has.
 fn coefficients_of(fti: &Fti) -> u64

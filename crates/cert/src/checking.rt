@@ -1,19 +1,20 @@
 //! The check.
 ghost use Rattle.std.specs.Prelude.{◌≡◌, ◌<◌, ◌≤◌, ℕ, length, map, slice_index, IfOk, IfErr, OnOk};
 ghost use Rattle.session.specs.Frames.{AreDatagrams};
-ghost use Rattle.losses.specs.Numbers.{below};
+ghost use Rattle.lists.specs.Below.{below};
 ghost use Rattle.partition.specs.Fti.{block_count, source_count};
 ghost use Rattle.cert.specs.Certificate.{IsCertificate};
-ghost use Rattle.cert.specs.Headline.{DecodesWhereEnough, UndecidedElse};
+ghost use Rattle.reception.specs.Headline.{DecodesWhereEnough, UndecidedElse};
 ghost use Rattle.cert.specs.Report.{IsReport, OnYes};
-ghost use Rattle.cert.specs.Scan.{AreEnough, IsThin, AreCertified, IsNotCertified};
+ghost use Rattle.cert.specs.Scan.{AreEnough, IsThin, AreEnoughCertified, IsRefusal};
 ghost use Rattle.cert.specs.Verdict.{GivesObject, IsVerdict};
 
-use crate::certificate::{Certificate, are_bytes};
+use crate::certificate::Certificate;
 use crate::certified_symbols::CertifiedSymbols;
 use crate::datagrams::{Refusal, numbers_of_session};
 use crate::source::not_given;
 use crate::verdict::{Reason, Report, Verdict};
+use lists::are_bytes;
 use losses::{Figures, counts, figures_of};
 use partition::Fti;
 use session::Session;
@@ -61,12 +62,11 @@ fn report_of(
     row: &mut [u8],
 ) -> Result<Report, Refusal>
     requires gives { GivesObject object.now symbols.now.certificate.now }
-    requires some { 0 < length session.now }
     requires datagrams { AreDatagrams session.now }
     requires room { length row.old ≡ symbols.now.certificate.now.fti.symbol_length }
     ensures report { IfOk result (IsReport session.now symbols.now.certificate.now.fti) }
-    ensures certified { OnOk result (AreCertified session.now symbols.now.certificate.now) }
-    ensures refusal { IfErr result (IsNotCertified session.now symbols.now.certificate.now) }
+    ensures certified { OnOk result (AreEnoughCertified session.now symbols.now.certificate.now) }
+    ensures refusal { IfErr result (IsRefusal session.now symbols.now.certificate.now) }
 {
     let numbers = match numbers_of_session(alloc, session, symbols, object, row) {
         Ok(numbers) => numbers,
@@ -111,7 +111,7 @@ fn judge(
     ensures certificate { IsCertificate certificate.now }
 {
     are_bytes(object);
-    let datagrams = session.len();
+    session.len();
     if object.len() as u64 != certificate.fti().length() {
         return Ok(Verdict::No(Reason::ObjectLength));
     }
@@ -120,9 +120,6 @@ fn judge(
     match not_given(object, &symbols, &mut row) {
         Some(reason) => return Ok(Verdict::No(reason)),
         None => {}
-    }
-    if datagrams == 0 {
-        return Ok(Verdict::No(Reason::Empty));
     }
     match report_of(alloc, session, &symbols, object, &mut row) {
         Ok(report) => Ok(Verdict::Yes(report)),

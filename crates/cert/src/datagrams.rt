@@ -1,20 +1,20 @@
 //! Whether the datagrams are certified.
 ghost use Rattle.std.specs.Prelude.{◌≡◌, ◌+◌, ◌<◌, ◌≤◌, ◌^◌, ℕ, Some, None, true, length, IsTrue, IfOk, IfErr, OnOk};
-ghost use Rattle.partition.specs.Fti.{block_count, encoding_count};
 ghost use Rattle.alc.specs.Views.{packet_of};
-ghost use Rattle.cert.specs.Readings.{in_range, counted};
-ghost use Rattle.cert.specs.Verdict.{GivesObject, wrong_column, packet_reason, first_reason};
+ghost use Rattle.reception.specs.Reception.{Faulty, in_range, symbol_of, counted};
+ghost use Rattle.reception.specs.Step.{readings_of};
+ghost use Rattle.cert.specs.Verdict.{GivesObject, wrong_column, reason_at, first_reason, AreCertified};
 ghost use Rattle.cert.specs.CoefficientRows.{IsCertifiedSymbol};
-ghost use Rattle.cert.specs.Scan.{readings_of, numbers_of, AreAllCertified, IsRefusal};
+ghost use Rattle.cert.specs.Scan.{numbers_of, IsRefusal};
 
 use crate::certificate::Certificate;
 use crate::certified_symbols::CertifiedSymbols;
 use crate::source::{is_source_symbol, value_at};
 use crate::verdict::Reason;
-use alc::{Packet, PacketFault, read};
+use alc::Packet;
 use gf256::point;
 use losses::Number;
-use partition::Fti;
+use reception::{PlaceFault, Scope};
 use session::Session;
 use std::alloc::Global;
 
@@ -25,18 +25,11 @@ pub(crate) enum Refusal {
     NoMemory,
 }
 
-/// Whether the FTI has the packet's source block, and the block its encoding symbol.
-pub fn is_in_range(packet: &Packet<'_>, fti: &Fti) -> bool
-    ensures { result ≡ in_range (packet_of packet.now) fti.now }
-{
-    packet.sbn < fti.blocks() && usize::from(packet.esi) < fti.n(packet.sbn)
-}
-
 // The least column in which a packet's symbol isn't the certified one.
 fn wrong_symbol_column(certificate: &Certificate, packet: &Packet<'_>) -> Option<usize>
     requires range { in_range (packet_of packet.now) certificate.now.fti ≡ true }
     requires symbol { length packet.now.symbol.now ≡ certificate.now.fti.symbol_length }
-    ensures { result ≡ wrong_column certificate.now (packet_of packet.now) 0 certificate.now.fti.symbol_length }
+    ensures { result ≡ wrong_column certificate.now (symbol_of (packet_of packet.now)) 0 certificate.now.fti.symbol_length }
 {
     let length = usize::from(certificate.fti().symbol());
     let x = point(packet.esi);
@@ -85,7 +78,7 @@ fn wrong_in_symbol(
     requires symbol { length packet.now.symbol.now ≡ symbols.now.certificate.now.fti.symbol_length }
     requires room { length row.old ≡ symbols.now.certificate.now.fti.symbol_length }
     ensures len { length row.new ≡ length row.old }
-    ensures column { result ≡ wrong_column symbols.now.certificate.now (packet_of packet.now) 0 symbols.now.certificate.now.fti.symbol_length }
+    ensures column { result ≡ wrong_column symbols.now.certificate.now (symbol_of (packet_of packet.now)) 0 symbols.now.certificate.now.fti.symbol_length }
 {
     if is_certified(symbols, object, packet, row) {
         return None;
@@ -93,39 +86,20 @@ fn wrong_in_symbol(
     wrong_symbol_column(symbols.certificate, packet)
 }
 
-// The first reason against the packet at a place, the session's first packet being the other. `row` is room for one
-// symbol.
-fn reason_against(
-    symbols: &CertifiedSymbols<'_>,
-    object: &[u8],
-    first: &Packet<'_>,
-    place: usize,
-    packet: &Packet<'_>,
-    row: &mut [u8],
-) -> Option<Reason>
-    requires gives { GivesObject object.now symbols.now.certificate.now }
-    requires symbol { length packet.now.symbol.now ≡ packet.now.fti.symbol_length }
-    requires room { length row.old ≡ symbols.now.certificate.now.fti.symbol_length }
-    ensures len { length row.new ≡ length row.old }
-    ensures reason { result ≡ packet_reason symbols.now.certificate.now (packet_of first.now) place (packet_of packet.now) }
+// The reason that a fault at a place is.
+fn reason_of(place: usize, fault: PlaceFault) -> Reason
+    ensures { result ≡ reason_at place (Faulty fault) }
 {
-    let fti = symbols.certificate.fti();
-    if packet.tsi != first.tsi || packet.toi != first.toi {
-        return Some(Reason::OtherIdentity(place));
-    }
-    if packet.fti != fti {
-        return Some(Reason::OtherFti(place));
-    }
-    if !is_in_range(packet, &fti) {
-        return Some(Reason::Range(place));
-    }
-    match wrong_in_symbol(symbols, object, packet, row) {
-        Some(column) => Some(Reason::Symbol(place, column)),
-        None => None,
+    match fault {
+        PlaceFault::NoPacket(fault) => Reason::Packet(place, fault),
+        PlaceFault::OtherIdentity => Reason::OtherIdentity(place),
+        PlaceFault::OtherFti => Reason::OtherFti(place),
+        PlaceFault::Range => Reason::Range(place),
     }
 }
 
-// The numbers of the datagrams in their order, or the first reason against one of them. `row` is room for one symbol.
+// The numbers of the datagrams in their order, or the first reason against one of them, or that nothing came. `row` is
+// room for one symbol.
 pub(crate) fn numbers_of_session(
     alloc: Global,
     session: &Session,
@@ -133,26 +107,23 @@ pub(crate) fn numbers_of_session(
     object: &[u8],
     row: &mut [u8],
 ) -> Result<Vec<Number>, Refusal>
-    requires some { 0 < length session.now }
     requires gives { GivesObject object.now symbols.now.certificate.now }
     requires room { length row.old ≡ symbols.now.certificate.now.fti.symbol_length }
-    ensures none { IfOk result (λ _. first_reason symbols.now.certificate.now (counted (readings_of session.now)) ≡ None) }
-    ensures certified { OnOk result (AreAllCertified session.now symbols.now.certificate.now) }
+    ensures none { IfOk result (λ _. first_reason symbols.now.certificate.now (readings_of session.now) ≡ None) }
+    ensures certified { OnOk result (AreCertified (readings_of session.now) symbols.now.certificate.now) }
     ensures numbers { IfOk result (λ v. v.items ≡ numbers_of session.now) }
     ensures refusal { IfErr result (IsRefusal session.now symbols.now.certificate.now) }
 {
-    let first = match read(session.get(0)) {
-        Ok(packet) => packet,
-        Err(fault) => return Err(Refusal::Reason(Reason::Packet(0, fault))),
-    };
+    let mut scope = Scope::with_fti(symbols.certificate.fti());
     let mut numbers = Vec::new(alloc);
     for place in 0..session.len() {
-        let packet = match read(session.get(place)) {
-            Ok(packet) => packet,
-            Err(fault) => return Err(Refusal::Reason(Reason::Packet(place, fault))),
+        let packet = match scope.look(session.get(place)) {
+            Ok(Some(packet)) => packet,
+            Ok(None) => continue,
+            Err(fault) => return Err(Refusal::Reason(reason_of(place, fault))),
         };
-        match reason_against(symbols, object, &first, place, &packet, row) {
-            Some(reason) => return Err(Refusal::Reason(reason)),
+        match wrong_in_symbol(symbols, object, &packet, row) {
+            Some(column) => return Err(Refusal::Reason(Reason::Symbol(place, column))),
             None => {}
         }
         let number = Number {
@@ -163,5 +134,8 @@ pub(crate) fn numbers_of_session(
             return Err(Refusal::NoMemory);
         };
     }
-    Ok(numbers)
+    match scope.identity {
+        Some(_) => Ok(numbers),
+        None => Err(Refusal::Reason(Reason::Empty)),
+    }
 }

@@ -11,6 +11,5 @@ mod verdict;
 
 pub use certificate::{CertFault, Certificate, one_certificate};
 pub use checking::check;
-pub use datagrams::is_in_range;
 pub use twins::{session_twin, twin};
 pub use verdict::{Reason, Report, Verdict};

@@ -1,6 +1,6 @@
 //! Whether the polynomials give the object.
 ghost use Rattle.std.specs.Prelude.{◌≡◌, ◌≢◌, ◌+◌, ◌<◌, ◌≤◌, ◌^◌, ◌↔◌, ℕ, length, slice_index, IsTrue, IsNone, IfSome};
-ghost use Rattle.gf256.specs.Arithmetic.{IsByte};
+ghost use Rattle.lists.specs.Bytes.{IsByte};
 ghost use Rattle.poly.specs.Polynomial.{value};
 ghost use Rattle.partition.specs.Fti.{block_count, source_byte, source_count};
 ghost use Rattle.cert.specs.CoefficientRows.{GivesBlock};

@@ -3,13 +3,15 @@ ghost use Rattle.std.specs.Prelude.{◌≡◌, ◌<◌, ◌-◌, ◌/◌, ℕ, c
 ghost use Rattle.gf256.specs.Arithmetic.{sum_of, point as point_of};
 ghost use Rattle.poly.specs.Polynomial.{value};
 ghost use Rattle.partition.specs.Fti.{IsValidFti, block_count, source_count, start_of};
-ghost use Rattle.cert.specs.Scan.{readings_of};
+ghost use Rattle.reception.specs.Reception.{counted, symbols};
+ghost use Rattle.reception.specs.Step.{readings_of};
 ghost use Rattle.cert.specs.Twins.{different_esis, is_first_of, esis_of, IsTwin, IsThinIn, IsTwinOfSession};
 ghost use Rattle.session.specs.Frames.{AreDatagrams};
 
-use crate::certificate::{Certificate, are_bytes};
+use crate::certificate::Certificate;
 use alc::read;
 use gf256::{Field, Gf, point};
+use lists::are_bytes;
 use partition::Fti;
 use poly::Poly;
 use session::Session;
@@ -71,7 +73,7 @@ pub fn twin(
 
 // The ESIs of a block's symbols in the session, as they came.
 fn esis_held(alloc: Global, session: &Session, block: u32) -> Result<Vec<u8>, AllocError>
-    ensures esis { IfOk result (λ v. v.items ≡ esis_of block (readings_of session.now)) }
+    ensures esis { IfOk result (λ v. v.items ≡ esis_of block (symbols (counted (readings_of session.now)))) }
     ensures datagrams { AreDatagrams session.now }
 {
     let mut held = Vec::new(alloc);

@@ -1,25 +1,26 @@
 -- The answer to datagrams, from what was received.
 use Rattle.std.specs.Prelude.{◌==◌, Result, Ok, Err, IfOk}
 use Rattle.std.proofs.Common.{◌≡◌, ℕ, suc, ◌<◌, true, List, [], ◌∷◌, Option, Some, length, get_or, arith, subst, refl, leb-true}
-use Rattle.gf256.specs.Arithmetic.{AreBytes}
+use Rattle.lists.specs.Bytes.{AreBytes}
 use Rattle.partition.specs.Fti.{Fti, IsValidFti, block_count}
 use Rattle.partition.proofs.Laws.{counts}
 use Rattle.alc.specs.Computed.{read_of}
 use Rattle.alc.proofs.Again.{reads}
-use Rattle.cert.specs.Symbols.{is_of, AllFull}
-use Rattle.cert.specs.Readings.{ReadAll, counted, symbols}
-use Rattle.cert.specs.Scan.{readings_of}
-use Rattle.cert.specs.Answer as value
-use Rattle.cert.specs.Answer.{Came, AnswerTo, IsClean}
+use Rattle.reception.specs.Symbols.{is_of, AllFull, IsWithin}
+use Rattle.reception.specs.Reception.{ReadAll, Came, IsClean, unknown, counted, symbols}
+use Rattle.reception.specs.Step.{readings_of}
+use Rattle.reception.specs.Answer as value
+use Rattle.reception.specs.Answer.{Clash, AnswerTo, clash, came_of}
 use Rattle.std.proofs.lemmas.Bool.{and_from, eq-eqb}
-use Rattle.losses.proofs.Lists.{all_both}
+use Rattle.lists.proofs.Lists.{all_both}
+use Rattle.reception.proofs.Within.{within}
 use Rattle.cert.proofs.Full.{found}
-use Rattle.coder.specs.Decoded.{AreWithin, IsEnoughAt, AnswerBy, Stand}
-use Rattle.coder.specs.Received.{IsWithin, AreReceived}
+use Rattle.coder.specs.Decoded.{AreWithin, IsEnoughAt, AnswerBy, Answers, Stand}
+use Rattle.coder.specs.Received.{AreReceived}
 use Rattle.coder.proofs.Counts.{held_is}
 
 -- an answer to symbols is one to what came, where no datagram has a fault
-pub answers_came : (came : Came) (f : Fti) (v : value.Answer) → IsClean came f → AnswerBy f came.symbols v → AnswerTo came v
+pub answers_came : (came : Came Clash) (f : Fti) (v : value.Answer) → IsClean came f → AnswerBy f came.symbols v → AnswerTo came v
 answers_came came f value.Empty clean h = absurd h
 answers_came came f (value.Fault i r) clean h = absurd h
 answers_came came f (value.NotCode b) clean h = (f, clean, h)
@@ -50,8 +51,19 @@ module _ (f : Fti) (at : ℕ → ℕ → Option (List ℕ)) (s : Stand f at) whe
       omega (arith, held_is f s.came at b s.index s.within (omega (arith, counts f valid b hb)), leb-true _ _ (full b hb))
 
 -- what is received stands
-pub stand_of : (ds : List (List ℕ)) (f : Fti) (at : ℕ → ℕ → Option (List ℕ)) → AreReceived ds f at → Stand f at
-stand_of ds f at r = record { came = symbols (counted (readings_of ds)); index = r.index; within = r.within }
+pub stand_of : (ds : List (List ℕ)) (f : Fti) (at : ℕ → ℕ → Option (List ℕ)) → ReadAll ds (readings_of ds) → AreReceived ds f at → Stand f at
+stand_of ds f at read r = record {
+  came = symbols (counted (readings_of ds));
+  index = r.index;
+  within = within clash unknown ds (readings_of ds) f read r.clean;
+}
+
+-- an answer to all symbols that stand so answers the datagrams
+pub answered : (ds : List (List ℕ)) (f : Fti) (at : ℕ → ℕ → Option (List ℕ)) (v : value.Answer) → ReadAll ds (readings_of ds) → AreReceived ds f at → Answers f at v
+    → AnswerTo (came_of (readings_of ds)) v
+answered ds f at v read r h =
+    answers_came (came_of (readings_of ds)) f v r.clean
+    (h (symbols (counted (readings_of ds))) r.index (within clash unknown ds (readings_of ds) f read r.clean))
 
 -- what is so of a result is so of what follows
 pub if_ok : {A E : Type 0} (P Q : A → Type 0) (r : Result A E) → ((a : A) → P a → Q a) → IfOk r P → IfOk r Q

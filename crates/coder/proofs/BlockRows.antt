@@ -6,14 +6,15 @@ use Rattle.std.proofs.lemmas.Bool.{cases_lt}
 use Rattle.std.proofs.lemmas.List.{get_or_past, get_or-drop}
 use Rattle.std.proofs.lemmas.Nat.{div-add-mod'}
 use Rattle.std.proofs.Math.Nat.{mod-lt, div-lt_iff_lt-mul}
-use Rattle.gf256.specs.Arithmetic.{IsByte, AreBytes, point}
+use Rattle.lists.specs.Bytes.{IsByte, AreBytes}
+use Rattle.gf256.specs.Arithmetic.{point}
 use Rattle.poly.specs.Polynomial.{value, IsPolynomial}
 use Rattle.partition.specs.Fti.{Fti, source_count, encoding_count, source_place}
 use Rattle.elim.specs.Grid.{Grid}
 use Rattle.elim.specs.Matrices.{AreElements}
-use Rattle.losses.specs.Numbers.{below}
-use Rattle.losses.proofs.Lists.{filter_same}
-use Rattle.losses.proofs.Below.{all_below}
+use Rattle.lists.specs.Below.{below}
+use Rattle.lists.proofs.Lists.{filter_same}
+use Rattle.lists.proofs.Below.{all_below}
 use Rattle.coder.specs.BlockMatrices.{IsCodeOf}
 use Rattle.coder.specs.Columns.{ColumnExplained}
 use Rattle.coder.specs.Decoded.{AreWithin, IsEnoughAt, RowsColumn, AreRows, IsUnexplained}

@@ -4,15 +4,16 @@ use Rattle.std.specs.List.{range_with_len}
 use Rattle.std.proofs.lemmas.Bool.{cases_lt}
 use Rattle.std.proofs.lemmas.List.{get_or-map, get_or_past, length-map}
 use Rattle.std.proofs.lemmas.List.FromFn.{get_or-range_with_len, length-range_with_len}
-use Rattle.gf256.specs.Arithmetic.{sum_of, product, AreBytes}
+use Rattle.lists.specs.Bytes.{AreBytes}
+use Rattle.gf256.specs.Arithmetic.{sum_of, product}
 use Rattle.gf256.specs.ByteField.{byte_field}
-use Rattle.gf256.specs.Arithmetic.{IsByte}
+use Rattle.lists.specs.Bytes.{IsByte}
 use Rattle.partition.specs.Fti.{Fti, block_count, source_count, encoding_count, source_byte}
 use Rattle.elim.specs.Grid.{Grid, entry, row_product}
 use Rattle.elim.specs.Matrices.{row_times}
 use Rattle.elim.proofs.Sums.{sum_same}
 use Rattle.elim.proofs.RowProducts.{length-row_product, get_or-row_product}
-use Rattle.cert.specs.Symbols.{Agrees, ColumnAgrees}
+use Rattle.reception.specs.Symbols.{Agrees, ColumnAgrees}
 use Rattle.coder.specs.BlockMatrices.{IsCodeOf}
 
 length-take-most : (n : ℕ) (xs : List ℕ) → length (take n xs) ≤ length xs

@@ -4,11 +4,11 @@ use Rattle.std.proofs.Common.{◌≡◌, ℕ, suc, zero, ◌+◌, ◌<◌, ◌�
 use Rattle.std.specs.List.{AllByRecursion}
 use Rattle.std.proofs.lemmas.Bool.{and_parts, or_from, eqb-true, false_from_ne_true}
 use Rattle.std.proofs.lemmas.List.Elements.{filter-append}
-use Rattle.losses.specs.Numbers.{below}
-use Rattle.losses.proofs.Lists.{filter_same, all_of}
+use Rattle.lists.specs.Below.{below}
+use Rattle.lists.proofs.Lists.{filter_same, all_of}
 use Rattle.partition.specs.Fti.{Fti, encoding_count}
-use Rattle.cert.specs.Symbols.{Symbol, is_of, is_held, held_count}
-use Rattle.coder.specs.Received.{IsIndex, IsWithin}
+use Rattle.reception.specs.Symbols.{Symbol, is_of, is_held, held_count, IsWithin}
+use Rattle.coder.specs.Received.{IsIndex}
 
 parts_count : (t : ℕ → Bool) (n : ℕ) → length (filter t (below (suc n))) ≡ length (filter t (below n)) + length (filter t (n ∷ []))
 unfolding below

@@ -3,7 +3,8 @@
 use Rattle.std.proofs.Common.{◌≡◌, ◌≢◌, ℕ, ◌<◌, ◌≤◌, List, length, get_or, ap, ◌∙◌, sym}
 use Rattle.std.specs.Int.Bits.{xor_assoc, xor_self, xor_zero_r}
 use Rattle.std.proofs.lemmas.Nat.{xor_comm}
-use Rattle.gf256.specs.Arithmetic.{IsByte, sum_of, product}
+use Rattle.lists.specs.Bytes.{IsByte}
+use Rattle.gf256.specs.Arithmetic.{sum_of, product}
 use Rattle.gf256.specs.ByteField.{byte_field}
 use Rattle.elim.specs.Matrices.{row_times, AreElements}
 use Rattle.elim.specs.Grid.{Grid, entry, HasElements}

@@ -7,11 +7,10 @@ use Rattle.std.specs.List.{AllByRecursion}
 use Rattle.std.specs.Cmp.Lexicographic.{pointwise}
 use Rattle.std.proofs.lemmas.Bool.{cases_Bool, cases_order, or_parts, or_from, or_left, or_right, and_left, and_parts, eqb-true, eq-eqb, ne_eqb, le-ltb, lt-ltb, not-false}
 use Rattle.std.proofs.lemmas.List.Folds.{list_any-append}
-use Rattle.alc.specs.Packet.{Packet}
 use Rattle.alc.specs.PacketFault.{same}
 use Rattle.alc.proofs.Chosen.{same_is}
-use Rattle.cert.specs.Symbols.{Symbol, is_of, is_held}
-use Rattle.cert.specs.Readings.{clashes}
+use Rattle.reception.specs.Symbols.{Symbol, is_of, is_held}
+use Rattle.reception.specs.Answer.{clashes}
 use Rattle.coder.specs.Received.{payload_id_cmp, Came, IsIndex}
 
 pub pointwise_same : (xs ys : List ℕ) → pointwise eqb xs ys ≡ same xs ys
@@ -26,8 +25,8 @@ absorbs true false = refl
 absorbs false false = refl
 
 -- whether a packet clashes, by the bytes that all symbols of its block and ESI have
-clash_is : (p : Packet) (y : List ℕ) (came : List Symbol) → AllByRecursion (λ s. is_of p.block p.esi s ≡ true → s.bytes ≡ y) came
-    → clashes p came ≡ (is_held came p.block p.esi && not (same y p.bytes))
+clash_is : (p : Symbol) (y : List ℕ) (came : List Symbol) → AllByRecursion (λ s. is_of p.block p.esi s ≡ true → s.bytes ≡ y) came
+    → clashes came p ≡ (is_held came p.block p.esi && not (same y p.bytes))
 clash_is p y [] all = refl
 clash_is p y (s ∷ ss) all = elim (cases_Bool (is_of p.block p.esi s)) [
   | inl of ↦
@@ -37,17 +36,17 @@ clash_is p y (s ∷ ss) all = elim (cases_Bool (is_of p.block p.esi s)) [
   | inr other ↦ (rw other (clash_is p y ss all.1))
 ]
 
-no_clash : (p : Packet) (came : List Symbol) → is_held came p.block p.esi ≡ false → clashes p came ≡ false
+no_clash : (p : Symbol) (came : List Symbol) → is_held came p.block p.esi ≡ false → clashes came p ≡ false
 no_clash p [] h = refl
 no_clash p (s ∷ ss) h =
     let w = or_parts (is_of p.block p.esi s) (is_held ss p.block p.esi) h in
     or_from _ _ (and_left _ _ w.0) (no_clash p ss w.1)
 
-pub clash_none : (p : Packet) (came : List Symbol) (at : ℕ → ℕ → Option (List ℕ)) → IsIndex came at → at p.block p.esi ≡ None → false ≡ clashes p came
+pub clash_none : (p : Symbol) (came : List Symbol) (at : ℕ → ℕ → Option (List ℕ)) → IsIndex came at → at p.block p.esi ≡ None → false ≡ clashes came p
 clash_none p came at index none = sym (no_clash p came (index.none p.block p.esi none))
 
-pub clash_some : (p : Packet) (came : List Symbol) (at : ℕ → ℕ → Option (List ℕ)) (y : List ℕ) → IsIndex came at → at p.block p.esi ≡ Some y
-    → not (pointwise eqb y p.bytes) ≡ clashes p came
+pub clash_some : (p : Symbol) (came : List Symbol) (at : ℕ → ℕ → Option (List ℕ)) (y : List ℕ) → IsIndex came at → at p.block p.esi ≡ Some y
+    → not (pointwise eqb y p.bytes) ≡ clashes came p
 clash_some p came at y index some =
     let c = index.some p.block p.esi y some in
     ap not (pointwise_same y p.bytes) ∙ sym (clash_is p y came c.same ∙ rw c.is_there refl)
@@ -100,12 +99,12 @@ vacuous P b j (s ∷ ss) h =
     ((λ of. absurd (cc)), vacuous P b j ss w.1)
 
 -- the place where a symbol goes is empty or has its bytes
-pub unclashed : (p : Packet) (came : List Symbol) (at : ℕ → ℕ → Option (List ℕ)) → IsIndex came at → clashes p came ≡ false
+pub unclashed : (p : Symbol) (came : List Symbol) (at : ℕ → ℕ → Option (List ℕ)) → IsIndex came at → clashes came p ≡ false
     → (o : Option (List ℕ)) → at p.block p.esi ≡ o → (o ≡ None) ⊎ (o ≡ Some p.bytes)
 unclashed p came at index free None is = inl refl
 unclashed p came at index free (Some y) is =
     let c = index.some p.block p.esi y is in
-    let t : clashes p came ≡ not (same y p.bytes) = clash_is p y came c.same ∙ rw c.is_there refl in
+    let t : clashes came p ≡ not (same y p.bytes) = clash_is p y came c.same ∙ rw c.is_there refl in
     let e : not (same y p.bytes) ≡ false = sym t ∙ free in
     inr (ap Some (same_is y p.bytes (not-false (same y p.bytes) e)))
 

@@ -4,14 +4,14 @@ use Rattle.std.proofs.Common.{◌≡◌, ℕ, suc, ◌+◌, ◌-◌, ◌*◌, �
 use Rattle.std.proofs.lemmas.Bool.{cases_lt, le-leb}
 use Rattle.std.proofs.Math.Nat.{mul-le-mul_right}
 use Rattle.std.proofs.lemmas.List.{get_or_append_left, get_or-append-add, get_or_past}
-use Rattle.gf256.specs.Arithmetic.{AreBytes}
+use Rattle.lists.specs.Bytes.{AreBytes}
 use Rattle.partition.specs.Fti.{Fti, IsValidFti, symbol_count, block_count, source_count, start_of, source_place, source_byte}
 use Rattle.partition.proofs.Laws.{counts, in_object, start_step, start_end, rising_to, symbols_bounds}
-use Rattle.cert.specs.Symbols.{Symbol, AllFull, IsObject}
-use Rattle.cert.specs.Answer as value_of
+use Rattle.reception.specs.Symbols.{Symbol, AllFull, IsObject, IsWithin}
+use Rattle.reception.specs.Answer as value_of
 use Rattle.coder.specs.Columns.{BlockColumn}
 use Rattle.coder.specs.Decoded.{IsEnoughAt, AreRows, IsUnexplained, Answers}
-use Rattle.coder.specs.Received.{IsIndex, IsWithin}
+use Rattle.coder.specs.Received.{IsIndex}
 use Rattle.coder.specs.Recovered.{row_byte}
 use Rattle.coder.proofs.Counts.{held_is}
 use Rattle.coder.proofs.Solving.{solvable_from, solvable_gives, all_solvable, fits_only_from}

@@ -4,7 +4,8 @@ use Rattle.std.proofs.Common.{◌≡◌, ℕ, suc, ◌+◌, ◌*◌, ◌<◌, �
 use Rattle.std.proofs.lemmas.Bool.{cases_lt, cases_eq}
 use Rattle.std.proofs.lemmas.List.{ext_get_or, get_or-drop}
 use Rattle.std.proofs.Math.Nat.{mul-le-mul_right}
-use Rattle.gf256.specs.Arithmetic.{sum_of, product, point, AreBytes}
+use Rattle.lists.specs.Bytes.{AreBytes}
+use Rattle.gf256.specs.Arithmetic.{sum_of, product, point}
 use Rattle.poly.specs.Polynomial.{value}
 use Rattle.partition.specs.Fti.{Fti, IsValidFti, block_count, source_count, start_of, source_byte}
 use Rattle.partition.proofs.Laws.{start_step, rising_to}

@@ -1,10 +1,10 @@
 -- One answer, joined with what a check promises.
 use Rattle.std.proofs.Common.{ℕ, List, subst}
 use Rattle.partition.specs.Fti.{Fti}
-use Rattle.session.specs.Selection.{chosen}
-use Rattle.cert.specs.Answer.{Answer, Object, IsAnswer}
-use Rattle.cert.specs.Headline.{TellsWhatLacks, DecodesWhereEnough, UndecidedElse}
-use Rattle.cert.proofs.OneAnswer.{one_answer}
+use Rattle.lists.specs.Selection.{chosen}
+use Rattle.reception.specs.Answer.{Answer, Object, IsAnswer}
+use Rattle.reception.specs.Headline.{TellsWhatLacks, DecodesWhereEnough, UndecidedElse}
+use Rattle.reception.proofs.OneAnswer.{one_answer}
 use Rattle.coder.specs.Promised.{IsPromised}
 
 pub promised : (session : List (List ℕ)) (places : List ℕ) (a : Answer) → IsAnswer (chosen session places) a → (f : Fti) (object : List ℕ) → DecodesWhereEnough f session object

@@ -5,8 +5,8 @@ use Rattle.std.proofs.lemmas.Bool.{lt-ltb, le-ltb}
 use Rattle.std.proofs.lemmas.List.{append-nil, map-append, drop_all, length-map}
 use Rattle.std.proofs.lemmas.Grind.{flat_map-append}
 use Rattle.std.specs.Io.KnownBytes.{Appends}
-use Rattle.losses.specs.Numbers.{below}
-use Rattle.losses.proofs.Below.{length_below}
+use Rattle.lists.specs.Below.{below}
+use Rattle.lists.proofs.Below.{length_below}
 use Rattle.partition.specs.Fti.{Fti, encoding_count}
 use Rattle.session.specs.Frames.{frame, frames, AppendsSome}
 use Rattle.session.proofs.Writes.{then_appends, then_some as then_some_bytes}

@@ -5,23 +5,27 @@ use Rattle.std.specs.List.{list_any, AllByRecursion}
 use Rattle.std.proofs.lemmas.Bool.{cases_lt, eq-eqb, lt-ltb, leb-false}
 use Rattle.std.proofs.lemmas.List.{get_or_past}
 use Rattle.std.proofs.lemmas.List.Folds.{list_any-append}
-use Rattle.gf256.specs.Arithmetic.{IsByte, AreBytes, sum_of, product, point}
+use Rattle.lists.specs.Bytes.{IsByte, AreBytes}
+use Rattle.gf256.specs.Arithmetic.{sum_of, product, point}
 use Rattle.gf256.specs.ByteField.{byte_field, point_byte}
 use Rattle.poly.specs.Polynomial.{value}
 use Rattle.poly.proofs.Bytes.{bytes_by_recursion}
 use Rattle.poly.proofs.Roots.{value_element}
 use Rattle.partition.specs.Fti.{Fti, IsValidFti, block_count, source_count, encoding_count}
 use Rattle.partition.proofs.Laws.{some_block, counts, source_encoding, encoding_most}
-use Rattle.losses.specs.Numbers.{below}
-use Rattle.losses.proofs.Below.{one_missing}
+use Rattle.lists.specs.Below.{below}
+use Rattle.lists.proofs.Below.{one_missing}
 use Rattle.alc.specs.Packet.{Packet, IsPacket, written}
 use Rattle.alc.specs.Written.{packet_from}
 use Rattle.alc.specs.Reading.{Reading}
 use Rattle.alc.proofs.Writes.{written_packet}
-use Rattle.cert.specs.Symbols.{is_held, held_count, is_full, IsObject, Agrees}
-use Rattle.cert.specs.Readings.{ReadAll, placed_from, counted, first_packet, symbols, Suffices}
+use Rattle.reception.specs.Symbols.{is_held, held_count, is_full, IsObject, Agrees}
+use Rattle.reception.specs.declared.scope.Identity.{Identity}
+use Rattle.reception.specs.declared.scope.Scope.{Scope}
+use Rattle.reception.specs.Reception.{ReadAll, counted_from, counted, symbols, Suffices}
+use Rattle.reception.proofs.Stepping.{stays}
 use Rattle.cert.specs.Certificate.{Certificate, IsCertificate, polynomial, certified_byte}
-use Rattle.cert.specs.Verdict.{GivesObject, IsCertifiedReading}
+use Rattle.cert.specs.Verdict.{GivesObject, IsCertifiedReading, AreCertified}
 use Rattle.cert.proofs.Full.{same_source}
 use Rattle.cert.proofs.Polynomials.{forms}
 use Rattle.cert.proofs.Promise.{IsSound, IsSoundReading}
@@ -76,6 +80,9 @@ all_pairs f valid Rounds b j hb hj =
 -- ---- the readings of what is sent
 
 module _ (z : Certificate) (good : IsCertificate z) (object : List ℕ) (gives : GivesObject object z) (t u : ℕ) (lt : t < 2 ^ 32) (lu : u < 2 ^ 32) where
+  abbrev who : Identity
+  who = record { tsi = t; toi = u }
+
   -- an encoding symbol of the object has the certified bytes
   symbol_is : (b j : ℕ) (y : List ℕ) → Agrees z.fti object (record { block = b; esi = j; bytes = y }) → (c : ℕ) → c < z.fti.symbol_length → get_or y c 0 ≡ certified_byte z b j c
   symbol_is b j y agrees c hc =
@@ -99,7 +106,7 @@ module _ (z : Certificate) (good : IsCertificate z) (object : List ℕ) (gives :
       let most = (counts z.fti good.fti b agrees.block).2 in
       written_packet t u z.fti b j y lt lu good.fti (omega (arith, blocks, hb)) (omega (arith, hj, most)) agrees.count (symbol_bytes b j y agrees)
 
-  sound_sent : (b j : ℕ) (y : List ℕ) → Agrees z.fti object (record { block = b; esi = j; bytes = y }) → IsSound z t u (packet_from t u z.fti b j y)
+  sound_sent : (b j : ℕ) (y : List ℕ) → Agrees z.fti object (record { block = b; esi = j; bytes = y }) → IsSound z who (packet_from t u z.fti b j y)
   sound_sent b j y agrees =
       let e : nat_lt b (block_count z.fti) ≡ true = lt-ltb _ _ agrees.block in
       let g : nat_lt j (encoding_count z.fti b) ≡ true = lt-ltb _ _ agrees.esi in
@@ -116,8 +123,8 @@ module _ (z : Certificate) (good : IsCertificate z) (object : List ℕ) (gives :
   record SentReadings (ps : List (ℕ × ℕ)) (ds : List (List ℕ)) : Type 0 where
     readings : List Reading
     read : ReadAll ds readings
-    sound : AllByRecursion (IsSoundReading z t u) readings
-    numbers : (i b j : ℕ) → is_held (symbols (placed_from i readings)) b j ≡ list_any (is_pair b j) ps
+    sound : AllByRecursion (IsSoundReading z who) readings
+    numbers : (i b j : ℕ) → is_held (symbols (counted_from i readings)) b j ≡ list_any (is_pair b j) ps
 
   read_sent : (ps : List (ℕ × ℕ)) (ds : List (List ℕ)) → AreSent object z.fti t u ps ds → SentReadings ps ds
   read_sent [] [] h = record { readings = []; read = tt; sound = tt; numbers = λ i b j. refl }
@@ -133,19 +140,27 @@ module _ (z : Certificate) (good : IsCertificate z) (object : List ℕ) (gives :
         numbers = λ i b j. ap (λ (v : Bool). is_pair b j p || v) (r.numbers (i + 1) b j);
       }
 
-  certified_all : (first : Packet) → first.tsi ≡ t → first.toi ≡ u → (i : ℕ) (rs : List Reading) → AllByRecursion (IsSoundReading z t u) rs
-      → AllByRecursion (λ x. IsCertifiedReading z first x.reading) (placed_from i rs)
-  certified_all first et eu i [] h = tt
-  certified_all first et eu i (Err r ∷ rs) h = absurd h.0
-  certified_all first et eu i (Ok p ∷ rs) h = (
-    record { tsi = h.0.tsi ∙ sym et; toi = h.0.toi ∙ sym eu; fti = h.0.fti; range = h.0.range; symbol = h.0.symbol },
-    certified_all first et eu (i + 1) rs h.1,
+  certified_all : (i : ℕ) (rs : List Reading) → AllByRecursion (IsSoundReading z who) rs
+      → AllByRecursion (λ x. IsCertifiedReading z who x.reading) (counted_from i rs)
+  certified_all i [] h = tt
+  certified_all i (Err r ∷ rs) h = absurd h.0
+  certified_all i (Ok p ∷ rs) h = (
+    record { tsi = h.0.tsi; toi = h.0.toi; fti = h.0.fti; range = h.0.range; symbol = h.0.symbol },
+    certified_all (i + 1) rs h.1,
   )
 
-  first_of : (rs : List Reading) → AllByRecursion (IsSoundReading z t u) rs → rs ≢ [] → (first : Packet) × (first_packet (counted rs) ≡ Some first) × (first.tsi ≡ t) × (first.toi ≡ u)
-  first_of [] h some = absurd (some refl)
-  first_of (Err r ∷ rs) h some = absurd h.0
-  first_of (Ok p ∷ rs) h some = (p, refl, h.0.tsi, h.0.toi)
+  identity_is : (v w : ℕ) → v ≡ t → w ≡ u → ◌≡◌ {A = Identity} (record { tsi = v; toi = w }) who
+  identity_is v w h g = cc
+
+  all_certified : (rs : List Reading) → AllByRecursion (IsSoundReading z who) rs → rs ≢ [] → AreCertified rs z
+  all_certified [] h some = absurd (some refl)
+  all_certified (Err r ∷ rs) h some = absurd h.0
+  all_certified (Ok p ∷ rs) h some = record {
+    who = who;
+    some = ap (λ (s : Scope). s.identity) (stays (record { tsi = p.tsi; toi = p.toi }) z.fti (counted_from 1 rs))
+        ∙ ap Some (identity_is p.tsi p.toi h.0.tsi h.0.toi);
+    packets = certified_all 0 (Ok p ∷ rs) h;
+  }
 
   -- the session leaves no block short
   suffices : (order : Order) (ds : List (List ℕ)) → (r : SentReadings (pairs order z.fti) ds) → Suffices z.fti r.readings
@@ -174,16 +189,13 @@ module _ (z : Certificate) (good : IsCertificate z) (object : List ℕ) (gives :
   pub certifies : IsObject z.fti object → (order : Order) (ds : List (List ℕ)) → IsSessionOf object z.fti t u order ds → Certifies z object ds
   certifies form order ds sent =
       let r = read_sent (pairs order z.fti) ds sent in
-      let first = first_of r.readings r.sound (some_read order ds r) in
       record {
         readings = r.readings;
         read = r.read;
         granted = record {
           form = form;
           gives = gives;
-          first = first.0;
-          some = first.1;
-          packets = certified_all first.0 first.2 first.3 0 r.readings r.sound;
+          certified = all_certified r.readings r.sound (some_read order ds r);
           full = suffices order ds r;
         };
       }

@@ -6,10 +6,10 @@ use Rattle.std.proofs.lemmas.List.{get_or_past}
 use Rattle.gf256.specs.Arithmetic.{point}
 use Rattle.poly.specs.Polynomial.{value}
 use Rattle.partition.specs.Fti.{Fti, IsValidFti, block_count, source_place}
-use Rattle.losses.proofs.Lists.{all_both, all_to}
-use Rattle.cert.specs.Symbols.{Symbol, is_of, is_held, IsObject, Agrees, Fits, Solvable, AllFull, FullSolvable, FitsOnly}
+use Rattle.lists.proofs.Lists.{all_both, all_to}
+use Rattle.reception.specs.Symbols.{Symbol, is_of, is_held, IsObject, Agrees, Fits, Solvable, AllFull, FullSolvable, FitsOnly, IsWithin}
 use Rattle.cert.proofs.Full.{found, fits_only}
-use Rattle.coder.specs.Received.{IsIndex, IsWithin}
+use Rattle.coder.specs.Received.{IsIndex}
 use Rattle.coder.specs.Columns.{ColumnExplained, BlockColumn}
 
 -- what a list of symbols has of an index, and its tail too

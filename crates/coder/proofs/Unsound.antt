@@ -3,13 +3,13 @@ use Rattle.std.specs.Prelude.{Option, Some, None, Result, Ok, Err, is_some, filt
 use Rattle.std.proofs.Common.{◌≡◌, ℕ, zero, suc, ◌<◌, Bool, true, List, refl, sym, subst, ◌∙◌, inl, inr, arith, length, get_or}
 use Rattle.std.specs.List.{AllByRecursion}
 use Rattle.std.proofs.lemmas.Bool.{cases_Bool, le-leb, leb-true}
-use Rattle.losses.specs.Numbers.{below}
+use Rattle.lists.specs.Below.{below}
 use Rattle.partition.specs.Fti.{Fti, IsValidFti, block_count, source_count, encoding_count}
 use Rattle.partition.proofs.Laws.{counts}
-use Rattle.cert.specs.Symbols.{Symbol, held_count, is_full, Solvable, FullSolvable, IsFirstUnsolvable}
+use Rattle.reception.specs.Symbols.{Symbol, held_count, is_full, Solvable, FullSolvable, IsFirstUnsolvable, IsWithin}
 use Rattle.coder.specs.Columns.{ColumnExplained}
 use Rattle.coder.specs.Decoded.{AreWithin, AreRows, IsEnoughAt}
-use Rattle.coder.specs.Received.{IsIndex, IsWithin}
+use Rattle.coder.specs.Received.{IsIndex}
 use Rattle.coder.specs.Unsolvable.{IsSound, IsUnsound}
 use Rattle.coder.proofs.Counts.{held_is, none_more_held}
 use Rattle.coder.proofs.Listing.{Stands}

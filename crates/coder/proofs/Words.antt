@@ -1,6 +1,7 @@
 -- A row of source bytes, the polynomial through it, and the word that the generator makes.
 use Rattle.std.proofs.Common.{◌≡◌, ℕ, ◌<◌, ◌≤◌, List, length, get_or, take, arith, ap, ◌∙◌, sym, get_or-take, length-take, refl}
-use Rattle.gf256.specs.Arithmetic.{IsByte, sum_of, product, point}
+use Rattle.lists.specs.Bytes.{IsByte}
+use Rattle.gf256.specs.Arithmetic.{sum_of, product, point}
 use Rattle.gf256.specs.ByteField.{byte_field, point_byte}
 use Rattle.poly.specs.Polynomial.{value, IsPolynomial}
 use Rattle.poly.proofs.Bytes.{bytes_by_recursion, same_polynomial}
@@ -9,8 +10,8 @@ use Rattle.elim.specs.Grid.{Grid, entry, row_product}
 use Rattle.elim.specs.Matrices.{row_times, AreElements}
 use Rattle.elim.specs.Generator.{Encodes}
 use Rattle.elim.proofs.RowProducts.{length-row_product}
-use Rattle.losses.specs.Numbers.{below}
-use Rattle.losses.proofs.Below.{all_below, length_below}
+use Rattle.lists.specs.Below.{below}
+use Rattle.lists.proofs.Below.{all_below, length_below}
 use Rattle.cert.proofs.Different.{different_below}
 use Rattle.coder.proofs.Columns.{row_of, length-row_of, get_or-row_of, bytes-row_of, product_at}
 

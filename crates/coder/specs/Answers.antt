@@ -1,8 +1,10 @@
 -- The answers of `decode`, as values.
 use Rattle.std.specs.Prelude.{ℕ, List}
-use Rattle.cert.specs.Answer as value
-use Rattle.cert.specs.Answer.{AnswerTo, came_of, NoPacket}
-use Rattle.cert.specs.Scan.{readings_of}
+use Rattle.reception.specs.Answer as value
+use Rattle.reception.specs.Answer.{AnswerTo, came_of, Clashes}
+use Rattle.reception.specs.Reception.{Faulty, Judged}
+use Rattle.reception.specs.declared.scope.PlaceFault.TheVariants as fault
+use Rattle.reception.specs.Step.{readings_of}
 use Rattle.coder.specs.declared.answer.DecodeFault.{DecodeFault}
 use Rattle.coder.specs.declared.answer.DecodeFault.TheVariants.{Packet, OtherIdentity, OtherFti, Range, Clash, NotCode}
 use Rattle.coder.specs.declared.answer.Answer.{Answer}
@@ -11,11 +13,11 @@ use Rattle.coder.specs.declared.received.Refusal.{Refusal}
 use Rattle.coder.specs.declared.received.Refusal.TheVariants as refusal
 
 abbrev pub fault_value : DecodeFault → value.Answer
-fault_value (Packet i r) = value.Fault i (NoPacket r)
-fault_value (OtherIdentity i) = value.Fault i value.OtherIdentity
-fault_value (OtherFti i) = value.Fault i value.OtherFti
-fault_value (Range i) = value.Fault i value.Range
-fault_value (Clash i) = value.Fault i value.Clash
+fault_value (Packet i r) = value.Fault i (Faulty (fault.NoPacket r))
+fault_value (OtherIdentity i) = value.Fault i (Faulty fault.OtherIdentity)
+fault_value (OtherFti i) = value.Fault i (Faulty fault.OtherFti)
+fault_value (Range i) = value.Fault i (Faulty fault.Range)
+fault_value (Clash i) = value.Fault i (Judged Clashes)
 fault_value (NotCode b) = value.NotCode b
 
 abbrev pub answer_value : Answer → value.Answer

@@ -2,7 +2,7 @@
 use Rattle.std.specs.Prelude.{◌≡◌, ◌≢◌, ℕ, ◌<◌, ◌^◌, List, length}
 use Rattle.partition.specs.Fti.{Fti}
 use Rattle.alc.specs.Reading.{Reading}
-use Rattle.cert.specs.Readings.{ReadAll}
+use Rattle.reception.specs.Reception.{ReadAll}
 use Rattle.cert.specs.Certificate.{Certificate}
 use Rattle.cert.specs.Verdict.{IsCertificateOf}
 use Rattle.coder.specs.declared.certifying.CertifyFault.{CertifyFault}

@@ -1,14 +1,15 @@
 -- What decoding makes of the symbols that came.
 use Rattle.std.specs.Prelude.{◌≡◌, ℕ, ◌<◌, ◌≤◌, ◌*◌, List, length, filter, slice_index, Option, Some, is_some}
 use Rattle.std.specs.List.{AllByRecursion}
-use Rattle.gf256.specs.Arithmetic.{point, AreBytes}
+use Rattle.lists.specs.Bytes.{AreBytes}
+use Rattle.gf256.specs.Arithmetic.{point}
 use Rattle.poly.specs.Polynomial.{value, IsPolynomial}
 use Rattle.partition.specs.Fti.{Fti, block_count, source_count, encoding_count, source_place}
-use Rattle.losses.specs.Numbers.{below}
-use Rattle.cert.specs.Symbols.{Symbol, held_count, AllFull, FullSolvable, FitsOnly, IsFirstShort, IsFirstUnsolvable}
-use Rattle.cert.specs.Answer as value
+use Rattle.lists.specs.Below.{below}
+use Rattle.reception.specs.Symbols.{Symbol, held_count, AllFull, FullSolvable, FitsOnly, IsFirstShort, IsFirstUnsolvable, IsWithin}
+use Rattle.reception.specs.Answer as value
 use Rattle.coder.specs.declared.counting.Short.{Short}
-use Rattle.coder.specs.Received.{IsIndex, IsWithin}
+use Rattle.coder.specs.Received.{IsIndex}
 use Rattle.coder.specs.Recovered.{row_byte}
 use Rattle.coder.specs.Columns.{ColumnExplained}
 

@@ -1,8 +1,8 @@
 -- What a check's yes and decoding give together.
 use Rattle.std.specs.Prelude.{◌≡◌, ℕ, List}
 use Rattle.partition.specs.Fti.{Fti}
-use Rattle.cert.specs.Answer.{Answer, Object}
-use Rattle.cert.specs.Headline.{IsEnough, TellsWhatLacks, LeavesTwin}
+use Rattle.reception.specs.Answer.{Answer, Object}
+use Rattle.reception.specs.Headline.{IsEnough, TellsWhatLacks, LeavesTwin}
 
 -- the answer is the object where the datagrams are enough; else it tells what lacks, and another object agrees with all
 -- that came

@@ -5,11 +5,11 @@ use Rattle.std.specs.List.{AllByRecursion}
 use Rattle.std.specs.declared.cmp.Ordering.{Ordering}
 use Rattle.std.specs.Ordering.{nat_cmp, ordering_then}
 use Rattle.std.specs.BTreeMap.{BTreeMap, get}
-use Rattle.partition.specs.Fti.{Fti, block_count, encoding_count}
-use Rattle.cert.specs.Symbols.{Symbol, is_of, is_held}
-use Rattle.cert.specs.Readings.{counted, symbols}
-use Rattle.cert.specs.Answer.{IsClean, came_of}
-use Rattle.cert.specs.Scan.{readings_of}
+use Rattle.partition.specs.Fti.{Fti}
+use Rattle.reception.specs.Symbols.{Symbol, is_of, is_held}
+use Rattle.reception.specs.Reception.{counted, symbols, IsClean}
+use Rattle.reception.specs.Step.{readings_of}
+use Rattle.reception.specs.Answer.{Empty, AnswerTo, came_of}
 
 -- by block, and in a block by ESI
 abbrev pub payload_id_cmp : ℕ × ℕ → ℕ × ℕ → Ordering
@@ -29,14 +29,11 @@ pub record IsIndex (came : List Symbol) (at : ℕ → ℕ → Option (List ℕ))
   pub none : (b j : ℕ) → at b j ≡ None → is_held came b j ≡ false
   pub some : (b j : ℕ) (bytes : List ℕ) → at b j ≡ Some bytes → Came came b j bytes
 
--- a symbol that the FTI has
-pub record IsWithin (f : Fti) (s : Symbol) : Type 0 where
-  pub block : s.block < block_count f
-  pub esi : s.esi < encoding_count f s.block
-  pub count : length s.bytes ≡ f.symbol_length
-
 -- the datagrams have no fault at any place and this FTI, and their symbols stand at their blocks and ESIs
 pub record AreReceived (datagrams : List (List ℕ)) (f : Fti) (at : ℕ → ℕ → Option (List ℕ)) : Type 0 where
   pub clean : IsClean (came_of (readings_of datagrams)) f
   pub index : IsIndex (symbols (counted (readings_of datagrams))) at
-  pub within : AllByRecursion (IsWithin f) (symbols (counted (readings_of datagrams)))
+
+-- nothing came
+abbrev pub IsNothing : List (List ℕ) → Type 0
+IsNothing datagrams = AnswerTo (came_of (readings_of datagrams)) Empty

@@ -1,12 +1,13 @@
 -- A block of which some symbols came: its source symbols as rows of bytes.
 use Rattle.std.specs.Prelude.{◌≡◌, ◌≢◌, ℕ, ◌<◌, ◌≤◌, ◌+◌, ◌*◌, ◌^◌, Bool, true, List, length, filter, slice_index, slice_index_or, Option, Some, None, option_map}
 use Rattle.std.specs.Borrow.{Bor}
-use Rattle.gf256.specs.Arithmetic.{IsByte, sum_of, product}
+use Rattle.lists.specs.Bytes.{IsByte}
+use Rattle.gf256.specs.Arithmetic.{sum_of, product}
 use Rattle.elim.specs.Matrices.{row_times, AreElements}
 use Rattle.elim.specs.Grid.{Grid, entry, IsMatrix}
 use Rattle.elim.specs.Generator.{Encodes}
 use Rattle.elim.specs.Erasures.{AreRising}
-use Rattle.losses.specs.Numbers.{below}
+use Rattle.lists.specs.Below.{below}
 
 -- the bytes of the symbol at an ESI, if it came
 abbrev pub arrived : List (Option (Bor (List ℕ))) → ℕ → Option (List ℕ)

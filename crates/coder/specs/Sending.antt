@@ -1,12 +1,12 @@
 -- The session that is sent of an object: which encoding symbols, in which order, in which datagrams.
 use Rattle.std.specs.Prelude.{◌≡◌, ◌≢◌, ℕ, ◌<◌, ◌≤◌, Bool, true, nat_lt, List, [], ◌∷◌, ◌++◌, length, map, flat_map, if◌then◌else◌, Option}
 use Rattle.std.specs.Io.KnownBytes.{Appends}
-use Rattle.losses.specs.Numbers.{below}
+use Rattle.lists.specs.Below.{below}
 use Rattle.partition.specs.Fti.{Fti, block_count, encoding_count}
 use Rattle.alc.specs.Packet.{written}
 use Rattle.alc.specs.Written.{packet_from}
 use Rattle.session.specs.Frames.{frames, AppendsSome}
-use Rattle.cert.specs.Symbols.{Agrees}
+use Rattle.reception.specs.Symbols.{Agrees}
 use Rattle.partition.specs.declared.order.Order.{Order}
 use Rattle.partition.specs.declared.order.Order.TheVariants.{Blocks, Rounds}
 use Rattle.coder.specs.declared.sending.SendFault.{SendFault}

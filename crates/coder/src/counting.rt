@@ -1,10 +1,10 @@
 //! How many of a block's encoding symbols came.
 ghost use Rattle.std.specs.Prelude.{◌≡◌, ◌≤◌, ℕ, List, length, filter, is_some, IfSome, IfNone};
 ghost use Rattle.std.specs.List.{AllByRecursion};
-ghost use Rattle.losses.specs.Numbers.{below};
+ghost use Rattle.lists.specs.Below.{below};
 ghost use Rattle.partition.specs.Fti.{source_count};
-ghost use Rattle.cert.specs.Symbols.{Symbol, held_count, AllFull, IsFirstShort};
-ghost use Rattle.coder.specs.Received.{stored, IsIndex, IsWithin};
+ghost use Rattle.reception.specs.Symbols.{Symbol, held_count, AllFull, IsFirstShort, IsWithin};
+ghost use Rattle.coder.specs.Received.{stored, IsIndex};
 
 use crate::received::Symbols;
 use partition::Fti;

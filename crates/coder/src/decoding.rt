@@ -1,8 +1,8 @@
 //! Decoding: the object that datagrams give, or why they give none.
 ghost use Rattle.std.specs.Prelude.{◌≡◌, ◌<◌, ◌≤◌, ◌*◌, ℕ, true, false, [], length, map, filter, is_some, slice_index, slice_index_or, IfOk, IfSome, IsNone};
-ghost use Rattle.gf256.specs.Arithmetic.{AreBytes};
-ghost use Rattle.partition.specs.Fti.{IsValidFti, block_count, source_count};
-ghost use Rattle.cert.specs.Answer.{IsAnswer};
+ghost use Rattle.lists.specs.Bytes.{AreBytes};
+ghost use Rattle.partition.specs.Fti.{block_count, source_count};
+ghost use Rattle.reception.specs.Answer.{IsAnswer};
 ghost use Rattle.coder.specs.Answers.{answer_value};
 ghost use Rattle.coder.specs.BlockMatrices.{EachBlockHas, IsCodeOf};
 ghost use Rattle.coder.specs.Decoded.{AreWithin, IsEnoughAt, AreRows, IsUnexplained, Answers, IsShort, Stand};
@@ -15,15 +15,11 @@ use crate::counting::{Short, first_short};
 use crate::received::{Received, Refusal, Symbols, receive};
 use crate::recovering::{Block, is_zero, recover};
 use crate::unsolvable::first_unsolvable;
+use lists::are_bytes;
 use partition::Fti;
 use std::alloc::{AllocError, Global};
 
-// What the type says of a datagram.
-fn are_bytes(datagram: &[u8])
-    ensures { AreBytes datagram.now }
-{}
-
-// What it says of each.
+// What the type says of each datagram.
 fn all_are_bytes(datagrams: &[&[u8]])
     ensures { (i : ℕ) → i < length datagrams.now → AreBytes (slice_index_or (map (λ d. d.now) datagrams.now) i []) }
 {
@@ -155,10 +151,10 @@ fn decode_short(
 
 // What the symbols give.
 fn answer(alloc: Global, received: &Received<'_>) -> Result<Answer, AllocError>
-    requires valid { IsValidFti received.now.fti }
-    requires stand { Stand received.now.fti (stored received.now.symbols) }
+    requires { Stand received.now.fti (stored received.now.symbols) }
     ensures { IfOk result (λ a. Answers received.now.fti (stored received.now.symbols) (answer_value a)) }
 {
+    received.fti.is_valid();
     let generators = BlockMatrices::generators(alloc, &received.fti)?;
     match first_short(&received.symbols, &received.fti) {
         Some(short) => decode_short(alloc, received, &generators, short),
@@ -174,11 +170,9 @@ pub fn decode(alloc: Global, datagrams: &[&[u8]]) -> Result<Answer, AllocError>
     ensures { IfOk result (λ a. IsAnswer (map (λ d. d.now) datagrams.now) (answer_value a)) }
 {
     all_are_bytes(datagrams);
-    if datagrams.is_empty() {
-        return Ok(Answer::Empty);
-    }
     match receive(alloc, datagrams) {
-        Ok(received) => answer(alloc, &received),
+        Ok(Some(received)) => answer(alloc, &received),
+        Ok(None) => Ok(Answer::Empty),
         Err(Refusal::Fault(fault)) => Ok(Answer::Fault(fault)),
         Err(Refusal::NoMemory) => Err(AllocError),
     }

@@ -1,17 +1,16 @@
 //! The encoding symbols that came, by block and ESI.
-ghost use Rattle.std.specs.Prelude.{◌≡◌, ◌<◌, ◌==◌, ◌&&◌, ℕ, List, Some, false, length, map, option_map, IfOk, IfErr, OnOk};
-ghost use Rattle.partition.specs.Fti.{IsValidFti};
+ghost use Rattle.std.specs.Prelude.{◌≡◌, ◌==◌, ◌&&◌, ℕ, List, Some, false, map, IsNone, IfSome, IfOk, IfErr, OnOk};
 ghost use Rattle.alc.specs.Views.{packet_of};
-ghost use Rattle.cert.specs.Symbols.{Symbol};
-ghost use Rattle.cert.specs.Readings.{clashes};
-ghost use Rattle.cert.specs.Answer.{Fault, packet_fault};
+ghost use Rattle.reception.specs.Symbols.{Symbol};
+ghost use Rattle.reception.specs.Reception.{Faulty, symbol_of};
+ghost use Rattle.reception.specs.Answer.{Fault, clashes};
 ghost use Rattle.coder.specs.Answers.{fault_value, IsRefusal};
-ghost use Rattle.coder.specs.Received.{stored, IsIndex, AreReceived};
+ghost use Rattle.coder.specs.Received.{stored, IsIndex, AreReceived, IsNothing};
 
 use crate::answer::DecodeFault;
-use alc::{Packet, read};
-use cert::is_in_range;
+use alc::Packet;
 use partition::Fti;
+use reception::{PlaceFault, Scope};
 use std::alloc::{AllocError, Global};
 use std::collections::BTreeMap;
 
@@ -34,7 +33,7 @@ pub(crate) struct Received<'a> {
 
 // Whether an earlier symbol of the packet's block and ESI has other bytes.
 fn is_clash(symbols: &Symbols<'_>, packet: &Packet<'_>) -> bool
-    ensures { (earlier : List Symbol) → IsIndex earlier (stored symbols.now) → result ≡ clashes (packet_of packet.now) earlier }
+    ensures { (earlier : List Symbol) → IsIndex earlier (stored symbols.now) → result ≡ clashes earlier (symbol_of (packet_of packet.now)) }
 {
     match symbols.get(&(packet.sbn, packet.esi)) {
         Some(bytes) => *bytes != packet.symbol,
@@ -42,29 +41,16 @@ fn is_clash(symbols: &Symbols<'_>, packet: &Packet<'_>) -> bool
     }
 }
 
-// The first fault of the packet at a place, the session's first packet being the other.
-fn fault_at(
-    symbols: &Symbols<'_>,
-    first: &Packet<'_>,
-    place: usize,
-    packet: &Packet<'_>,
-) -> Option<DecodeFault>
-    ensures { (earlier : List Symbol) → IsIndex earlier (stored symbols.now)
-        → option_map fault_value result ≡ option_map (Fault place) (packet_fault (packet_of first.now) earlier (packet_of packet.now)) }
+// The fault of the datagram at a place.
+fn fault_at(place: usize, fault: PlaceFault) -> DecodeFault
+    ensures { fault_value result ≡ Fault place (Faulty fault) }
 {
-    if packet.tsi != first.tsi || packet.toi != first.toi {
-        return Some(DecodeFault::OtherIdentity(place));
+    match fault {
+        PlaceFault::NoPacket(fault) => DecodeFault::Packet(place, fault),
+        PlaceFault::OtherIdentity => DecodeFault::OtherIdentity(place),
+        PlaceFault::OtherFti => DecodeFault::OtherFti(place),
+        PlaceFault::Range => DecodeFault::Range(place),
     }
-    if packet.fti != first.fti {
-        return Some(DecodeFault::OtherFti(place));
-    }
-    if !is_in_range(packet, &first.fti) {
-        return Some(DecodeFault::Range(place));
-    }
-    if is_clash(symbols, packet) {
-        return Some(DecodeFault::Clash(place));
-    }
-    None
 }
 
 // Puts the packet's symbol at its block and ESI.
@@ -76,33 +62,32 @@ fn keep<'a>(symbols: &mut Symbols<'a>, packet: &Packet<'a>) -> Result<(), AllocE
     Ok(())
 }
 
-/// The symbols of the datagrams, or the first fault at the least place that has one.
-pub(crate) fn receive<'a>(alloc: Global, datagrams: &[&'a [u8]]) -> Result<Received<'a>, Refusal>
-    requires { 0 < length datagrams.now }
-    ensures received { IfOk result (λ r. AreReceived (map (λ d. d.now) datagrams.now) r.fti (stored r.symbols)) }
-    ensures valid { IfOk result (λ r. IsValidFti r.fti) }
+/// The symbols of the datagrams, if some came, or the first fault at the least place that has one.
+pub(crate) fn receive<'a>(
+    alloc: Global,
+    datagrams: &[&'a [u8]],
+) -> Result<Option<Received<'a>>, Refusal>
+    ensures received { IfOk result (λ o. IfSome o (λ r. AreReceived (map (λ d. d.now) datagrams.now) r.fti (stored r.symbols))) }
+    ensures nothing { IfOk result (λ o. IsNone o → IsNothing (map (λ d. d.now) datagrams.now)) }
     ensures refusal { IfErr result (IsRefusal (map (λ d. d.now) datagrams.now)) }
 {
-    let first = match read(datagrams[0]) {
-        Ok(packet) => packet,
-        Err(fault) => return Err(Refusal::Fault(DecodeFault::Packet(0, fault))),
-    };
+    let mut scope = Scope::unknown();
     let mut symbols = BTreeMap::new(alloc);
     for place in 0..datagrams.len() {
-        let packet = match read(datagrams[place]) {
-            Ok(packet) => packet,
-            Err(fault) => return Err(Refusal::Fault(DecodeFault::Packet(place, fault))),
+        let packet = match scope.look(datagrams[place]) {
+            Ok(Some(packet)) => packet,
+            Ok(None) => continue,
+            Err(fault) => return Err(Refusal::Fault(fault_at(place, fault))),
         };
-        match fault_at(&symbols, &first, place, &packet) {
-            Some(fault) => return Err(Refusal::Fault(fault)),
-            None => {}
+        if is_clash(&symbols, &packet) {
+            return Err(Refusal::Fault(DecodeFault::Clash(place)));
         }
         let Ok(()) = keep(&mut symbols, &packet) else {
             return Err(Refusal::NoMemory);
         };
     }
-    Ok(Received {
-        fti: first.fti,
-        symbols,
-    })
+    match scope.fti {
+        Some(fti) => Ok(Some(Received { fti, symbols })),
+        None => Ok(None),
+    }
 }

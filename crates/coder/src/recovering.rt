@@ -1,11 +1,12 @@
 //! A block's source symbols, made of as many encoding symbols as it has.
 ghost use Rattle.std.specs.Prelude.{◌≡◌, ◌≢◌, ◌<◌, ◌≤◌, ◌+◌, ◌*◌, ℕ, not, true, false, length, filter, slice_index, is_some, IfOk, OnOk};
-ghost use Rattle.gf256.specs.Arithmetic.{AreBytes, sum_of, product};
+ghost use Rattle.lists.specs.Bytes.{AreBytes};
+ghost use Rattle.gf256.specs.Arithmetic.{sum_of, product};
 ghost use Rattle.elim.specs.Generator.{Encodes};
 ghost use Rattle.elim.specs.Grid.{HasShape, entry};
 ghost use Rattle.elim.specs.Matrices.{row_times};
 ghost use Rattle.elim.specs.Erasures.{AreErasures, AreRising, Recovers};
-ghost use Rattle.losses.specs.Numbers.{below};
+ghost use Rattle.lists.specs.Below.{below};
 ghost use Rattle.coder.specs.Recovered.{arrived, byte_of, row_byte, HaveLength, AreThose, IsBlock, Keeps, Gives, SolvesOnly, AreMet, CanBeMet, MeetsOnly};
 
 use crate::rows::add_row;

@@ -1,10 +1,10 @@
 //! What a check's yes and decoding give together.
 ghost use Rattle.std.specs.Prelude.{◌≡◌, ℕ, List, None, length, IfOk, IfErr, OnOk};
 ghost use Rattle.partition.specs.Fti.{Fti};
-ghost use Rattle.session.specs.Selection.{chosen, first_outside};
+ghost use Rattle.lists.specs.Selection.{chosen, first_outside};
 ghost use Rattle.session.specs.Frames.{IsPlaceFault};
-ghost use Rattle.cert.specs.Answer.{Answer as AnswerValue, IsAnswer};
-ghost use Rattle.cert.specs.Headline.{DecodesWhereEnough, UndecidedElse};
+ghost use Rattle.reception.specs.Answer.{Answer as AnswerValue, IsAnswer};
+ghost use Rattle.reception.specs.Headline.{DecodesWhereEnough, UndecidedElse};
 ghost use Rattle.coder.specs.Answers.{answer_value};
 ghost use Rattle.coder.specs.Promised.{IsPromised};
 

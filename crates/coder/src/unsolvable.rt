@@ -1,18 +1,17 @@
 //! Blocks whose symbols are those of no object.
 ghost use Rattle.std.specs.Prelude.{◌≡◌, ◌<◌, ℕ, List, true, false, length, is_some, slice_index, IfOk, IfSome, IsNone, IsTrue, ◌↔◌};
 ghost use Rattle.std.specs.List.{AllByRecursion};
-ghost use Rattle.partition.specs.Fti.{IsValidFti, block_count};
-ghost use Rattle.cert.specs.Symbols.{Symbol, FullSolvable, IsFirstUnsolvable};
+ghost use Rattle.partition.specs.Fti.{block_count};
+ghost use Rattle.reception.specs.Symbols.{Symbol, FullSolvable, IsFirstUnsolvable, IsWithin};
 ghost use Rattle.coder.specs.BlockMatrices.{EachBlockHas, IsCodeOf};
 ghost use Rattle.coder.specs.Decoded.{AreWithin};
-ghost use Rattle.coder.specs.Received.{stored, IsIndex, IsWithin};
+ghost use Rattle.coder.specs.Received.{stored, IsIndex};
 ghost use Rattle.coder.specs.Unsolvable.{IsSound, IsUnsound};
 
 use crate::block_matrices::BlockMatrices;
 use crate::counting::have;
 use crate::decoding::block_rows;
 use crate::received::{Received, Symbols};
-use partition::Fti;
 use std::alloc::{AllocError, Global};
 
 // The source blocks of which something came.
@@ -85,13 +84,6 @@ fn least_unsound(
     Ok(least)
 }
 
-// What the type says of an FTI.
-fn is_valid(fti: &Fti)
-    ensures { IsValidFti fti.now }
-{
-    fti.symbol();
-}
-
 /// The least block that has enough symbols and whose symbols are those of no object.
 pub(crate) fn first_unsolvable(
     alloc: Global,
@@ -105,7 +97,7 @@ pub(crate) fn first_unsolvable(
     ensures some { IfOk result (λ o. IfSome o (λ b. (came : List Symbol) → IsIndex came (stored received.now.symbols)
         → AllByRecursion (IsWithin received.now.fti) came → IsFirstUnsolvable received.now.fti came b)) }
 {
-    is_valid(&received.fti);
+    received.fti.is_valid();
     let blocks = blocks_of(alloc, &received.symbols)?;
     least_unsound(alloc, received, generators, &blocks)
 }

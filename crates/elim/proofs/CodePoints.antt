@@ -3,7 +3,8 @@ use Rattle.std.proofs.Common.{◌≡◌, ℕ, zero, suc, ◌+◌, ◌*◌, ◌<�
 use Rattle.std.specs.List.{AllByRecursion}
 use Rattle.std.proofs.lemmas.Bool.{cases_eq}
 use Rattle.std.proofs.lemmas.List.{get_or_append_left, get_or_push}
-use Rattle.gf256.specs.Arithmetic.{IsByte, product, point, alpha_to}
+use Rattle.lists.specs.Bytes.{IsByte}
+use Rattle.gf256.specs.Arithmetic.{product, point, alpha_to}
 use Rattle.gf256.specs.Powers.{alpha_to_sum}
 use Rattle.gf256.specs.ByteField.{point_byte, point_apart}
 use Rattle.poly.specs.Polynomial.{power_over, AreDifferent}

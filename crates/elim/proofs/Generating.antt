@@ -2,7 +2,8 @@
 use Rattle.std.proofs.Common.{◌≡◌, ℕ, ◌<◌, ◌≤◌, List, length, get_or, take, arith, ap, ◌∙◌, sym, inl, inr}
 use Rattle.std.proofs.lemmas.Bool.{cases_lt}
 use Rattle.std.proofs.lemmas.List.{ext_get_or, get_or_past, get_or-take, length-take-le}
-use Rattle.gf256.specs.Arithmetic.{IsByte, AreBytes, sum_of, product, point}
+use Rattle.lists.specs.Bytes.{IsByte, AreBytes}
+use Rattle.gf256.specs.Arithmetic.{sum_of, product, point}
 use Rattle.gf256.specs.ByteField.{byte_field, point_byte}
 use Rattle.poly.specs.Polynomial.{IsWord, value, power_over}
 use Rattle.poly.proofs.Bytes.{bytes_from_recursion}

@@ -1,7 +1,8 @@
 -- A row times the inverse of V of the first points is the coefficients of the polynomial through it.
 use Rattle.std.proofs.Common.{◌≡◌, ℕ, zero, suc, ◌<◌, List, length, get_or, arith, ap, ◌∙◌, sym, refl}
 use Rattle.std.proofs.lemmas.List.{ext_get_or}
-use Rattle.gf256.specs.Arithmetic.{IsByte, AreBytes, sum_of, product, point}
+use Rattle.lists.specs.Bytes.{IsByte, AreBytes}
+use Rattle.gf256.specs.Arithmetic.{sum_of, product, point}
 use Rattle.gf256.specs.ByteField.{byte_field, point_byte}
 use Rattle.poly.specs.Polynomial.{value, power_over}
 use Rattle.elim.specs.Matrices.{row_times, identity_entry, AreElements, AreInverseSquares}

@@ -2,7 +2,8 @@
 use Rattle.std.proofs.Common.{◌≡◌, ◌≢◌, ℕ, ◌<◌, ◌≤◌, List, [], ◌∷◌, length, get_or, arith, ap, ◌∙◌, sym, refl, inl, inr}
 use Rattle.std.specs.List.{AllByRecursion}
 use Rattle.std.proofs.lemmas.List.{get_or-take}
-use Rattle.gf256.specs.Arithmetic.{IsByte, AreBytes, sum_of, product, point}
+use Rattle.lists.specs.Bytes.{IsByte, AreBytes}
+use Rattle.gf256.specs.Arithmetic.{sum_of, product, point}
 use Rattle.gf256.specs.ByteField.{byte_field, point_byte, point_apart}
 use Rattle.poly.specs.Polynomial.{value, value_over, IsWord, AreDifferent}
 use Rattle.poly.proofs.Bytes.{bytes_by_recursion, bytes_from_recursion}

@@ -1,6 +1,7 @@
 -- A block's source symbols that are missing, and as many repair symbols that came.
 use Rattle.std.specs.Prelude.{◌≡◌, ◌<◌, ◌≤◌, ℕ, List, length, slice_index}
-use Rattle.gf256.specs.Arithmetic.{sum_of, product, IsByte}
+use Rattle.lists.specs.Bytes.{IsByte}
+use Rattle.gf256.specs.Arithmetic.{sum_of, product}
 use Rattle.elim.specs.Matrices.{row_times, AreElements}
 use Rattle.elim.specs.Grid.{Grid, entry}
 

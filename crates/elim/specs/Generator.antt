@@ -1,6 +1,7 @@
 -- The generator matrix of the code (RFC 5510, section 8.2.1), over bytes.
 use Rattle.std.specs.Prelude.{◌≡◌, ◌<◌, ◌*◌, ℕ, List, length, take, slice_index}
-use Rattle.gf256.specs.Arithmetic.{sum_of, product, point, alpha_to, AreBytes}
+use Rattle.lists.specs.Bytes.{AreBytes}
+use Rattle.gf256.specs.Arithmetic.{sum_of, product, point, alpha_to}
 use Rattle.poly.specs.Polynomial.{IsWord, value}
 use Rattle.elim.specs.Matrices.{row_times, identity_entry}
 use Rattle.elim.specs.Grid.{Grid, entry, row_product}

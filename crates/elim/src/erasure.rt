@@ -1,6 +1,6 @@
 //! Source symbols that are missing, and the repair symbols that give them back.
 ghost use Rattle.std.specs.Prelude.{◌≡◌, ◌<◌, ◌≤◌, ℕ, IfOk, length, slice_index};
-ghost use Rattle.gf256.specs.Arithmetic.{IsByte};
+ghost use Rattle.lists.specs.Bytes.{IsByte};
 ghost use Rattle.elim.specs.Generator.{Encodes};
 ghost use Rattle.elim.specs.Erasures.{AreErasures, Recovers, part_entry};
 ghost use Rattle.elim.specs.Grid.{HasElements, HasShape, HasEntries};

@@ -4,14 +4,15 @@ use Rattle.std.specs.List.{AllByRecursion, list_any}
 use Rattle.std.proofs.Common.{◌∙◌, sym, ap, arith}
 use Rattle.std.proofs.lemmas.Bool.{eqb-true, eq-eqb}
 use Rattle.std.proofs.lemmas.List.Filters.{length-filter_both}
-use Rattle.session.specs.Selection.{is_among, loss_size, rest, rest_from}
+use Rattle.lists.specs.Selection.{is_among, loss_size, rest, rest_from}
 use Rattle.losses.proofs.Copies.{HasByteEsi, copies_total, filter_filter, is_of_those, lost_at_least, total_none, total_same}
 use Rattle.losses.proofs.Exchange.{before_costs, cheapest}
-use Rattle.losses.proofs.Lists.{all_of, all_to, filter_all, filter_same}
+use Rattle.lists.proofs.Lists.{all_of, all_to, filter_all, filter_same}
 use Rattle.losses.proofs.Places.{marks_places, marks_rest, marks_size, places_from}
 use Rattle.losses.specs.Costs.{copies, count, is_cheap, total}
 use Rattle.losses.specs.Losses.{IsBefore, IsRising}
-use Rattle.losses.specs.Numbers.{below, has, is_number, present}
+use Rattle.lists.specs.Below.{below}
+use Rattle.losses.specs.Numbers.{has, is_number, present}
 use Rattle.losses.specs.declared.number.Number.{Number}
 
 pub any_count : {X : Type 0} (p : X → Bool) (xs : List X) → list_any p xs ≡ true → 1 ≤ count p xs

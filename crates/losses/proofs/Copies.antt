@@ -4,10 +4,10 @@ use Rattle.std.specs.List.{AllByRecursion}
 use Rattle.std.proofs.Common.{◌∙◌, sym, ap, arith, ltb-true}
 use Rattle.std.proofs.lemmas.Bool.{eqb-true, eq-eqb, ltb-false, lt-ltb, le-ltb}
 use Rattle.std.proofs.lemmas.List.Elements.{filter-append}
-use Rattle.session.specs.Selection.{lost_from, rest_from}
-use Rattle.losses.proofs.Lists.{all_to}
+use Rattle.lists.specs.Selection.{lost_from, rest_from}
+use Rattle.lists.proofs.Lists.{all_to}
 use Rattle.losses.specs.Costs.{copies, count, total}
-use Rattle.losses.specs.Numbers.{below}
+use Rattle.lists.specs.Below.{below}
 use Rattle.losses.specs.declared.number.Number.{Number}
 
 -- whether a number is one of block b's whose ESI passes

@@ -4,7 +4,7 @@ use Rattle.std.proofs.lemmas.Bool.{ltb-false}
 use Rattle.std.specs.Prelude.{slice_index}
 use Rattle.std.specs.List.{AllByRecursion}
 use Rattle.losses.proofs.Block.{cheap, cost, doomed, some_copies, some_total}
-use Rattle.losses.proofs.Lists.{filter_all}
+use Rattle.lists.proofs.Lists.{filter_all}
 use Rattle.losses.proofs.Margins.{IsCut, IsPriced, margin, kill}
 use Rattle.losses.proofs.Narrowest.{least_run, members_between, present_all}
 use Rattle.losses.proofs.Runs.{IsLeastRun, IsSpanned, burst}

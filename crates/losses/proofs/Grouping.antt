@@ -7,10 +7,11 @@ use Rattle.std.proofs.lemmas.List.{append-nil}
 use Rattle.std.proofs.lemmas.List.Sums.{sum_by-cons}
 use Rattle.losses.specs.declared.number.Number.{Number}
 use Rattle.losses.specs.declared.groups.Member.{Member}
-use Rattle.losses.specs.Numbers.{below, has, present}
+use Rattle.lists.specs.Below.{below}
+use Rattle.losses.specs.Numbers.{has, present}
 use Rattle.losses.specs.Members.{member, members, has_esi, filled}
-use Rattle.losses.proofs.Lists.{filter_same}
-use Rattle.losses.proofs.Below.{all_below}
+use Rattle.lists.proofs.Lists.{filter_same}
+use Rattle.lists.proofs.Below.{all_below}
 
 pub has_members : (b j i : ℕ) (ps : List Number) → has b ps j ≡ list_any (has_esi j) (members b i ps)
 has_members b j i [] = refl

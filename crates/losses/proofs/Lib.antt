@@ -1,5 +1,3 @@
-pub mod Lists
-pub mod Below
 pub mod Filled
 pub mod Grouping
 pub mod Exchange

@@ -2,7 +2,7 @@
 use Rattle.std.specs.Prelude.{◌≡◌, ℕ, zero, suc, ◌+◌, ◌<◌, ◌≤◌, Bool, true, false, ◌&&◌, ◌||◌, ◌==◌, not, cond, List, [], ◌∷◌, length, count_by, take, refl}
 use Rattle.std.specs.List.{list_any}
 use Rattle.std.proofs.Common.{ap, arith}
-use Rattle.session.specs.Selection.{rest_from}
+use Rattle.lists.specs.Selection.{rest_from}
 use Rattle.losses.proofs.Grouping.{count_cons}
 use Rattle.losses.specs.Costs.{copies, count}
 use Rattle.losses.specs.Members.{has_esi, member, members, outside, place_at}

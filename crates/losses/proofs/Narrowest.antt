@@ -1,14 +1,15 @@
 -- The narrowest window of a block's members is its least short run.
 use Rattle.std.proofs.Common.{◌≡◌, ℕ, zero, suc, ◌+◌, ◌-◌, ◌<◌, ◌≤◌, Bool, true, false, ◌==◌, cond, List, nat_lt, nat_le, [], ◌∷◌, length, refl, ap, sym, ◌∙◌, arith, ltb-true, leb-true}
 use Rattle.std.proofs.lemmas.Bool.{lt-ltb, le-ltb, ltb-false, leb-false, le-leb, lt-leb}
-use Rattle.session.specs.Selection.{is_run, rest, rest_from}
+use Rattle.lists.specs.Selection.{is_run, rest, rest_from}
 use Rattle.losses.proofs.Grouping.{any_is}
 use Rattle.losses.proofs.Link.{IsWindow, has_rest, is_left, window_left}
-use Rattle.losses.proofs.Lists.{all_of, filter_same}
+use Rattle.lists.proofs.Lists.{all_of, filter_same}
 use Rattle.losses.proofs.Runs.{IsLeastRun}
 use Rattle.losses.proofs.Windows.{place_le, short_some}
 use Rattle.losses.specs.Members.{ArePlaced, IsLeastGap, different_outside, member, members, outside, place_at}
-use Rattle.losses.specs.Numbers.{below, has, present}
+use Rattle.lists.specs.Below.{below}
+use Rattle.losses.specs.Numbers.{has, present}
 use Rattle.losses.specs.declared.groups.Member.{Member}
 use Rattle.losses.specs.declared.number.Number.{Number}
 

@@ -3,7 +3,7 @@ use Rattle.std.specs.Prelude.{◌≡◌, ℕ, suc, ◌+◌, ◌<◌, ◌≤◌, 
 use Rattle.std.specs.List.{AllByRecursion}
 use Rattle.std.proofs.Common.{◌∙◌, ap, arith}
 use Rattle.std.proofs.lemmas.Bool.{eqb-true, eq-eqb}
-use Rattle.session.specs.Selection.{is_among, lost_from, rest_from}
+use Rattle.lists.specs.Selection.{is_among, lost_from, rest_from}
 use Rattle.losses.specs.Costs.{count}
 use Rattle.losses.specs.Losses.{IsRising}
 

@@ -3,9 +3,10 @@ use Rattle.std.specs.Prelude.{◌≡◌, ℕ, ◌+◌, ◌-◌, ◌<◌, ◌≤�
 use Rattle.std.specs.List.{list_any}
 use Rattle.std.proofs.Common.{arith, leb-true, ltb-true}
 use Rattle.std.proofs.lemmas.Bool.{leb-false, le-leb, lt-ltb}
-use Rattle.session.specs.Selection.{is_run, rest, rest_from}
+use Rattle.lists.specs.Selection.{is_run, rest, rest_from}
 use Rattle.losses.specs.Losses.{IsBurst, is_enough, blocks_by}
-use Rattle.losses.specs.Numbers.{below, has, is_number, present}
+use Rattle.lists.specs.Below.{below}
+use Rattle.losses.specs.Numbers.{has, is_number, present}
 use Rattle.losses.specs.declared.number.Number.{Number}
 
 -- m neighbours from place a on are places of the list, and without them block b has fewer than k symbols

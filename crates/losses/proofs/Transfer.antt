@@ -1,10 +1,10 @@
 -- Two lists of which each loss leaves the same symbols can lose the same.
 use Rattle.std.specs.Prelude.{◌≡◌, ℕ, ◌<◌, Bool, not, nat_le, List, length, filter}
 use Rattle.std.proofs.Common.{◌∙◌, sym, ap, subst, arith}
-use Rattle.session.specs.Selection.{rest, loss_size, lost_from, is_run, is_among}
-use Rattle.losses.specs.Numbers.{below}
+use Rattle.lists.specs.Selection.{rest, loss_size, lost_from, is_run, is_among}
+use Rattle.lists.specs.Below.{below}
 use Rattle.losses.specs.Losses.{Blocks, esis_in, is_enough, IsHarmless, IsMargin, IsBurst, IsBefore, taken_wholly, LeavesShort, IsKill}
-use Rattle.losses.proofs.Lists.{filter_same, all_of, all_to}
+use Rattle.lists.proofs.Lists.{filter_same, all_of, all_to}
 
 module _ {X Y : Type 0} (these : Blocks X) (those : Blocks Y) (xs : List X) (ys : List Y)
     (count : those.count ≡ these.count) (need : (b : ℕ) → b < these.count → those.need b ≡ these.need b) (len : length ys ≡ length xs)

@@ -8,12 +8,13 @@ use Rattle.losses.proofs.Copies.{is_of_those, total_same, total_sum}
 use Rattle.losses.proofs.Filled.{same_count}
 use Rattle.losses.proofs.Grouping.{any_is, count_cons, has_members}
 use Rattle.losses.proofs.Link.{copies_are}
-use Rattle.losses.proofs.Lists.{all_of, all_to, filter_all, filter_same}
+use Rattle.lists.proofs.Lists.{all_of, all_to, filter_all, filter_same}
 use Rattle.losses.proofs.Places.{places_from}
 use Rattle.losses.specs.Costs.{IsWeighed, came, cheap_esis, cheap_places, cheapest_of, copies, cost_of, esi_copies, esis, is_cheap, total}
 use Rattle.losses.specs.Losses.{IsRising}
 use Rattle.losses.specs.Members.{different_outside, filled, has_esi, member, members, outside}
-use Rattle.losses.specs.Numbers.{below, has, present}
+use Rattle.lists.specs.Below.{below}
+use Rattle.losses.specs.Numbers.{has, present}
 use Rattle.losses.specs.declared.groups.Member.{Member}
 use Rattle.losses.specs.declared.number.Number.{Number}
 

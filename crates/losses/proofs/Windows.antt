@@ -6,7 +6,7 @@ use Rattle.std.proofs.lemmas.Bool.{lt-ltb, le-ltb, ltb-true, ltb-false, eqb-true
 use Rattle.losses.proofs.Filled.{same_count}
 use Rattle.losses.proofs.Runs.{filter_fewer}
 use Rattle.losses.specs.Members.{ArePlaced, IsLeastGap, IsShortWindow, different_outside, filled, has_esi, member, outside, place_at}
-use Rattle.losses.specs.Numbers.{below}
+use Rattle.lists.specs.Below.{below}
 use Rattle.losses.specs.declared.groups.Member.{Member}
 
 -- a short window of that size

@@ -2,7 +2,8 @@
 use Rattle.std.specs.Prelude.{◌≡◌, ℕ, suc, ◌+◌, Bool, ◌&&◌, ◌||◌, ◌==◌, nat_lt, nat_le, cond, List, [], ◌∷◌, length, filter, count_by, map, slice_index}
 use Rattle.losses.specs.declared.number.Number.{Number}
 use Rattle.losses.specs.declared.groups.Member.{Member}
-use Rattle.losses.specs.Numbers.{below, is_number}
+use Rattle.lists.specs.Below.{below}
+use Rattle.losses.specs.Numbers.{is_number}
 use Rattle.losses.specs.Members.{has_esi, different_outside}
 
 -- the sum of a figure of each member

@@ -1,9 +1,10 @@
 -- What a list of packets, or of their numbers, can lose. A loss is a set of places of the list.
 use Rattle.std.specs.Prelude.{◌≡◌, ℕ, ◌+◌, ◌<◌, ◌≤◌, ◌⊎◌, Bool, true, false, not, nat_le, List, [], ◌∷◌, length, filter, slice_index}
 use Rattle.std.specs.List.{AllByRecursion}
-use Rattle.session.specs.Selection.{rest, loss_size, is_run, is_among}
+use Rattle.lists.specs.Selection.{rest, loss_size, is_run, is_among}
 use Rattle.losses.specs.declared.number.Number.{Number}
-use Rattle.losses.specs.Numbers.{below, has}
+use Rattle.lists.specs.Below.{below}
+use Rattle.losses.specs.Numbers.{has}
 
 -- So many blocks, how many different symbols each of them needs, and whether a list has a symbol of a block by its ESI.
 pub record Blocks (X : Type 0) : Type 0 where

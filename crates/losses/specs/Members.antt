@@ -2,7 +2,7 @@
 use Rattle.std.specs.Prelude.{◌≡◌, ℕ, ◌+◌, ◌-◌, ◌<◌, ◌≤◌, Bool, ◌==◌, nat_lt, cond, List, [], ◌∷◌, length, filter, count_by, take, drop, slice_index, slice_index_or}
 use Rattle.losses.specs.declared.number.Number.{Number}
 use Rattle.losses.specs.declared.groups.Member.{Member}
-use Rattle.losses.specs.Numbers.{below}
+use Rattle.lists.specs.Below.{below}
 
 abbrev pub member : ℕ → ℕ → Member
 member place esi = record { place = place; esi = esi }

@@ -1,12 +1,8 @@
 -- Numbers of packets: source block number and encoding symbol ID.
-use Rattle.std.specs.Prelude.{ℕ, zero, suc, Bool, ◌&&◌, ◌==◌, List, [], ◌∷◌, ◌++◌, filter}
+use Rattle.std.specs.Prelude.{ℕ, Bool, ◌&&◌, ◌==◌, List, filter}
 use Rattle.std.specs.List.{list_any}
+use Rattle.lists.specs.Below.{below}
 use Rattle.losses.specs.declared.number.Number.{Number}
-
--- the numbers below n, rising
-unfoldable pub below : ℕ → List ℕ
-below zero = []
-below (suc n) = below n ++ n ∷ []
 
 -- whether these are the numbers of symbol j of block b
 abbrev pub is_number : ℕ → ℕ → Number → Bool

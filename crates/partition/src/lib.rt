@@ -6,7 +6,7 @@
 #![tactic(auto)]
 
 ghost use Rattle.std.specs.Prelude.{◌≡◌, ℕ, ◌+◌, ◌*◌, ◌^◌, ◌<◌, ◌≤◌, min, Some, None, IfOk, IfErr};
-ghost use Rattle.partition.specs.Fti.{symbol_count, block_count, source_count, start_of, encoding_count, last_length, IsValidFti, fti_from};
+ghost use Rattle.partition.specs.Fti.{symbol_count, block_count, source_count, start_of, encoding_count, has_symbol, last_length, IsValidFti, fti_from};
 
 mod order;
 
@@ -97,6 +97,13 @@ impl Fti {
             block_length: b,
             max_symbols: max_n,
         })
+    }
+
+    /// What the type says: an `Fti` is valid.
+    pub fn is_valid(&self)
+        ensures { IsValidFti self.now }
+    {
+        let _ = &self.max_symbols;
     }
 
     /// L: the transfer length, the object's length in bytes.
@@ -195,6 +202,13 @@ impl Fti {
         ensures byte { result ≤ 255 }
     {
         self.k(b) * usize::from(self.max_symbols) / usize::from(self.block_length)
+    }
+
+    /// Whether the object has source block `b`, and the block the encoding symbol with this ESI.
+    pub fn has(&self, b: u32, esi: u8) -> bool
+        ensures { result ≡ has_symbol self.now b esi }
+    {
+        b < self.blocks() && usize::from(esi) < self.n(b)
     }
 
     /// How many source symbols the blocks before `b` have, and so the place of the first one of block `b` among those of

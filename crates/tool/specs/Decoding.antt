@@ -1,7 +1,7 @@
 -- What decoding a session file prints.
 use Rattle.std.specs.Prelude.{◌≡◌, ◌⊎◌, ℕ, Bool, List, ◌++◌, Option, length, codes, decimal, ⊤}
 use Rattle.std.specs.Io.KnownBytes.{Appends}
-use Rattle.cert.specs.Answer.{IsAnswer}
+use Rattle.reception.specs.Answer.{IsAnswer}
 use Rattle.coder.specs.Answers.{answer_value}
 use Rattle.coder.specs.declared.answer.Answer.{Answer}
 use Rattle.coder.specs.declared.answer.Answer.TheVariants.{Empty, Fault as NoObject, Missing, Object}

@@ -4,7 +4,7 @@ use Rattle.std.specs.Io.KnownBytes.{Appends}
 use Rattle.partition.specs.Fti.{Fti, fti_from, block_count}
 use Rattle.partition.specs.FtiFault.{fti_fault}
 use Rattle.session.specs.Frames.{frames}
-use Rattle.session.specs.Selection.{rest, is_among, first_outside}
+use Rattle.lists.specs.Selection.{rest, is_among, first_outside}
 use Rattle.session.specs.declared.frame.FrameFault.TheVariants.{Io as FrameIo, NoSuchPlace, NoMemory as NoFrameMemory}
 use Rattle.cert.specs.declared.certificate.CertFault.TheVariants.{Io as CertificateIo}
 use Rattle.cert.specs.Certificate.{Certificate, certificate_text}

@@ -5,7 +5,7 @@ use Rattle.alc.specs.Packet.{Packet, IsPacket}
 use Rattle.alc.specs.PacketFault.{IsPacketFault}
 use Rattle.alc.specs.declared.fault.PacketFault.{PacketFault}
 use Rattle.cert.specs.Certificate.{Certificate}
-use Rattle.cert.specs.Headline.{DecodesWhereEnough, UndecidedElse}
+use Rattle.reception.specs.Headline.{DecodesWhereEnough, UndecidedElse}
 use Rattle.cert.specs.Report.{IsReport, OnYes}
 use Rattle.cert.specs.Twins.{IsTwinOfSession}
 use Rattle.cert.specs.Verdict.{IsVerdict}

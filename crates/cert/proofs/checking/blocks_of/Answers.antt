@@ -1,5 +1,5 @@
 use Rattle.std.proofs.Common.{◌∙◌, ◌++◌, ◌∷◌, [], ℕ, List, map, get_or, sym, ap, arith, below_more}
-use Rattle.losses.specs.Numbers.{below}
+use Rattle.lists.specs.Below.{below}
 use Rattle.partition.specs.Fti.{source_count}
 use Rattle.cert.proofs.Bridge.{map_below_more}
 use Rattle.cert.proofs.checking.blocks_of.Goals as goal

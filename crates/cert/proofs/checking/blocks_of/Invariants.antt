@@ -1,5 +1,5 @@
 use Rattle.std.proofs.Common.{◌≡◌, ◌<◌, ◌≤◌, ℕ, map, get_or}
-use Rattle.losses.specs.Numbers.{below}
+use Rattle.lists.specs.Below.{below}
 use Rattle.partition.specs.Fti.{source_count}
 use Rattle.cert.proofs.checking.blocks_of.Given as goal
 

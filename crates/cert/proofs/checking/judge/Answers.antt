@@ -1,9 +1,10 @@
 use Rattle.std.proofs.Common.{◌∙◌, sym, arith, ap, refl, subst}
 use Rattle.partition.specs.Fti.{Fti}
 use Rattle.cert.specs.Certificate.{Certificate}
-use Rattle.cert.specs.Scan.{readings_of, IsNotCertified}
+use Rattle.reception.specs.Step.{readings_of}
+use Rattle.cert.specs.Scan.{IsRefusal}
 use Rattle.cert.specs.declared.datagrams.Refusal.TheVariants.{Reason as ByReason}
-use Rattle.cert.proofs.Judging.{read_all, no_object, empty_session, no_datagrams, yes_all}
+use Rattle.cert.proofs.Judging.{read_all, no_object, refused, yes_all}
 use Rattle.cert.proofs.checking.judge.Goals as goal
 
 pub returns-then-object-length-clause-verdict : goal.returns-then-object-length-clause-verdict
@@ -11,7 +12,7 @@ returns-then-object-length-clause-verdict c =
     let told = c.length.ensures.value ∙ ap (λ (f : Fti). f.transfer_length) c.fti.ensures.value in
     record {
       readings = readings_of c.args.session.now;
-      read = read_all c.args.session.now c.len-datagrams.ensures.datagrams;
+      read = read_all c.args.session.now c.len.ensures.datagrams;
       judged = λ e. c.if-object-length.true (e ∙ sym told);
     }
 
@@ -20,19 +21,9 @@ returns-in-Some-clause-verdict c =
     let told = c.length.ensures.value ∙ ap (λ (f : Fti). f.transfer_length) c.fti.ensures.value in
     record {
       readings = readings_of c.args.session.now;
-      read = read_all c.args.session.now c.len-datagrams.ensures.datagrams;
+      read = read_all c.args.session.now c.len.ensures.datagrams;
       judged = no_object (readings_of c.args.session.now) c.args.object.now c.args.certificate.now c.in-Some.reason (c.if-object-length.false ∙ told)
           (rw c.in_ok-symbols.ensures at c.in-Some.ensures.some);
-    }
-
-pub returns-then-datagrams-eq0-clause-verdict : goal.returns-then-datagrams-eq0-clause-verdict
-returns-then-datagrams-eq0-clause-verdict c =
-    let told = c.length.ensures.value ∙ ap (λ (f : Fti). f.transfer_length) c.fti.ensures.value in
-    record {
-      readings = readings_of c.args.session.now;
-      read = read_all c.args.session.now c.len-datagrams.ensures.datagrams;
-      judged = empty_session c.args.session.now c.args.object.now c.args.certificate.now (omega (arith, c.len-datagrams.ensures.value))
-          (record { count = c.if-object-length.false ∙ told; bytes = c.are_bytes.ensures }) (rw c.in_ok-symbols.ensures at (c.in-None.ensures.none refl));
     }
 
 pub returns-in-Ok-clause-verdict : goal.returns-in-Ok-clause-verdict
@@ -40,7 +31,7 @@ returns-in-Ok-clause-verdict c =
     let told = c.length.ensures.value ∙ ap (λ (f : Fti). f.transfer_length) c.fti.ensures.value in
     record {
       readings = readings_of c.args.session.now;
-      read = read_all c.args.session.now c.len-datagrams.ensures.datagrams;
+      read = read_all c.args.session.now c.len.ensures.datagrams;
       judged = yes_all c.args.session.now c.args.object.now c.args.certificate.now c.in-Ok.report
           (record { count = c.if-object-length.false ∙ told; bytes = c.are_bytes.ensures }) (rw c.in_ok-symbols.ensures at (c.in-None.ensures.none refl))
           (rw c.in_ok-symbols.ensures at c.in-Ok.ensures.certified);
@@ -51,9 +42,9 @@ returns-in-Err-Reason-clause-verdict c =
     let told = c.length.ensures.value ∙ ap (λ (f : Fti). f.transfer_length) c.fti.ensures.value in
     record {
       readings = readings_of c.args.session.now;
-      read = read_all c.args.session.now c.len-datagrams.ensures.datagrams;
-      judged = no_datagrams c.args.session.now c.args.object.now c.args.certificate.now c.in-Err-Reason.reason (omega (arith, c.len-datagrams.ensures.value))
+      read = read_all c.args.session.now c.len.ensures.datagrams;
+      judged = refused (readings_of c.args.session.now) c.args.object.now c.args.certificate.now c.in-Err-Reason.reason
           (record { count = c.if-object-length.false ∙ told; bytes = c.are_bytes.ensures }) (rw c.in_ok-symbols.ensures at (c.in-None.ensures.none refl))
-          (subst (λ (z : Certificate). IsNotCertified c.args.session.now z (ByReason c.in-Err-Reason.reason)) c.in_ok-symbols.ensures
+          (subst (λ (z : Certificate). IsRefusal c.args.session.now z (ByReason c.in-Err-Reason.reason)) c.in_ok-symbols.ensures
           (rw c.in-Err-Reason.field-0-is at c.in-Err-Reason.ensures.refusal));
     }

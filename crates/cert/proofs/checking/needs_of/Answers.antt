@@ -1,5 +1,5 @@
 use Rattle.std.proofs.Common.{◌≡◌, ◌+◌, ◌∷◌, [], ℕ, List, length, get_or, length-append, below_more, ◌∙◌, ap, arith}
-use Rattle.losses.proofs.Lists.{at_old, at_end}
+use Rattle.lists.proofs.Lists.{at_old, at_end}
 use Rattle.partition.specs.Fti.{source_count}
 use Rattle.cert.proofs.checking.needs_of.Goals as goal
 

@@ -1,27 +1,25 @@
 use Rattle.std.proofs.Common.{◌∙◌, ◌<◌, ℕ, List, arith, ap, length}
 use Rattle.partition.specs.Fti.{block_count}
 use Rattle.partition.proofs.Laws.{some_source}
-use Rattle.cert.specs.Scan.{readings_of}
-use Rattle.cert.proofs.Judging.{read_all, scan_refused}
+use Rattle.reception.specs.Step.{readings_of}
+use Rattle.cert.proofs.Judging.{read_all, some_counted}
 use Rattle.cert.proofs.Bridge.{numbers_in_blocks, lines_are, enough_full, counts_refused}
 use Rattle.cert.proofs.Losing.{margin_told, kill_told, burst_told}
 use Rattle.cert.proofs.checking.report_of.Goals as goal
-
-pub returns-in-Err-clause-refusal : goal.returns-in-Err-clause-refusal
-returns-in-Err-clause-refusal c = scan_refused c.args.session.now c.args.symbols.now.certificate.now c.in-Err.refusal c.in-Err.ensures.refusal
 
 pub counts-requires : goal.counts-requires
 counts-requires c =
     let all = c.in-Ok.ensures.certified in
     rw (c.as_slice.ensures.value, c.in-Ok.ensures.numbers, c.blocks-2.ensures.value, c.fti-fti.ensures.value)
-    (numbers_in_blocks c.args.symbols.now.certificate.now all.first c.args.session.now all.packets)
+    (numbers_in_blocks c.args.symbols.now.certificate.now all.who c.args.session.now all.packets)
 
 pub returns-in-Err-blocks_of-clause-refusal : goal.returns-in-Err-blocks_of-clause-refusal
 returns-in-Err-blocks_of-clause-refusal c =
     let all = c.in-Ok.ensures.certified in
     let counted = rw (c.as_slice.ensures.value, c.in-Ok.ensures.numbers, c.blocks-2.ensures.value, c.fti-fti.ensures.value) at c.in-Ok-counts.ensures.counts in
     let thin = rw (c.as_slice-2.ensures.value, c.fti-fti.ensures.value) at c.in-Err-blocks_of.ensures.refusal in
-    counts_refused c.args.symbols.now.certificate.now all.first c.args.session.now all.packets c.in-Ok-counts.held.items counted c.in-Err-blocks_of.refusal c.in-Ok.ensures.none thin
+    counts_refused c.args.symbols.now.certificate.now all.who c.args.session.now all.packets c.in-Ok-counts.held.items counted c.in-Err-blocks_of.refusal c.in-Ok.ensures.none
+    (some_counted c.args.symbols.now.certificate.now (readings_of c.args.session.now) all.who all.some) thin
 
 pub figures_of-requires-clause-some_block : goal.figures_of-requires-clause-some_block
 figures_of-requires-clause-some_block c =
@@ -32,7 +30,7 @@ pub figures_of-requires-clause-blocks : goal.figures_of-requires-clause-blocks
 figures_of-requires-clause-blocks c =
     let all = c.in-Ok.ensures.certified in
     rw (c.as_slice-3.ensures.value, c.in-Ok.ensures.numbers, c.as_slice-4.ensures.value, c.in-Ok-needs_of.ensures.len, c.fti-fti.ensures.value)
-    (numbers_in_blocks c.args.symbols.now.certificate.now all.first c.args.session.now all.packets)
+    (numbers_in_blocks c.args.symbols.now.certificate.now all.who c.args.session.now all.packets)
 
 pub figures_of-requires-clause-some : goal.figures_of-requires-clause-some
 figures_of-requires-clause-some c =
@@ -64,12 +62,12 @@ returns-clause-report c =
     record {
       readings = readings_of c.args.session.now;
       read = read_all c.args.session.now c.requires.datagrams;
-      blocks = lines ∙ lines_are c.args.symbols.now.certificate.now all.first c.args.session.now all.packets c.in-Ok-counts.held.items counted;
-      margin = margin_told c.args.symbols.now.certificate.now all.first c.args.session.now all.packets c.in-Ok-needs_of.needs.items count need _
+      blocks = lines ∙ lines_are c.args.symbols.now.certificate.now all.who c.args.session.now all.packets c.in-Ok-counts.held.items counted;
+      margin = margin_told c.args.symbols.now.certificate.now all.who c.args.session.now all.packets c.in-Ok-needs_of.needs.items count need _
           (rw (c.as_slice-3.ensures.value, c.as_slice-4.ensures.value, c.in-Ok.ensures.numbers) at c.in-Ok-figures_of.ensures.margin);
-      kill = kill_told c.args.symbols.now.certificate.now all.first c.args.session.now all.packets c.in-Ok-needs_of.needs.items count need _ _
+      kill = kill_told c.args.symbols.now.certificate.now all.who c.args.session.now all.packets c.in-Ok-needs_of.needs.items count need _ _
           (rw (c.as_slice-3.ensures.value, c.as_slice-4.ensures.value, c.in-Ok.ensures.numbers) at c.in-Ok-figures_of.ensures.kill);
-      burst = burst_told c.args.symbols.now.certificate.now all.first c.args.session.now all.packets c.in-Ok-needs_of.needs.items count need _
+      burst = burst_told c.args.symbols.now.certificate.now all.who c.args.session.now all.packets c.in-Ok-needs_of.needs.items count need _
           (rw (c.as_slice-3.ensures.value, c.as_slice-4.ensures.value, c.in-Ok.ensures.numbers) at c.in-Ok-figures_of.ensures.burst);
     }
 
@@ -80,5 +78,5 @@ returns-clause-certified c =
     let enough = rw (c.as_slice-2.ensures.value, c.fti-fti.ensures.value) at c.in-Ok-blocks_of.ensures.enough in
     record {
       all = all;
-      full = enough_full c.args.symbols.now.certificate.now all.first c.args.session.now all.packets c.in-Ok-counts.held.items counted enough;
+      full = enough_full c.args.symbols.now.certificate.now all.who c.args.session.now all.packets c.in-Ok-counts.held.items counted enough;
     }

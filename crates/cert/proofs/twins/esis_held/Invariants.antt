@@ -1,7 +1,7 @@
-use Rattle.std.proofs.Common.{◌≡◌, take}
-use Rattle.cert.specs.Scan.{readings_of}
+use Rattle.std.proofs.Common.{◌≡◌}
+use Rattle.reception.proofs.Walking.{came_before}
 use Rattle.cert.specs.Twins.{esis_of}
 use Rattle.cert.proofs.twins.esis_held.Given as goal
 
 abbrev pub invariant-loop-place : goal.invariant-loop-place
-invariant-loop-place l = l.held.items ≡ esis_of l.block (readings_of (take l.place l.session))
+invariant-loop-place l = l.held.items ≡ esis_of l.block (came_before l.session l.place)

@@ -1,8 +1,8 @@
 use Rattle.std.proofs.Common.{◌≡◌, ◌∙◌, ◌++◌, ◌∷◌, [], ℕ, map, ap, sym, arith}
 use Rattle.std.specs.Prelude.{filter}
 use Rattle.gf256.specs.Arithmetic.{point}
-use Rattle.losses.specs.Numbers.{below}
-use Rattle.session.specs.Selection.{is_among}
+use Rattle.lists.specs.Below.{below}
+use Rattle.lists.specs.Selection.{is_among}
 use Rattle.cert.proofs.Adding.{points_none, points_yes, points_no}
 use Rattle.cert.proofs.twins.points_of.Goals as goal
 use Rattle.cert.proofs.twins.points_of.Goals.{then-contains+in_ok-push, else-contains}

@@ -1,8 +1,8 @@
 use Rattle.std.proofs.Common.{◌≡◌, map}
 use Rattle.std.specs.Prelude.{filter}
 use Rattle.gf256.specs.Arithmetic.{point}
-use Rattle.session.specs.Selection.{is_among}
-use Rattle.losses.specs.Numbers.{below}
+use Rattle.lists.specs.Selection.{is_among}
+use Rattle.lists.specs.Below.{below}
 use Rattle.cert.proofs.twins.points_of.Given as goal
 
 abbrev pub invariant-loop-esi : goal.invariant-loop-esi

@@ -1,5 +1,5 @@
 use Rattle.std.proofs.Common.{◌≡◌, ◌∙◌, ℕ, List, length, drop, ap, sym, subst}
-use Rattle.cert.specs.Symbols.{IsObject}
+use Rattle.reception.specs.Symbols.{IsObject}
 use Rattle.cert.specs.Certificate.{Certificate}
 use Rattle.cert.specs.Verdict.{GivesObject}
 use Rattle.coder.proofs.Columns.{bytes_fit}

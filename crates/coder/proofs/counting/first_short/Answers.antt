@@ -1,7 +1,7 @@
 use Rattle.std.proofs.Common.{◌≡◌, ◌<◌, ℕ, true, sym, subst, inl, inr, arith}
 use Rattle.std.proofs.lemmas.Bool.{cases_eq, le-leb, lt-leb}
 use Rattle.partition.specs.Fti.{block_count, source_count}
-use Rattle.cert.specs.Symbols.{is_full, held_count}
+use Rattle.reception.specs.Symbols.{is_full, held_count}
 use Rattle.coder.specs.Received.{stored}
 use Rattle.coder.proofs.Counts.{counted_held}
 use Rattle.coder.proofs.counting.first_short.Goals as goal

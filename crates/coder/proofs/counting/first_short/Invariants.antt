@@ -1,7 +1,7 @@
 use Rattle.std.proofs.Common.{◌≡◌, ◌<◌, ℕ, true, List}
 use Rattle.std.specs.List.{AllByRecursion}
-use Rattle.cert.specs.Symbols.{Symbol, is_full}
-use Rattle.coder.specs.Received.{stored, IsIndex, IsWithin}
+use Rattle.reception.specs.Symbols.{Symbol, is_full, IsWithin}
+use Rattle.coder.specs.Received.{stored, IsIndex}
 use Rattle.coder.proofs.counting.first_short.Given as goal
 
 abbrev pub invariant-loop-block : goal.invariant-loop-block

@@ -1,6 +1,6 @@
 use Rattle.std.proofs.Common.{◌≡◌, ◌∙◌, ◌+◌, ℕ, sym, ap, arith, add-one, refl}
 use Rattle.std.specs.Prelude.{is_some}
-use Rattle.losses.specs.Numbers.{below}
+use Rattle.lists.specs.Below.{below}
 use Rattle.coder.specs.Received.{stored}
 use Rattle.coder.proofs.Counts.{one_more_held, none_more_held, same_some}
 use Rattle.coder.proofs.counting.have.Goals as goal

@@ -1,6 +1,6 @@
 use Rattle.std.proofs.Common.{arith, subst, inl, inr}
 use Rattle.std.proofs.lemmas.Bool.{cases_eq}
-use Rattle.gf256.specs.Arithmetic.{AreBytes}
+use Rattle.lists.specs.Bytes.{AreBytes}
 use Rattle.coder.proofs.Receiving.{borrowed_at}
 use Rattle.coder.proofs.decoding.all_are_bytes.Goals as goal
 

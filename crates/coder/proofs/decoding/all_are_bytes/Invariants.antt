@@ -1,6 +1,6 @@
 use Rattle.std.proofs.Common.{◌<◌, ℕ, map, []}
 use Rattle.std.specs.Prelude.{slice_index_or}
-use Rattle.gf256.specs.Arithmetic.{AreBytes}
+use Rattle.lists.specs.Bytes.{AreBytes}
 use Rattle.coder.proofs.decoding.all_are_bytes.Given as goal
 
 abbrev pub invariant-loop-i : goal.invariant-loop-i

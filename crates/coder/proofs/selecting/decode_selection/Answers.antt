@@ -1,7 +1,7 @@
 use Rattle.std.proofs.Common.{◌≡◌, ◌∙◌, ℕ, List, map, ap, subst}
 use Rattle.std.specs.Borrow.{Bor}
-use Rattle.session.specs.Selection.{chosen}
-use Rattle.cert.specs.Answer.{IsAnswer}
+use Rattle.lists.specs.Selection.{chosen}
+use Rattle.reception.specs.Answer.{IsAnswer}
 use Rattle.coder.specs.Answers.{answer_value}
 use Rattle.coder.proofs.Promising.{promised}
 use Rattle.coder.proofs.selecting.decode_selection.Goals as goal

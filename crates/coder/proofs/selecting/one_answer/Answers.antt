@@ -1,4 +1,4 @@
-use Rattle.cert.proofs.OneAnswer.{one_answer}
+use Rattle.reception.proofs.OneAnswer.{one_answer}
 use Rattle.coder.proofs.selecting.one_answer.Goals as goal
 
 pub returns : goal.returns

@@ -1,5 +1,5 @@
 use Rattle.std.proofs.Common.{◌∙◌, ℕ, sym}
-use Rattle.losses.specs.Numbers.{below}
+use Rattle.lists.specs.Below.{below}
 use Rattle.coder.proofs.Sent.{nothing_sent, map_sends, map_some, if_err, length_of_map}
 use Rattle.coder.proofs.sending.send_block.Goals as goal
 

@@ -1,5 +1,5 @@
 use Rattle.std.proofs.Common.{◌<◌, ◌≤◌, length, ap, arith, refl}
-use Rattle.losses.specs.Numbers.{below}
+use Rattle.lists.specs.Below.{below}
 use Rattle.partition.specs.Fti.{encoding_count}
 use Rattle.coder.specs.Sending.{pair_with}
 use Rattle.coder.proofs.Sent.{nothing_sent, flat_sends, flat_some, if_err, length_next, sends_as, some_as, with_pair, without_pair}

@@ -1,6 +1,6 @@
 use Rattle.std.proofs.Common.{◌≡◌, ◌≤◌, ◌+◌, length}
 use Rattle.std.specs.Prelude.{flat_map}
-use Rattle.losses.specs.Numbers.{below}
+use Rattle.lists.specs.Below.{below}
 use Rattle.coder.specs.Sending.{Sends, pair_with}
 use Rattle.coder.proofs.sending.send_round.Given as goal
 

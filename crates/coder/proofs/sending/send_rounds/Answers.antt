@@ -1,5 +1,5 @@
 use Rattle.std.proofs.Common.{arith, refl}
-use Rattle.losses.specs.Numbers.{below}
+use Rattle.lists.specs.Below.{below}
 use Rattle.coder.specs.Sending.{pairs_of_round}
 use Rattle.coder.proofs.Sent.{nothing_sent, flat_sends, flat_some, if_err, length_next}
 use Rattle.coder.proofs.sending.send_rounds.Goals as goal

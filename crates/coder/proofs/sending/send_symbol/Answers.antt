@@ -1,6 +1,6 @@
 use Rattle.std.proofs.Common.{◌≤◌, ℕ, length, subst, arith}
 use Rattle.alc.specs.Packet.{written}
-use Rattle.cert.specs.Symbols.{Agrees}
+use Rattle.reception.specs.Symbols.{Agrees}
 use Rattle.alc.specs.Written.{packet_from}
 use Rattle.coder.specs.BlockMatrices.{IsCodeOf}
 use Rattle.coder.proofs.Sizes.{picked_has, some_picked}

@@ -1,6 +1,6 @@
 use Rattle.std.proofs.Common.{◌≡◌, ◌∙◌, sym, subst, arith, length, ℕ}
 use Rattle.std.specs.Prelude.{filter, is_some}
-use Rattle.losses.specs.Numbers.{below}
+use Rattle.lists.specs.Below.{below}
 use Rattle.coder.specs.Received.{stored}
 use Rattle.coder.proofs.Unsound.{some_explain}
 use Rattle.coder.proofs.unsolvable.is_sound.Goals as goal

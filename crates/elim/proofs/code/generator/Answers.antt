@@ -1,7 +1,7 @@
 use Rattle.std.proofs.Common.{◌≤◌, take, IfOk, Result, Ok, Err, arith}
 use Rattle.std.proofs.lemmas.Result.{IfOk-weaker}
 use Rattle.poly.proofs.Lists.{all_by_place}
-use Rattle.gf256.specs.Arithmetic.{IsByte}
+use Rattle.lists.specs.Bytes.{IsByte}
 use Rattle.elim.specs.Generator.{ArePoints, IsGenerator, IsSystematic, Encodes}
 use Rattle.elim.proofs.CodePoints.{points_front, points_bytes, points_different}
 use Rattle.elim.proofs.Generating.{GeneratesAll, made_is}

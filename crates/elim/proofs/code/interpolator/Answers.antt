@@ -1,6 +1,6 @@
 use Rattle.std.proofs.Common.{◌∙◌}
 use Rattle.poly.proofs.Lists.{all_by_place}
-use Rattle.gf256.specs.Arithmetic.{IsByte}
+use Rattle.lists.specs.Bytes.{IsByte}
 use Rattle.elim.specs.Generator.{ArePoints}
 use Rattle.elim.proofs.CodePoints.{points_bytes, points_different}
 use Rattle.elim.proofs.Interpolating.{interpolates}

@@ -1,4 +1,4 @@
-use Rattle.gf256.specs.Arithmetic.{IsByte}
+use Rattle.lists.specs.Bytes.{IsByte}
 use Rattle.std.proofs.Common.{length}
 use Rattle.elim.proofs.Filling.{IsFilledTo}
 use Rattle.elim.specs.Erasures.{part_entry}

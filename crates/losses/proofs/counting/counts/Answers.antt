@@ -3,7 +3,7 @@ use Rattle.std.specs.Prelude.{List, [], ◌∷◌}
 use Rattle.losses.specs.declared.groups.Member.{Member}
 use Rattle.losses.specs.Numbers.{present}
 use Rattle.losses.specs.Members.{members, has_esi}
-use Rattle.losses.proofs.Lists.{at_old, at_end}
+use Rattle.lists.proofs.Lists.{at_old, at_end}
 use Rattle.losses.proofs.Grouping.{filled_present}
 use Rattle.losses.proofs.counting.counts.Goals as goal
 

@@ -1,6 +1,6 @@
 use Rattle.std.proofs.Common.{◌≡◌, length, get_or, nat_lt}
 use Rattle.std.specs.Prelude.{filter}
-use Rattle.losses.specs.Numbers.{below}
+use Rattle.lists.specs.Below.{below}
 use Rattle.losses.proofs.counting.different.Given as goal
 
 abbrev pub invariant-loop-esi : goal.invariant-loop-esi

@@ -2,7 +2,7 @@ use Rattle.std.proofs.Common.{◌<◌, ◌++◌, ◌∷◌, [], ap, get_or, leng
 use Rattle.std.proofs.lemmas.List.{get_or_default}
 use Rattle.losses.specs.declared.number.Number.{Number}
 use Rattle.losses.specs.declared.groups.Member.{Member}
-use Rattle.losses.proofs.Lists.{all_at, all_from}
+use Rattle.lists.proofs.Lists.{all_at, all_from}
 use Rattle.losses.proofs.Grouping.{group_step}
 use Rattle.losses.proofs.groups.grouped.Goals as goal
 

@@ -1,7 +1,7 @@
 use Rattle.std.proofs.Common.{◌≡◌, nat_lt, get_or}
 use Rattle.std.specs.Prelude.{filter}
 use Rattle.losses.specs.Costs.{priced}
-use Rattle.losses.specs.Numbers.{below}
+use Rattle.lists.specs.Below.{below}
 use Rattle.losses.proofs.pricing.pairs_of.Given as goal
 
 abbrev pub invariant-loop-esi : goal.invariant-loop-esi

@@ -1,5 +1,5 @@
 use Rattle.std.proofs.Common.{◌<◌, length, arith}
-use Rattle.losses.proofs.Lists.{all_from}
+use Rattle.lists.proofs.Lists.{all_from}
 use Rattle.vectors.proofs.loss_tests.told.Goals as goal
 
 pub counts-requires : goal.counts-requires

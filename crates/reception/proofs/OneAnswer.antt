@@ -2,13 +2,13 @@
 use Rattle.std.specs.Prelude.{◌≡◌, ◌<◌, ◌⊎◌, ℕ, List, [], ◌∷◌, Option, Some, None, refl}
 use Rattle.std.proofs.Common.{◌∙◌, sym, ap, subst, arith, inl, inr}
 use Rattle.partition.specs.Fti.{Fti}
-use Rattle.cert.specs.Symbols.{Symbol, IsFirstShort, IsFirstUnsolvable, FitsOnly}
+use Rattle.reception.specs.Symbols.{Symbol, IsFirstShort, IsFirstUnsolvable, FitsOnly}
 use Rattle.alc.specs.Reading.{Reading}
-use Rattle.cert.specs.Readings.{ReadAll}
 use Rattle.alc.proofs.Again.{one_reading}
-use Rattle.cert.specs.Answer.{Answer, Empty, Fault, NotCode, Missing, Object, Came, PlaceFault, IsClean, AnswerTo, IsAnswer, came_of}
+use Rattle.reception.specs.Reception.{ReadAll, Wrong, Came, IsClean}
+use Rattle.reception.specs.Answer.{Clash, Answer, Empty, Fault, NotCode, Missing, Object, AnswerTo, IsAnswer, came_of}
 
-one_fti : (came : Came) (f g : Fti) → IsClean came f → IsClean came g → f ≡ g
+one_fti : (came : Came Clash) (f g : Fti) → IsClean came f → IsClean came g → f ≡ g
 one_fti came f g h k = let a = h.some in let b = k.some in (cc)
 
 -- of two numbers one is less, or they are one
@@ -30,23 +30,23 @@ one_unsolvable f came a b h k = which a b (λ s. elim s [
   | inr l ↦ k.unsolvable (h.least b l k.full)
 ])
 
-abbrev told : Option (ℕ × PlaceFault) → Answer
+abbrev told : Option (ℕ × Wrong Clash) → Answer
 told None = Empty
 told (Some x) = Fault x.0 x.1
 
-not_missing : (came : Came) (b c m n : ℕ) → AnswerTo came (NotCode b) → AnswerTo came (Missing c m n) → ⊥
+not_missing : (came : Came Clash) (b c m n : ℕ) → AnswerTo came (NotCode b) → AnswerTo came (Missing c m n) → ⊥
 not_missing came b c m n h k =
     let e = one_fti came h.0 k.0 h.1 k.1 in
     let u = subst (λ (f : Fti). IsFirstUnsolvable f came.symbols b) e h.2 in
     u.unsolvable (k.2 b u.in_range u.full)
 
-not_object : (came : Came) (b : ℕ) (o : List ℕ) → AnswerTo came (NotCode b) → AnswerTo came (Object o) → ⊥
+not_object : (came : Came Clash) (b : ℕ) (o : List ℕ) → AnswerTo came (NotCode b) → AnswerTo came (Object o) → ⊥
 not_object came b o h k =
     let e = one_fti came h.0 k.0 h.1 k.1 in
     let u = subst (λ (f : Fti). IsFirstUnsolvable f came.symbols b) e h.2 in
     u.unsolvable (k.2 b u.in_range u.full)
 
-not_both : (came : Came) (b m n : ℕ) (o : List ℕ) → AnswerTo came (Missing b m n) → AnswerTo came (Object o) → ⊥
+not_both : (came : Came Clash) (b m n : ℕ) (o : List ℕ) → AnswerTo came (Missing b m n) → AnswerTo came (Object o) → ⊥
 not_both came b m n o h k =
     let e = one_fti came h.0 k.0 h.1 k.1 in
     let s = subst (λ (f : Fti). IsFirstShort f came.symbols b) e h.3 in
@@ -54,7 +54,7 @@ not_both came b m n o h k =
     let y = s.short in
     absurd (cc)
 
-pub one_answer_to : (came : Came) (a b : Answer) → AnswerTo came a → AnswerTo came b → a ≡ b
+pub one_answer_to : (came : Came Clash) (a b : Answer) → AnswerTo came a → AnswerTo came b → a ≡ b
 one_answer_to came Empty Empty h k = refl
 one_answer_to came Empty (Fault i r) h k = absurd (cc)
 one_answer_to came Empty (NotCode c) h k = let x = k.1.some in absurd (cc)

@@ -1,8 +1,9 @@
 -- What received encoding symbols say of an object. Nothing here knows of packets.
 use Rattle.std.specs.Prelude.{◌≡◌, ◌≢◌, ℕ, ◌<◌, ◌≤◌, Bool, true, false, ◌&&◌, ◌==◌, nat_le, List, length, slice_index, filter}
 use Rattle.std.specs.List.{list_any, AllByRecursion}
-use Rattle.losses.specs.Numbers.{below}
-use Rattle.gf256.specs.Arithmetic.{point, AreBytes}
+use Rattle.lists.specs.Below.{below}
+use Rattle.lists.specs.Bytes.{AreBytes}
+use Rattle.gf256.specs.Arithmetic.{point}
 use Rattle.poly.specs.Polynomial.{value, IsPolynomial}
 use Rattle.partition.specs.Fti.{Fti, source_count, encoding_count, block_count, source_place, source_byte}
 
@@ -94,3 +95,9 @@ pub record IsFirstUnsolvable (f : Fti) (came : List Symbol) (b : ℕ) : Type 0 w
   pub full : is_full f came b ≡ true
   pub unsolvable : ¬ Solvable f came b
   pub least : (a : ℕ) → a < b → is_full f came a ≡ true → Solvable f came a
+
+-- a symbol that the FTI has
+pub record IsWithin (f : Fti) (s : Symbol) : Type 0 where
+  pub block : s.block < block_count f
+  pub esi : s.esi < encoding_count f s.block
+  pub count : length s.bytes ≡ f.symbol_length

@@ -1,11 +1,11 @@
 -- What a yes promises of every selection of the session's datagrams.
 use Rattle.std.specs.Prelude.{◌≡◌, ◌≢◌, ℕ, List, []}
 use Rattle.partition.specs.Fti.{Fti}
-use Rattle.cert.specs.Symbols.{AreTwins}
+use Rattle.reception.specs.Symbols.{AreTwins}
 use Rattle.alc.specs.Reading.{Reading}
-use Rattle.cert.specs.Readings.{ReadAll, counted, symbols, Suffices}
-use Rattle.cert.specs.Answer.{Answer, Empty, Missing, Object, IsAnswer}
-use Rattle.session.specs.Selection.{chosen}
+use Rattle.reception.specs.Reception.{ReadAll, counted, symbols, Suffices}
+use Rattle.reception.specs.Answer.{Answer, Empty, Missing, Object, IsAnswer}
+use Rattle.lists.specs.Selection.{chosen}
 
 -- the datagrams are packets that leave no block short
 pub record IsEnough (f : Fti) (datagrams : List (List ℕ)) : Type 0 where

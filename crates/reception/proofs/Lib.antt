@@ -1,0 +1,6 @@
+pub mod Walk
+pub mod Stepping
+pub mod Walking
+pub mod Within
+pub mod Looks
+pub mod OneAnswer

@@ -1,0 +1,48 @@
+-- What a decoder answers.
+use Rattle.std.specs.Prelude.{◌≡◌, ℕ, Bool, ◌&&◌, ◌==◌, not, cond, List, Some, None}
+use Rattle.std.specs.List.{list_any}
+use Rattle.partition.specs.Fti.{Fti, source_count}
+use Rattle.alc.specs.PacketFault.{same}
+use Rattle.alc.specs.Reading.{Reading}
+use Rattle.reception.specs.Symbols.{Symbol, held_count, AllFull, FullSolvable, FitsOnly, IsFirstShort, IsFirstUnsolvable}
+use Rattle.reception.specs.Reception.{ReadAll, Judge, Wrong, Came, came_with, unknown, IsClean}
+
+-- what a decoder says against a symbol in range
+pub data Clash : Type 0 where
+  Clashes : Clash
+
+-- whether an earlier symbol of the same block and number has other bytes
+abbrev pub clashes : List Symbol → Symbol → Bool
+clashes earlier s = list_any (λ e. (e.block == s.block && e.esi == s.esi) && not (same e.bytes s.bytes)) earlier
+
+abbrev pub clash : Judge Clash
+clash earlier s = cond (clashes earlier s) (Some Clashes) None
+
+pub data Answer : Type 0 where
+  Empty : Answer
+  Fault : ℕ → Wrong Clash → Answer
+  NotCode : ℕ → Answer
+  Missing : ℕ → ℕ → ℕ → Answer
+  Object : List ℕ → Answer
+
+-- what came, to a decoder, who knows nothing before
+abbrev pub came_of : List Reading → Came Clash
+came_of rs = came_with clash unknown rs
+
+-- The answer, by cases in this order: the first that is wrong at a place; nothing came; a full block that no object
+-- explains; a short block; the object.
+abbrev pub AnswerTo : Came Clash → Answer → Type 0
+AnswerTo came (Fault i r) = came.wrong ≡ Some (i, r)
+AnswerTo came Empty = (came.wrong ≡ None) × (came.scope.fti ≡ None)
+AnswerTo came (NotCode b) = (f : Fti) × IsClean came f × IsFirstUnsolvable f came.symbols b
+AnswerTo came (Missing b have need) =
+    (f : Fti) × IsClean came f × FullSolvable f came.symbols × IsFirstShort f came.symbols b
+    × (have ≡ held_count came.symbols b) × (need ≡ source_count f b)
+AnswerTo came (Object object) =
+    (f : Fti) × IsClean came f × FullSolvable f came.symbols × AllFull f came.symbols × FitsOnly f came.symbols object
+
+-- the answer to these datagrams
+pub record IsAnswer (datagrams : List (List ℕ)) (answer : Answer) : Type 0 where
+  pub readings : List Reading
+  pub read : ReadAll datagrams readings
+  pub answers : AnswerTo (came_of readings) answer

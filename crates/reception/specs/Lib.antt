@@ -1,0 +1,5 @@
+pub mod Symbols
+pub mod Reception
+pub mod Answer
+pub mod Headline
+pub mod Step

@@ -1,0 +1,192 @@
+-- What a list of datagrams says: which of them count, whose packets and whose FTI hold, which symbols came, and what is
+-- wrong at a place. All that stands above sees the datagrams through this file alone.
+use Rattle.std.specs.Prelude.{◌≡◌, ℕ, ◌+◌, Bool, true, ◌&&◌, ◌==◌, not, cond, if◌then◌else◌, List, [], ◌∷◌, ◌++◌, Option, Some, None, Result, Ok, Err}
+use Rattle.partition.specs.Fti.{Fti, has_symbol}
+use Rattle.alc.specs.Packet.{Packet}
+use Rattle.alc.specs.Reading.{Reading, Reads}
+use Rattle.reception.specs.declared.scope.Identity.{Identity}
+use Rattle.reception.specs.declared.scope.Scope.{Scope}
+use Rattle.reception.specs.declared.scope.PlaceFault.{PlaceFault}
+use Rattle.reception.specs.declared.scope.PlaceFault.TheVariants.{NoPacket, OtherIdentity, OtherFti, Range}
+use Rattle.reception.specs.Symbols.{Symbol, AllFull}
+
+-- each datagram is read
+abbrev pub ReadAll : List (List ℕ) → List Reading → Type 0
+ReadAll [] [] = Unit {0}
+ReadAll (d ∷ ds) (r ∷ rs) = Reads d r × ReadAll ds rs
+ReadAll [] (r ∷ rs) = ⊥
+ReadAll (d ∷ ds) [] = ⊥
+
+-- ---- which readings count
+
+-- every one
+abbrev pub counts : Reading → Bool
+counts r = true
+
+-- a reading and its place in the list
+pub record Placed : Type 0 where
+  pub place : ℕ
+  pub reading : Reading
+
+abbrev pub placed_at : ℕ → Reading → List Placed
+placed_at i r = cond (counts r) (record { place = i; reading = r } ∷ []) []
+
+abbrev pub counted_from : ℕ → List Reading → List Placed
+counted_from i [] = []
+counted_from i (r ∷ rs) = placed_at i r ++ counted_from (i + 1) rs
+
+-- the readings that count, with their places
+abbrev pub counted : List Reading → List Placed
+counted rs = counted_from 0 rs
+
+-- ---- whose packets and whose FTI hold
+
+-- whose packet a reading is
+abbrev pub identity_in : Reading → Option Identity
+identity_in (Ok p) = Some (record { tsi = p.tsi; toi = p.toi })
+identity_in (Err r) = None
+
+-- the FTI that a reading carries
+abbrev pub carried : Reading → Option Fti
+carried (Ok p) = Some p.fti
+carried (Err r) = None
+
+abbrev pub or_later : {X : Type 0} → Option X → Option X → Option X
+or_later (Some x) later = Some x
+or_later None later = later
+
+-- what isn't known yet is taken from the reading
+abbrev pub learned : Scope → Reading → Scope
+learned known r = record { identity = or_later known.identity (identity_in r); fti = or_later known.fti (carried r) }
+
+-- what holds: what is known before, else the first packet's identity and the first FTI
+abbrev pub scope_from : Scope → List Placed → Scope
+scope_from known [] = known
+scope_from known (x ∷ xs) = scope_from (learned known x.reading) xs
+
+-- nothing is known before
+abbrev pub unknown : Scope
+unknown = record { identity = None; fti = None }
+
+-- the FTI is known before
+abbrev pub with_fti : Fti → Scope
+with_fti f = record { identity = None; fti = Some f }
+
+-- ---- symbols
+
+abbrev pub symbol_of : Packet → Symbol
+symbol_of p = record { block = p.block; esi = p.esi; bytes = p.bytes }
+
+abbrev pub symbols_in : Reading → List Symbol
+symbols_in (Ok p) = symbol_of p ∷ []
+symbols_in (Err r) = []
+
+-- the symbols that came, in their order
+abbrev pub symbols : List Placed → List Symbol
+symbols [] = []
+symbols (x ∷ xs) = symbols_in x.reading ++ symbols xs
+
+-- what a decoder needs
+abbrev pub Suffices : Fti → List Reading → Type 0
+Suffices f rs = AllFull f (symbols (counted rs))
+
+-- ---- one look at a reading
+
+abbrev pub is_of_identity : Identity → Packet → Bool
+is_of_identity who p = p.tsi == who.tsi && p.toi == who.toi
+
+abbrev pub same_fti : Fti → Fti → Bool
+same_fti a b = a.transfer_length == b.transfer_length && a.symbol_length == b.symbol_length
+    && a.block_length == b.block_length && a.max_symbols == b.max_symbols
+
+-- the FTI has the packet's block and symbol
+abbrev pub in_range : Packet → Fti → Bool
+in_range p f = has_symbol f p.block p.esi
+
+-- the first fault of a packet before its symbol is looked at
+abbrev pub packet_fault : Identity → Fti → Packet → Option PlaceFault
+packet_fault who f p =
+    if not (is_of_identity who p) then Some OtherIdentity
+    else if not (same_fti p.fti f) then Some OtherFti
+    else if not (in_range p f) then Some Range
+    else None
+
+abbrev pub or_packet : Packet → Option PlaceFault → Result (Option Packet) PlaceFault
+or_packet p (Some e) = Err e
+or_packet p None = Ok (Some p)
+
+-- a packet that can't be compared is passed over
+abbrev pub look_by : Option Identity → Option Fti → Packet → Result (Option Packet) PlaceFault
+look_by (Some who) (Some f) p = or_packet p (packet_fault who f p)
+look_by (Some who) None p = Ok None
+look_by None f p = Ok None
+
+-- what is asked of a reading before its symbol: its first fault, or a packet in range, or nothing
+abbrev pub look : Scope → Reading → Result (Option Packet) PlaceFault
+look scope (Err r) = Err (NoPacket r)
+look scope (Ok p) = look_by scope.identity scope.fti p
+
+-- ---- what is wrong at a place
+
+-- a fault before the symbol is looked at, or what a judge says of the symbol
+pub data Wrong (R : Type 0) : Type 0 where
+  Faulty : PlaceFault → Wrong R
+  Judged : R → Wrong R
+
+-- a judge says by the symbols that came before what is wrong with one
+abbrev pub Judge : Type 0 → Type 0
+Judge R = List Symbol → Symbol → Option R
+
+abbrev pub judged : {R : Type 0} → Option R → Option (Wrong R)
+judged None = None
+judged (Some r) = Some (Judged r)
+
+abbrev pub wrong_by : {R : Type 0} → Judge R → List Symbol → Result (Option Packet) PlaceFault → Option (Wrong R)
+wrong_by judge earlier (Err e) = Some (Faulty e)
+wrong_by judge earlier (Ok None) = None
+wrong_by judge earlier (Ok (Some p)) = judged (judge earlier (symbol_of p))
+
+-- what is wrong with a reading after these symbols
+abbrev pub reading_wrong : {R : Type 0} → Judge R → Scope → List Symbol → Reading → Option (Wrong R)
+reading_wrong judge scope earlier r = wrong_by judge earlier (look scope r)
+
+-- a place and what is wrong there
+abbrev pub Found : Type 0 → Type 0
+Found R = Option (ℕ × Wrong R)
+
+abbrev pub or_else : {X : Type 0} → Option X → Option X → Option X
+or_else (Some x) other = Some x
+or_else None other = other
+
+abbrev pub at_place : {R : Type 0} → ℕ → Option (Wrong R) → Found R
+at_place i None = None
+at_place i (Some r) = Some (i, r)
+
+-- the first that is wrong after these symbols, where this scope holds
+abbrev pub wrong_after : {R : Type 0} → Judge R → Scope → List Symbol → List Placed → Found R
+wrong_after judge scope earlier [] = None
+wrong_after judge scope earlier (x ∷ xs) =
+    or_else (at_place x.place (reading_wrong judge scope earlier x.reading))
+    (wrong_after judge scope (earlier ++ symbols_in x.reading) xs)
+
+-- the least place at which something is wrong, and there the first
+abbrev pub first_wrong : {R : Type 0} → Judge R → Scope → List Placed → Found R
+first_wrong judge scope xs = wrong_after judge scope [] xs
+
+-- All that is said above of a list: the first that is wrong, the scope that holds, and the symbols.
+pub record Came (R : Type 0) : Type 0 where
+  pub wrong : Found R
+  pub scope : Scope
+  pub symbols : List Symbol
+
+abbrev pub came_with : {R : Type 0} → Judge R → Scope → List Reading → Came R
+came_with judge known rs = record {
+  wrong = first_wrong judge (scope_from known (counted rs)) (counted rs);
+  scope = scope_from known (counted rs);
+  symbols = symbols (counted rs);
+}
+
+-- nothing wrong at any place, and this FTI
+pub record IsClean {R : Type 0} (came : Came R) (f : Fti) : Type 0 where
+  pub clean : came.wrong ≡ None
+  pub some : came.scope.fti ≡ Some f
