@@ -6,7 +6,8 @@ use Rattle.poly.specs.Polynomial.{value, IsPolynomial}
 use Rattle.poly.proofs.Bytes.{bytes_by_recursion, same_polynomial}
 use Rattle.poly.proofs.Roots.{value_element}
 use Rattle.elim.specs.Grid.{Grid, entry, row_product}
-use Rattle.elim.specs.Matrices.{row_times, AreElements}
+use Rattle.gf256.specs.Sums.{row_times}
+use Rattle.elim.specs.Matrices.{AreElements}
 use Rattle.elim.specs.Generator.{Encodes}
 use Rattle.elim.proofs.RowProducts.{length-row_product}
 use Rattle.losses.specs.Numbers.{below}

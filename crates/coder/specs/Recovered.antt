@@ -2,7 +2,8 @@
 use Rattle.std.specs.Prelude.{◌≡◌, ◌≢◌, ℕ, ◌<◌, ◌≤◌, ◌+◌, ◌*◌, ◌^◌, Bool, true, List, length, filter, slice_index, slice_index_or, Option, Some, None, option_map}
 use Rattle.std.specs.Borrow.{Bor}
 use Rattle.gf256.specs.Arithmetic.{IsByte, sum_of, product}
-use Rattle.elim.specs.Matrices.{row_times, AreElements}
+use Rattle.gf256.specs.Sums.{row_times}
+use Rattle.elim.specs.Matrices.{AreElements}
 use Rattle.elim.specs.Grid.{Grid, entry, IsMatrix}
 use Rattle.elim.specs.Generator.{Encodes}
 use Rattle.elim.specs.Erasures.{AreRising}

@@ -3,7 +3,7 @@ ghost use Rattle.std.specs.Prelude.{◌≡◌, ◌≢◌, ◌<◌, ◌≤◌, �
 ghost use Rattle.gf256.specs.Arithmetic.{AreBytes, sum_of, product};
 ghost use Rattle.elim.specs.Generator.{Encodes};
 ghost use Rattle.elim.specs.Grid.{HasShape, entry};
-ghost use Rattle.elim.specs.Matrices.{row_times};
+ghost use Rattle.gf256.specs.Sums.{row_times};
 ghost use Rattle.elim.specs.Erasures.{AreErasures, AreRising, Recovers};
 ghost use Rattle.losses.specs.Numbers.{below};
 ghost use Rattle.coder.specs.Recovered.{arrived, byte_of, row_byte, HaveLength, AreThose, IsBlock, Keeps, Gives, SolvesOnly, AreMet, CanBeMet, MeetsOnly};

@@ -4,7 +4,8 @@ use Rattle.std.proofs.lemmas.List.{ext_get_or}
 use Rattle.gf256.specs.Arithmetic.{IsByte, AreBytes, sum_of, product, point}
 use Rattle.gf256.specs.ByteField.{byte_field, point_byte}
 use Rattle.poly.specs.Polynomial.{value, power_over}
-use Rattle.elim.specs.Matrices.{row_times, identity_entry, AreElements, AreInverseSquares}
+use Rattle.gf256.specs.Sums.{row_times}
+use Rattle.elim.specs.Matrices.{identity_entry, AreElements, AreInverseSquares}
 use Rattle.elim.specs.Vandermonde.{vandermonde_entry}
 use Rattle.elim.specs.Grid.{Grid, entry, row_product, HasElements, HasEntries, HasShape}
 use Rattle.elim.specs.Generator.{ArePoints, Interpolates}

@@ -1,7 +1,8 @@
 -- A block's source symbols that are missing, and as many repair symbols that came.
 use Rattle.std.specs.Prelude.{◌≡◌, ◌<◌, ◌≤◌, ℕ, List, length, slice_index}
 use Rattle.gf256.specs.Arithmetic.{sum_of, product, IsByte}
-use Rattle.elim.specs.Matrices.{row_times, AreElements}
+use Rattle.gf256.specs.Sums.{row_times}
+use Rattle.elim.specs.Matrices.{AreElements}
 use Rattle.elim.specs.Grid.{Grid, entry}
 
 -- each number is greater than those before it
