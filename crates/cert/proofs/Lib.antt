@@ -1,5 +1,3 @@
-pub mod Different
-pub mod Full
 pub mod Polynomials
 pub mod Promise
 pub mod Twinning

@@ -28,7 +28,7 @@ use Rattle.partition.proofs.Laws.{some_block, counts}
 use Rattle.lists.proofs.Lists.{both, all_append}
 use Rattle.cert.proofs.Polynomials.{forms}
 use Rattle.reception.proofs.OneAnswer.{same_readings}
-use Rattle.cert.proofs.Full.{fits_only}
+use Rattle.reception.proofs.Full.{fits_only}
 
 -- ---- selections
 

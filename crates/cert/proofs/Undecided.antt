@@ -23,7 +23,7 @@ use Rattle.alc.proofs.Packets.{packet_bytes}
 use Rattle.poly.proofs.Lists.{all_weaker}
 use Rattle.lists.proofs.Lists.{all_filter}
 use Rattle.lists.proofs.Below.{all_below, one_missing, at_passing}
-use Rattle.cert.proofs.Full.{found}
+use Rattle.reception.proofs.Full.{found}
 use Rattle.cert.proofs.Promise.{read_chosen, all_chosen, sound_all, unplaced_all, IsSoundReading, clean, fits_sound, solvable, all_right}
 use Rattle.cert.proofs.Twinning.{vanishing, twin_of, agrees, twin_form, differs, roots_held}
 

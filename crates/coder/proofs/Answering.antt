@@ -14,7 +14,7 @@ use Rattle.reception.specs.Answer.{Clash, AnswerTo, clash, came_of}
 use Rattle.std.proofs.lemmas.Bool.{and_from, eq-eqb}
 use Rattle.lists.proofs.Lists.{all_both}
 use Rattle.reception.proofs.Within.{within}
-use Rattle.cert.proofs.Full.{found}
+use Rattle.reception.proofs.Full.{found}
 use Rattle.coder.specs.Decoded.{AreWithin, IsEnoughAt, AnswerBy, Answers, Stand}
 use Rattle.coder.specs.Received.{AreReceived}
 use Rattle.coder.proofs.Counts.{held_is}

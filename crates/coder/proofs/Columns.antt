@@ -10,7 +10,7 @@ use Rattle.gf256.specs.ByteField.{byte_field}
 use Rattle.lists.specs.Bytes.{IsByte}
 use Rattle.partition.specs.Fti.{Fti, block_count, source_count, encoding_count, source_byte}
 use Rattle.elim.specs.Grid.{Grid, entry, row_product}
-use Rattle.elim.specs.Matrices.{row_times}
+use Rattle.gf256.specs.Sums.{row_times}
 use Rattle.elim.proofs.Sums.{sum_same}
 use Rattle.elim.proofs.RowProducts.{length-row_product, get_or-row_product}
 use Rattle.reception.specs.Symbols.{Agrees, ColumnAgrees}

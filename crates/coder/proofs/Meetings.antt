@@ -5,7 +5,7 @@ use Rattle.std.proofs.Common.{◌≡◌, ◌≢◌, ℕ, ◌+◌, ◌-◌, ◌<�
 use Rattle.std.proofs.lemmas.Bool.{cases_lt, cases_Bool}
 use Rattle.std.proofs.lemmas.List.{get_or-drop, length-drop}
 use Rattle.gf256.specs.Arithmetic.{sum_of, product}
-use Rattle.elim.specs.Matrices.{row_times}
+use Rattle.gf256.specs.Sums.{row_times}
 use Rattle.elim.specs.Grid.{Grid, entry}
 use Rattle.coder.specs.Recovered.{arrived, byte_of, row_byte, AreThose, Keeps, Gives, SolvesOnly, AreMet, CanBeMet, MeetsOnly}
 use Rattle.coder.proofs.Erased.{row_same}

@@ -10,7 +10,7 @@ use Rattle.poly.specs.Polynomial.{value}
 use Rattle.partition.specs.Fti.{Fti, IsValidFti, block_count, source_count, start_of, source_byte}
 use Rattle.partition.proofs.Laws.{start_step, rising_to}
 use Rattle.elim.specs.Grid.{Grid, entry, row_product}
-use Rattle.elim.specs.Matrices.{row_times}
+use Rattle.gf256.specs.Sums.{row_times}
 use Rattle.elim.proofs.RowProducts.{length-row_product}
 use Rattle.cert.specs.Certificate.{coefficient_count, polynomial}
 use Rattle.cert.specs.Verdict.{GivesAt}

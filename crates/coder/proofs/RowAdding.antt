@@ -5,7 +5,7 @@ use Rattle.std.proofs.lemmas.List.{get_or-drop}
 use Rattle.std.specs.Int.Bits.{xor_assoc}
 use Rattle.gf256.specs.Arithmetic.{sum_of, product}
 use Rattle.gf256.specs.ProductLaws.{product_comm}
-use Rattle.elim.specs.Matrices.{row_times}
+use Rattle.gf256.specs.Sums.{row_times}
 
 -- two products of equal factors
 pub products : (a b x y : ℕ) → a ≡ x → b ≡ y → a * b ≡ x * y

@@ -7,7 +7,7 @@ use Rattle.std.specs.Int.Bits.{xor_zero_r}
 use Rattle.gf256.specs.Arithmetic.{sum_of, product}
 use Rattle.gf256.specs.ProductLaws.{product_comm, product_zero}
 use Rattle.gf256.specs.Rows.{plus_scaled}
-use Rattle.elim.specs.Matrices.{row_times}
+use Rattle.gf256.specs.Sums.{row_times}
 
 -- a multiple of a row, added to the front of another
 pub plus_front : (scale : ℕ) (out row new : List ℕ) → length row ≤ length out → new ≡ plus_scaled scale (take (length row) out) row → (i : ℕ)

@@ -26,7 +26,7 @@ use Rattle.reception.specs.Reception.{ReadAll, counted_from, counted, symbols, S
 use Rattle.reception.proofs.Stepping.{stays}
 use Rattle.cert.specs.Certificate.{Certificate, IsCertificate, polynomial, certified_byte}
 use Rattle.cert.specs.Verdict.{GivesObject, IsCertifiedReading, AreCertified}
-use Rattle.cert.proofs.Full.{same_source}
+use Rattle.reception.proofs.Full.{same_source}
 use Rattle.cert.proofs.Polynomials.{forms}
 use Rattle.cert.proofs.Promise.{IsSound, IsSoundReading}
 use Rattle.partition.specs.declared.order.Order.{Order}

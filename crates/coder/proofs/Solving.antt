@@ -8,7 +8,7 @@ use Rattle.poly.specs.Polynomial.{value}
 use Rattle.partition.specs.Fti.{Fti, IsValidFti, block_count, source_place}
 use Rattle.lists.proofs.Lists.{all_both, all_to}
 use Rattle.reception.specs.Symbols.{Symbol, is_of, is_held, IsObject, Agrees, Fits, Solvable, AllFull, FullSolvable, FitsOnly, IsWithin}
-use Rattle.cert.proofs.Full.{found, fits_only}
+use Rattle.reception.proofs.Full.{found, fits_only}
 use Rattle.coder.specs.Received.{IsIndex}
 use Rattle.coder.specs.Columns.{ColumnExplained, BlockColumn}
 

@@ -7,12 +7,13 @@ use Rattle.poly.specs.Polynomial.{value, IsPolynomial}
 use Rattle.poly.proofs.Bytes.{bytes_by_recursion, same_polynomial}
 use Rattle.poly.proofs.Roots.{value_element}
 use Rattle.elim.specs.Grid.{Grid, entry, row_product}
-use Rattle.elim.specs.Matrices.{row_times, AreElements}
+use Rattle.gf256.specs.Sums.{row_times}
+use Rattle.elim.specs.Matrices.{AreElements}
 use Rattle.elim.specs.Generator.{Encodes}
 use Rattle.elim.proofs.RowProducts.{length-row_product}
 use Rattle.lists.specs.Below.{below}
 use Rattle.lists.proofs.Below.{all_below, length_below}
-use Rattle.cert.proofs.Different.{different_below}
+use Rattle.reception.proofs.Different.{different_below}
 use Rattle.coder.proofs.Columns.{row_of, length-row_of, get_or-row_of, bytes-row_of, product_at}
 
 -- the polynomial through a row at the first points: its values are the row's word

@@ -4,7 +4,7 @@ ghost use Rattle.lists.specs.Bytes.{AreBytes};
 ghost use Rattle.gf256.specs.Arithmetic.{sum_of, product};
 ghost use Rattle.elim.specs.Generator.{Encodes};
 ghost use Rattle.elim.specs.Grid.{HasShape, entry};
-ghost use Rattle.elim.specs.Matrices.{row_times};
+ghost use Rattle.gf256.specs.Sums.{row_times};
 ghost use Rattle.elim.specs.Erasures.{AreErasures, AreRising, Recovers};
 ghost use Rattle.lists.specs.Below.{below};
 ghost use Rattle.coder.specs.Recovered.{arrived, byte_of, row_byte, HaveLength, AreThose, IsBlock, Keeps, Gives, SolvesOnly, AreMet, CanBeMet, MeetsOnly};

@@ -3,7 +3,7 @@ ghost use Rattle.std.specs.Prelude.{◌≡◌, ◌<◌, ◌≤◌, ℕ, length, 
 ghost use Rattle.gf256.specs.Arithmetic.{sum_of, product};
 ghost use Rattle.partition.specs.Fti.{block_count, source_count, encoding_count, source_byte};
 ghost use Rattle.elim.specs.Grid.{entry};
-ghost use Rattle.elim.specs.Matrices.{row_times};
+ghost use Rattle.gf256.specs.Sums.{row_times};
 ghost use Rattle.reception.specs.Symbols.{Agrees};
 ghost use Rattle.coder.specs.BlockMatrices.{IsCodeOf};
 

@@ -7,7 +7,8 @@ use Rattle.gf256.specs.Arithmetic.{sum_of, product, point}
 use Rattle.gf256.specs.ByteField.{byte_field, point_byte}
 use Rattle.poly.specs.Polynomial.{IsWord, value, power_over}
 use Rattle.poly.proofs.Bytes.{bytes_from_recursion}
-use Rattle.elim.specs.Matrices.{row_times, AreElements, AreInverseSquares}
+use Rattle.gf256.specs.Sums.{row_times}
+use Rattle.elim.specs.Matrices.{AreElements, AreInverseSquares}
 use Rattle.elim.specs.Vandermonde.{vandermonde_entry}
 use Rattle.elim.specs.Grid.{Grid, entry, product_entry, row_product, HasElements, HasEntries, HasShape}
 use Rattle.elim.specs.Generator.{ArePoints, power_entry, IsGenerator, IsSystematic, Encodes}

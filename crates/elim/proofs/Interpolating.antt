@@ -5,7 +5,8 @@ use Rattle.lists.specs.Bytes.{IsByte, AreBytes}
 use Rattle.gf256.specs.Arithmetic.{sum_of, product, point}
 use Rattle.gf256.specs.ByteField.{byte_field, point_byte}
 use Rattle.poly.specs.Polynomial.{value, power_over}
-use Rattle.elim.specs.Matrices.{row_times, identity_entry, AreElements, AreInverseSquares}
+use Rattle.gf256.specs.Sums.{row_times}
+use Rattle.elim.specs.Matrices.{identity_entry, AreElements, AreInverseSquares}
 use Rattle.elim.specs.Vandermonde.{vandermonde_entry}
 use Rattle.elim.specs.Grid.{Grid, entry, row_product, HasElements, HasEntries, HasShape}
 use Rattle.elim.specs.Generator.{ArePoints, Interpolates}

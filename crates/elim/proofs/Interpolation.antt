@@ -6,7 +6,8 @@ use Rattle.gf256.specs.FieldLaws.{IsField}
 use Rattle.poly.specs.Polynomial.{value_over, power_over, AreDifferent}
 use Rattle.poly.proofs.Roots.{none_from_roots}
 use Rattle.poly.proofs.Powers.{power_element}
-use Rattle.elim.specs.Matrices.{sum_below, AreElements, dot, row_times}
+use Rattle.gf256.specs.Sums.{sum_below, dot, row_times}
+use Rattle.elim.specs.Matrices.{AreElements}
 use Rattle.elim.specs.Vandermonde.{vandermonde_entry}
 use Rattle.elim.proofs.Sums.{sum_element, sum_same, sum_scaled}
 

@@ -9,7 +9,8 @@ use Rattle.poly.specs.Polynomial.{value, value_over, IsWord, AreDifferent}
 use Rattle.poly.proofs.Bytes.{bytes_by_recursion, bytes_from_recursion}
 use Rattle.poly.proofs.Lists.{all_from_places, different_from_places}
 use Rattle.poly.proofs.Roots.{mul_zero, none_from_roots}
-use Rattle.elim.specs.Matrices.{row_times, identity_entry, AreElements, AreInverseSquares, IsSingularSquare}
+use Rattle.gf256.specs.Sums.{row_times}
+use Rattle.elim.specs.Matrices.{identity_entry, AreElements, AreInverseSquares, IsSingularSquare}
 use Rattle.elim.specs.Grid.{Grid, entry, row_product, HasElements}
 use Rattle.elim.specs.Generator.{Encodes}
 use Rattle.elim.specs.Erasures.{AreErasures, Recovers, part_entry}

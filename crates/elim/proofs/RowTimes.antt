@@ -5,7 +5,8 @@ use Rattle.std.proofs.lemmas.Bool.{cases_eq}
 use Rattle.std.proofs.lemmas.Bool.Decides.{nat_tests}
 use Rattle.gf256.specs.FieldLaws.{IsField}
 use Rattle.poly.proofs.Roots.{mul_zero}
-use Rattle.elim.specs.Matrices.{sum_below, AreElements, dot, row_times, identity_entry, AreInverseSquares}
+use Rattle.gf256.specs.Sums.{sum_below, dot, row_times}
+use Rattle.elim.specs.Matrices.{AreElements, identity_entry, AreInverseSquares}
 use Rattle.elim.proofs.Sums.{sum_element, sum_same, sum_of_sums, sum_scaled, sum_none, sum_one_place, sums_swapped}
 
 pub unit_here : {F : Type 0} (none one : F) (i j : ℕ) → i ≡ j → identity_entry none one i j ≡ one

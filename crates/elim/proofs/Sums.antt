@@ -4,7 +4,8 @@ use Rattle.std.proofs.Common.{◌∙◌, sym, ap, arith, inl, inr}
 use Rattle.std.proofs.lemmas.Bool.{cases_eq}
 use Rattle.gf256.specs.FieldLaws.{IsField}
 use Rattle.poly.proofs.Roots.{mul_zero, regrouped}
-use Rattle.elim.specs.Matrices.{sum_below, AreElements}
+use Rattle.gf256.specs.Sums.{sum_below}
+use Rattle.elim.specs.Matrices.{AreElements}
 
 module _ {F : Type 0} (element : F → Type 0) (add mul : F → F → F) (none one : F) (field : IsField element add mul none one) where
   pub sum_element : (f : ℕ → F) (n : ℕ) → AreElements element f → element (sum_below add none f n)

@@ -4,7 +4,8 @@ use Rattle.std.specs.List.{AllByRecursion}
 use Rattle.std.proofs.Common.{◌∙◌, sym, ap, arith}
 use Rattle.gf256.specs.FieldLaws.{IsField}
 use Rattle.poly.specs.Polynomial.{value_over, power_over, AreDifferent}
-use Rattle.elim.specs.Matrices.{AreElements, row_times, identity_entry, AreInverseSquares, IsSingularSquare}
+use Rattle.gf256.specs.Sums.{row_times}
+use Rattle.elim.specs.Matrices.{AreElements, identity_entry, AreInverseSquares, IsSingularSquare}
 use Rattle.elim.specs.Vandermonde.{vandermonde_entry}
 use Rattle.elim.proofs.Sums.{sum_same}
 use Rattle.elim.proofs.RowTimes.{unit_swapped, dot_element, dot_same, dot_picks, picks_dot, row_times_twice}

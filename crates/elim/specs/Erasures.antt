@@ -2,7 +2,8 @@
 use Rattle.std.specs.Prelude.{◌≡◌, ◌<◌, ◌≤◌, ℕ, List, length, slice_index}
 use Rattle.lists.specs.Bytes.{IsByte}
 use Rattle.gf256.specs.Arithmetic.{sum_of, product}
-use Rattle.elim.specs.Matrices.{row_times, AreElements}
+use Rattle.gf256.specs.Sums.{row_times}
+use Rattle.elim.specs.Matrices.{AreElements}
 use Rattle.elim.specs.Grid.{Grid, entry}
 
 -- each number is greater than those before it

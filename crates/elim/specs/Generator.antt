@@ -3,7 +3,8 @@ use Rattle.std.specs.Prelude.{◌≡◌, ◌<◌, ◌*◌, ℕ, List, length, ta
 use Rattle.lists.specs.Bytes.{AreBytes}
 use Rattle.gf256.specs.Arithmetic.{sum_of, product, point, alpha_to}
 use Rattle.poly.specs.Polynomial.{IsWord, value}
-use Rattle.elim.specs.Matrices.{row_times, identity_entry}
+use Rattle.gf256.specs.Sums.{row_times}
+use Rattle.elim.specs.Matrices.{identity_entry}
 use Rattle.elim.specs.Grid.{Grid, entry, row_product}
 
 -- the first n points

@@ -1,7 +1,8 @@
 -- A matrix as its counts of rows and columns and the list of its entries, row after row.
 use Rattle.std.specs.Prelude.{◌≡◌, ◌<◌, ◌≤◌, ◌+◌, ◌*◌, ℕ, List, length, map, slice_index_or}
 use Rattle.std.specs.List.{range_with_len}
-use Rattle.elim.specs.Matrices.{row_times, AreInverseSquares, IsSingularSquare}
+use Rattle.gf256.specs.Sums.{row_times}
+use Rattle.elim.specs.Matrices.{AreInverseSquares, IsSingularSquare}
 
 pub record Grid (F : Type 0) : Type 0 where
   pub rows : ℕ

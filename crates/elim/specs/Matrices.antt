@@ -1,22 +1,10 @@
 -- Rows and matrices as functions of places into a field: the matrix product, inverses, and when there is none.
-use Rattle.std.specs.Prelude.{◌≡◌, ◌≢◌, ◌<◌, ◌==◌, ℕ, zero, suc, if◌then◌else◌}
-
--- the sum of the first n values
-abbrev pub sum_below : {F : Type 0} → (F → F → F) → F → (ℕ → F) → ℕ → F
-sum_below add none f zero = none
-sum_below add none f (suc n) = add (sum_below add none f n) (f n)
+use Rattle.std.specs.Prelude.{◌≡◌, ◌≢◌, ◌<◌, ◌==◌, ℕ, if◌then◌else◌}
+use Rattle.gf256.specs.Sums.{row_times}
 
 -- each value is an element
 abbrev pub AreElements : {F : Type 0} → (F → Type 0) → (ℕ → F) → Type 0
 AreElements element f = (i : ℕ) → element (f i)
-
--- the sum of the products at each of the first n places
-abbrev pub dot : {F : Type 0} → (F → F → F) → (F → F → F) → F → (ℕ → F) → (ℕ → F) → ℕ → F
-dot add mul none a b n = sum_below add none (λ i. mul (a i) (b i)) n
-
--- entry j of a row of n values times a matrix
-abbrev pub row_times : {F : Type 0} → (F → F → F) → (F → F → F) → F → (ℕ → F) → (ℕ → ℕ → F) → ℕ → ℕ → F
-row_times add mul none x m n j = dot add mul none x (λ i. m i j) n
 
 -- the entries of the identity
 abbrev pub identity_entry : {F : Type 0} → F → F → ℕ → ℕ → F

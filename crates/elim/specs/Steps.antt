@@ -1,6 +1,7 @@
 -- Steps on matrices: an entry that is set, steps on rows, and what a column of the elimination keeps.
 use Rattle.std.specs.Prelude.{◌≡◌, ◌≢◌, ◌<◌, ◌+◌, ℕ}
-use Rattle.elim.specs.Matrices.{dot, identity_entry, AreElements}
+use Rattle.gf256.specs.Sums.{dot}
+use Rattle.elim.specs.Matrices.{identity_entry, AreElements}
 
 -- one entry is v, and the others stay
 pub record IsSet {F : Type 0} (n i j : ℕ) (v : F) (old new : ℕ → ℕ → F) : Type 0 where

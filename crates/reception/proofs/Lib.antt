@@ -4,3 +4,5 @@ pub mod Walking
 pub mod Within
 pub mod Looks
 pub mod OneAnswer
+pub mod Different
+pub mod Full

@@ -3,7 +3,7 @@ use Rattle.std.proofs.lemmas.Bool.{cases_eq}
 use Rattle.gf256.specs.Arithmetic.{sum_of, product}
 use Rattle.partition.specs.Fti.{start_of, source_count, source_byte}
 use Rattle.elim.specs.Grid.{entry}
-use Rattle.elim.specs.Matrices.{row_times}
+use Rattle.gf256.specs.Sums.{row_times}
 use Rattle.coder.proofs.Columns.{bytes_fit}
 use Rattle.coder.proofs.Places.{place_within, remainders_apart, gives_from_places}
 use Rattle.coder.proofs.RowAdding.{products}

@@ -4,7 +4,7 @@ use Rattle.std.specs.Prelude.{slice_index, slice_index_or, option_map, Some, Non
 use Rattle.std.proofs.lemmas.Bool.{cases_eq}
 use Rattle.gf256.specs.Arithmetic.{sum_of, product}
 use Rattle.elim.specs.Grid.{Grid, entry}
-use Rattle.elim.specs.Matrices.{row_times}
+use Rattle.gf256.specs.Sums.{row_times}
 use Rattle.coder.specs.Recovered.{arrived, byte_of, row_byte}
 use Rattle.coder.proofs.Erased.{sum_itself, sum_none_same}
 use Rattle.coder.proofs.recovering.give.Goals as goal

@@ -4,7 +4,7 @@ use Rattle.std.proofs.lemmas.Bool.{cases_eq}
 use Rattle.std.proofs.lemmas.List.{get_or-replicate}
 use Rattle.gf256.specs.Arithmetic.{sum_of, product}
 use Rattle.elim.specs.Grid.{entry}
-use Rattle.elim.specs.Matrices.{row_times}
+use Rattle.gf256.specs.Sums.{row_times}
 use Rattle.elim.proofs.Rising.{place_same}
 use Rattle.coder.specs.Recovered.{row_byte}
 use Rattle.coder.proofs.Erased.{sum_with_none}

@@ -1,7 +1,7 @@
 use Rattle.std.proofs.Common.{◌≡◌, ◌≢◌, ◌<◌, ℕ, length, slice_index}
 use Rattle.gf256.specs.Arithmetic.{sum_of, product}
 use Rattle.elim.specs.Grid.{entry}
-use Rattle.elim.specs.Matrices.{row_times}
+use Rattle.gf256.specs.Sums.{row_times}
 use Rattle.coder.specs.Recovered.{row_byte}
 use Rattle.coder.proofs.recovering.put_solved.Given as goal
 

@@ -2,7 +2,7 @@ use Rattle.std.proofs.Common.{◌≡◌, ◌<◌, ℕ, length, slice_index}
 use Rattle.gf256.specs.Arithmetic.{sum_of, product}
 use Rattle.partition.specs.Fti.{source_byte}
 use Rattle.elim.specs.Grid.{entry}
-use Rattle.elim.specs.Matrices.{row_times}
+use Rattle.gf256.specs.Sums.{row_times}
 use Rattle.coder.proofs.rows.combine.Given as goal
 
 abbrev pub invariant-loop-i : goal.invariant-loop-i

@@ -1,5 +1,5 @@
 use Rattle.std.proofs.Common.{◌≡◌}
-use Rattle.elim.specs.Matrices.{row_times}
+use Rattle.gf256.specs.Sums.{row_times}
 use Rattle.elim.specs.Grid.{entry}
 use Rattle.elim.proofs.combine.entry_of_product.Given as goal
 

@@ -1,5 +1,5 @@
 use Rattle.elim.proofs.Filling.{IsFilledTo}
-use Rattle.elim.specs.Matrices.{row_times}
+use Rattle.gf256.specs.Sums.{row_times}
 use Rattle.elim.specs.Grid.{entry, HasElements, HasShape}
 use Rattle.elim.proofs.combine.product.Given as goal
 

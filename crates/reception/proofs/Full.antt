@@ -15,7 +15,7 @@ use Rattle.lists.proofs.Lists.{both, either, all_both, all_filter, all_take, som
 use Rattle.lists.proofs.Below.{all_below, length_below}
 use Rattle.poly.specs.Polynomial.{AreDifferent}
 use Rattle.poly.proofs.Bytes.{same_polynomial}
-use Rattle.cert.proofs.Different.{different_below, different_filter, different_take}
+use Rattle.reception.proofs.Different.{different_below, different_filter, different_take}
 
 -- a symbol that was found, and what holds of all that came
 pub found : (P : Symbol → Type 0) (b j : ℕ) (came : List Symbol) → is_held came b j ≡ true → AllByRecursion P came

@@ -1,0 +1,15 @@
+use Rattle.std.proofs.Common.{◌+◌, ◌-◌, ◌*◌, ◌/◌, arith}
+use Rattle.gf256.proofs.RowPlaces.{rows_fit}
+use Rattle.evaluation.proofs.LevelBytes.{first_level}
+use Rattle.evaluation.proofs.levels.write_part.Goals as goal
+
+pub add_products-requires-clause-reach : goal.add_products-requires-clause-reach
+add_products-requires-clause-reach c =
+    let fit = rows_fit 0 ((c.args.k - c.args.v + 15 - 1) / 15) 17 (15 * c.args.width) (omega arith) in
+    omega arith
+
+pub returns : goal.returns
+returns c = λ w y lw ly.
+    first_level c.write_powers.new.matrix c.args.coefficients.now 15 17 ((c.args.k - c.args.v + 15 - 1) / 15) c.args.k c.args.width y c.args.v w _ _
+    c.requires.coefficients ly (omega arith) (λ t lt. omega arith) (λ t lt. omega arith)
+    (c.add_products.ensures w y lw ly) (c.clear.ensures.zeros (w * c.args.width + y)) (λ t lt. c.write_powers.ensures w t lw lt)

@@ -1,0 +1,137 @@
+//! The values at the first points, in one level or in two.
+ghost use Rattle.std.specs.Prelude.{◌≡◌, ◌<◌, ◌≤◌, ◌+◌, ◌*◌, ◌^◌, ℕ, length, slice_index};
+ghost use Rattle.evaluation.specs.Columns.{AreValues, AreSums, IsPart, AreParts};
+
+use crate::powers::write_powers;
+use gf256::add_products;
+
+/// How many parts the coefficients are split into: part v has those whose numbers leave the rest v.
+const PARTS: usize = 15;
+
+/// How many values `x^PARTS` takes over the 255 points.
+const POWERS: usize = 17;
+
+/// Fewer coefficients are not worth two levels, by measurement.
+const LEAST_COUNT: usize = 80;
+
+/// Makes row j of `symbols` the values at point j of the polynomials whose coefficients stand in
+/// the columns of `coefficients`. There are `n` rows of symbols and `k` of coefficients, each of
+/// `width` bytes; `sums` is room to work in, and what it has afterwards means nothing.
+///
+/// With x = alpha^j a polynomial is the sum over v < 15 of x^v times a polynomial in x^15, which
+/// takes 17 values over all points. So from some `k` on two sums of few products replace one of `k`
+/// for each value.
+pub fn evaluate(
+    symbols: &mut [u8],
+    n: usize,
+    coefficients: &[u8],
+    k: usize,
+    width: usize,
+    sums: &mut [u8],
+)
+    requires few { k ≤ 255 }
+    requires points { n ≤ 255 }
+    requires symbols { length symbols.old ≡ n * width }
+    requires coefficients { length coefficients.now ≡ k * width }
+    requires sums { length sums.old ≡ 255 * width }
+    ensures { AreValues coefficients.now k width n symbols.new }
+{
+    clear(symbols);
+    if k < LEAST_COUNT {
+        add_values(symbols, n, coefficients, k, width);
+    } else {
+        write_parts(sums, coefficients, k, width);
+        add_parts(symbols, n, coefficients, k, width, sums);
+    }
+}
+
+fn clear(bytes: &mut [u8])
+    ensures len { length bytes.new ≡ length bytes.old }
+    ensures zeros { (p : ℕ) → slice_index bytes.new p ≡ 0 }
+{
+    bytes.fill(0);
+}
+
+// In one level: each value is the sum of the coefficients times their powers.
+fn add_values(symbols: &mut [u8], n: usize, coefficients: &[u8], k: usize, width: usize)
+    requires few { k < 80 }
+    requires points { n ≤ 255 }
+    requires symbols { length symbols.old ≡ n * width }
+    requires coefficients { length coefficients.now ≡ k * width }
+    requires zeros { (p : ℕ) → slice_index symbols.old p ≡ 0 }
+    ensures { AreSums coefficients.now k width n symbols.new }
+{
+    let mut matrix = [0u8; 20145];
+    let powers = &mut matrix[..n * k];
+    write_powers(powers, n, k, 0, 1, 1);
+    add_products(symbols, n, powers, coefficients, k, width, width);
+}
+
+// The first level: for each part and each power of alpha below 17 the sum of the part's
+// coefficients times their powers.
+fn write_parts(sums: &mut [u8], coefficients: &[u8], k: usize, width: usize)
+    requires parts { 15 ≤ k }
+    requires few { k ≤ 255 }
+    requires coefficients { length coefficients.now ≡ k * width }
+    requires room { length sums.old ≡ 255 * width }
+    ensures len { length sums.new ≡ length sums.old }
+    ensures parts { AreParts coefficients.now width sums.new }
+{
+    let size = POWERS * width;
+    for v in 0..PARTS {
+        let from = v * size;
+        write_part(&mut sums[from..from + size], v, coefficients, k, width);
+    }
+}
+
+// The sums of one part.
+fn write_part(sums: &mut [u8], v: usize, coefficients: &[u8], k: usize, width: usize)
+    requires part { v < 15 }
+    requires narrow { 256 * width < 2 ^ 64 }
+    requires parts { 15 ≤ k }
+    requires few { k ≤ 255 }
+    requires coefficients { length coefficients.now ≡ k * width }
+    requires room { length sums.old ≡ 17 * width }
+    ensures { IsPart coefficients.now width v sums.new }
+{
+    let count = (k - v + PARTS - 1) / PARTS;
+    let mut matrix = [0u8; 289];
+    let powers = &mut matrix[..POWERS * count];
+    write_powers(powers, POWERS, count, v, PARTS, 1);
+    clear(sums);
+    add_products(
+        sums,
+        POWERS,
+        powers,
+        &coefficients[v * width..],
+        count,
+        PARTS * width,
+        width,
+    );
+}
+
+// The second level: 17 rows of values side by side are the sum of the parts, each times a power of
+// alpha.
+fn add_parts(symbols: &mut [u8], n: usize, coefficients: &[u8], k: usize, width: usize, sums: &[u8])
+    requires few { k ≤ 255 }
+    requires points { n ≤ 255 }
+    requires symbols { length symbols.old ≡ n * width }
+    requires coefficients { length coefficients.now ≡ k * width }
+    requires room { length sums.now ≡ 255 * width }
+    requires zeros { (p : ℕ) → slice_index symbols.old p ≡ 0 }
+    requires parts { AreParts coefficients.now width sums.now }
+    ensures { AreSums coefficients.now k width n symbols.new }
+{
+    let size = POWERS * width;
+    let whole = n / POWERS;
+    let rest = n % POWERS;
+    let mut matrix = [0u8; 240];
+    let powers = &mut matrix[..(whole + 1) * PARTS];
+    write_powers(powers, whole + 1, PARTS, 0, 1, POWERS);
+    let (front, back) = symbols.split_at_mut(whole * size);
+    let (front_powers, back_powers) = powers.split_at(whole * PARTS);
+    add_products(front, whole, front_powers, sums, PARTS, size, size);
+    if rest > 0 {
+        add_products(back, 1, back_powers, sums, PARTS, size, rest * width);
+    }
+}

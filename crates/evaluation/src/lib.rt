@@ -1,0 +1,10 @@
+//! The values of polynomials at the points of the code, many polynomials at a time.
+//!
+//! Row i of the coefficients has coefficient i of each polynomial, a byte column for each. So a row
+//! of values is a sum of rows of coefficients, each times a power of alpha.
+#![tactic(auto)]
+
+mod levels;
+mod powers;
+
+pub use levels::evaluate;
