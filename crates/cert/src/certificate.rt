@@ -1,7 +1,7 @@
 //! The certificate: the polynomial of each byte column of each block.
-ghost use Rattle.std.specs.Prelude.{◌≡◌, ◌≢◌, ◌+◌, ◌*◌, ◌<◌, ◌≤◌, ◌^◌, ◌++◌, [], ℕ, List, Some, true, take, drop, length, vec_len, MatchOption, MatchResult, OnOk, OnErr, IfOk, IfErr, IfSome, slice_index};
+ghost use Rattle.std.specs.Prelude.{◌≡◌, ◌≢◌, ◌+◌, ◌*◌, ◌<◌, ◌≤◌, ◌^◌, ◌++◌, [], ℕ, List, Some, true, false, take, drop, length, vec_len, MatchOption, MatchResult, OnOk, OnErr, IfOk, IfErr, IfSome, slice_index};
 ghost use Rattle.std.specs.Io.KnownBytes.{Consumes, IsAtEnd, Appends};
-ghost use Rattle.session.specs.Frames.{AppendsSome};
+ghost use Rattle.session.specs.Pieces.{AppendsSome};
 ghost use Rattle.partition.specs.Fti.{IsValidFti, symbol_count, source_count, block_count};
 ghost use Rattle.cert.specs.Certificate.{Certificate as CertificateValue, IsCertificate, coefficient_count, polynomial as polynomial_of, head_text, certificate_text, text_fault, IsCertFault, IsReadFault, IsTold, IsHead};
 
@@ -121,11 +121,14 @@ fn read_coefficients<R: Read>(
     reader: &mut R,
     count: u64,
 ) -> Result<Vec<u8>, CertFault>
-    ensures ok { IfOk result (λ v. Consumes (R.remaining reader.old) (R.remaining reader.new) v.items) }
+    ensures ok { IfOk result (λ v.
+        Consumes (R.remaining reader.old) (R.remaining reader.new) v.items) }
     ensures end { OnOk result (IsAtEnd (R.remaining reader.new)) }
     ensures count { IfOk result (λ v. vec_len v ≡ count) }
-    ensures size { IfErr result (λ e. e ≡ CertFault.Size → IfSome (R.remaining reader.old) (λ x. length x ≢ count)) }
+    ensures size { IfErr result (λ e.
+        e ≡ CertFault.Size → IfSome (R.remaining reader.old) (λ x. length x ≢ count)) }
     ensures fault { IfErr result (λ e. IsReadFault e (R.failed reader.new)) }
+    ensures unsound { IfErr result (λ e. e ≡ CertFault.Io → R.sound reader.old ≡ false) }
 {
     match read_to_end(alloc, reader) {
         Ok(bytes) if bytes.len() as u64 == count => Ok(bytes),
@@ -183,12 +186,15 @@ impl Certificate {
     }
 
     /// The certificate in all bytes up to the reader's end. Memory grows with the bytes that come, never with what the
-    /// first ones claim. After a fault it isn't told how much was consumed.
+    /// first ones claim. `Magic`, `Fti` and `Size` tell why the bytes are none, `Io` that the reader has failed, which a
+    /// sound one never does. After a fault it isn't told how much was consumed.
     pub fn read<R: Read>(alloc: Global, reader: &mut R) -> Result<Certificate, CertFault>
         // All that was left is the certificate's text.
         ensures ok { IfOk result (λ z. IfSome (R.remaining reader.old) (λ x. x ≡ certificate_text z)) }
         ensures end { OnOk result (IsAtEnd (R.remaining reader.new)) }
-        ensures fault { IfErr result (λ e. IsCertFault e (R.remaining reader.old) (R.failed reader.new)) }
+        ensures fault { IfErr result (λ e.
+            IsCertFault e (R.remaining reader.old) (R.failed reader.new)) }
+        ensures unsound { IfErr result (λ e. e ≡ CertFault.Io → R.sound reader.old ≡ false) }
     {
         let mut head = [0u8; HEAD_LENGTH];
         let Ok(got) = fill(reader, &mut head) else {
@@ -207,11 +213,15 @@ impl Certificate {
         }
     }
 
-    /// Writes the certificate's text. After a fault the writer has a beginning of it.
+    /// Writes the certificate's text. `Io` comes only where the writer has failed, and never where it has room for the
+    /// text. It has a beginning of it then.
     pub fn write<W: Write>(&self, writer: &mut W) -> Result<(), CertFault>
-        ensures ok { OnOk result (Appends (W.contents writer.old) (W.contents writer.new) (certificate_text self.now)) }
-        ensures err { OnErr result (AppendsSome (W.contents writer.old) (W.contents writer.new) (certificate_text self.now)) }
+        ensures ok { OnOk result
+            (Appends (W.contents writer.old) (W.contents writer.new) (certificate_text self.now)) }
+        ensures err { OnErr result
+            (AppendsSome (W.contents writer.old) (W.contents writer.new) (certificate_text self.now)) }
         ensures io { IfErr result (λ e. (e ≡ CertFault.Io) × (W.failed writer.new ≡ true)) }
+        ensures full { OnErr result (W.room writer.old < length (certificate_text self.now)) }
     {
         let mut head = [0u8; HEAD_LENGTH];
         write_head(&mut head, &self.fti);

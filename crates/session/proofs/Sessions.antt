@@ -1,11 +1,12 @@
 -- Frames of a growing list of datagrams.
-use Rattle.std.proofs.Common.{◌≡◌, ℕ, zero, suc, ◌<◌, List, [], ◌∷◌, ◌++◌, Option, map, drop, take, length, sym, ap, ◌∙◌, arith, get_or}
+use Rattle.std.proofs.Common.{◌≡◌, ℕ, zero, suc, ◌<◌, ◌≤◌, ◌+◌, length-append, List, [], ◌∷◌, ◌++◌, Option, map, drop, take, length, sym, ap, ◌∙◌, arith, get_or}
 use Rattle.std.proofs.lemmas.Grind.{flat_map-append}
 use Rattle.std.proofs.lemmas.List.{append-nil, map-append, take-append-drop}
 use Rattle.std.proofs.Math.Seq.{drop-cons}
 use Rattle.std.specs.Io.KnownBytes.{Appends}
-use Rattle.session.proofs.Writes.{then_some, front_some}
-use Rattle.session.specs.Frames.{frame, frames, IsDatagram, AreDatagrams, AppendsSome}
+use Rattle.streams.proofs.Writes.{then_some, front_some}
+use Rattle.streams.specs.Pieces.{AppendsSome}
+use Rattle.session.specs.Frames.{frame, frames, IsDatagram, AreDatagrams}
 
 -- one datagram more
 pub datagrams_push : (ds : List (List ℕ)) (d : List ℕ) → AreDatagrams ds → IsDatagram d → AreDatagrams (ds ++ d ∷ [])
@@ -30,3 +31,14 @@ pub some_behind : {X : Type 0} (f : X → List ℕ) (a b c : Option (List ℕ)) 
     → Appends a b (frames (map f (take i xs))) → AppendsSome b c (frame (f x)) → AppendsSome a c (frames (map f xs))
 some_behind f a b c xs i x l e p q =
     rw (frames_split f xs i x l e) (then_some a b c (frames (map f (take i xs))) _ p (front_some b c (frame (f x)) (frames (map f (drop (suc i) xs))) q))
+
+-- how many bytes the frames have up to a member, and with it
+pub front_size : {X : Type 0} (f : X → List ℕ) (xs : List X) (i : ℕ) (x : X) → i < length xs → x ≡ get_or xs i x
+    → length (frames (map f (take i xs))) + length (frame (f x)) ≤ length (frames (map f xs))
+front_size f xs i x l e =
+    let before : List ℕ = frames (map f (take i xs)) in
+    let behind : List ℕ = frames (map f (drop (suc i) xs)) in
+    let whole : length (frames (map f xs)) ≡ length (before ++ (frame (f x) ++ behind)) = ap length (frames_split f xs i x l e) in
+    let outer : length (before ++ (frame (f x) ++ behind)) ≡ length before + length (frame (f x) ++ behind) = length-append before (frame (f x) ++ behind) in
+    let inner : length (frame (f x) ++ behind) ≡ length (frame (f x)) + length behind = length-append (frame (f x)) behind in
+    omega (arith, whole, outer, inner)

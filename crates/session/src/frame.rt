@@ -1,12 +1,13 @@
 //! Frames: a datagram behind its length in two bytes.
-ghost use Rattle.std.specs.Prelude.{◌≡◌, ◌≤◌, ◌<◌, ◌+◌, true, None, length, take, IfOk, IfErr, OnErr, OnOk, IfSome};
+ghost use Rattle.std.specs.Prelude.{◌≡◌, ◌≤◌, ◌<◌, ◌+◌, true, false, None, length, take, IfOk, IfErr, OnErr, OnOk, IfSome};
 ghost use Rattle.std.specs.Io.KnownBytes.{Consumes, IsAtEnd, Appends};
 ghost use Rattle.byteorder.specs.Endian.{big_bytes};
-ghost use Rattle.session.specs.Frames.{frame, most_bytes, IsReadFault, AppendsSome};
+ghost use Rattle.streams.specs.Pieces.{AppendsSome};
+ghost use Rattle.session.specs.Frames.{frame, most_bytes, IsReadFault};
 
-use crate::io::{Failed, Read, Write};
 use byteorder::{BigEndian, ByteOrder};
 use std::alloc::Global;
+use streams::{Read, Write, fill, write_all};
 use thiserror::Error;
 
 /// The most bytes of a datagram.
@@ -34,32 +35,18 @@ pub enum FrameFault {
     NoSuchPlace(usize),
 }
 
-/// Fills `buf` as far as the reader goes, and answers how far.
-pub fn fill<R: Read>(reader: &mut R, buf: &mut [u8]) -> Result<usize, Failed>
-    ensures bound { IfOk result (λ n. n ≤ length buf.old) }
-    ensures bytes { IfOk result (λ n. Consumes (R.remaining reader.old) (R.remaining reader.new) (take n buf.new)) }
-    ensures end { IfOk result (λ n. n < length buf.old → IsAtEnd (R.remaining reader.new)) }
-    ensures falls { IfOk result (λ n. R.left reader.new + n ≤ R.left reader.old) }
-    ensures fails { OnErr result (R.failed reader.new ≡ true) }
-{
-    let mut at = 0;
-    while at < buf.len() {
-        let n = reader.read(&mut buf[at..])?;
-        if n == 0 {
-            return Ok(at);
-        }
-        at += n;
-    }
-    Ok(at)
-}
-
 /// The length of the next datagram, or `None` at the end.
 fn read_length<R: Read>(reader: &mut R) -> Result<Option<usize>, FrameFault>
-    ensures some { IfOk result (λ o. IfSome o (λ n. Consumes (R.remaining reader.old) (R.remaining reader.new) (big_bytes 2 n))) }
+    ensures some { IfOk result (λ o. IfSome o (λ n.
+        Consumes (R.remaining reader.old) (R.remaining reader.new) (big_bytes 2 n))) }
     ensures short { IfOk result (λ o. IfSome o (λ n. n ≤ most_bytes)) }
-    ensures none { IfOk result (λ o. o ≡ None → IsAtEnd (R.remaining reader.old) × IsAtEnd (R.remaining reader.new)) }
-    ensures fault { IfErr result (λ e. IsReadFault e (R.remaining reader.old) (R.remaining reader.new) (R.failed reader.new)) }
+    ensures none { IfOk result (λ o.
+        o ≡ None → IsAtEnd (R.remaining reader.old) × IsAtEnd (R.remaining reader.new)) }
+    ensures fault { IfErr result (λ e.
+        IsReadFault e (R.remaining reader.old) (R.remaining reader.new) (R.failed reader.new)) }
     ensures falls { IfOk result (λ o. IfSome o (λ n. R.left reader.new < R.left reader.old)) }
+    ensures unsound { IfErr result (λ e. e ≡ FrameFault.Io → R.sound reader.old ≡ false) }
+    ensures stays { R.sound reader.new ≡ R.sound reader.old }
 {
     let mut head = [0u8; 2];
     let Ok(got) = fill(reader, &mut head) else {
@@ -79,14 +66,20 @@ fn read_length<R: Read>(reader: &mut R) -> Result<Option<usize>, FrameFault>
     Ok(Some(length))
 }
 
-/// The next datagram, or `None` at the end. After a fault the caller stops reading.
+/// The next datagram, or `None` at the end. `CutLength`, `CutDatagram` and `TooLong` tell why none stands there, `Io` that
+/// the reader has failed, which a sound one never does. After a fault the caller stops reading.
 pub fn read_next<R: Read>(alloc: Global, reader: &mut R) -> Result<Option<Vec<u8>>, FrameFault>
     // Just its frame is consumed.
-    ensures some { IfOk result (λ o. IfSome o (λ d. Consumes (R.remaining reader.old) (R.remaining reader.new) (frame d.items))) }
+    ensures some { IfOk result (λ o. IfSome o (λ d.
+        Consumes (R.remaining reader.old) (R.remaining reader.new) (frame d.items))) }
     ensures short { IfOk result (λ o. IfSome o (λ d. length d.items ≤ most_bytes)) }
-    ensures none { IfOk result (λ o. o ≡ None → IsAtEnd (R.remaining reader.old) × IsAtEnd (R.remaining reader.new)) }
-    ensures fault { IfErr result (λ e. IsReadFault e (R.remaining reader.old) (R.remaining reader.new) (R.failed reader.new)) }
+    ensures none { IfOk result (λ o.
+        o ≡ None → IsAtEnd (R.remaining reader.old) × IsAtEnd (R.remaining reader.new)) }
+    ensures fault { IfErr result (λ e.
+        IsReadFault e (R.remaining reader.old) (R.remaining reader.new) (R.failed reader.new)) }
     ensures falls { IfOk result (λ o. IfSome o (λ d. R.left reader.new < R.left reader.old)) }
+    ensures unsound { IfErr result (λ e. e ≡ FrameFault.Io → R.sound reader.old ≡ false) }
+    ensures stays { R.sound reader.new ≡ R.sound reader.old }
 {
     let Some(length) = read_length(reader)? else {
         return Ok(None);
@@ -103,25 +96,18 @@ pub fn read_next<R: Read>(alloc: Global, reader: &mut R) -> Result<Option<Vec<u8
     Ok(Some(datagram))
 }
 
-/// Writes all of `bytes`, in as many pieces as the writer takes.
-pub fn write_all<W: Write>(writer: &mut W, bytes: &[u8]) -> Result<(), Failed>
-    ensures ok { OnOk result (Appends (W.contents writer.old) (W.contents writer.new) bytes.now) }
-    ensures err { OnErr result (AppendsSome (W.contents writer.old) (W.contents writer.new) bytes.now) }
-    ensures fails { OnErr result (W.failed writer.new ≡ true) }
-{
-    let mut at = 0;
-    while at < bytes.len() {
-        at += writer.write(&bytes[at..])?;
-    }
-    Ok(())
-}
-
-/// Writes a datagram's frame. After a fault the writer has a beginning of it.
+/// Writes a datagram's frame. `Io` comes only where the writer has failed, and never where it has room for the frame. It
+/// has a beginning of it then.
 pub fn write_one<W: Write>(writer: &mut W, datagram: &[u8]) -> Result<(), FrameFault>
     requires { length datagram.now ≤ most_bytes }
-    ensures ok { OnOk result (Appends (W.contents writer.old) (W.contents writer.new) (frame datagram.now)) }
-    ensures err { OnErr result (AppendsSome (W.contents writer.old) (W.contents writer.new) (frame datagram.now)) }
+    ensures ok { OnOk result
+        (Appends (W.contents writer.old) (W.contents writer.new) (frame datagram.now)) }
+    ensures err { OnErr result
+        (AppendsSome (W.contents writer.old) (W.contents writer.new) (frame datagram.now)) }
     ensures io { IfErr result (λ e. (e ≡ FrameFault.Io) × (W.failed writer.new ≡ true)) }
+    ensures full { OnErr result (W.room writer.old < length (frame datagram.now)) }
+    ensures fills { OnOk result
+        (W.room writer.old ≤ W.room writer.new + length (frame datagram.now)) }
 {
     let mut head = [0u8; 2];
     BigEndian::write_u16(&mut head, datagram.len() as u16);

@@ -1,12 +1,13 @@
 //! A session as the list of its datagrams.
-ghost use Rattle.std.specs.Prelude.{◌≡◌, ◌==◌, ◌≤◌, ◌<◌, true, ◌∷◌, ◌++◌, [], ℕ, None, Some, length, map, OnOk, OnErr, IfErr, IfOk, IfSome, slice_index, slice_index_or};
+ghost use Rattle.std.specs.Prelude.{◌≡◌, ◌==◌, ◌≤◌, ◌<◌, true, false, ◌∷◌, ◌++◌, [], ℕ, None, Some, length, map, OnOk, OnErr, IfErr, IfOk, IfSome, slice_index, slice_index_or};
 ghost use Rattle.std.specs.Io.KnownBytes.{Appends, IsAtEnd};
-ghost use Rattle.session.specs.Frames.{most_bytes, frames, AreDatagrams, IsFramed, IsSessionFault, AppendsSome};
+ghost use Rattle.streams.specs.Pieces.{AppendsSome};
+ghost use Rattle.session.specs.Frames.{most_bytes, frames, AreDatagrams, IsFramed, IsSessionFault};
 
 use crate::frame::{FrameFault, read_next, write_one};
-use crate::io::{Read, Write};
 use std::alloc::{AllocError, Global};
 use std::marker::Model;
+use streams::{Read, Write};
 
 // What the type of a slice says: its members are bytes.
 fn are_bytes(bytes: &[u8])
@@ -76,12 +77,15 @@ impl Session {
         }
     }
 
-    /// All datagrams up to the reader's end.
+    /// All datagrams up to the reader's end. `CutLength`, `CutDatagram` and `TooLong` tell what follows whole frames, `Io`
+    /// that the reader has failed, which a sound one never does.
     pub fn read<R: Read>(alloc: Global, reader: &mut R) -> Result<Session, FrameFault>
         // All that was left is the session's frames.
         ensures ok { IfOk result (λ s. IfSome (R.remaining reader.old) (IsFramed s)) }
         ensures end { OnOk result (IsAtEnd (R.remaining reader.new)) }
-        ensures fault { IfErr result (λ e. IsSessionFault e (R.remaining reader.old) (R.failed reader.new)) }
+        ensures fault { IfErr result (λ e.
+            IsSessionFault e (R.remaining reader.old) (R.failed reader.new)) }
+        ensures unsound { IfErr result (λ e. e ≡ FrameFault.Io → R.sound reader.old ≡ false) }
     {
         let mut session = Session::new(alloc);
         loop {
@@ -94,11 +98,15 @@ impl Session {
         }
     }
 
-    /// Writes all frames. After a fault the writer has a beginning of them.
+    /// Writes all frames. `Io` comes only where the writer has failed, and never where it has room for them. It has a
+    /// beginning of them then.
     pub fn write<W: Write>(&self, writer: &mut W) -> Result<(), FrameFault>
-        ensures ok { OnOk result (Appends (W.contents writer.old) (W.contents writer.new) (frames self.now)) }
-        ensures err { OnErr result (AppendsSome (W.contents writer.old) (W.contents writer.new) (frames self.now)) }
+        ensures ok { OnOk result
+            (Appends (W.contents writer.old) (W.contents writer.new) (frames self.now)) }
+        ensures err { OnErr result
+            (AppendsSome (W.contents writer.old) (W.contents writer.new) (frames self.now)) }
         ensures io { IfErr result (λ e. (e ≡ FrameFault.Io) × (W.failed writer.new ≡ true)) }
+        ensures full { OnErr result (W.room writer.old < length (frames self.now)) }
         ensures datagrams { AreDatagrams self.now }
     {
         for datagram in &self.datagrams {

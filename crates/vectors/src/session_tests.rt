@@ -1,8 +1,10 @@
 //! Sessions and their frames.
 use session::{
-    Device, FrameFault, Pieces, Session, Sink, fill, read_next, read_to_end, write_all, write_one,
+    Device, Failed, FrameFault, Pieces, Read, ReadFault, Session, Sink, Write, fill, read_next,
+    read_to_end, write_all, write_one,
 };
 use std::alloc::Global;
+use std::io::{self, BufWriter, ErrorKind};
 use std::test::Fail;
 
 #[test]
@@ -104,6 +106,145 @@ fn devices(rt: HostRuntime) -> Result<(), Fail> {
     let mut writer = Device::new(Vec::new(rt.alloc()));
     session.write(&mut writer)?;
     assert_eq!(rt; writer.into_inner().as_slice(), [0, 1, 7].as_slice());
+    Ok(())
+}
+
+// Gives these bytes, two at a time, and then fails once, with the bytes behind them still to come.
+#[derive(Drop)]
+struct Broken<'a> {
+    before: &'a [u8],
+    behind: &'a [u8],
+    broken: bool,
+}
+
+impl io::Read for Broken<'_> {
+    fn read(&mut self, buf: &mut [u8]) -> io::Result<usize> {
+        if self.before.is_empty() && !self.broken {
+            self.broken = true;
+            return Err(io::Error::from(ErrorKind::Other));
+        }
+        let rest = if self.broken {
+            self.behind
+        } else {
+            self.before
+        };
+        let n = rest.len().min(buf.len()).min(2);
+        buf[..n].copy_from_slice(&rest[..n]);
+        if self.broken {
+            self.behind = &rest[n..];
+        } else {
+            self.before = &rest[n..];
+        }
+        Ok(n)
+    }
+}
+
+fn breaking_between<'a>(before: &'a [u8], behind: &'a [u8]) -> Device<Broken<'a>> {
+    Device::new(Broken {
+        before,
+        behind,
+        broken: false,
+    })
+}
+
+// A read that fails in mid-stream is told as such, wherever it stands, and so is each call behind it.
+#[test]
+fn a_reader_that_fails(rt: HostRuntime) -> Result<(), Fail> {
+    let file = [0, 1, 0, 0, 1, 1, 0, 1, 2];
+    for at in 0..=9usize {
+        let (before, behind) = file.split_at(at);
+        let mut reader = breaking_between(before, behind);
+        match Session::read(rt.alloc(), &mut reader) {
+            Ok(_) => assert!(rt; false, "read"),
+            Err(fault) => assert_eq!(rt; fault, FrameFault::Io, "broken at {at}"),
+        }
+        assert_eq!(rt; reader.read(&mut [0; 4]), Err(Failed));
+        let mut reader = breaking_between(before, behind);
+        match read_to_end(rt.alloc(), &mut reader) {
+            Ok(_) => assert!(rt; false, "read"),
+            Err(fault) => assert_eq!(rt; fault, ReadFault::Io, "broken at {at}"),
+        }
+        let mut reader = breaking_between(before, behind);
+        assert_eq!(rt; fill(&mut reader, &mut [0; 9]).is_ok(), at == 9);
+    }
+    Ok(())
+}
+
+// Takes so many bytes, two at a time, and then fails once. It is never flushed.
+#[derive(Drop)]
+struct Full {
+    taken: Vec<u8>,
+    room: usize,
+}
+
+impl io::Write for Full {
+    fn write(&mut self, bytes: &[u8]) -> io::Result<usize> {
+        if self.room == 0 {
+            self.room = 9;
+            return Err(io::Error::from(ErrorKind::Other));
+        }
+        let n = bytes.len().min(self.room).min(2);
+        self.taken.extend_from_slice(&bytes[..n])?;
+        self.room -= n;
+        Ok(n)
+    }
+
+    fn flush(&mut self) -> io::Result<()> {
+        Err(io::Error::from(ErrorKind::Other))
+    }
+}
+
+// A write that fails in mid-stream is told as such, and so is each call behind it, with a beginning written.
+#[test]
+fn a_device_that_is_full(rt: HostRuntime) -> Result<(), Fail> {
+    let session = three(rt.alloc())?;
+    let file = [0, 1, 0, 0, 1, 1, 0, 1, 2];
+    for room in 0..=9usize {
+        let mut writer = Device::new(Full {
+            taken: Vec::new(rt.alloc()),
+            room,
+        });
+        let written = session.write(&mut writer);
+        assert_eq!(rt; written.is_ok(), room == 9);
+        assert_eq!(rt; writer.write(&[7]), Err(Failed), "room {room}");
+        let Full { taken, room: _ } = writer.into_inner();
+        assert_eq!(rt; taken.as_slice(), file.get(..room).unwrap_or(&[]));
+    }
+    Ok(())
+}
+
+// A buffer passes all on when it is flushed, and an error of the last flush is told.
+#[test]
+fn buffers(rt: HostRuntime) -> Result<(), Fail> {
+    let taken = Vec::new(rt.alloc());
+    let mut writer = Device::new(BufWriter::with_capacity(rt.alloc(), 4, taken)?);
+    assert_eq!(rt; write_all(&mut writer, &[1, 2, 3]), Ok(()));
+    assert_eq!(rt; writer.flush(), Ok(()));
+    let (taken, left) = writer.into_inner().into_parts();
+    assert_eq!(rt; taken.as_slice(), [1, 2, 3].as_slice());
+    assert!(rt; left.is_empty());
+    let full = Full {
+        taken: Vec::new(rt.alloc()),
+        room: 9,
+    };
+    let mut writer = Device::new(BufWriter::with_capacity(rt.alloc(), 4, full)?);
+    assert_eq!(rt; write_all(&mut writer, &[1, 2, 3]), Ok(()));
+    assert_eq!(rt; writer.flush(), Err(Failed));
+    assert_eq!(rt; writer.flush(), Err(Failed));
+    let (full, left) = writer.into_inner().into_parts();
+    drop(full);
+    drop(left);
+    Ok(())
+}
+
+// A writer with memory for all of its room takes just that.
+#[test]
+fn a_reserved_sink(rt: HostRuntime) -> Result<(), Fail> {
+    let mut sink = Sink::reserved(rt.alloc(), 2, 5)?;
+    assert_eq!(rt; write_all(&mut sink, &[1, 2, 3]), Ok(()));
+    assert_eq!(rt; write_all(&mut sink, &[4, 5]), Ok(()));
+    assert_eq!(rt; write_all(&mut sink, &[6]), Err(Failed));
+    assert_eq!(rt; sink.into_bytes().as_slice(), [1, 2, 3, 4, 5].as_slice());
     Ok(())
 }
 

@@ -1,8 +1,8 @@
 use Rattle.std.proofs.Common.{◌≡◌, ◌-◌, arith, ℕ, drop, take, length, length-drop, length-take}
 use Rattle.std.proofs.lemmas.List.{take_all}
 use Rattle.std.proofs.Math.Seq.{take-add}
-use Rattle.session.proofs.Writes.{then_appends}
-use Rattle.session.proofs.frame.write_all.Goals as goal
+use Rattle.streams.proofs.Writes.{then_appends}
+use Rattle.streams.proofs.filling.write_all.Goals as goal
 
 pub loop-at-preserved : goal.loop-at-preserved
 loop-at-preserved g c =
@@ -11,4 +11,5 @@ loop-at-preserved g c =
     record {
       within = omega (arith, c.in_ok-at.ensures.bound, length-drop {A = ℕ}, length-take {A = ℕ});
       bytes = rw (take-add c.loop-at.at c.in_ok-at.field-0 c.args.bytes.now) (then_appends _ _ _ _ _ c.loop-at.invariant.bytes (rw all at c.in_ok-at.ensures.bytes));
+      room = omega (arith, c.loop-at.invariant.room, c.in_ok-at.ensures.fills);
     }

@@ -17,13 +17,19 @@ pub trait Read {
     /// Whether a call has failed. From then on each does.
     ghost failed: { Self → Bool };
 
-    /// Reads into the front of `buf`, and answers how many bytes. Zero for a `buf` that isn't empty is the end.
+    /// Whether no call can fail. That never changes.
+    ghost sound: { Self → Bool };
+
+    /// Reads into the front of `buf`, and answers how many bytes. Zero for a `buf` that isn't empty is the end. `Failed`
+    /// never comes from a sound reader; from then on each call fails.
     fn read(&mut self, buf: &mut [u8]) -> Result<usize, Failed>
         ensures bound { IfOk result (λ n. n ≤ length buf.old) }
         ensures bytes { ReadConsumes (remaining self.old) (remaining self.new) result buf.new }
         ensures falls { IfOk result (λ n. left self.new + n ≤ left self.old) }
         ensures fails { OnErr result (failed self.new ≡ true) }
-        ensures works { OnOk result ((failed self.old ≡ false) × (failed self.new ≡ false)) };
+        ensures works { OnOk result ((failed self.old ≡ false) × (failed self.new ≡ false)) }
+        ensures unsound { OnErr result (sound self.old ≡ false) }
+        ensures stays { sound self.new ≡ sound self.old };
 }
 
 /// A sink of bytes.
@@ -34,11 +40,17 @@ pub trait Write {
     /// Whether a call has failed. From then on each does.
     ghost failed: { Self → Bool };
 
-    /// Writes a front part of `bytes`, and answers how many: at least one, unless `bytes` is empty.
+    /// So many bytes more are taken for sure, before a call fails.
+    ghost room: { Self → ℕ };
+
+    /// Writes a front part of `bytes`, and answers how many: at least one, unless `bytes` is empty. `Failed` comes only
+    /// where there is no room that is sure; from then on each call fails.
     fn write(&mut self, bytes: &[u8]) -> Result<usize, Failed>
         ensures bound { IfOk result (λ n. n ≤ length bytes.now) }
         ensures some { IfOk result (λ n. 0 < length bytes.now → 0 < n) }
         ensures bytes { WriteAppends (contents self.old) (contents self.new) result bytes.now }
         ensures fails { OnErr result (failed self.new ≡ true) }
-        ensures works { OnOk result ((failed self.old ≡ false) × (failed self.new ≡ false)) };
+        ensures works { OnOk result ((failed self.old ≡ false) × (failed self.new ≡ false)) }
+        ensures full { OnErr result (room self.old ≡ 0) }
+        ensures fills { IfOk result (λ n. room self.old ≤ room self.new + n) };
 }

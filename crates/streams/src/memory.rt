@@ -1,0 +1,165 @@
+//! A reader and a writer in memory.
+ghost use Rattle.std.specs.Prelude.{◌≡◌, ◌<◌, ◌≤◌, ◌+◌, ◌^◌, ◌-◌, [], Some, true, false, min, length, IsOk, IfOk, OnOk, OnErr};
+ghost use Rattle.std.specs.Io.KnownBytes.{ReadConsumes, WriteAppends};
+
+use crate::io::{Failed, Read, Write};
+use std::alloc::{AllocError, Global};
+
+/// A reader of bytes in memory, which gives `most` at a time at most. It never fails.
+#[derive(Drop)]
+pub struct Pieces<'a> {
+    bytes: &'a [u8],
+    most: usize,
+    ghost some: { 0 < most },
+}
+
+impl<'a> Pieces<'a> {
+    /// A reader of these bytes.
+    pub fn new(bytes: &'a [u8], most: usize) -> Pieces<'a>
+        requires { 0 < most }
+        ensures bytes { result.bytes.now ≡ bytes.now }
+        ensures most { result.most ≡ most }
+    {
+        Pieces { bytes, most }
+    }
+}
+
+impl Read for Pieces<'_> {
+    ghost remaining = { λ p. Some p.bytes.now };
+
+    ghost left = { λ p. length p.bytes.now };
+
+    ghost failed = { λ _. false };
+
+    ghost sound = { λ _. true };
+
+    /// Gives as many bytes as there are, as `buf` holds, and as come at a time.
+    fn read(&mut self, buf: &mut [u8]) -> Result<usize, Failed>
+        ensures ok { IsOk result }
+        ensures count { IfOk result (λ n.
+            n ≡ min (min (length buf.old) (length self.old.bytes.now)) self.old.most) }
+        ensures bytes { ReadConsumes (Some self.old.bytes.now)
+            (Some self.new.bytes.now) result buf.new }
+        ensures falls { IfOk result (λ n.
+            length self.new.bytes.now + n ≤ length self.old.bytes.now) }
+        ensures most { self.new.most ≡ self.old.most }
+    {
+        let n = buf.len().min(self.bytes.len()).min(self.most);
+        let (front, rest) = self.bytes.split_at(n);
+        buf[..n].copy_from_slice(front);
+        self.bytes = rest;
+        Ok(n)
+    }
+}
+
+/// A writer that keeps what is written, and takes `most` bytes at a time at most. It fails where `room` bytes were
+/// written and more come, and where there is no memory for them.
+#[derive(Drop)]
+pub struct Sink {
+    bytes: Vec<u8>,
+    most: usize,
+    room: usize,
+    failed: bool,
+    ghost some: { 0 < most },
+    ghost fits: { length bytes.items ≤ room },
+}
+
+impl Sink {
+    ghost use Rattle.streams.specs.Sinks.{sure_room};
+
+    /// A writer that takes all that there is memory for.
+    pub fn new(alloc: Global) -> Sink
+        ensures empty { result.bytes.items ≡ [] }
+        ensures most { result.most ≡ 2 ^ 64 - 1 }
+        ensures room { result.room ≡ 2 ^ 64 - 1 }
+        ensures failed { result.failed ≡ false }
+    {
+        Sink::limited(alloc, usize::MAX, usize::MAX)
+    }
+
+    /// A writer of at most `room` bytes, `most` at a time.
+    pub fn limited(alloc: Global, most: usize, room: usize) -> Sink
+        requires { 0 < most }
+        ensures empty { result.bytes.items ≡ [] }
+        ensures most { result.most ≡ most }
+        ensures room { result.room ≡ room }
+        ensures failed { result.failed ≡ false }
+    {
+        Sink {
+            bytes: Vec::new(alloc),
+            most,
+            room,
+            failed: false,
+        }
+    }
+
+    /// A writer of `room` bytes, `most` at a time. There is memory for all of them, so that it fails only behind them.
+    pub fn reserved(alloc: Global, most: usize, room: usize) -> Result<Sink, AllocError>
+        requires { 0 < most }
+        ensures empty { IfOk result (λ sink. sink.bytes.items ≡ []) }
+        ensures most { IfOk result (λ sink. sink.most ≡ most) }
+        ensures room { IfOk result (λ sink. sink.room ≡ room) }
+        ensures failed { IfOk result (λ sink. sink.failed ≡ false) }
+        ensures sure { IfOk result (λ sink. sure_room sink ≡ room) }
+    {
+        Ok(Sink {
+            bytes: Vec::with_capacity(alloc, room)?,
+            most,
+            room,
+            failed: false,
+        })
+    }
+
+    /// What was written.
+    pub fn bytes(&self) -> &[u8]
+        ensures { result.now ≡ self.now.bytes.items }
+    {
+        self.bytes.as_slice()
+    }
+
+    /// What was written, by value.
+    pub fn into_bytes(self) -> Vec<u8>
+        ensures { result.items ≡ self.bytes.items }
+    {
+        self.bytes
+    }
+}
+
+impl Write for Sink {
+    ghost use Rattle.streams.specs.Sinks.{sure_room};
+
+    ghost contents = { λ s. Some s.bytes.items };
+
+    ghost failed = { λ s. s.failed };
+
+    ghost room = { λ s. sure_room s };
+
+    /// Takes as many bytes as come, as it takes at a time, and as there is room for.
+    fn write(&mut self, bytes: &[u8]) -> Result<usize, Failed>
+        ensures count { IfOk result (λ n. n ≡ min (min (length bytes.now) self.old.most)
+            (self.old.room - length self.old.bytes.items)) }
+        ensures some { IfOk result (λ n. 0 < length bytes.now → 0 < n) }
+        ensures bytes { WriteAppends (Some self.old.bytes.items)
+            (Some self.new.bytes.items) result bytes.now }
+        ensures fails { OnErr result (self.new.failed ≡ true) }
+        ensures works { OnOk result ((self.old.failed ≡ false) × (self.new.failed ≡ false)) }
+        ensures full { OnErr result (sure_room self.old ≡ 0) }
+        ensures fills { IfOk result (λ n. sure_room self.old ≤ sure_room self.new + n) }
+        ensures most { self.new.most ≡ self.old.most }
+        ensures room { self.new.room ≡ self.old.room }
+    {
+        let room = self.room - self.bytes.len();
+        if self.failed || (room == 0 && !bytes.is_empty()) {
+            self.failed = true;
+            return Err(Failed);
+        }
+        let n = bytes.len().min(self.most).min(room);
+        match self.bytes.extend_from_slice(&bytes[..n]) {
+            Ok(()) => Ok(n),
+            Err(_) => {
+                self.failed = true;
+                Err(Failed)
+            }
+        }
+    }
+}
