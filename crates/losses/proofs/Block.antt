@@ -13,7 +13,7 @@ use Rattle.losses.specs.Costs.{copies, count, is_cheap, total}
 use Rattle.losses.specs.Losses.{IsBefore, IsRising}
 use Rattle.lists.specs.Below.{below}
 use Rattle.losses.specs.Numbers.{has, is_number, present}
-use Rattle.losses.specs.declared.number.Number.{Number}
+use Rattle.losses.specs.Number.{Number}
 
 pub any_count : {X : Type 0} (p : X → Bool) (xs : List X) → list_any p xs ≡ true → 1 ≤ count p xs
 any_count p [] h = absurd (cc)

@@ -8,7 +8,7 @@ use Rattle.lists.specs.Selection.{lost_from, rest_from}
 use Rattle.lists.proofs.Lists.{all_to}
 use Rattle.losses.specs.Costs.{copies, count, total}
 use Rattle.lists.specs.Below.{below}
-use Rattle.losses.specs.declared.number.Number.{Number}
+use Rattle.losses.specs.Number.{Number}
 
 -- whether a number is one of block b's whose ESI passes
 abbrev pub is_of_those : ℕ → (ℕ → Bool) → Number → Bool

@@ -14,3 +14,5 @@ pub mod Weights
 pub mod Pairs
 pub mod Gathered
 pub mod Transfer
+pub mod Lines
+pub mod GroupFigures

@@ -8,7 +8,7 @@ use Rattle.losses.specs.Costs.{copies, count}
 use Rattle.losses.specs.Members.{has_esi, member, members, outside, place_at}
 use Rattle.losses.specs.Numbers.{has, is_number}
 use Rattle.losses.specs.declared.groups.Member.{Member}
-use Rattle.losses.specs.declared.number.Number.{Number}
+use Rattle.losses.specs.Number.{Number}
 
 -- a member with this ESI that isn't lost
 abbrev pub is_left : (ℕ → Bool) → ℕ → Member → Bool

@@ -4,7 +4,7 @@ use Rattle.std.specs.List.{AllByRecursion}
 use Rattle.std.proofs.Common.{◌∙◌, sym, subst, arith, leb-true}
 use Rattle.std.proofs.lemmas.Bool.{leb-false, lt-leb}
 use Rattle.lists.specs.Selection.{is_among, rest}
-use Rattle.losses.specs.declared.number.Number.{Number}
+use Rattle.losses.specs.Number.{Number}
 use Rattle.losses.specs.Numbers.{present}
 use Rattle.losses.specs.Losses.{IsBefore, IsKill, IsMargin, is_enough, blocks_by}
 use Rattle.losses.proofs.Copies.{HasByteEsi}

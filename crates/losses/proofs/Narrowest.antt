@@ -11,7 +11,7 @@ use Rattle.losses.specs.Members.{ArePlaced, IsLeastGap, different_outside, membe
 use Rattle.lists.specs.Below.{below}
 use Rattle.losses.specs.Numbers.{has, present}
 use Rattle.losses.specs.declared.groups.Member.{Member}
-use Rattle.losses.specs.declared.number.Number.{Number}
+use Rattle.losses.specs.Number.{Number}
 
 -- places of members are places of the list, and rise
 pub record AreBetween (i n : ℕ) (qs : List Member) : Type 0 where

@@ -7,7 +7,7 @@ use Rattle.lists.specs.Selection.{is_run, rest, rest_from}
 use Rattle.losses.specs.Losses.{IsBurst, is_enough, blocks_by}
 use Rattle.lists.specs.Below.{below}
 use Rattle.losses.specs.Numbers.{has, is_number, present}
-use Rattle.losses.specs.declared.number.Number.{Number}
+use Rattle.losses.specs.Number.{Number}
 
 -- m neighbours from place a on are places of the list, and without them block b has fewer than k symbols
 pub record IsShortRun (b k : ℕ) (ps : List Number) (a m : ℕ) : Type 0 where

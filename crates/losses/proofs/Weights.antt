@@ -16,7 +16,7 @@ use Rattle.losses.specs.Members.{different_outside, filled, has_esi, member, mem
 use Rattle.lists.specs.Below.{below}
 use Rattle.losses.specs.Numbers.{has, present}
 use Rattle.losses.specs.declared.groups.Member.{Member}
-use Rattle.losses.specs.declared.number.Number.{Number}
+use Rattle.losses.specs.Number.{Number}
 
 total_at : (f g : ℕ → ℕ) (xs : List ℕ) → AllByRecursion (λ x. f x ≡ g x) xs → total f xs ≡ total g xs
 total_at f g xs h = total_same f g xs h

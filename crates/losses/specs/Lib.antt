@@ -1,4 +1,6 @@
+pub mod Number
 pub mod Numbers
 pub mod Members
 pub mod Losses
+pub mod Groups
 pub mod Costs

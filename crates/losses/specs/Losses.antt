@@ -2,7 +2,7 @@
 use Rattle.std.specs.Prelude.{◌≡◌, ℕ, ◌+◌, ◌<◌, ◌≤◌, ◌⊎◌, Bool, true, false, not, nat_le, List, [], ◌∷◌, length, filter, slice_index}
 use Rattle.std.specs.List.{AllByRecursion}
 use Rattle.lists.specs.Selection.{rest, loss_size, is_run, is_among}
-use Rattle.losses.specs.declared.number.Number.{Number}
+use Rattle.losses.specs.Number.{Number}
 use Rattle.lists.specs.Below.{below}
 use Rattle.losses.specs.Numbers.{has}
 

@@ -1,6 +1,6 @@
 -- The members of one block: their places, rising, and their ESIs.
 use Rattle.std.specs.Prelude.{◌≡◌, ℕ, ◌+◌, ◌-◌, ◌<◌, ◌≤◌, Bool, ◌==◌, nat_lt, cond, List, [], ◌∷◌, length, filter, count_by, take, drop, slice_index, slice_index_or}
-use Rattle.losses.specs.declared.number.Number.{Number}
+use Rattle.losses.specs.Number.{Number}
 use Rattle.losses.specs.declared.groups.Member.{Member}
 use Rattle.lists.specs.Below.{below}
 

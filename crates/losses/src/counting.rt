@@ -1,12 +1,8 @@
-//! Different symbols of each block.
-ghost use Rattle.std.specs.Prelude.{◌≡◌, ◌<◌, ℕ, length, count_by, IfOk, slice_index};
-ghost use Rattle.std.specs.List.{AllByRecursion};
-ghost use Rattle.losses.specs.Numbers.{present};
+//! Different symbols of a group.
+ghost use Rattle.std.specs.Prelude.{◌≡◌, ◌<◌, ℕ, count_by, slice_index};
 ghost use Rattle.losses.specs.Members.{has_esi, filled};
 
-use crate::groups::{Member, grouped};
-use crate::number::Number;
-use std::alloc::{AllocError, Global};
+use crate::groups::Member;
 
 /// How often each ESI stands among the members.
 pub(crate) fn copies_of(members: &[Member]) -> [usize; 256]
@@ -31,18 +27,4 @@ pub(crate) fn different(copies: &[usize; 256]) -> usize
         }
     }
     different
-}
-
-/// For each block, how many different ESIs of it there are.
-pub fn counts(alloc: Global, numbers: &[Number], blocks: usize) -> Result<Vec<usize>, AllocError>
-    requires { AllByRecursion (λ n. n.block < blocks) numbers.now }
-    ensures len { IfOk result (λ v. length v.items ≡ blocks) }
-    ensures counts { IfOk result (λ v. (b : ℕ) → b < blocks → slice_index v.items b ≡ length (present b numbers.now)) }
-{
-    let groups = grouped(alloc, numbers, blocks)?;
-    let mut counts = Vec::with_capacity(alloc, blocks)?;
-    for group in &groups {
-        counts.push(different(&copies_of(group.as_slice())))?;
-    }
-    Ok(counts)
 }

@@ -1,47 +1,28 @@
-//! The packets of each block.
-ghost use Rattle.std.specs.Prelude.{◌≡◌, ◌<◌, ℕ, length, IfOk, slice_index, slice_index_or};
-ghost use Rattle.std.specs.List.{AllByRecursion};
-ghost use Rattle.losses.specs.Members.{member, members};
+//! Groups of places.
+ghost use Rattle.std.specs.Prelude.{◌≡◌};
+ghost use Rattle.losses.specs.Members.{different_outside};
 
-use crate::number::Number;
-use std::alloc::{AllocError, Global};
+use crate::counting::{copies_of, different};
 
-/// A packet of a block: its place in the session, and its encoding symbol ID.
+/// A place of a list, counted from 0, and the encoding symbol ID of the symbol there.
 #[derive(Clone, Copy, PartialEq, Eq, Debug)]
-pub(crate) struct Member {
-    pub(crate) place: usize,
-    pub(crate) esi: u8,
+pub struct Member {
+    pub place: usize,
+    pub esi: u8,
 }
 
-// The member that the number at a place gives its block. That its ESI is a byte is what its type says.
-fn member_at(place: usize, number: Number) -> Member
-    ensures value { result ≡ member place number.esi }
-    ensures byte { number.esi < 256 }
-{
-    Member {
-        place,
-        esi: number.esi,
-    }
+/// The places of a list that hold the symbols of one block, rising, and how many different symbols it needs.
+#[derive(Drop, Debug)]
+pub struct Group {
+    pub need: usize,
+    pub members: Vec<Member>,
 }
 
-/// The members of each block, in their order.
-pub(crate) fn grouped(
-    alloc: Global,
-    numbers: &[Number],
-    blocks: usize,
-) -> Result<Vec<Vec<Member>>, AllocError>
-    requires { AllByRecursion (λ n. n.block < blocks) numbers.now }
-    ensures len { IfOk result (λ v. length v.items ≡ blocks) }
-    ensures bytes { IfOk result (λ _. AllByRecursion (λ n. n.esi < 256) numbers.now) }
-    ensures each { IfOk result (λ v. (b : ℕ) (d : _) → b < blocks → (slice_index_or v.items b d).items ≡ members b 0 numbers.now) }
-{
-    let mut groups = Vec::with_capacity(alloc, blocks)?;
-    for _block in 0..blocks {
-        groups.push(Vec::new(alloc))?;
+impl Group {
+    /// How many different symbols the group has.
+    pub fn different(&self) -> usize
+        ensures { result ≡ different_outside self.now.members.items 0 0 }
+    {
+        different(&copies_of(self.members.as_slice()))
     }
-    for (place, number) in numbers.iter().enumerate() {
-        let member = member_at(place, *number);
-        groups[number.block as usize].push(member)?;
-    }
-    Ok(groups)
 }

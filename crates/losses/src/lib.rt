@@ -1,14 +1,15 @@
-//! What a session can lose, by the numbers of its packets.
+//! What a list can lose, by the places of each block's symbols: of all losses of places the margin, the kill and the burst.
+//!
+//! A place may be in one group, in several or in none; nothing here knows of packets. The definitions are of all losses
+//! (`specs/Losses`), and hold of groups of places (`specs/Groups`) as of any list; the code counts copies and slides a window.
 #![tactic(auto)]
 
 mod counting;
 mod groups;
-mod number;
 mod pricing;
 mod report;
 mod weighing;
 mod window;
 
-pub use counting::counts;
-pub use number::Number;
+pub use groups::{Group, Member};
 pub use report::{Figures, figures_of};

@@ -1,42 +1,41 @@
 //! Margin, kill and burst.
-ghost use Rattle.std.specs.Prelude.{ℕ, ◌+◌, ◌<◌, ◌≤◌, IfOk, slice_index, length};
-ghost use Rattle.std.specs.List.{AllByRecursion};
-ghost use Rattle.losses.specs.Numbers.{present};
-ghost use Rattle.losses.specs.Losses.{blocks_by, IsMargin, IsKill, IsBurst};
+ghost use Rattle.std.specs.Prelude.{ℕ, ◌+◌, ◌<◌, IfOk, length};
+ghost use Rattle.losses.specs.Groups.{groups_of, blocks_of_groups, places, AreGroups};
+ghost use Rattle.losses.specs.Losses.{IsMargin, IsKill, IsBurst};
 
-use crate::groups::grouped;
-use crate::number::Number;
+use crate::groups::Group;
 use crate::weighing::{doomed_places, weigh};
 use std::alloc::{AllocError, Global};
 
-/// What packets can lose.
+/// What a list can lose.
 #[derive(Drop, Debug)]
 pub struct Figures {
-    /// The greatest number of packets whose loss, whichever they are, leaves no block short.
+    /// The greatest number of places whose loss, whichever they are, leaves no group short.
     pub margin: usize,
-    /// The places of one packet more, rising, whose loss does leave a block short.
+    /// One place more, rising, whose loss does leave a group short.
     pub kill: Vec<usize>,
-    /// The greatest number of neighbouring packets whose loss, wherever they stand, leaves no block short.
+    /// The greatest number of neighbouring places whose loss, wherever they stand, leaves no group short.
     pub burst: usize,
 }
 
-/// The figures of packets with these numbers, where block b needs `needs[b]` different ESIs and has them.
-pub fn figures_of(alloc: Global, numbers: &[Number], needs: &[usize]) -> Result<Figures, AllocError>
-    requires some_block { 0 < length needs.now }
-    requires blocks { AllByRecursion (λ n. n.block < length needs.now) numbers.now }
-    requires some { (b : ℕ) → b < length needs.now → 0 < slice_index needs.now b }
-    requires full { (b : ℕ) → b < length needs.now → slice_index needs.now b ≤ length (present b numbers.now) }
-    ensures margin { IfOk result (λ r. IsMargin (blocks_by needs.now) numbers.now r.margin) }
-    ensures kill { IfOk result (λ r. IsKill (blocks_by needs.now) numbers.now (r.margin + 1) r.kill.items) }
-    ensures burst { IfOk result (λ r. IsBurst (blocks_by needs.now) numbers.now r.burst) }
+/// The figures of groups, one at least, that have the symbols that they need. They are those of a list of any length that
+/// has the groups' places.
+pub fn figures_of(alloc: Global, groups: &[Group]) -> Result<Figures, AllocError>
+    requires some { 0 < length groups.now }
+    requires groups { (n : ℕ) × AreGroups (groups_of groups.now) n }
+    ensures margin { IfOk result (λ r. (n : ℕ) → AreGroups (groups_of groups.now) n
+        → IsMargin (blocks_of_groups (groups_of groups.now)) (places 0 n) r.margin) }
+    ensures kill { IfOk result (λ r. (n : ℕ) → AreGroups (groups_of groups.now) n
+        → IsKill (blocks_of_groups (groups_of groups.now)) (places 0 n) (r.margin + 1) r.kill.items) }
+    ensures burst { IfOk result (λ r. (n : ℕ) → AreGroups (groups_of groups.now) n
+        → IsBurst (blocks_of_groups (groups_of groups.now)) (places 0 n) r.burst) }
 {
-    let groups = grouped(alloc, numbers, needs.len())?;
-    let first = weigh(alloc, &groups[0], needs[0])?;
+    let first = weigh(alloc, &groups[0].members, groups[0].need)?;
     let mut at = 0;
     let mut threshold = first.threshold;
     let mut burst = first.gap;
-    for block in 1..needs.len() {
-        let weight = weigh(alloc, &groups[block], needs[block])?;
+    for block in 1..groups.len() {
+        let weight = weigh(alloc, &groups[block].members, groups[block].need)?;
         if weight.threshold.cost < threshold.cost {
             threshold = weight.threshold;
             at = block;
@@ -45,7 +44,7 @@ pub fn figures_of(alloc: Global, numbers: &[Number], needs: &[usize]) -> Result<
             burst = weight.gap;
         }
     }
-    let kill = doomed_places(alloc, &groups[at], threshold)?;
+    let kill = doomed_places(alloc, &groups[at].members, threshold)?;
     Ok(Figures {
         margin: threshold.cost - 1,
         kill,

@@ -1,0 +1,53 @@
+-- Groups of places: what a list can lose, by the places of each group's symbols. A place can be in several groups, or in none.
+use Rattle.std.specs.Prelude.{ℕ, zero, suc, ◌+◌, ◌<◌, ◌≤◌, Bool, ◌&&◌, ◌==◌, List, [], ◌∷◌, length, map, slice_index_or}
+use Rattle.std.specs.List.{list_any}
+use Rattle.lists.specs.Selection.{is_among}
+use Rattle.losses.specs.Losses.{Blocks}
+use Rattle.losses.specs.Members.{different_outside}
+use Rattle.losses.specs.declared.groups.Member.{Member}
+use Rattle.losses.specs.declared.groups.Group.{Group as GroupOf}
+
+-- how many different symbols a group needs, and its members: the place and the number of the symbol there, places rising
+pub record Group : Type 0 where
+  pub need : ℕ
+  pub members : List Member
+
+abbrev pub group_of : GroupOf → Group
+group_of g = record { need = g.need; members = g.members.items }
+
+abbrev pub groups_of : List GroupOf → List Group
+groups_of gs = map group_of gs
+
+abbrev pub no_group : Group
+no_group = record { need = 0; members = [] }
+
+abbrev pub group_at : List Group → ℕ → Group
+group_at groups b = slice_index_or groups b no_group
+
+-- n places from i on
+abbrev pub places : ℕ → ℕ → List ℕ
+places i zero = []
+places i (suc n) = i ∷ places (i + 1) n
+
+-- a member with this symbol at one of these places
+abbrev pub is_at : List ℕ → ℕ → Member → Bool
+is_at left j q = is_among left q.place && q.esi == j
+
+-- the groups, and which of their symbols stand at places that are left
+abbrev pub blocks_of_groups : List Group → Blocks ℕ
+blocks_of_groups groups = record {
+  count = length groups;
+  need = λ b. (group_at groups b).need;
+  has_symbol = λ left b j. list_any (is_at left j) (group_at groups b).members;
+}
+
+-- the places rise from i on, and are below n; the symbols' numbers are bytes
+abbrev pub AreMembers : ℕ → ℕ → List Member → Type 0
+AreMembers i n [] = Unit {0}
+AreMembers i n (q ∷ qs) = (i ≤ q.place) × (q.place < n) × (q.esi < 256) × AreMembers (q.place + 1) n qs
+
+-- each group needs some symbols, and enough are there, at places of a list that is n long
+pub record AreGroups (groups : List Group) (n : ℕ) : Type 0 where
+  pub some : (b : ℕ) → b < length groups → 0 < (group_at groups b).need
+  pub members : (b : ℕ) → b < length groups → AreMembers 0 n (group_at groups b).members
+  pub enough : (b : ℕ) → b < length groups → (group_at groups b).need ≤ different_outside (group_at groups b).members 0 0
