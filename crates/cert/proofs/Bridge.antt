@@ -1,94 +1,200 @@
--- Symbols that came, as the numbers of their packets.
-use Rattle.std.proofs.Common.{◌≡◌, ◌≢◌, ℕ, zero, suc, ◌+◌, ◌<◌, ◌≤◌, Bool, ◌&&◌, ◌||◌, List, [], ◌∷◌, ◌++◌, None, Ok, Err, length, map, refl, sym, ap, ◌∙◌, arith, ltb-true}
-use Rattle.std.specs.Prelude.{slice_index, ◌==◌}
-use Rattle.std.specs.List.{AllByRecursion}
-use Rattle.std.proofs.lemmas.Bool.{le-leb, lt-leb}
-use Rattle.std.proofs.lemmas.List.{map-append}
+-- Symbols that came, as groups of places.
+use Rattle.std.proofs.Common.{◌≡◌, ◌≢◌, ℕ, zero, suc, ◌+◌, ◌<◌, ◌≤◌, Bool, true, false, cond, ◌&&◌, ◌||◌, not, List, [], ◌∷◌, ◌++◌, Option, Some, None, Ok, Err, length, map, get_or, set, refl, sym, ap, subst, ◌∙◌, arith, append_assoc}
+use Rattle.std.specs.Prelude.{slice_index, ◌==◌, filter, nat_lt, count_by, if◌then◌else◌}
+use Rattle.std.specs.List.{list_any, AllByRecursion}
+use Rattle.std.proofs.lemmas.Bool.{le-leb, lt-leb, eqb-true, eqb-false, eq-eqb}
+use Rattle.std.proofs.lemmas.List.{map-append, append-nil, length-set, get_or-set_same, get_or-set_other}
 use Rattle.lists.specs.Below.{below}
-use Rattle.losses.specs.Numbers.{has, present}
-use Rattle.lists.proofs.Lists.{both, filter_same}
+use Rattle.lists.specs.Selection.{rest_from, rest}
+use Rattle.lists.proofs.Lists.{filter_same}
 use Rattle.lists.proofs.Below.{all_below}
-use Rattle.partition.specs.Fti.{block_count, source_count}
+use Rattle.losses.specs.declared.groups.Member.{Member}
+use Rattle.losses.specs.Members.{has_esi, outside, different_outside}
+use Rattle.losses.specs.declared.groups.Group.{Group as GroupOf}
+use Rattle.losses.specs.Groups.{Group, group_at, groups_of}
+use Rattle.losses.proofs.GroupFigures.{seen, count_of}
+use Rattle.losses.proofs.Grouping.{any_is}
+use Rattle.losses.proofs.Link.{is_left}
+use Rattle.partition.specs.Fti.{Fti, block_count, source_count}
 use Rattle.alc.specs.Reading.{Reading}
-use Rattle.alc.specs.Computed.{read_of}
-use Rattle.reception.specs.Symbols.{is_held, held, held_count, IsFirstShort}
-use Rattle.cert.specs.Certificate.{Certificate}
-use Rattle.reception.specs.declared.scope.Identity.{Identity}
-use Rattle.reception.specs.Reception.{counted_from, counted, symbols, Suffices}
+use Rattle.reception.specs.Symbols.{Symbol, is_held, held_count, IsFirstShort}
+use Rattle.reception.specs.Reception.{Placed, counted_from, counted, symbols, symbols_in, Suffices}
 use Rattle.reception.specs.Step.{readings_of}
+use Rattle.cert.specs.Certificate.{Certificate}
 use Rattle.cert.specs.declared.verdict.Reason.{Reason}
 use Rattle.cert.specs.declared.verdict.Reason.TheVariants.{ObjectLength, NotObject, Empty, Packet as NoPacket, OtherIdentity, OtherFti, Range, Symbol as Wrong, Thin}
 use Rattle.cert.specs.declared.datagrams.Refusal.{Refusal}
 use Rattle.cert.specs.declared.datagrams.Refusal.TheVariants.{Reason as ByReason, NoMemory}
-use Rattle.cert.specs.Verdict.{first_reason, IsCertifiedReading, IsAgainst}
+use Rattle.cert.specs.Verdict.{first_reason, IsAgainst}
 use Rattle.cert.specs.Report.{block_lines}
-use Rattle.cert.specs.Scan.{number_of, numbers_of, AreEnough, IsFirstThin, IsThin, IsRefusal}
+use Rattle.cert.specs.Scan.{members_at, members_of, AreGroupsOf, IsPut, IsRefusal, different_in, line_in, AreEnough, IsFirstThin, IsThin}
 
-pub numbers_are : (ds : List (List ℕ)) → numbers_of ds ≡ map number_of (readings_of ds)
-numbers_are [] = refl
-numbers_are (d ∷ ds) = ap (λ ns. number_of (read_of d) ∷ ns) (numbers_are ds)
+-- ---- one symbol more
 
-held_has : (z : Certificate) (who : Identity) (i b j : ℕ) (rs : List Reading) → AllByRecursion (λ x. IsCertifiedReading z who x.reading) (counted_from i rs)
-    → is_held (symbols (counted_from i rs)) b j ≡ has b (map number_of rs) j
-held_has z who i b j [] h = refl
-held_has z who i b j (Err r ∷ rs) h = absurd h.0
-held_has z who i b j (Ok p ∷ rs) h = ap (λ (v : Bool). (p.block == b && p.esi == j) || v) (held_has z who (i + 1) b j rs h.1)
+pub members_more : (b : ℕ) (xs ys : List Placed) → members_of b (xs ++ ys) ≡ members_of b xs ++ members_of b ys
+members_more b [] ys = refl
+members_more b (x ∷ xs) ys =
+    ap (λ (ms : List Member). members_at b x.place (symbols_in x.reading) ++ ms) (members_more b xs ys)
+    ∙ sym (append_assoc (members_at b x.place (symbols_in x.reading)) (members_of b xs) (members_of b ys))
 
--- the different ESIs of a block
-pub held_present : (z : Certificate) (who : Identity) (ds : List (List ℕ)) (b : ℕ) → AllByRecursion (λ x. IsCertifiedReading z who x.reading) (counted (readings_of ds))
-    → held (symbols (counted (readings_of ds))) b ≡ present b (numbers_of ds)
-held_present z who ds b h =
-    filter_same _ _ (below 256)
-    (all_below (λ j. is_held (symbols (counted (readings_of ds))) b j ≡ has b (numbers_of ds) j) 256
-    (λ j l. held_has z who 0 b j (readings_of ds) h ∙ ap (λ ns. has b ns j) (sym (numbers_are ds))))
+-- the groups with one symbol more
+module _ (f : Fti) (xs : List Placed) (i : ℕ) (s : Symbol) (r : Reading) (is : symbols_in r ≡ s ∷ []) (old new : List Group) (are : AreGroupsOf f xs old) (put : IsPut old i s new) where
+  one : Placed
+  one = record { place = i; reading = r }
 
-in_blocks : (z : Certificate) (who : Identity) (i : ℕ) (rs : List Reading) → AllByRecursion (λ x. IsCertifiedReading z who x.reading) (counted_from i rs)
-    → AllByRecursion (λ n. n.block < block_count z.fti) (map number_of rs)
-in_blocks z who i [] h = tt
-in_blocks z who i (Err r ∷ rs) h = absurd h.0
-in_blocks z who i (Ok p ∷ rs) h = (ltb-true p.block (block_count z.fti) (both _ _ h.0.range).0, in_blocks z who (i + 1) rs h.1)
+  here : (b : ℕ) → b < block_count f → (v : Bool) → (s.block == b) ≡ v
+      → (group_at new b).members ≡ members_of b xs ++ (members_at b i (s ∷ []) ++ [])
+  here b hb true e =
+      let same : s.block ≡ b = eqb-true s.block b e in
+      let put_here : (group_at new b).members ≡ (group_at old b).members ++ record { place = i; esi = s.esi } ∷ [] =
+      subst (λ (x : ℕ). (group_at new x).members ≡ (group_at old x).members ++ record { place = i; esi = s.esi } ∷ []) same put.here in
+      put_here ∙ ap (λ (ms : List Member). ms ++ record { place = i; esi = s.esi } ∷ []) (are.members b hb)
+      ∙ ap (λ (v : Bool). members_of b xs ++ (cond v (record { place = i; esi = s.esi } ∷ []) [] ++ [])) (sym e)
+  here b hb false e =
+      let other : b ≢ s.block = λ g. (let t = eq-eqb s.block b (sym g) in absurd (cc)) in
+      put.elsewhere b (let c = are.count in omega (arith, hb, c)) other ∙ are.members b hb ∙ sym (append-nil (members_of b xs))
+      ∙ ap (λ (v : Bool). members_of b xs ++ (cond v (record { place = i; esi = s.esi } ∷ []) [] ++ [])) (sym e)
 
--- the numbers are of blocks that there are
-pub numbers_in_blocks : (z : Certificate) (who : Identity) (ds : List (List ℕ)) → AllByRecursion (λ x. IsCertifiedReading z who x.reading) (counted (readings_of ds))
-    → AllByRecursion (λ n. n.block < block_count z.fti) (numbers_of ds)
-numbers_in_blocks z who ds h = rw (numbers_are ds) (in_blocks z who 0 (readings_of ds) h)
+  pub group_more : AreGroupsOf f (xs ++ record { place = i; reading = r } ∷ []) new
+  group_more = record {
+    count = put.count ∙ are.count;
+    need = λ b hb. put.need b (let c = are.count in omega (arith, hb, c)) ∙ are.need b hb;
+    members = λ b hb.
+        here b hb (s.block == b) refl
+        ∙ ap (λ (ss : List Symbol). members_of b xs ++ (members_at b i ss ++ [])) (sym is)
+        ∙ sym (members_more b xs (record { place = i; reading = r } ∷ []));
+  }
 
-module _ (z : Certificate) (who : Identity) (ds : List (List ℕ)) (packets : AllByRecursion (λ x. IsCertifiedReading z who x.reading) (counted (readings_of ds)))
-    (counts : List ℕ) (counted_right : (b : ℕ) → b < block_count z.fti → slice_index counts b ≡ length (present b (numbers_of ds))) where
-  pub count_is : (b : ℕ) → b < block_count z.fti → slice_index counts b ≡ held_count (symbols (counted (readings_of ds))) b
-  count_is b l = counted_right b l ∙ sym (ap length (held_present z who ds b packets))
+-- a group with one member more, put back
+pub put_is : (gs : List GroupOf) (place : ℕ) (s : Symbol) (d g : GroupOf) → s.block < length gs → g.need ≡ (get_or gs s.block d).need
+    → g.members.items ≡ (get_or gs s.block d).members.items ++ record { place = place; esi = s.esi } ∷ []
+    → IsPut (groups_of gs) place s (groups_of (set gs s.block g))
+put_is gs place s d g l need members =
+    let before = count_of gs in
+    let after = count_of (set gs s.block g) in
+    let same = length-set gs s.block g in
+    record {
+      count = after ∙ same ∙ sym before;
+      need = λ b lb. (
+          let inside : b < length gs = omega (arith, lb, before) in
+          let within : b < length (set gs s.block g) = omega (arith, inside, same) in
+          ap (λ (x : Group). x.need) (seen (set gs s.block g) b d within)
+          ∙ (elim (b == s.block) as (λ v. (b == s.block) ≡ v → (get_or (set gs s.block g) b d).need ≡ (get_or gs b d).need) [
+            | true ↦ λ e.
+                (let is = eqb-true b s.block e in
+                rw is (ap (λ (x : GroupOf). x.need) (get_or-set_same gs s.block g d l) ∙ need))
+            | false ↦ λ e. ap (λ (x : GroupOf). x.need) (get_or-set_other gs s.block b g d (eqb-false b s.block e))
+          ] refl)
+          ∙ sym (ap (λ (x : Group). x.need) (seen gs b d inside)));
+      here =
+          let within : s.block < length (set gs s.block g) = omega (arith, l, same) in
+          ap (λ (x : Group). x.members) (seen (set gs s.block g) s.block d within)
+          ∙ ap (λ (x : GroupOf). x.members.items) (get_or-set_same gs s.block g d l) ∙ members
+          ∙ sym (ap (λ (x : Group). x.members ++ record { place = place; esi = s.esi } ∷ []) (seen gs s.block d l));
+      elsewhere = λ b lb ne. (
+          let inside : b < length gs = omega (arith, lb, before) in
+          let within : b < length (set gs s.block g) = omega (arith, inside, same) in
+          ap (λ (x : Group). x.members) (seen (set gs s.block g) b d within)
+          ∙ ap (λ (x : GroupOf). x.members.items) (get_or-set_other gs s.block b g d ne)
+          ∙ sym (ap (λ (x : Group). x.members) (seen gs b d inside)));
+    }
 
-  pub enough_full : AreEnough z.fti counts → Suffices z.fti (readings_of ds)
-  enough_full h b l = le-leb _ _ (let e = count_is b l in let g = h b l in omega (arith, e, g))
+-- ---- what is held
 
-  pub thin_short : (b have need : ℕ) → IsFirstThin z.fti counts b have need
-      → IsFirstShort z.fti (symbols (counted (readings_of ds))) b × (have ≡ held_count (symbols (counted (readings_of ds))) b) × (need ≡ source_count z.fti b)
+-- what a loss leaves of a block
+pub held_left : (lost : ℕ → Bool) (b j k i : ℕ) (rs : List Reading)
+    → is_held (symbols (counted_from k (rest_from i lost rs))) b j ≡ list_any (is_left lost j) (members_of b (counted_from i rs))
+held_left lost b j k i [] = refl
+held_left lost b j k i (Err e ∷ rs) =
+    let gone = held_left lost b j k (i + 1) rs in
+    let later = held_left lost b j (k + 1) (i + 1) rs in
+    elim (lost i) as (λ v. is_held (symbols (counted_from k (if v then rest_from (i + 1) lost rs else Err e ∷ rest_from (i + 1) lost rs))) b j ≡ list_any (is_left lost j) (members_of b (counted_from (i + 1) rs))) [
+      | true ↦ gone
+      | false ↦ later
+    ]
+held_left lost b j k i (Ok p ∷ rs) =
+    let gone = held_left lost b j k (i + 1) rs in
+    let later = held_left lost b j (k + 1) (i + 1) rs in
+    let ms = members_of b (counted_from (i + 1) rs) in
+    elim (p.block == b) as (λ w. (p.block == b) ≡ w → is_held (symbols (counted_from k (rest_from i lost (Ok p ∷ rs)))) b j ≡ list_any (is_left lost j) (cond w (record { place = i; esi = p.esi } ∷ []) [] ++ ms)) [
+      | true ↦ λ e.
+          elim (lost i) as (λ v. is_held (symbols (counted_from k (if v then rest_from (i + 1) lost rs else Ok p ∷ rest_from (i + 1) lost rs))) b j ≡ ((not v && p.esi == j) || list_any (is_left lost j) ms)) [
+            | true ↦ gone
+            | false ↦ rw e (ap (λ (v : Bool). p.esi == j || v) later)
+          ]
+      | false ↦ λ e.
+          elim (lost i) as (λ v. is_held (symbols (counted_from k (if v then rest_from (i + 1) lost rs else Ok p ∷ rest_from (i + 1) lost rs))) b j ≡ list_any (is_left lost j) ms) [
+            | true ↦ gone
+            | false ↦ rw e later
+          ]
+    ] refl
+
+pub nothing_lost : {X : Type 0} (i : ℕ) (xs : List X) → rest_from i (λ k. false) xs ≡ xs
+nothing_lost i [] = refl
+nothing_lost i (x ∷ xs) = ap (λ ys. x ∷ ys) (nothing_lost (i + 1) xs)
+
+pub held_has : (b j : ℕ) (rs : List Reading) → is_held (symbols (counted rs)) b j ≡ list_any (has_esi j) (members_of b (counted rs))
+held_has b j rs =
+    ap (λ (xs : List Reading). is_held (symbols (counted xs)) b j) (sym (nothing_lost 0 rs)) ∙ held_left (λ k. false) b j 0 0 rs
+
+-- how many different symbols a group has
+pub held_different : (b : ℕ) (rs : List Reading) (qs : List Member) → qs ≡ members_of b (counted rs) → different_outside qs 0 0 ≡ held_count (symbols (counted rs)) b
+unfolding different_outside
+held_different b rs qs is =
+    ap length (filter_same (λ j. nat_lt 0 (outside qs 0 0 j)) (is_held (symbols (counted rs)) b) (below 256)
+    (all_below (λ j. nat_lt 0 (outside qs 0 0 j) ≡ is_held (symbols (counted rs)) b j) 256
+    (λ j l. sym (held_has b j rs ∙ ap (λ (ms : List Member). list_any (has_esi j) ms) (sym is) ∙ any_is (has_esi j) qs ∙ ap (nat_lt 0) (let e : count_by (has_esi j) qs ≡ outside qs 0 0 j = counted_twice j qs in e)))))
+  where
+    counted_twice : (j : ℕ) (ms : List Member) → count_by (has_esi j) ms ≡ outside ms 0 0 j
+    counted_twice j ms = omega arith
+
+-- ---- lines and short blocks
+
+module _ (f : Fti) (rs : List Reading) (groups : List Group) (are : AreGroupsOf f (counted rs) groups) where
+  pub count_is : (b : ℕ) → b < block_count f → different_in groups b ≡ held_count (symbols (counted rs)) b
+  count_is b l = held_different b rs (group_at groups b).members (are.members b l)
+
+  pub enough_full : AreEnough groups → Suffices f rs
+  enough_full h b l = le-leb _ _ (let e = count_is b l in let n = are.need b l in let c = are.count in let g = h b (omega (arith, l, c)) in omega (arith, e, g, n))
+
+  pub thin_short : (b have need : ℕ) → IsFirstThin groups b have need
+      → IsFirstShort f (symbols (counted rs)) b × (have ≡ held_count (symbols (counted rs)) b) × (need ≡ source_count f b)
   thin_short b have need h =
-      let e = count_is b h.block in (
+      let c = are.count in
+      let l : b < block_count f = (let g = h.block in omega (arith, g, c)) in
+      let e = count_is b l in
+      let n = are.need b l in (
         record {
-          in_range = h.block;
-          short = lt-leb _ _ (let f = h.few in let hi = h.have_is in let ni = h.need_is in omega (arith, e, f, hi, ni));
-          least = λ a l. le-leb _ _ (let g = h.blocks_before a l in let c = count_is a (let x = h.block in omega (arith, l, x)) in omega (arith, g, c));
+          in_range = l;
+          short = lt-leb _ _ (let g = h.few in let hi = h.have_is in let ni = h.need_is in omega (arith, e, n, g, hi, ni));
+          least = λ a m.
+              (let la : a < block_count f = omega (arith, l, m) in
+              let ea = count_is a la in
+              let na = are.need a la in
+              let g = h.blocks_before a m in
+              le-leb _ _ (omega (arith, ea, na, g)));
         },
         h.have_is ∙ e,
-        h.need_is,
+        h.need_is ∙ n,
       )
 
-  lines_same : (n : ℕ) → n ≤ block_count z.fti → map (λ b. (source_count z.fti b, slice_index counts b)) (below n) ≡ block_lines z.fti (symbols (counted (readings_of ds))) n
+  lines_same : (n : ℕ) → n ≤ block_count f → map (line_in groups) (below n) ≡ block_lines f (symbols (counted rs)) n
   unfolding below
   lines_same zero l = refl
   lines_same (suc n) l =
-      let came = symbols (counted (readings_of ds)) in
-      map-append (λ b. (source_count z.fti b, slice_index counts b)) (below n) (n ∷ [])
-      ∙ ap (λ ls. ls ++ (source_count z.fti n, slice_index counts n) ∷ []) (lines_same n (omega arith))
-      ∙ ap (λ (c : ℕ). block_lines z.fti (symbols (counted (readings_of ds))) n ++ (source_count z.fti n, c) ∷ []) (count_is n (omega arith))
-      ∙ sym (map-append (λ b. (source_count z.fti b, held_count (symbols (counted (readings_of ds))) b)) (below n) (n ∷ []))
+      let came = symbols (counted rs) in
+      map-append (line_in groups) (below n) (n ∷ [])
+      ∙ ap (λ ls. ls ++ line_in groups n ∷ []) (lines_same n (omega arith))
+      ∙ ap (λ (c : ℕ). block_lines f (symbols (counted rs)) n ++ ((group_at groups n).need, c) ∷ []) (count_is n (omega arith))
+      ∙ ap (λ (c : ℕ). block_lines f (symbols (counted rs)) n ++ (c, held_count (symbols (counted rs)) n) ∷ []) (are.need n (omega arith))
+      ∙ sym (map-append (λ b. (source_count f b, held_count came b)) (below n) (n ∷ []))
 
-  pub lines_are : map (λ b. (source_count z.fti b, slice_index counts b)) (below (block_count z.fti)) ≡ block_lines z.fti (symbols (counted (readings_of ds))) (block_count z.fti)
-  lines_are = lines_same (block_count z.fti) (omega arith)
+  pub lines_are : map (line_in groups) (below (length groups)) ≡ block_lines f (symbols (counted rs)) (block_count f)
+  lines_are = ap (λ (n : ℕ). map (line_in groups) (below n)) are.count ∙ lines_same (block_count f) (omega arith)
 
-  refused_reason : (r : Reason) → first_reason z (readings_of ds) ≡ None → counted (readings_of ds) ≢ [] → IsThin z.fti counts (ByReason r) → IsAgainst (readings_of ds) z r
-  refused_reason (Thin b have need) none some h = let w = thin_short b have need h in (none, some, w.0, w.1, w.2)
+module _ (z : Certificate) (ds : List (List ℕ)) (groups : List Group) (are : AreGroupsOf z.fti (counted (readings_of ds)) groups) where
+  refused_reason : (r : Reason) → first_reason z (readings_of ds) ≡ None → counted (readings_of ds) ≢ [] → IsThin groups (ByReason r) → IsAgainst (readings_of ds) z r
+  refused_reason (Thin b have need) none some h = let w = thin_short z.fti (readings_of ds) groups are b have need h in (none, some, w.0, w.1, w.2)
   refused_reason ObjectLength none some h = absurd h
   refused_reason (NotObject b c i) none some h = absurd h
   refused_reason Empty none some h = absurd h
@@ -99,7 +205,7 @@ module _ (z : Certificate) (who : Identity) (ds : List (List ℕ)) (packets : Al
   refused_reason (Wrong i c) none some h = absurd h
 
   -- a refusal by the counts
-  pub counts_refused : (e : Refusal) → first_reason z (readings_of ds) ≡ None → counted (readings_of ds) ≢ [] → IsThin z.fti counts e → IsRefusal ds z e
+  pub counts_refused : (e : Refusal) → first_reason z (readings_of ds) ≡ None → counted (readings_of ds) ≢ [] → IsThin groups e → IsRefusal ds z e
   counts_refused NoMemory none some h = tt
   counts_refused (ByReason r) none some h = refused_reason r none some h
 

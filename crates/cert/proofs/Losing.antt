@@ -1,81 +1,93 @@
--- What datagrams can lose, by the numbers of their packets.
-use Rattle.std.proofs.Common.{◌≡◌, ℕ, ◌+◌, ◌<◌, Bool, true, false, ◌&&◌, ◌||◌, List, [], ◌∷◌, Ok, Err, length, map, refl, sym, ap, ◌∙◌, arith}
-use Rattle.std.specs.Prelude.{slice_index, ◌==◌, if◌then◌else◌}
-use Rattle.std.specs.List.{AllByRecursion}
-use Rattle.std.proofs.lemmas.List.{length-map}
+-- What datagrams can lose, by the groups of their places.
+use Rattle.std.proofs.Common.{◌≡◌, ℕ, zero, suc, ◌+◌, ◌<◌, ◌≤◌, Bool, true, false, cond, List, [], ◌∷◌, ◌++◌, Ok, Err, length, refl, sym, ap, ◌∙◌, arith}
+use Rattle.std.specs.Prelude.{◌==◌, if◌then◌else◌}
+use Rattle.std.specs.List.{list_any, AllByRecursion}
 use Rattle.lists.specs.Selection.{rest_from, rest}
-use Rattle.losses.specs.declared.number.Number.{Number}
-use Rattle.losses.specs.Numbers.{has}
-use Rattle.losses.specs.Losses.{IsMargin, IsKill, IsBurst, IsHarmless, blocks_by}
+use Rattle.losses.specs.declared.groups.Member.{Member}
+use Rattle.losses.specs.Losses.{IsMargin, IsKill, IsBurst, IsHarmless}
+use Rattle.losses.specs.Groups.{Group, group_at, places, is_at, blocks_of_groups, AreMembers, AreGroups}
+use Rattle.losses.proofs.Lines.{any_left}
+use Rattle.losses.proofs.Link.{is_left}
 use Rattle.losses.proofs.Transfer.{margin_same, kill_same, burst_same}
-use Rattle.partition.specs.Fti.{Fti, block_count, source_count}
-use Rattle.reception.specs.declared.scope.Identity.{Identity}
+use Rattle.partition.specs.Fti.{Fti, IsValidFti, block_count, source_count}
+use Rattle.partition.proofs.Laws.{some_source}
+use Rattle.alc.specs.Packet.{Packet}
 use Rattle.alc.specs.Reading.{Reading}
-use Rattle.cert.specs.Certificate.{Certificate}
+use Rattle.reception.specs.declared.scope.Identity.{Identity}
 use Rattle.reception.specs.Symbols.{is_held}
 use Rattle.reception.specs.Reception.{ReadAll, counted_from, counted, symbols}
 use Rattle.reception.specs.Headline.{IsEnough}
+use Rattle.cert.specs.Certificate.{Certificate}
 use Rattle.cert.specs.Verdict.{IsCertifiedReading}
 use Rattle.cert.specs.Report.{blocks_of}
-use Rattle.reception.specs.Step.{readings_of}
-use Rattle.cert.specs.Scan.{number_of, numbers_of}
-use Rattle.cert.proofs.Bridge.{numbers_are}
+use Rattle.cert.specs.Scan.{members_of, AreGroupsOf, AreEnough}
+use Rattle.cert.proofs.Scanning.{in_range_small}
+use Rattle.cert.proofs.Bridge.{held_left, nothing_lost}
 
--- a packet
-abbrev pub IsPacket : Reading → Type 0
-IsPacket (Ok p) = Unit {0}
-IsPacket (Err r) = ⊥
+-- ---- the members of a group stand at rising places, and their ESIs are bytes
 
-are_packets : (z : Certificate) (who : Identity) (i : ℕ) (rs : List Reading) → AllByRecursion (λ x. IsCertifiedReading z who x.reading) (counted_from i rs) → AllByRecursion IsPacket rs
-are_packets z who i [] h = tt
-are_packets z who i (Ok p ∷ rs) h = (tt, are_packets z who (i + 1) rs h.1)
-are_packets z who i (Err r ∷ rs) h = absurd h.0
+wider : (i n : ℕ) (qs : List Member) → AreMembers (i + 1) n qs → AreMembers i n qs
+wider i n [] g = tt
+wider i n (q ∷ qs) g = (let a = g.0 in omega (arith, a), g.1, g.2, g.3)
 
-held_number : (i b j : ℕ) (rs : List Reading) → AllByRecursion IsPacket rs → is_held (symbols (counted_from i rs)) b j ≡ has b (map number_of rs) j
-held_number i b j [] h = refl
-held_number i b j (Ok p ∷ rs) h = ap (λ (v : Bool). (p.block == b && p.esi == j) || v) (held_number (i + 1) b j rs h.1)
-held_number i b j (Err r ∷ rs) h = absurd h.0
-
-rest_packets : (lost : ℕ → Bool) (i : ℕ) (rs : List Reading) → AllByRecursion IsPacket rs → AllByRecursion IsPacket (rest_from i lost rs)
-rest_packets lost i [] h = tt
-rest_packets lost i (r ∷ rs) h =
-    elim (lost i) as (λ v. AllByRecursion IsPacket (if v then rest_from (i + 1) lost rs else r ∷ rest_from (i + 1) lost rs)) [
-      | true ↦ rest_packets lost (i + 1) rs h.1
-      | false ↦ (h.0, rest_packets lost (i + 1) rs h.1)
+members_above : (z : Certificate) (who : Identity) (valid : IsValidFti z.fti) (b i n : ℕ) (rs : List Reading)
+    → AllByRecursion (λ x. IsCertifiedReading z who x.reading) (counted_from i rs) → i + length rs ≡ n → AreMembers i n (members_of b (counted_from i rs))
+members_above z who valid b i n [] h e = tt
+members_above z who valid b i n (Err r ∷ rs) h e = absurd h.0
+members_above z who valid b i n (Ok p ∷ rs) h e =
+    let later = members_above z who valid b (i + 1) n rs h.1 (omega (arith, e)) in
+    elim (p.block == b) as (λ v. AreMembers i n (cond v (record { place = i; esi = p.esi } ∷ []) [] ++ members_of b (counted_from (i + 1) rs))) [
+      | true ↦ (omega arith, omega (arith, e), (let s = in_range_small z.fti p valid h.0.range in omega (arith, s)), later)
+      | false ↦ wider i n (members_of b (counted_from (i + 1) rs)) later
     ]
 
-rest_numbers : (lost : ℕ → Bool) (i : ℕ) (rs : List Reading) → map number_of (rest_from i lost rs) ≡ rest_from i lost (map number_of rs)
-rest_numbers lost i [] = refl
-rest_numbers lost i (r ∷ rs) =
-    elim (lost i) as (λ v. map number_of (if v then rest_from (i + 1) lost rs else r ∷ rest_from (i + 1) lost rs) ≡ (if v then rest_from (i + 1) lost (map number_of rs) else number_of r ∷ rest_from (i + 1) lost (map number_of rs))) [
-      | true ↦ rest_numbers lost (i + 1) rs
-      | false ↦ ap (λ (ns : List Number). number_of r ∷ ns) (rest_numbers lost (i + 1) rs)
-    ]
+places_length : (i m : ℕ) → length (places i m) ≡ m
+places_length i zero = refl
+places_length i (suc m) = let e = places_length (i + 1) m in omega (arith, e)
 
-module _ (z : Certificate) (who : Identity) (ds : List (List ℕ)) (packets : AllByRecursion (λ x. IsCertifiedReading z who x.reading) (counted (readings_of ds)))
-    (needs : List ℕ) (count : length needs ≡ block_count z.fti) (need : (b : ℕ) → b < block_count z.fti → slice_index needs b ≡ source_count z.fti b) where
-  len : length (readings_of ds) ≡ length (numbers_of ds)
-  len = sym (ap (λ (ns : List Number). length ns) (numbers_are ds) ∙ length-map (readings_of ds) number_of)
+module _ (z : Certificate) (valid : IsValidFti z.fti) (who : Identity) (rs : List Reading) (packets : AllByRecursion (λ x. IsCertifiedReading z who x.reading) (counted rs))
+    (groups : List Group) (are : AreGroupsOf z.fti (counted rs) groups) where
+  members_in : (b : ℕ) → b < length groups → AreMembers 0 (length rs) (group_at groups b).members
+  members_in b hb =
+      let c = are.count in
+      rw (are.members b (omega (arith, hb, c))) (members_above z who valid b 0 (length rs) rs packets (omega arith))
 
-  whole : (b j : ℕ) → is_held (symbols (counted (readings_of ds))) b j ≡ has b (numbers_of ds) j
-  whole b j = held_number 0 b j (readings_of ds) (are_packets z who 0 (readings_of ds) packets) ∙ ap (λ (ns : List Number). has b ns j) (sym (numbers_are ds))
+  -- the groups are as `figures_of` asks
+  pub are_groups : AreEnough groups → AreGroups groups (length rs)
+  are_groups enough = record {
+    some = λ b hb.
+        (let c = are.count in
+        let n = are.need b (omega (arith, hb, c)) in
+        let s = some_source z.fti valid b in
+        omega (arith, n, s));
+    members = members_in;
+    enough = enough;
+  }
 
-  left : (lost : ℕ → Bool) (b j : ℕ) → is_held (symbols (counted (rest lost (readings_of ds)))) b j ≡ has b (rest lost (numbers_of ds)) j
-  left lost b j =
-      held_number 0 b j (rest lost (readings_of ds)) (rest_packets lost 0 (readings_of ds) (are_packets z who 0 (readings_of ds) packets))
-      ∙ ap (λ (ns : List Number). has b ns j) (rest_numbers lost 0 (readings_of ds) ∙ ap (λ (ns : List Number). rest lost ns) (sym (numbers_are ds)))
+  left : (lost : ℕ → Bool) (b j : ℕ) → b < length groups → is_held (symbols (counted (rest lost rs))) b j ≡ list_any (is_at (rest lost (places 0 (length rs))) j) (group_at groups b).members
+  left lost b j hb =
+      let c = are.count in
+      held_left lost b j 0 0 rs
+      ∙ ap (λ (qs : List Member). list_any (is_left lost j) qs) (sym (are.members b (omega (arith, hb, c))))
+      ∙ sym (any_left lost 0 (length rs) (length rs) j (group_at groups b).members (members_in b hb) refl)
 
-  needed : (b : ℕ) → b < length needs → source_count z.fti b ≡ slice_index needs b
-  needed b l = sym (need b (omega (arith, l, count)))
+  whole : (b j : ℕ) → b < length groups → is_held (symbols (counted rs)) b j ≡ list_any (is_at (places 0 (length rs)) j) (group_at groups b).members
+  whole b j hb =
+      ap (λ (xs : List Reading). is_held (symbols (counted xs)) b j) (sym (nothing_lost 0 rs))
+      ∙ left (λ k. false) b j hb
+      ∙ ap (λ (xs : List ℕ). list_any (is_at xs j) (group_at groups b).members) (nothing_lost 0 (places 0 (length rs)))
 
-  pub margin_told : (m : ℕ) → IsMargin (blocks_by needs) (numbers_of ds) m → IsMargin (blocks_of z.fti) (readings_of ds) m
-  margin_told = margin_same (blocks_by needs) (blocks_of z.fti) (numbers_of ds) (readings_of ds) (sym count) needed len whole left
+  needed : (b : ℕ) → b < length groups → source_count z.fti b ≡ (group_at groups b).need
+  needed b hb = let c = are.count in sym (are.need b (omega (arith, hb, c)))
 
-  pub kill_told : (n : ℕ) (places : List ℕ) → IsKill (blocks_by needs) (numbers_of ds) n places → IsKill (blocks_of z.fti) (readings_of ds) n places
-  kill_told = kill_same (blocks_by needs) (blocks_of z.fti) (numbers_of ds) (readings_of ds) (sym count) needed len whole left
+  pub margin_told : (m : ℕ) → IsMargin (blocks_of_groups groups) (places 0 (length rs)) m → IsMargin (blocks_of z.fti) rs m
+  margin_told = margin_same (blocks_of_groups groups) (blocks_of z.fti) (places 0 (length rs)) rs (sym are.count) needed (sym (places_length 0 (length rs))) whole left
 
-  pub burst_told : (m : ℕ) → IsBurst (blocks_by needs) (numbers_of ds) m → IsBurst (blocks_of z.fti) (readings_of ds) m
-  burst_told = burst_same (blocks_by needs) (blocks_of z.fti) (numbers_of ds) (readings_of ds) (sym count) needed len whole left
+  pub kill_told : (n : ℕ) (ps : List ℕ) → IsKill (blocks_of_groups groups) (places 0 (length rs)) n ps → IsKill (blocks_of z.fti) rs n ps
+  kill_told = kill_same (blocks_of_groups groups) (blocks_of z.fti) (places 0 (length rs)) rs (sym are.count) needed (sym (places_length 0 (length rs))) whole left
+
+  pub burst_told : (m : ℕ) → IsBurst (blocks_of_groups groups) (places 0 (length rs)) m → IsBurst (blocks_of z.fti) rs m
+  burst_told = burst_same (blocks_of_groups groups) (blocks_of z.fti) (places 0 (length rs)) rs (sym are.count) needed (sym (places_length 0 (length rs))) whole left
 
 read_rest : (lost : ℕ → Bool) (i : ℕ) (ds : List (List ℕ)) (rs : List Reading) → ReadAll ds rs → ReadAll (rest_from i lost ds) (rest_from i lost rs)
 read_rest lost i [] [] h = tt

@@ -2,14 +2,10 @@
 use Rattle.std.proofs.Common.{◌≡◌, ℕ, zero, suc, ◌+◌, ◌-◌, ◌<◌, ◌≤◌, true, List, [], ◌∷◌, ◌++◌, Option, Some, None, Ok, Err, length, take, get_or, refl, sym, ap, ◌∙◌, arith, ltb-true}
 use Rattle.std.specs.Prelude.{slice_index}
 use Rattle.std.proofs.lemmas.Bool.{eq-eqb}
-use Rattle.std.proofs.lemmas.List.{map-append, take_more}
 use Rattle.lists.proofs.Lists.{both}
 use Rattle.partition.specs.Fti.{Fti, IsValidFti, block_count, encoding_count}
 use Rattle.partition.proofs.Laws.{counts}
 use Rattle.alc.specs.Packet.{Packet}
-use Rattle.alc.specs.Reading.{Reading, Reads}
-use Rattle.alc.specs.Computed.{read_of}
-use Rattle.alc.proofs.Again.{exact}
 use Rattle.reception.specs.Symbols.{Symbol}
 use Rattle.reception.specs.Reception.{in_range, with_fti, counted}
 use Rattle.reception.specs.Step.{readings_of}
@@ -18,7 +14,6 @@ use Rattle.reception.specs.declared.scope.Scope.{Scope}
 use Rattle.reception.proofs.Walking.{Walked}
 use Rattle.cert.specs.Certificate.{Certificate, certified_byte}
 use Rattle.cert.specs.Verdict.{wrong_column, uncertified}
-use Rattle.cert.specs.Scan.{number_of, numbers_of}
 
 -- a column that is certified
 pub column_right : (z : Certificate) (s : Symbol) (c n : ℕ) → c < n → slice_index s.bytes c ≡ certified_byte z s.block s.esi c
@@ -51,10 +46,3 @@ Scanned z ds place scope = Walked (uncertified z) (with_fti z.fti) ds place scop
 -- the certificate's FTI holds
 pub fti_holds : (z : Certificate) (ds : List (List ℕ)) (place : ℕ) (scope : Scope) → Scanned z ds place scope → scope.fti ≡ Some z.fti
 fti_holds z ds place scope w = sym (ap (λ (s : Scope). s.fti) w.holds) ∙ fti_stays None z.fti (counted (take place (readings_of ds)))
-
--- one datagram's numbers more
-pub numbers_more : (ds : List (List ℕ)) (place : ℕ) (d : List ℕ) (r : Reading) (p : Packet) → place < length ds → d ≡ get_or ds place [] → Reads d r → r ≡ Ok p
-    → numbers_of (take (place + 1) ds) ≡ numbers_of (take place ds) ++ record { block = p.block; esi = p.esi } ∷ []
-numbers_more ds place d r p l here h e =
-    ap numbers_of (take_more ds place [] l) ∙ map-append (λ x. number_of (read_of x)) (take place ds) (get_or ds place [] ∷ [])
-    ∙ ap (λ (r : Reading). numbers_of (take place ds) ++ number_of r ∷ []) (ap read_of (sym here) ∙ exact d r h ∙ e)

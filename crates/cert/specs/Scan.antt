@@ -1,10 +1,11 @@
 -- What a scan over the datagrams finds.
-use Rattle.std.specs.Prelude.{◌≡◌, ℕ, ◌<◌, ◌≤◌, List, map, slice_index, Ok, Err}
-use Rattle.losses.specs.declared.number.Number.{Number}
+use Rattle.std.specs.Prelude.{◌≡◌, ◌≢◌, ℕ, ◌<◌, ◌≤◌, ◌==◌, cond, List, [], ◌∷◌, ◌++◌, length}
+use Rattle.losses.specs.declared.groups.Member.{Member}
+use Rattle.losses.specs.Members.{different_outside}
+use Rattle.losses.specs.Groups.{Group, group_at}
 use Rattle.partition.specs.Fti.{Fti, block_count, source_count}
-use Rattle.alc.specs.Reading.{Reading}
-use Rattle.alc.specs.Computed.{read_of}
-use Rattle.reception.specs.Reception.{Suffices}
+use Rattle.reception.specs.Symbols.{Symbol}
+use Rattle.reception.specs.Reception.{Placed, symbols_in, Suffices}
 use Rattle.reception.specs.Step.{readings_of}
 use Rattle.cert.specs.declared.datagrams.Refusal.{Refusal}
 use Rattle.cert.specs.declared.datagrams.Refusal.TheVariants.{Reason as ByReason, NoMemory}
@@ -12,36 +13,58 @@ use Rattle.cert.specs.declared.verdict.Reason.TheVariants.{Thin}
 use Rattle.cert.specs.Certificate.{Certificate}
 use Rattle.cert.specs.Verdict.{IsAgainst, AreCertified}
 
--- a packet's block and ESI
-abbrev pub number_of : Reading → Number
-number_of (Ok p) = record { block = p.block; esi = p.esi }
-number_of (Err r) = record { block = 0; esi = 0 }
+-- the symbols of block b among these, which stand at place i
+abbrev pub members_at : ℕ → ℕ → List Symbol → List Member
+members_at b i [] = []
+members_at b i (s ∷ ss) = cond (s.block == b) (record { place = i; esi = s.esi } ∷ members_at b i ss) (members_at b i ss)
 
--- the blocks and ESIs of datagrams
-abbrev pub numbers_of : List (List ℕ) → List Number
-numbers_of datagrams = map (λ d. number_of (read_of d)) datagrams
+-- the places and ESIs of the symbols of block b
+abbrev pub members_of : ℕ → List Placed → List Member
+members_of b [] = []
+members_of b (x ∷ xs) = members_at b x.place (symbols_in x.reading) ++ members_of b xs
+
+-- a group for each block: its source symbols and where its symbols stand
+pub record AreGroupsOf (f : Fti) (xs : List Placed) (groups : List Group) : Type 0 where
+  pub count : length groups ≡ block_count f
+  pub need : (b : ℕ) → b < block_count f → (group_at groups b).need ≡ source_count f b
+  pub members : (b : ℕ) → b < block_count f → (group_at groups b).members ≡ members_of b xs
+
+-- the symbol at a place stands behind the others of its block, and all else is as it was
+pub record IsPut (old : List Group) (place : ℕ) (s : Symbol) (new : List Group) : Type 0 where
+  pub count : length new ≡ length old
+  pub need : (b : ℕ) → b < length old → (group_at new b).need ≡ (group_at old b).need
+  pub here : (group_at new s.block).members ≡ (group_at old s.block).members ++ record { place = place; esi = s.esi } ∷ []
+  pub elsewhere : (b : ℕ) → b < length old → b ≢ s.block → (group_at new b).members ≡ (group_at old b).members
 
 -- the datagrams are refused for a reason, or for want of memory
 abbrev pub IsRefusal : List (List ℕ) → Certificate → Refusal → Type 0
 IsRefusal datagrams z (ByReason r) = IsAgainst (readings_of datagrams) z r
 IsRefusal datagrams z NoMemory = Unit {0}
 
--- each block has at least as many different ESIs as source symbols, by these counts
-abbrev pub AreEnough : Fti → List ℕ → Type 0
-AreEnough f held = (b : ℕ) → b < block_count f → source_count f b ≤ slice_index held b
+-- how many different symbols a group has
+abbrev pub different_in : List Group → ℕ → ℕ
+different_in groups b = different_outside (group_at groups b).members 0 0
 
--- the least block that hasn't
-pub record IsFirstThin (f : Fti) (held : List ℕ) (b have need : ℕ) : Type 0 where
-  pub block : b < block_count f
-  pub have_is : have ≡ slice_index held b
-  pub need_is : need ≡ source_count f b
+-- how many symbols a group needs, and how many different ones it has
+abbrev pub line_in : List Group → ℕ → ℕ × ℕ
+line_in groups b = ((group_at groups b).need, different_in groups b)
+
+-- each group has as many different symbols as it needs
+abbrev pub AreEnough : List Group → Type 0
+AreEnough groups = (b : ℕ) → b < length groups → (group_at groups b).need ≤ different_in groups b
+
+-- the least group that hasn't
+pub record IsFirstThin (groups : List Group) (b have need : ℕ) : Type 0 where
+  pub block : b < length groups
+  pub have_is : have ≡ different_in groups b
+  pub need_is : need ≡ (group_at groups b).need
   pub few : have < need
-  pub blocks_before : (a : ℕ) → a < b → source_count f a ≤ slice_index held a
+  pub blocks_before : (a : ℕ) → a < b → (group_at groups a).need ≤ different_in groups a
 
-abbrev pub IsThin : Fti → List ℕ → Refusal → Type 0
-IsThin f held (ByReason (Thin b have need)) = IsFirstThin f held b have need
-IsThin f held (ByReason _) = ⊥
-IsThin f held NoMemory = Unit {0}
+abbrev pub IsThin : List Group → Refusal → Type 0
+IsThin groups (ByReason (Thin b have need)) = IsFirstThin groups b have need
+IsThin groups (ByReason _) = ⊥
+IsThin groups NoMemory = Unit {0}
 
 -- what a yes says of the datagrams
 pub record AreEnoughCertified (datagrams : List (List ℕ)) (z : Certificate) : Type 0 where

@@ -1,37 +1,38 @@
 //! The check.
-ghost use Rattle.std.specs.Prelude.{◌≡◌, ◌<◌, ◌≤◌, ℕ, length, map, slice_index, IfOk, IfErr, OnOk};
+ghost use Rattle.std.specs.Prelude.{◌≡◌, ◌≤◌, ◌^◌, length, map, IfOk, IfErr, OnOk};
 ghost use Rattle.session.specs.Frames.{AreDatagrams};
 ghost use Rattle.lists.specs.Below.{below};
-ghost use Rattle.partition.specs.Fti.{block_count, source_count};
 ghost use Rattle.cert.specs.Certificate.{IsCertificate};
 ghost use Rattle.reception.specs.Headline.{DecodesWhereEnough, UndecidedElse};
 ghost use Rattle.cert.specs.Report.{IsReport, OnYes};
-ghost use Rattle.cert.specs.Scan.{AreEnough, IsThin, AreEnoughCertified, IsRefusal};
+ghost use Rattle.losses.specs.Groups.{groups_of};
+ghost use Rattle.cert.specs.Scan.{line_in, AreEnough, IsThin, AreEnoughCertified, IsRefusal};
 ghost use Rattle.cert.specs.Verdict.{GivesObject, IsVerdict};
 
 use crate::certificate::Certificate;
 use crate::certified_symbols::CertifiedSymbols;
-use crate::datagrams::{Refusal, numbers_of_session};
+use crate::datagrams::{Refusal, groups_of_session};
 use crate::source::not_given;
 use crate::verdict::{Reason, Report, Verdict};
 use lists::are_bytes;
-use losses::{Figures, counts, figures_of};
-use partition::Fti;
+use losses::{Figures, Group, figures_of};
 use session::Session;
 use std::alloc::{AllocError, Global};
 
 // For each block its source symbols and its different ESIs, or the reason of the least block that has too few.
-fn blocks_of(alloc: Global, fti: &Fti, held: &[usize]) -> Result<Vec<(usize, usize)>, Refusal>
-    requires { length held.now ≡ block_count fti.now }
-    ensures lines { IfOk result (λ v. v.items ≡ map (λ b. (source_count fti.now b, slice_index held.now b)) (below (block_count fti.now))) }
-    ensures enough { OnOk result (AreEnough fti.now held.now) }
-    ensures refusal { IfErr result (IsThin fti.now held.now) }
+fn blocks_of(alloc: Global, groups: &[Group]) -> Result<Vec<(usize, usize)>, Refusal>
+    requires { length groups.now ≤ 2 ^ 24 }
+    ensures lines { IfOk result (λ v.
+        v.items ≡ map (line_in (groups_of groups.now)) (below (length groups.now))) }
+    ensures enough { OnOk result (AreEnough (groups_of groups.now)) }
+    ensures refusal { IfErr result (IsThin (groups_of groups.now)) }
 {
     let mut blocks = Vec::new(alloc);
-    for block in 0..fti.blocks() {
-        let need = fti.k(block);
-        let have = held[block as usize];
+    for block in 0..groups.len() {
+        let need = groups[block].need;
+        let have = groups[block].different();
         if have < need {
+            let block = block as u32;
             return Err(Refusal::Reason(Reason::Thin { block, have, need }));
         }
         let Ok(()) = blocks.push((need, have)) else {
@@ -39,18 +40,6 @@ fn blocks_of(alloc: Global, fti: &Fti, held: &[usize]) -> Result<Vec<(usize, usi
         };
     }
     Ok(blocks)
-}
-
-// How many source symbols each block has.
-fn needs_of(alloc: Global, fti: &Fti) -> Result<Vec<usize>, AllocError>
-    ensures len { IfOk result (λ v. length v.items ≡ block_count fti.now) }
-    ensures needs { IfOk result (λ v. (b : ℕ) → b < block_count fti.now → slice_index v.items b ≡ source_count fti.now b) }
-{
-    let mut needs = Vec::with_capacity(alloc, fti.blocks() as usize)?;
-    for block in 0..fti.blocks() {
-        needs.push(fti.k(block))?;
-    }
-    Ok(needs)
 }
 
 // The report, or the first reason for which the datagrams don't suffice. `row` is room for one symbol.
@@ -68,22 +57,15 @@ fn report_of(
     ensures certified { OnOk result (AreEnoughCertified session.now symbols.now.certificate.now) }
     ensures refusal { IfErr result (IsRefusal session.now symbols.now.certificate.now) }
 {
-    let numbers = match numbers_of_session(alloc, session, symbols, object, row) {
-        Ok(numbers) => numbers,
+    let groups = match groups_of_session(alloc, session, symbols, object, row) {
+        Ok(groups) => groups,
         Err(refusal) => return Err(refusal),
     };
-    let fti = symbols.certificate.fti();
-    let Ok(held) = counts(alloc, numbers.as_slice(), fti.blocks() as usize) else {
-        return Err(Refusal::NoMemory);
-    };
-    let blocks = match blocks_of(alloc, &fti, held.as_slice()) {
+    let blocks = match blocks_of(alloc, &groups) {
         Ok(blocks) => blocks,
         Err(refusal) => return Err(refusal),
     };
-    let Ok(needs) = needs_of(alloc, &fti) else {
-        return Err(Refusal::NoMemory);
-    };
-    let Ok(figures) = figures_of(alloc, numbers.as_slice(), needs.as_slice()) else {
+    let Ok(figures) = figures_of(alloc, &groups) else {
         return Err(Refusal::NoMemory);
     };
     let Figures {

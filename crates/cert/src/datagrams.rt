@@ -1,11 +1,12 @@
 //! Whether the datagrams are certified.
-ghost use Rattle.std.specs.Prelude.{◌≡◌, ◌+◌, ◌<◌, ◌≤◌, ◌^◌, ℕ, Some, None, true, length, IsTrue, IfOk, IfErr, OnOk};
+ghost use Rattle.std.specs.Prelude.{◌≡◌, ◌<◌, ◌^◌, ℕ, None, true, [], length, IsTrue, IfOk, IfErr, OnOk};
 ghost use Rattle.alc.specs.Views.{packet_of};
 ghost use Rattle.reception.specs.Reception.{Faulty, in_range, symbol_of, counted};
 ghost use Rattle.reception.specs.Step.{readings_of};
 ghost use Rattle.cert.specs.Verdict.{GivesObject, wrong_column, reason_at, first_reason, AreCertified};
 ghost use Rattle.cert.specs.CoefficientRows.{IsCertifiedSymbol};
-ghost use Rattle.cert.specs.Scan.{numbers_of, IsRefusal};
+ghost use Rattle.cert.specs.Scan.{AreGroupsOf, IsPut, IsRefusal};
+ghost use Rattle.losses.specs.Groups.{groups_of};
 
 use crate::certificate::Certificate;
 use crate::certified_symbols::CertifiedSymbols;
@@ -13,10 +14,11 @@ use crate::source::{is_source_symbol, value_at};
 use crate::verdict::Reason;
 use alc::Packet;
 use gf256::point;
-use losses::Number;
+use losses::{Group, Member};
+use partition::Fti;
 use reception::{PlaceFault, Scope};
 use session::Session;
-use std::alloc::Global;
+use std::alloc::{AllocError, Global};
 
 /// Why the datagrams' numbers weren't told.
 #[derive(Clone, Copy)]
@@ -98,24 +100,51 @@ fn reason_of(place: usize, fault: PlaceFault) -> Reason
     }
 }
 
-// The numbers of the datagrams in their order, or the first reason against one of them, or that nothing came. `row` is
-// room for one symbol.
-pub(crate) fn numbers_of_session(
+// A group for each block, with no symbols yet.
+fn empty_groups(alloc: Global, fti: &Fti) -> Result<Vec<Group>, AllocError>
+    ensures { IfOk result (λ v. AreGroupsOf fti.now [] (groups_of v.items)) }
+{
+    let mut groups = Vec::with_capacity(alloc, fti.blocks() as usize)?;
+    for block in 0..fti.blocks() {
+        let need = fti.k(block);
+        let members = Vec::new(alloc);
+        groups.push(Group { need, members })?;
+    }
+    Ok(groups)
+}
+
+// Puts the symbol of the packet at a place into its block's group.
+fn put(groups: &mut [Group], place: usize, packet: &Packet<'_>) -> Result<(), AllocError>
+    requires { packet.now.sbn < length groups.old }
+    ensures { OnOk result (IsPut (groups_of groups.old) place (symbol_of (packet_of packet.now)) (groups_of groups.new)) }
+{
+    let esi = packet.esi;
+    groups[packet.sbn as usize].members.push(Member { place, esi })?;
+    Ok(())
+}
+
+// Where the symbols of each block stand, or the first reason against one of the datagrams, or that nothing came. `row`
+// is room for one symbol.
+pub(crate) fn groups_of_session(
     alloc: Global,
     session: &Session,
     symbols: &CertifiedSymbols<'_>,
     object: &[u8],
     row: &mut [u8],
-) -> Result<Vec<Number>, Refusal>
+) -> Result<Vec<Group>, Refusal>
     requires gives { GivesObject object.now symbols.now.certificate.now }
     requires room { length row.old ≡ symbols.now.certificate.now.fti.symbol_length }
     ensures none { IfOk result (λ _. first_reason symbols.now.certificate.now (readings_of session.now) ≡ None) }
     ensures certified { OnOk result (AreCertified (readings_of session.now) symbols.now.certificate.now) }
-    ensures numbers { IfOk result (λ v. v.items ≡ numbers_of session.now) }
+    ensures groups { IfOk result (λ v.
+        AreGroupsOf symbols.now.certificate.now.fti (counted (readings_of session.now)) (groups_of v.items)) }
     ensures refusal { IfErr result (IsRefusal session.now symbols.now.certificate.now) }
 {
-    let mut scope = Scope::with_fti(symbols.certificate.fti());
-    let mut numbers = Vec::new(alloc);
+    let fti = symbols.certificate.fti();
+    let mut scope = Scope::with_fti(fti);
+    let Ok(mut groups) = empty_groups(alloc, &fti) else {
+        return Err(Refusal::NoMemory);
+    };
     for place in 0..session.len() {
         let packet = match scope.look(session.get(place)) {
             Ok(Some(packet)) => packet,
@@ -126,16 +155,12 @@ pub(crate) fn numbers_of_session(
             Some(column) => return Err(Refusal::Reason(Reason::Symbol(place, column))),
             None => {}
         }
-        let number = Number {
-            block: packet.sbn,
-            esi: packet.esi,
-        };
-        let Ok(()) = numbers.push(number) else {
+        let Ok(()) = put(&mut groups, place, &packet) else {
             return Err(Refusal::NoMemory);
         };
     }
     match scope.identity {
-        Some(_) => Ok(numbers),
+        Some(_) => Ok(groups),
         None => Err(Refusal::Reason(Reason::Empty)),
     }
 }

@@ -36,7 +36,7 @@ module _ {R : Type 0} (judge : Judge R) (known : Scope) (ds : List (List ℕ)) w
 
   module _ (place : ℕ) (scope : Scope) (w : Walked judge known ds place scope) (d : List ℕ) (new : Scope) (answer : Result (Option ReadPacket) PlaceFault)
       (inside : place < length ds) (here : d ≡ get_or ds place []) (at : IsLook d scope new answer) where
-    front : take (place + 1) (readings_of ds) ≡ take place (readings_of ds) ++ at.reading ∷ []
+    pub front : take (place + 1) (readings_of ds) ≡ take place (readings_of ds) ++ at.reading ∷ []
     front =
         let l : place < length (readings_of ds) = omega (arith, inside, length-map ds read_of) in
         take_more (readings_of ds) place at.reading l

@@ -1,6 +1,10 @@
-use Rattle.std.proofs.Common.{◌∙◌, ◌++◌, ◌∷◌, [], ℕ, List, map, get_or, sym, ap, arith, below_more}
+use Rattle.std.proofs.Common.{◌∙◌, ◌≡◌, ◌++◌, ◌∷◌, [], ℕ, List, get_or, map, sym, ap, arith, below_more}
 use Rattle.lists.specs.Below.{below}
-use Rattle.partition.specs.Fti.{source_count}
+use Rattle.losses.specs.Groups.{Group, groups_of, group_at}
+use Rattle.losses.specs.Members.{different_outside}
+use Rattle.losses.specs.declared.groups.Group.{Group as GroupOf}
+use Rattle.losses.proofs.GroupFigures.{seen}
+use Rattle.cert.specs.Scan.{line_in, different_in}
 use Rattle.cert.proofs.Bridge.{map_below_more}
 use Rattle.cert.proofs.checking.blocks_of.Goals as goal
 
@@ -10,12 +14,15 @@ loop-block-init c = record { lines = c.new-blocks.ensures.items; enough = λ b l
 
 pub loop-block-preserved : goal.loop-block-preserved
 loop-block-preserved c =
+    let gs = groups_of c.args.groups.now in
+    let need = ap (λ (g : Group). g.need) (seen c.args.groups.now c.loop-block.block c.index-groups-block.result c.loop-block-test.true) in
+    let have = c.different-have.ensures ∙ ap (λ (g : GroupOf). different_outside g.members.items 0 0) c.index-groups-block-in-loop-block.is ∙ sym (ap (λ (g : Group). different_outside g.members 0 0) (seen c.args.groups.now c.loop-block.block c.index-groups-block-in-loop-block.result c.loop-block-test.true)) in
     record {
       lines =
-          let line : ℕ → ℕ × ℕ = λ b. (source_count c.args.fti.now b, get_or c.args.held.now b 0) in
           c.in-Ok.ensures.items
-          ∙ ap (λ (ls : List (ℕ × ℕ)). ls ++ (c.k-need.result, get_or c.args.held.now c.loop-block.block 0) ∷ []) c.loop-block.invariant.lines
-          ∙ ap (λ (k : ℕ). map line (below c.loop-block.block) ++ (k, get_or c.args.held.now c.loop-block.block 0) ∷ []) c.k-need.ensures.value
-          ∙ sym (map_below_more line c.loop-block.block);
-      enough = below_more _ _ c.loop-block.invariant.enough (rw (← c.k-need.ensures.value) c.if-have-need.false);
+          ∙ ap (λ (ls : List (ℕ × ℕ)). ls ++ ((get_or c.args.groups.now c.loop-block.block c.index-groups-block.result).need, c.different-have.result) ∷ []) c.loop-block.invariant.lines
+          ∙ ap (λ (n : ℕ). map (line_in (groups_of c.args.groups.now)) (below c.loop-block.block) ++ (n, c.different-have.result) ∷ []) (sym need)
+          ∙ ap (λ (n : ℕ). map (line_in (groups_of c.args.groups.now)) (below c.loop-block.block) ++ ((group_at (groups_of c.args.groups.now) c.loop-block.block).need, n) ∷ []) have
+          ∙ sym (map_below_more (line_in (groups_of c.args.groups.now)) c.loop-block.block);
+      enough = below_more _ _ c.loop-block.invariant.enough (omega (arith, need, have, c.if-have-need.false));
     }

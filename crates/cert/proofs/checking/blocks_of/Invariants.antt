@@ -1,10 +1,11 @@
-use Rattle.std.proofs.Common.{◌≡◌, ◌<◌, ◌≤◌, ℕ, map, get_or}
+use Rattle.std.proofs.Common.{◌≡◌, ◌<◌, ◌≤◌, ℕ, map}
 use Rattle.lists.specs.Below.{below}
-use Rattle.partition.specs.Fti.{source_count}
+use Rattle.losses.specs.Groups.{groups_of, group_at}
+use Rattle.cert.specs.Scan.{line_in, different_in}
 use Rattle.cert.proofs.checking.blocks_of.Given as goal
 
 abbrev pub invariant-loop-block : goal.invariant-loop-block
 invariant-loop-block l = record {
-  lines : l.blocks.items ≡ map (λ b. (source_count l.fti b, get_or l.held b 0)) (below l.block);
-  enough : (b : ℕ) → b < l.block → source_count l.fti b ≤ get_or l.held b 0;
+  lines : l.blocks.items ≡ map (line_in (groups_of l.groups)) (below l.block);
+  enough : (b : ℕ) → b < l.block → (group_at (groups_of l.groups) b).need ≤ different_in (groups_of l.groups) b;
 }

@@ -1,82 +1,72 @@
-use Rattle.std.proofs.Common.{◌∙◌, ◌<◌, ℕ, List, arith, ap, length}
+use Rattle.std.proofs.Common.{◌≡◌, ◌∙◌, ◌<◌, ℕ, List, arith, ap, length, map, sym, subst}
+use Rattle.lists.specs.Below.{below}
+use Rattle.losses.specs.declared.groups.Group.{Group as GroupOf}
+use Rattle.losses.specs.Groups.{groups_of, AreGroups}
+use Rattle.losses.proofs.GroupFigures.{count_of}
 use Rattle.partition.specs.Fti.{block_count}
-use Rattle.partition.proofs.Laws.{some_source}
+use Rattle.partition.proofs.Laws.{some_block}
 use Rattle.reception.specs.Step.{readings_of}
+use Rattle.cert.specs.Scan.{line_in, AreEnough, IsThin}
 use Rattle.cert.proofs.Judging.{read_all, some_counted}
-use Rattle.cert.proofs.Bridge.{numbers_in_blocks, lines_are, enough_full, counts_refused}
-use Rattle.cert.proofs.Losing.{margin_told, kill_told, burst_told}
+use Rattle.cert.proofs.Bridge.{lines_are, enough_full, counts_refused}
+use Rattle.cert.proofs.Losing.{are_groups, margin_told, kill_told, burst_told}
 use Rattle.cert.proofs.checking.report_of.Goals as goal
 
-pub counts-requires : goal.counts-requires
-counts-requires c =
-    let all = c.in-Ok.ensures.certified in
-    rw (c.as_slice.ensures.value, c.in-Ok.ensures.numbers, c.blocks-2.ensures.value, c.fti-fti.ensures.value)
-    (numbers_in_blocks c.args.symbols.now.certificate.now all.who c.args.session.now all.packets)
+pub blocks_of-requires : goal.blocks_of-requires
+blocks_of-requires c =
+    let f = c.args.symbols.now.certificate.now.fti in
+    let n = count_of c.in-Ok.groups.items in
+    let g = c.in-Ok.ensures.groups.count in
+    let d = ap (λ (gs : List GroupOf). length gs) c.deref.ensures.value in
+    let few = c.args.symbols.now.valid.fti.blocks in
+    omega (arith, n, g, d, few)
 
 pub returns-in-Err-blocks_of-clause-refusal : goal.returns-in-Err-blocks_of-clause-refusal
 returns-in-Err-blocks_of-clause-refusal c =
+    let z = c.args.symbols.now.certificate.now in
     let all = c.in-Ok.ensures.certified in
-    let counted = rw (c.as_slice.ensures.value, c.in-Ok.ensures.numbers, c.blocks-2.ensures.value, c.fti-fti.ensures.value) at c.in-Ok-counts.ensures.counts in
-    let thin = rw (c.as_slice-2.ensures.value, c.fti-fti.ensures.value) at c.in-Err-blocks_of.ensures.refusal in
-    counts_refused c.args.symbols.now.certificate.now all.who c.args.session.now all.packets c.in-Ok-counts.held.items counted c.in-Err-blocks_of.refusal c.in-Ok.ensures.none
-    (some_counted c.args.symbols.now.certificate.now (readings_of c.args.session.now) all.who all.some) thin
-
-pub figures_of-requires-clause-some_block : goal.figures_of-requires-clause-some_block
-figures_of-requires-clause-some_block c =
-    let n = ap (λ (xs : List ℕ). length xs) c.as_slice-4.ensures.value in
-    omega (arith, n, c.in-Ok-needs_of.ensures.len, c.blocks-2.ensures.value, c.blocks-2.ensures.some)
-
-pub figures_of-requires-clause-blocks : goal.figures_of-requires-clause-blocks
-figures_of-requires-clause-blocks c =
-    let all = c.in-Ok.ensures.certified in
-    rw (c.as_slice-3.ensures.value, c.in-Ok.ensures.numbers, c.as_slice-4.ensures.value, c.in-Ok-needs_of.ensures.len, c.fti-fti.ensures.value)
-    (numbers_in_blocks c.args.symbols.now.certificate.now all.who c.args.session.now all.packets)
+    counts_refused z c.args.session.now (groups_of c.in-Ok.groups.items) c.in-Ok.ensures.groups c.in-Err-blocks_of.refusal c.in-Ok.ensures.none
+    (some_counted z (readings_of c.args.session.now) all.who all.some) (rw c.deref.ensures.value at c.in-Err-blocks_of.ensures.refusal)
 
 pub figures_of-requires-clause-some : goal.figures_of-requires-clause-some
 figures_of-requires-clause-some c =
-    rw c.as_slice-4.ensures.value
-    (λ b l.
-    (let known = c.in-Ok-needs_of.ensures.needs b (omega (arith, l, c.in-Ok-needs_of.ensures.len)) in
-    let some = some_source c.fti-fti.result c.blocks-2.ensures.valid b in
-    omega (arith, known, some)))
+    let n = count_of c.in-Ok.groups.items in
+    let g = c.in-Ok.ensures.groups.count in
+    let d = ap (λ (gs : List GroupOf). length gs) c.deref-2.ensures.value in
+    let s = some_block c.args.symbols.now.certificate.now.fti c.args.symbols.now.valid.fti in
+    omega (arith, n, g, d, s)
 
-pub figures_of-requires-clause-full : goal.figures_of-requires-clause-full
-figures_of-requires-clause-full c =
-    let counted = rw (c.as_slice.ensures.value, c.blocks-2.ensures.value) at c.in-Ok-counts.ensures.counts in
-    let enough = rw c.as_slice-2.ensures.value at c.in-Ok-blocks_of.ensures.enough in
-    rw (c.as_slice-3.ensures.value, c.as_slice-4.ensures.value)
-    (λ b l.
-    (let here : b < block_count c.fti-fti.result = omega (arith, l, c.in-Ok-needs_of.ensures.len) in
-    let known = c.in-Ok-needs_of.ensures.needs b here in
-    let held = counted b here in
-    let more = enough b here in
-    omega (arith, known, held, more)))
+pub figures_of-requires-clause-groups : goal.figures_of-requires-clause-groups
+figures_of-requires-clause-groups c =
+    let z = c.args.symbols.now.certificate.now in
+    let all = c.in-Ok.ensures.certified in
+    let rs = readings_of c.args.session.now in
+    let enough = rw c.deref.ensures.value at c.in-Ok-blocks_of.ensures.enough in
+    rw c.deref-2.ensures.value
+    (length rs, are_groups z c.args.symbols.now.valid.fti all.who rs all.packets (groups_of c.in-Ok.groups.items) c.in-Ok.ensures.groups enough)
 
 pub returns-clause-report : goal.returns-clause-report
 returns-clause-report c =
+    let z = c.args.symbols.now.certificate.now in
+    let valid = c.args.symbols.now.valid.fti in
     let all = c.in-Ok.ensures.certified in
-    let counted = rw (c.as_slice.ensures.value, c.in-Ok.ensures.numbers, c.blocks-2.ensures.value, c.fti-fti.ensures.value) at c.in-Ok-counts.ensures.counts in
-    let lines = rw (c.as_slice-2.ensures.value, c.fti-fti.ensures.value) at c.in-Ok-blocks_of.ensures.lines in
-    let count = rw c.fti-fti.ensures.value at c.in-Ok-needs_of.ensures.len in
-    let need = rw c.fti-fti.ensures.value at c.in-Ok-needs_of.ensures.needs in
+    let rs = readings_of c.args.session.now in
+    let groups = groups_of c.in-Ok.groups.items in
+    let n = count_of c.in-Ok.groups.items in
+    let lines = rw c.deref.ensures.value at c.in-Ok-blocks_of.ensures.lines in
+    let enough = rw c.deref.ensures.value at c.in-Ok-blocks_of.ensures.enough in
+    let are = are_groups z valid all.who rs all.packets groups c.in-Ok.ensures.groups enough in
     record {
-      readings = readings_of c.args.session.now;
+      readings = rs;
       read = read_all c.args.session.now c.requires.datagrams;
-      blocks = lines ∙ lines_are c.args.symbols.now.certificate.now all.who c.args.session.now all.packets c.in-Ok-counts.held.items counted;
-      margin = margin_told c.args.symbols.now.certificate.now all.who c.args.session.now all.packets c.in-Ok-needs_of.needs.items count need _
-          (rw (c.as_slice-3.ensures.value, c.as_slice-4.ensures.value, c.in-Ok.ensures.numbers) at c.in-Ok-figures_of.ensures.margin);
-      kill = kill_told c.args.symbols.now.certificate.now all.who c.args.session.now all.packets c.in-Ok-needs_of.needs.items count need _ _
-          (rw (c.as_slice-3.ensures.value, c.as_slice-4.ensures.value, c.in-Ok.ensures.numbers) at c.in-Ok-figures_of.ensures.kill);
-      burst = burst_told c.args.symbols.now.certificate.now all.who c.args.session.now all.packets c.in-Ok-needs_of.needs.items count need _
-          (rw (c.as_slice-3.ensures.value, c.as_slice-4.ensures.value, c.in-Ok.ensures.numbers) at c.in-Ok-figures_of.ensures.burst);
+      blocks = lines ∙ ap (λ (m : ℕ). map (line_in (groups_of c.in-Ok.groups.items)) (below m)) (sym n) ∙ lines_are z.fti rs groups c.in-Ok.ensures.groups;
+      margin = margin_told z valid all.who rs all.packets groups c.in-Ok.ensures.groups _ ((rw c.deref-2.ensures.value at c.in-Ok-figures_of.ensures.margin) (length rs) are);
+      kill = kill_told z valid all.who rs all.packets groups c.in-Ok.ensures.groups _ _ ((rw c.deref-2.ensures.value at c.in-Ok-figures_of.ensures.kill) (length rs) are);
+      burst = burst_told z valid all.who rs all.packets groups c.in-Ok.ensures.groups _ ((rw c.deref-2.ensures.value at c.in-Ok-figures_of.ensures.burst) (length rs) are);
     }
 
 pub returns-clause-certified : goal.returns-clause-certified
 returns-clause-certified c =
-    let all = c.in-Ok.ensures.certified in
-    let counted = rw (c.as_slice.ensures.value, c.in-Ok.ensures.numbers, c.blocks-2.ensures.value, c.fti-fti.ensures.value) at c.in-Ok-counts.ensures.counts in
-    let enough = rw (c.as_slice-2.ensures.value, c.fti-fti.ensures.value) at c.in-Ok-blocks_of.ensures.enough in
-    record {
-      all = all;
-      full = enough_full c.args.symbols.now.certificate.now all.who c.args.session.now all.packets c.in-Ok-counts.held.items counted enough;
-    }
+    let z = c.args.symbols.now.certificate.now in
+    let enough = rw c.deref.ensures.value at c.in-Ok-blocks_of.ensures.enough in
+    record { all = c.in-Ok.ensures.certified; full = enough_full z.fti (readings_of c.args.session.now) (groups_of c.in-Ok.groups.items) c.in-Ok.ensures.groups enough }

@@ -1,25 +1,34 @@
-use Rattle.std.proofs.Common.{◌≡◌, ◌∙◌, ℕ, length, sym, ap, arith, Option, Some, None, Ok, Err, refl, subst}
-use Rattle.partition.specs.Fti.{Fti}
+use Rattle.std.proofs.Common.{◌≡◌, ◌∙◌, ◌<◌, ◌++◌, ◌∷◌, [], ℕ, List, length, take, drop, ◌+◌, sym, ap, arith, Option, Some, None, Ok, Err, refl, subst}
+use Rattle.std.proofs.lemmas.List.{length-map, length-take-le}
+use Rattle.std.proofs.Math.Seq.{take-append_seam}
+use Rattle.std.proofs.lemmas.Bool.{ltb-true}
+use Rattle.lists.proofs.Lists.{both}
+use Rattle.partition.specs.Fti.{Fti, block_count}
+use Rattle.losses.specs.Groups.{groups_of}
+use Rattle.losses.proofs.GroupFigures.{count_of}
 use Rattle.alc.specs.Views.{packet_of}
-use Rattle.reception.specs.Symbols.{Symbol}
-use Rattle.reception.specs.Reception.{Wrong, Faulty, Judged, judged, symbol_of, with_fti}
+use Rattle.alc.specs.Reading.{Reading}
+use Rattle.alc.specs.Computed.{read_of}
+use Rattle.reception.specs.Reception.{Wrong, Faulty, Judged, Placed, judged, symbol_of, symbols_in, with_fti, counted}
 use Rattle.reception.specs.Step.{readings_of}
 use Rattle.reception.specs.declared.scope.Scope.{Scope}
-use Rattle.reception.proofs.Walking.{begins, stops, goes_on, ends, none_passed, is_packet, came_before}
-use Rattle.reception.proofs.Within.{IsFaultless}
+use Rattle.reception.proofs.Walk.{counted_one_more}
+use Rattle.reception.proofs.Walking.{begins, stops, goes_on, ends, front, none_passed, is_packet, came_before}
 use Rattle.reception.proofs.Looks.{fti_after, faultless_look, length_look}
+use Rattle.cert.specs.Scan.{AreGroupsOf, IsPut}
 use Rattle.cert.specs.Verdict.{uncertified, IsAgainst}
-use Rattle.cert.proofs.Scanning.{Scanned, fti_holds, numbers_more}
+use Rattle.cert.proofs.Scanning.{Scanned, fti_holds}
+use Rattle.cert.proofs.Bridge.{group_more}
 use Rattle.cert.proofs.Judging.{against, are_certified, none_counted, some_counted, no_reason}
-use Rattle.cert.proofs.datagrams.numbers_of_session.Goals as goal
+use Rattle.cert.proofs.datagrams.groups_of_session.Goals as goal
 
 pub loop-place-init : goal.loop-place-init
 loop-place-init c =
     let z = c.args.symbols.now.certificate.now in
     record {
       len = refl;
-      scanned = subst (λ (s : Scope). Scanned z c.args.session.now 0 s) (ap with_fti (sym c.fti.ensures.value) ∙ sym c.with_fti-scope.ensures) (begins (uncertified z) (with_fti z.fti) c.args.session.now);
-      numbers = c.new-numbers.ensures.items;
+      scanned = subst (λ (s : Scope). Scanned z c.args.session.now 0 s) (ap with_fti (sym c.fti-fti.ensures.value) ∙ sym c.with_fti-scope.ensures) (begins (uncertified z) (with_fti z.fti) c.args.session.now);
+      groups = rw c.fti-fti.ensures.value at c.in-Ok.ensures;
     }
 
 pub loop-place-preserved-in-Ok-None : goal.loop-place-preserved-in-Ok-None
@@ -61,19 +70,51 @@ returns-in-Some-clause-refusal c =
     (stops (uncertified z) (with_fti z.fti) c.args.session.now c.loop-place.place c.loop-place.scope c.loop-place.invariant.scanned c.get.result.now c.look.new.self (Ok (Some c.in-Ok-Some.packet))
     (omega arith) c.get.ensures at (Judged c.in-Some.column) (ap (λ (o : Option ℕ). judged o) says))
 
+pub put-requires : goal.put-requires
+put-requires c =
+    let z = c.args.symbols.now.certificate.now in
+    let known = fti_holds z c.args.session.now c.loop-place.place c.loop-place.scope c.loop-place.invariant.scanned in
+    let at = rw (c.in-Ok-Some.is, c.in-Ok-Some.field-0-is) at c.look.ensures in
+    let faultless = faultless_look c.get.result.now c.loop-place.scope c.look.new.self c.in-Ok-Some.packet at z.fti
+    (fti_after c.get.result.now c.loop-place.scope c.look.new.self _ at z.fti known) in
+    let l = ltb-true c.in-Ok-Some.packet.sbn (block_count z.fti) (both _ _ faultless.1.range).0 in
+    let n = count_of c.loop-place.groups.items in
+    let g = c.loop-place.invariant.groups.count in
+    let d = ap (λ gs. length gs) c.deref_mut.ensures.value in
+    omega (arith, l, n, g, d)
+
 pub loop-place-preserved : goal.loop-place-preserved
 loop-place-preserved c =
     let z = c.args.symbols.now.certificate.now in
+    let old = c.loop-place.groups.items in
+    let new = c.put.new.groups in
     let at = rw (c.in-Ok-Some.is, c.in-Ok-Some.field-0-is) at c.look.ensures in
     let says : uncertified z (came_before c.args.session.now c.loop-place.place) (symbol_of (packet_of c.in-Ok-Some.packet)) ≡ None =
     sym c.wrong_in_symbol.ensures.column ∙ c.in-None.is in
+    let put : IsPut (groups_of c.loop-place.groups.items) c.loop-place.place (symbol_of (packet_of c.in-Ok-Some.packet)) (groups_of c.put.new.groups) =
+    rw c.deref_mut.ensures.value at c.in-Ok-put.ensures in
+    let long : c.loop-place.groups.len ≡ length c.put.new.groups =
+    (let a = count_of old in let b = count_of new in let p = put.count in let l = c.deref_mut.ensures.len in let v = ap (λ gs. length gs) c.deref_mut.ensures.value in omega (arith, a, b, p, l, v)) in
+    let same : take c.loop-place.groups.len (c.put.new.groups ++ drop (length c.put.new.groups) c.loop-place.groups.items) ≡ c.put.new.groups =
+    ap (λ (n : ℕ). take n (c.put.new.groups ++ drop (length c.put.new.groups) c.loop-place.groups.items)) long
+    ∙ take-append_seam c.put.new.groups (drop (length c.put.new.groups) c.loop-place.groups.items) in
+    let rs = take c.loop-place.place (readings_of c.args.session.now) in
+    let many : length (take c.loop-place.place (readings_of c.args.session.now)) ≡ c.loop-place.place =
+    length-take-le c.loop-place.place (readings_of c.args.session.now) (omega (arith, length-map c.args.session.now read_of)) in
+    let is : symbols_in at.reading ≡ symbol_of (packet_of c.in-Ok-Some.packet) ∷ [] =
+    ap symbols_in (is_packet c.get.result.now c.loop-place.scope c.look.new.self c.in-Ok-Some.packet at) in
+    let more = group_more z.fti (counted rs) c.loop-place.place (symbol_of (packet_of c.in-Ok-Some.packet)) at.reading is (groups_of old) (groups_of new) c.loop-place.invariant.groups put in
+    let front_is = front (uncertified z) (with_fti z.fti) c.args.session.now c.loop-place.place c.loop-place.scope c.loop-place.invariant.scanned c.get.result.now c.look.new.self (Ok (Some c.in-Ok-Some.packet))
+    (omega arith) c.get.ensures at in
+    let counted_is : counted (take (c.loop-place.place + 1) (readings_of c.args.session.now)) ≡ counted (take c.loop-place.place (readings_of c.args.session.now)) ++ record { place = c.loop-place.place; reading = at.reading } ∷ [] =
+    ap (λ (xs : List Reading). counted xs) front_is ∙ counted_one_more rs at.reading
+    ∙ ap (λ (n : ℕ). counted (take c.loop-place.place (readings_of c.args.session.now)) ++ record { place = n; reading = at.reading } ∷ []) many in
     record {
       len = c.wrong_in_symbol.ensures.len ∙ c.loop-place.invariant.len;
       scanned = goes_on (uncertified z) (with_fti z.fti) c.args.session.now c.loop-place.place c.loop-place.scope c.loop-place.invariant.scanned c.get.result.now c.look.new.self (Ok (Some c.in-Ok-Some.packet))
           (omega arith) c.get.ensures at (ap (λ (o : Option ℕ). judged o) says);
-      numbers = c.in-Ok.ensures.items ∙ rw c.loop-place.invariant.numbers
-          (sym (numbers_more c.args.session.now c.loop-place.place c.get.result.now at.reading (packet_of c.in-Ok-Some.packet) (omega arith) c.get.ensures at.reads
-          (is_packet c.get.result.now c.loop-place.scope c.look.new.self c.in-Ok-Some.packet at)));
+      groups = subst (λ (xs : List Placed). AreGroupsOf z.fti xs (groups_of (take c.loop-place.groups.len (c.put.new.groups ++ drop (length c.put.new.groups) c.loop-place.groups.items)))) (sym counted_is)
+          (subst (λ gs. AreGroupsOf z.fti (counted (take c.loop-place.place (readings_of c.args.session.now)) ++ record { place = c.loop-place.place; reading = at.reading } ∷ []) (groups_of gs)) (sym same) more);
     }
 
 pub returns-in-Some-identity-clause-certified : goal.returns-in-Some-identity-clause-certified
@@ -86,7 +127,8 @@ returns-in-Some-identity-clause-certified c =
 pub returns-in-None-identity-clause-refusal : goal.returns-in-None-identity-clause-refusal
 returns-in-None-identity-clause-refusal c =
     let z = c.args.symbols.now.certificate.now in
-    let w = ends (uncertified z) (with_fti z.fti) c.args.session.now c.loop-place.place c.loop-place.scope c.loop-place.invariant.scanned (omega (arith, c.len-place-end.ensures.value)) in (
+    let w = ends (uncertified z) (with_fti z.fti) c.args.session.now c.loop-place.place c.loop-place.scope c.loop-place.invariant.scanned (omega (arith, c.len-place-end.ensures.value)) in
+    (
       no_reason _ w.0,
       none_counted z (readings_of c.args.session.now) w.0 (ap (λ (s : Scope). s.identity) w.1 ∙ c.in-None-identity.is),
     )
