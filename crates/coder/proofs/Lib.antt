@@ -1,6 +1,9 @@
 pub mod RowSums
 pub mod Columns
 pub mod Sizes
+pub mod ColumnPlaces
+pub mod EncodedRows
+pub mod InPasses
 pub mod Counts
 pub mod Solving
 pub mod Sent

@@ -1,7 +1,6 @@
 -- The places of coefficients: block after block, in a block column after column, in a column as many as the block has
 -- source symbols.
-use Rattle.std.proofs.Common.{◌≡◌, ℕ, suc, ◌+◌, ◌*◌, ◌<◌, ◌≤◌, List, length, get_or, take, drop, arith, ap, ◌∙◌, sym, inl, inr, length-take-le, length-take, length-drop, get_or-take}
-use Rattle.std.proofs.lemmas.Bool.{cases_lt, cases_eq}
+use Rattle.std.proofs.Common.{◌≡◌, ℕ, suc, ◌+◌, ◌*◌, ◌<◌, ◌≤◌, List, length, get_or, take, drop, arith, ap, ◌∙◌, sym, length-take-le, length-take, length-drop, get_or-take}
 use Rattle.std.proofs.lemmas.List.{ext_get_or, get_or-drop}
 use Rattle.std.proofs.Math.Nat.{mul-le-mul_right}
 use Rattle.lists.specs.Bytes.{AreBytes}
@@ -21,22 +20,6 @@ use Rattle.coder.proofs.Columns.{row_of, length-row_of, get_or-row_of, bytes-row
 length-take-below : (k : ℕ) (xs : List ℕ) (i : ℕ) → i < length (take k xs) → i < k
 length-take-below k xs i lt = let e = length-take k xs in omega (arith, e, lt)
 
--- two steps of a row are apart
-pub steps_apart : (y c k : ℕ) → 0 < k → y < c → y * k + k ≤ c * k
-steps_apart y c k some lt =
-    let m : (y + 1) * k ≤ c * k = mul-le-mul_right k (let l : y + 1 ≤ c = omega arith in l) in
-    omega (arith, m)
-
--- places with other remainders are apart
-pub remainders_apart : (y c k n m : ℕ) → n < k → m < k → y * k + n ≡ c * k + m → n ≡ m
-remainders_apart y c k n m ln lm e = elim (cases_lt y c) [
-  | inl lt ↦ absurd (let s = steps_apart y c k (omega arith) lt in omega (arith, s, e))
-  | inr ge ↦ elim (cases_eq y c) [
-    | inl same ↦ (let p : y * k ≡ c * k = ap (λ (v : ℕ). v * k) same in omega (arith, p, e))
-    | inr ne ↦ absurd (let lt : c < y = omega arith in let s = steps_apart c y k (omega arith) lt in omega (arith, s, e))
-  ]
-]
-
 module _ (f : Fti) (valid : IsValidFti f) where
   -- where a block's coefficients begin, and where they end
   pub block_follows : (x b : ℕ) → x < b → start_of f x * f.symbol_length + f.symbol_length * source_count f x ≤ start_of f b * f.symbol_length
@@ -51,12 +34,6 @@ module _ (f : Fti) (valid : IsValidFti f) where
   column_within x y i ly li =
       let m : (y + 1) * source_count f x ≤ f.symbol_length * source_count f x = mul-le-mul_right (source_count f x) (let l : y + 1 ≤ f.symbol_length = omega arith in l) in
       omega (arith, m)
-
-  pub place_within : (b y i : ℕ) → b < block_count f → y < f.symbol_length → i < source_count f b
-      → start_of f b * f.symbol_length + i + y * source_count f b < coefficient_count f
-  place_within b y i hb ly li =
-      let e = polynomial_end f valid b y hb ly in
-      omega (arith, e, li)
 
   -- a polynomial of a block is known from the places of its coefficients
   pub same_polynomial_at : (old new : List ℕ) (b : ℕ) → length new ≡ length old → ((p : ℕ) → p < start_of f b * f.symbol_length → get_or new p 0 ≡ get_or old p 0)

@@ -1,13 +1,12 @@
 -- Rows of bytes that are added up.
-use Rattle.std.proofs.Common.{◌≡◌, ℕ, suc, ◌+◌, ◌-◌, ◌<◌, ◌≤◌, List, ◌++◌, length, get_or, take, drop, arith, ap, ◌∙◌, sym, inl, inr, length-take-le, get_or-take}
+use Rattle.std.proofs.Common.{◌≡◌, ℕ, ◌+◌, ◌-◌, ◌<◌, ◌≤◌, List, ◌++◌, length, get_or, take, drop, arith, ap, ◌∙◌, sym, inl, inr, length-take-le, get_or-take}
 use Rattle.std.proofs.lemmas.Bool.{cases_lt}
 use Rattle.std.proofs.lemmas.List.{get_or_append_left, get_or-append_right, get_or-drop, get_or_past}
 use Rattle.std.proofs.lemmas.Simd.{get_or-zip2, length-zip2}
 use Rattle.std.specs.Int.Bits.{xor_zero_r}
 use Rattle.gf256.specs.Arithmetic.{sum_of, product}
-use Rattle.gf256.specs.ProductLaws.{product_comm, product_zero}
+use Rattle.gf256.specs.ProductLaws.{product_zero}
 use Rattle.gf256.specs.Rows.{plus_scaled}
-use Rattle.gf256.specs.Sums.{row_times}
 
 -- a multiple of a row, added to the front of another
 pub plus_front : (scale : ℕ) (out row new : List ℕ) → length row ≤ length out → new ≡ plus_scaled scale (take (length row) out) row → (i : ℕ)
@@ -32,13 +31,3 @@ plus_front scale out row new le is i =
           ∙ sym (xor_zero_r (get_or out i 0))
           ∙ ap (λ (v : ℕ). sum_of (get_or out i 0) v) (sym (ap (product scale) none ∙ product_zero scale)))
     ]
-
--- one row more
-pub combined : (x : ℕ → ℕ) (m : ℕ → ℕ → ℕ) (i j new old scale byte : ℕ) → new ≡ sum_of old (product scale byte)
-    → old ≡ row_times sum_of product 0 x m i j → scale ≡ m i j → byte ≡ x i → scale < 256 → x i < 256
-    → new ≡ row_times sum_of product 0 x m (i + 1) j
-combined x m i j new old scale byte is so_far entry here small byte_small =
-    let s : i + 1 ≡ suc i = omega arith in
-    let e1 : product scale byte ≡ product (x i) (m i j) =
-    ap (product scale) here ∙ product_comm scale (x i) small byte_small ∙ ap (product (x i)) entry in
-    rw s (is ∙ ap (sum_of old) e1 ∙ ap (λ (t : ℕ). sum_of t (product (x i) (m i j))) so_far)

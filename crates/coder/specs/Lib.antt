@@ -1,5 +1,7 @@
 pub mod Sending
 pub mod BlockMatrices
+pub mod BlockColumns
+pub mod Passes
 pub mod Columns
 pub mod Certified
 pub mod Received

@@ -2,6 +2,7 @@
 #![tactic(auto)]
 
 mod answer;
+mod block_columns;
 mod block_matrices;
 mod certifying;
 mod counting;

@@ -1,94 +1,120 @@
 //! Rows of bytes: a block's source symbols, and what a matrix makes of them.
-ghost use Rattle.std.specs.Prelude.{◌≡◌, ◌<◌, ◌≤◌, ℕ, length, slice_index};
+ghost use Rattle.std.specs.Prelude.{◌≡◌, ◌<◌, ◌≤◌, ◌+◌, ◌*◌, ℕ, length, slice_index};
 ghost use Rattle.gf256.specs.Arithmetic.{sum_of, product};
-ghost use Rattle.partition.specs.Fti.{block_count, source_count, encoding_count, source_byte};
-ghost use Rattle.elim.specs.Grid.{entry};
 ghost use Rattle.gf256.specs.Sums.{row_times};
+ghost use Rattle.partition.specs.Fti.{block_count, source_count, encoding_count, source_byte};
 ghost use Rattle.reception.specs.Symbols.{Agrees};
 ghost use Rattle.coder.specs.BlockMatrices.{IsCodeOf};
+ghost use Rattle.coder.specs.BlockColumns.{AreColumnsOf, row_of};
 
-use elim::Matrix;
-use gf256::{Gf, add_scaled};
+use gf256::{Gf, add_products, add_scaled};
 use partition::Fti;
-
-// The object's bytes in source symbol `i` of block `b`: E of them, or fewer at the object's end.
-#[tactic(auto, using(partition::proofs::Laws::in_object, partition::proofs::Laws::place_fits, partition::proofs::Laws::start_fits, partition::proofs::Laws::source_most))]
-fn source_symbol<'a>(object: &'a [u8], fti: &Fti, b: u32, i: usize) -> &'a [u8]
-    requires object { length object.now ≡ fti.now.transfer_length }
-    requires block { b < block_count fti.now }
-    requires symbol { i < source_count fti.now b }
-    ensures bytes { (c : ℕ) → c < fti.now.symbol_length → slice_index result.now c ≡ source_byte fti.now object.now b i c }
-    ensures most { length result.now ≤ fti.now.symbol_length }
-{
-    let size = usize::from(fti.symbol());
-    let from = (fti.start(b) as usize + i) * size;
-    let left = object.len() - from;
-    &object[from..from + size.min(left)]
-}
 
 // Adds a multiple of a row to the front of another.
 pub(crate) fn add_row(out: &mut [u8], scale: Gf, row: &[u8])
     requires { length row.now ≤ length out.old }
     ensures len { length out.new ≡ length out.old }
-    ensures sums { (c : ℕ) → slice_index out.new c ≡ sum_of (slice_index out.old c) (product scale (slice_index row.now c)) }
+    ensures sums { (c : ℕ) → slice_index out.new c
+        ≡ sum_of (slice_index out.old c) (product scale (slice_index row.now c)) }
 {
     add_scaled(&mut out[..row.len()], scale, row);
 }
 
-// A row, and zeros behind it.
-fn copy_padded(out: &mut [u8], row: &[u8])
-    requires { length row.now ≤ length out.old }
-    ensures len { length out.new ≡ length out.old }
-    ensures bytes { (c : ℕ) → slice_index out.new c ≡ slice_index row.now c }
+// The object's bytes from source symbol `i` of block `b` on. Past the object's end there is
+// padding.
+#[tactic(auto, using(partition::proofs::Laws::in_object, partition::proofs::Laws::place_fits, partition::proofs::Laws::start_fits, partition::proofs::Laws::source_most))]
+fn bytes_from<'a>(object: &'a [u8], fti: &Fti, b: u32, i: usize) -> &'a [u8]
+    requires object { length object.now ≡ fti.now.transfer_length }
+    requires block { b < block_count fti.now }
+    requires symbol { i < source_count fti.now b }
+    ensures { (r c : ℕ) → slice_index result.now (r * fti.now.symbol_length + c)
+        ≡ source_byte fti.now object.now b (i + r) c }
 {
-    let (front, padding) = out.split_at_mut(row.len());
-    front.copy_from_slice(row);
+    let size = usize::from(fti.symbol());
+    let from = (fti.start(b) as usize + i) * size;
+    &object[from..]
+}
+
+// As many bytes as there is room for, and zeros behind them.
+fn copy_padded(out: &mut [u8], bytes: &[u8])
+    ensures len { length out.new ≡ length out.old }
+    ensures bytes { (p : ℕ) → p < length out.new
+        → slice_index out.new p ≡ slice_index bytes.now p }
+{
+    let count = bytes.len().min(out.len());
+    let (front, padding) = out.split_at_mut(count);
+    front.copy_from_slice(&bytes[..count]);
     padding.fill(0);
 }
 
-// The sum of a block's source symbols, each times its row's entry in column `j` of the matrix.
+// Makes rows of zeros.
+fn clear(rows: &mut [u8])
+    ensures len { length rows.new ≡ length rows.old }
+    ensures zeros { (p : ℕ) → slice_index rows.new p ≡ 0 }
+{
+    rows.fill(0);
+}
+
+/// Sums of a block's source symbols, each times its coefficient: a row for each row of
+/// coefficients.
 pub(crate) fn combine(
     object: &[u8],
     fti: &Fti,
     b: u32,
-    matrix: &Matrix<Gf>,
-    j: usize,
+    coefficients: &[u8],
+    rows: usize,
     out: &mut [u8],
 )
     requires object { length object.now ≡ fti.now.transfer_length }
     requires block { b < block_count fti.now }
-    requires rows { matrix.now.rows ≡ source_count fti.now b }
-    requires column { j < matrix.now.cols }
-    requires room { length out.old ≡ fti.now.symbol_length }
+    requires coefficients { length coefficients.now ≡ rows * source_count fti.now b }
+    requires room { length out.old ≡ rows * fti.now.symbol_length }
     ensures len { length out.new ≡ length out.old }
-    ensures sums { (c : ℕ) → c < fti.now.symbol_length → slice_index out.new c ≡ row_times sum_of product 0 (λ i. source_byte fti.now object.now b i c) (entry 0 matrix.now) (source_count fti.now b) j }
+    ensures sums { (r c : ℕ) → r < rows → c < fti.now.symbol_length
+        → slice_index out.new (r * fti.now.symbol_length + c)
+        ≡ row_times sum_of product 0
+        (λ i. slice_index coefficients.now (r * source_count fti.now b + i))
+        (source_byte fti.now object.now b) (source_count fti.now b) c }
 {
-    copy_padded(out, &[]);
-    for i in 0..matrix.rows() {
-        add_row(out, matrix.get(i, j), source_symbol(object, fti, b, i));
-    }
+    clear(out);
+    let size = usize::from(fti.symbol());
+    let count = fti.k(b);
+    let sources = bytes_from(object, fti, b, 0);
+    add_products(out, rows, coefficients, sources, count, size, size);
 }
 
-// The encoding symbol `j` of block `b`, by the block's generator matrix.
-pub(crate) fn encoding_symbol(
+/// The encoding symbols of a block from ESI `first` on, as many as there is room for, one behind
+/// the other: source symbols as they stand in the object, and all repair symbols by one product.
+/// `columns` are those of the block's generator matrix.
+pub(crate) fn encoding_symbols(
     object: &[u8],
     fti: &Fti,
     b: u32,
-    generator: &Matrix<Gf>,
-    j: usize,
+    columns: &[u8],
+    first: usize,
+    count: usize,
     out: &mut [u8],
 )
     requires object { length object.now ≡ fti.now.transfer_length }
     requires block { b < block_count fti.now }
-    requires code { IsCodeOf fti.now b generator.now }
-    requires esi { j < encoding_count fti.now b }
-    requires room { length out.old ≡ fti.now.symbol_length }
+    requires code { AreColumnsOf (IsCodeOf fti.now b) columns.now }
+    requires within { first + count ≤ encoding_count fti.now b }
+    requires room { length out.old ≡ count * fti.now.symbol_length }
     ensures len { length out.new ≡ length out.old }
-    ensures symbol { Agrees fti.now object.now (record { block = b; esi = j; bytes = out.new }) }
+    ensures symbols { (r : ℕ) → r < count
+        → Agrees fti.now object.now (record {
+          block = b;
+          esi = first + r;
+          bytes = row_of fti.now.symbol_length out.new r;
+        }) }
 {
-    if j < fti.k(b) {
-        copy_padded(out, source_symbol(object, fti, b, j));
-    } else {
-        combine(object, fti, b, generator, j, out);
+    let size = usize::from(fti.symbol());
+    let k = fti.k(b);
+    let sources = k.saturating_sub(first).min(count);
+    let (source_rows, repair_rows) = out.split_at_mut(sources * size);
+    if sources > 0 {
+        copy_padded(source_rows, bytes_from(object, fti, b, first));
     }
+    let coefficients = &columns[(first + sources) * k..(first + count) * k];
+    combine(object, fti, b, coefficients, count - sources, repair_rows);
 }

@@ -1,11 +1,13 @@
 //! Sending an object: its encoding symbols as the datagrams of a session.
-ghost use Rattle.std.specs.Prelude.{◌≡◌, ◌^◌, ◌≤◌, ◌<◌, ◌+◌, ◌∷◌, [], true, length, IfOk, IfErr, OnOk};
-ghost use Rattle.partition.specs.Fti.{block_count, encoding_count};
-ghost use Rattle.coder.specs.BlockMatrices.{EachBlockHas, IsCodeOf};
-ghost use Rattle.coder.specs.Sending.{pairs, pairs_of_block, pairs_of_round, Sends, SendsSome, CanBeSent, IsSendFault, most_symbol_bytes};
+ghost use Rattle.std.specs.Prelude.{◌≡◌, ◌^◌, ◌≤◌, ◌<◌, ◌+◌, ◌*◌, true, length, IfOk, IfErr, OnOk};
+ghost use Rattle.partition.specs.Fti.{IsValidFti, block_count, encoding_count};
+ghost use Rattle.coder.specs.BlockMatrices.{IsCodeOf};
+ghost use Rattle.coder.specs.BlockColumns.{EachBlockHasColumns};
+ghost use Rattle.coder.specs.Passes.{run_of, pairs_in, pairs_of_pass, passes, at_once};
+ghost use Rattle.coder.specs.Sending.{pairs, Sends, SendsSome, CanBeSent, IsSendFault, most_symbol_bytes};
 
-use crate::block_matrices::BlockMatrices;
-use crate::rows::encoding_symbol;
+use crate::block_columns::BlockColumns;
+use crate::rows::encoding_symbols;
 use alc::write;
 use partition::{Fti, Order};
 use session::{Write, write_one};
@@ -34,160 +36,157 @@ const MOST_SYMBOL_BYTES: u16 = 65475;
 // The bytes of a datagram before its symbol.
 const HEADER_SIZE: usize = 32;
 
-// What is sent.
+/// What is sent of an object, and the coefficients of its encoding symbols.
 #[derive(Drop)]
-struct Task<'a> {
+struct Transmission<'a> {
     object: &'a [u8],
     tsi: u32,
     toi: u32,
     fti: Fti,
-    generators: BlockMatrices,
+    columns: BlockColumns,
+    ghost fits: { CanBeSent object.now fti },
 }
 
-// Sends one encoding symbol.
-fn send_symbol<W: Write>(
-    task: &Task<'_>,
-    symbol: &mut [u8],
+// Sends encoding symbols of a block, as many as there is room for, from ESI `first` on.
+fn send_symbols<W: Write>(
+    t: &Transmission<'_>,
+    symbols: &mut [u8],
     datagram: &mut [u8],
     block: u32,
-    esi: u8,
+    first: usize,
+    count: usize,
     writer: &mut W,
 ) -> Result<(), SendFault>
-    requires object { CanBeSent task.now.object.now task.now.fti }
-    requires generators { EachBlockHas (IsCodeOf task.now.fti) task.now.fti task.now.generators.large task.now.generators.small }
-    requires symbol { length symbol.old ≡ task.now.fti.symbol_length }
-    requires datagram { length datagram.old ≡ 32 + task.now.fti.symbol_length }
-    requires block { block < block_count task.now.fti }
-    requires esi { esi < encoding_count task.now.fti block }
-    ensures sent { OnOk result (Sends task.now.object.now task.now.fti task.now.tsi task.now.toi ((block, esi) ∷ []) (W.contents writer.old) (W.contents writer.new)) }
-    ensures some { IfErr result (λ e. SendsSome task.now.object.now task.now.fti task.now.tsi task.now.toi ((block, esi) ∷ []) (W.contents writer.old) (W.contents writer.new)) }
-    ensures io { IfErr result (λ e. (e ≡ SendFault.Io) × (W.failed writer.new ≡ true)) }
-    ensures symbol { length symbol.new ≡ task.now.fti.symbol_length }
-    ensures datagram { length datagram.new ≡ 32 + task.now.fti.symbol_length }
-{
-    let generator = task.generators.of(task.fti.k(block));
-    encoding_symbol(
-        task.object,
-        &task.fti,
-        block,
-        generator,
-        usize::from(esi),
-        symbol,
-    );
-    write(task.tsi, task.toi, &task.fti, block, esi, symbol, datagram);
-    match write_one(writer, datagram) {
-        Ok(()) => Ok(()),
-        Err(_) => Err(SendFault::Io),
-    }
-}
-
-// Sends all encoding symbols of a block, and tells how many.
-fn send_block<W: Write>(
-    task: &Task<'_>,
-    symbol: &mut [u8],
-    datagram: &mut [u8],
-    block: u32,
-    writer: &mut W,
-) -> Result<u64, SendFault>
-    requires object { CanBeSent task.now.object.now task.now.fti }
-    requires generators { EachBlockHas (IsCodeOf task.now.fti) task.now.fti task.now.generators.large task.now.generators.small }
-    requires symbol { length symbol.old ≡ task.now.fti.symbol_length }
-    requires datagram { length datagram.old ≡ 32 + task.now.fti.symbol_length }
-    requires block { block < block_count task.now.fti }
-    ensures sent { OnOk result (Sends task.now.object.now task.now.fti task.now.tsi task.now.toi (pairs_of_block task.now.fti block) (W.contents writer.old) (W.contents writer.new)) }
-    ensures count { IfOk result (λ n. n ≡ length (pairs_of_block task.now.fti block)) }
-    ensures few { IfOk result (λ n. n ≤ 255) }
-    ensures some { IfErr result (λ e. SendsSome task.now.object.now task.now.fti task.now.tsi task.now.toi (pairs_of_block task.now.fti block) (W.contents writer.old) (W.contents writer.new)) }
-    ensures io { IfErr result (λ e. (e ≡ SendFault.Io) × (W.failed writer.new ≡ true)) }
-    ensures symbol { length symbol.new ≡ task.now.fti.symbol_length }
-    ensures datagram { length datagram.new ≡ 32 + task.now.fti.symbol_length }
-{
-    let count = task.fti.n(block);
-    for esi in 0..count {
-        send_symbol(task, symbol, datagram, block, esi as u8, writer)?;
-    }
-    Ok(count as u64)
-}
-
-// Sends block after block.
-fn send_blocks<W: Write>(
-    task: &Task<'_>,
-    symbol: &mut [u8],
-    datagram: &mut [u8],
-    writer: &mut W,
-) -> Result<u64, SendFault>
-    requires object { CanBeSent task.now.object.now task.now.fti }
-    requires generators { EachBlockHas (IsCodeOf task.now.fti) task.now.fti task.now.generators.large task.now.generators.small }
-    requires symbol { length symbol.old ≡ task.now.fti.symbol_length }
-    requires datagram { length datagram.old ≡ 32 + task.now.fti.symbol_length }
-    ensures sent { OnOk result (Sends task.now.object.now task.now.fti task.now.tsi task.now.toi (pairs Order.Blocks task.now.fti) (W.contents writer.old) (W.contents writer.new)) }
-    ensures count { IfOk result (λ n. n ≡ length (pairs Order.Blocks task.now.fti)) }
-    ensures some { IfErr result (λ e. SendsSome task.now.object.now task.now.fti task.now.tsi task.now.toi (pairs Order.Blocks task.now.fti) (W.contents writer.old) (W.contents writer.new)) }
+    requires codes { EachBlockHasColumns (IsCodeOf t.now.fti) t.now.fti
+        t.now.columns.rows t.now.columns.large.items t.now.columns.small.items }
+    requires block { block < block_count t.now.fti }
+    requires within { first + count ≤ encoding_count t.now.fti block }
+    requires symbols { length symbols.old ≡ count * t.now.fti.symbol_length }
+    requires datagram { length datagram.old ≡ 32 + t.now.fti.symbol_length }
+    ensures sent { OnOk result (Sends t.now.object.now t.now.fti t.now.tsi t.now.toi
+        (run_of block first count) (W.contents writer.old) (W.contents writer.new)) }
+    ensures some { IfErr result (λ e. SendsSome t.now.object.now t.now.fti t.now.tsi t.now.toi
+        (run_of block first count) (W.contents writer.old) (W.contents writer.new)) }
     ensures io { IfErr result (λ e. (e ≡ SendFault.Io) × (W.failed writer.new ≡ true)) }
 {
-    let mut sent = 0;
-    for block in 0..task.fti.blocks() {
-        sent += send_block(task, symbol, datagram, block, writer)?;
-    }
-    Ok(sent)
-}
-
-// Sends one encoding symbol of each block that has this ESI, and tells how many.
-fn send_round<W: Write>(
-    task: &Task<'_>,
-    symbol: &mut [u8],
-    datagram: &mut [u8],
-    esi: u8,
-    writer: &mut W,
-) -> Result<u64, SendFault>
-    requires object { CanBeSent task.now.object.now task.now.fti }
-    requires generators { EachBlockHas (IsCodeOf task.now.fti) task.now.fti task.now.generators.large task.now.generators.small }
-    requires symbol { length symbol.old ≡ task.now.fti.symbol_length }
-    requires datagram { length datagram.old ≡ 32 + task.now.fti.symbol_length }
-    ensures sent { OnOk result (Sends task.now.object.now task.now.fti task.now.tsi task.now.toi (pairs_of_round task.now.fti esi) (W.contents writer.old) (W.contents writer.new)) }
-    ensures count { IfOk result (λ n. n ≡ length (pairs_of_round task.now.fti esi)) }
-    ensures few { IfOk result (λ n. n ≤ 2 ^ 24) }
-    ensures some { IfErr result (λ e. SendsSome task.now.object.now task.now.fti task.now.tsi task.now.toi (pairs_of_round task.now.fti esi) (W.contents writer.old) (W.contents writer.new)) }
-    ensures io { IfErr result (λ e. (e ≡ SendFault.Io) × (W.failed writer.new ≡ true)) }
-    ensures symbol { length symbol.new ≡ task.now.fti.symbol_length }
-    ensures datagram { length datagram.new ≡ 32 + task.now.fti.symbol_length }
-{
-    let mut sent = 0;
-    for block in 0..task.fti.blocks() {
-        if usize::from(esi) < task.fti.n(block) {
-            send_symbol(task, symbol, datagram, block, esi, writer)?;
-            sent += 1;
+    let columns = t.columns.of(t.fti.k(block));
+    encoding_symbols(t.object, &t.fti, block, columns, first, count, symbols);
+    let size = usize::from(t.fti.symbol());
+    for i in 0..count {
+        let symbol = &symbols[i * size..(i + 1) * size];
+        let esi = (first + i) as u8;
+        write(t.tsi, t.toi, &t.fti, block, esi, symbol, datagram);
+        match write_one(writer, datagram) {
+            Ok(()) => {}
+            Err(_) => return Err(SendFault::Io),
         }
     }
-    Ok(sent)
+    Ok(())
 }
 
-// Sends ESI after ESI.
-fn send_rounds<W: Write>(
-    task: &Task<'_>,
-    symbol: &mut [u8],
+// What a pass sends of a block: the first ESI, and how many encoding symbols.
+fn run(fti: &Fti, order: Order, pass: u8, block: u32) -> (usize, usize)
+    requires valid { IsValidFti fti.now }
+    requires block { block < block_count fti.now }
+    ensures within { result.0 + result.1 ≤ encoding_count fti.now block }
+    ensures most { result.1 ≤ at_once order fti.now }
+    ensures pairs { run_of block result.0 result.1 ≡ pairs_in order fti.now pass block }
+{
+    let n = fti.n(block);
+    let esi = usize::from(pass);
+    match order {
+        Order::Blocks => (0, n),
+        Order::Rounds => { if esi < n { (esi, 1) } else { (0, 0) } }
+    }
+}
+
+// Sends one pass over the blocks, and tells how many datagrams.
+fn send_pass<W: Write>(
+    t: &Transmission<'_>,
+    order: Order,
+    pass: u8,
+    symbols: &mut [u8],
     datagram: &mut [u8],
     writer: &mut W,
 ) -> Result<u64, SendFault>
-    requires object { CanBeSent task.now.object.now task.now.fti }
-    requires generators { EachBlockHas (IsCodeOf task.now.fti) task.now.fti task.now.generators.large task.now.generators.small }
-    requires symbol { length symbol.old ≡ task.now.fti.symbol_length }
-    requires datagram { length datagram.old ≡ 32 + task.now.fti.symbol_length }
-    ensures sent { OnOk result (Sends task.now.object.now task.now.fti task.now.tsi task.now.toi (pairs Order.Rounds task.now.fti) (W.contents writer.old) (W.contents writer.new)) }
-    ensures count { IfOk result (λ n. n ≡ length (pairs Order.Rounds task.now.fti)) }
-    ensures some { IfErr result (λ e. SendsSome task.now.object.now task.now.fti task.now.tsi task.now.toi (pairs Order.Rounds task.now.fti) (W.contents writer.old) (W.contents writer.new)) }
+    requires codes { EachBlockHasColumns (IsCodeOf t.now.fti) t.now.fti
+        t.now.columns.rows t.now.columns.large.items t.now.columns.small.items }
+    requires room { length symbols.old ≡ at_once order t.now.fti * t.now.fti.symbol_length }
+    requires datagram { length datagram.old ≡ 32 + t.now.fti.symbol_length }
+    ensures sent { OnOk result (Sends t.now.object.now t.now.fti t.now.tsi t.now.toi
+        (pairs_of_pass order t.now.fti pass) (W.contents writer.old) (W.contents writer.new)) }
+    ensures count { IfOk result (λ n. n ≡ length (pairs_of_pass order t.now.fti pass)) }
+    ensures few { IfOk result (λ n. n ≤ 2 ^ 24 * 255) }
+    ensures some { IfErr result (λ e. SendsSome t.now.object.now t.now.fti t.now.tsi t.now.toi
+        (pairs_of_pass order t.now.fti pass) (W.contents writer.old) (W.contents writer.new)) }
     ensures io { IfErr result (λ e. (e ≡ SendFault.Io) × (W.failed writer.new ≡ true)) }
 {
+    let size = usize::from(t.fti.symbol());
     let mut sent = 0;
-    for esi in 0..task.fti.max_n() {
-        sent += send_round(task, symbol, datagram, esi, writer)?;
+    for block in 0..t.fti.blocks() {
+        let (first, count) = run(&t.fti, order, pass, block);
+        let room = &mut symbols[..count * size];
+        send_symbols(t, room, datagram, block, first, count, writer)?;
+        sent += count as u64;
     }
     Ok(sent)
 }
 
-/// Sends the object: writes the frame of the datagram of each encoding symbol of each block, source symbols among them
-/// (RFC 5510, section 8), in this order, and tells how many datagrams. All memory is asked for before the first byte is
-/// written: two generator matrices at most, and room for one datagram.
+// How many passes there are.
+fn pass_count(fti: &Fti, order: Order) -> u8
+    ensures { result ≡ passes order fti.now }
+{
+    match order {
+        Order::Blocks => 1,
+        Order::Rounds => fti.max_n(),
+    }
+}
+
+// Sends all passes: one in order `Blocks`, where a block's symbols are made and sent at once; one
+// for each ESI in order `Rounds`, where a single symbol is made of the object at a time, so that
+// nothing more than it is held.
+fn send_all<W: Write>(
+    t: &Transmission<'_>,
+    order: Order,
+    symbols: &mut [u8],
+    datagram: &mut [u8],
+    writer: &mut W,
+) -> Result<u64, SendFault>
+    requires codes { EachBlockHasColumns (IsCodeOf t.now.fti) t.now.fti
+        t.now.columns.rows t.now.columns.large.items t.now.columns.small.items }
+    requires room { length symbols.old ≡ at_once order t.now.fti * t.now.fti.symbol_length }
+    requires datagram { length datagram.old ≡ 32 + t.now.fti.symbol_length }
+    ensures sent { OnOk result (Sends t.now.object.now t.now.fti t.now.tsi t.now.toi
+        (pairs order t.now.fti) (W.contents writer.old) (W.contents writer.new)) }
+    ensures count { IfOk result (λ n. n ≡ length (pairs order t.now.fti)) }
+    ensures some { IfErr result (λ e. SendsSome t.now.object.now t.now.fti t.now.tsi t.now.toi
+        (pairs order t.now.fti) (W.contents writer.old) (W.contents writer.new)) }
+    ensures io { IfErr result (λ e. (e ≡ SendFault.Io) × (W.failed writer.new ≡ true)) }
+{
+    let mut sent = 0;
+    for pass in 0..pass_count(&t.fti, order) {
+        sent += send_pass(t, order, pass, symbols, datagram, writer)?;
+    }
+    Ok(sent)
+}
+
+// How many encoding symbols are made at once: all of the greatest block, or one.
+fn most_at_once(fti: &Fti, order: Order) -> usize
+    requires { IsValidFti fti.now }
+    ensures value { result ≡ at_once order fti.now }
+    ensures byte { result ≤ 255 }
+{
+    match order {
+        Order::Blocks => fti.n(0),
+        Order::Rounds => 1,
+    }
+}
+
+/// Sends the object: writes the frame of the datagram of each encoding symbol of each block, source
+/// symbols among them (RFC 5510, section 8), in this order, and tells how many datagrams. All
+/// memory is asked for before the first byte is written: two generator matrices at most, and room
+/// for one datagram and for the encoding symbols that are made at once: a block's, or in order
+/// `Rounds` one.
 pub fn encode<W: Write>(
     alloc: Global,
     object: &[u8],
@@ -197,10 +196,12 @@ pub fn encode<W: Write>(
     order: Order,
     writer: &mut W,
 ) -> Result<u64, SendFault>
-    ensures sent { OnOk result (Sends object.now fti.now tsi toi (pairs order fti.now) (W.contents writer.old) (W.contents writer.new)) }
+    ensures sent { OnOk result (Sends object.now fti.now tsi toi (pairs order fti.now)
+        (W.contents writer.old) (W.contents writer.new)) }
     ensures count { IfOk result (λ n. n ≡ length (pairs order fti.now)) }
     ensures can { OnOk result (CanBeSent object.now fti.now) }
-    ensures fault { IfErr result (λ e. IsSendFault e object.now fti.now tsi toi order (W.contents writer.old) (W.contents writer.new) (W.failed writer.new)) }
+    ensures fault { IfErr result (λ e. IsSendFault e object.now fti.now tsi toi order
+        (W.contents writer.old) (W.contents writer.new) (W.failed writer.new)) }
 {
     if object.len() as u64 != fti.length() {
         return Err(SendFault::Length);
@@ -208,25 +209,22 @@ pub fn encode<W: Write>(
     if fti.symbol() > MOST_SYMBOL_BYTES {
         return Err(SendFault::SymbolTooLong);
     }
-    let Ok(generators) = BlockMatrices::generators(alloc, fti) else {
+    let Ok(columns) = BlockColumns::generators(alloc, fti) else {
         return Err(SendFault::NoMemory);
     };
     let size = usize::from(fti.symbol());
-    let Ok(mut symbol) = Vec::from_elem(alloc, 0u8, size) else {
+    let Ok(mut symbols) = Vec::from_elem(alloc, 0u8, most_at_once(fti, order) * size) else {
         return Err(SendFault::NoMemory);
     };
     let Ok(mut datagram) = Vec::from_elem(alloc, 0u8, HEADER_SIZE + size) else {
         return Err(SendFault::NoMemory);
     };
-    let task = Task {
+    let transmission = Transmission {
         object,
         tsi,
         toi,
         fti: *fti,
-        generators,
+        columns,
     };
-    match order {
-        Order::Blocks => send_blocks(&task, &mut symbol, &mut datagram, writer),
-        Order::Rounds => send_rounds(&task, &mut symbol, &mut datagram, writer),
-    }
+    send_all(&transmission, order, &mut symbols, &mut datagram, writer)
 }

@@ -1,4 +1,5 @@
 use Rattle.std.proofs.Common.{◌≡◌, ◌∙◌, ℕ, List, length, drop, ap, sym, subst}
+use Rattle.partition.proofs.Laws.{some_block}
 use Rattle.reception.specs.Symbols.{IsObject}
 use Rattle.cert.specs.Certificate.{Certificate}
 use Rattle.cert.specs.Verdict.{GivesObject}
@@ -6,6 +7,9 @@ use Rattle.coder.proofs.Columns.{bytes_fit}
 use Rattle.coder.proofs.SessionReadings.{certifies_sent}
 use Rattle.coder.proofs.RowAdding.{take_front}
 use Rattle.coder.proofs.certifying.certify.Goals as goal
+
+pub k-requires : goal.k-requires
+k-requires c = some_block c.args.fti.now c.length.ensures.valid
 
 pub returns-clause-certifies : goal.returns-clause-certifies
 returns-clause-certifies c =

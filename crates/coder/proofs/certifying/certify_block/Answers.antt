@@ -1,56 +1,58 @@
-use Rattle.std.proofs.Common.{◌≡◌, ◌<◌, ◌+◌, ◌*◌, ◌∙◌, ℕ, length, get_or, ap, sym, inl, inr, arith}
-use Rattle.std.proofs.lemmas.Bool.{cases_eq}
-use Rattle.gf256.specs.Arithmetic.{sum_of, product}
-use Rattle.partition.specs.Fti.{start_of, source_count, source_byte}
-use Rattle.elim.specs.Grid.{entry}
-use Rattle.gf256.specs.Sums.{row_times}
+use Rattle.std.proofs.Common.{◌≡◌, ◌<◌, ◌≤◌, ◌+◌, ◌-◌, ◌*◌, ◌∙◌, ℕ, length, get_or, ap, arith}
+use Rattle.std.proofs.Math.Nat.{mul-le-mul_right, mul_comm}
+use Rattle.gf256.proofs.RowPlaces.{row_ends, rows_apart, put_at, part_long}
+use Rattle.partition.specs.Fti.{start_of, source_count, source_byte, symbol_count}
 use Rattle.coder.proofs.Columns.{bytes_fit}
-use Rattle.coder.proofs.Places.{place_within, remainders_apart, gives_from_places}
+use Rattle.coder.proofs.ColumnPlaces.{column_product}
+use Rattle.coder.proofs.Places.{gives_from_places}
 use Rattle.coder.proofs.RowAdding.{products}
+use borrow.Rule.Slice.PartMut.{put_mid, same_len_mid}
 use Rattle.coder.proofs.certifying.certify_block.Goals as goal
 
-pub scatter-requires-clause-room : goal.scatter-requires-clause-room
-scatter-requires-clause-room c = λ y ly.
+pub put_columns-requires-clause-room : goal.put_columns-requires-clause-room
+put_columns-requires-clause-room c =
     let f = c.args.fti.now in
-    let from = products c.start.result c.from.result (start_of f c.args.b) f.symbol_length c.start.ensures.value (c.from.ensures ∙ c.symbol.ensures.value) in
-    let column : y * c.k-count.result ≡ y * source_count f c.args.b = ap (λ (v : ℕ). y * v) c.k-count.ensures.value in
-    let row : y < f.symbol_length = omega (arith, ly, c.combine.ensures.len, c.loop-m.invariant.row, c.requires.row) in
-    let below : c.loop-m.m < source_count f c.args.b = rw c.k-count.ensures.value at c.loop-m-test.true in
-    let w = place_within f c.symbol.ensures.valid c.args.b y c.loop-m.m c.requires.block row below in
-    omega (arith, from, column, w, c.loop-m.invariant.len, c.requires.room)
-
-pub loop-m-preserved : goal.loop-m-preserved
-loop-m-preserved c =
-    let f = c.args.fti.now in
-    let k = source_count f c.args.b in
-    let m = c.loop-m.m in
-    let from = products c.start.result c.from.result (start_of f c.args.b) f.symbol_length c.start.ensures.value (c.from.ensures ∙ c.symbol.ensures.value) in
-    let below : m < k = rw c.k-count.ensures.value at c.loop-m-test.true in
-    record {
-      row = c.combine.ensures.len ∙ c.loop-m.invariant.row;
-      len = c.scatter.ensures.len ∙ c.loop-m.invariant.len;
-      here = λ y n ly ln.
-          let column : y * c.k-count.result ≡ y * k = ap (λ (v : ℕ). y * v) c.k-count.ensures.value in
-          let inside : y < length c.combine.new.out = omega (arith, ly, c.combine.ensures.len, c.loop-m.invariant.row, c.requires.row) in
-          elim (cases_eq n m) [
-            | inl e ↦
-                (let place : start_of f c.args.b * f.symbol_length + y * k + n ≡ c.start.result * c.from.result + m + y * c.k-count.result = omega (arith, from, column, e) in
-                ap (λ (p : ℕ). get_or c.scatter.new.out p 0) place ∙ c.scatter.ensures.here y inside ∙ c.combine.ensures.sums y ly
-                ∙ ap (λ (j : ℕ). row_times sum_of product 0 (λ i. source_byte f c.args.object.now c.args.b i y) (entry 0 c.args.interpolator.now) k j) (sym e))
-            | inr ne ↦
-                (let lt : n < m = omega arith in
-                c.scatter.ensures.elsewhere (start_of f c.args.b * f.symbol_length + y * k + n)
-                (λ x lx h.
-                let other : x * c.k-count.result ≡ x * k = ap (λ (v : ℕ). x * v) c.k-count.ensures.value in
-                ne (remainders_apart y x k n m (omega arith) below (omega (arith, from, other, h))))
-                ∙ c.loop-m.invariant.here y n ly lt)
-          ];
-      before = λ p lp.
-          c.scatter.ensures.elsewhere p (λ x lx h. omega (arith, from, h, lp)) ∙ c.loop-m.invariant.before p lp;
-    }
+    let size = c.from-size.ensures ∙ c.symbol.ensures.value in
+    let from = products c.start.result c.from-size.result (start_of f c.args.b) f.symbol_length c.start.ensures.value size in
+    let whole = products c.from-size.result c.k-count.result f.symbol_length (source_count f c.args.b) size c.k-count.ensures.value in
+    let turned = mul_comm f.symbol_length (source_count f c.args.b) in
+    let within : start_of f c.args.b + source_count f c.args.b ≤ symbol_count f = omega (arith, c.start.ensures.value, c.start.ensures.within) in
+    let most = mul-le-mul_right f.symbol_length within in
+    let split = rows_apart (start_of f c.args.b) (source_count f c.args.b) f.symbol_length in
+    let long = part_long c.args.coefficients.now (c.start.result * c.from-size.result) in
+    omega (arith, from, whole, turned, most, split, long, c.requires.room)
 
 pub returns-clause-gives : goal.returns-clause-gives
 returns-clause-gives c =
-    gives_from_places c.args.fti.now c.symbol.ensures.valid c.args.object.now c.loop-m.coefficients c.args.b c.args.interpolator.now
-    (bytes_fit c.args.object.now c.type_inv.object) c.requires.block (c.loop-m.invariant.len ∙ c.requires.room) c.requires.interpolator
-    (λ y n ly ln. c.loop-m.invariant.here y n ly (let e = c.k-count.ensures.value in let t = c.loop-m-test.false in omega (arith, e, t, ln)))
+    let f = c.args.fti.now in
+    let b = c.args.b in
+    let k : ℕ = source_count f c.args.b in
+    let m = c.requires.interpolator in
+    let size = c.from-size.ensures ∙ c.symbol.ensures.value in
+    let from = products c.start.result c.from-size.result (start_of f c.args.b) f.symbol_length c.start.ensures.value size in
+    let within : start_of f c.args.b + source_count f c.args.b ≤ symbol_count f = omega (arith, c.start.ensures.value, c.start.ensures.within) in
+    let most = mul-le-mul_right f.symbol_length within in
+    let split = rows_apart (start_of f c.args.b) (source_count f c.args.b) f.symbol_length in
+    let start : c.start.result * c.from-size.result ≤ length c.args.coefficients.now = omega (arith, from, most, split, c.requires.room) in
+    let at : ℕ = c.start.result * c.from-size.result in
+    let columns = rw (c.k-count.ensures.value, size) at c.put_columns.ensures.columns in
+    let sums = rw c.k-count.ensures.value at c.combine.ensures.sums in
+    let bytes = bytes_fit c.args.object.now c.type_inv.object in
+    let old = c.args.coefficients.now in
+    let new = c.put_columns.new.out in
+    gives_from_places f c.symbol.ensures.valid c.args.object.now
+    (put_mid (c.start.result * c.from-size.result) (length c.args.coefficients.now - c.start.result * c.from-size.result) c.args.coefficients.now c.put_columns.new.out)
+    c.args.b m.matrix bytes c.requires.block
+    (same_len_mid at (length c.args.coefficients.now - c.start.result * c.from-size.result) c.args.coefficients.now c.put_columns.new.out c.put_columns.ensures.len ∙ c.requires.room)
+    m.property
+    (λ y n ly ln.
+    let ends = row_ends y f.symbol_length k ly in
+    let turned = mul_comm f.symbol_length (source_count f c.args.b) in
+    let long = part_long c.args.coefficients.now (c.start.result * c.from-size.result) in
+    let place : start_of f c.args.b * f.symbol_length + y * k + n ≡ at + (y * k + n) = omega (arith, from) in
+    let inside : y * k + n < length c.put_columns.new.out = omega (arith, from, most, split, turned, ends, ln, long, c.put_columns.ensures.len, c.requires.room) in
+    let column : n < m.matrix.cols = rw m.property.cols ln in
+    ap (λ (p : ℕ). get_or (put_mid (c.start.result * c.from-size.result) (length c.args.coefficients.now - c.start.result * c.from-size.result) c.args.coefficients.now c.put_columns.new.out) p 0) place
+    ∙ put_at c.args.coefficients.now c.put_columns.new.out _ at (y * k + n) start inside
+    ∙ columns y n ly ln ∙ sums n y ln ly
+    ∙ column_product m.matrix c.args.columns.now (λ i. source_byte f c.args.object.now c.args.b i y) k n (bytes_fit c.args.columns.now c.type_inv.columns) m.columns m.property.rows column (λ i. bytes _))

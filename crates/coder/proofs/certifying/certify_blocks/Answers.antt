@@ -1,25 +1,38 @@
-use Rattle.std.proofs.Common.{◌<◌, ◌∙◌, ℕ, List, ap, sym, inl, inr, subst, arith}
+use Rattle.std.proofs.Common.{◌≡◌, ◌<◌, ◌≤◌, ◌*◌, ◌∙◌, ℕ, List, length-take-le, ap, sym, inl, inr, subst, arith}
 use Rattle.std.proofs.lemmas.Bool.{cases_eq}
 use Rattle.gf256.specs.Arithmetic.{point}
 use Rattle.poly.specs.Polynomial.{value}
 use Rattle.partition.specs.Fti.{source_count, block_count}
 use Rattle.cert.specs.Verdict.{GivesAt}
-use Rattle.coder.specs.BlockMatrices.{IsInterpolatorOf}
-use Rattle.coder.proofs.Sizes.{picked_has, some_picked}
+use Rattle.std.proofs.Math.Nat.{mul-le-mul_right}
+use Rattle.coder.proofs.RowAdding.{products}
+use Rattle.coder.proofs.InPasses.{first_source}
 use Rattle.coder.proofs.Places.{same_polynomial_at}
 use Rattle.coder.proofs.certifying.certify_blocks.Goals as goal
 
-pub of-interpolator-requires : goal.of-interpolator-requires
-of-interpolator-requires c =
-    let f = c.args.fti.now in
-    let hb : c.loop-b.b < block_count f = rw c.blocks-b-end.ensures.value at c.loop-b-test.true in
-    some_picked (IsInterpolatorOf f) f c.args.interpolators.now.large c.args.interpolators.now.small c.requires.interpolators c.loop-b.b c.k.result hb c.k.ensures.value
+room_for : (k k0 size rows : ℕ) → k ≤ k0 → rows ≡ k0 * size → k * size ≤ rows
+room_for k k0 size rows le e = let most = mul-le-mul_right size le in omega (arith, most, e)
 
-pub certify_block-requires-clause-interpolator : goal.certify_block-requires-clause-interpolator
-certify_block-requires-clause-interpolator c =
+pub slice_bounds-certify_block-end : goal.slice_bounds-certify_block-end
+slice_bounds-certify_block-end c =
     let f = c.args.fti.now in
-    let hb : c.loop-b.b < block_count f = rw c.blocks-b-end.ensures.value at c.loop-b-test.true in
-    picked_has (IsInterpolatorOf f) f c.args.interpolators.now.large c.args.interpolators.now.small c.requires.interpolators c.loop-b.b c.k.result c.of-interpolator.result.now hb c.k.ensures.value c.of-interpolator.ensures
+    let size = c.from-size.ensures ∙ c.symbol.ensures.value in
+    rw (c.k-count.ensures.value, size) (room_for (source_count f c.loop-b.b) (source_count f 0) f.symbol_length _ (first_source f c.symbol.ensures.valid c.loop-b.b) (c.loop-b.auto.rows ∙ c.requires.rows))
+
+pub slice_bounds-certify_block-end-in-loop-b : goal.slice_bounds-certify_block-end-in-loop-b
+slice_bounds-certify_block-end-in-loop-b c =
+    let f = c.args.fti.now in
+    let size = c.from-size.ensures ∙ c.symbol.ensures.value in
+    sym (length-take-le (c.k-count.result * c.from-size.result) c.loop-b.rows
+    (rw (c.k-count.ensures.value, size) (room_for (source_count f c.loop-b.b) (source_count f 0) f.symbol_length _ (first_source f c.symbol.ensures.valid c.loop-b.b) (c.loop-b.auto.rows ∙ c.requires.rows))))
+
+pub certify_block-requires-clause-rows : goal.certify_block-requires-clause-rows
+certify_block-requires-clause-rows c =
+    let f = c.args.fti.now in
+    let size = c.from-size.ensures ∙ c.symbol.ensures.value in
+    length-take-le (c.k-count.result * c.from-size.result) c.loop-b.rows
+    (rw (c.k-count.ensures.value, size) (room_for (source_count f c.loop-b.b) (source_count f 0) f.symbol_length _ (first_source f c.symbol.ensures.valid c.loop-b.b) (c.loop-b.auto.rows ∙ c.requires.rows)))
+    ∙ products c.k-count.result c.from-size.result (source_count f c.loop-b.b) f.symbol_length c.k-count.ensures.value size
 
 pub loop-b-preserved : goal.loop-b-preserved
 loop-b-preserved c =
@@ -27,7 +40,6 @@ loop-b-preserved c =
     let b = c.loop-b.b in
     let hb : b < block_count f = rw c.blocks-b-end.ensures.value at c.loop-b-test.true in
     record {
-      row = c.certify_block.ensures.row ∙ c.loop-b.invariant.row;
       len = c.certify_block.ensures.len ∙ c.loop-b.invariant.len;
       gives = λ x y i lx ly li.
           elim (cases_eq x b) [

@@ -5,7 +5,6 @@ use Rattle.coder.proofs.certifying.certify_blocks.Given as goal
 
 abbrev pub invariant-loop-b : goal.invariant-loop-b
 invariant-loop-b l = record {
-  row : length l.row ≡ length l.initial.row;
   len : length l.coefficients ≡ length l.initial.coefficients;
   gives : (x y i : ℕ) → x < l.b → y < l.fti.symbol_length → i < source_count l.fti x
       → GivesAt l.object (record { fti = l.fti; coefficients = l.coefficients }) x y i;

@@ -1,14 +1,26 @@
-use Rattle.partition.specs.Fti.{source_byte}
-use Rattle.elim.specs.Grid.{entry}
-use Rattle.std.proofs.Common.{◌∙◌, ℕ}
-use Rattle.coder.proofs.RowSums.{combined}
-use Rattle.coder.proofs.Columns.{bytes_fit}
+use Rattle.std.proofs.Common.{◌≡◌, ℕ, ◌+◌, ◌*◌, get_or, ap, ◌∙◌, arith}
+use Rattle.std.proofs.lemmas.Nat.{xor_comm}
+use Rattle.std.specs.Int.Bits.{xor_zero_r}
+use Rattle.gf256.specs.Arithmetic.{sum_of, product}
+use Rattle.gf256.specs.Sums.{byte_sum}
+use Rattle.gf256.proofs.SliceSums.{sum_same}
+use Rattle.gf256.proofs.RowPlaces.{rows_fit}
+use Rattle.partition.specs.Fti.{source_count, source_byte}
 use Rattle.coder.proofs.rows.combine.Goals as goal
 
-pub loop-i-preserved : goal.loop-i-preserved
-loop-i-preserved c = record {
-  len = c.add_row.ensures.len ∙ c.loop-i.invariant.len;
-  sums = λ y hy.
-      combined (λ (i : ℕ). source_byte c.args.fti.now c.args.object.now c.args.b i y) (entry 0 c.args.matrix.now) c.loop-i.i c.args.j _ _ _ _
-      (c.add_row.ensures.sums y) (c.loop-i.invariant.sums y hy) c.get.ensures.value (c.source_symbol.ensures.bytes y hy) c.get.ensures.fits (bytes_fit c.args.object.now c.type_inv.object _);
-}
+pub add_products-requires-clause-reach : goal.add_products-requires-clause-reach
+add_products-requires-clause-reach c =
+    let few = rows_fit 0 c.k-count.result 255 c.from-size.result (omega arith) in
+    omega (arith, few)
+
+pub returns-clause-sums : goal.returns-clause-sums
+returns-clause-sums c = λ r y lr ly.
+    let f = c.args.fti.now in
+    let size = c.from-size.ensures ∙ c.symbol.ensures.value in
+    let sums = rw (c.k-count.ensures.value, size) at c.add_products.ensures in
+    let sum : ℕ = byte_sum (source_count f c.args.b) (λ i. product (get_or c.args.coefficients.now (r * source_count f c.args.b + i) 0) (get_or c.bytes_from-sources.result.now (i * f.symbol_length + y) 0)) in
+    sums r y lr ly
+    ∙ ap (λ (v : ℕ). sum_of v sum) (c.clear.ensures.zeros (r * f.symbol_length + y))
+    ∙ xor_comm 0 sum ∙ xor_zero_r sum
+    ∙ sum_same (source_count f c.args.b) _ _ (λ i li. ap (product (get_or c.args.coefficients.now (r * source_count f c.args.b + i) 0)) (c.bytes_from-sources.ensures i y
+    ∙ (let e : 0 + i ≡ i = omega arith in ap (λ (v : ℕ). source_byte f c.args.object.now c.args.b v y) e)))

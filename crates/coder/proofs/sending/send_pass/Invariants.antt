@@ -1,0 +1,13 @@
+use Rattle.std.proofs.Common.{◌≡◌, ◌≤◌, ◌*◌, length}
+use Rattle.std.specs.Prelude.{flat_map}
+use Rattle.lists.specs.Below.{below}
+use Rattle.coder.specs.Sending.{Sends}
+use Rattle.coder.specs.Passes.{pairs_in}
+use Rattle.coder.proofs.sending.send_pass.Given as goal
+
+abbrev pub invariant-loop-block : goal.invariant-loop-block
+invariant-loop-block g l = record {
+  sent : Sends l.t.object.now l.t.fti l.t.tsi l.t.toi (flat_map (pairs_in l.order l.t.fti l.pass) (below l.block)) (g.W.Write.contents l.initial.writer) (g.W.Write.contents l.writer);
+  count : l.sent ≡ length (flat_map (pairs_in l.order l.t.fti l.pass) (below l.block));
+  few : l.sent ≤ 255 * l.block;
+}
