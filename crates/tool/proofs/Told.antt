@@ -3,7 +3,7 @@ use Rattle.std.proofs.Common.{◌≡◌, ◌⊎◌, ◌++◌, List, ℕ, Bool, t
 use Rattle.std.specs.Io.KnownBytes.{Appends}
 use Rattle.request.specs.declared.requests.Request.{Request}
 use Rattle.request.specs.declared.requests.Request.TheVariants as request
-use Rattle.tool.specs.Folder.{Contents}
+use Rattle.tool.specs.Folder.{Files}
 use Rattle.tool.specs.Lines.{line_of, IsFaultText, IsSilent, TellsFault}
 use Rattle.tool.specs.Outcomes.{IsCut}
 use Rattle.tool.specs.declared.fault.Fault.{Fault}
@@ -49,11 +49,11 @@ pub nothing_printed : (fault : Fault) (failed : Bool) (before after : Option (Li
 nothing_printed fault failed before after memory silent = subst (λ (f : Fault). IsSilent f failed before after) memory silent
 
 -- a fault of the output is one
-pub output_failed : (contents : Contents) (r : Request) (fault : Fault) (failed : Bool) (before after : Option (List ℕ)) → IsCut contents r fault failed before after
+pub output_failed : (files : Option Files) (r : Request) (fault : Fault) (failed : Bool) (before after : Option (List ℕ)) → IsCut files r fault failed before after
     → fault ≡ Output → failed ≡ true
-output_failed contents r fault failed before after cut is = go r (subst (λ f. IsCut contents r f failed before after) is cut)
+output_failed files r fault failed before after cut is = go r (subst (λ f. IsCut files r f failed before after) is cut)
   where
-    go : (r : Request) → IsCut contents r Output failed before after → failed ≡ true
+    go : (r : Request) → IsCut files r Output failed before after → failed ≡ true
     go (request.Check session object certificate) cut = cut
     go (request.Twin session object certificate output) cut = cut
     go (request.Show session) (inl silent) = silent
