@@ -2,37 +2,57 @@
 use crate::command::{Wanted, expect, folder_of};
 use crate::sessions::{PAIR, PAIR_CERTIFICATE, PAIR_SESSION, pair_changed, pair_frames};
 use session::Sink;
+use std::alloc::Global;
 use std::test::Fail;
 use tool::answer;
+
+// The command, over this one file, puts these bytes in its place, and prints this.
+fn replaces<'a>(
+    alloc: Global,
+    words: &'a [&'a str],
+    file: (&'a str, &'a [u8]),
+    text: &str,
+    bytes: &[u8],
+) -> Result<(), Fail> {
+    let (name, old) = file;
+    let wanted = Wanted {
+        status: 0,
+        text,
+        created: &[(name, bytes)],
+    };
+    expect(alloc, words, &[(name, old)], &wanted)
+}
 
 // An input may be named as the output: it is read first and replaced last.
 #[test]
 fn an_input_replaced(rt: HostRuntime) -> Result<(), Fail> {
     let alloc = rt.alloc();
     let left = pair_frames(alloc, &[1, 2])?;
-    let thinned = Wanted {
-        status: 0,
-        text: "kept 2 datagrams\n",
-        created: &[("s", left.as_slice())],
-    };
-    let files = [("s", PAIR_SESSION.as_slice())];
-    expect(alloc, &["alcrs", "drop", "s", "s", "0"], &files, &thinned)?;
-    let decoded = Wanted {
-        status: 0,
-        text: "object 2 bytes\n",
-        created: &[("s", &PAIR)],
-    };
-    expect(alloc, &["alcrs", "decode", "s", "s"], &files, &decoded)?;
-    let encoded = Wanted {
-        status: 0,
-        text: "encoded 3 datagrams\n",
-        created: &[("x", &PAIR_SESSION)],
-    };
+    replaces(
+        alloc,
+        &["alcrs", "drop", "s", "s", "0"],
+        ("s", &PAIR_SESSION),
+        "kept 2 datagrams\n",
+        left.as_slice(),
+    )?;
+    replaces(
+        alloc,
+        &["alcrs", "decode", "s", "s"],
+        ("s", &PAIR_SESSION),
+        "object 2 bytes\n",
+        &PAIR,
+    )?;
     let words = [
         "alcrs", "encode", "x", "x", "--tsi", "1", "--toi", "1", "--symbol", "1", "--block", "2",
         "--max", "3",
     ];
-    expect(alloc, &words, &[("x", &PAIR)], &encoded)
+    replaces(
+        alloc,
+        &words,
+        ("x", &PAIR),
+        "encoded 3 datagrams\n",
+        &PAIR_SESSION,
+    )
 }
 
 // The new file stands in the place of the old one, and no other is touched.

@@ -61,6 +61,6 @@ pub record IsDecoded (old new : Option Files) (session output : List ℕ) (befor
   pub printed : Appends before after (line_of line)
 
 -- Why not: the session wasn't read, the object isn't there, there was no memory, or the output has failed.
-abbrev pub IsNotDecoded : Option Files → List ℕ → List ℕ → Bool → Fault → Type 0
-IsNotDecoded files session output failed fault =
+abbrev pub IsNotDecoded : List ℕ → List ℕ → Option Files → Bool → Fault → Type 0
+IsNotDecoded session output files failed fault =
     IsSessionUnread files session fault ⊎ IsUnmade files output fault ⊎ IsPrintFault failed fault

@@ -18,7 +18,7 @@ use Rattle.tool.specs.declared.fault.Fault.{Fault}
 use Rattle.tool.specs.declared.fault.Fault.TheVariants.{Open, File, Memory, Fti as WrongFti, Send, Frame, Certificate as CertificateFault, Output}
 use Rattle.tool.specs.Folder.{Files, Replaces}
 use Rattle.tool.specs.Inputs.{HoldsBytes, HoldsSession, IsObjectUnread, IsSessionUnread}
-use Rattle.tool.specs.Lines.{line_of, named, IsPrintFault}
+use Rattle.tool.specs.Lines.{line_of, named, IsPrintFault, IsSilent}
 
 -- the FTI of an object of so many bytes
 abbrev pub sized : Sizes → ℕ → Fti
@@ -101,23 +101,30 @@ abbrev pub IsTooLong : Sizes → Fault → Type 0
 IsTooLong sizes (Send SymbolTooLong) = most_symbol_bytes < sizes.symbol
 IsTooLong sizes _ = ⊥
 
-abbrev pub IsNotEncoded : Option Files → List ℕ → List ℕ → Sending → Bool → Fault → Type 0
-IsNotEncoded files object output sending failed fault =
-    IsObjectUnread files object fault ⊎ IsUnsized files object sending.sizes fault ⊎ IsTooLong sending.sizes fault
-    ⊎ IsUnmade files output fault ⊎ IsUnwritten files fault ⊎ IsPrintFault failed fault
-
-abbrev pub IsNotCertified : Option Files → List ℕ → List ℕ → Sizes → Bool → Fault → Type 0
-IsNotCertified files object output sizes failed fault =
-    IsObjectUnread files object fault ⊎ IsUnsized files object sizes fault
-    ⊎ IsUnmade files output fault ⊎ IsUnwritten files fault ⊎ IsPrintFault failed fault
-
 -- the session hasn't one of the places; the first such is told
 abbrev pub IsOutside : Option Files → List ℕ → List ℕ → Fault → Type 0
 IsOutside files session places (Frame (NoSuchPlace place)) =
     (datagrams : List (List ℕ)) × HoldsSession files session datagrams × (first_outside (length datagrams) places ≡ Some place)
 IsOutside files session places _ = ⊥
 
-abbrev pub IsNotDropped : Option Files → List ℕ → List ℕ → List ℕ → Bool → Fault → Type 0
-IsNotDropped files session output places failed fault =
+-- After a fault of a command that writes a file: why, by the files before and whether printing has failed; what the files
+-- are; and what was printed.
+pub record Fails (why : Option Files → Bool → Fault → Type 0) (old new : Option Files) (output : List ℕ) (failed : Bool) (before after : Option (List ℕ)) (fault : Fault) : Type 0 where
+  pub because : why old failed fault
+  pub leaves : LeavesFiles old new output fault
+  pub silent : IsSilent fault failed before after
+
+abbrev pub IsNotEncoded : List ℕ → List ℕ → Sending → Option Files → Bool → Fault → Type 0
+IsNotEncoded object output sending files failed fault =
+    IsObjectUnread files object fault ⊎ IsUnsized files object sending.sizes fault ⊎ IsTooLong sending.sizes fault
+    ⊎ IsUnmade files output fault ⊎ IsUnwritten files fault ⊎ IsPrintFault failed fault
+
+abbrev pub IsNotCertified : List ℕ → List ℕ → Sizes → Option Files → Bool → Fault → Type 0
+IsNotCertified object output sizes files failed fault =
+    IsObjectUnread files object fault ⊎ IsUnsized files object sizes fault
+    ⊎ IsUnmade files output fault ⊎ IsUnwritten files fault ⊎ IsPrintFault failed fault
+
+abbrev pub IsNotDropped : List ℕ → List ℕ → List ℕ → Option Files → Bool → Fault → Type 0
+IsNotDropped session output places files failed fault =
     IsSessionUnread files session fault ⊎ IsOutside files session places fault
     ⊎ IsUnmade files output fault ⊎ IsUnwritten files fault ⊎ IsPrintFault failed fault

@@ -20,7 +20,7 @@ use Rattle.tool.specs.Folder.{Files, Replaces}
 use Rattle.tool.specs.Inputs.{HoldsSession, HoldsBytes, HoldsCertificate, IsSessionUnread, IsObjectUnread, IsCertificateUnread}
 use Rattle.tool.specs.Lines.{IsPrintFault, IsSilent, TellsFault, Prints, PrintsTwin, PrintsDatagrams, PrintsSome}
 use Rattle.tool.specs.Decoding.{IsDecoded, IsNotDecoded}
-use Rattle.tool.specs.Making.{IsEncoded, IsNotEncoded, IsCertified, IsNotCertified, IsDropped, IsNotDropped, IsUnmade, LeavesFiles}
+use Rattle.tool.specs.Making.{IsEncoded, IsNotEncoded, IsCertified, IsNotCertified, IsDropped, IsNotDropped, IsUnmade, Fails}
 
 abbrev pub status_of : Verdict → ℕ
 status_of (Yes report) = 0
@@ -82,8 +82,8 @@ pub record IsTwinned (old new : Option Files) (session object certificate output
   pub made : MakesTwin verdict polynomials.fti datagrams bytes output old new
 
 -- Why not: there was no verdict, or the output isn't there.
-abbrev pub IsUntwinned : Option Files → List ℕ → List ℕ → List ℕ → List ℕ → Bool → Fault → Type 0
-IsUntwinned files session object certificate output failed fault =
+abbrev pub IsUntwinned : List ℕ → List ℕ → List ℕ → List ℕ → Option Files → Bool → Fault → Type 0
+IsUntwinned session object certificate output files failed fault =
     IsUnchecked files session object certificate failed fault ⊎ IsUnmade files output fault
 
 abbrev pub IsSomePacket : List ℕ → Type 0
@@ -123,46 +123,36 @@ IsDone old new (Decode session output) before after status = IsDecoded old new s
 IsDone old new (Drop session output places) before after status =
     IsDropped old new session.now output.now places.items before after status
 
-abbrev pub IsUndone : Option Files → Request → Bool → Fault → Type 0
-IsUndone files (Check session object certificate) failed fault =
-    IsUnchecked files session.now object.now certificate.now failed fault
-IsUndone files (Twin session object certificate output) failed fault =
-    IsUntwinned files session.now object.now certificate.now output.now failed fault
-IsUndone files (Show session) failed fault = IsUnshown files session.now failed fault
-IsUndone files (Encode object output sending) failed fault = IsNotEncoded files object.now output.now sending failed fault
-IsUndone files (Certify object output sizes) failed fault = IsNotCertified files object.now output.now sizes failed fault
-IsUndone files (Decode session output) failed fault = IsNotDecoded files session.now output.now failed fault
-IsUndone files (Drop session output places) failed fault = IsNotDropped files session.now output.now places.items failed fault
-
--- What the files hold after a fault.
-abbrev pub Leaves : Option Files → Option Files → Request → Fault → Type 0
-Leaves old new (Check session object certificate) fault = new ≡ old
-Leaves old new (Twin session object certificate output) fault = LeavesFiles old new output.now fault
-Leaves old new (Show session) fault = new ≡ old
-Leaves old new (Encode object output sending) fault = LeavesFiles old new output.now fault
-Leaves old new (Certify object output sizes) fault = LeavesFiles old new output.now fault
-Leaves old new (Decode session output) fault = LeavesFiles old new output.now fault
-Leaves old new (Drop session output places) fault = LeavesFiles old new output.now fault
-
 -- the lines of the first datagrams were printed before a fault, or none
 abbrev pub IsShownInPart : Option Files → List ℕ → Fault → Bool → Option (List ℕ) → Option (List ℕ) → Type 0
 IsShownInPart files session fault failed before after =
     IsSilent fault failed before after
     ⊎ ((datagrams : List (List ℕ)) × HoldsSession files session datagrams × PrintsSome datagrams fault failed before after)
 
--- What was printed before a fault: nothing, but of datagrams that are shown the lines of the first.
-abbrev pub IsCut : Option Files → Request → Fault → Bool → Option (List ℕ) → Option (List ℕ) → Type 0
-IsCut files (Show session) fault failed before after = IsShownInPart files session.now fault failed before after
-IsCut files request fault failed before after = IsSilent fault failed before after
+-- Why the request wasn't done; what the files are after it; and what was printed before the fault is told: nothing, but of
+-- datagrams that are shown the lines of the first.
+abbrev pub IsUndone : Option Files → Option Files → Request → Bool → Option (List ℕ) → Option (List ℕ) → Fault → Type 0
+IsUndone old new (Check session object certificate) failed before after fault =
+    IsUnchecked old session.now object.now certificate.now failed fault × (new ≡ old) × IsSilent fault failed before after
+IsUndone old new (Twin session object certificate output) failed before after fault =
+    Fails (IsUntwinned session.now object.now certificate.now output.now) old new output.now failed before after fault
+IsUndone old new (Show session) failed before after fault =
+    IsUnshown old session.now failed fault × (new ≡ old) × IsShownInPart old session.now fault failed before after
+IsUndone old new (Encode object output sending) failed before after fault =
+    Fails (IsNotEncoded object.now output.now sending) old new output.now failed before after fault
+IsUndone old new (Certify object output sizes) failed before after fault =
+    Fails (IsNotCertified object.now output.now sizes) old new output.now failed before after fault
+IsUndone old new (Decode session output) failed before after fault =
+    Fails (IsNotDecoded session.now output.now) old new output.now failed before after fault
+IsUndone old new (Drop session output places) failed before after fault =
+    Fails (IsNotDropped session.now output.now places.items) old new output.now failed before after fault
 
 -- The request wasn't done. Behind what was printed before, the fault was told, or it is that the output has failed.
 pub record HasFault (old new : Option Files) (request : Request) (failed : Bool) (before after : Option (List ℕ)) (status : ℕ) : Type 0 where
   pub fault : Fault
   pub failed_then : Bool
-  pub undone : IsUndone old request failed_then fault
-  pub leaves : Leaves old new request fault
   pub printed : Option (List ℕ)
-  pub cut : IsCut old request fault failed_then before printed
+  pub undone : IsUndone old new request failed_then before printed fault
   pub told : TellsFault fault failed printed after
   pub one : status ≡ 1
 

@@ -1,7 +1,6 @@
 //! The command `certify`.
-ghost use Rattle.std.specs.Prelude.{◌≡◌, ◌≤◌, IfOk, IfErr};
-ghost use Rattle.tool.specs.Lines.{IsSilent};
-ghost use Rattle.tool.specs.Making.{IsCertified, IsNotCertified, LeavesFiles};
+ghost use Rattle.std.specs.Prelude.{IfOk, IfErr};
+ghost use Rattle.tool.specs.Making.{IsCertified, IsNotCertified, Fails};
 
 use crate::fault::Fault;
 use crate::folder::Folder;
@@ -23,15 +22,11 @@ pub(crate) fn certify<'a, F: Folder, W: Write>(
     output: &'a str,
     sizes: &Sizes,
 ) -> Result<u8, Fault<'a>>
-    ensures ok { IfOk result (IsCertified (F.files folder.old) (F.files folder.new) object.now output.now sizes.now
-        (W.contents out.old) (W.contents out.new)) }
-    ensures fault { IfErr result
-        (IsNotCertified (F.files folder.old) object.now output.now sizes.now (W.failed out.new)) }
-    ensures leaves { IfErr result
-        (LeavesFiles (F.files folder.old) (F.files folder.new) output.now) }
-    ensures silent { IfErr result (λ fault.
-        IsSilent fault (W.failed out.new) (W.contents out.old) (W.contents out.new)) }
-    ensures status { IfOk result (λ status. status ≤ 1) }
+    ensures ok { IfOk result (IsCertified (F.files folder.old) (F.files folder.new)
+        object.now output.now sizes.now (W.contents out.old) (W.contents out.new)) }
+    ensures fault { IfErr result (Fails (IsNotCertified object.now output.now sizes.now)
+        (F.files folder.old) (F.files folder.new) output.now
+        (W.failed out.new) (W.contents out.old) (W.contents out.new)) }
 {
     let object = read_object(alloc, folder, object)?;
     let fti = match fti_of(sizes, object.len()) {

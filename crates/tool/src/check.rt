@@ -27,7 +27,6 @@ pub(crate) fn check<'a, F: Folder, W: Write>(
         certificate.now (W.failed out.new)) }
     ensures silent { IfErr result (λ fault.
         IsSilent fault (W.failed out.new) (W.contents out.old) (W.contents out.new)) }
-    ensures status { IfOk result (λ status. status ≤ 1) }
     ensures stays { F.files folder.new ≡ F.files folder.old }
 {
     let session = read_session(alloc, folder, session)?;

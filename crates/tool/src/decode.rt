@@ -1,8 +1,7 @@
 //! The command `decode`.
 ghost use Rattle.std.specs.Prelude.{◌≡◌, ◌≤◌, IfOk, IfErr, OnOk, OnErr, codes};
 ghost use Rattle.tool.specs.Decoding.{GainsFault, missing_text, object_text, IsAnswerLine, answer_status, MakesObject, IsDecoded, IsNotDecoded};
-ghost use Rattle.tool.specs.Lines.{IsSilent};
-ghost use Rattle.tool.specs.Making.{IsUnmade, LeavesFiles};
+ghost use Rattle.tool.specs.Making.{IsUnmade, Fails};
 
 use crate::fault::Fault;
 use crate::folder::Folder;
@@ -22,15 +21,11 @@ pub(crate) fn decode<'a, F: Folder, W: Write>(
     session: &'a str,
     output: &'a str,
 ) -> Result<u8, Fault<'a>>
-    ensures ok { IfOk result (IsDecoded (F.files folder.old) (F.files folder.new) session.now output.now
-        (W.contents out.old) (W.contents out.new)) }
-    ensures fault { IfErr result
-        (IsNotDecoded (F.files folder.old) session.now output.now (W.failed out.new)) }
-    ensures leaves { IfErr result
-        (LeavesFiles (F.files folder.old) (F.files folder.new) output.now) }
-    ensures silent { IfErr result (λ fault.
-        IsSilent fault (W.failed out.new) (W.contents out.old) (W.contents out.new)) }
-    ensures status { IfOk result (λ status. status ≤ 3) }
+    ensures ok { IfOk result (IsDecoded (F.files folder.old) (F.files folder.new)
+        session.now output.now (W.contents out.old) (W.contents out.new)) }
+    ensures fault { IfErr result (Fails (IsNotDecoded session.now output.now)
+        (F.files folder.old) (F.files folder.new) output.now
+        (W.failed out.new) (W.contents out.old) (W.contents out.new)) }
 {
     let session = read_session(alloc, folder, session)?;
     let datagrams = session.views(alloc)?;

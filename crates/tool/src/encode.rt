@@ -1,7 +1,6 @@
 //! The command `encode`.
-ghost use Rattle.std.specs.Prelude.{◌≡◌, ◌≤◌, IfOk, IfErr};
-ghost use Rattle.tool.specs.Lines.{IsSilent};
-ghost use Rattle.tool.specs.Making.{IsEncoded, IsNotEncoded, LeavesFiles};
+ghost use Rattle.std.specs.Prelude.{IfOk, IfErr};
+ghost use Rattle.tool.specs.Making.{IsEncoded, IsNotEncoded, Fails};
 
 use crate::fault::Fault;
 use crate::folder::Folder;
@@ -23,15 +22,11 @@ pub(crate) fn encode<'a, F: Folder, W: Write>(
     output: &'a str,
     sending: &Sending,
 ) -> Result<u8, Fault<'a>>
-    ensures ok { IfOk result (IsEncoded (F.files folder.old) (F.files folder.new) object.now output.now sending.now
-        (W.contents out.old) (W.contents out.new)) }
-    ensures fault { IfErr result
-        (IsNotEncoded (F.files folder.old) object.now output.now sending.now (W.failed out.new)) }
-    ensures leaves { IfErr result
-        (LeavesFiles (F.files folder.old) (F.files folder.new) output.now) }
-    ensures silent { IfErr result (λ fault.
-        IsSilent fault (W.failed out.new) (W.contents out.old) (W.contents out.new)) }
-    ensures status { IfOk result (λ status. status ≤ 1) }
+    ensures ok { IfOk result (IsEncoded (F.files folder.old) (F.files folder.new)
+        object.now output.now sending.now (W.contents out.old) (W.contents out.new)) }
+    ensures fault { IfErr result (Fails (IsNotEncoded object.now output.now sending.now)
+        (F.files folder.old) (F.files folder.new) output.now
+        (W.failed out.new) (W.contents out.old) (W.contents out.new)) }
 {
     let object = read_object(alloc, folder, object)?;
     let fti = match fti_of(&sending.sizes, object.len()) {

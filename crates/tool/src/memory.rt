@@ -61,7 +61,8 @@ impl MemoryFolder {
 
     /// Puts a file in, in the place of the one of its name.
     pub fn put(&mut self, name: &str, bytes: Vec<u8>) -> Result<(), AllocError>
-        ensures ok { OnOk result (AddsFile self.old.files.items self.new.files.items name.now bytes.items) }
+        ensures ok { OnOk result
+            (AddsFile self.old.files.items self.new.files.items name.now bytes.items) }
         ensures err { OnErr result (self.new.files.items ≡ self.old.files.items) }
     {
         let kept = name.to_string(self.alloc)?;

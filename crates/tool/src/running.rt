@@ -2,7 +2,7 @@
 ghost use Rattle.std.specs.Prelude.{◌≡◌, ◌⊎◌, ◌≤◌, ◌++◌, ℕ, List, true, codes, IfOk, IfErr, OnOk};
 ghost use Rattle.std.specs.Io.KnownBytes.{Appends};
 ghost use Rattle.tool.specs.Lines.{line_of, IsFaultText, IsPrintFault, IsSilent, TellsFault};
-ghost use Rattle.tool.specs.Outcomes.{IsRun, IsDone, IsUndone, IsCut, Leaves};
+ghost use Rattle.tool.specs.Outcomes.{IsRun, IsDone, IsUndone};
 ghost use Rattle.tool.specs.declared.fault.Fault.TheVariants.{Output};
 
 use crate::certify::certify;
@@ -29,13 +29,8 @@ fn perform<'a, F: Folder, W: Write>(
 ) -> Result<u8, Fault<'a>>
     ensures ok { IfOk result (IsDone (F.files folder.old) (F.files folder.new) request.now
         (W.contents out.old) (W.contents out.new)) }
-    ensures fault { IfErr result
-        (IsUndone (F.files folder.old) request.now (W.failed out.new)) }
-    ensures leaves { IfErr result
-        (Leaves (F.files folder.old) (F.files folder.new) request.now) }
-    ensures cut { IfErr result (λ fault. IsCut (F.files folder.old) request.now fault
+    ensures fault { IfErr result (IsUndone (F.files folder.old) (F.files folder.new) request.now
         (W.failed out.new) (W.contents out.old) (W.contents out.new)) }
-    ensures status { IfOk result (λ status. status ≤ 3) }
 {
     match request {
         Request::Check {
@@ -118,7 +113,8 @@ fn print_fault<'a, W: Write>(alloc: Global, out: &mut W, fault: Fault<'_>) -> Re
 
 // Takes no memory itself.
 pub(crate) fn tell_memory<W: Write>(out: &mut W)
-    ensures { (W.failed out.new ≡ true) ⊎ Appends (W.contents out.old) (W.contents out.new) (codes "fault memory\n") }
+    ensures { (W.failed out.new ≡ true)
+        ⊎ Appends (W.contents out.old) (W.contents out.new) (codes "fault memory\n") }
 {
     let _ = write_all(out, b"fault memory\n");
 }
@@ -132,7 +128,8 @@ fn put<D: Display + Drop>(alloc: Global, line: &mut Line, fault: D) -> Result<()
 }
 
 fn fault_line(alloc: Global, fault: Fault<'_>) -> Result<Line, AllocError>
-    ensures { IfOk result (λ line. (text : List ℕ) × IsFaultText fault.entry text × (line ≡ codes "fault " ++ text)) }
+    ensures { IfOk result (λ line.
+        (text : List ℕ) × IsFaultText fault.entry text × (line ≡ codes "fault " ++ text)) }
 {
     let mut line = Line::new(alloc);
     line.text("fault ")?;

@@ -24,7 +24,6 @@ pub(crate) fn show<'a, F: Folder, W: Write>(
     ensures fault { IfErr result (IsUnshown (F.files folder.old) session.now (W.failed out.new)) }
     ensures cut { IfErr result (λ fault. IsShownInPart (F.files folder.old) session.now fault
         (W.failed out.new) (W.contents out.old) (W.contents out.new)) }
-    ensures status { IfOk result (λ status. status ≤ 1) }
     ensures stays { F.files folder.new ≡ F.files folder.old }
 {
     let session = read_session(alloc, folder, session)?;

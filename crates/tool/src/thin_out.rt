@@ -1,7 +1,6 @@
 //! The command `drop`.
-ghost use Rattle.std.specs.Prelude.{◌≡◌, ◌≤◌, IfOk, IfErr};
-ghost use Rattle.tool.specs.Lines.{IsSilent};
-ghost use Rattle.tool.specs.Making.{IsDropped, IsNotDropped, LeavesFiles};
+ghost use Rattle.std.specs.Prelude.{IfOk, IfErr};
+ghost use Rattle.tool.specs.Making.{IsDropped, IsNotDropped, Fails};
 
 use crate::fault::Fault;
 use crate::folder::Folder;
@@ -20,15 +19,11 @@ pub(crate) fn drop_places<'a, F: Folder, W: Write>(
     output: &'a str,
     places: &[usize],
 ) -> Result<u8, Fault<'a>>
-    ensures ok { IfOk result (IsDropped (F.files folder.old) (F.files folder.new) session.now output.now places.now
-        (W.contents out.old) (W.contents out.new)) }
-    ensures fault { IfErr result
-        (IsNotDropped (F.files folder.old) session.now output.now places.now (W.failed out.new)) }
-    ensures leaves { IfErr result
-        (LeavesFiles (F.files folder.old) (F.files folder.new) output.now) }
-    ensures silent { IfErr result (λ fault.
-        IsSilent fault (W.failed out.new) (W.contents out.old) (W.contents out.new)) }
-    ensures status { IfOk result (λ status. status ≤ 1) }
+    ensures ok { IfOk result (IsDropped (F.files folder.old) (F.files folder.new)
+        session.now output.now places.now (W.contents out.old) (W.contents out.new)) }
+    ensures fault { IfErr result (Fails (IsNotDropped session.now output.now places.now)
+        (F.files folder.old) (F.files folder.new) output.now
+        (W.failed out.new) (W.contents out.old) (W.contents out.new)) }
 {
     let session = read_session(alloc, folder, session)?;
     let left = match session.without(alloc, places) {

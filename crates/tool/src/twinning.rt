@@ -1,7 +1,7 @@
 //! The command `twin`.
-ghost use Rattle.std.specs.Prelude.{◌≡◌, ◌≤◌, IfOk, IfErr};
-ghost use Rattle.tool.specs.Lines.{twin_line, IsSilent};
-ghost use Rattle.tool.specs.Making.{LeavesFiles};
+ghost use Rattle.std.specs.Prelude.{◌≡◌, IfOk, IfErr};
+ghost use Rattle.tool.specs.Lines.{twin_line};
+ghost use Rattle.tool.specs.Making.{Fails};
 ghost use Rattle.tool.specs.Outcomes.{short_of, IsTwinned, IsUntwinned};
 
 use crate::check::reason_line;
@@ -25,15 +25,13 @@ pub(crate) fn twin<'a, F: Folder, W: Write>(
     certificate: &'a str,
     output: &'a str,
 ) -> Result<u8, Fault<'a>>
-    ensures ok { IfOk result (IsTwinned (F.files folder.old) (F.files folder.new) session.now
-        object.now certificate.now output.now (W.contents out.old) (W.contents out.new)) }
-    ensures fault { IfErr result (IsUntwinned (F.files folder.old) session.now
-        object.now certificate.now output.now (W.failed out.new)) }
-    ensures leaves { IfErr result
-        (LeavesFiles (F.files folder.old) (F.files folder.new) output.now) }
-    ensures silent { IfErr result (λ fault.
-        IsSilent fault (W.failed out.new) (W.contents out.old) (W.contents out.new)) }
-    ensures status { IfOk result (λ status. status ≤ 1) }
+    ensures ok { IfOk result (IsTwinned (F.files folder.old) (F.files folder.new)
+        session.now object.now certificate.now output.now
+        (W.contents out.old) (W.contents out.new)) }
+    ensures fault { IfErr result (Fails
+        (IsUntwinned session.now object.now certificate.now output.now) (F.files folder.old)
+        (F.files folder.new) output.now (W.failed out.new)
+        (W.contents out.old) (W.contents out.new)) }
 {
     let session = read_session(alloc, folder, session)?;
     let object = read_object(alloc, folder, object)?;
