@@ -14,6 +14,8 @@ mod loss_tests;
 #[cfg(test)]
 mod making_tests;
 #[cfg(test)]
+mod output_tests;
+#[cfg(test)]
 mod sessions;
 #[cfg(test)]
 mod show_tests;

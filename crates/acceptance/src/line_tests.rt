@@ -1,6 +1,8 @@
 //! Command lines that are refused, and help.
-use crate::command::answer;
+use crate::command::{answer, folder_of};
+use session::Sink;
 use std::test::Fail;
+use tool::{answer as answer_words, refuse_memory, status_after};
 
 #[test]
 fn refused_lines(rt: HostRuntime) -> Result<(), Fail> {
@@ -20,7 +22,8 @@ fn refused_lines(rt: HostRuntime) -> Result<(), Fail> {
     ] {
         let refused = answer(alloc, words, &[])?;
         assert_eq!(rt; refused.status, 2);
-        assert!(rt; !refused.text.as_str().is_empty());
+        assert!(rt; !refused.refusal.as_str().is_empty());
+        assert!(rt; refused.text.as_str().is_empty());
     }
     Ok(())
 }
@@ -29,7 +32,7 @@ fn refused_lines(rt: HostRuntime) -> Result<(), Fail> {
 fn a_missing_argument(rt: HostRuntime) -> Result<(), Fail> {
     let refused = answer(rt.alloc(), &["alcrs", "check", "s"], &[])?;
     assert_eq!(rt;
-        refused.text.as_str(),
+        refused.refusal.as_str(),
         "error: the following required arguments were not provided:\n  <OBJECT>\n  <CERT>\n\nUsage: alcrs check <SESSION> <OBJECT> <CERT>\n\nFor more information, try '--help'.\n"
     );
     Ok(())
@@ -85,7 +88,49 @@ fn numbers_out_of_range(rt: HostRuntime) -> Result<(), Fail> {
         ];
         let refused = answer(alloc, &words, &[])?;
         assert_eq!(rt; refused.status, 2);
-        assert!(rt; refused.text.as_str().contains(name), "{name}");
+        assert!(rt; refused.refusal.as_str().contains(name), "{name}");
+    }
+    Ok(())
+}
+
+// Help that can't be printed has status 1; a refusal that can't be told has status 2 all the same.
+#[test]
+fn texts_that_find_no_room(rt: HostRuntime) -> Result<(), Fail> {
+    let alloc = rt.alloc();
+    let mut folder = folder_of(alloc, &[])?;
+    for room in [0, 9] {
+        let mut out = Sink::limited(alloc, 4, room);
+        let mut err = Sink::new(alloc);
+        let words = ["alcrs", "--help"];
+        assert_eq!(rt;
+            answer_words(alloc, &words, &mut folder, &mut out, &mut err),
+            1
+        );
+        assert_eq!(rt; out.bytes().len(), room);
+        assert!(rt; err.bytes().is_empty());
+        let mut out = Sink::new(alloc);
+        let mut err = Sink::limited(alloc, 4, room);
+        let words = ["alcrs", "encode", "text"];
+        assert_eq!(rt;
+            answer_words(alloc, &words, &mut folder, &mut out, &mut err),
+            2
+        );
+        assert_eq!(rt; err.bytes().len(), room);
+        assert!(rt; out.bytes().is_empty());
+    }
+    Ok(())
+}
+
+#[test]
+fn statuses(rt: HostRuntime) -> Result<(), Fail> {
+    let mut out = Sink::new(rt.alloc());
+    assert_eq!(rt; refuse_memory(&mut out), 1);
+    assert_eq!(rt; out.bytes(), b"fault memory\n".as_slice());
+    let mut full = Sink::limited(rt.alloc(), 1, 0);
+    assert_eq!(rt; refuse_memory(&mut full), 1);
+    for status in 0..=3u8 {
+        assert_eq!(rt; status_after(status, Ok(())), status);
+        assert_eq!(rt; status_after(status, Err(session::Failed)), 1);
     }
     Ok(())
 }

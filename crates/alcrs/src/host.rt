@@ -1,54 +1,181 @@
 //! The host's files.
-ghost use Rattle.std.specs.Prelude.{◌≡◌, None};
+ghost use Rattle.std.specs.Prelude.{◌≡◌, ◌^◌, ◌-◌, None, false, IfOk};
 
-use session::{Device, Failed};
+use session::{Device, Failed, Write};
+use std::alloc::Global;
 use std::fs;
-use std::fs::File;
+use std::fs::{File, OpenFile, OpenOptions};
+use std::io::{BufReader, BufWriter, ErrorKind};
 use std::rt::Files;
-use tool::Folder;
+use tool::{FileFault, Folder};
+
+/// How many bytes stand between a file, or the output, and its reader or writer.
+pub(crate) const BUFFER_SIZE: usize = 65536;
+
+/// How many files may stand beside an output under the names for its parts, as those of runs that were cut off.
+const MOST_PARTS: u8 = 100;
 
 /// The folder that the program runs in. Names are paths.
 #[derive(Drop)]
 pub struct HostFolder<'a, R> {
     rt: &'a R,
+    alloc: Global,
 }
 
 impl<'a, R> HostFolder<'a, R> {
     /// The folder, through the host's runtime.
-    pub fn new(rt: &'a R) -> HostFolder<'a, R>
+    pub fn new(rt: &'a R, alloc: Global) -> HostFolder<'a, R>
         ensures { result.rt.now ≡ rt.now }
     {
-        HostFolder { rt }
+        HostFolder { rt, alloc }
+    }
+}
+
+/// A file that is written: beside its name until it is kept, or, where a device, a pipe or a link has that, straight.
+pub struct HostOutput<T: std::io::Write + Drop> {
+    device: Device<BufWriter<T>>,
+    part: Option<String>,
+}
+
+impl<T: std::io::Write + Drop> Write for HostOutput<T> {
+    ghost contents = { λ _. None };
+
+    ghost failed = { λ output. output.device.failed };
+
+    ghost room = { λ _. 0 };
+
+    fn write(&mut self, bytes: &[u8]) -> Result<usize, Failed> {
+        self.device.write(bytes)
+    }
+}
+
+// A new file beside this name, and its own name: one that no other file has.
+fn create_beside<R: Files>(
+    rt: &R,
+    alloc: Global,
+    name: &str,
+) -> Result<(R::File, String), FileFault> {
+    for number in 0..MOST_PARTS {
+        let part = if number == 0 {
+            format!(in alloc; "{name}.part")
+        } else {
+            format!(in alloc; "{name}.part{number}")
+        };
+        let Ok(part) = part else {
+            return Err(FileFault::NoMemory);
+        };
+        match File::create_new(rt, part.as_str()) {
+            Ok(file) => return Ok((file, part)),
+            Err(error) if error.kind() == ErrorKind::AlreadyExists => {}
+            Err(_) => return Err(FileFault::Io),
+        }
+    }
+    Err(FileFault::Io)
+}
+
+// Fails where the file of this name may not be written.
+fn may_write<R: Files>(rt: &R, name: &str) -> Result<(), FileFault> {
+    match OpenOptions::new().write(true).open(rt, name) {
+        Ok(file) => {
+            drop(file);
+            Ok(())
+        }
+        Err(_) => Err(FileFault::Io),
+    }
+}
+
+// A file to be written, and its name where that is not the one that was asked for.
+fn create<R: Files>(
+    rt: &R,
+    alloc: Global,
+    name: &str,
+) -> Result<(R::File, Option<String>), FileFault> {
+    match fs::symlink_metadata(rt, name) {
+        Ok(there) if there.is_file() => {
+            may_write(rt, name)?;
+            let (file, part) = create_beside(rt, alloc, name)?;
+            let _ = file.set_permissions(there.permissions());
+            Ok((file, Some(part)))
+        }
+        Ok(_) => match fs::create(rt, name) {
+            Ok(file) => Ok((file, None)),
+            Err(_) => Err(FileFault::Io),
+        },
+        Err(error) if error.kind() == ErrorKind::NotFound && !name.is_empty() => {
+            let (file, part) = create_beside(rt, alloc, name)?;
+            Ok((file, Some(part)))
+        }
+        Err(_) => Err(FileFault::Io),
+    }
+}
+
+impl<R: Files> HostFolder<'_, R> {
+    fn remove(&self, part: &Option<String>) {
+        if let Some(part) = part {
+            let _ = fs::remove_file(self.rt, part.as_str());
+        }
     }
 }
 
 impl<R: Files> Folder for HostFolder<'_, R> {
-    type Input = Device<R::File>;
+    type Input = Device<BufReader<R::File>>;
 
-    type Output = Device<R::File>;
+    type Output = HostOutput<R::File>;
 
-    ghost content = { λ _ _. None };
+    ghost files = { λ _. None };
 
-    ghost blank = { None };
-
-    ghost written = { λ _ _. None };
-
-    fn open_file(&mut self, name: &str) -> Result<Device<R::File>, Failed> {
-        match fs::open(self.rt, name) {
-            Ok(file) => Ok(Device::new(file)),
-            Err(_) => Err(Failed),
+    fn open_file(&mut self, name: &str) -> Result<Device<BufReader<R::File>>, FileFault> {
+        let Ok(file) = fs::open(self.rt, name) else {
+            return Err(FileFault::Io);
+        };
+        match BufReader::with_capacity(self.alloc, BUFFER_SIZE, file) {
+            Ok(reader) => Ok(Device::new(reader)),
+            Err(_) => Err(FileFault::NoMemory),
         }
     }
 
-    fn create_file(&mut self, name: &str) -> Result<Device<R::File>, Failed> {
-        match fs::create(self.rt, name) {
-            Ok(file) => Ok(Device::new(file)),
-            Err(_) => Err(Failed),
+    fn create_file(&mut self, name: &str) -> Result<HostOutput<R::File>, FileFault> {
+        let (file, part) = create(self.rt, self.alloc, name)?;
+        match BufWriter::with_capacity(self.alloc, BUFFER_SIZE, file) {
+            Ok(writer) => Ok(HostOutput {
+                device: Device::new(writer),
+                part,
+            }),
+            Err(_) => {
+                self.remove(&part);
+                Err(FileFault::NoMemory)
+            }
         }
     }
 
-    fn close_file(&mut self, _name: &str, output: Device<R::File>) -> Result<(), Failed> {
-        drop(output);
-        Ok(())
+    fn keep_file(&mut self, name: &str, output: HostOutput<R::File>) -> Result<(), FileFault> {
+        let HostOutput { mut device, part } = output;
+        let flushed = device.flush();
+        let (file, _) = device.into_inner().into_parts();
+        drop(file);
+        let Some(part) = part else {
+            return match flushed {
+                Ok(()) => Ok(()),
+                Err(Failed) => Err(FileFault::Io),
+            };
+        };
+        let renamed = match flushed {
+            Ok(()) => fs::rename(self.rt, part.as_str(), name).is_ok(),
+            Err(Failed) => false,
+        };
+        if renamed {
+            Ok(())
+        } else {
+            let _ = fs::remove_file(self.rt, part.as_str());
+            Err(FileFault::Io)
+        }
+    }
+
+    fn give_up(&mut self, output: HostOutput<R::File>) -> FileFault {
+        let HostOutput { device, part } = output;
+        let (file, _) = device.into_inner().into_parts();
+        drop(file);
+        self.remove(&part);
+        FileFault::Io
     }
 }

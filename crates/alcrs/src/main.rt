@@ -1,49 +1,52 @@
-//! The program: the commands over the host's files.
+//! The program: the answer to its words, over the host's files and streams.
 #![tactic(auto)]
 
 mod host;
+mod words;
 
-use host::HostFolder;
-use request::{Usage, request};
-use session::Device;
-use std::io::{self, ErrorKind};
+use host::{BUFFER_SIZE, HostFolder};
+use session::{Device, Write};
+use std::alloc::{AllocError, Global};
+use std::io::BufWriter;
 use std::process::ExitCode;
-use tool::run;
+use tool::{answer, refuse_memory, status_after};
+use words::{WordFault, read_words, refuse_word};
 
-// Does what the command line asks for; the status.
-fn answer(rt: &HostRuntime) -> io::Result<ExitCode> {
-    let alloc = rt.alloc();
-    let words: Vec<String> = std::env::args(rt)?.collect(alloc)?;
+// The answer to these words; the status.
+fn answer_words<W: Write>(
+    rt: &HostRuntime,
+    alloc: Global,
+    words: &[String],
+    out: &mut W,
+) -> Result<u8, AllocError> {
     let mut views: Vec<&str> = Vec::new(alloc);
-    for word in &words {
+    for word in words {
         views.push(word.as_str())?;
     }
-    match request(alloc, views.as_slice()) {
-        Ok(request) => {
-            let mut folder = HostFolder::new(rt);
-            let mut out = Device::new(io::writer(rt));
-            let status = run(alloc, &request, &mut folder, &mut out);
-            Ok(ExitCode::from(status))
-        }
-        Err(Usage::Help(error)) => {
-            error.print(rt)?;
-            Ok(ExitCode::from(0))
-        }
-        Err(Usage::Line(error)) => {
-            error.print(rt)?;
-            Ok(ExitCode::from(2))
-        }
-        Err(Usage::Value) => Ok(ExitCode::from(2)),
-        Err(Usage::NoMemory) => Err(io::Error::from(ErrorKind::OutOfMemory)),
+    let mut folder = HostFolder::new(rt, alloc);
+    let mut err = Device::new(rt.stderr());
+    Ok(answer(alloc, &views, &mut folder, out, &mut err))
+}
+
+// The answer to the program's words; the status.
+fn respond<W: Write>(rt: &HostRuntime, alloc: Global, out: &mut W) -> u8 {
+    let answered = match read_words(rt, alloc) {
+        Ok(words) => answer_words(rt, alloc, words.as_slice(), out),
+        Err(WordFault::NoText(place)) => return refuse_word(rt, place),
+        Err(WordFault::NoMemory) => Err(AllocError),
+    };
+    match answered {
+        Ok(status) => status,
+        Err(AllocError) => refuse_memory(out),
     }
 }
 
-fn main(rt: HostRuntime) -> io::Result<ExitCode> {
-    match answer(&rt) {
-        Err(error) if error.kind() == ErrorKind::OutOfMemory => {
-            println!(rt; "fault memory")?;
-            Ok(ExitCode::from(1))
-        }
-        answered => answered,
-    }
+fn main(rt: HostRuntime) -> ExitCode {
+    let alloc = rt.alloc();
+    let Ok(buffer) = BufWriter::with_capacity(alloc, BUFFER_SIZE, rt.stdout()) else {
+        return ExitCode::from(refuse_memory(&mut Device::new(rt.stdout())));
+    };
+    let mut out = Device::new(buffer);
+    let status = respond(&rt, alloc, &mut out);
+    ExitCode::from(status_after(status, out.flush()))
 }

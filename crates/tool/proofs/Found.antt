@@ -1,47 +1,49 @@
--- Looking for a file, one after the other.
-use Rattle.std.proofs.Common.{◌≡◌, ◌<◌, ◌+◌, ◌++◌, Bool, true, false, cond, ℕ, suc, List, [], ◌∷◌, length, drop, get_or, ap, sym, ◌∙◌, arith}
-use Rattle.std.specs.Prelude.{Option, Some, None, string_bytes}
-use Rattle.session.specs.declared.memory.Sink.{Sink}
-use Rattle.std.specs.List.{find}
-use Rattle.std.specs.Option.{option_map, option_or}
-use Rattle.std.proofs.Math.Seq.{drop-cons}
+-- Files in memory, one more.
+use Rattle.std.proofs.Common.{◌≡◌, ◌<◌, ◌+◌, ◌++◌, Bool, true, false, cond, ℕ, suc, List, [], ◌∷◌, length, take, get_or, ap, refl, sym, ◌∙◌, arith}
+use Rattle.std.specs.Prelude.{Option, Some, string_bytes}
+use Rattle.std.proofs.Math.Seq.{take-suc}
 use Rattle.std.specs.Str.{bytes_eq}
-use Rattle.std.proofs.lemmas.Slice.Eq.{bytes_eq-Decides}
-use Rattle.tool.specs.Files.{File, Created, AddsFile, has_name, content_of, written_under}
+use Rattle.tool.specs.Folder.{Files, with_file}
+use Rattle.tool.specs.Files.{File, AddsFile, after_files, no_files, files_of}
 
--- what is found, where the file in front has the name or hasn't
-abbrev found_by : List File → List ℕ → ℕ → File → Bool → Option (List ℕ)
-found_by files name i d v =
-    option_map (λ (file : File). file.1.now) (cond v (Some (get_or files i d)) (find (has_name name) (drop (suc i) files)))
+one_more : (held : Files) (files : List File) (file : File)
+    → after_files held (files ++ file ∷ []) ≡ with_file (after_files held files) (string_bytes file.0) file.1.items
+unfolding after_files
+one_more held [] file = refl
+one_more held (x ∷ files) file = one_more (with_file held (string_bytes x.0) x.1.items) files file
 
-in_front : (files : List File) (name : List ℕ) (i : ℕ) (d : File) → i < length files
-    → content_of (drop i files) name ≡ found_by files name i d (has_name name (get_or files i d))
-in_front files name i d l = ap (λ (fs : List File). content_of fs name) (drop-cons files i d l)
+-- a file that was put in stands in the place of the one of its name
+pub put_in : (old new : List File) (name bytes : List ℕ) → AddsFile old new name bytes → files_of new ≡ with_file (files_of old) name bytes
+put_in old new name bytes added =
+    ap files_of added.behind ∙ one_more no_files old (added.kept, added.vector)
+    ∙ ap (λ (n : List ℕ). with_file (files_of old) n added.vector.items) added.named
+    ∙ ap (λ (b : List ℕ). with_file (files_of old) name b) added.whole
 
-pub found_here : (files : List File) (name : List ℕ) (i : ℕ) (d : File) → i < length files
-    → has_name name (get_or files i d) ≡ true → content_of (drop i files) name ≡ Some (get_or files i d).1.now
-found_here files name i d l e = in_front files name i d l ∙ ap (found_by files name i d) e
+-- what stands under a name, by whether the next file has it
+pub next_file : (files : List File) (i : ℕ) (d : File) (name : List ℕ) → i < length files
+    → files_of (take (i + 1) files) name ≡ with_file (files_of (take i files)) (string_bytes (get_or files i d).0) (get_or files i d).1.items name
+next_file files i d name l =
+    let next : i + 1 ≡ suc i = omega arith in
+    ap (λ (n : ℕ). files_of (take n files) name) next
+    ∙ ap (λ (fs : List File). files_of fs name) (take-suc files i d l)
+    ∙ ap (λ (f : Files). f name) (one_more no_files (take i files) (get_or files i d))
 
-pub found_later : (files : List File) (name : List ℕ) (i : ℕ) (d : File) → i < length files
-    → has_name name (get_or files i d) ≡ false → content_of (drop i files) name ≡ content_of (drop (i + 1) files) name
-found_later files name i d l e =
-    let next : suc i ≡ i + 1 = omega arith in
-    in_front files name i d l ∙ ap (found_by files name i d) e ∙ ap (λ (n : ℕ). content_of (drop n files) name) next
+abbrev either_of : List File → ℕ → File → List ℕ → Bool → Option (List ℕ)
+either_of files i file name v = cond v (Some file.1.items) (files_of (take i files) name)
 
--- a file that was just created is the last of its name
-abbrev last_of : Created → Bool → Option (List ℕ)
-last_of file v = cond v (Some file.1.bytes.items) None
+step : (files : List File) (i : ℕ) (file : File) (name known : List ℕ) (v : Bool) → i < length files → file ≡ get_or files i file
+    → known ≡ string_bytes file.0 → v ≡ bytes_eq known name → files_of (take (i + 1) files) name ≡ either_of files i file name v
+step files i file name known v l same kept test =
+    next_file files i file name l
+    ∙ ap (λ (f : File). with_file (files_of (take i files)) (string_bytes f.0) f.1.items name) (sym same)
+    ∙ ap (either_of files i file name) (sym (test ∙ ap (λ (k : List ℕ). bytes_eq k name) kept))
 
-just_last : (files : List Created) (file : Created) → written_under (files ++ (file ∷ [])) (string_bytes file.0) ≡ Some file.1.bytes.items
-unfolding written_under
-just_last [] file =
-    let same : bytes_eq (string_bytes file.0) (string_bytes file.0) ≡ true = grind (arith, bytes_eq-Decides (string_bytes file.0) (string_bytes file.0)) in
-    ap (λ (v : Bool). option_or None (last_of file v)) same
-just_last (x ∷ files) file =
-    ap (λ (o : Option (List ℕ)). option_or o (last_of x (bytes_eq (string_bytes x.0) (string_bytes file.0)))) (just_last files file)
+pub found_here : (files : List File) (i : ℕ) (file : File) (name known : List ℕ) (v : Bool) → i < length files → file ≡ get_or files i file
+    → known ≡ string_bytes file.0 → v ≡ bytes_eq known name → v ≡ true → Some file.1.items ≡ files_of (take (i + 1) files) name
+found_here files i file name known v l same kept test here =
+    sym (step files i file name known v l same kept test ∙ ap (either_of files i file name) here)
 
-pub just_written : (old new : List Created) (name : List ℕ) (output : Sink)
-    → AddsFile old new name output → written_under new name ≡ Some output.bytes.items
-just_written old new name output added =
-    ap (λ (files : List Created). written_under files name) added.behind
-    ∙ ap (λ (n : List ℕ). written_under (old ++ ((added.kept, output) ∷ [])) n) (sym added.named) ∙ just_last old (added.kept, output)
+pub found_before : (files : List File) (i : ℕ) (file : File) (name known : List ℕ) (v : Bool) → i < length files → file ≡ get_or files i file
+    → known ≡ string_bytes file.0 → v ≡ bytes_eq known name → v ≡ false → files_of (take i files) name ≡ files_of (take (i + 1) files) name
+found_before files i file name known v l same kept test not =
+    sym (step files i file name known v l same kept test ∙ ap (either_of files i file name) not)

@@ -1,5 +1,6 @@
 pub mod Told
 pub mod Found
 pub mod Gains
+pub mod Pieces
 pub mod Shown
 pub mod Twinned

@@ -1,11 +1,7 @@
 -- Telling a fault.
 use Rattle.std.proofs.Common.{◌≡◌, ◌⊎◌, ◌++◌, List, ℕ, Bool, true, Option, inl, inr, refl, codes, subst}
 use Rattle.std.specs.Io.KnownBytes.{Appends}
-use Rattle.request.specs.declared.requests.Request.{Request}
-use Rattle.request.specs.declared.requests.Request.TheVariants as request
-use Rattle.tool.specs.Folder.{Contents}
 use Rattle.tool.specs.Lines.{line_of, IsFaultText, IsSilent, TellsFault}
-use Rattle.tool.specs.Outcomes.{IsCut}
 use Rattle.tool.specs.declared.fault.Fault.{Fault}
 use Rattle.tool.specs.declared.fault.Fault.TheVariants.{Open, File, Memory, Frame, Certificate, Fti, Send, Output}
 
@@ -47,18 +43,3 @@ memory_told fault failed before middle after other same (inr printed) =
 
 pub nothing_printed : (fault : Fault) (failed : Bool) (before after : Option (List ℕ)) → fault ≡ Memory → IsSilent fault failed before after → after ≡ before
 nothing_printed fault failed before after memory silent = subst (λ (f : Fault). IsSilent f failed before after) memory silent
-
--- a fault of the output is one
-pub output_failed : (contents : Contents) (r : Request) (fault : Fault) (failed : Bool) (before after : Option (List ℕ)) → IsCut contents r fault failed before after
-    → fault ≡ Output → failed ≡ true
-output_failed contents r fault failed before after cut is = go r (subst (λ f. IsCut contents r f failed before after) is cut)
-  where
-    go : (r : Request) → IsCut contents r Output failed before after → failed ≡ true
-    go (request.Check session object certificate) cut = cut
-    go (request.Twin session object certificate output) cut = cut
-    go (request.Show session) (inl silent) = silent
-    go (request.Show session) (inr part) = part.2
-    go (request.Encode object output sending) cut = cut
-    go (request.Certify object output sizes) cut = cut
-    go (request.Decode session output) cut = cut
-    go (request.Drop session output places) cut = cut

@@ -4,7 +4,9 @@ use Rattle.cert.specs.declared.verdict.Reason.{Reason}
 use Rattle.cert.specs.declared.verdict.Reason.TheVariants.{ObjectLength, NotObject, Empty, Packet, OtherIdentity, OtherFti, Range, Symbol, Thin}
 use Rattle.cert.specs.declared.verdict.Verdict.TheVariants.{No}
 use Rattle.tool.specs.Lines.{Prints, PrintsTwin}
-use Rattle.tool.specs.Outcomes.{short_of, twin_status_of, OnThin}
+use Rattle.partition.specs.Fti.{Fti}
+use Rattle.tool.specs.Folder.{Files}
+use Rattle.tool.specs.Outcomes.{short_of, twin_status_of, MakesTwin}
 
 some_same : {A : Type 0} {x y : A} → Some x ≡ Some y → x ≡ y
 some_same e = cc
@@ -22,18 +24,19 @@ thin_reason (Range i) t e = absurd (cc)
 thin_reason (Symbol i c) t e = absurd (cc)
 
 -- any other reason
-pub record IsOther (reason : Reason) (before after : Option (List ℕ)) (P : ℕ → Type 0) : Type 0 where
+pub record IsOther (reason : Reason) (before after : Option (List ℕ)) (f : Fti) (datagrams : List (List ℕ)) (object output : List ℕ) (old new : Option Files) : Type 0 where
   pub told : 1 ≡ twin_status_of (No reason)
   pub printed : PrintsTwin (No reason) before after
-  pub twin : OnThin (No reason) P
+  pub made : MakesTwin (No reason) f datagrams object output old new
 
-pub other_reason : (reason : Reason) (before after : Option (List ℕ)) (P : ℕ → Type 0) → short_of reason ≡ None → Prints (No reason) before after → IsOther reason before after P
-other_reason (Thin block have need) before after P e h = absurd (cc)
-other_reason ObjectLength before after P e h = record { told = refl; printed = h; twin = tt }
-other_reason (NotObject b c i) before after P e h = record { told = refl; printed = h; twin = tt }
-other_reason Empty before after P e h = record { told = refl; printed = h; twin = tt }
-other_reason (Packet i x) before after P e h = record { told = refl; printed = h; twin = tt }
-other_reason (OtherIdentity i) before after P e h = record { told = refl; printed = h; twin = tt }
-other_reason (OtherFti i) before after P e h = record { told = refl; printed = h; twin = tt }
-other_reason (Range i) before after P e h = record { told = refl; printed = h; twin = tt }
-other_reason (Symbol i c) before after P e h = record { told = refl; printed = h; twin = tt }
+pub other_reason : (reason : Reason) (before after : Option (List ℕ)) (f : Fti) (datagrams : List (List ℕ)) (object output : List ℕ) (old new : Option Files)
+    → short_of reason ≡ None → new ≡ old → Prints (No reason) before after → IsOther reason before after f datagrams object output old new
+other_reason (Thin block have need) before after f datagrams object output old new e s h = absurd (cc)
+other_reason ObjectLength before after f datagrams object output old new e s h = record { told = refl; printed = h; made = s }
+other_reason (NotObject b c i) before after f datagrams object output old new e s h = record { told = refl; printed = h; made = s }
+other_reason Empty before after f datagrams object output old new e s h = record { told = refl; printed = h; made = s }
+other_reason (Packet i x) before after f datagrams object output old new e s h = record { told = refl; printed = h; made = s }
+other_reason (OtherIdentity i) before after f datagrams object output old new e s h = record { told = refl; printed = h; made = s }
+other_reason (OtherFti i) before after f datagrams object output old new e s h = record { told = refl; printed = h; made = s }
+other_reason (Range i) before after f datagrams object output old new e s h = record { told = refl; printed = h; made = s }
+other_reason (Symbol i c) before after f datagrams object output old new e s h = record { told = refl; printed = h; made = s }

@@ -1,5 +1,5 @@
 -- What decoding a session file prints.
-use Rattle.std.specs.Prelude.{◌≡◌, ◌⊎◌, ℕ, Bool, List, ◌++◌, Option, length, codes, decimal, ⊤}
+use Rattle.std.specs.Prelude.{◌≡◌, ◌⊎◌, ℕ, Bool, List, ◌++◌, Option, length, codes, decimal}
 use Rattle.std.specs.Io.KnownBytes.{Appends}
 use Rattle.reception.specs.Answer.{IsAnswer}
 use Rattle.coder.specs.Answers.{answer_value}
@@ -8,10 +8,10 @@ use Rattle.coder.specs.declared.answer.Answer.TheVariants.{Empty, Fault as NoObj
 use Rattle.coder.specs.declared.answer.DecodeFault.{DecodeFault}
 use Rattle.coder.specs.declared.answer.DecodeFault.TheVariants.{Packet, OtherIdentity, OtherFti, Range, Clash, NotCode}
 use Rattle.tool.specs.declared.fault.Fault.{Fault}
-use Rattle.tool.specs.Folder.{Contents, Told}
+use Rattle.tool.specs.Folder.{Files, Replaces}
 use Rattle.tool.specs.Inputs.{HoldsSession, IsSessionUnread}
 use Rattle.tool.specs.Lines.{line_of, named, IsPrintFault}
-use Rattle.tool.specs.Making.{IsFileFault}
+use Rattle.tool.specs.Making.{IsUnmade}
 
 -- What a line gains by a fault. Behind R1 the packet's fault stands in its own words.
 abbrev pub GainsFault : DecodeFault → List ℕ → List ℕ → Type 0
@@ -43,24 +43,24 @@ answer_status (NoObject fault) = 1
 answer_status (Missing block have need) = 3
 answer_status (Object object) = 0
 
--- the object is written to the output, which was blank, where there is one
-abbrev pub WritesObject : Answer → Option (List ℕ) → Option (List ℕ) → Type 0
-WritesObject (Object object) blank written = Appends blank written object.items
-WritesObject _ blank written = ⊤
+-- The object stands under the output's name, where there is one, and all other files are as before.
+abbrev pub MakesObject : Answer → List ℕ → Option Files → Option Files → Type 0
+MakesObject (Object object) output old new = Replaces old new output object.items
+MakesObject _ output old new = new ≡ old
 
 -- The answer to the session in this file was printed, and the object written; its status.
-pub record IsDecoded (folder : Told) (session output : List ℕ) (before after : Option (List ℕ)) (status : ℕ) : Type 0 where
+pub record IsDecoded (old new : Option Files) (session output : List ℕ) (before after : Option (List ℕ)) (status : ℕ) : Type 0 where
   pub datagrams : List (List ℕ)
   pub answer : Answer
-  pub sent : HoldsSession folder.contents session datagrams
+  pub sent : HoldsSession old session datagrams
   pub right : IsAnswer datagrams (answer_value answer)
-  pub object : WritesObject answer folder.blank (folder.written output)
+  pub made : MakesObject answer output old new
   pub told : status ≡ answer_status answer
   pub line : List ℕ
   pub spelled : IsAnswerLine answer line
   pub printed : Appends before after (line_of line)
 
--- Why not: the session wasn't read, the object wasn't written, there was no memory, or the output has failed.
-abbrev pub IsNotDecoded : Contents → List ℕ → List ℕ → Bool → Fault → Type 0
-IsNotDecoded contents session output failed fault =
-    IsSessionUnread contents session fault ⊎ IsFileFault output fault ⊎ IsPrintFault failed fault
+-- Why not: the session wasn't read, the object isn't there, there was no memory, or the output has failed.
+abbrev pub IsNotDecoded : List ℕ → List ℕ → Option Files → Bool → Fault → Type 0
+IsNotDecoded session output files failed fault =
+    IsSessionUnread files session fault ⊎ IsUnmade files output fault ⊎ IsPrintFault failed fault

@@ -1,41 +1,27 @@
--- Named files.
-use Rattle.std.specs.Prelude.{◌≡◌, ◌-◌, ◌^◌, ℕ, Bool, false, List, [], ◌∷◌, ◌++◌, Option, Some, None, String, string_bytes, if◌then◌else◌}
-use Rattle.std.specs.Borrow.{Bor}
-use Rattle.std.specs.List.{find}
-use Rattle.std.specs.Option.{option_map, option_or}
-use Rattle.std.specs.Str.{bytes_eq}
+-- Named files in memory.
+use Rattle.std.specs.Prelude.{ℕ, List, [], ◌∷◌, ◌≡◌, ◌++◌, None, String, string_bytes, Vec}
 use Rattle.std.specs.declared.alloc.Global.{Global}
-use Rattle.session.specs.declared.memory.Sink.{Sink}
+use Rattle.tool.specs.Folder.{Files, with_file}
 
--- a name and what stands under it
+-- a file's name and bytes
 abbrev pub File : Type 0
-File = Bor (List ℕ) × Bor (List ℕ)
+File = String Global × Vec ℕ Global
 
-abbrev pub has_name : List ℕ → File → Bool
-has_name name file = bytes_eq file.0.now name
+-- what the files hold once these are put among them, one after the other
+unfoldable pub after_files : Files → List File → Files
+after_files held [] = held
+after_files held (file ∷ files) = after_files (with_file held (string_bytes file.0) file.1.items) files
 
--- what the first file of this name holds
-abbrev pub content_of : List File → List ℕ → Option (List ℕ)
-content_of files name = option_map (λ file. file.1.now) (find (has_name name) files)
+abbrev pub no_files : Files
+no_files name = None
 
--- a file that was created: its name and what was written
-abbrev pub Created : Type 0
-Created = String Global × Sink
+abbrev pub files_of : List File → Files
+files_of files = after_files no_files files
 
--- a file of nothing yet, which takes all that there is memory for
-pub record IsBlank (file : Sink) : Type 0 where
-  pub empty : file.bytes.items ≡ []
-  pub room : file.room ≡ 2 ^ 64 - 1
-  pub sound : file.failed ≡ false
-
--- A file of this name and of what was written stands behind those that were created before.
-pub record AddsFile (old new : List Created) (name : List ℕ) (output : Sink) : Type 0 where
+-- A file of this name and these bytes stands behind those that were there.
+pub record AddsFile (old new : List File) (name bytes : List ℕ) : Type 0 where
   pub kept : String Global
+  pub vector : Vec ℕ Global
   pub named : string_bytes kept ≡ name
-  pub behind : new ≡ old ++ (kept, output) ∷ []
-
--- what the last file of this name holds that was created
-unfoldable pub written_under : List Created → List ℕ → Option (List ℕ)
-written_under [] name = None
-written_under (file ∷ later) name =
-    option_or (written_under later name) (if bytes_eq (string_bytes file.0) name then Some file.1.bytes.items else None)
+  pub whole : vector.items ≡ bytes
+  pub behind : new ≡ old ++ (kept, vector) ∷ []

@@ -5,3 +5,4 @@ pub mod Lines
 pub mod Making
 pub mod Decoding
 pub mod Outcomes
+pub mod Answering

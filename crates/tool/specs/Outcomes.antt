@@ -1,9 +1,9 @@
 -- What a command does, by what its files hold.
-use Rattle.std.specs.Prelude.{◌≡◌, ◌<◌, ◌⊎◌, ℕ, Bool, List, [], Option, Some, None, length, slice_index_or, ⊤}
-use Rattle.std.specs.Io.KnownBytes.{Appends}
+use Rattle.std.specs.Prelude.{◌≡◌, ◌<◌, ◌⊎◌, ℕ, Bool, List, [], Option, Some, None, length, slice_index_or}
 use Rattle.alc.specs.Packet.{Packet, IsPacket}
 use Rattle.alc.specs.PacketFault.{IsPacketFault}
 use Rattle.alc.specs.declared.fault.PacketFault.{PacketFault}
+use Rattle.partition.specs.Fti.{Fti}
 use Rattle.cert.specs.Certificate.{Certificate}
 use Rattle.reception.specs.Headline.{DecodesWhereEnough, UndecidedElse}
 use Rattle.cert.specs.Report.{IsReport, OnYes}
@@ -16,25 +16,25 @@ use Rattle.cert.specs.declared.verdict.Verdict.TheVariants.{Yes, No}
 use Rattle.request.specs.declared.requests.Request.{Request}
 use Rattle.request.specs.declared.requests.Request.TheVariants.{Check, Twin, Show, Encode, Certify, Decode, Drop}
 use Rattle.tool.specs.declared.fault.Fault.{Fault}
-use Rattle.tool.specs.Folder.{Contents, Told}
+use Rattle.tool.specs.Folder.{Files, Replaces}
 use Rattle.tool.specs.Inputs.{HoldsSession, HoldsBytes, HoldsCertificate, IsSessionUnread, IsObjectUnread, IsCertificateUnread}
 use Rattle.tool.specs.Lines.{IsPrintFault, IsSilent, TellsFault, Prints, PrintsTwin, PrintsDatagrams, PrintsSome}
 use Rattle.tool.specs.Decoding.{IsDecoded, IsNotDecoded}
-use Rattle.tool.specs.Making.{IsEncoded, IsNotEncoded, IsCertified, IsNotCertified, IsDropped, IsNotDropped, IsFileFault}
+use Rattle.tool.specs.Making.{IsEncoded, IsNotEncoded, IsCertified, IsNotCertified, IsDropped, IsNotDropped, IsUnmade, Fails}
 
 abbrev pub status_of : Verdict → ℕ
 status_of (Yes report) = 0
 status_of (No reason) = 1
 
 -- The verdict on the session, the object and the certificate in these files was printed; its status; what a yes promises.
-pub record IsChecked (contents : Contents) (session object certificate : List ℕ) (before after : Option (List ℕ)) (status : ℕ) : Type 0 where
+pub record IsChecked (files : Option Files) (session object certificate : List ℕ) (before after : Option (List ℕ)) (status : ℕ) : Type 0 where
   pub datagrams : List (List ℕ)
   pub bytes : List ℕ
   pub polynomials : Certificate
   pub verdict : Verdict
-  pub sent : HoldsSession contents session datagrams
-  pub whole : HoldsBytes contents object bytes
-  pub certified : HoldsCertificate contents certificate polynomials
+  pub sent : HoldsSession files session datagrams
+  pub whole : HoldsBytes files object bytes
+  pub certified : HoldsCertificate files certificate polynomials
   pub judged : IsVerdict datagrams bytes polynomials verdict
   pub told : status ≡ status_of verdict
   pub printed : Prints verdict before after
@@ -43,10 +43,10 @@ pub record IsChecked (contents : Contents) (session object certificate : List �
   pub report : OnYes verdict (IsReport datagrams polynomials.fti)
 
 -- Why there is none: a file wasn't read, or there was no memory, or the output has failed.
-abbrev pub IsUnchecked : Contents → List ℕ → List ℕ → List ℕ → Bool → Fault → Type 0
-IsUnchecked contents session object certificate failed fault =
-    IsSessionUnread contents session fault ⊎ IsObjectUnread contents object fault
-    ⊎ IsCertificateUnread contents certificate fault ⊎ IsPrintFault failed fault
+abbrev pub IsUnchecked : Option Files → List ℕ → List ℕ → List ℕ → Bool → Fault → Type 0
+IsUnchecked files session object certificate failed fault =
+    IsSessionUnread files session fault ⊎ IsObjectUnread files object fault
+    ⊎ IsCertificateUnread files certificate fault ⊎ IsPrintFault failed fault
 
 -- the block that is short, how many symbols it has and how many it needs, where that is the reason
 abbrev pub short_of : Reason → Option (ℕ × ℕ × ℕ)
@@ -59,31 +59,32 @@ twin_status_of (Yes report) = 1
 twin_status_of (No (Thin block have need)) = 0
 twin_status_of (No reason) = 1
 
--- what is said of the block that a verdict finds short
-abbrev pub OnThin : Verdict → (ℕ → Type 0) → Type 0
-OnThin (Yes report) P = ⊤
-OnThin (No (Thin block have need)) P = P block
-OnThin (No reason) P = ⊤
+-- Where a verdict finds a block short, the twin for it stands under the output's name, and all other files are as before;
+-- else all are.
+abbrev pub MakesTwin : Verdict → Fti → List (List ℕ) → List ℕ → List ℕ → Option Files → Option Files → Type 0
+MakesTwin (Yes report) f datagrams object output old new = new ≡ old
+MakesTwin (No (Thin block have need)) f datagrams object output old new =
+    (other : List ℕ) × IsTwinOfSession f block datagrams object other × Replaces old new output other
+MakesTwin (No reason) f datagrams object output old new = new ≡ old
 
--- What was printed where a twin was asked for; its status; and the twin that was written to the output, which was blank,
--- where one is told.
-pub record IsTwinned (folder : Told) (session object certificate output : List ℕ) (before after : Option (List ℕ)) (status : ℕ) : Type 0 where
+-- What was printed where a twin was asked for; its status; and the twin that was written, where there is one.
+pub record IsTwinned (old new : Option Files) (session object certificate output : List ℕ) (before after : Option (List ℕ)) (status : ℕ) : Type 0 where
   pub datagrams : List (List ℕ)
   pub bytes : List ℕ
   pub polynomials : Certificate
   pub verdict : Verdict
-  pub sent : HoldsSession folder.contents session datagrams
-  pub whole : HoldsBytes folder.contents object bytes
-  pub certified : HoldsCertificate folder.contents certificate polynomials
+  pub sent : HoldsSession old session datagrams
+  pub whole : HoldsBytes old object bytes
+  pub certified : HoldsCertificate old certificate polynomials
   pub judged : IsVerdict datagrams bytes polynomials verdict
   pub told : status ≡ twin_status_of verdict
   pub printed : PrintsTwin verdict before after
-  pub twin : OnThin verdict (λ block. (other : List ℕ) × IsTwinOfSession polynomials.fti block datagrams bytes other × Appends folder.blank (folder.written output) other)
+  pub made : MakesTwin verdict polynomials.fti datagrams bytes output old new
 
--- Why not: there was no verdict, or the output wasn't written.
-abbrev pub IsUntwinned : Contents → List ℕ → List ℕ → List ℕ → List ℕ → Bool → Fault → Type 0
-IsUntwinned contents session object certificate output failed fault =
-    IsUnchecked contents session object certificate failed fault ⊎ IsFileFault output fault
+-- Why not: there was no verdict, or the output isn't there.
+abbrev pub IsUntwinned : List ℕ → List ℕ → List ℕ → List ℕ → Option Files → Bool → Fault → Type 0
+IsUntwinned session object certificate output files failed fault =
+    IsUnchecked files session object certificate failed fault ⊎ IsUnmade files output fault
 
 abbrev pub IsSomePacket : List ℕ → Type 0
 IsSomePacket datagram = (p : Packet) × IsPacket datagram p
@@ -98,63 +99,64 @@ IsShownStatus datagrams n status =
     ⊎ ((status ≡ 1) × ((i : ℕ) × (i < n) × IsNoPacket (slice_index_or datagrams i [])))
 
 -- The datagrams of the session in this file were printed; the status.
-pub record IsShown (contents : Contents) (session : List ℕ) (before after : Option (List ℕ)) (status : ℕ) : Type 0 where
+pub record IsShown (files : Option Files) (session : List ℕ) (before after : Option (List ℕ)) (status : ℕ) : Type 0 where
   pub datagrams : List (List ℕ)
-  pub sent : HoldsSession contents session datagrams
+  pub sent : HoldsSession files session datagrams
   pub told : IsShownStatus datagrams (length datagrams) status
   pub printed : PrintsDatagrams datagrams (length datagrams) before after
 
-abbrev pub IsUnshown : Contents → List ℕ → Bool → Fault → Type 0
-IsUnshown contents session failed fault = IsSessionUnread contents session fault ⊎ IsPrintFault failed fault
+abbrev pub IsUnshown : Option Files → List ℕ → Bool → Fault → Type 0
+IsUnshown files session failed fault = IsSessionUnread files session fault ⊎ IsPrintFault failed fault
 
--- The request was done: the folder tells of files before, and of those that were created.
-abbrev pub IsDone : Told → Request → Option (List ℕ) → Option (List ℕ) → ℕ → Type 0
-IsDone folder (Check session object certificate) before after status =
-    IsChecked folder.contents session.now object.now certificate.now before after status
-IsDone folder (Twin session object certificate output) before after status =
-    IsTwinned folder session.now object.now certificate.now output.now before after status
-IsDone folder (Show session) before after status = IsShown folder.contents session.now before after status
-IsDone folder (Encode object output sending) before after status =
-    IsEncoded folder object.now output.now sending before after status
-IsDone folder (Certify object output sizes) before after status =
-    IsCertified folder object.now output.now sizes before after status
-IsDone folder (Decode session output) before after status = IsDecoded folder session.now output.now before after status
-IsDone folder (Drop session output places) before after status =
-    IsDropped folder session.now output.now places.items before after status
-
-abbrev pub IsUndone : Contents → Request → Bool → Fault → Type 0
-IsUndone contents (Check session object certificate) failed fault =
-    IsUnchecked contents session.now object.now certificate.now failed fault
-IsUndone contents (Twin session object certificate output) failed fault =
-    IsUntwinned contents session.now object.now certificate.now output.now failed fault
-IsUndone contents (Show session) failed fault = IsUnshown contents session.now failed fault
-IsUndone contents (Encode object output sending) failed fault = IsNotEncoded contents object.now output.now sending failed fault
-IsUndone contents (Certify object output sizes) failed fault = IsNotCertified contents object.now output.now sizes failed fault
-IsUndone contents (Decode session output) failed fault = IsNotDecoded contents session.now output.now failed fault
-IsUndone contents (Drop session output places) failed fault = IsNotDropped contents session.now output.now places.items failed fault
+-- The request was done: what its files held before, and all files after.
+abbrev pub IsDone : Option Files → Option Files → Request → Option (List ℕ) → Option (List ℕ) → ℕ → Type 0
+IsDone old new (Check session object certificate) before after status =
+    IsChecked old session.now object.now certificate.now before after status × (new ≡ old)
+IsDone old new (Twin session object certificate output) before after status =
+    IsTwinned old new session.now object.now certificate.now output.now before after status
+IsDone old new (Show session) before after status = IsShown old session.now before after status × (new ≡ old)
+IsDone old new (Encode object output sending) before after status =
+    IsEncoded old new object.now output.now sending before after status
+IsDone old new (Certify object output sizes) before after status =
+    IsCertified old new object.now output.now sizes before after status
+IsDone old new (Decode session output) before after status = IsDecoded old new session.now output.now before after status
+IsDone old new (Drop session output places) before after status =
+    IsDropped old new session.now output.now places.items before after status
 
 -- the lines of the first datagrams were printed before a fault, or none
-abbrev pub IsShownInPart : Contents → List ℕ → Fault → Bool → Option (List ℕ) → Option (List ℕ) → Type 0
-IsShownInPart contents session fault failed before after =
+abbrev pub IsShownInPart : Option Files → List ℕ → Fault → Bool → Option (List ℕ) → Option (List ℕ) → Type 0
+IsShownInPart files session fault failed before after =
     IsSilent fault failed before after
-    ⊎ ((datagrams : List (List ℕ)) × HoldsSession contents session datagrams × PrintsSome datagrams fault failed before after)
+    ⊎ ((datagrams : List (List ℕ)) × HoldsSession files session datagrams × PrintsSome datagrams fault failed before after)
 
--- What was printed before a fault: nothing, but of datagrams that are shown the lines of the first.
-abbrev pub IsCut : Contents → Request → Fault → Bool → Option (List ℕ) → Option (List ℕ) → Type 0
-IsCut contents (Show session) fault failed before after = IsShownInPart contents session.now fault failed before after
-IsCut contents request fault failed before after = IsSilent fault failed before after
+-- Why the request wasn't done; what the files are after it; and what was printed before the fault is told: nothing, but of
+-- datagrams that are shown the lines of the first.
+abbrev pub IsUndone : Option Files → Option Files → Request → Bool → Option (List ℕ) → Option (List ℕ) → Fault → Type 0
+IsUndone old new (Check session object certificate) failed before after fault =
+    IsUnchecked old session.now object.now certificate.now failed fault × (new ≡ old) × IsSilent fault failed before after
+IsUndone old new (Twin session object certificate output) failed before after fault =
+    Fails (IsUntwinned session.now object.now certificate.now output.now) old new output.now failed before after fault
+IsUndone old new (Show session) failed before after fault =
+    IsUnshown old session.now failed fault × (new ≡ old) × IsShownInPart old session.now fault failed before after
+IsUndone old new (Encode object output sending) failed before after fault =
+    Fails (IsNotEncoded object.now output.now sending) old new output.now failed before after fault
+IsUndone old new (Certify object output sizes) failed before after fault =
+    Fails (IsNotCertified object.now output.now sizes) old new output.now failed before after fault
+IsUndone old new (Decode session output) failed before after fault =
+    Fails (IsNotDecoded session.now output.now) old new output.now failed before after fault
+IsUndone old new (Drop session output places) failed before after fault =
+    Fails (IsNotDropped session.now output.now places.items) old new output.now failed before after fault
 
 -- The request wasn't done. Behind what was printed before, the fault was told, or it is that the output has failed.
-pub record HasFault (folder : Told) (request : Request) (failed : Bool) (before after : Option (List ℕ)) (status : ℕ) : Type 0 where
+pub record HasFault (old new : Option Files) (request : Request) (failed : Bool) (before after : Option (List ℕ)) (status : ℕ) : Type 0 where
   pub fault : Fault
   pub failed_then : Bool
-  pub undone : IsUndone folder.contents request failed_then fault
   pub printed : Option (List ℕ)
-  pub cut : IsCut folder.contents request fault failed_then before printed
+  pub undone : IsUndone old new request failed_then before printed fault
   pub told : TellsFault fault failed printed after
   pub one : status ≡ 1
 
 -- The request was done, with this status, or there was a fault.
-abbrev pub IsRun : Told → Request → Bool → Option (List ℕ) → Option (List ℕ) → ℕ → Type 0
-IsRun folder request failed before after status =
-    IsDone folder request before after status ⊎ HasFault folder request failed before after status
+abbrev pub IsRun : Option Files → Option Files → Request → Bool → Option (List ℕ) → Option (List ℕ) → ℕ → Type 0
+IsRun old new request failed before after status =
+    IsDone old new request before after status ⊎ HasFault old new request failed before after status

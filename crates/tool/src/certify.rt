@@ -1,14 +1,12 @@
 //! The command `certify`.
-ghost use Rattle.std.specs.Prelude.{◌≡◌, ◌≤◌, IfOk, IfErr};
-ghost use Rattle.tool.specs.Folder.{told_by};
-ghost use Rattle.tool.specs.Lines.{IsSilent};
-ghost use Rattle.tool.specs.Making.{IsCertified, IsNotCertified};
+ghost use Rattle.std.specs.Prelude.{IfOk, IfErr};
+ghost use Rattle.tool.specs.Making.{IsCertified, IsNotCertified, Fails};
 
 use crate::fault::Fault;
 use crate::folder::Folder;
 use crate::input::read_object;
-use crate::output::close;
-use crate::print::Line;
+use crate::output::{create, give_up, keep};
+use crate::print::print_count;
 use crate::sizes::fti_of;
 use coder::CertifyFault;
 use request::Sizes;
@@ -24,10 +22,11 @@ pub(crate) fn certify<'a, F: Folder, W: Write>(
     output: &'a str,
     sizes: &Sizes,
 ) -> Result<u8, Fault<'a>>
-    ensures ok { IfOk result (IsCertified (told_by (F.content folder.old) F.blank (F.written folder.new)) object.now output.now sizes.now (W.contents out.old) (W.contents out.new)) }
-    ensures fault { IfErr result (IsNotCertified (F.content folder.old) object.now output.now sizes.now (W.failed out.new)) }
-    ensures silent { IfErr result (λ fault. IsSilent fault (W.failed out.new) (W.contents out.old) (W.contents out.new)) }
-    ensures status { IfOk result (λ status. status ≤ 1) }
+    ensures ok { IfOk result (IsCertified (F.files folder.old) (F.files folder.new)
+        object.now output.now sizes.now (W.contents out.old) (W.contents out.new)) }
+    ensures fault { IfErr result (Fails (IsNotCertified object.now output.now sizes.now)
+        (F.files folder.old) (F.files folder.new) output.now
+        (W.failed out.new) (W.contents out.old) (W.contents out.new)) }
 {
     let object = read_object(alloc, folder, object)?;
     let fti = match fti_of(sizes, object.len()) {
@@ -39,18 +38,11 @@ pub(crate) fn certify<'a, F: Folder, W: Write>(
         Err(CertifyFault::Length) => unreachable!(),
         Err(CertifyFault::NoMemory) => return Err(Fault::Memory),
     };
-    let Ok(mut file) = folder.create_file(output) else {
-        return Err(Fault::Open(output));
-    };
-    let written = certificate.write(&mut file);
-    let closed = close(folder, output, file);
-    match written {
-        Ok(()) => closed?,
-        Err(fault) => return Err(Fault::Certificate(fault)),
+    let mut file = create(folder, output)?;
+    match certificate.write(&mut file) {
+        Ok(()) => keep(folder, output, file)?,
+        Err(fault) => return Err(give_up(folder, file, Fault::Certificate(fault))),
     }
-    let mut line = Line::new(alloc);
-    line.named("certified", fti.blocks())?;
-    line.text(" blocks")?;
-    line.print(out)?;
+    print_count(out, "certified", fti.blocks(), " blocks")?;
     Ok(0)
 }

@@ -21,11 +21,13 @@ pub(crate) fn check<'a, F: Folder, W: Write>(
     certificate: &'a str,
 ) -> Result<u8, Fault<'a>>
     // The verdict is on what the three files hold.
-    ensures ok { IfOk result (IsChecked (F.content folder.old) session.now object.now certificate.now (W.contents out.old) (W.contents out.new)) }
-    ensures fault { IfErr result (IsUnchecked (F.content folder.old) session.now object.now certificate.now (W.failed out.new)) }
-    ensures silent { IfErr result (λ fault. IsSilent fault (W.failed out.new) (W.contents out.old) (W.contents out.new)) }
-    ensures status { IfOk result (λ status. status ≤ 1) }
-    ensures stays { F.content folder.new ≡ F.content folder.old }
+    ensures ok { IfOk result (IsChecked (F.files folder.old) session.now object.now certificate.now
+        (W.contents out.old) (W.contents out.new)) }
+    ensures fault { IfErr result (IsUnchecked (F.files folder.old) session.now object.now
+        certificate.now (W.failed out.new)) }
+    ensures silent { IfErr result (λ fault.
+        IsSilent fault (W.failed out.new) (W.contents out.old) (W.contents out.new)) }
+    ensures stays { F.files folder.new ≡ F.files folder.old }
 {
     let session = read_session(alloc, folder, session)?;
     let object = read_object(alloc, folder, object)?;

@@ -1,21 +1,19 @@
 //! The command `decode`.
-ghost use Rattle.std.specs.Prelude.{◌≡◌, ◌≤◌, IfOk, IfErr, OnOk, codes};
-ghost use Rattle.tool.specs.Decoding.{GainsFault, missing_text, object_text, IsAnswerLine, answer_status, WritesObject, IsDecoded, IsNotDecoded};
-ghost use Rattle.tool.specs.Folder.{told_by};
-ghost use Rattle.tool.specs.Lines.{IsSilent};
-ghost use Rattle.tool.specs.Making.{IsFileFault};
+ghost use Rattle.std.specs.Prelude.{◌≡◌, ◌≤◌, IfOk, IfErr, OnOk, OnErr, codes};
+ghost use Rattle.tool.specs.Decoding.{GainsFault, missing_text, object_text, IsAnswerLine, answer_status, MakesObject, IsDecoded, IsNotDecoded};
+ghost use Rattle.tool.specs.Making.{IsUnmade, Fails};
 
 use crate::fault::Fault;
 use crate::folder::Folder;
 use crate::input::read_session;
-use crate::output::write_file;
+use crate::output::write_output;
 use crate::print::Line;
 use coder::{Answer, DecodeFault};
 use session::Write;
 use std::alloc::{AllocError, Global};
 
 /// Writes the object that the session's datagrams give, prints what they give, and answers the status. The output is
-/// created only where there is an object.
+/// created only where there is an object, once its line is made.
 pub(crate) fn decode<'a, F: Folder, W: Write>(
     alloc: Global,
     folder: &mut F,
@@ -23,16 +21,18 @@ pub(crate) fn decode<'a, F: Folder, W: Write>(
     session: &'a str,
     output: &'a str,
 ) -> Result<u8, Fault<'a>>
-    ensures ok { IfOk result (IsDecoded (told_by (F.content folder.old) F.blank (F.written folder.new)) session.now output.now (W.contents out.old) (W.contents out.new)) }
-    ensures fault { IfErr result (IsNotDecoded (F.content folder.old) session.now output.now (W.failed out.new)) }
-    ensures silent { IfErr result (λ fault. IsSilent fault (W.failed out.new) (W.contents out.old) (W.contents out.new)) }
-    ensures status { IfOk result (λ status. status ≤ 3) }
+    ensures ok { IfOk result (IsDecoded (F.files folder.old) (F.files folder.new)
+        session.now output.now (W.contents out.old) (W.contents out.new)) }
+    ensures fault { IfErr result (Fails (IsNotDecoded session.now output.now)
+        (F.files folder.old) (F.files folder.new) output.now
+        (W.failed out.new) (W.contents out.old) (W.contents out.new)) }
 {
     let session = read_session(alloc, folder, session)?;
     let datagrams = session.views(alloc)?;
     let answer = coder::decode(alloc, &datagrams)?;
+    let line = answer_line(alloc, &answer)?;
     write_object(folder, output, &answer)?;
-    answer_line(alloc, &answer)?.print(out)?;
+    line.print(out)?;
     Ok(status_of(&answer))
 }
 
@@ -41,11 +41,13 @@ fn write_object<'a, F: Folder>(
     output: &'a str,
     answer: &Answer,
 ) -> Result<(), Fault<'a>>
-    ensures ok { OnOk result (WritesObject answer.now F.blank (F.written folder.new output.now)) }
-    ensures fault { IfErr result (IsFileFault output.now) }
+    ensures made { OnOk result
+        (MakesObject answer.now output.now (F.files folder.old) (F.files folder.new)) }
+    ensures fault { IfErr result (IsUnmade (F.files folder.old) output.now) }
+    ensures stays { OnErr result (F.files folder.new ≡ F.files folder.old) }
 {
     match answer {
-        Answer::Object(object) => write_file(folder, output, object.as_slice()),
+        Answer::Object(object) => write_output(folder, output, object.as_slice()),
         Answer::Empty | Answer::Fault(_) | Answer::Missing { .. } => Ok(()),
     }
 }

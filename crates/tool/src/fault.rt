@@ -4,7 +4,7 @@ ghost use Rattle.std.specs.Prelude.{◌≡◌};
 use cert::CertFault;
 use coder::SendFault;
 use partition::FtiError;
-use session::FrameFault;
+use session::{Failed, FrameFault};
 use std::alloc::AllocError;
 
 /// Why a command ended.
@@ -31,5 +31,15 @@ impl From<AllocError> for Fault<'_> {
 
     fn from(_: AllocError) -> Self {
         Fault::Memory
+    }
+}
+
+impl From<Failed> for Fault<'_> {
+    ghost use Rattle.tool.specs.declared.fault.Fault.TheVariants.{Output};
+
+    ghost from_gives = { λ _ fault. fault ≡ Output };
+
+    fn from(_: Failed) -> Self {
+        Fault::Output
     }
 }

@@ -1,35 +1,53 @@
 //! Where files are.
-ghost use Rattle.std.specs.Prelude.{◌≡◌, ℕ, List, [], None, Option, IfOk, IfSome, OnOk, OnErr};
+ghost use Rattle.std.specs.Prelude.{◌≡◌, Option, IfOk, IfErr, IfSome, OnOk, OnErr};
+ghost use Rattle.tool.specs.Folder.{Files, HoldsInput, IsBlank, Replaces, IsRefused, IsUnopened};
 
-use session::{Failed, Read, Write};
+use session::{Read, Write};
 
-/// A folder of named files.
+/// Why a folder refused.
+#[derive(Debug, Clone, Copy, PartialEq, Eq)]
+pub enum FileFault {
+    /// The file can't be opened, created, written or kept.
+    Io,
+    NoMemory,
+}
+
+/// A folder of named files. An output stands under its name once it is kept, and not before: it is neither dropped nor
+/// forgotten, but kept or given up.
 pub trait Folder {
     type Input: Read + Drop;
 
-    type Output: Write + Drop;
+    /// What is to be a file.
+    type Output: Write;
 
-    /// What a file of this name holds, where it is told.
-    ghost content: { Self → List ℕ → Option (List ℕ) };
+    /// What each name stands for, where the folder tells it. One that tells it refuses only for want of memory, and its
+    /// inputs never fail.
+    ghost files: { Self → Option Files };
 
-    /// What a file that was just created holds, where it is told: nothing.
-    ghost blank: { Option (List ℕ) };
+    /// Opens a file for reading. `Io` comes only where the file isn't there, or the folder doesn't tell its files.
+    fn open_file(&mut self, name: &str) -> Result<Self::Input, FileFault>
+        ensures input { IfOk result (λ file. HoldsInput (files self.old) name.now
+            (Self.Input.remaining file) (Self.Input.sound file)) }
+        ensures fault { IfErr result (IsUnopened (files self.old) name.now) }
+        ensures stays { files self.new ≡ files self.old };
 
-    /// What the file holds that was last created under this name and closed, where it is told.
-    ghost written: { Self → List ℕ → Option (List ℕ) };
+    /// Creates what is to be the file of this name. `Io` comes only where the folder doesn't tell its files.
+    fn create_file(&mut self, name: &str) -> Result<Self::Output, FileFault>
+        ensures blank { IfOk result (λ file.
+            IsBlank (files self.old) (Self.Output.contents file)) }
+        ensures fault { IfErr result (IsRefused (files self.old)) }
+        ensures stays { files self.new ≡ files self.old };
 
-    /// Opens a file for reading. One whose content is told opens.
-    fn open_file(&mut self, name: &str) -> Result<Self::Input, Failed>
-        ensures input { IfOk result (λ file. Self.Input.remaining file ≡ content self.old name.now) }
-        ensures fails { OnErr result (content self.old name.now ≡ None) }
-        ensures stays { content self.new ≡ content self.old };
+    /// Puts what was written under its name, in the place of the file that was there. `Io` comes only where the folder
+    /// doesn't tell its files; after a fault they are as they were.
+    fn keep_file(&mut self, name: &str, output: Self::Output) -> Result<(), FileFault>
+        ensures kept { OnOk result (IfSome (Self.Output.contents output)
+            (Replaces (files self.old) (files self.new) name.now)) }
+        ensures fault { IfErr result (IsRefused (files self.old)) }
+        ensures stays { OnErr result (files self.new ≡ files self.old) };
 
-    /// Creates a file, or empties the one of that name, for writing.
-    fn create_file(&mut self, name: &str) -> Result<Self::Output, Failed>
-        ensures blank { IfOk result (λ file. Self.Output.contents file ≡ blank) }
-        ensures empty { IfSome blank (λ bytes. bytes ≡ []) };
-
-    /// Takes back a file that was created, after a fault of writing too. Fails where it can't be kept.
-    fn close_file(&mut self, name: &str, output: Self::Output) -> Result<(), Failed>
-        ensures written { OnOk result (written self.new name.now ≡ Self.Output.contents output) };
+    /// Drops what was written, and answers why writing has failed, where it has.
+    fn give_up(&mut self, output: Self::Output) -> FileFault
+        ensures fault { IsRefused (files self.old) result }
+        ensures stays { files self.new ≡ files self.old };
 }

@@ -1,12 +1,26 @@
 //! Input files, each read whole.
 ghost use Rattle.std.specs.Prelude.{◌≡◌, IfOk, IfErr};
-ghost use Rattle.tool.specs.Inputs.{HoldsSession, HoldsBytes, HoldsCertificate, IsSessionUnread, IsCertificateUnread, IsObjectUnread};
+ghost use Rattle.tool.specs.Folder.{HoldsInput};
+ghost use Rattle.tool.specs.Inputs.{HoldsSession, HoldsBytes, HoldsCertificate, IsNotOpened, IsSessionUnread, IsCertificateUnread, IsObjectUnread};
 
 use crate::fault::Fault;
-use crate::folder::Folder;
-use cert::Certificate;
-use session::{ReadFault, Session, read_to_end};
+use crate::folder::{FileFault, Folder};
+use cert::{CertFault, Certificate};
+use session::{FrameFault, ReadFault, Session, read_to_end};
 use std::alloc::Global;
+
+fn open<'a, F: Folder>(folder: &mut F, name: &'a str) -> Result<F::Input, Fault<'a>>
+    ensures input { IfOk result (λ file. HoldsInput (F.files folder.old) name.now
+        (F.Input.remaining file) (F.Input.sound file)) }
+    ensures fault { IfErr result (IsNotOpened (F.files folder.old) name.now) }
+    ensures stays { F.files folder.new ≡ F.files folder.old }
+{
+    match folder.open_file(name) {
+        Ok(input) => Ok(input),
+        Err(FileFault::Io) => Err(Fault::Open(name)),
+        Err(FileFault::NoMemory) => Err(Fault::Memory),
+    }
+}
 
 /// The session in a file.
 pub(crate) fn read_session<'a, F: Folder>(
@@ -14,15 +28,14 @@ pub(crate) fn read_session<'a, F: Folder>(
     folder: &mut F,
     name: &'a str,
 ) -> Result<Session, Fault<'a>>
-    ensures ok { IfOk result (HoldsSession (F.content folder.old) name.now) }
-    ensures fault { IfErr result (IsSessionUnread (F.content folder.old) name.now) }
-    ensures stays { F.content folder.new ≡ F.content folder.old }
+    ensures ok { IfOk result (HoldsSession (F.files folder.old) name.now) }
+    ensures fault { IfErr result (IsSessionUnread (F.files folder.old) name.now) }
+    ensures stays { F.files folder.new ≡ F.files folder.old }
 {
-    let Ok(mut input) = folder.open_file(name) else {
-        return Err(Fault::Open(name));
-    };
+    let mut input = open(folder, name)?;
     match Session::read(alloc, &mut input) {
         Ok(session) => Ok(session),
+        Err(FrameFault::NoMemory) => Err(Fault::Memory),
         Err(fault) => Err(Fault::Frame(fault)),
     }
 }
@@ -33,15 +46,14 @@ pub(crate) fn read_certificate<'a, F: Folder>(
     folder: &mut F,
     name: &'a str,
 ) -> Result<Certificate, Fault<'a>>
-    ensures ok { IfOk result (HoldsCertificate (F.content folder.old) name.now) }
-    ensures fault { IfErr result (IsCertificateUnread (F.content folder.old) name.now) }
-    ensures stays { F.content folder.new ≡ F.content folder.old }
+    ensures ok { IfOk result (HoldsCertificate (F.files folder.old) name.now) }
+    ensures fault { IfErr result (IsCertificateUnread (F.files folder.old) name.now) }
+    ensures stays { F.files folder.new ≡ F.files folder.old }
 {
-    let Ok(mut input) = folder.open_file(name) else {
-        return Err(Fault::Open(name));
-    };
+    let mut input = open(folder, name)?;
     match Certificate::read(alloc, &mut input) {
         Ok(certificate) => Ok(certificate),
+        Err(CertFault::NoMemory) => Err(Fault::Memory),
         Err(fault) => Err(Fault::Certificate(fault)),
     }
 }
@@ -52,13 +64,11 @@ pub(crate) fn read_object<'a, F: Folder>(
     folder: &mut F,
     name: &'a str,
 ) -> Result<Vec<u8>, Fault<'a>>
-    ensures ok { IfOk result (λ v. HoldsBytes (F.content folder.old) name.now v.items) }
-    ensures fault { IfErr result (IsObjectUnread (F.content folder.old) name.now) }
-    ensures stays { F.content folder.new ≡ F.content folder.old }
+    ensures ok { IfOk result (λ v. HoldsBytes (F.files folder.old) name.now v.items) }
+    ensures fault { IfErr result (IsObjectUnread (F.files folder.old) name.now) }
+    ensures stays { F.files folder.new ≡ F.files folder.old }
 {
-    let Ok(mut input) = folder.open_file(name) else {
-        return Err(Fault::Open(name));
-    };
+    let mut input = open(folder, name)?;
     match read_to_end(alloc, &mut input) {
         Ok(object) => Ok(object),
         Err(ReadFault::Io) => Err(Fault::File(name)),

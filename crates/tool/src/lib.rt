@@ -1,6 +1,7 @@
 //! The commands of alcrs, over any folder of files and any output.
 #![tactic(auto)]
 
+mod answering;
 mod certify;
 mod check;
 mod decode;
@@ -17,6 +18,7 @@ mod sizes;
 mod thin_out;
 mod twinning;
 
-pub use folder::Folder;
-pub use memory::MemoryFolder;
+pub use answering::{answer, refuse_memory, status_after};
+pub use folder::{FileFault, Folder};
+pub use memory::{MemoryFolder, MemoryInput};
 pub use running::run;

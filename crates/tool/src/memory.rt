@@ -1,103 +1,131 @@
 //! A folder in memory.
-ghost use Rattle.std.specs.Prelude.{◌≡◌, ◌<◌, [], None, Some, length, IsOk, IfOk, OnOk, OnErr};
+ghost use Rattle.std.specs.Prelude.{◌≡◌, ◌<◌, ◌≤◌, ◌-◌, ◌++◌, ◌∷◌, [], None, Some, true, false, length, drop, string_bytes, IsOk, IfOk, IfErr, IfSome, IfNone, OnOk, OnErr};
 ghost use Rattle.std.specs.Option.{option_map};
-ghost use Rattle.tool.specs.Files.{content_of, written_under, IsBlank, AddsFile};
+ghost use Rattle.tool.specs.Files.{files_of, AddsFile};
 
-use crate::folder::Folder;
-use session::{Failed, Pieces, Sink};
-use std::alloc::Global;
+use crate::folder::{FileFault, Folder};
+use session::{Failed, Read, Sink};
+use std::alloc::{AllocError, Global};
 
-/// Named files to read, and the files that were created. Reads give `most` bytes at a time at most.
+/// A copy of a file's bytes, which gives `most` at a time at most. It never fails.
 #[derive(Drop)]
-pub struct MemoryFolder<'a> {
-    files: &'a [(&'a str, &'a [u8])],
+pub struct MemoryInput {
+    bytes: Vec<u8>,
+    at: usize,
     most: usize,
-    created: Vec<(String, Sink)>,
+    ghost some: { 0 < most },
+    ghost within: { at ≤ length bytes.items },
+}
+
+impl Read for MemoryInput {
+    ghost remaining = { λ input. Some (drop input.at input.bytes.items) };
+
+    ghost left = { λ input. length input.bytes.items - input.at };
+
+    ghost failed = { λ _. false };
+
+    ghost sound = { λ _. true };
+
+    fn read(&mut self, buf: &mut [u8]) -> Result<usize, Failed> {
+        let (_, rest) = self.bytes.as_slice().split_at(self.at);
+        let n = buf.len().min(rest.len()).min(self.most);
+        let (front, _) = rest.split_at(n);
+        buf[..n].copy_from_slice(front);
+        self.at += n;
+        Ok(n)
+    }
+}
+
+/// Named files, of which the last of a name counts. Reads give `most` bytes at a time at most.
+#[derive(Drop)]
+pub struct MemoryFolder {
+    files: Vec<(String, Vec<u8>)>,
+    most: usize,
     alloc: Global,
     ghost some: { 0 < most },
 }
 
-// What the first file of a name holds.
-fn bytes_of<'a>(files: &'a [(&'a str, &'a [u8])], name: &str) -> Option<&'a [u8]>
-    ensures { option_map (λ bytes. bytes.now) result ≡ content_of files.now name.now }
-{
-    for (known, bytes) in files {
-        if *known == name {
-            return Some(bytes);
-        }
-    }
-    None
-}
-
-impl<'a> MemoryFolder<'a> {
-    /// A folder of these files. Of two of a name the first counts.
-    pub fn new(alloc: Global, files: &'a [(&'a str, &'a [u8])], most: usize) -> MemoryFolder<'a>
+impl MemoryFolder {
+    /// A folder of no files.
+    pub fn new(alloc: Global, most: usize) -> MemoryFolder
         requires { 0 < most }
-        ensures files { result.files.now ≡ files.now }
+        ensures files { result.files.items ≡ [] }
         ensures most { result.most ≡ most }
-        ensures created { result.created.items ≡ [] }
     {
         MemoryFolder {
-            files,
+            files: Vec::new(alloc),
             most,
-            created: Vec::new(alloc),
             alloc,
         }
     }
 
-    /// The files that were created and given back, in that order.
-    pub fn created(&self) -> &[(String, Sink)]
-        ensures { result.now ≡ self.now.created.items }
+    /// Puts a file in, in the place of the one of its name.
+    pub fn put(&mut self, name: &str, bytes: Vec<u8>) -> Result<(), AllocError>
+        ensures ok { OnOk result
+            (AddsFile self.old.files.items self.new.files.items name.now bytes.items) }
+        ensures err { OnErr result (self.new.files.items ≡ self.old.files.items) }
     {
-        self.created.as_slice()
+        let kept = name.to_string(self.alloc)?;
+        match self.files.push((kept, bytes)) {
+            Ok(()) => Ok(()),
+            Err(_) => Err(AllocError),
+        }
+    }
+
+    /// All that were put in and kept, in that order.
+    pub fn files(&self) -> &[(String, Vec<u8>)]
+        ensures { result.now ≡ self.now.files.items }
+    {
+        self.files.as_slice()
+    }
+
+    /// What stands under a name.
+    pub fn get(&self, name: &str) -> Option<&[u8]>
+        ensures { option_map (λ bytes. bytes.now) result ≡ files_of self.now.files.items name.now }
+    {
+        let mut found = None;
+        for (known, bytes) in &self.files {
+            if known.as_str() == name {
+                found = Some(bytes.as_slice());
+            }
+        }
+        found
     }
 }
 
-impl<'a> Folder for MemoryFolder<'a> {
-    type Input = Pieces<'a>;
+impl Folder for MemoryFolder {
+    type Input = MemoryInput;
 
     type Output = Sink;
 
-    ghost content = { λ folder. content_of folder.files.now };
+    ghost files = { λ folder. Some (files_of folder.files.items) };
 
-    ghost blank = { Some [] };
-
-    ghost written = { λ folder. written_under folder.created.items };
-
-    /// Opens each file that is there to be read.
-    fn open_file(&mut self, name: &str) -> Result<Pieces<'a>, Failed>
-        ensures input { IfOk result (λ file. Some file.bytes.now ≡ content_of self.old.files.now name.now) }
-        ensures fails { OnErr result (content_of self.old.files.now name.now ≡ None) }
-        ensures stays { self.new ≡ self.old }
-    {
-        match bytes_of(self.files, name) {
-            Some(bytes) => Ok(Pieces::new(bytes, self.most)),
-            None => Err(Failed),
+    fn open_file(&mut self, name: &str) -> Result<MemoryInput, FileFault> {
+        let Some(bytes) = self.get(name) else {
+            return Err(FileFault::Io);
+        };
+        match bytes.to_vec(self.alloc) {
+            Ok(bytes) => Ok(MemoryInput {
+                bytes,
+                at: 0,
+                most: self.most,
+            }),
+            Err(_) => Err(FileFault::NoMemory),
         }
     }
 
-    /// Always creates a file, of which the folder knows once it is given back.
-    fn create_file(&mut self, _name: &str) -> Result<Sink, Failed>
-        ensures ok { IsOk result }
-        ensures blank { IfOk result IsBlank }
-        ensures stays { self.new ≡ self.old }
-    {
+    fn create_file(&mut self, _name: &str) -> Result<Sink, FileFault> {
         Ok(Sink::new(self.alloc))
     }
 
-    /// Puts the file behind those that were created. Fails only for want of memory, and then they stay as they were.
-    fn close_file(&mut self, name: &str, output: Sink) -> Result<(), Failed>
-        ensures ok { OnOk result (AddsFile self.old.created.items self.new.created.items name.now output) }
-        ensures err { OnErr result (self.new.created.items ≡ self.old.created.items) }
-        ensures files { self.new.files ≡ self.old.files }
-        ensures most { self.new.most ≡ self.old.most }
-    {
-        let Ok(kept) = name.to_string(self.alloc) else {
-            return Err(Failed);
-        };
-        match self.created.push((kept, output)) {
+    fn keep_file(&mut self, name: &str, output: Sink) -> Result<(), FileFault> {
+        match self.put(name, output.into_bytes()) {
             Ok(()) => Ok(()),
-            Err(_) => Err(Failed),
+            Err(_) => Err(FileFault::NoMemory),
         }
+    }
+
+    fn give_up(&mut self, _output: Sink) -> FileFault {
+        FileFault::NoMemory
     }
 }

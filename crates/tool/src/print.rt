@@ -1,12 +1,11 @@
 //! Printed lines.
-ghost use Rattle.std.specs.Prelude.{◌≡◌, ◌++◌, ◌∷◌, [], IfErr, OnErr, OnOk};
+ghost use Rattle.std.specs.Prelude.{◌≡◌, ◌++◌, ◌∷◌, [], true, OnErr, OnOk};
 ghost use Rattle.std.specs.Io.KnownBytes.{Appends};
-ghost use Rattle.session.specs.Frames.{AppendsSome};
-ghost use Rattle.tool.specs.Lines.{line_of, named, IsPrintFault, IsSilent};
+ghost use Rattle.session.specs.Pieces.{AppendsSome};
+ghost use Rattle.tool.specs.Lines.{line_of, named};
 
-use crate::fault::Fault;
 use itoa::{Buffer, Integer};
-use session::{Write, write_all};
+use session::{Failed, Write, write_all};
 use std::alloc::{AllocError, Global};
 use std::marker::Model;
 
@@ -69,20 +68,35 @@ impl Line {
         self.bytes.extend_from_slice(line.bytes.as_slice())
     }
 
-    /// Writes the line, and a line feed.
-    pub(crate) fn print<'a, W: Write>(self, out: &mut W) -> Result<(), Fault<'a>>
-        ensures ok { OnOk result (Appends (W.contents out.old) (W.contents out.new) (line_of self)) }
-        ensures err { OnErr result (AppendsSome (W.contents out.old) (W.contents out.new) (line_of self)) }
-        ensures fault { IfErr result (IsPrintFault (W.failed out.new)) }
-        ensures silent { IfErr result (λ fault. IsSilent fault (W.failed out.new) (W.contents out.old) (W.contents out.new)) }
+    /// Writes the line, and a line feed. Takes no memory.
+    pub(crate) fn print<W: Write>(&self, out: &mut W) -> Result<(), Failed>
+        ensures ok { OnOk result
+            (Appends (W.contents out.old) (W.contents out.new) (line_of self.now)) }
+        ensures err { OnErr result
+            (AppendsSome (W.contents out.old) (W.contents out.new) (line_of self.now)) }
+        ensures fails { OnErr result (W.failed out.new ≡ true) }
     {
-        let Line { mut bytes } = self;
-        let Ok(()) = bytes.push(b'\n') else {
-            return Err(Fault::Memory);
-        };
-        match write_all(out, bytes.as_slice()) {
-            Ok(()) => Ok(()),
-            Err(_) => Err(Fault::Output),
-        }
+        write_all(out, self.bytes.as_slice())?;
+        write_all(out, b"\n")
     }
+}
+
+/// Writes a line that counts something: a name, the number behind a space, and of what. Takes no memory.
+pub(crate) fn print_count<I: Integer, W: Write>(
+    out: &mut W,
+    name: &str,
+    count: I,
+    of: &str,
+) -> Result<(), Failed>
+    ensures ok { OnOk result (Appends (W.contents out.old) (W.contents out.new)
+        (line_of (named name.now (I.text count) ++ of.now))) }
+    ensures fails { OnErr result (W.failed out.new ≡ true) }
+{
+    let mut buffer = Buffer::new();
+    let digits = buffer.format(count);
+    write_all(out, name.as_bytes())?;
+    write_all(out, b" ")?;
+    write_all(out, digits.as_bytes())?;
+    write_all(out, of.as_bytes())?;
+    write_all(out, b"\n")
 }

@@ -1,9 +1,8 @@
 //! Doing what was asked for.
 ghost use Rattle.std.specs.Prelude.{◌≡◌, ◌⊎◌, ◌≤◌, ◌++◌, ℕ, List, true, codes, IfOk, IfErr, OnOk};
 ghost use Rattle.std.specs.Io.KnownBytes.{Appends};
-ghost use Rattle.tool.specs.Folder.{told_by};
 ghost use Rattle.tool.specs.Lines.{line_of, IsFaultText, IsPrintFault, IsSilent, TellsFault};
-ghost use Rattle.tool.specs.Outcomes.{IsRun, IsDone, IsUndone, IsCut};
+ghost use Rattle.tool.specs.Outcomes.{IsRun, IsDone, IsUndone};
 ghost use Rattle.tool.specs.declared.fault.Fault.TheVariants.{Output};
 
 use crate::certify::certify;
@@ -28,10 +27,10 @@ fn perform<'a, F: Folder, W: Write>(
     folder: &mut F,
     out: &mut W,
 ) -> Result<u8, Fault<'a>>
-    ensures ok { IfOk result (IsDone (told_by (F.content folder.old) F.blank (F.written folder.new)) request.now (W.contents out.old) (W.contents out.new)) }
-    ensures fault { IfErr result (IsUndone (F.content folder.old) request.now (W.failed out.new)) }
-    ensures cut { IfErr result (λ fault. IsCut (F.content folder.old) request.now fault (W.failed out.new) (W.contents out.old) (W.contents out.new)) }
-    ensures status { IfOk result (λ status. status ≤ 3) }
+    ensures ok { IfOk result (IsDone (F.files folder.old) (F.files folder.new) request.now
+        (W.contents out.old) (W.contents out.new)) }
+    ensures fault { IfErr result (IsUndone (F.files folder.old) (F.files folder.new) request.now
+        (W.failed out.new) (W.contents out.old) (W.contents out.new)) }
 {
     match request {
         Request::Check {
@@ -73,7 +72,8 @@ pub fn run<F: Folder, W: Write>(
     folder: &mut F,
     out: &mut W,
 ) -> u8
-    ensures run { IsRun (told_by (F.content folder.old) F.blank (F.written folder.new)) request.now (W.failed out.new) (W.contents out.old) (W.contents out.new) result }
+    ensures run { IsRun (F.files folder.old) (F.files folder.new) request.now
+        (W.failed out.new) (W.contents out.old) (W.contents out.new) result }
     ensures status { result ≤ 3 }
 {
     match perform(alloc, request, folder, out) {
@@ -101,16 +101,20 @@ fn tell<W: Write>(alloc: Global, out: &mut W, fault: Fault<'_>)
 }
 
 fn print_fault<'a, W: Write>(alloc: Global, out: &mut W, fault: Fault<'_>) -> Result<(), Fault<'a>>
-    ensures ok { OnOk result ((text : List ℕ) × IsFaultText fault.entry text × Appends (W.contents out.old) (W.contents out.new) (line_of (codes "fault " ++ text))) }
+    ensures ok { OnOk result ((text : List ℕ) × IsFaultText fault.entry text
+        × Appends (W.contents out.old) (W.contents out.new) (line_of (codes "fault " ++ text))) }
     ensures fault { IfErr result (IsPrintFault (W.failed out.new)) }
-    ensures silent { IfErr result (λ fault. IsSilent fault (W.failed out.new) (W.contents out.old) (W.contents out.new)) }
+    ensures silent { IfErr result (λ fault.
+        IsSilent fault (W.failed out.new) (W.contents out.old) (W.contents out.new)) }
 {
-    fault_line(alloc, fault)?.print(out)
+    fault_line(alloc, fault)?.print(out)?;
+    Ok(())
 }
 
-// Takes no memory.
-fn tell_memory<W: Write>(out: &mut W)
-    ensures { (W.failed out.new ≡ true) ⊎ Appends (W.contents out.old) (W.contents out.new) (codes "fault memory\n") }
+// Takes no memory itself.
+pub(crate) fn tell_memory<W: Write>(out: &mut W)
+    ensures { (W.failed out.new ≡ true)
+        ⊎ Appends (W.contents out.old) (W.contents out.new) (codes "fault memory\n") }
 {
     let _ = write_all(out, b"fault memory\n");
 }
@@ -124,7 +128,8 @@ fn put<D: Display + Drop>(alloc: Global, line: &mut Line, fault: D) -> Result<()
 }
 
 fn fault_line(alloc: Global, fault: Fault<'_>) -> Result<Line, AllocError>
-    ensures { IfOk result (λ line. (text : List ℕ) × IsFaultText fault.entry text × (line ≡ codes "fault " ++ text)) }
+    ensures { IfOk result (λ line.
+        (text : List ℕ) × IsFaultText fault.entry text × (line ≡ codes "fault " ++ text)) }
 {
     let mut line = Line::new(alloc);
     line.text("fault ")?;

@@ -19,11 +19,12 @@ pub(crate) fn show<'a, F: Folder, W: Write>(
     out: &mut W,
     session: &'a str,
 ) -> Result<u8, Fault<'a>>
-    ensures ok { IfOk result (IsShown (F.content folder.old) session.now (W.contents out.old) (W.contents out.new)) }
-    ensures fault { IfErr result (IsUnshown (F.content folder.old) session.now (W.failed out.new)) }
-    ensures cut { IfErr result (λ fault. IsShownInPart (F.content folder.old) session.now fault (W.failed out.new) (W.contents out.old) (W.contents out.new)) }
-    ensures status { IfOk result (λ status. status ≤ 1) }
-    ensures stays { F.content folder.new ≡ F.content folder.old }
+    ensures ok { IfOk result
+        (IsShown (F.files folder.old) session.now (W.contents out.old) (W.contents out.new)) }
+    ensures fault { IfErr result (IsUnshown (F.files folder.old) session.now (W.failed out.new)) }
+    ensures cut { IfErr result (λ fault. IsShownInPart (F.files folder.old) session.now fault
+        (W.failed out.new) (W.contents out.old) (W.contents out.new)) }
+    ensures stays { F.files folder.new ≡ F.files folder.old }
 {
     let session = read_session(alloc, folder, session)?;
     print_datagrams(alloc, out, &session)
@@ -35,9 +36,11 @@ fn print_datagrams<'a, W: Write>(
     session: &Session,
 ) -> Result<u8, Fault<'a>>
     ensures ok { IfOk result (IsShownStatus session.now (length session.now)) }
-    ensures printed { OnOk result (PrintsDatagrams session.now (length session.now) (W.contents out.old) (W.contents out.new)) }
+    ensures printed { OnOk result (PrintsDatagrams session.now (length session.now)
+        (W.contents out.old) (W.contents out.new)) }
     ensures fault { IfErr result (IsPrintFault (W.failed out.new)) }
-    ensures some { IfErr result (λ fault. PrintsSome session.now fault (W.failed out.new) (W.contents out.old) (W.contents out.new)) }
+    ensures some { IfErr result (λ fault. PrintsSome session.now fault
+        (W.failed out.new) (W.contents out.old) (W.contents out.new)) }
     ensures status { IfOk result (λ status. status ≤ 1) }
 {
     let mut status = 0;

@@ -1,21 +1,21 @@
 //! The command `twin`.
-ghost use Rattle.std.specs.Prelude.{◌≡◌, ◌≤◌, IfOk, IfErr};
-ghost use Rattle.tool.specs.Folder.{told_by};
-ghost use Rattle.tool.specs.Lines.{twin_line, IsSilent};
+ghost use Rattle.std.specs.Prelude.{◌≡◌, IfOk, IfErr};
+ghost use Rattle.tool.specs.Lines.{twin_line};
+ghost use Rattle.tool.specs.Making.{Fails};
 ghost use Rattle.tool.specs.Outcomes.{short_of, IsTwinned, IsUntwinned};
 
 use crate::check::reason_line;
 use crate::fault::Fault;
 use crate::folder::Folder;
 use crate::input::{read_certificate, read_object, read_session};
-use crate::output::write_file;
+use crate::output::write_output;
 use crate::print::Line;
 use cert::{Reason, Verdict, session_twin};
 use session::Write;
 use std::alloc::{AllocError, Global};
 
 /// Writes another object that agrees with all datagrams of the session, where the check finds a block short, and answers
-/// the status. The output is created once that object is there.
+/// the status. The output is created once that object and the line are there.
 pub(crate) fn twin<'a, F: Folder, W: Write>(
     alloc: Global,
     folder: &mut F,
@@ -25,10 +25,13 @@ pub(crate) fn twin<'a, F: Folder, W: Write>(
     certificate: &'a str,
     output: &'a str,
 ) -> Result<u8, Fault<'a>>
-    ensures ok { IfOk result (IsTwinned (told_by (F.content folder.old) F.blank (F.written folder.new)) session.now object.now certificate.now output.now (W.contents out.old) (W.contents out.new)) }
-    ensures fault { IfErr result (IsUntwinned (F.content folder.old) session.now object.now certificate.now output.now (W.failed out.new)) }
-    ensures silent { IfErr result (λ fault. IsSilent fault (W.failed out.new) (W.contents out.old) (W.contents out.new)) }
-    ensures status { IfOk result (λ status. status ≤ 1) }
+    ensures ok { IfOk result (IsTwinned (F.files folder.old) (F.files folder.new)
+        session.now object.now certificate.now output.now
+        (W.contents out.old) (W.contents out.new)) }
+    ensures fault { IfErr result (Fails
+        (IsUntwinned session.now object.now certificate.now output.now) (F.files folder.old)
+        (F.files folder.new) output.now (W.failed out.new)
+        (W.contents out.old) (W.contents out.new)) }
 {
     let session = read_session(alloc, folder, session)?;
     let object = read_object(alloc, folder, object)?;
@@ -43,8 +46,9 @@ pub(crate) fn twin<'a, F: Folder, W: Write>(
         Verdict::No(reason) => match short_block(reason) {
             Some((block, have, need)) => {
                 let other = session_twin(alloc, &session, object.as_slice(), &certificate, block)?;
-                write_file(folder, output, other.as_slice())?;
-                twin_line_of(alloc, block, have, need)?.print(out)?;
+                let line = twin_line_of(alloc, block, have, need)?;
+                write_output(folder, output, other.as_slice())?;
+                line.print(out)?;
                 Ok(0)
             }
             None => {
