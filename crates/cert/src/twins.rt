@@ -5,15 +5,15 @@ ghost use Rattle.poly.specs.Polynomial.{value};
 ghost use Rattle.partition.specs.Fti.{IsValidFti, block_count, source_count, start_of};
 ghost use Rattle.reception.specs.Reception.{counted, symbols};
 ghost use Rattle.reception.specs.Step.{readings_of};
+ghost use Rattle.cert.specs.Verdict.{came_to};
 ghost use Rattle.cert.specs.Twins.{different_esis, is_first_of, esis_of, IsTwin, IsThinIn, IsTwinOfSession};
-ghost use Rattle.session.specs.Frames.{AreDatagrams};
 
 use crate::certificate::Certificate;
-use alc::read;
 use gf256::{Field, Gf, point};
 use lists::are_bytes;
 use partition::Fti;
 use poly::Poly;
+use reception::Scope;
 use session::Session;
 use std::alloc::{AllocError, Global};
 
@@ -71,19 +71,26 @@ pub fn twin(
     Ok(other)
 }
 
-// The ESIs of a block's symbols in the session, as they came.
-fn esis_held(alloc: Global, session: &Session, block: u32) -> Result<Vec<u8>, AllocError>
-    ensures esis { IfOk result (λ v. v.items ≡ esis_of block (symbols (counted (readings_of session.now)))) }
-    ensures datagrams { AreDatagrams session.now }
+// The ESIs of a block's symbols in the session, as they came, where no datagram has a reason against it.
+fn esis_held(
+    alloc: Global,
+    session: &Session,
+    certificate: &Certificate,
+    block: u32,
+) -> Result<Vec<u8>, AllocError>
+    requires { (came_to certificate.now (readings_of session.now)).wrong ≡ None }
+    ensures { IfOk result (λ v. v.items ≡ esis_of block (symbols (counted (readings_of session.now)))) }
 {
+    let mut scope = Scope::with_fti(certificate.fti());
     let mut held = Vec::new(alloc);
     for place in 0..session.len() {
-        match read(session.get(place)) {
-            Ok(packet) => {
+        match scope.look(session.get(place)) {
+            Ok(Some(packet)) => {
                 if packet.sbn == block {
                     held.push(packet.esi)?;
                 }
             }
+            Ok(None) => {}
             Err(_) => {}
         }
     }
@@ -102,6 +109,7 @@ pub fn session_twin(
     requires { IsThinIn session.now object.now certificate.now block }
     ensures { IfOk result (λ other. IsTwinOfSession certificate.now.fti block session.now object.now other.items) }
 {
-    let held = esis_held(alloc, session, block)?;
+    session.len();
+    let held = esis_held(alloc, session, certificate, block)?;
     twin(alloc, object, &certificate.fti(), block, held.as_slice())
 }

@@ -71,6 +71,14 @@ module _ {R : Type 0} (judge : Judge R) (known : Scope) (ds : List (List ℕ)) w
         (stays_wrong judge known (take (place + 1) (readings_of ds)) (drop (place + 1) (readings_of ds)) (place, r)
         (wrong_now ∙ ap (λ (o : Option (Wrong R)). at_place place o) is))
 
+    -- where nothing is wrong in the whole list, nothing is at the place
+    pub passes : (came_with judge known (readings_of ds)).wrong ≡ None → wrong_by judge (came_before ds place) (looked answer) ≡ None
+    passes none = by (wrong_by judge (came_before ds place) (looked answer)) refl
+      where
+        by : (o : Option (Wrong R)) → wrong_by judge (came_before ds place) (looked answer) ≡ o → wrong_by judge (came_before ds place) (looked answer) ≡ None
+        by None e = e
+        by (Some r) e = absurd (let s = stops r e in (cc))
+
     -- nothing is wrong at the place
     pub goes_on : wrong_by judge (came_before ds place) (looked answer) ≡ None → Walked judge known ds (place + 1) new
     goes_on is = record {
