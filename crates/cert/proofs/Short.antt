@@ -14,7 +14,6 @@ use Rattle.lists.proofs.Below.{all_below}
 use Rattle.partition.specs.Fti.{Fti, source_count}
 use Rattle.alc.specs.Packet.{Packet}
 use Rattle.alc.specs.Reading.{Reading, Reads}
-use Rattle.alc.specs.declared.fault.PacketFault.{PacketFault}
 use Rattle.alc.specs.Computed.{read_of}
 use Rattle.reception.specs.Symbols.{Symbol, is_held, held_count, IsObject, IsFirstShort, Agrees, Fits, AreTwins}
 use Rattle.cert.specs.Certificate.{Certificate, IsCertificate}
@@ -125,9 +124,6 @@ module _ (b : ℕ) (ds : List (List ℕ)) (place : ℕ) (d : List ℕ) (l : plac
         | true ↦ λ e. absurd (ne (eqb-true _ _ e))
         | false ↦ λ e. refl
       ] refl)
-
-  pub no_packet_here : (r : PacketFault) → Reads d (Err r) → old ≡ esis_of b (came_before ds (place + 1))
-  no_packet_here r h = nothing (Err r) h refl
 
 -- ---- what a verdict of a short block says
 

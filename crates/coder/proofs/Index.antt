@@ -72,9 +72,6 @@ pub record Gains (came more : List Symbol) (s : Symbol) : Type 1 where
   pub is_held_more : (b j : ℕ) → is_held more b j ≡ (is_of b j s || is_held came b j)
   pub all_more : (P : Symbol → Type 0) → P s → AllByRecursion P came → AllByRecursion P more
 
-pub in_front : (came : List Symbol) (s : Symbol) → Gains came (s ∷ came) s
-in_front came s = record { is_held_more = λ b j. refl; all_more = λ P here rest. (here, rest) }
-
 all_behind : (P : Symbol → Type 0) (came : List Symbol) (s : Symbol) → P s → AllByRecursion P came → AllByRecursion P (came ++ s ∷ [])
 all_behind P [] s here rest = (here, tt)
 all_behind P (x ∷ xs) s here rest = (rest.0, all_behind P xs s here rest.1)

@@ -1,18 +1,14 @@
 -- From the weights of blocks to the figures.
-use Rattle.std.proofs.Common.{◌≡◌, ℕ, ◌+◌, ◌-◌, ◌<◌, ◌≤◌, true, false, List, nat_lt, length, refl, ap, sym, ◌∙◌, arith, subst, ltb-true}
+use Rattle.std.proofs.Common.{◌≡◌, ℕ, ◌+◌, ◌<◌, ◌≤◌, true, false, List, nat_lt, length, refl, ap, sym, ◌∙◌, arith, subst, ltb-true}
 use Rattle.std.proofs.lemmas.Bool.{ltb-false}
-use Rattle.std.specs.Prelude.{slice_index}
-use Rattle.std.specs.List.{AllByRecursion}
-use Rattle.losses.proofs.Block.{cheap, cost, doomed, some_copies, some_total}
+use Rattle.losses.proofs.Block.{cheap, cost, some_copies, some_total}
 use Rattle.lists.proofs.Lists.{filter_all}
-use Rattle.losses.proofs.Margins.{IsCut, IsPriced, margin, kill}
-use Rattle.losses.proofs.Narrowest.{least_run, members_between, present_all}
-use Rattle.losses.proofs.Runs.{IsLeastRun, IsSpanned, burst}
-use Rattle.losses.proofs.Weights.{cheap_are, cost_are, doomed_are}
-use Rattle.losses.specs.Costs.{IsWeighed, cheap_places, copies, is_cheap}
-use Rattle.losses.specs.Losses.{IsMargin, IsKill, IsBurst, blocks_by}
-use Rattle.losses.proofs.Copies.{HasByteEsi}
-use Rattle.losses.specs.Members.{ArePlaced, IsLeastGap, different_outside, members}
+use Rattle.losses.proofs.Margins.{IsCut}
+use Rattle.losses.proofs.Narrowest.{members_between, present_all}
+use Rattle.losses.proofs.Weights.{cheap_are, cost_are}
+use Rattle.losses.specs.Costs.{IsWeighed, copies, is_cheap}
+
+use Rattle.losses.specs.Members.{ArePlaced, members}
 use Rattle.losses.specs.Numbers.{present}
 use Rattle.losses.specs.declared.groups.Member.{Member}
 use Rattle.losses.specs.Number.{Number}
@@ -20,12 +16,6 @@ use Rattle.losses.specs.Number.{Number}
 -- what a block's members give its check
 pub group_placed : (b : ℕ) (ps : List Number) (qs : List Member) → qs ≡ members b 0 ps → ArePlaced qs
 group_placed b ps qs is = subst (λ (xs : List Member). ArePlaced xs) (sym is) ((members_between b 0 (length ps) ps (omega arith)).placed)
-
-pub group_enough : (b k : ℕ) (ps : List Number) (qs : List Member) → qs ≡ members b 0 ps → k ≤ length (present b ps) → k ≤ different_outside qs 0 0
-group_enough b k ps qs is l =
-    let a = present_all b ps in
-    let e = ap (λ (xs : List Member). different_outside xs 0 0) is in
-    omega (arith, a, e, l)
 
 module _ (b k price t last : ℕ) (ps : List Number) (w : IsWeighed (members b 0 ps) k price t last) where
   pub cut_of : IsCut b k ps t last

@@ -13,7 +13,7 @@ use Rattle.losses.specs.Members.{ArePlaced, IsLeastGap, members, different_outsi
 use Rattle.losses.specs.Costs.{IsWeighed, cheap_places}
 use Rattle.losses.specs.Losses.{Blocks, IsBefore, IsKill, IsMargin, IsBurst, is_enough, esis_in, taken_wholly}
 use Rattle.losses.specs.declared.groups.Group.{Group as GroupOf}
-use Rattle.losses.specs.Groups.{Group, group_of, groups_of, no_group, group_at, places, is_at, blocks_of_groups, AreMembers, AreGroups}
+use Rattle.losses.specs.Groups.{Group, group_of, groups_of, no_group, group_at, places, is_at, blocks_of_groups, AreGroups}
 use Rattle.losses.proofs.Copies.{HasByteEsi}
 use Rattle.lists.proofs.Lists.{filter_same, all_of}
 use Rattle.losses.proofs.Places.{marks_places, marks_size, places_below, places_count, places_rise}

@@ -1,10 +1,9 @@
 -- The burst: one less than the least run that leaves some block short.
-use Rattle.std.specs.Prelude.{◌≡◌, ℕ, ◌+◌, ◌-◌, ◌<◌, ◌≤◌, min, Bool, true, false, ◌&&◌, ◌||◌, nat_le, nat_lt, cond, List, [], ◌∷◌, length, filter, slice_index, refl}
+use Rattle.std.specs.Prelude.{◌≡◌, ℕ, ◌+◌, ◌<◌, ◌≤◌, Bool, true, false, ◌&&◌, ◌||◌, nat_le, nat_lt, cond, List, [], ◌∷◌, length, filter, refl}
 use Rattle.std.specs.List.{list_any}
 use Rattle.std.proofs.Common.{arith, leb-true, ltb-true}
-use Rattle.std.proofs.lemmas.Bool.{leb-false, le-leb, lt-ltb}
+use Rattle.std.proofs.lemmas.Bool.{le-leb, lt-ltb}
 use Rattle.lists.specs.Selection.{is_run, rest, rest_from}
-use Rattle.losses.specs.Losses.{IsBurst, is_enough, blocks_by}
 use Rattle.lists.specs.Below.{below}
 use Rattle.losses.specs.Numbers.{has, is_number, present}
 use Rattle.losses.specs.Number.{Number}
@@ -66,42 +65,3 @@ run_is a m k l g = let e : nat_le a k ≡ true = le-leb a k l in let d : nat_lt 
 
 pub wider_run : (a m c n k : ℕ) → c ≤ a → a + m ≤ c + n → is_run a m k ≡ true → is_run c n k ≡ true
 wider_run a m c n k l g h = let r = run_true a m k h in run_is c n k (omega (arith, r.0, l)) (omega (arith, r.1, g))
-
--- a block's least short run is no less than the least
-pub record IsSpanned (b k : ℕ) (ps : List Number) (least : ℕ) : Type 0 where
-  pub size : ℕ
-  pub run : IsLeastRun b k ps size
-  pub low : least ≤ size
-
-module _ (needs : List ℕ) (ps : List Number) (at m : ℕ) (within : at < length needs) (run : IsLeastRun at (slice_index needs at) ps (m + 1))
-    (spanned : (b : ℕ) → b < length needs → IsSpanned b (slice_index needs b) ps (m + 1)) where
-  pub burst : IsBurst (blocks_by needs) ps m
-  burst =
-      let r = run in
-      let i = r.is.within in
-      record {
-        within = omega (arith, i);
-        bears = λ a l b hb.
-            elim (is_enough (blocks_by needs) (rest (is_run a m) ps) b) as (λ v. is_enough (blocks_by needs) (rest (is_run a m) ps) b ≡ v → v ≡ true) [
-              | true ↦ λ e. refl
-              | false ↦ λ e.
-                  (let s = leb-false _ _ e in
-                  let c = (spanned b hb).run.least a m (record { within = l; short = s }) in
-                  let y = (spanned b hb).low in
-                  absurd (omega (arith, c, y)))
-            ] refl;
-        greatest = λ x l bears.
-            elim (nat_le x m) as (λ v. nat_le x m ≡ v → x ≤ m) [
-              | true ↦ λ e. leb-true x m e
-              | false ↦ λ e.
-                  (let g = leb-false x m e in
-                  let c1 : min r.start (length ps - x) ≤ r.start = omega arith in
-                  let c2 : r.start + (m + 1) ≤ min r.start (length ps - x) + x = omega (arith, i, g, l) in
-                  let c3 : min r.start (length ps - x) + x ≤ length ps = omega (arith, l) in
-                  let full = bears (min r.start (length ps - x)) c3 at within in
-                  let few = fewer_present at (is_run r.start (m + 1)) (is_run (min r.start (length ps - x)) x) ps (λ k. wider_run r.start (m + 1) (min r.start (length ps - x)) x k c1 c2) in
-                  let h = leb-true _ _ full in
-                  let s = r.is.short in
-                  absurd (omega (arith, few, h, s)))
-            ] refl;
-      }

@@ -1,10 +1,8 @@
 -- What a list of packets, or of their numbers, can lose. A loss is a set of places of the list.
-use Rattle.std.specs.Prelude.{◌≡◌, ℕ, ◌+◌, ◌<◌, ◌≤◌, ◌⊎◌, Bool, true, false, not, nat_le, List, [], ◌∷◌, length, filter, slice_index}
+use Rattle.std.specs.Prelude.{◌≡◌, ℕ, ◌+◌, ◌<◌, ◌≤◌, ◌⊎◌, Bool, true, false, not, nat_le, List, [], ◌∷◌, length, filter}
 use Rattle.std.specs.List.{AllByRecursion}
 use Rattle.lists.specs.Selection.{rest, loss_size, is_run, is_among}
-use Rattle.losses.specs.Number.{Number}
 use Rattle.lists.specs.Below.{below}
-use Rattle.losses.specs.Numbers.{has}
 
 -- So many blocks, how many different symbols each of them needs, and whether a list has a symbol of a block by its ESI.
 pub record Blocks (X : Type 0) : Type 0 where
@@ -76,7 +74,3 @@ pub record IsKill {X : Type 0} (blocks : Blocks X) (xs : List X) (n : ℕ) (plac
   pub least : (b : ℕ) (lost : ℕ → Bool) → LeavesShort blocks xs n b lost → block ≤ b
   pub first : (lost : ℕ → Bool) → LeavesShort blocks xs n block lost
       → ¬ IsBefore (taken_wholly blocks xs lost block) (taken_wholly blocks xs (is_among places) block)
-
--- the blocks of numbers, by what each block needs
-abbrev pub blocks_by : List ℕ → Blocks Number
-blocks_by needs = record { count = length needs; need = slice_index needs; has_symbol = λ ps b j. has b ps j }

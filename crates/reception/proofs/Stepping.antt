@@ -39,15 +39,6 @@ after_packet known p = by known.identity known.fti
     by None (Some f) = (_, f, refl)
     by None None = (_, _, refl)
 
-pub after_none : (known : Scope) (e : _) → learned known (Err e) ≡ known
-after_none known e = by known.identity known.fti
-  where
-    by : (w : Option Identity) (f : Option Fti) → scope (or_later w None) (or_later f None) ≡ scope w f
-    by (Some w) (Some f) = refl
-    by (Some w) None = refl
-    by None (Some f) = refl
-    by None None = refl
-
 no_symbols_timely : (known : Scope) → IsTimely known []
 no_symbols_timely known = by known.identity known.fti
   where

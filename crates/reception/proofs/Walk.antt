@@ -51,11 +51,3 @@ module _ {R : Type 0} (judge : Judge R) (scope : Scope) where
       ap (λ (o : Found R). or_else here o)
       (e ∙ ap (λ (ss : List Symbol). or_else (wrong_after judge scope (earlier ++ symbols_in x.reading) xs) (wrong_after judge scope ss ys)) a)
       ∙ sym (or_else_assoc here (wrong_after judge scope (earlier ++ symbols_in x.reading) xs) (wrong_after judge scope (earlier ++ symbols (x ∷ xs)) ys))
-
-  -- what is wrong stays, whatever comes after
-  pub wrong_stays : (rs ss : List Reading) (x : ℕ × _) → first_wrong judge scope (counted rs) ≡ Some x
-      → first_wrong judge scope (counted (rs ++ ss)) ≡ Some x
-  wrong_stays rs ss x h =
-      ap (λ (xs : List Placed). first_wrong judge scope xs) (counted_more 0 rs ss)
-      ∙ wrong_more [] (counted rs) (counted_from (0 + length rs) ss)
-      ∙ ap (λ (o : Found R). or_else o (wrong_after judge scope ([] ++ symbols (counted rs)) (counted_from (0 + length rs) ss))) h

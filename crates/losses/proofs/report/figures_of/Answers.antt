@@ -4,7 +4,7 @@ use Rattle.losses.specs.Members.{ArePlaced, IsLeastGap, different_outside}
 use Rattle.losses.specs.Losses.{IsKill}
 use Rattle.losses.specs.declared.groups.Member.{Member}
 use Rattle.losses.specs.declared.groups.Group.{Group as GroupOf}
-use Rattle.losses.specs.Groups.{Group, group_of, groups_of, group_at, places, blocks_of_groups, AreGroups}
+use Rattle.losses.specs.Groups.{Group, groups_of, group_at, places, blocks_of_groups}
 use Rattle.losses.proofs.GroupFigures.{IsHeavyGroup, IsWideGroup, seen, count_of, placed_of, heavy_new, heavy_same, wide_new, wide_same, narrow_more, some, margin_of_groups, kill_of_groups, burst_of_groups}
 use Rattle.losses.proofs.report.figures_of.Goals as goal
 use Rattle.losses.proofs.report.figures_of.Goals.{then-weight-threshold, else-weight-threshold, then-weight-burst, else-weight-burst}

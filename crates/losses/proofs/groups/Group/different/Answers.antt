@@ -1,5 +1,4 @@
 use Rattle.std.proofs.Common.{◌∙◌, ap}
-use Rattle.losses.specs.declared.groups.Member.{Member}
 use Rattle.losses.specs.Members.{different_outside}
 use Rattle.losses.proofs.Weights.{filled_all}
 use Rattle.losses.proofs.groups.Group.different.Goals as goal
