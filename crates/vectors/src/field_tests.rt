@@ -1,5 +1,21 @@
 //! The field, its points and rows of bytes.
+ghost use Rattle.std.specs.Prelude.{◌≤◌};
+
 use gf256::{Field, Gf, add_scaled, point};
+
+/// The product by the field's definition: for each bit of `a` that is set, `b` doubled so often.
+pub(crate) fn defined_product(a: u8, b: u8) -> u8 {
+    let mut product = 0u8;
+    let mut power = b;
+    for bit in 0..8u8 {
+        if (a >> bit) & 1 == 1 {
+            product ^= power;
+        }
+        let reduced = if power < 128 { 0 } else { 0x1D };
+        power = power.wrapping_mul(2) ^ reduced;
+    }
+    product
+}
 
 #[test]
 fn multiplies(rt: HostRuntime) {
@@ -88,4 +104,43 @@ fn adds_a_scaled_row_of_blocks(rt: HostRuntime) {
         0x90, 0x6D, 0x67, 0xC2, 0xB8, 0x4D, 0xB4,
     ];
     assert_eq!(rt; bytes, sums);
+}
+
+// Whether the front of a row gains the products of the definition, whatever the element, and the rest of
+// it stays.
+fn scales_as_defined(length: usize) -> bool
+    requires { length ≤ 65 }
+{
+    let mut old = [0u8; 65];
+    let mut other = [0u8; 65];
+    for i in 0..65u8 {
+        old[usize::from(i)] = i.wrapping_mul(91).wrapping_add(17);
+        other[usize::from(i)] = i.wrapping_mul(167).wrapping_add(5);
+    }
+    for c in 0..256u16 {
+        let mut row = old;
+        add_scaled(&mut row[..length], Gf(c as u8), &other[..length]);
+        for i in 0..65usize {
+            let gained = if i < length {
+                defined_product(c as u8, other[i])
+            } else {
+                0
+            };
+            if row[i] != old[i] ^ gained {
+                return false;
+            }
+        }
+    }
+    true
+}
+
+#[test]
+fn scales_rows_of_each_length(rt: HostRuntime) {
+    assert!(rt; scales_as_defined(0));
+    assert!(rt; scales_as_defined(1));
+    assert!(rt; scales_as_defined(31));
+    assert!(rt; scales_as_defined(32));
+    assert!(rt; scales_as_defined(33));
+    assert!(rt; scales_as_defined(64));
+    assert!(rt; scales_as_defined(65));
 }

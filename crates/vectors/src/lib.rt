@@ -8,6 +8,8 @@ mod decoding_tests;
 #[cfg(test)]
 mod field_tests;
 #[cfg(test)]
+mod kernel_tests;
+#[cfg(test)]
 mod loss_tests;
 #[cfg(test)]
 mod matrix_tests;
