@@ -1,9 +1,8 @@
--- A line that gains a text.
-use Rattle.std.proofs.Common.{◌≡◌, ℕ, List, ◌++◌, Ok, Err}
+-- A line that gains a text, and then another.
+use Rattle.std.proofs.Common.{◌≡◌, ◌∙◌, ℕ, List, ◌++◌, Ok, Err, ap, append_assoc}
 use Rattle.std.specs.Prelude.{Result, OnOk}
 
--- of which no more is said than that it is one
-pub gains_some : {T E : Type 0} (r : Result T E) (old new text : List ℕ) → OnOk r (new ≡ old ++ text)
-    → OnOk r ((words : List ℕ) × (new ≡ old ++ words))
-gains_some (Ok x) old new text h = (text, h)
-gains_some (Err x) old new text h = h
+pub gains_more : {T E : Type 0} (r : Result T E) (old middle new first second : List ℕ) → middle ≡ old ++ first
+    → OnOk r (new ≡ middle ++ second) → OnOk r (new ≡ old ++ (first ++ second))
+gains_more (Ok x) old middle new first second e h = h ∙ ap (λ (l : List ℕ). l ++ second) e ∙ append_assoc old first second
+gains_more (Err x) old middle new first second e h = h

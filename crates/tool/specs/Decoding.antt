@@ -1,5 +1,5 @@
 -- What decoding a session file prints.
-use Rattle.std.specs.Prelude.{◌≡◌, ◌⊎◌, ℕ, Bool, List, ◌++◌, Option, length, codes, decimal}
+use Rattle.std.specs.Prelude.{◌≡◌, ◌⊎◌, ℕ, Bool, List, [], ◌∷◌, ◌++◌, Option, length, codes, decimal}
 use Rattle.std.specs.Io.KnownBytes.{Appends}
 use Rattle.reception.specs.Answer.{IsAnswer}
 use Rattle.coder.specs.Answers.{answer_value}
@@ -10,12 +10,14 @@ use Rattle.coder.specs.declared.answer.DecodeFault.TheVariants.{Packet, OtherIde
 use Rattle.tool.specs.declared.fault.Fault.{Fault}
 use Rattle.tool.specs.Folder.{Files, Replaces}
 use Rattle.tool.specs.Inputs.{HoldsSession, IsSessionUnread}
+use Rattle.tool.specs.Words.{packet_words}
 use Rattle.tool.specs.Lines.{line_of, named, IsPrintFault}
 use Rattle.tool.specs.Making.{IsUnmade}
 
--- What a line gains by a fault. Behind R1 the packet's fault stands in its own words.
+-- what a line gains by a fault
 abbrev pub GainsFault : DecodeFault → List ℕ → List ℕ → Type 0
-GainsFault (Packet place fault) old new = (words : List ℕ) × (new ≡ old ++ named (codes "R1 Packet place") (decimal place) ++ words)
+GainsFault (Packet place fault) old new =
+    new ≡ old ++ named (codes "R1 Packet place") (decimal place) ++ 32 ∷ [] ++ packet_words fault
 GainsFault (OtherIdentity place) old new = new ≡ old ++ named (codes "R2 OtherIdentity place") (decimal place)
 GainsFault (OtherFti place) old new = new ≡ old ++ named (codes "R3 OtherFti place") (decimal place)
 GainsFault (Range place) old new = new ≡ old ++ named (codes "R4 Range place") (decimal place)

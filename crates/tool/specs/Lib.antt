@@ -1,6 +1,7 @@
 pub mod Files
 pub mod Folder
 pub mod Inputs
+pub mod Words
 pub mod Lines
 pub mod Making
 pub mod Decoding

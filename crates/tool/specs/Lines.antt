@@ -9,7 +9,8 @@ use Rattle.cert.specs.declared.verdict.Reason.TheVariants.{ObjectLength, NotObje
 use Rattle.cert.specs.declared.verdict.Verdict.{Verdict}
 use Rattle.cert.specs.declared.verdict.Verdict.TheVariants.{Yes, No}
 use Rattle.tool.specs.declared.fault.Fault.{Fault}
-use Rattle.tool.specs.declared.fault.Fault.TheVariants.{Open, File, Memory, Output}
+use Rattle.tool.specs.declared.fault.Fault.TheVariants.{Open, File, Memory, Frame, Certificate, Fti, Send, Output}
+use Rattle.tool.specs.Words.{fti_words, packet_words, frame_words, certificate_words, send_words}
 
 -- a line as it is printed, with its line feed
 abbrev pub line_of : List ℕ → List ℕ
@@ -30,12 +31,16 @@ abbrev pub IsSilent : Fault → Bool → Option (List ℕ) → Option (List ℕ)
 IsSilent Output failed before after = failed ≡ true
 IsSilent fault failed before after = after ≡ before
 
--- what the line of a fault says; faults of formats have their own words
+-- what the line of a fault says
 abbrev pub IsFaultText : Fault → List ℕ → Type 0
 IsFaultText (Open name) text = text ≡ codes "open " ++ name.now
 IsFaultText (File name) text = text ≡ codes "file " ++ name.now
 IsFaultText Memory text = text ≡ codes "memory"
-IsFaultText _ text = ⊤
+IsFaultText (Frame fault) text = text ≡ frame_words fault
+IsFaultText (Certificate fault) text = text ≡ certificate_words fault
+IsFaultText (Fti fault) text = text ≡ fti_words fault
+IsFaultText (Send fault) text = text ≡ send_words fault
+IsFaultText Output text = ⊤
 
 -- The line of the fault was printed, or that there was no memory for it, unless the output has failed.
 abbrev pub TellsFault : Fault → Bool → Option (List ℕ) → Option (List ℕ) → Type 0
@@ -67,14 +72,14 @@ losses_text report =
 abbrev pub report_text : Report → List ℕ
 report_text report = (line_of (codes "yes") ++ block_lines report.blocks.items (length report.blocks.items)) ++ losses_text report
 
--- What a line gains by a reason. Behind N4 the packet's fault stands in its own words.
+-- what a line gains by a reason
 abbrev pub GainsReason : Reason → List ℕ → List ℕ → Type 0
 GainsReason ObjectLength old new = new ≡ old ++ codes "N1 ObjectLength"
 GainsReason (NotObject block column symbol) old new =
     new ≡ old ++ named (codes "N2 NotObject block") (decimal block) ++ named (codes " column") (decimal column) ++ named (codes " symbol") (decimal symbol)
 GainsReason Empty old new = new ≡ old ++ codes "N3 Empty"
 GainsReason (Packet place fault) old new =
-    (words : List ℕ) × (new ≡ old ++ named (codes "N4 Packet place") (decimal place) ++ words)
+    new ≡ old ++ named (codes "N4 Packet place") (decimal place) ++ 32 ∷ [] ++ packet_words fault
 GainsReason (OtherIdentity place) old new = new ≡ old ++ named (codes "N5 OtherIdentity place") (decimal place)
 GainsReason (OtherFti place) old new = new ≡ old ++ named (codes "N6 OtherFti place") (decimal place)
 GainsReason (Range place) old new = new ≡ old ++ named (codes "N7 Range place") (decimal place)
@@ -111,10 +116,10 @@ packet_text place p =
     ++ named (codes " block") (decimal p.fti.block_length) ++ named (codes " max") (decimal p.fti.max_symbols)
     ++ named (codes " sbn") (decimal p.block) ++ named (codes " esi") (decimal p.esi)
 
--- the line of a datagram, read so. Behind the place of one that is no packet its fault stands in its own words.
+-- the line of a datagram, read so
 abbrev pub IsReadingLine : ℕ → Reading → List ℕ → Type 0
 IsReadingLine place (Ok p) line = line ≡ packet_text place p
-IsReadingLine place (Err fault) line = (words : List ℕ) × (line ≡ decimal place ++ words)
+IsReadingLine place (Err fault) line = line ≡ decimal place ++ 32 ∷ [] ++ packet_words fault
 
 abbrev pub IsDatagramLine : ℕ → List ℕ → List ℕ → Type 0
 IsDatagramLine place datagram line = (reading : Reading) × Reads datagram reading × IsReadingLine place reading line

@@ -29,10 +29,7 @@ pub(crate) fn certify<'a, F: Folder, W: Write>(
         (W.failed out.new) (W.contents out.old) (W.contents out.new)) }
 {
     let object = read_object(alloc, folder, object)?;
-    let fti = match fti_of(sizes, object.len()) {
-        Ok(fti) => fti,
-        Err(fault) => return Err(Fault::Fti(fault)),
-    };
+    let fti = fti_of(sizes, object.len())?;
     let certificate = match coder::certify(alloc, object.as_slice(), &fti) {
         Ok(certificate) => certificate,
         Err(CertifyFault::Length) => unreachable!(),

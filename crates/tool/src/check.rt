@@ -7,6 +7,7 @@ use crate::fault::Fault;
 use crate::folder::Folder;
 use crate::input::{read_certificate, read_object, read_session};
 use crate::print::Line;
+use crate::wording::put_packet_fault;
 use cert::{Reason, Report, Verdict};
 use session::Write;
 use std::alloc::{AllocError, Global};
@@ -97,7 +98,7 @@ fn report_lines(alloc: Global, report: &Report) -> Result<Line, AllocError>
 }
 
 // Puts a reason last.
-fn put_reason(alloc: Global, line: &mut Line, reason: Reason) -> Result<(), AllocError>
+fn put_reason(line: &mut Line, reason: Reason) -> Result<(), AllocError>
     ensures { OnOk result (GainsReason reason line.old line.new) }
 {
     match reason {
@@ -114,8 +115,8 @@ fn put_reason(alloc: Global, line: &mut Line, reason: Reason) -> Result<(), Allo
         Reason::Empty => line.text("N3 Empty"),
         Reason::Packet(place, fault) => {
             line.named("N4 Packet place", place)?;
-            let text = format!(in alloc; " {fault}")?;
-            line.text(text.as_str())
+            line.text(" ")?;
+            put_packet_fault(line, fault)
         }
         Reason::OtherIdentity(place) => line.named("N5 OtherIdentity place", place),
         Reason::OtherFti(place) => line.named("N6 OtherFti place", place),
@@ -137,6 +138,6 @@ pub(crate) fn reason_line(alloc: Global, reason: Reason) -> Result<Line, AllocEr
 {
     let mut line = Line::new(alloc);
     line.text("no ")?;
-    put_reason(alloc, &mut line, reason)?;
+    put_reason(&mut line, reason)?;
     Ok(line)
 }

@@ -8,6 +8,7 @@ use crate::folder::Folder;
 use crate::input::read_session;
 use crate::output::write_output;
 use crate::print::Line;
+use crate::wording::put_packet_fault;
 use coder::{Answer, DecodeFault};
 use session::Write;
 use std::alloc::{AllocError, Global};
@@ -63,14 +64,14 @@ fn status_of(answer: &Answer) -> u8
 }
 
 // Puts a fault last.
-fn put_fault(alloc: Global, line: &mut Line, fault: DecodeFault) -> Result<(), AllocError>
+fn put_fault(line: &mut Line, fault: DecodeFault) -> Result<(), AllocError>
     ensures { OnOk result (GainsFault fault line.old line.new) }
 {
     match fault {
         DecodeFault::Packet(place, fault) => {
             line.named("R1 Packet place", place)?;
-            let text = format!(in alloc; " {fault}")?;
-            line.text(text.as_str())
+            line.text(" ")?;
+            put_packet_fault(line, fault)
         }
         DecodeFault::OtherIdentity(place) => line.named("R2 OtherIdentity place", place),
         DecodeFault::OtherFti(place) => line.named("R3 OtherFti place", place),
@@ -112,7 +113,7 @@ fn fault_line(alloc: Global, fault: DecodeFault) -> Result<Line, AllocError>
 {
     let mut line = Line::new(alloc);
     line.text("fault ")?;
-    put_fault(alloc, &mut line, fault)?;
+    put_fault(&mut line, fault)?;
     Ok(line)
 }
 

@@ -29,10 +29,7 @@ pub(crate) fn encode<'a, F: Folder, W: Write>(
         (W.failed out.new) (W.contents out.old) (W.contents out.new)) }
 {
     let object = read_object(alloc, folder, object)?;
-    let fti = match fti_of(&sending.sizes, object.len()) {
-        Ok(fti) => fti,
-        Err(fault) => return Err(Fault::Fti(fault)),
-    };
+    let fti = fti_of(&sending.sizes, object.len())?;
     let mut file = create(folder, output)?;
     let sent = coder::encode(
         alloc,

@@ -43,3 +43,13 @@ impl From<Failed> for Fault<'_> {
         Fault::Output
     }
 }
+
+impl From<FtiError> for Fault<'_> {
+    ghost use Rattle.tool.specs.declared.fault.Fault.TheVariants.{Fti};
+
+    ghost from_gives = { λ error fault. fault ≡ Fti error };
+
+    fn from(error: FtiError) -> Self {
+        Fault::Fti(error)
+    }
+}

@@ -17,6 +17,7 @@ mod show;
 mod sizes;
 mod thin_out;
 mod twinning;
+mod wording;
 
 pub use answering::{answer, refuse_memory, status_after};
 pub use folder::{FileFault, Folder};

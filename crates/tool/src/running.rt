@@ -15,11 +15,10 @@ use crate::print::Line;
 use crate::show::show;
 use crate::thin_out::drop_places;
 use crate::twinning::twin;
-use cert::CertFault;
+use crate::wording::{put_certificate_fault, put_frame_fault, put_fti_fault, put_send_fault};
 use request::Request;
-use session::{FrameFault, Write, write_all};
+use session::{Write, write_all};
 use std::alloc::{AllocError, Global};
-use std::fmt::Display;
 
 fn perform<'a, F: Folder, W: Write>(
     alloc: Global,
@@ -119,14 +118,6 @@ pub(crate) fn tell_memory<W: Write>(out: &mut W)
     let _ = write_all(out, b"fault memory\n");
 }
 
-// Puts a fault's own words last.
-fn put<D: Display + Drop>(alloc: Global, line: &mut Line, fault: D) -> Result<(), AllocError>
-    ensures { OnOk result ((words : List ℕ) × (line.new ≡ line.old ++ words)) }
-{
-    let text = format!(in alloc; "{fault}")?;
-    line.text(text.as_str())
-}
-
 fn fault_line(alloc: Global, fault: Fault<'_>) -> Result<Line, AllocError>
     ensures { IfOk result (λ line.
         (text : List ℕ) × IsFaultText fault.entry text × (line ≡ codes "fault " ++ text)) }
@@ -142,13 +133,11 @@ fn fault_line(alloc: Global, fault: Fault<'_>) -> Result<Line, AllocError>
             line.text("file ")?;
             line.text(name)?;
         }
-        Fault::Frame(FrameFault::NoMemory)
-        | Fault::Certificate(CertFault::NoMemory)
-        | Fault::Memory => line.text("memory")?,
-        Fault::Frame(fault) => put(alloc, &mut line, fault)?,
-        Fault::Certificate(fault) => put(alloc, &mut line, fault)?,
-        Fault::Fti(fault) => put(alloc, &mut line, fault)?,
-        Fault::Send(fault) => put(alloc, &mut line, fault)?,
+        Fault::Memory => line.text("memory")?,
+        Fault::Frame(fault) => put_frame_fault(&mut line, fault)?,
+        Fault::Certificate(fault) => put_certificate_fault(&mut line, fault)?,
+        Fault::Fti(fault) => put_fti_fault(&mut line, fault)?,
+        Fault::Send(fault) => put_send_fault(&mut line, fault)?,
         Fault::Output => {}
     }
     Ok(line)

@@ -8,6 +8,7 @@ use crate::fault::Fault;
 use crate::folder::Folder;
 use crate::input::read_session;
 use crate::print::Line;
+use crate::wording::put_packet_fault;
 use alc::{Packet, PacketFault, read};
 use session::{Session, Write};
 use std::alloc::{AllocError, Global};
@@ -77,7 +78,7 @@ fn fault_line(alloc: Global, place: usize, fault: PacketFault) -> Result<Line, A
 {
     let mut line = Line::new(alloc);
     line.number(place)?;
-    let text = format!(in alloc; " {fault}")?;
-    line.text(text.as_str())?;
+    line.text(" ")?;
+    put_packet_fault(&mut line, fault)?;
     Ok(line)
 }

@@ -1,5 +1,5 @@
 //! The command `twin`.
-ghost use Rattle.std.specs.Prelude.{◌≡◌, IfOk, IfErr};
+ghost use Rattle.std.specs.Prelude.{◌≡◌, IfOk, IfErr, codes};
 ghost use Rattle.tool.specs.Lines.{twin_line};
 ghost use Rattle.tool.specs.Making.{Fails};
 ghost use Rattle.tool.specs.Outcomes.{short_of, IsTwinned, IsUntwinned};
@@ -25,12 +25,10 @@ pub(crate) fn twin<'a, F: Folder, W: Write>(
     certificate: &'a str,
     output: &'a str,
 ) -> Result<u8, Fault<'a>>
-    ensures ok { IfOk result (IsTwinned (F.files folder.old) (F.files folder.new)
-        session.now object.now certificate.now output.now
-        (W.contents out.old) (W.contents out.new)) }
-    ensures fault { IfErr result (Fails
-        (IsUntwinned session.now object.now certificate.now output.now) (F.files folder.old)
-        (F.files folder.new) output.now (W.failed out.new)
+    ensures ok { IfOk result (IsTwinned (F.files folder.old) (F.files folder.new) session.now
+        object.now certificate.now output.now (W.contents out.old) (W.contents out.new)) }
+    ensures fault { IfErr result (Fails (IsUntwinned session.now object.now certificate.now
+        output.now) (F.files folder.old) (F.files folder.new) output.now (W.failed out.new)
         (W.contents out.old) (W.contents out.new)) }
 {
     let session = read_session(alloc, folder, session)?;
@@ -38,9 +36,7 @@ pub(crate) fn twin<'a, F: Folder, W: Write>(
     let certificate = read_certificate(alloc, folder, certificate)?;
     match cert::check(alloc, &session, object.as_slice(), &certificate)? {
         Verdict::Yes(_) => {
-            let mut line = Line::new(alloc);
-            line.text("no twin")?;
-            line.print(out)?;
+            no_twin_line(alloc)?.print(out)?;
             Ok(1)
         }
         Verdict::No(reason) => match short_block(reason) {
@@ -74,6 +70,14 @@ fn short_block(reason: Reason) -> Option<(u32, usize, usize)>
         | Reason::Range(_)
         | Reason::Symbol(..) => None,
     }
+}
+
+fn no_twin_line(alloc: Global) -> Result<Line, AllocError>
+    ensures { IfOk result (λ line. line ≡ codes "no twin") }
+{
+    let mut line = Line::new(alloc);
+    line.text("no twin")?;
+    Ok(line)
 }
 
 fn twin_line_of(alloc: Global, block: u32, have: usize, need: usize) -> Result<Line, AllocError>

@@ -1,16 +1,9 @@
-use Rattle.tool.proofs.Gains.{gains_some}
 use Rattle.tool.proofs.check.put_reason.Goals as goal
 
 pub returns-in_ok-named-in-NotObject-2 : goal.returns-in_ok-named-in-NotObject-2
 returns-in_ok-named-in-NotObject-2 c =
     rw c.in-NotObject.is
     (rw c.in_ok-named-in-NotObject.ensures at (rw c.in_ok-named-in-NotObject-2.ensures at c.named-in-NotObject-2.ensures))
-
-pub returns-in_ok-text-in-Packet : goal.returns-in_ok-text-in-Packet
-returns-in_ok-text-in-Packet c =
-    rw c.in-Packet.is
-    (rw c.in_ok-named-in-Packet.ensures at
-    (gains_some c.text-in-Packet.result c.named-in-Packet.new.self c.text-in-Packet.new.self c.as_str.result.now c.text-in-Packet.ensures.ok))
 
 pub returns-in-OtherFti : goal.returns-in-OtherFti
 returns-in-OtherFti c = rw c.in-OtherFti.is c.named-in-OtherFti.ensures

@@ -1,0 +1,93 @@
+//! The words of faults.
+ghost use Rattle.std.specs.Prelude.{◌≡◌, ◌++◌, OnOk};
+ghost use Rattle.tool.specs.Words.{fti_words, packet_words, frame_words, certificate_words, send_words};
+
+use crate::print::Line;
+use alc::PacketFault;
+use cert::CertFault;
+use coder::SendFault;
+use partition::FtiError;
+use session::FrameFault;
+use std::alloc::AllocError;
+
+/// Puts the words of a fault of an FTI last.
+pub(crate) fn put_fti_fault(line: &mut Line, fault: FtiError) -> Result<(), AllocError>
+    ensures { OnOk result (line.new ≡ line.old ++ fti_words fault) }
+{
+    match fault {
+        FtiError::LengthZero => line.text("F1 LengthZero"),
+        FtiError::LengthTooGreat => line.text("F2 LengthTooGreat"),
+        FtiError::SymbolZero => line.text("F3 SymbolZero"),
+        FtiError::BlockZero => line.text("F4 BlockZero"),
+        FtiError::MaxBelowBlock => line.text("F5 MaxBelowBlock"),
+        FtiError::TooManyBlocks => line.text("F6 TooManyBlocks"),
+    }
+}
+
+/// Puts the words of a fault of a packet last.
+pub(crate) fn put_packet_fault(line: &mut Line, fault: PacketFault) -> Result<(), AllocError>
+    ensures { OnOk result (line.new ≡ line.old ++ packet_words fault) }
+{
+    match fault {
+        PacketFault::TooShort => line.text("P1 TooShort"),
+        PacketFault::Version => line.text("P2 Version"),
+        PacketFault::Psi => line.text("P3 Psi"),
+        PacketFault::Codepoint => line.text("P4 Codepoint"),
+        PacketFault::NoIdentity => line.text("P5 NoIdentity"),
+        PacketFault::HeaderLength => line.text("P6 HeaderLength"),
+        PacketFault::Extension => line.text("P7 Extension"),
+        PacketFault::FtiLength => line.text("P8 FtiLength"),
+        PacketFault::TwoFti => line.text("P9 TwoFti"),
+        PacketFault::NoFti => line.text("P10 NoFti"),
+        PacketFault::FtiValue(fault) => {
+            line.text("P11 FtiValue ")?;
+            put_fti_fault(line, fault)
+        }
+        PacketFault::PayloadLength => line.text("P12 PayloadLength"),
+    }
+}
+
+/// Puts the words of a fault of a session last.
+pub(crate) fn put_frame_fault(line: &mut Line, fault: FrameFault) -> Result<(), AllocError>
+    ensures { OnOk result (line.new ≡ line.old ++ frame_words fault) }
+{
+    match fault {
+        FrameFault::CutLength => line.text("S1 CutLength"),
+        FrameFault::CutDatagram => line.text("S2 CutDatagram"),
+        FrameFault::TooLong => line.text("S3 TooLong"),
+        FrameFault::Io => line.text("S4 Io"),
+        FrameFault::NoMemory => line.text("S5 NoMemory"),
+        FrameFault::NoSuchPlace(place) => {
+            line.text("S6 NoSuchPlace ")?;
+            line.number(place)
+        }
+    }
+}
+
+/// Puts the words of a fault of a certificate last.
+pub(crate) fn put_certificate_fault(line: &mut Line, fault: CertFault) -> Result<(), AllocError>
+    ensures { OnOk result (line.new ≡ line.old ++ certificate_words fault) }
+{
+    match fault {
+        CertFault::Magic => line.text("Z1 Magic"),
+        CertFault::Fti(fault) => {
+            line.text("Z2 Fti ")?;
+            put_fti_fault(line, fault)
+        }
+        CertFault::Size => line.text("Z3 Size"),
+        CertFault::Io => line.text("Z4 Io"),
+        CertFault::NoMemory => line.text("Z5 NoMemory"),
+    }
+}
+
+/// Puts the words of a fault of sending last.
+pub(crate) fn put_send_fault(line: &mut Line, fault: SendFault) -> Result<(), AllocError>
+    ensures { OnOk result (line.new ≡ line.old ++ send_words fault) }
+{
+    match fault {
+        SendFault::Length => line.text("O1 Length"),
+        SendFault::SymbolTooLong => line.text("O2 SymbolTooLong"),
+        SendFault::Io => line.text("O3 Io"),
+        SendFault::NoMemory => line.text("O4 NoMemory"),
+    }
+}
