@@ -16,3 +16,4 @@ pub mod Few
 pub mod Short
 pub mod RowValues
 pub mod CoefficientRows
+pub mod OneVerdict

@@ -17,7 +17,7 @@ use Rattle.alc.specs.Reading.{Reading}
 use Rattle.reception.specs.declared.scope.Identity.{Identity}
 use Rattle.reception.specs.declared.scope.Scope.{Scope}
 use Rattle.reception.specs.Reception.{ReadAll, counted_from, counted, identity_in, symbol_of, symbols, in_range, packet_fault, unknown, scope_from, wrong_after, IsClean, Suffices}
-use Rattle.reception.specs.Answer.{clashes, clash, came_of}
+use Rattle.reception.specs.Answer.{Object, IsAnswer, clashes, clash, came_of}
 use Rattle.reception.proofs.Stepping.{scope, stays}
 use Rattle.reception.proofs.Within.{IsFaultless, no_fault}
 use Rattle.cert.specs.Certificate.{Certificate, IsCertificate, polynomial, certified_byte}
@@ -27,7 +27,7 @@ use Rattle.reception.specs.Headline.{DecodesWhereEnough}
 use Rattle.partition.proofs.Laws.{some_block, counts}
 use Rattle.lists.proofs.Lists.{both, all_append}
 use Rattle.cert.proofs.Polynomials.{forms}
-use Rattle.reception.proofs.OneAnswer.{same_readings}
+use Rattle.reception.proofs.OneAnswer.{same_readings, one_answer}
 use Rattle.reception.proofs.Full.{fits_only}
 
 -- ---- selections
@@ -229,7 +229,7 @@ decodes session rs object z read good granted = λ q enough.
     let sound = all_chosen (IsSoundReading z who) rs (sound_all z who session rs read (unplaced_all (IsCertifiedReading z who) 0 rs granted.certified.packets)) q in
     let is : enough.readings ≡ chosen rs q = same_readings _ _ _ enough.read (read_chosen session rs read q) in
     let full : Suffices z.fti (chosen rs q) = subst (λ (x : List Reading). Suffices z.fti x) is enough.full in
-    record {
+    let answer : IsAnswer (chosen session q) (Object object) = record {
       readings = chosen rs q;
       read = read_chosen session rs read q;
       answers = (
@@ -240,4 +240,5 @@ decodes session rs object z read good granted = λ q enough.
         fits_only z.fti (symbols (counted (chosen rs q))) object good.fti full
             (record { form = granted.form; agrees = fits_sound z who object good granted.gives 0 (chosen rs q) sound }),
       );
-    }
+    } in
+    record { is = answer; only = λ other h. one_answer (chosen session q) other (Object object) h answer }

@@ -115,3 +115,9 @@ pub record IsVerdict (datagrams : List (List ℕ)) (object : List ℕ) (z : Cert
   pub readings : List Reading
   pub read : ReadAll datagrams readings
   pub judged : VerdictOn readings object z verdict
+
+-- both yes, or both no for one reason
+abbrev pub AreOneVerdict : Verdict → Verdict → Type 0
+AreOneVerdict (Yes r) (Yes s) = Unit {0}
+AreOneVerdict (No r) (No s) = r ≡ s
+AreOneVerdict _ _ = ⊥

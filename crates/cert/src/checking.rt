@@ -1,13 +1,14 @@
 //! The check.
-ghost use Rattle.std.specs.Prelude.{◌≡◌, ◌≤◌, ◌^◌, length, map, IfOk, IfErr, OnOk};
+ghost use Rattle.std.specs.Prelude.{◌≡◌, ◌≤◌, ◌^◌, ℕ, List, length, map, IfOk, IfErr, OnOk};
 ghost use Rattle.session.specs.Frames.{AreDatagrams};
 ghost use Rattle.lists.specs.Below.{below};
-ghost use Rattle.cert.specs.Certificate.{IsCertificate};
+ghost use Rattle.cert.specs.declared.verdict.Verdict.{Verdict as VerdictValue};
+ghost use Rattle.cert.specs.Certificate.{Certificate as CertificateValue, IsCertificate};
 ghost use Rattle.reception.specs.Headline.{DecodesWhereEnough, UndecidedElse};
 ghost use Rattle.cert.specs.Report.{IsReport, OnYes};
 ghost use Rattle.losses.specs.Groups.{groups_of};
 ghost use Rattle.cert.specs.Scan.{line_in, AreEnough, IsThin, AreEnoughCertified, IsRefusal};
-ghost use Rattle.cert.specs.Verdict.{GivesObject, IsVerdict};
+ghost use Rattle.cert.specs.Verdict.{GivesObject, IsVerdict, AreOneVerdict};
 
 use crate::certificate::Certificate;
 use crate::certified_symbols::CertifiedSymbols;
@@ -129,3 +130,10 @@ pub fn check(
 {
     judge(alloc, session, object, certificate)
 }
+
+/// A session, an object and a certificate have one verdict: two that meet its definition are both yes, or both no for one
+/// reason. So `check` says yes exactly where the certificate is one.
+pub fn one_verdict()
+    ensures { (datagrams : List (List ℕ)) (object : List ℕ) (z : CertificateValue) (a b : VerdictValue)
+        → IsVerdict datagrams object z a → IsVerdict datagrams object z b → AreOneVerdict a b }
+{}

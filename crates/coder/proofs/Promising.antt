@@ -10,7 +10,7 @@ use Rattle.coder.specs.Promised.{IsPromised}
 pub promised : (session : List (List ℕ)) (places : List ℕ) (a : Answer) → IsAnswer (chosen session places) a → (f : Fti) (object : List ℕ) → DecodesWhereEnough f session object
     → UndecidedElse f session object → IsPromised f (chosen session places) object a
 promised session places a is f object decodes undecided = record {
-  enough = λ enough. one_answer (chosen session places) a (Object object) is (decodes places enough);
+  enough = λ enough. one_answer (chosen session places) a (Object object) is (decodes places enough).is;
   lacks = λ few.
       let u = undecided places few in
       subst (λ (x : Answer). TellsWhatLacks x (chosen session places)) (one_answer (chosen session places) u.answer a u.told is) u.lacks;

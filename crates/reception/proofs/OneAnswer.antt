@@ -12,13 +12,13 @@ one_fti : (came : Came Clash) (f g : Fti) → IsClean came f → IsClean came g 
 one_fti came f g h k = let a = h.some in let b = k.some in (cc)
 
 -- of two numbers one is less, or they are one
-which : (a b : ℕ) → ((a < b) ⊎ (b < a) → ⊥) → a ≡ b
+pub which : (a b : ℕ) → ((a < b) ⊎ (b < a) → ⊥) → a ≡ b
 which a b h =
     let x : a < b → ⊥ = λ l. h (inl l) in
     let y : b < a → ⊥ = λ l. h (inr l) in
     omega arith
 
-one_short : (f : Fti) (came : List Symbol) (a b : ℕ) → IsFirstShort f came a → IsFirstShort f came b → a ≡ b
+pub one_short : (f : Fti) (came : List Symbol) (a b : ℕ) → IsFirstShort f came a → IsFirstShort f came b → a ≡ b
 one_short f came a b h k = which a b (λ s. elim s [
   | inl l ↦ (let x = k.least a l in let y = h.short in (cc))
   | inr l ↦ (let x = h.least b l in let y = k.short in (cc))

@@ -46,3 +46,8 @@ pub record IsAnswer (datagrams : List (List ℕ)) (answer : Answer) : Type 0 whe
   pub readings : List Reading
   pub read : ReadAll datagrams readings
   pub answers : AnswerTo (came_of readings) answer
+
+-- it is the answer, and there is no other
+pub record IsOnlyAnswer (datagrams : List (List ℕ)) (answer : Answer) : Type 0 where
+  pub is : IsAnswer datagrams answer
+  pub only : (other : Answer) → IsAnswer datagrams other → other ≡ answer

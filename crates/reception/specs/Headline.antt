@@ -4,7 +4,7 @@ use Rattle.partition.specs.Fti.{Fti}
 use Rattle.reception.specs.Symbols.{AreTwins}
 use Rattle.alc.specs.Reading.{Reading}
 use Rattle.reception.specs.Reception.{ReadAll, counted, symbols, Suffices}
-use Rattle.reception.specs.Answer.{Answer, Empty, Missing, Object, IsAnswer}
+use Rattle.reception.specs.Answer.{Answer, Empty, Missing, Object, IsAnswer, IsOnlyAnswer}
 use Rattle.lists.specs.Selection.{chosen}
 
 -- the datagrams are packets that leave no block short
@@ -13,10 +13,10 @@ pub record IsEnough (f : Fti) (datagrams : List (List ℕ)) : Type 0 where
   pub read : ReadAll datagrams readings
   pub full : Suffices f readings
 
--- every selection that is enough decodes to the object
+-- every selection that is enough decodes to the object, and to nothing else
 abbrev pub DecodesWhereEnough : Fti → List (List ℕ) → List ℕ → Type 0
 DecodesWhereEnough f session object =
-    (places : List ℕ) → IsEnough f (chosen session places) → IsAnswer (chosen session places) (Object object)
+    (places : List ℕ) → IsEnough f (chosen session places) → IsOnlyAnswer (chosen session places) (Object object)
 
 -- what a decoder owes where a block is short
 abbrev pub TellsWhatLacks : Answer → List (List ℕ) → Type 0

@@ -1,0 +1,235 @@
+-- There are no two verdicts: each stands behind tests that let through, and at one that doesn't.
+use Rattle.std.specs.Prelude.{◌≡◌, ◌≢◌, ◌<◌, ◌++◌, true, false, ℕ, zero, suc, List, [], ◌∷◌, length, Option, Some, None, Ok, Err, refl, nat_lt}
+use Rattle.std.specs.List.{AllByRecursion}
+use Rattle.std.proofs.Common.{◌∙◌, sym, ap, subst, arith, inl, inr, ltb-true}
+use Rattle.std.proofs.lemmas.Bool.{ltb-false}
+use Rattle.alc.specs.Packet.{Packet}
+use Rattle.alc.specs.Reading.{Reading}
+use Rattle.reception.specs.declared.scope.Identity.{Identity}
+use Rattle.reception.specs.declared.scope.Scope.{Scope}
+use Rattle.reception.specs.Symbols.{Symbol as Received, IsFirstShort}
+use Rattle.reception.specs.Reception.{Placed, counted, counted_from, symbols, symbols_in, symbol_of, packet_fault, or_packet, wrong_by, wrong_after, reading_wrong, at_place, or_else, scope_from, with_fti, Suffices}
+use Rattle.reception.proofs.OneAnswer.{which, one_short, same_readings}
+use Rattle.reception.proofs.Stepping.{scope, stays}
+use Rattle.reception.proofs.Within.{no_fault}
+use Rattle.cert.specs.declared.verdict.Reason.{Reason}
+use Rattle.cert.specs.declared.verdict.Reason.TheVariants.{ObjectLength, NotObject, Empty, Packet as NoPacket, OtherIdentity, OtherFti, Range, Symbol, Thin}
+use Rattle.cert.specs.declared.verdict.Verdict.{Verdict}
+use Rattle.cert.specs.declared.verdict.Verdict.TheVariants.{Yes, No}
+use Rattle.cert.specs.Certificate.{Certificate}
+use Rattle.cert.specs.Verdict.{GivesObject, IsFirstNotGiven, uncertified, came_to, first_reason, IsCertified, IsCertifiedReading, AreCertified, IsCertificateOf, VerdictOn, IsVerdict, AreOneVerdict}
+use Rattle.cert.proofs.Scanning.{all_columns_right}
+use Rattle.cert.proofs.Judging.{no_reason}
+
+-- ---- where all is certified there is no reason
+
+not_wrong : (z : Certificate) (who : Identity) (earlier : List Received) (p : Packet) → IsCertified z who p
+    → wrong_by (uncertified z) earlier (or_packet p (packet_fault who z.fti p)) ≡ None
+not_wrong z who earlier p h =
+    let a : packet_fault who z.fti p ≡ None = no_fault who z.fti p (record { tsi = h.tsi; toi = h.toi; fti = h.fti; range = h.range }) in
+    let b : uncertified z earlier (symbol_of p) ≡ None = all_columns_right z (symbol_of p) 0 z.fti.symbol_length (λ x low high. h.symbol x (omega arith)) in
+    rw (a, b) refl
+
+none_wrong : (z : Certificate) (who : Identity) (earlier : List Received) (xs : List Placed) → AllByRecursion (λ x. IsCertifiedReading z who x.reading) xs
+    → wrong_after (uncertified z) (scope (Some who) (Some z.fti)) earlier xs ≡ None
+none_wrong z who earlier [] h = refl
+none_wrong z who earlier (x ∷ xs) h = by x.reading h.0 (none_wrong z who (earlier ++ symbols_in x.reading) xs h.1)
+  where
+    by : (r : Reading) → IsCertifiedReading z who r
+        → wrong_after (uncertified z) (scope (Some who) (Some z.fti)) (earlier ++ symbols_in x.reading) xs ≡ None
+        → or_else (at_place x.place (reading_wrong (uncertified z) (scope (Some who) (Some z.fti)) earlier r)) (wrong_after (uncertified z) (scope (Some who) (Some z.fti)) (earlier ++ symbols_in x.reading) xs) ≡ None
+    by (Ok p) k later = let n = not_wrong z who earlier p k in rw n later
+    by (Err e) k later = absurd k
+
+abbrev identity : ℕ → ℕ → Identity
+identity t u = record { tsi = t; toi = u }
+
+identity_is : (a b : ℕ) (who : Identity) → a ≡ who.tsi → b ≡ who.toi → ◌≡◌ {A = Identity} (record { tsi = a; toi = b }) who
+identity_is a b who h g =
+    ap (λ (x : ℕ). identity x b) h ∙ ap (λ (y : ℕ). identity who.tsi y) g
+
+yes_no_reason : (z : Certificate) (rs : List Reading) → AreCertified rs z → first_reason z rs ≡ None
+yes_no_reason z [] h = absurd (let s = h.some in (cc))
+yes_no_reason z (Err e ∷ rs) h = absurd h.packets.0
+yes_no_reason z (Ok p ∷ rs) h =
+    let first : Identity = record { tsi = p.tsi; toi = p.toi } in
+    let same : ◌≡◌ {A = Identity} (record { tsi = p.tsi; toi = p.toi }) h.who = identity_is p.tsi p.toi h.who h.packets.0.tsi h.packets.0.toi in
+    let is : scope_from (with_fti z.fti) (counted (Ok p ∷ rs)) ≡ scope (Some h.who) (Some z.fti) =
+    stays first z.fti (counted_from 1 rs) ∙ ap (λ (i : Identity). scope (Some i) (Some z.fti)) same in
+    no_reason (came_to z (Ok p ∷ rs)).wrong
+    (subst (λ (s : Scope). wrong_after (uncertified z) s [] (counted (Ok p ∷ rs)) ≡ None) (sym is) (none_wrong z h.who [] (counted (Ok p ∷ rs)) h.packets))
+
+-- ---- the tests in their order
+
+abbrev stage : Verdict → ℕ
+stage (No ObjectLength) = 0
+stage (No (NotObject b c i)) = 1
+stage (No Empty) = 3
+stage (No (Thin b have need)) = 4
+stage (No _) = 2
+stage (Yes report) = 5
+
+one_place : (object : List ℕ) (z : Certificate) (b c i x y n : ℕ) → IsFirstNotGiven object z b c i → IsFirstNotGiven object z x y n → (b ≡ x) × (c ≡ y) × (i ≡ n)
+one_place object z b c i x y n h k =
+    let e : b ≡ x = which b x (λ s. elim s [
+      | inl l ↦ h.first.first.wrong (k.blocks_before b c i l h.first.column h.first.first.symbol)
+      | inr l ↦ k.first.first.wrong (h.blocks_before x y n l k.first.column k.first.first.symbol)
+    ]) in
+    let g : IsFirstNotGiven object z x c i = subst (λ (v : ℕ). IsFirstNotGiven object z v c i) e h in
+    let d : c ≡ y = which c y (λ s. elim s [
+      | inl l ↦ g.first.first.wrong (k.first.columns_before c i l g.first.first.symbol)
+      | inr l ↦ k.first.first.wrong (g.first.columns_before y n l k.first.first.symbol)
+    ]) in
+    let f : IsFirstNotGiven object z x y i = subst (λ (v : ℕ). IsFirstNotGiven object z x v i) d g in
+    let a : i ≡ n = which i n (λ s. elim s [
+      | inl l ↦ f.first.first.wrong (k.first.first.symbols_before i l)
+      | inr l ↦ k.first.first.wrong (f.first.first.symbols_before n l)
+    ]) in
+    (e, d, a)
+
+module _ (rs : List Reading) (object : List ℕ) (z : Certificate) where
+  abbrev Pass : ℕ → Type 0
+  Pass zero = length object ≡ z.fti.transfer_length
+  Pass (suc zero) = GivesObject object z
+  Pass (suc (suc zero)) = first_reason z rs ≡ None
+  Pass (suc (suc (suc zero))) = counted rs ≢ []
+  Pass (suc (suc (suc (suc zero)))) = Suffices z.fti rs
+  Pass _ = Unit {0}
+
+  abbrev Passed : ℕ → Type 0
+  Passed zero = Unit {0}
+  Passed (suc n) = Passed n × Pass n
+
+  passed_at : (n j : ℕ) → Passed n → j < n → Pass j
+  passed_at zero j h l = absurd (omega (arith, l))
+  passed_at (suc n) j h l =
+      elim (nat_lt j n) as (λ v. nat_lt j n ≡ v → Pass j) [
+        | true ↦ λ e. passed_at n j h.0 (ltb-true j n e)
+        | false ↦ λ e. (let m = ltb-false j n e in let is : n ≡ j = omega (arith, m, l) in subst (λ (k : ℕ). Pass k) is h.1)
+      ] refl
+
+  some_of : AreCertified rs z → counted rs ≢ []
+  some_of h = by rs h
+    where
+      by : (xs : List Reading) → AreCertified xs z → counted xs ≢ []
+      by [] g e = absurd (let s = g.some in (cc))
+      by (x ∷ xs) g e = absurd (cc)
+
+  passed : (v : Verdict) → VerdictOn rs object z v → Passed (stage v)
+  passed (No ObjectLength) h = tt
+  passed (No (NotObject b c i)) h = (tt, h.0)
+  passed (No (NoPacket i x)) h = ((tt, h.0.count), h.1)
+  passed (No (OtherIdentity i)) h = ((tt, h.0.count), h.1)
+  passed (No (OtherFti i)) h = ((tt, h.0.count), h.1)
+  passed (No (Range i)) h = ((tt, h.0.count), h.1)
+  passed (No (Symbol i c)) h = ((tt, h.0.count), h.1)
+  passed (No Empty) h = (((tt, h.0.count), h.1), h.2.0)
+  passed (No (Thin b have need)) h = ((((tt, h.0.count), h.1), h.2.0), h.2.1)
+  passed (Yes report) h = (((((tt, h.form.count), h.gives), yes_no_reason z rs h.certified), some_of h.certified), h.full)
+
+  at_place_no : (r : Reason) → first_reason z rs ≡ Some r → ¬ (first_reason z rs ≡ None)
+  at_place_no r e p = absurd (cc)
+
+  stopped : (r : Reason) → VerdictOn rs object z (No r) → ¬ Pass (stage (No r))
+  stopped ObjectLength h p = h p
+  stopped (NotObject b c i) h p = h.1.first.first.wrong (p b c i h.1.block h.1.first.column h.1.first.first.symbol)
+  stopped (NoPacket i x) h p = at_place_no (NoPacket i x) h.2 p
+  stopped (OtherIdentity i) h p = at_place_no (OtherIdentity i) h.2 p
+  stopped (OtherFti i) h p = at_place_no (OtherFti i) h.2 p
+  stopped (Range i) h p = at_place_no (Range i) h.2 p
+  stopped (Symbol i c) h p = at_place_no (Symbol i c) h.2 p
+  stopped Empty h p = p h.2.1
+  stopped (Thin b have need) h p = let f = p b h.2.2.in_range in let s = h.2.2.short in absurd (cc)
+
+  stage_top : (v : Verdict) → stage v < 6
+  stage_top (No ObjectLength) = omega arith
+  stage_top (No (NotObject b c i)) = omega arith
+  stage_top (No (NoPacket i x)) = omega arith
+  stage_top (No (OtherIdentity i)) = omega arith
+  stage_top (No (OtherFti i)) = omega arith
+  stage_top (No (Range i)) = omega arith
+  stage_top (No (Symbol i c)) = omega arith
+  stage_top (No Empty) = omega arith
+  stage_top (No (Thin b have need)) = omega arith
+  stage_top (Yes report) = omega arith
+
+  below_yes : (r : Reason) → stage (No r) < 5
+  below_yes ObjectLength = omega arith
+  below_yes (NotObject b c i) = omega arith
+  below_yes (NoPacket i x) = omega arith
+  below_yes (OtherIdentity i) = omega arith
+  below_yes (OtherFti i) = omega arith
+  below_yes (Range i) = omega arith
+  below_yes (Symbol i c) = omega arith
+  below_yes Empty = omega arith
+  below_yes (Thin b have need) = omega arith
+
+  not_before : (a b : Verdict) → VerdictOn rs object z a → VerdictOn rs object z b → stage a < stage b → ⊥
+  not_before (Yes report) b h k l = let t = stage_top b in absurd (omega (arith, l, t))
+  not_before (No r) b h k l = stopped r h (passed_at (stage b) (stage (No r)) (passed b k) l)
+
+  same_stage : (a b : Verdict) → VerdictOn rs object z a → VerdictOn rs object z b → stage a ≡ stage b
+  same_stage a b h k = which (stage a) (stage b) (λ s. elim s [
+    | inl l ↦ not_before a b h k l
+    | inr l ↦ not_before b a k h l
+  ])
+
+  -- the reason of a no that stands at a place
+  abbrev told : Reason → Type 0
+  told r = first_reason z rs ≡ Some r
+
+  abbrev AtPlace : Verdict → Type 0
+  AtPlace (Yes report) = ⊥
+  AtPlace (No r) = told r
+
+  at_two : (v : Verdict) → VerdictOn rs object z v → stage v ≡ 2 → AtPlace v
+  at_two (No (NoPacket i x)) h e = h.2
+  at_two (No (OtherIdentity i)) h e = h.2
+  at_two (No (OtherFti i)) h e = h.2
+  at_two (No (Range i)) h e = h.2
+  at_two (No (Symbol i c)) h e = h.2
+  at_two (No ObjectLength) h e = absurd (omega (arith, e))
+  at_two (No (NotObject b c i)) h e = absurd (omega (arith, e))
+  at_two (No Empty) h e = absurd (omega (arith, e))
+  at_two (No (Thin b have need)) h e = absurd (omega (arith, e))
+  at_two (Yes report) h e = absurd (omega (arith, e))
+
+  both_told : (a b : Verdict) → AtPlace a → AtPlace b → AreOneVerdict a b
+  both_told (Yes report) b h k = absurd h
+  both_told (No r) (Yes report) h k = absurd k
+  both_told (No r) (No s) h k = some_same (sym h ∙ k)
+    where
+      some_same : Some r ≡ Some s → r ≡ s
+      some_same e = cc
+
+  one_of : (a b : Verdict) → VerdictOn rs object z a → VerdictOn rs object z b → stage a ≡ stage b → AreOneVerdict a b
+  one_of (No ObjectLength) (No ObjectLength) h k e = refl
+  one_of (No (NotObject b c i)) (No (NotObject x y n)) h k e =
+      let p = one_place object z b c i x y n h.1 k.1 in
+      let p0 = p.0 in
+      let p1 = p.1 in
+      let p2 = p.2 in
+      (cc)
+  one_of (No Empty) (No Empty) h k e = refl
+  one_of (No (Thin b have need)) (No (Thin x y n)) h k e =
+      let f = one_short z.fti (symbols (counted rs)) b x h.2.2 k.2.2 in
+      let p = h.2.3 in
+      let q = h.2.4 in
+      let r = k.2.3 in
+      let s = k.2.4 in
+      (cc)
+  one_of (Yes r) (Yes s) h k e = tt
+  one_of (Yes r) (No s) h k e = let l = below_yes s in absurd (omega (arith, e, l))
+  one_of (No (NoPacket i x)) b h k e = both_told (No (NoPacket i x)) b h.2 (at_two b k (sym e))
+  one_of (No (OtherIdentity i)) b h k e = both_told (No (OtherIdentity i)) b h.2 (at_two b k (sym e))
+  one_of (No (OtherFti i)) b h k e = both_told (No (OtherFti i)) b h.2 (at_two b k (sym e))
+  one_of (No (Range i)) b h k e = both_told (No (Range i)) b h.2 (at_two b k (sym e))
+  one_of (No (Symbol i c)) b h k e = both_told (No (Symbol i c)) b h.2 (at_two b k (sym e))
+  one_of a b h k e = absurd (omega (arith, e))
+
+-- a session, an object and a certificate have one verdict
+pub one_verdict : (ds : List (List ℕ)) (object : List ℕ) (z : Certificate) (a b : Verdict) → IsVerdict ds object z a → IsVerdict ds object z b → AreOneVerdict a b
+one_verdict ds object z a b h k =
+    let e = same_readings ds h.readings k.readings h.read k.read in
+    let g = subst (λ (rs : List Reading). VerdictOn rs object z a) e h.judged in
+    one_of k.readings object z a b g k.judged (same_stage k.readings object z a b g k.judged)
