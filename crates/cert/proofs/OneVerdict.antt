@@ -227,6 +227,12 @@ module _ (rs : List Reading) (object : List ℕ) (z : Certificate) where
   one_of (No (Symbol i c)) b h k e = both_told (No (Symbol i c)) b h.2 (at_two b k (sym e))
   one_of a b h k e = absurd (omega (arith, e))
 
+-- where the certificate is one, the verdict is yes
+pub never_no : (rs : List Reading) (object : List ℕ) (z : Certificate) → IsCertificateOf rs object z → (r : Reason) → VerdictOn rs object z (No r) → ⊥
+never_no rs object z g r h =
+    stopped rs object z r h
+    (passed_at rs object z 5 (stage (No r)) (((((tt, g.form.count), g.gives), yes_no_reason z rs g.certified), some_of rs object z g.certified), g.full) (below_yes rs object z r))
+
 -- a session, an object and a certificate have one verdict
 pub one_verdict : (ds : List (List ℕ)) (object : List ℕ) (z : Certificate) (a b : Verdict) → IsVerdict ds object z a → IsVerdict ds object z b → AreOneVerdict a b
 one_verdict ds object z a b h k =

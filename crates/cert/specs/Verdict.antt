@@ -121,3 +121,7 @@ abbrev pub AreOneVerdict : Verdict → Verdict → Type 0
 AreOneVerdict (Yes r) (Yes s) = Unit {0}
 AreOneVerdict (No r) (No s) = r ≡ s
 AreOneVerdict _ _ = ⊥
+
+abbrev pub IsYes : Verdict → Type 0
+IsYes (Yes report) = Unit {0}
+IsYes (No reason) = ⊥

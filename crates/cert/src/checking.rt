@@ -8,7 +8,9 @@ ghost use Rattle.reception.specs.Headline.{DecodesWhereEnough, UndecidedElse};
 ghost use Rattle.cert.specs.Report.{IsReport, OnYes};
 ghost use Rattle.losses.specs.Groups.{groups_of};
 ghost use Rattle.cert.specs.Scan.{line_in, AreEnough, IsThin, AreEnoughCertified, IsRefusal};
-ghost use Rattle.cert.specs.Verdict.{GivesObject, IsVerdict, AreOneVerdict};
+ghost use Rattle.cert.specs.Verdict.{GivesObject, uncertified, IsVerdict, AreOneVerdict};
+ghost use Rattle.reception.specs.Reception.{with_fti};
+ghost use Rattle.reception.specs.First.{TellsTheFirst};
 
 use crate::certificate::Certificate;
 use crate::certified_symbols::CertifiedSymbols;
@@ -136,4 +138,10 @@ pub fn check(
 pub fn one_verdict()
     ensures { (datagrams : List (List ℕ)) (object : List ℕ) (z : CertificateValue) (a b : VerdictValue)
         → IsVerdict datagrams object z a → IsVerdict datagrams object z b → AreOneVerdict a b }
+{}
+
+/// The reason of a check at a place is the one at the least place that has one, and there the first in the order of the
+/// definition.
+pub fn first_reason()
+    ensures { (z : CertificateValue) → TellsTheFirst (uncertified z) (with_fti z.fti) }
 {}

@@ -119,7 +119,9 @@ fn put(groups: &mut [Group], place: usize, packet: &Packet<'_>) -> Result<(), Al
     ensures { OnOk result (IsPut (groups_of groups.old) place (symbol_of (packet_of packet.now)) (groups_of groups.new)) }
 {
     let esi = packet.esi;
-    groups[packet.sbn as usize].members.push(Member { place, esi })?;
+    groups[packet.sbn as usize]
+        .members
+        .push(Member { place, esi })?;
     Ok(())
 }
 

@@ -10,6 +10,6 @@ mod twins;
 mod verdict;
 
 pub use certificate::{CertFault, Certificate, one_certificate};
-pub use checking::{check, one_verdict};
+pub use checking::{check, first_reason, one_verdict};
 pub use twins::{session_twin, twin};
 pub use verdict::{Reason, Report, Verdict};

@@ -4,7 +4,8 @@ use Rattle.partition.specs.Fti.{Fti}
 use Rattle.alc.specs.Reading.{Reading}
 use Rattle.reception.specs.Reception.{ReadAll}
 use Rattle.cert.specs.Certificate.{Certificate}
-use Rattle.cert.specs.Verdict.{IsCertificateOf}
+use Rattle.cert.specs.declared.verdict.Verdict.{Verdict}
+use Rattle.cert.specs.Verdict.{IsCertificateOf, IsVerdict, IsYes}
 use Rattle.coder.specs.declared.certifying.CertifyFault.{CertifyFault}
 use Rattle.coder.specs.declared.certifying.CertifyFault.TheVariants.{Length, NoMemory}
 use Rattle.partition.specs.declared.order.Order.{Order}
@@ -21,6 +22,12 @@ abbrev pub CertifiesSent : List ℕ → Certificate → Type 0
 CertifiesSent object z =
     (tsi toi : ℕ) (order : Order) (session : List (List ℕ)) → tsi < 2 ^ 32 → toi < 2 ^ 32
     → IsSessionOf object z.fti tsi toi order session → Certifies z object session
+
+-- a check of any such session says yes
+abbrev pub ChecksYes : List ℕ → Certificate → Type 0
+ChecksYes object z =
+    (tsi toi : ℕ) (order : Order) (session : List (List ℕ)) (verdict : Verdict) → tsi < 2 ^ 32 → toi < 2 ^ 32
+    → IsSessionOf object z.fti tsi toi order session → IsVerdict session object z verdict → IsYes verdict
 
 -- why an object wasn't certified
 abbrev pub IsCertifyFault : CertifyFault → List ℕ → Fti → Type 0

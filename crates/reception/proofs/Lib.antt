@@ -6,3 +6,4 @@ pub mod Looks
 pub mod OneAnswer
 pub mod Different
 pub mod Full
+pub mod First

@@ -3,3 +3,4 @@ pub mod Reception
 pub mod Answer
 pub mod Headline
 pub mod Step
+pub mod First

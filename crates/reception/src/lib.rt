@@ -6,6 +6,8 @@
 //! loops over it, each with its own question about the symbol; `proofs/Walking` has the laws of such a loop.
 #![tactic(auto)]
 
+mod laws;
 mod scope;
 
+pub use laws::first_fault;
 pub use scope::{Identity, PlaceFault, Scope};

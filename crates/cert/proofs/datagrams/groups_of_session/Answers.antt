@@ -127,8 +127,7 @@ returns-in-Some-identity-clause-certified c =
 pub returns-in-None-identity-clause-refusal : goal.returns-in-None-identity-clause-refusal
 returns-in-None-identity-clause-refusal c =
     let z = c.args.symbols.now.certificate.now in
-    let w = ends (uncertified z) (with_fti z.fti) c.args.session.now c.loop-place.place c.loop-place.scope c.loop-place.invariant.scanned (omega (arith, c.len-place-end.ensures.value)) in
-    (
+    let w = ends (uncertified z) (with_fti z.fti) c.args.session.now c.loop-place.place c.loop-place.scope c.loop-place.invariant.scanned (omega (arith, c.len-place-end.ensures.value)) in (
       no_reason _ w.0,
       none_counted z (readings_of c.args.session.now) w.0 (ap (λ (s : Scope). s.identity) w.1 ∙ c.in-None-identity.is),
     )
