@@ -1,4 +1,3 @@
-pub mod RowSums
 pub mod Columns
 pub mod Sizes
 pub mod ColumnPlaces

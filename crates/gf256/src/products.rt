@@ -10,6 +10,8 @@ ghost use Rattle.gf256.specs.Sums.{byte_sum, row_times};
 ghost use Rattle.gf256.specs.Slices.{pick_four, nibble, bit, below, horner, IsFilled, IsList, AreSmall, tile_sum, sum_at};
 ghost use Rattle.std.specs.Simd.Lanes.{zip2};
 
+use crate::gf::Gf;
+use crate::rows::add_scaled;
 use std::simd::prelude::*;
 
 /// How many columns are summed at a time.
@@ -377,6 +379,73 @@ fn add_rows(
     }
 }
 
+// The same for any rows, by tables of sums.
+fn add_by_tables(
+    outputs: &mut [u8],
+    rows: usize,
+    coefficients: &[u8],
+    sources: &[u8],
+    count: usize,
+    stride: usize,
+    width: usize,
+)
+    requires outputs { length outputs.old ≡ rows * width }
+    requires coefficients { length coefficients.now ≡ rows * count }
+    requires reach { count * stride + width < 2 ^ 64 }
+    ensures { (r j : ℕ) → r < rows → j < width
+        → slice_index outputs.new (r * width + j)
+        ≡ sum_of (slice_index outputs.old (r * width + j))
+        (byte_sum count (λ i. product (slice_index coefficients.now (r * count + i))
+        (slice_index sources.now (i * stride + j)))) }
+{
+    let mut first = 0;
+    while first < count {
+        let taken = MOST_SOURCES.min(count - first);
+        let from = (first * stride).min(sources.len());
+        add_rows(
+            outputs,
+            rows,
+            coefficients,
+            count,
+            first,
+            &sources[from..],
+            taken,
+            stride,
+            width,
+        );
+        first += taken;
+    }
+}
+
+// The part of the sources that is source `i`, as far as it goes.
+#[inline(always)]
+fn source(sources: &[u8], i: usize, stride: usize, width: usize) -> &[u8]
+    requires { i * stride + width < 2 ^ 64 }
+    ensures short { length result.now ≤ width }
+    ensures bytes { (j : ℕ) → j < width
+        → slice_index result.now j ≡ slice_index sources.now (i * stride + j) }
+{
+    let from = (i * stride).min(sources.len());
+    let end = (i * stride + width).min(sources.len());
+    &sources[from..end]
+}
+
+// A single row, product by product: a table for one output costs more than it saves.
+fn add_one(output: &mut [u8], coefficients: &[u8], sources: &[u8], stride: usize)
+    requires reach { length coefficients.now * stride + length output.old < 2 ^ 64 }
+    ensures { (j : ℕ) → j < length output.old
+        → slice_index output.new j
+        ≡ sum_of (slice_index output.old j)
+        (byte_sum (length coefficients.now) (λ i. product (slice_index coefficients.now i)
+        (slice_index sources.now (i * stride + j)))) }
+{
+    let width = output.len();
+    for i in 0..coefficients.len() {
+        let part = source(sources, i, stride, width);
+        add_scaled(&mut output[..part.len()], Gf(coefficients[i]), part);
+    }
+}
+
 /// Adds to each of the `rows` rows of `outputs` the sum of all `count` sources, each times its
 /// coefficient.
 ///
@@ -401,21 +470,9 @@ pub fn add_products(
         (row_times sum_of product 0 (λ i. slice_index coefficients.now (r * count + i))
         (λ i y. slice_index sources.now (i * stride + y)) count c) }
 {
-    let mut first = 0;
-    while first < count {
-        let taken = MOST_SOURCES.min(count - first);
-        let from = (first * stride).min(sources.len());
-        add_rows(
-            outputs,
-            rows,
-            coefficients,
-            count,
-            first,
-            &sources[from..],
-            taken,
-            stride,
-            width,
-        );
-        first += taken;
+    if rows == 1 {
+        add_one(outputs, coefficients, sources, stride);
+    } else {
+        add_by_tables(outputs, rows, coefficients, sources, count, stride, width);
     }
 }

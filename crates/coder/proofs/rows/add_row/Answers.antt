@@ -1,4 +1,4 @@
-use Rattle.coder.proofs.RowSums.{plus_front}
+use Rattle.gf256.proofs.RowFronts.{plus_front}
 use Rattle.coder.proofs.rows.add_row.Goals as goal
 
 pub returns-clause-sums : goal.returns-clause-sums
