@@ -1,9 +1,8 @@
 -- What the answers of the parts of a check say of the verdict.
-use Rattle.std.proofs.Common.{◌≡◌, ◌≢◌, ℕ, zero, suc, ◌+◌, ◌<◌, ◌≤◌, true, false, cond, List, [], ◌∷◌, ◌++◌, Option, Some, None, Ok, Err, length, refl, sym, ap, subst, ◌∙◌, arith}
+use Rattle.std.proofs.Common.{◌≡◌, ◌≢◌, ℕ, zero, suc, ◌+◌, ◌<◌, ◌≤◌, true, false, cond, List, [], ◌∷◌, ◌++◌, Option, Some, None, Ok, Err, length, refl, sym, ap, subst, arith}
 use Rattle.std.specs.Prelude.{slice_index, ◌==◌, option_map}
 use Rattle.std.specs.List.{AllByRecursion}
 use Rattle.std.proofs.lemmas.Bool.{eqb-true, eqb-false}
-use Rattle.partition.specs.Fti.{Fti}
 use Rattle.alc.specs.Packet.{Packet}
 use Rattle.alc.specs.Reading.{Reading}
 use Rattle.alc.specs.Computed.{read_of}
@@ -23,7 +22,7 @@ use Rattle.cert.specs.declared.verdict.Reason.TheVariants.{ObjectLength, NotObje
 use Rattle.cert.specs.declared.verdict.Report.{Report}
 use Rattle.cert.specs.declared.verdict.Verdict.TheVariants.{Yes, No}
 use Rattle.cert.specs.Certificate.{Certificate, certified_byte}
-use Rattle.cert.specs.Verdict.{GivesObject, IsNotGiven, wrong_column, uncertified, came_to, reason_at, first_reason, IsCertified, IsCertifiedReading, AreCertified, IsAgainst, VerdictOn}
+use Rattle.cert.specs.Verdict.{GivesObject, IsNotGiven, wrong_column, uncertified, came_to, reason_at, IsCertified, IsCertifiedReading, AreCertified, IsAgainst, VerdictOn}
 use Rattle.cert.specs.Scan.{AreEnoughCertified}
 
 -- each datagram has the reading that is computed

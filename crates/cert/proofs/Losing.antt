@@ -1,5 +1,5 @@
 -- What datagrams can lose, by the groups of their places.
-use Rattle.std.proofs.Common.{◌≡◌, ℕ, zero, suc, ◌+◌, ◌<◌, ◌≤◌, Bool, true, false, cond, List, [], ◌∷◌, ◌++◌, Ok, Err, length, refl, sym, ap, ◌∙◌, arith}
+use Rattle.std.proofs.Common.{◌≡◌, ℕ, zero, suc, ◌+◌, ◌<◌, Bool, true, false, cond, List, [], ◌∷◌, ◌++◌, Ok, Err, length, refl, sym, ap, ◌∙◌, arith}
 use Rattle.std.specs.Prelude.{◌==◌, if◌then◌else◌}
 use Rattle.std.specs.List.{list_any, AllByRecursion}
 use Rattle.lists.specs.Selection.{rest_from, rest}
@@ -9,9 +9,8 @@ use Rattle.losses.specs.Groups.{Group, group_at, places, is_at, blocks_of_groups
 use Rattle.losses.proofs.Lines.{any_left}
 use Rattle.losses.proofs.Link.{is_left}
 use Rattle.losses.proofs.Transfer.{margin_same, kill_same, burst_same}
-use Rattle.partition.specs.Fti.{Fti, IsValidFti, block_count, source_count}
+use Rattle.partition.specs.Fti.{Fti, IsValidFti, source_count}
 use Rattle.partition.proofs.Laws.{some_source}
-use Rattle.alc.specs.Packet.{Packet}
 use Rattle.alc.specs.Reading.{Reading}
 use Rattle.reception.specs.declared.scope.Identity.{Identity}
 use Rattle.reception.specs.Symbols.{is_held}

@@ -1,5 +1,5 @@
 -- There are no two verdicts: each stands behind tests that let through, and at one that doesn't.
-use Rattle.std.specs.Prelude.{◌≡◌, ◌≢◌, ◌<◌, ◌++◌, true, false, ℕ, zero, suc, List, [], ◌∷◌, length, Option, Some, None, Ok, Err, refl, nat_lt}
+use Rattle.std.specs.Prelude.{◌≡◌, ◌≢◌, ◌<◌, ◌++◌, true, false, ℕ, zero, suc, List, [], ◌∷◌, length, Some, None, Ok, Err, refl, nat_lt}
 use Rattle.std.specs.List.{AllByRecursion}
 use Rattle.std.proofs.Common.{◌∙◌, sym, ap, subst, arith, inl, inr, ltb-true}
 use Rattle.std.proofs.lemmas.Bool.{ltb-false}
@@ -7,7 +7,7 @@ use Rattle.alc.specs.Packet.{Packet}
 use Rattle.alc.specs.Reading.{Reading}
 use Rattle.reception.specs.declared.scope.Identity.{Identity}
 use Rattle.reception.specs.declared.scope.Scope.{Scope}
-use Rattle.reception.specs.Symbols.{Symbol as Received, IsFirstShort}
+use Rattle.reception.specs.Symbols.{Symbol as Received}
 use Rattle.reception.specs.Reception.{Placed, counted, counted_from, symbols, symbols_in, symbol_of, packet_fault, or_packet, wrong_by, wrong_after, reading_wrong, at_place, or_else, scope_from, with_fti, Suffices}
 use Rattle.reception.proofs.OneAnswer.{which, one_short, same_readings}
 use Rattle.reception.proofs.Stepping.{scope, stays}

@@ -16,10 +16,10 @@ use Rattle.alc.specs.PacketFault.{same}
 use Rattle.alc.specs.Reading.{Reading}
 use Rattle.reception.specs.declared.scope.Identity.{Identity}
 use Rattle.reception.specs.declared.scope.Scope.{Scope}
-use Rattle.reception.specs.Reception.{ReadAll, counted_from, counted, identity_in, symbol_of, symbols, in_range, packet_fault, unknown, scope_from, wrong_after, IsClean, Suffices}
+use Rattle.reception.specs.Reception.{ReadAll, counted_from, counted, symbol_of, symbols, in_range, packet_fault, unknown, scope_from, wrong_after, IsClean, Suffices}
 use Rattle.reception.specs.Answer.{Object, IsAnswer, clashes, clash, came_of}
 use Rattle.reception.proofs.Stepping.{scope, stays}
-use Rattle.reception.proofs.Within.{IsFaultless, no_fault}
+use Rattle.reception.proofs.Within.{no_fault}
 use Rattle.cert.specs.Certificate.{Certificate, IsCertificate, polynomial, certified_byte}
 use Rattle.cert.specs.Verdict.{GivesObject, IsCertifiedReading, IsCertificateOf}
 use Rattle.lists.specs.Selection.{chosen}

@@ -1,20 +1,17 @@
 -- Datagrams that are received one by one.
-use Rattle.std.specs.Prelude.{◌==◌, ◌&&◌}
-use Rattle.std.proofs.Common.{◌≡◌, ◌⊎◌, ℕ, ◌+◌, ◌<◌, ◌≤◌, true, false, cond, List, [], ◌∷◌, ◌++◌, Option, Some, None, Ok, refl, sym, ap, subst, ◌∙◌, inl, inr, length, map, get_or}
-use Rattle.std.specs.List.{AllByRecursion}
+use Rattle.std.proofs.Common.{◌≡◌, ℕ, ◌+◌, ◌<◌, ◌≤◌, true, false, List, [], ◌∷◌, ◌++◌, Option, Some, None, Ok, refl, sym, ap, subst, ◌∙◌, length, map, get_or}
 use Rattle.std.specs.Borrow.{Bor}
 use Rattle.std.proofs.lemmas.List.{get_or-map}
 use Rattle.partition.specs.Fti.{Fti}
-use Rattle.alc.specs.Packet.{Packet}
 use Rattle.alc.specs.Views.{packet_of}
 use Rattle.alc.specs.Reading.{Reading}
 use Rattle.alc.specs.declared.reading.Packet.{Packet as ReadPacket}
 use Rattle.reception.specs.declared.scope.Scope.{Scope}
 use Rattle.reception.specs.Symbols.{Symbol, is_of}
-use Rattle.reception.specs.Reception.{Wrong, Judged, judged, unknown, counted, symbols, symbols_in, symbol_of}
-use Rattle.reception.specs.Step.{readings_of, IsLook}
-use Rattle.reception.specs.Answer.{Clash, Clashes, clash, clashes, Empty, AnswerTo, came_of}
-use Rattle.reception.proofs.Walking.{Walked, came_before, came_all, begins, stops, goes_on, ends, symbols_now, is_packet}
+use Rattle.reception.specs.Reception.{Wrong, Judged, judged, unknown, symbols_in, symbol_of}
+use Rattle.reception.specs.Step.{IsLook}
+use Rattle.reception.specs.Answer.{Clash, Clashes, clash, clashes}
+use Rattle.reception.proofs.Walking.{Walked, came_before, came_all, begins, goes_on, ends, symbols_now, is_packet}
 use Rattle.coder.specs.Received.{IsIndex, AreReceived, IsNothing}
 use Rattle.coder.proofs.Index.{index_more, behind, unclashed}
 

@@ -15,7 +15,7 @@ use Rattle.partition.specs.Fti.{Fti, IsValidFti, block_count, source_count, enco
 use Rattle.partition.proofs.Laws.{some_block, counts, source_encoding, encoding_most}
 use Rattle.lists.specs.Below.{below}
 use Rattle.lists.proofs.Below.{one_missing}
-use Rattle.alc.specs.Packet.{Packet, IsPacket, written}
+use Rattle.alc.specs.Packet.{IsPacket, written}
 use Rattle.alc.specs.Written.{packet_from}
 use Rattle.alc.specs.Reading.{Reading}
 use Rattle.alc.proofs.Writes.{written_packet}

@@ -1,6 +1,6 @@
 -- What a look at a datagram says of the packet that it hands over.
-use Rattle.std.specs.Prelude.{◌≡◌, List, ℕ, length, Option, Some, None, Result, Ok, Err, refl}
-use Rattle.std.proofs.Common.{◌∙◌, sym, ap, subst}
+use Rattle.std.specs.Prelude.{◌≡◌, List, ℕ, length, Option, Some, None, Result, Ok, refl}
+use Rattle.std.proofs.Common.{◌∙◌, ap, subst}
 use Rattle.partition.specs.Fti.{Fti}
 use Rattle.alc.specs.Packet.{Packet}
 use Rattle.alc.specs.Views.{packet_of}

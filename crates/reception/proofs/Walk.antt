@@ -5,7 +5,7 @@ use Rattle.std.proofs.lemmas.List.{append_assoc, append-nil}
 use Rattle.alc.specs.Reading.{Reading}
 use Rattle.reception.specs.declared.scope.Scope.{Scope}
 use Rattle.reception.specs.Symbols.{Symbol}
-use Rattle.reception.specs.Reception.{Judge, Found, Placed, placed_at, counted_from, counted, symbols, symbols_in, learned, scope_from, or_else, at_place, reading_wrong, wrong_after, first_wrong}
+use Rattle.reception.specs.Reception.{Judge, Found, Placed, placed_at, counted_from, counted, symbols, symbols_in, learned, scope_from, or_else, at_place, reading_wrong, wrong_after}
 
 pub counted_more : (i : ℕ) (rs ss : List Reading) → counted_from i (rs ++ ss) ≡ counted_from i rs ++ counted_from (i + length rs) ss
 counted_more i [] ss = let e : i + 0 ≡ i = omega arith in ap (λ (n : ℕ). counted_from n ss) (sym e)

@@ -1,20 +1,19 @@
 -- A loop over datagrams, one look at each.
-use Rattle.std.proofs.Common.{◌≡◌, ℕ, ◌+◌, ◌<◌, ◌≤◌, List, [], ◌∷◌, ◌++◌, Option, Some, None, Result, Ok, Err, refl, sym, ap, subst, ◌∙◌, arith, length, map, take, drop, get_or}
-use Rattle.std.specs.Borrow.{Bor}
+use Rattle.std.proofs.Common.{◌≡◌, ℕ, ◌+◌, ◌<◌, ◌≤◌, List, [], ◌∷◌, ◌++◌, Option, Some, None, Result, Ok, Err, refl, sym, ap, subst, ◌∙◌, arith, length, take, drop, get_or}
 use Rattle.std.proofs.lemmas.List.{get_or-map, length-map, length-take-le, take-append-drop, take_more, take_all}
 use Rattle.partition.specs.Fti.{Fti}
 use Rattle.alc.specs.Packet.{Packet}
 use Rattle.alc.specs.Views.{packet_of}
 use Rattle.alc.specs.Reading.{Reading, Reads}
 use Rattle.alc.specs.Computed.{read_of}
-use Rattle.alc.proofs.Again.{exact, reads}
+use Rattle.alc.proofs.Again.{exact}
 use Rattle.alc.specs.declared.reading.Packet.{Packet as ReadPacket}
 use Rattle.reception.specs.declared.scope.Identity.{Identity}
 use Rattle.reception.specs.declared.scope.Scope.{Scope}
 use Rattle.reception.specs.declared.scope.PlaceFault.{PlaceFault}
 use Rattle.reception.specs.Symbols.{Symbol}
-use Rattle.reception.specs.Reception.{ReadAll, Judge, Wrong, Faulty, Judged, Found, Came, counted, symbols, symbols_in, symbol_of, learned, scope_from, look, look_by, or_packet, packet_fault, wrong_by, judged, or_else, at_place, reading_wrong, came_with}
-use Rattle.reception.specs.Step.{readings_of, told, some_packet, looked, IsLook}
+use Rattle.reception.specs.Reception.{Judge, Wrong, Found, Came, counted, symbols, symbols_in, learned, look, look_by, or_packet, packet_fault, wrong_by, or_else, at_place, reading_wrong, came_with}
+use Rattle.reception.specs.Step.{readings_of, told, looked, IsLook}
 use Rattle.reception.proofs.Stepping.{one_more, stays_wrong, after_packet}
 
 -- the reading of the datagram at a place

@@ -1,5 +1,5 @@
 -- Where nothing is wrong, each symbol is one that the FTI has.
-use Rattle.std.specs.Prelude.{◌≡◌, ◌==◌, ◌&&◌, not, Bool, true, false, if◌then◌else◌, ℕ, ◌+◌, List, [], ◌∷◌, ◌++◌, length, Option, Some, None, Result, Ok, Err, refl}
+use Rattle.std.specs.Prelude.{◌≡◌, ◌==◌, not, Bool, true, false, if◌then◌else◌, ℕ, ◌+◌, List, [], ◌∷◌, ◌++◌, Option, Some, None, Ok, Err, refl}
 use Rattle.std.specs.List.{AllByRecursion}
 use Rattle.std.proofs.Common.{◌∙◌, sym, ap, subst, ltb-true}
 use Rattle.std.proofs.lemmas.Bool.{eqb-true, eq-eqb}
@@ -12,7 +12,7 @@ use Rattle.reception.specs.declared.scope.Scope.{Scope}
 use Rattle.reception.specs.declared.scope.PlaceFault.{PlaceFault}
 use Rattle.reception.specs.declared.scope.PlaceFault.TheVariants.{OtherIdentity, OtherFti, Range}
 use Rattle.reception.specs.Symbols.{Symbol, IsWithin}
-use Rattle.reception.specs.Reception.{ReadAll, Judge, Wrong, Placed, counted_from, counted, identity_in, learned, scope_from, symbol_of, symbols_in, symbols, is_of_identity, same_fti, in_range, packet_fault, or_packet, look_by, wrong_by, or_else, at_place, reading_wrong, wrong_after, IsClean, came_with}
+use Rattle.reception.specs.Reception.{ReadAll, Judge, Wrong, Placed, counted_from, counted, learned, scope_from, symbols_in, symbols, is_of_identity, same_fti, in_range, packet_fault, or_packet, wrong_by, or_else, at_place, reading_wrong, wrong_after, IsClean, came_with}
 use Rattle.reception.proofs.Stepping.{scope, stays, after_packet}
 
 pub fti_same : (f g : Fti) → same_fti f g ≡ true → f ≡ g

@@ -2,7 +2,7 @@
 use Rattle.std.specs.Prelude.{◌≡◌, ◌↔◌, ℕ, List, ◌∷◌, ◌++◌, Some, None}
 use Rattle.alc.specs.Reading.{Reading}
 use Rattle.reception.specs.declared.scope.Scope.{Scope}
-use Rattle.reception.specs.Reception.{Judge, Wrong, Placed, Came, counted, symbols, reading_wrong, came_with}
+use Rattle.reception.specs.Reception.{Judge, Wrong, Placed, counted, symbols, reading_wrong, came_with}
 
 -- At place i this is wrong, by the symbols that came before; and nothing is at a place before it.
 pub record IsFirstAt {R : Type 0} (judge : Judge R) (scope : Scope) (xs : List Placed) (i : ℕ) (r : Wrong R) : Type 0 where

@@ -1,10 +1,10 @@
-use Rattle.std.proofs.Common.{◌∙◌, ◌≡◌, ◌++◌, ◌∷◌, [], ℕ, List, get_or, map, sym, ap, arith, below_more}
+use Rattle.std.proofs.Common.{◌∙◌, ◌++◌, ◌∷◌, [], ℕ, List, get_or, map, sym, ap, arith, below_more}
 use Rattle.lists.specs.Below.{below}
 use Rattle.losses.specs.Groups.{Group, groups_of, group_at}
 use Rattle.losses.specs.Members.{different_outside}
 use Rattle.losses.specs.declared.groups.Group.{Group as GroupOf}
 use Rattle.losses.proofs.GroupFigures.{seen}
-use Rattle.cert.specs.Scan.{line_in, different_in}
+use Rattle.cert.specs.Scan.{line_in}
 use Rattle.cert.proofs.Bridge.{map_below_more}
 use Rattle.cert.proofs.checking.blocks_of.Goals as goal
 

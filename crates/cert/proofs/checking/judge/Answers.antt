@@ -1,4 +1,4 @@
-use Rattle.std.proofs.Common.{◌∙◌, sym, arith, ap, refl, subst}
+use Rattle.std.proofs.Common.{◌∙◌, sym, ap, refl, subst}
 use Rattle.partition.specs.Fti.{Fti}
 use Rattle.cert.specs.Certificate.{Certificate}
 use Rattle.reception.specs.Step.{readings_of}

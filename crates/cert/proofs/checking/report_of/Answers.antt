@@ -1,12 +1,11 @@
-use Rattle.std.proofs.Common.{◌≡◌, ◌∙◌, ◌<◌, ℕ, List, arith, ap, length, map, sym, subst}
+use Rattle.std.proofs.Common.{◌∙◌, ℕ, List, arith, ap, length, map, sym}
 use Rattle.lists.specs.Below.{below}
 use Rattle.losses.specs.declared.groups.Group.{Group as GroupOf}
-use Rattle.losses.specs.Groups.{groups_of, AreGroups}
+use Rattle.losses.specs.Groups.{groups_of}
 use Rattle.losses.proofs.GroupFigures.{count_of}
-use Rattle.partition.specs.Fti.{block_count}
 use Rattle.partition.proofs.Laws.{some_block}
 use Rattle.reception.specs.Step.{readings_of}
-use Rattle.cert.specs.Scan.{line_in, AreEnough, IsThin}
+use Rattle.cert.specs.Scan.{line_in}
 use Rattle.cert.proofs.Judging.{read_all, some_counted}
 use Rattle.cert.proofs.Bridge.{lines_are, enough_full, counts_refused}
 use Rattle.cert.proofs.Losing.{are_groups, margin_told, kill_told, burst_told}

@@ -1,4 +1,4 @@
-use Rattle.std.proofs.Common.{◌≡◌, ◌∙◌, ◌<◌, ◌++◌, ◌∷◌, [], ℕ, List, length, take, drop, ◌+◌, sym, ap, arith, Option, Some, None, Ok, Err, refl, subst}
+use Rattle.std.proofs.Common.{◌≡◌, ◌∙◌, ◌++◌, ◌∷◌, [], ℕ, List, length, take, drop, ◌+◌, sym, ap, arith, Option, Some, None, Ok, Err, refl, subst}
 use Rattle.std.proofs.lemmas.List.{length-map, length-take-le}
 use Rattle.std.proofs.Math.Seq.{take-append_seam}
 use Rattle.std.proofs.lemmas.Bool.{ltb-true}
@@ -9,14 +9,14 @@ use Rattle.losses.proofs.GroupFigures.{count_of}
 use Rattle.alc.specs.Views.{packet_of}
 use Rattle.alc.specs.Reading.{Reading}
 use Rattle.alc.specs.Computed.{read_of}
-use Rattle.reception.specs.Reception.{Wrong, Faulty, Judged, Placed, judged, symbol_of, symbols_in, with_fti, counted}
+use Rattle.reception.specs.Reception.{Faulty, Judged, Placed, judged, symbol_of, symbols_in, with_fti, counted}
 use Rattle.reception.specs.Step.{readings_of}
 use Rattle.reception.specs.declared.scope.Scope.{Scope}
 use Rattle.reception.proofs.Walk.{counted_one_more}
 use Rattle.reception.proofs.Walking.{begins, stops, goes_on, ends, front, none_passed, is_packet, came_before}
 use Rattle.reception.proofs.Looks.{fti_after, faultless_look, length_look}
 use Rattle.cert.specs.Scan.{AreGroupsOf, IsPut}
-use Rattle.cert.specs.Verdict.{uncertified, IsAgainst}
+use Rattle.cert.specs.Verdict.{uncertified}
 use Rattle.cert.proofs.Scanning.{Scanned, fti_holds}
 use Rattle.cert.proofs.Bridge.{group_more}
 use Rattle.cert.proofs.Judging.{against, are_certified, none_counted, some_counted, no_reason}

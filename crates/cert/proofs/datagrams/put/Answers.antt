@@ -1,4 +1,4 @@
-use Rattle.std.proofs.Common.{refl, arith}
+use Rattle.std.proofs.Common.{refl}
 use Rattle.alc.specs.Views.{packet_of}
 use Rattle.reception.specs.Reception.{symbol_of}
 use Rattle.cert.proofs.Bridge.{put_is}

@@ -1,4 +1,4 @@
-use Rattle.std.proofs.Common.{◌≡◌, ◌∙◌, ◌++◌, ◌∷◌, [], ℕ, List, Option, Some, None, Ok, Err, refl, sym, ap, subst, arith}
+use Rattle.std.proofs.Common.{◌≡◌, ◌∙◌, ℕ, Option, Some, None, sym, ap, subst, arith}
 use Rattle.alc.specs.Views.{packet_of}
 use Rattle.alc.specs.Reading.{Reading, Reads}
 use Rattle.reception.specs.Reception.{Wrong, Faulty, with_fti}

@@ -1,7 +1,7 @@
 use Rattle.std.proofs.Common.{◌<◌, ℕ, List, map, length, arith, refl}
 use Rattle.std.specs.Borrow.{Bor}
 use Rattle.std.proofs.lemmas.List.{length-map}
-use Rattle.reception.specs.Answer.{IsAnswer, came_of}
+use Rattle.reception.specs.Answer.{IsAnswer}
 use Rattle.reception.specs.Step.{readings_of}
 use Rattle.coder.specs.declared.answer.Answer.{Answer}
 use Rattle.coder.specs.Answers.{answer_value}

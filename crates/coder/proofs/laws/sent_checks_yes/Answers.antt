@@ -1,14 +1,12 @@
-use Rattle.std.proofs.Common.{◌≡◌, ◌<◌, ◌^◌, ℕ, List, subst}
+use Rattle.std.proofs.Common.{ℕ, List, subst}
 use Rattle.alc.specs.Reading.{Reading}
 use Rattle.reception.proofs.OneAnswer.{same_readings}
-use Rattle.partition.specs.declared.order.Order.{Order}
 use Rattle.cert.specs.declared.verdict.Verdict.{Verdict}
 use Rattle.cert.specs.declared.verdict.Verdict.TheVariants.{Yes, No}
 use Rattle.cert.specs.Certificate.{Certificate}
 use Rattle.cert.specs.Verdict.{VerdictOn, IsVerdict, IsYes}
 use Rattle.cert.proofs.OneVerdict.{never_no}
-use Rattle.coder.specs.Sending.{IsSessionOf}
-use Rattle.coder.specs.Certified.{Certifies, CertifiesSent}
+use Rattle.coder.specs.Certified.{Certifies}
 use Rattle.coder.proofs.laws.sent_checks_yes.Goals as goal
 
 yes : (object : List ℕ) (z : Certificate) (session : List (List ℕ)) (v : Verdict) → Certifies z object session → IsVerdict session object z v → IsYes v

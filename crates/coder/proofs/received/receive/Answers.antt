@@ -1,14 +1,13 @@
-use Rattle.std.proofs.Common.{◌≡◌, ◌∙◌, ◌<◌, ℕ, length, map, List, Option, Some, None, Ok, Err, refl, sym, ap, subst, arith}
+use Rattle.std.proofs.Common.{◌∙◌, ◌<◌, ℕ, length, map, List, Some, Ok, Err, refl, sym, subst, arith}
 use Rattle.std.proofs.lemmas.List.{length-map}
 use Rattle.std.specs.Borrow.{Bor}
 use Rattle.alc.specs.Views.{packet_of}
 use Rattle.reception.specs.Reception.{Faulty, Judged, unknown, symbol_of}
-use Rattle.reception.specs.Step.{readings_of}
 use Rattle.reception.specs.declared.scope.Scope.{Scope}
-use Rattle.reception.specs.Answer.{Clashes, clash, clashes, AnswerTo, came_of}
+use Rattle.reception.specs.Answer.{Clashes, clash}
 use Rattle.reception.proofs.Walking.{stops, none_passed, came_before}
 use Rattle.coder.specs.Received.{stored}
-use Rattle.coder.proofs.Receiving.{Scanned, borrowed_at, starts, clashed, receives, received, nothing}
+use Rattle.coder.proofs.Receiving.{Scanned, borrowed_at, starts, clashed, receives, received}
 use Rattle.coder.proofs.received.receive.Goals as goal
 
 lists_of : List (Bor (List ℕ)) → List (List ℕ)
