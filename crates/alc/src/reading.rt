@@ -56,7 +56,7 @@ fn parse(datagram: &[u8]) -> Result<Packet<'_>, PacketFault>
         return Err(PacketFault::NoFti);
     };
     let fti = fti_of(content)?;
-    if datagram.len() != header.end + 4 + usize::from(fti.symbol()) {
+    if datagram.len() != header.end + 4 + usize::from(fti.symbol_length()) {
         return Err(PacketFault::PayloadLength);
     }
     Ok(packet_with_fti(datagram, header, fti))

@@ -29,9 +29,9 @@ fn write_fti(out: &mut [u8], fti: &Fti)
     ensures { out.new ≡ fti_part fti.now }
 {
     out[..2].copy_from_slice(&[EXT_FTI, 3]);
-    BigEndian::write_u48(&mut out[2..], fti.length());
-    BigEndian::write_u16(&mut out[8..], fti.symbol());
-    out[10..].copy_from_slice(&[fti.block(), fti.max_n()]);
+    BigEndian::write_u48(&mut out[2..], fti.transfer_length());
+    BigEndian::write_u16(&mut out[8..], fti.symbol_length());
+    out[10..].copy_from_slice(&[fti.block_length(), fti.max_symbols()]);
 }
 
 fn write_payload_id(out: &mut [u8], sbn: u32, esi: u8)
@@ -64,7 +64,7 @@ pub fn write(
     ensures packet { IsPacket (take result out.new)
         (packet_from tsi toi fti.now sbn esi symbol.now) }
 {
-    let size = usize::from(fti.symbol());
+    let size = usize::from(fti.symbol_length());
     let (fixed, rest) = out.split_at_mut(FIXED_SIZE);
     write_fixed_part(fixed, tsi, toi);
     let (extension, rest) = rest.split_at_mut(EXT_FTI_SIZE);

@@ -53,7 +53,7 @@ fn coefficients_of(fti: &Fti) -> u64
     ensures count { result ≡ coefficient_count fti.now }
     ensures valid { IsValidFti fti.now }
 {
-    fti.symbols() * u64::from(fti.symbol())
+    fti.symbol_count() * u64::from(fti.symbol_length())
 }
 
 // So many bytes from a place on.
@@ -88,9 +88,9 @@ fn write_head(out: &mut [u8], fti: &Fti)
     ensures { out.new ≡ head_text fti.now }
 {
     out[..4].copy_from_slice(&MAGIC);
-    BigEndian::write_u48(&mut out[4..], fti.length());
-    BigEndian::write_u16(&mut out[10..], fti.symbol());
-    out[12..14].copy_from_slice(&[fti.block(), fti.max_n()]);
+    BigEndian::write_u48(&mut out[4..], fti.transfer_length());
+    BigEndian::write_u16(&mut out[10..], fti.symbol_length());
+    out[12..14].copy_from_slice(&[fti.block_length(), fti.max_symbols()]);
 }
 
 // The FTI in the bytes before the coefficients, of which there are fewer only where the file ends.
@@ -168,7 +168,7 @@ impl Certificate {
         ensures len { length result.now ≡ source_count self.now.fti b }
     {
         let count = self.fti.k(b);
-        let from = self.fti.start(b) as usize * usize::from(self.fti.symbol()) + c * count;
+        let from = self.fti.start(b) as usize * usize::from(self.fti.symbol_length()) + c * count;
         part(self.coefficients.as_slice(), from, count)
     }
 
@@ -181,7 +181,7 @@ impl Certificate {
         ensures bytes { (c : ℕ) → c < self.now.fti.symbol_length → slice_index row.new c ≡ slice_index (polynomial_of self.now b c) i }
     {
         let count = self.fti.k(b);
-        let from = self.fti.start(b) as usize * usize::from(self.fti.symbol()) + i;
+        let from = self.fti.start(b) as usize * usize::from(self.fti.symbol_length()) + i;
         gather(self.coefficients.as_slice(), from, count, row);
     }
 

@@ -18,7 +18,7 @@ fn put_block(rows: &mut [u8], certificate: &Certificate, block: u32)
 {
     let fti = certificate.fti();
     let start = fti.start(block) as usize;
-    let length = usize::from(fti.symbol());
+    let length = usize::from(fti.symbol_length());
     for i in 0..fti.k(block) {
         let from = (start + i) * length;
         certificate.put_row(block, i, &mut rows[from..from + length]);
@@ -30,7 +30,7 @@ fn put_blocks(rows: &mut [u8], certificate: &Certificate)
     requires { length rows.old ≡ coefficient_count certificate.now.fti }
     ensures { AreRowsOf certificate.now rows.new }
 {
-    for block in 0..certificate.fti().blocks() {
+    for block in 0..certificate.fti().block_count() {
         put_block(rows, certificate, block);
     }
 }
@@ -61,7 +61,7 @@ impl<'a> CertifiedSymbols<'a> {
         ensures { IfOk result (λ s. s.certificate.now ≡ certificate.now) }
     {
         let fti = certificate.fti();
-        let count = fti.symbols() as usize * usize::from(fti.symbol());
+        let count = fti.symbol_count() as usize * usize::from(fti.symbol_length());
         let mut rows = Vec::from_elem(alloc, 0u8, count)?;
         put_blocks(&mut rows, certificate);
         Ok(CertifiedSymbols { certificate, rows })
@@ -77,7 +77,7 @@ impl<'a> CertifiedSymbols<'a> {
     {
         let fti = self.certificate.fti();
         let start = fti.start(block) as usize;
-        let length = usize::from(fti.symbol());
+        let length = usize::from(fti.symbol_length());
         let x = point(esi);
         x.is_element();
         clear(symbol);

@@ -97,11 +97,11 @@ fn judge(
 {
     are_bytes(object);
     session.len();
-    if object.len() as u64 != certificate.fti().length() {
+    if object.len() as u64 != certificate.fti().transfer_length() {
         return Ok(Verdict::No(Reason::ObjectLength));
     }
     let symbols = CertifiedSymbols::new(alloc, certificate)?;
-    let mut row = Vec::from_elem(alloc, 0u8, usize::from(certificate.fti().symbol()))?;
+    let mut row = Vec::from_elem(alloc, 0u8, usize::from(certificate.fti().symbol_length()))?;
     match not_given(object, &symbols, &mut row) {
         Some(reason) => return Ok(Verdict::No(reason)),
         None => {}

@@ -33,7 +33,7 @@ fn wrong_symbol_column(certificate: &Certificate, packet: &Packet<'_>) -> Option
     requires symbol { length packet.now.symbol.now ≡ certificate.now.fti.symbol_length }
     ensures { result ≡ wrong_column certificate.now (symbol_of (packet_of packet.now)) 0 certificate.now.fti.symbol_length }
 {
-    let length = usize::from(certificate.fti().symbol());
+    let length = usize::from(certificate.fti().symbol_length());
     let x = point(packet.esi);
     let symbol = packet.symbol;
     for column in 0..length {
@@ -104,8 +104,8 @@ fn reason_of(place: usize, fault: PlaceFault) -> Reason
 fn empty_groups(alloc: Global, fti: &Fti) -> Result<Vec<Group>, AllocError>
     ensures { IfOk result (λ v. AreGroupsOf fti.now [] (groups_of v.items)) }
 {
-    let mut groups = Vec::with_capacity(alloc, fti.blocks() as usize)?;
-    for block in 0..fti.blocks() {
+    let mut groups = Vec::with_capacity(alloc, fti.block_count() as usize)?;
+    for block in 0..fti.block_count() {
         let need = fti.k(block);
         let members = Vec::new(alloc);
         groups.push(Group { need, members })?;

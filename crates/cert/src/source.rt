@@ -50,7 +50,7 @@ fn wrong_symbol(
     let fti = certificate.fti();
     let coefficients = certificate.polynomial(block, column);
     let start = fti.start(block) as usize;
-    let length = usize::from(fti.symbol());
+    let length = usize::from(fti.symbol_length());
     for i in 0..coefficients.len() {
         let byte = byte_at(object, (start + i) * length + column);
         if value_at(coefficients, point(i as u8)) != byte {
@@ -66,7 +66,7 @@ fn wrong_column(object: &[u8], certificate: &Certificate, block: u32) -> Option<
     ensures none { IsNone result → (c i : ℕ) → c < certificate.now.fti.symbol_length → i < source_count certificate.now.fti block → GivesAt object.now certificate.now block c i }
     ensures some { IfSome result (λ w. IsFirstInBlock object.now certificate.now block w.0 w.1) }
 {
-    for column in 0..usize::from(certificate.fti().symbol()) {
+    for column in 0..usize::from(certificate.fti().symbol_length()) {
         if let Some(symbol) = wrong_symbol(object, certificate, block, column) {
             return Some((column, symbol));
         }
@@ -108,7 +108,7 @@ pub(crate) fn is_source_symbol(
     requires symbol { length symbol.now ≡ fti.now.symbol_length }
     ensures { IsTrue result ↔ ((c : ℕ) → c < fti.now.symbol_length → slice_index symbol.now c ≡ source_byte fti.now object.now block i c) }
 {
-    let length = usize::from(fti.symbol());
+    let length = usize::from(fti.symbol_length());
     let from = (fti.start(block) as usize + i) * length;
     is_padded(symbol, part_of(object, from, length))
 }
@@ -161,7 +161,7 @@ pub(crate) fn not_given(
     ensures none { IsNone result → GivesObject object.now symbols.now.certificate.now }
     ensures some { IfSome result (IsNotGiven object.now symbols.now.certificate.now) }
 {
-    for block in 0..symbols.certificate.fti().blocks() {
+    for block in 0..symbols.certificate.fti().block_count() {
         if let Some((column, symbol)) = wrong_in_block(object, symbols, block, row) {
             return Some(Reason::NotObject {
                 block,

@@ -22,7 +22,7 @@ fn points_of(alloc: Global, fti: &Fti, held: &[u8]) -> Result<Vec<Gf>, AllocErro
     ensures points { IfOk result (λ v. v.items ≡ map point_of (different_esis held.now)) }
     ensures valid { IsValidFti fti.now }
 {
-    let mut points = Vec::with_capacity(alloc, usize::from(fti.block()))?;
+    let mut points = Vec::with_capacity(alloc, usize::from(fti.block_length()))?;
     for esi in 0..255u8 {
         if held.contains(&esi) {
             points.push(point(esi))?;
@@ -41,7 +41,7 @@ fn add_values(object: &mut [u8], fti: &Fti, block: u32, polynomial: &Poly<Gf>)
         ≡ cond (is_first_of fti.now block (source_count fti.now block) x) (sum_of (slice_index object.old x) (value polynomial.now (point_of (x / fti.now.symbol_length - start_of fti.now block)))) (slice_index object.old x) }
 {
     let start = fti.start(block) as usize;
-    let length = usize::from(fti.symbol());
+    let length = usize::from(fti.symbol_length());
     for i in 0..fti.k(block) {
         let place = (start + i) * length;
         let added = polynomial.eval(point(i as u8));

@@ -19,7 +19,7 @@ impl BlockMatrices {
     pub(crate) fn generators(alloc: Global, fti: &Fti) -> Result<BlockMatrices, AllocError>
         ensures { IfOk result (λ m. EachBlockHas (IsCodeOf fti.now) fti.now m.large m.small) }
     {
-        let last = fti.blocks() - 1;
+        let last = fti.block_count() - 1;
         let large = generator(alloc, fti.k(0), fti.n(0))?;
         if fti.k(last) == fti.k(0) {
             return Ok(BlockMatrices { large, small: None });
@@ -35,7 +35,7 @@ impl BlockMatrices {
     pub(crate) fn interpolators(alloc: Global, fti: &Fti) -> Result<BlockMatrices, AllocError>
         ensures { IfOk result (λ m. EachBlockHas (IsInterpolatorOf fti.now) fti.now m.large m.small) }
     {
-        let last = fti.blocks() - 1;
+        let last = fti.block_count() - 1;
         let large = interpolator(alloc, fti.k(0))?;
         if fti.k(last) == fti.k(0) {
             return Ok(BlockMatrices { large, small: None });

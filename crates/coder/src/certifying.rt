@@ -47,7 +47,7 @@ fn certify_block(
         → slice_index coefficients.new p ≡ slice_index coefficients.old p }
 {
     let count = fti.k(b);
-    let size = usize::from(fti.symbol());
+    let size = usize::from(fti.symbol_length());
     combine(object, fti, b, columns, count, rows);
     let from = fti.start(b) as usize * size;
     put_columns(&mut coefficients[from..], rows, size, count);
@@ -82,8 +82,8 @@ fn certify_blocks(
     ensures gives { GivesObject object.now
         (record { fti = fti.now; coefficients = coefficients.new }) }
 {
-    let size = usize::from(fti.symbol());
-    for b in 0..fti.blocks() {
+    let size = usize::from(fti.symbol_length());
+    for b in 0..fti.block_count() {
         let count = fti.k(b);
         let columns = interpolators.of(count);
         certify_block(
@@ -107,17 +107,17 @@ pub fn certify(alloc: Global, object: &[u8], fti: &Fti) -> Result<Certificate, C
     ensures whole { OnOk result (length object.now ≡ fti.now.transfer_length) }
     ensures fault { IfErr result (λ e. IsCertifyFault e object.now fti.now) }
 {
-    if object.len() as u64 != fti.length() {
+    if object.len() as u64 != fti.transfer_length() {
         return Err(CertifyFault::Length);
     }
-    let size = usize::from(fti.symbol());
+    let size = usize::from(fti.symbol_length());
     let Ok(interpolators) = BlockColumns::interpolators(alloc, fti) else {
         return Err(CertifyFault::NoMemory);
     };
     let Ok(mut rows) = Vec::from_elem(alloc, 0u8, fti.k(0) * size) else {
         return Err(CertifyFault::NoMemory);
     };
-    let Ok(mut coefficients) = Vec::from_elem(alloc, 0u8, fti.symbols() as usize * size) else {
+    let Ok(mut coefficients) = Vec::from_elem(alloc, 0u8, fti.symbol_count() as usize * size) else {
         return Err(CertifyFault::NoMemory);
     };
     certify_blocks(object, fti, &interpolators, &mut rows, &mut coefficients);

@@ -43,7 +43,7 @@ pub(crate) fn first_short(symbols: &Symbols<'_>, fti: &Fti) -> Option<Short>
     ensures full { (came : List Symbol) → IsIndex came (stored symbols.now)
         → AllByRecursion (IsWithin fti.now) came → IfNone result (AllFull fti.now came) }
 {
-    for block in 0..fti.blocks() {
+    for block in 0..fti.block_count() {
         let have = have(symbols, block, fti.n(block));
         let need = fti.k(block);
         if have < need {

@@ -68,7 +68,7 @@ fn decode_rows(
     if !recover(alloc, block, rows)? {
         return Ok(false);
     }
-    let left = fti.length() - fti.start(b) * u64::from(fti.symbol());
+    let left = fti.transfer_length() - fti.start(b) * u64::from(fti.symbol_length());
     let used = left.min(rows.len() as u64) as usize;
     Ok(is_zero(&rows[used..]))
 }
@@ -88,7 +88,7 @@ pub(crate) fn block_rows(
     ensures none { IfOk result (λ o. IsNone o → IsUnexplained received.now.fti b (stored received.now.symbols b)) }
 {
     let fti = &received.fti;
-    let size = usize::from(fti.symbol());
+    let size = usize::from(fti.symbol_length());
     let generator = generators.of(fti.k(b));
     let arrivals = arrivals(alloc, &received.symbols, b, generator.cols())?;
     let mut rows = Vec::from_elem(alloc, 0u8, generator.rows() * size)?;
@@ -116,12 +116,12 @@ fn decode_all(
     ensures { IfOk result (λ a. Answers received.now.fti (stored received.now.symbols) (answer_value a)) }
 {
     let fti = &received.fti;
-    let mut object = Vec::with_capacity(alloc, fti.length() as usize)?;
-    for b in 0..fti.blocks() {
+    let mut object = Vec::with_capacity(alloc, fti.transfer_length() as usize)?;
+    for b in 0..fti.block_count() {
         let Some(rows) = block_rows(alloc, received, generators, b)? else {
             return Ok(Answer::Fault(DecodeFault::NotCode(b)));
         };
-        let left = fti.length() as usize - object.len();
+        let left = fti.transfer_length() as usize - object.len();
         object.extend_from_slice(&rows[..left.min(rows.len())])?;
     }
     Ok(Answer::Object(object))

@@ -30,7 +30,7 @@ fn bytes_from<'a>(object: &'a [u8], fti: &Fti, b: u32, i: usize) -> &'a [u8]
     ensures { (r c : ℕ) → slice_index result.now (r * fti.now.symbol_length + c)
         ≡ source_byte fti.now object.now b (i + r) c }
 {
-    let size = usize::from(fti.symbol());
+    let size = usize::from(fti.symbol_length());
     let from = (fti.start(b) as usize + i) * size;
     &object[from..]
 }
@@ -77,7 +77,7 @@ pub(crate) fn combine(
         (source_byte fti.now object.now b) (source_count fti.now b) c }
 {
     clear(out);
-    let size = usize::from(fti.symbol());
+    let size = usize::from(fti.symbol_length());
     let count = fti.k(b);
     let sources = bytes_from(object, fti, b, 0);
     add_products(out, rows, coefficients, sources, count, size, size);
@@ -108,7 +108,7 @@ pub(crate) fn encoding_symbols(
           bytes = row_of fti.now.symbol_length out.new r;
         }) }
 {
-    let size = usize::from(fti.symbol());
+    let size = usize::from(fti.symbol_length());
     let k = fti.k(b);
     let sources = k.saturating_sub(first).min(count);
     let (source_rows, repair_rows) = out.split_at_mut(sources * size);

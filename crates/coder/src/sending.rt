@@ -71,7 +71,7 @@ fn send_symbols<W: Write>(
 {
     let columns = t.columns.of(t.fti.k(block));
     encoding_symbols(t.object, &t.fti, block, columns, first, count, symbols);
-    let size = usize::from(t.fti.symbol());
+    let size = usize::from(t.fti.symbol_length());
     for i in 0..count {
         let symbol = &symbols[i * size..(i + 1) * size];
         let esi = (first + i) as u8;
@@ -121,9 +121,9 @@ fn send_pass<W: Write>(
         (pairs_of_pass order t.now.fti pass) (W.contents writer.old) (W.contents writer.new)) }
     ensures io { IfErr result (λ e. (e ≡ SendFault.Io) × (W.failed writer.new ≡ true)) }
 {
-    let size = usize::from(t.fti.symbol());
+    let size = usize::from(t.fti.symbol_length());
     let mut sent = 0;
-    for block in 0..t.fti.blocks() {
+    for block in 0..t.fti.block_count() {
         let (first, count) = run(&t.fti, order, pass, block);
         let room = &mut symbols[..count * size];
         send_symbols(t, room, datagram, block, first, count, writer)?;
@@ -138,7 +138,7 @@ fn pass_count(fti: &Fti, order: Order) -> u8
 {
     match order {
         Order::Blocks => 1,
-        Order::Rounds => fti.max_n(),
+        Order::Rounds => fti.max_symbols(),
     }
 }
 
@@ -203,16 +203,16 @@ pub fn encode<W: Write>(
     ensures fault { IfErr result (λ e. IsSendFault e object.now fti.now tsi toi order
         (W.contents writer.old) (W.contents writer.new) (W.failed writer.new)) }
 {
-    if object.len() as u64 != fti.length() {
+    if object.len() as u64 != fti.transfer_length() {
         return Err(SendFault::Length);
     }
-    if fti.symbol() > MOST_SYMBOL_BYTES {
+    if fti.symbol_length() > MOST_SYMBOL_BYTES {
         return Err(SendFault::SymbolTooLong);
     }
     let Ok(columns) = BlockColumns::generators(alloc, fti) else {
         return Err(SendFault::NoMemory);
     };
-    let size = usize::from(fti.symbol());
+    let size = usize::from(fti.symbol_length());
     let Ok(mut symbols) = Vec::from_elem(alloc, 0u8, most_at_once(fti, order) * size) else {
         return Err(SendFault::NoMemory);
     };

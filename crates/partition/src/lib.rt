@@ -107,7 +107,7 @@ impl Fti {
     }
 
     /// L: the transfer length, the object's length in bytes.
-    pub fn length(&self) -> u64
+    pub fn transfer_length(&self) -> u64
         ensures value { result ≡ self.now.transfer_length }
         ensures valid { IsValidFti self.now }
     {
@@ -115,7 +115,7 @@ impl Fti {
     }
 
     /// E: the encoding symbol length, the bytes of each symbol.
-    pub fn symbol(&self) -> u16
+    pub fn symbol_length(&self) -> u16
         ensures value { result ≡ self.now.symbol_length }
         ensures valid { IsValidFti self.now }
     {
@@ -123,7 +123,7 @@ impl Fti {
     }
 
     /// B: the maximum source block length, the most source symbols of a block.
-    pub fn block(&self) -> u8
+    pub fn block_length(&self) -> u8
         ensures value { result ≡ self.now.block_length }
         ensures valid { IsValidFti self.now }
     {
@@ -131,7 +131,7 @@ impl Fti {
     }
 
     /// The most encoding symbols of a block.
-    pub fn max_n(&self) -> u8
+    pub fn max_symbols(&self) -> u8
         ensures value { result ≡ self.now.max_symbols }
         ensures valid { IsValidFti self.now }
     {
@@ -140,7 +140,7 @@ impl Fti {
 
     /// T: how many source symbols the object has.
     #[tactic(auto, using(crate::proofs::Laws::symbols_are, crate::proofs::Laws::some_symbol, crate::proofs::Laws::symbols_few))]
-    pub fn symbols(&self) -> u64
+    pub fn symbol_count(&self) -> u64
         ensures value { result ≡ symbol_count self.now }
         ensures some { 1 ≤ result }
         ensures few { result ≤ self.now.transfer_length }
@@ -151,7 +151,7 @@ impl Fti {
 
     /// N: how many source blocks the object has.
     #[tactic(auto, using(crate::proofs::Laws::blocks_are, crate::proofs::Laws::some_block, crate::proofs::Laws::start_end))]
-    pub fn blocks(&self) -> u32
+    pub fn block_count(&self) -> u32
         ensures value { result ≡ block_count self.now }
         ensures some { 1 ≤ result }
         ensures few { result ≤ 2 ^ 24 }
@@ -159,7 +159,7 @@ impl Fti {
         ensures whole { start_of self.now result ≡ symbol_count self.now }
         ensures valid { IsValidFti self.now }
     {
-        self.symbols().div_ceil(u64::from(self.block_length)) as u32
+        self.symbol_count().div_ceil(u64::from(self.block_length)) as u32
     }
 
     // The source symbols of a small block, and how many blocks, the first ones, have one more.
@@ -170,8 +170,8 @@ impl Fti {
         ensures start { (b : ℕ) → start_of self.now b ≡ b * result.0 + min b result.1 }
         ensures valid { IsValidFti self.now }
     {
-        let symbols = self.symbols();
-        let blocks = u64::from(self.blocks());
+        let symbols = self.symbol_count();
+        let blocks = u64::from(self.block_count());
         (symbols / blocks, symbols % blocks)
     }
 
@@ -208,7 +208,7 @@ impl Fti {
     pub fn has(&self, b: u32, esi: u8) -> bool
         ensures { result ≡ has_symbol self.now b esi }
     {
-        b < self.blocks() && usize::from(esi) < self.n(b)
+        b < self.block_count() && usize::from(esi) < self.n(b)
     }
 
     /// How many source symbols the blocks before `b` have, and so the place of the first one of block `b` among those of
@@ -226,11 +226,11 @@ impl Fti {
 
     /// How many bytes of the object its last source symbol holds, at least one and at most E.
     #[tactic(auto, using(crate::proofs::Laws::last_bounds), unfolding(crate::specs::Fti::last_length))]
-    pub fn last_len(&self) -> usize
+    pub fn last_length(&self) -> usize
         ensures value { result ≡ last_length self.now }
         ensures some { 1 ≤ result }
         ensures most { result ≤ self.now.symbol_length }
     {
-        (self.transfer_length - (self.symbols() - 1) * u64::from(self.symbol_length)) as usize
+        (self.transfer_length - (self.symbol_count() - 1) * u64::from(self.symbol_length)) as usize
     }
 }

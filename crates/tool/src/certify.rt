@@ -40,6 +40,6 @@ pub(crate) fn certify<'a, F: Folder, W: Write>(
         Ok(()) => keep(folder, output, file)?,
         Err(fault) => return Err(give_up(folder, file, Fault::Certificate(fault))),
     }
-    print_count(out, "certified", fti.blocks(), " blocks")?;
+    print_count(out, "certified", fti.block_count(), " blocks")?;
     Ok(0)
 }

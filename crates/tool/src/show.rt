@@ -64,10 +64,10 @@ fn packet_line(alloc: Global, place: usize, packet: &Packet<'_>) -> Result<Line,
     line.number(place)?;
     line.named(" tsi", packet.tsi)?;
     line.named(" toi", packet.toi)?;
-    line.named(" length", packet.fti.length())?;
-    line.named(" symbol", packet.fti.symbol())?;
-    line.named(" block", packet.fti.block())?;
-    line.named(" max", packet.fti.max_n())?;
+    line.named(" length", packet.fti.transfer_length())?;
+    line.named(" symbol", packet.fti.symbol_length())?;
+    line.named(" block", packet.fti.block_length())?;
+    line.named(" max", packet.fti.max_symbols())?;
     line.named(" sbn", packet.sbn)?;
     line.named(" esi", packet.esi)?;
     Ok(line)

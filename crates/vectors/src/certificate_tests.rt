@@ -23,7 +23,7 @@ fn two_columns(rt: HostRuntime) -> Result<(), Fail> {
     let certificate = read(rt.alloc(), &TWO_COLUMNS)?;
     let fti = Fti::new(3, 2, 2, 3)?;
     assert_eq!(rt; certificate.fti(), fti);
-    assert!(rt; 0 < certificate.fti().blocks() && 1 < certificate.fti().symbol());
+    assert!(rt; 0 < certificate.fti().block_count() && 1 < certificate.fti().symbol_length());
     assert_eq!(rt; certificate.polynomial(0, 0), [0xF6, 0xF1].as_slice());
     assert_eq!(rt; certificate.polynomial(0, 1), [0xFB, 0xF3].as_slice());
     let mut sink = Sink::new(rt.alloc());
@@ -43,7 +43,7 @@ fn three_blocks(rt: HostRuntime) -> Result<(), Fail> {
     )?;
     let fti = certificate.fti();
     assert_eq!(rt; fti, Fti::new(10, 1, 4, 6)?);
-    assert!(rt; 2 < fti.blocks() && 0 < fti.symbol());
+    assert!(rt; 2 < fti.block_count() && 0 < fti.symbol_length());
     assert_eq!(rt; certificate.polynomial(0, 0), [0, 0, 0, 1].as_slice());
     assert_eq!(rt; certificate.polynomial(1, 0), [0, 1, 0].as_slice());
     assert_eq!(rt; certificate.polynomial(2, 0), [0, 0, 1].as_slice());
@@ -111,7 +111,10 @@ fn twin_in_block_0(
     object: &[u8],
     held: &[u8],
 ) -> Result<Option<Vec<u8>>, AllocError> {
-    if fti.blocks() > 0 && object.len() as u64 == fti.length() && held.len() < fti.k(0) {
+    if fti.block_count() > 0
+        && object.len() as u64 == fti.transfer_length()
+        && held.len() < fti.k(0)
+    {
         return Ok(Some(twin(alloc, object, fti, 0, held)?));
     }
     Ok(None)

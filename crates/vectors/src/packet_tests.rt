@@ -121,7 +121,7 @@ fn the_widest_identity(rt: HostRuntime) {
 fn a_packet_is_written(rt: HostRuntime) -> Result<(), Fail> {
     let mut out = [7; 40];
     let fti = Fti::new(2, 1, 2, 3)?;
-    assert!(rt; 0 < fti.blocks() && 0 < fti.n(0));
+    assert!(rt; 0 < fti.block_count() && 0 < fti.n(0));
     assert_eq!(rt; write(1, 1, &fti, 0, 0, &[1], &mut out), 33);
     assert_eq!(rt; &out[..33], DATAGRAM.as_slice());
     assert_eq!(rt; &out[33..], [7; 7].as_slice());
