@@ -29,13 +29,13 @@ pub returns-then-datagram-header : goal.returns-then-datagram-header
 returns-then-datagram-header c =
     let lies = c.in_ok-header.ensures.found in
     let same : header_end c.args.datagram.now + 4 + (fti_in c.in-Some.content.now).symbol_length ≡ c.in_ok-header.header.end + 4 + c.from.result =
-    omega (arith, lies.end, c.from.ensures, c.symbol.ensures.value, ap (λ (f : Fti). f.symbol_length) c.in_ok-fti.ensures.numbers) in
+    omega (arith, lies.end, c.from.ensures, c.symbol_length.ensures.value, ap (λ (f : Fti). f.symbol_length) c.in_ok-fti.ensures.numbers) in
     read_short c.args.datagram.now _ c.in-Some.content.now lies.passed (ext_is c.args.datagram.now c.in_ok-header.header lies) (rw c.in-Some.is at c.in_ok-content.ensures.found) c.in_ok-fti.ensures.no_fault (λ z. c.if-datagram-header.true (z ∙ same))
 
 pub returns : goal.returns
 returns c =
     let lies = c.in_ok-header.ensures.found in
     let same : header_end c.args.datagram.now + 4 + (fti_in c.in-Some.content.now).symbol_length ≡ c.in_ok-header.header.end + 4 + c.from.result =
-    omega (arith, lies.end, c.from.ensures, c.symbol.ensures.value, ap (λ (f : Fti). f.symbol_length) c.in_ok-fti.ensures.numbers) in
+    omega (arith, lies.end, c.from.ensures, c.symbol_length.ensures.value, ap (λ (f : Fti). f.symbol_length) c.in_ok-fti.ensures.numbers) in
     read_whole c.args.datagram.now _ c.in-Some.content.now lies.passed (ext_is c.args.datagram.now c.in_ok-header.header lies) (rw c.in-Some.is at c.in_ok-content.ensures.found) c.in_ok-fti.ensures.no_fault (c.if-datagram-header.false ∙ sym same)
     ∙ ap (λ (p : Packet). Ok p) (ap (packet_with c.args.datagram.now) (sym c.in_ok-fti.ensures.numbers) ∙ sym c.packet_with_fti.ensures)

@@ -11,7 +11,7 @@ returns-clause-written c =
 
 pub returns-clause-packet : goal.returns-clause-packet
 returns-clause-packet c =
-    let valid = c.symbol.ensures.valid in
-    let size : 32 + c.from-size.result ≡ 32 + length c.args.symbol.now = omega (arith, c.requires.symbol, c.symbol.ensures.value, c.from-size.ensures) in
+    let valid = c.symbol_length.ensures.valid in
+    let size : 32 + c.from-size.result ≡ 32 + length c.args.symbol.now = omega (arith, c.requires.symbol, c.symbol_length.ensures.value, c.from-size.ensures) in
     packet_written (packet_from c.args.tsi c.args.toi c.args.fti.now c.args.sbn c.args.esi c.args.symbol.now) _ _ _ size (returns-clause-written c)
     (written_packet c.args.tsi c.args.toi c.args.fti.now c.args.sbn c.args.esi c.args.symbol.now c.ranges.tsi.fits c.ranges.toi.fits valid (omega (arith, c.requires.block, valid.blocks)) c.ranges.esi.fits c.requires.symbol (λ i. omega (arith, c.type_inv.symbol i)))

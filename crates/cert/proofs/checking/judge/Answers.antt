@@ -9,7 +9,7 @@ use Rattle.cert.proofs.checking.judge.Goals as goal
 
 pub returns-then-object-length-clause-verdict : goal.returns-then-object-length-clause-verdict
 returns-then-object-length-clause-verdict c =
-    let told = c.length.ensures.value ∙ ap (λ (f : Fti). f.transfer_length) c.fti.ensures.value in
+    let told = c.transfer_length.ensures.value ∙ ap (λ (f : Fti). f.transfer_length) c.fti.ensures.value in
     record {
       readings = readings_of c.args.session.now;
       read = read_all c.args.session.now c.len.ensures.datagrams;
@@ -18,7 +18,7 @@ returns-then-object-length-clause-verdict c =
 
 pub returns-in-Some-clause-verdict : goal.returns-in-Some-clause-verdict
 returns-in-Some-clause-verdict c =
-    let told = c.length.ensures.value ∙ ap (λ (f : Fti). f.transfer_length) c.fti.ensures.value in
+    let told = c.transfer_length.ensures.value ∙ ap (λ (f : Fti). f.transfer_length) c.fti.ensures.value in
     record {
       readings = readings_of c.args.session.now;
       read = read_all c.args.session.now c.len.ensures.datagrams;
@@ -28,7 +28,7 @@ returns-in-Some-clause-verdict c =
 
 pub returns-in-Ok-clause-verdict : goal.returns-in-Ok-clause-verdict
 returns-in-Ok-clause-verdict c =
-    let told = c.length.ensures.value ∙ ap (λ (f : Fti). f.transfer_length) c.fti.ensures.value in
+    let told = c.transfer_length.ensures.value ∙ ap (λ (f : Fti). f.transfer_length) c.fti.ensures.value in
     record {
       readings = readings_of c.args.session.now;
       read = read_all c.args.session.now c.len.ensures.datagrams;
@@ -39,7 +39,7 @@ returns-in-Ok-clause-verdict c =
 
 pub returns-in-Err-Reason-clause-verdict : goal.returns-in-Err-Reason-clause-verdict
 returns-in-Err-Reason-clause-verdict c =
-    let told = c.length.ensures.value ∙ ap (λ (f : Fti). f.transfer_length) c.fti.ensures.value in
+    let told = c.transfer_length.ensures.value ∙ ap (λ (f : Fti). f.transfer_length) c.fti.ensures.value in
     record {
       readings = readings_of c.args.session.now;
       read = read_all c.args.session.now c.len.ensures.datagrams;

@@ -12,7 +12,7 @@ use Rattle.coder.proofs.certifying.certify_block.Goals as goal
 pub put_columns-requires-clause-room : goal.put_columns-requires-clause-room
 put_columns-requires-clause-room c =
     let f = c.args.fti.now in
-    let size = c.from-size.ensures ∙ c.symbol.ensures.value in
+    let size = c.from-size.ensures ∙ c.symbol_length.ensures.value in
     let from = products c.start.result c.from-size.result (start_of f c.args.b) f.symbol_length c.start.ensures.value size in
     let whole = products c.from-size.result c.k-count.result f.symbol_length (source_count f c.args.b) size c.k-count.ensures.value in
     let turned = mul_comm f.symbol_length (source_count f c.args.b) in
@@ -28,7 +28,7 @@ returns-clause-gives c =
     let b = c.args.b in
     let k : ℕ = source_count f c.args.b in
     let m = c.requires.interpolator in
-    let size = c.from-size.ensures ∙ c.symbol.ensures.value in
+    let size = c.from-size.ensures ∙ c.symbol_length.ensures.value in
     let from = products c.start.result c.from-size.result (start_of f c.args.b) f.symbol_length c.start.ensures.value size in
     let within : start_of f c.args.b + source_count f c.args.b ≤ symbol_count f = omega (arith, c.start.ensures.value, c.start.ensures.within) in
     let most = mul-le-mul_right f.symbol_length within in
@@ -40,7 +40,7 @@ returns-clause-gives c =
     let bytes = bytes_fit c.args.object.now c.type_inv.object in
     let old = c.args.coefficients.now in
     let new = c.put_columns.new.out in
-    gives_from_places f c.symbol.ensures.valid c.args.object.now
+    gives_from_places f c.symbol_length.ensures.valid c.args.object.now
     (put_mid (c.start.result * c.from-size.result) (length c.args.coefficients.now - c.start.result * c.from-size.result) c.args.coefficients.now c.put_columns.new.out)
     c.args.b m.matrix bytes c.requires.block
     (same_len_mid at (length c.args.coefficients.now - c.start.result * c.from-size.result) c.args.coefficients.now c.put_columns.new.out c.put_columns.ensures.len ∙ c.requires.room)

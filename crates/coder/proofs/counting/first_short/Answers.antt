@@ -21,7 +21,7 @@ pub returns-then-have-need-clause-short : goal.returns-then-have-need-clause-sho
 returns-then-have-need-clause-short c = λ came index within.
     let f = c.args.fti.now in
     let b = c.loop-block.block in
-    let hb : b < block_count f = rw c.blocks-block-end.ensures.value at c.loop-block-test.true in
+    let hb : b < block_count f = rw c.block_count-block-end.ensures.value at c.loop-block-test.true in
     let counts = counted_held f came (stored c.args.symbols.now) b c.n.result c.have-have.result index within c.n.ensures.value c.n.ensures.byte c.have-have.ensures in
     let need = c.k-need.ensures.value in (
       record {
@@ -35,4 +35,4 @@ returns-then-have-need-clause-short c = λ came index within.
 
 pub returns-clause-full : goal.returns-clause-full
 returns-clause-full c = λ came index within b hb.
-    c.loop-block.invariant came index within b (let e = c.blocks-block-end.ensures.value in omega arith)
+    c.loop-block.invariant came index within b (let e = c.block_count-block-end.ensures.value in omega arith)

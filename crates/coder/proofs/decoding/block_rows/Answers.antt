@@ -24,19 +24,19 @@ pub decode_rows-requires-clause-rows : goal.decode_rows-requires-clause-rows
 decode_rows-requires-clause-rows c =
     let r = c.args.received.now in
     let code = picked_has (IsCodeOf r.fti) r.fti c.args.generators.now.large c.args.generators.now.small c.requires.generators c.args.b c.k.result c.of-generator.result.now c.requires.number c.k.ensures.value c.of-generator.ensures in
-    c.deref_mut.ensures.len ∙ c.in_ok-rows.ensures.len ∙ products _ _ _ _ (c.rows.ensures.value ∙ code.rows) (c.from-size.ensures ∙ c.symbol.ensures.value)
+    c.deref_mut.ensures.len ∙ c.in_ok-rows.ensures.len ∙ products _ _ _ _ (c.rows.ensures.value ∙ code.rows) (c.from-size.ensures ∙ c.symbol_length.ensures.value)
 
 pub decode_rows-requires-clause-block : goal.decode_rows-requires-clause-block
 decode_rows-requires-clause-block c =
     let r = c.args.received.now in
     let code = picked_has (IsCodeOf r.fti) r.fti c.args.generators.now.large c.args.generators.now.small c.requires.generators c.args.b c.k.result c.of-generator.result.now c.requires.number c.k.ensures.value c.of-generator.ensures in
     let a = are_arrivals r.fti c.args.b (stored r.symbols) c.of-generator.result.now c.cols.result _ c.deref.result.now code c.cols.ensures.value c.in_ok-arrivals.ensures.len c.in_ok-arrivals.ensures.at c.deref.ensures.value in
-    let size = c.from-size.ensures ∙ c.symbol.ensures.value in
+    let size = c.from-size.ensures ∙ c.symbol_length.ensures.value in
     record {
       matrix = c.cols.ensures.matrix;
       code = subst (λ (k : ℕ). Encodes k c.of-generator.result.now.cols c.of-generator.result.now) (sym code.rows) (subst (λ (n : ℕ). Encodes (source_count r.fti c.args.b) n c.of-generator.result.now) (sym code.cols) code.encodes);
       all = a.len ∙ sym code.cols;
-      small = omega (arith, size, c.symbol.type_inv);
+      small = omega (arith, size, c.symbol_length.type_inv);
       symbols = subst (λ (s : ℕ). HaveLength s (arrived c.deref.result.now)) (sym size) (have_length r.fti c.args.b (stored r.symbols) c.requires.within c.deref.result.now a.len a.same);
     }
 

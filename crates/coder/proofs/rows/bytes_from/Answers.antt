@@ -12,7 +12,7 @@ returns c = λ r y.
     let from : ℕ = (c.start.result + c.args.i) * c.from-size.result in
     let same : (c.start.result + c.args.i) * c.from-size.result ≡ (start_of f c.args.b + c.args.i) * f.symbol_length =
     products (c.start.result + c.args.i) c.from-size.result (start_of f c.args.b + c.args.i) f.symbol_length
-    (ap (λ (v : ℕ). v + i) c.start.ensures.value) (c.from-size.ensures ∙ c.symbol.ensures.value) in
+    (ap (λ (v : ℕ). v + i) c.start.ensures.value) (c.from-size.ensures ∙ c.symbol_length.ensures.value) in
     let e : start_of f c.args.b + (c.args.i + r) ≡ start_of f c.args.b + c.args.i + r = omega arith in
     let whole : (start_of f c.args.b + (c.args.i + r)) * f.symbol_length ≡ (start_of f c.args.b + c.args.i) * f.symbol_length + r * f.symbol_length =
     ap (λ (v : ℕ). v * f.symbol_length) e ∙ rows_apart (start_of f c.args.b + c.args.i) r f.symbol_length in

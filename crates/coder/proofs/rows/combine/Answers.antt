@@ -16,7 +16,7 @@ add_products-requires-clause-reach c =
 pub returns-clause-sums : goal.returns-clause-sums
 returns-clause-sums c = λ r y lr ly.
     let f = c.args.fti.now in
-    let size = c.from-size.ensures ∙ c.symbol.ensures.value in
+    let size = c.from-size.ensures ∙ c.symbol_length.ensures.value in
     let sums = rw (c.k-count.ensures.value, size) at c.add_products.ensures in
     let sum : ℕ = byte_sum (source_count f c.args.b) (λ i. product (get_or c.args.coefficients.now (r * source_count f c.args.b + i) 0) (get_or c.bytes_from-sources.result.now (i * f.symbol_length + y) 0)) in
     sums r y lr ly

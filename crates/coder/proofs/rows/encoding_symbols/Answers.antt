@@ -18,7 +18,7 @@ combine-requires-clause-coefficients c =
 
 pub combine-requires-clause-room : goal.combine-requires-clause-room
 combine-requires-clause-room c =
-    let size = c.from-size.ensures ∙ c.symbol.ensures.value in
+    let size = c.from-size.ensures ∙ c.symbol_length.ensures.value in
     let at : c.min-sources.result * c.from-size.result ≡ c.min-sources.result * c.args.fti.now.symbol_length = ap (λ (v : ℕ). c.min-sources.result * v) size in
     let e : c.min-sources.result + (c.args.count - c.min-sources.result) ≡ c.args.count = omega arith in
     let split = rows_apart c.min-sources.result (c.args.count - c.min-sources.result) c.args.fti.now.symbol_length in
@@ -31,7 +31,7 @@ returns-clause-symbols c = λ r lr.
     let code = c.requires.code in
     let m : ℕ = c.min-sources.result in
     let k = c.k-k.ensures.value in
-    let size = c.from-size.ensures ∙ c.symbol.ensures.value in
+    let size = c.from-size.ensures ∙ c.symbol_length.ensures.value in
     let at : c.min-sources.result * c.from-size.result ≡ c.min-sources.result * f.symbol_length = ap (λ (v : ℕ). c.min-sources.result * v) size in
     let most : c.min-sources.result ≤ c.args.count = omega arith in
     let front : length c.if-sources-gt0.source_rows ≡ c.min-sources.result * f.symbol_length = c.if-sources-gt0.auto.source_rows ∙ c.split_at_mut-source_rows.ensures.front_len ∙ at in

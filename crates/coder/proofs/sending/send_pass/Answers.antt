@@ -15,7 +15,7 @@ loop-block-init g c =
 pub returns-in_err-send_symbols-clause-some : goal.returns-in_err-send_symbols-clause-some
 returns-in_err-send_symbols-clause-some g c =
     let t = c.args.t.now in
-    let more = rw c.blocks-block-end.ensures.value at c.loop-block-test.true in
+    let more = rw c.block_count-block-end.ensures.value at c.loop-block-test.true in
     if_err _ _ (flat_some t.object.now t.fti t.tsi t.toi _ _ _ (pairs_in c.args.order t.fti c.args.pass) c.loop-block.block _ more c.loop-block.invariant.sent
     (some_as t.object.now t.fti t.tsi t.toi _ _ _ _ (sym c.run-first.ensures.pairs) c.in_err-send_symbols.ensures.some))
 
@@ -25,10 +25,10 @@ loop-block-preserved g c =
     let more = length_next (pairs_in c.args.order t.fti c.args.pass) c.loop-block.block in
     let long : length (pairs_in c.args.order t.fti c.args.pass c.loop-block.block) ≡ c.run-first.result.1 =
     ap length (sym c.run-first.ensures.pairs) ∙ length-run_of c.loop-block.block c.run-first.result.0 c.run-first.result.1 in
-    let most = encoding_most t.fti c.symbol.ensures.valid c.loop-block.block in
+    let most = encoding_most t.fti c.symbol_length.ensures.valid c.loop-block.block in
     record {
       sent = flat_sends t.object.now t.fti t.tsi t.toi _ _ _ (pairs_in c.args.order t.fti c.args.pass) c.loop-block.block c.loop-block.invariant.sent
           (sends_as t.object.now t.fti t.tsi t.toi _ _ _ _ (sym c.run-first.ensures.pairs) c.in_ok-send_symbols.ensures.sent);
       count = omega (arith, c.loop-block.invariant.count, more, long);
-      few = omega (arith, c.loop-block.invariant.few, c.run-first.ensures.within, most, c.symbol.ensures.valid.max_below);
+      few = omega (arith, c.loop-block.invariant.few, c.run-first.ensures.within, most, c.symbol_length.ensures.valid.max_below);
     }

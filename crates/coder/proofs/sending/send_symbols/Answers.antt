@@ -14,8 +14,8 @@ loop-i-init g c =
 pub overflow_cast-esi : goal.overflow_cast-esi
 overflow_cast-esi g c =
     let f = c.args.t.now.fti in
-    let most = encoding_most f c.symbol.ensures.valid c.args.block in
-    record { fits = omega (arith, most, c.symbol.ensures.valid.max_below, c.requires.within, c.loop-i-test.true) }
+    let most = encoding_most f c.symbol_length.ensures.valid c.args.block in
+    record { fits = omega (arith, most, c.symbol_length.ensures.valid.max_below, c.requires.within, c.loop-i-test.true) }
 
 pub returns-in-Err-clause-some : goal.returns-in-Err-clause-some
 returns-in-Err-clause-some g c =
@@ -24,7 +24,7 @@ returns-in-Err-clause-some g c =
     map_some t.object.now t.fti t.tsi t.toi _ _ _ (λ (i : ℕ). (c.args.block, c.args.first + i)) c.loop-i.i c.args.count c.loop-i-test.true c.loop-i.invariant.sent
     (one_some t.object.now t.fti t.tsi t.toi (c.args.block, c.args.first + c.loop-i.i) c.write.new.out _ _
     (sent_row t.object.now t.fti t.tsi t.toi c.args.block (c.args.first + c.loop-i.i) c.from-size.result c.loop-i.i c.write.result c.encoding_symbols.new.out c.loop-i.datagram c.write.new.out
-    (c.from-size.ensures ∙ c.symbol.ensures.value) (c.encoding_symbols.ensures.symbols c.loop-i.i c.loop-i-test.true) whole c.write.ensures.written)
+    (c.from-size.ensures ∙ c.symbol_length.ensures.value) (c.encoding_symbols.ensures.symbols c.loop-i.i c.loop-i-test.true) whole c.write.ensures.written)
     c.in-Err.ensures.err)
 
 pub loop-i-preserved : goal.loop-i-preserved
@@ -35,7 +35,7 @@ loop-i-preserved g c =
       sent = map_sends t.object.now t.fti t.tsi t.toi _ _ _ (λ (i : ℕ). (c.args.block, c.args.first + i)) c.loop-i.i c.loop-i.invariant.sent
           (one_sent t.object.now t.fti t.tsi t.toi (c.args.block, c.args.first + c.loop-i.i) c.write.new.out _ _
           (sent_row t.object.now t.fti t.tsi t.toi c.args.block (c.args.first + c.loop-i.i) c.from-size.result c.loop-i.i c.write.result c.encoding_symbols.new.out c.loop-i.datagram c.write.new.out
-          (c.from-size.ensures ∙ c.symbol.ensures.value) (c.encoding_symbols.ensures.symbols c.loop-i.i c.loop-i-test.true) whole c.write.ensures.written)
+          (c.from-size.ensures ∙ c.symbol_length.ensures.value) (c.encoding_symbols.ensures.symbols c.loop-i.i c.loop-i-test.true) whole c.write.ensures.written)
           c.in-Ok.ensures.ok);
       datagram = c.write.auto.out ∙ c.loop-i.invariant.datagram;
     }
