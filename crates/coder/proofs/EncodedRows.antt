@@ -9,9 +9,10 @@ use Rattle.gf256.proofs.RowPlaces.{row_ends, rows_apart}
 use Rattle.partition.specs.Fti.{Fti, block_count, source_count, encoding_count, source_byte}
 use Rattle.elim.specs.Grid.{Grid}
 use Rattle.reception.specs.Symbols.{Agrees}
-use Rattle.coder.specs.BlockMatrices.{IsCodeOf}
-use Rattle.coder.specs.BlockColumns.{AreColumns, row_of}
-use Rattle.coder.proofs.ColumnPlaces.{column_product}
+use Rattle.block_code.specs.Codes.{IsCodeOf}
+use Rattle.coder.specs.Rows.{row_of}
+use Rattle.block_code.specs.Columns.{AreColumns}
+use Rattle.block_code.proofs.ColumnPlaces.{column_product}
 use Rattle.coder.proofs.Columns.{made_agrees, source_agrees}
 
 -- a byte of a row

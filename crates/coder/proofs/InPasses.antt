@@ -12,7 +12,7 @@ use Rattle.partition.specs.declared.order.Order.TheVariants.{Blocks, Rounds}
 use Rattle.alc.specs.Packet.{written}
 use Rattle.alc.specs.Written.{packet_from}
 use Rattle.reception.specs.Symbols.{Agrees}
-use Rattle.coder.specs.BlockColumns.{row_of}
+use Rattle.coder.specs.Rows.{row_of}
 use Rattle.coder.specs.Sending.{pairs, IsSent}
 use Rattle.coder.specs.Passes.{run_of, pairs_of_pass, passes}
 use Rattle.coder.proofs.EncodedRows.{row_between}

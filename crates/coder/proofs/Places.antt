@@ -14,8 +14,8 @@ use Rattle.elim.proofs.RowProducts.{length-row_product}
 use Rattle.cert.specs.Certificate.{coefficient_count, polynomial}
 use Rattle.cert.specs.Verdict.{GivesAt}
 use Rattle.cert.proofs.Polynomials.{polynomial_end}
-use Rattle.coder.specs.BlockMatrices.{IsInterpolatorOf}
-use Rattle.coder.proofs.Columns.{row_of, length-row_of, get_or-row_of, bytes-row_of, product_at}
+use Rattle.block_code.specs.Codes.{IsInterpolatorOf}
+use Rattle.block_code.proofs.SourceRows.{row_of, length-row_of, get_or-row_of, bytes-row_of, product_at}
 
 length-take-below : (k : ℕ) (xs : List ℕ) (i : ℕ) → i < length (take k xs) → i < k
 length-take-below k xs i lt = let e = length-take k xs in omega (arith, e, lt)

@@ -1,12 +1,4 @@
 pub mod Sending
-pub mod BlockMatrices
-pub mod BlockColumns
 pub mod Passes
-pub mod Columns
+pub mod Rows
 pub mod Certified
-pub mod Received
-pub mod Answers
-pub mod Recovered
-pub mod Decoded
-pub mod Promised
-pub mod Unsolvable

@@ -3,12 +3,11 @@ ghost use Rattle.std.specs.Prelude.{◌≡◌, ◌<◌, ◌≤◌, ◌+◌, ◌*
 ghost use Rattle.partition.specs.Fti.{block_count, source_count, start_of};
 ghost use Rattle.cert.specs.Certificate.{coefficient_count};
 ghost use Rattle.cert.specs.Verdict.{GivesAt, GivesObject};
-ghost use Rattle.coder.specs.BlockMatrices.{IsInterpolatorOf};
-ghost use Rattle.coder.specs.BlockColumns.{AreColumnsOf, EachBlockHasColumns};
+ghost use Rattle.block_code.specs.Codes.{EachBlockHas, IsInterpolatorOf};
 ghost use Rattle.coder.specs.Certified.{CertifiesSent, IsCertifyFault};
 
-use crate::block_columns::BlockColumns;
 use crate::rows::combine;
+use block_code::{BlockCodes, Code, Kind};
 use cert::Certificate;
 use partition::Fti;
 use std::alloc::Global;
@@ -31,13 +30,13 @@ fn certify_block(
     object: &[u8],
     fti: &Fti,
     b: u32,
-    columns: &[u8],
+    interpolator: &Code,
     rows: &mut [u8],
     coefficients: &mut [u8],
 )
     requires object { length object.now ≡ fti.now.transfer_length }
     requires block { b < block_count fti.now }
-    requires interpolator { AreColumnsOf (IsInterpolatorOf fti.now b) columns.now }
+    requires interpolator { IsInterpolatorOf fti.now b interpolator.now.matrix }
     requires rows { length rows.old ≡ source_count fti.now b * fti.now.symbol_length }
     requires room { length coefficients.old ≡ coefficient_count fti.now }
     ensures len { length coefficients.new ≡ length coefficients.old }
@@ -48,7 +47,7 @@ fn certify_block(
 {
     let count = fti.k(b);
     let size = usize::from(fti.symbol_length());
-    combine(object, fti, b, columns, count, rows);
+    combine(object, fti, b, &interpolator.columns, count, rows);
     let from = fti.start(b) as usize * size;
     put_columns(&mut coefficients[from..], rows, size, count);
 }
@@ -69,13 +68,12 @@ fn put_columns(out: &mut [u8], rows: &[u8], size: usize, count: usize)
 fn certify_blocks(
     object: &[u8],
     fti: &Fti,
-    interpolators: &BlockColumns,
+    interpolators: &BlockCodes,
     rows: &mut [u8],
     coefficients: &mut [u8],
 )
     requires object { length object.now ≡ fti.now.transfer_length }
-    requires interpolators { EachBlockHasColumns (IsInterpolatorOf fti.now) fti.now
-        interpolators.now.rows interpolators.now.large.items interpolators.now.small.items }
+    requires interpolators { EachBlockHas (IsInterpolatorOf fti.now) fti.now interpolators.now }
     requires rows { length rows.old ≡ source_count fti.now 0 * fti.now.symbol_length }
     requires room { length coefficients.old ≡ coefficient_count fti.now }
     ensures len { length coefficients.new ≡ length coefficients.old }
@@ -85,12 +83,12 @@ fn certify_blocks(
     let size = usize::from(fti.symbol_length());
     for b in 0..fti.block_count() {
         let count = fti.k(b);
-        let columns = interpolators.of(count);
+        let interpolator = interpolators.of(count);
         certify_block(
             object,
             fti,
             b,
-            columns,
+            interpolator,
             &mut rows[..count * size],
             coefficients,
         );
@@ -111,7 +109,7 @@ pub fn certify(alloc: Global, object: &[u8], fti: &Fti) -> Result<Certificate, C
         return Err(CertifyFault::Length);
     }
     let size = usize::from(fti.symbol_length());
-    let Ok(interpolators) = BlockColumns::interpolators(alloc, fti) else {
+    let Ok(interpolators) = BlockCodes::new(alloc, Kind::Interpolator, fti) else {
         return Err(CertifyFault::NoMemory);
     };
     let Ok(mut rows) = Vec::from_elem(alloc, 0u8, fti.k(0) * size) else {

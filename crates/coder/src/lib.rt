@@ -1,23 +1,19 @@
 //! The coder: an object's encoding symbols as a session, and its certificate.
+//!
+//! - `rows`: encoding symbols and coefficients of a block, as sums of the rows of its source symbols;
+//! - `sending`: the datagrams of an object's encoding symbols, in either order;
+//! - `certifying`: the polynomials of its byte columns;
+//! - `laws`: what encoding, certifying and checking give together.
+//!
+//! Decoding is a crate of its own, `decoder`, whose calls can be named from here, too.
 #![tactic(auto)]
 
-mod answer;
-mod block_columns;
-mod block_matrices;
 mod certifying;
-mod counting;
-mod decoding;
 mod laws;
-mod received;
-mod recovering;
 mod rows;
-mod selecting;
 mod sending;
-mod unsolvable;
 
-pub use answer::{Answer, DecodeFault};
 pub use certifying::{CertifyFault, certify};
-pub use decoding::decode;
+pub use decoder::{Answer, DecodeFault, decode, decode_selection, one_answer};
 pub use laws::sent_checks_yes;
-pub use selecting::{decode_selection, one_answer};
 pub use sending::{SendFault, encode};

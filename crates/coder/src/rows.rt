@@ -4,21 +4,12 @@ ghost use Rattle.gf256.specs.Arithmetic.{sum_of, product};
 ghost use Rattle.gf256.specs.Sums.{row_times};
 ghost use Rattle.partition.specs.Fti.{block_count, source_count, encoding_count, source_byte};
 ghost use Rattle.reception.specs.Symbols.{Agrees};
-ghost use Rattle.coder.specs.BlockMatrices.{IsCodeOf};
-ghost use Rattle.coder.specs.BlockColumns.{AreColumnsOf, row_of};
+ghost use Rattle.block_code.specs.Codes.{IsCodeOf};
+ghost use Rattle.coder.specs.Rows.{row_of};
 
-use gf256::{Gf, add_products, add_scaled};
+use block_code::Code;
+use gf256::add_products;
 use partition::Fti;
-
-// Adds a multiple of a row to the front of another.
-pub(crate) fn add_row(out: &mut [u8], scale: Gf, row: &[u8])
-    requires { length row.now ≤ length out.old }
-    ensures len { length out.new ≡ length out.old }
-    ensures sums { (c : ℕ) → slice_index out.new c
-        ≡ sum_of (slice_index out.old c) (product scale (slice_index row.now c)) }
-{
-    add_scaled(&mut out[..row.len()], scale, row);
-}
 
 // The object's bytes from source symbol `i` of block `b` on. Past the object's end there is
 // padding.
@@ -85,19 +76,19 @@ pub(crate) fn combine(
 
 /// The encoding symbols of a block from ESI `first` on, as many as there is room for, one behind
 /// the other: source symbols as they stand in the object, and all repair symbols by one product.
-/// `columns` are those of the block's generator matrix.
+/// `code` is the block's.
 pub(crate) fn encoding_symbols(
     object: &[u8],
     fti: &Fti,
     b: u32,
-    columns: &[u8],
+    code: &Code,
     first: usize,
     count: usize,
     out: &mut [u8],
 )
     requires object { length object.now ≡ fti.now.transfer_length }
     requires block { b < block_count fti.now }
-    requires code { AreColumnsOf (IsCodeOf fti.now b) columns.now }
+    requires code { IsCodeOf fti.now b code.now.matrix }
     requires within { first + count ≤ encoding_count fti.now b }
     requires room { length out.old ≡ count * fti.now.symbol_length }
     ensures len { length out.new ≡ length out.old }
@@ -115,6 +106,6 @@ pub(crate) fn encoding_symbols(
     if sources > 0 {
         copy_padded(source_rows, bytes_from(object, fti, b, first));
     }
-    let coefficients = &columns[(first + sources) * k..(first + count) * k];
+    let coefficients = &code.columns[(first + sources) * k..(first + count) * k];
     combine(object, fti, b, coefficients, count - sources, repair_rows);
 }

@@ -1,14 +1,13 @@
 //! Sending an object: its encoding symbols as the datagrams of a session.
 ghost use Rattle.std.specs.Prelude.{◌≡◌, ◌^◌, ◌≤◌, ◌<◌, ◌+◌, ◌*◌, true, length, IfOk, IfErr, OnOk};
 ghost use Rattle.partition.specs.Fti.{IsValidFti, block_count, encoding_count};
-ghost use Rattle.coder.specs.BlockMatrices.{IsCodeOf};
-ghost use Rattle.coder.specs.BlockColumns.{EachBlockHasColumns};
+ghost use Rattle.block_code.specs.Codes.{EachBlockHas, IsCodeOf};
 ghost use Rattle.coder.specs.Passes.{run_of, pairs_in, pairs_of_pass, passes, at_once};
 ghost use Rattle.coder.specs.Sending.{pairs, Sends, SendsSome, CanBeSent, IsSendFault, most_symbol_bytes};
 
-use crate::block_columns::BlockColumns;
 use crate::rows::encoding_symbols;
 use alc::write;
+use block_code::{BlockCodes, Kind};
 use partition::{Fti, Order};
 use session::{Write, write_one};
 use std::alloc::Global;
@@ -36,14 +35,14 @@ const MOST_SYMBOL_BYTES: u16 = 65475;
 // The bytes of a datagram before its symbol.
 const HEADER_SIZE: usize = 32;
 
-/// What is sent of an object, and the coefficients of its encoding symbols.
+/// What is sent of an object, and the codes of its blocks.
 #[derive(Drop)]
 struct Transmission<'a> {
     object: &'a [u8],
     tsi: u32,
     toi: u32,
     fti: Fti,
-    columns: BlockColumns,
+    codes: BlockCodes,
     ghost fits: { CanBeSent object.now fti },
 }
 
@@ -57,8 +56,7 @@ fn send_symbols<W: Write>(
     count: usize,
     writer: &mut W,
 ) -> Result<(), SendFault>
-    requires codes { EachBlockHasColumns (IsCodeOf t.now.fti) t.now.fti
-        t.now.columns.rows t.now.columns.large.items t.now.columns.small.items }
+    requires codes { EachBlockHas (IsCodeOf t.now.fti) t.now.fti t.now.codes }
     requires block { block < block_count t.now.fti }
     requires within { first + count ≤ encoding_count t.now.fti block }
     requires symbols { length symbols.old ≡ count * t.now.fti.symbol_length }
@@ -69,8 +67,8 @@ fn send_symbols<W: Write>(
         (run_of block first count) (W.contents writer.old) (W.contents writer.new)) }
     ensures io { IfErr result (λ e. (e ≡ SendFault.Io) × (W.failed writer.new ≡ true)) }
 {
-    let columns = t.columns.of(t.fti.k(block));
-    encoding_symbols(t.object, &t.fti, block, columns, first, count, symbols);
+    let code = t.codes.of(t.fti.k(block));
+    encoding_symbols(t.object, &t.fti, block, code, first, count, symbols);
     let size = usize::from(t.fti.symbol_length());
     for i in 0..count {
         let symbol = &symbols[i * size..(i + 1) * size];
@@ -109,8 +107,7 @@ fn send_pass<W: Write>(
     datagram: &mut [u8],
     writer: &mut W,
 ) -> Result<u64, SendFault>
-    requires codes { EachBlockHasColumns (IsCodeOf t.now.fti) t.now.fti
-        t.now.columns.rows t.now.columns.large.items t.now.columns.small.items }
+    requires codes { EachBlockHas (IsCodeOf t.now.fti) t.now.fti t.now.codes }
     requires room { length symbols.old ≡ at_once order t.now.fti * t.now.fti.symbol_length }
     requires datagram { length datagram.old ≡ 32 + t.now.fti.symbol_length }
     ensures sent { OnOk result (Sends t.now.object.now t.now.fti t.now.tsi t.now.toi
@@ -152,8 +149,7 @@ fn send_all<W: Write>(
     datagram: &mut [u8],
     writer: &mut W,
 ) -> Result<u64, SendFault>
-    requires codes { EachBlockHasColumns (IsCodeOf t.now.fti) t.now.fti
-        t.now.columns.rows t.now.columns.large.items t.now.columns.small.items }
+    requires codes { EachBlockHas (IsCodeOf t.now.fti) t.now.fti t.now.codes }
     requires room { length symbols.old ≡ at_once order t.now.fti * t.now.fti.symbol_length }
     requires datagram { length datagram.old ≡ 32 + t.now.fti.symbol_length }
     ensures sent { OnOk result (Sends t.now.object.now t.now.fti t.now.tsi t.now.toi
@@ -209,7 +205,7 @@ pub fn encode<W: Write>(
     if fti.symbol_length() > MOST_SYMBOL_BYTES {
         return Err(SendFault::SymbolTooLong);
     }
-    let Ok(columns) = BlockColumns::generators(alloc, fti) else {
+    let Ok(codes) = BlockCodes::new(alloc, Kind::Generator, fti) else {
         return Err(SendFault::NoMemory);
     };
     let size = usize::from(fti.symbol_length());
@@ -224,7 +220,7 @@ pub fn encode<W: Write>(
         tsi,
         toi,
         fti: *fti,
-        columns,
+        codes,
     };
     send_all(&transmission, order, &mut symbols, &mut datagram, writer)
 }

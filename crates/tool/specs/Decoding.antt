@@ -2,11 +2,11 @@
 use Rattle.std.specs.Prelude.{◌≡◌, ◌⊎◌, ℕ, Bool, List, [], ◌∷◌, ◌++◌, Option, length, codes, decimal}
 use Rattle.std.specs.Io.KnownBytes.{Appends}
 use Rattle.reception.specs.Answer.{IsAnswer}
-use Rattle.coder.specs.Answers.{answer_value}
-use Rattle.coder.specs.declared.answer.Answer.{Answer}
-use Rattle.coder.specs.declared.answer.Answer.TheVariants.{Empty, Fault as NoObject, Missing, Object}
-use Rattle.coder.specs.declared.answer.DecodeFault.{DecodeFault}
-use Rattle.coder.specs.declared.answer.DecodeFault.TheVariants.{Packet, OtherIdentity, OtherFti, Range, Clash, NotCode}
+use Rattle.decoder.specs.Answers.{answer_value}
+use Rattle.decoder.specs.declared.answer.Answer.{Answer}
+use Rattle.decoder.specs.declared.answer.Answer.TheVariants.{Empty, Fault as NoObject, Missing, Object}
+use Rattle.decoder.specs.declared.answer.DecodeFault.{DecodeFault}
+use Rattle.decoder.specs.declared.answer.DecodeFault.TheVariants.{Packet, OtherIdentity, OtherFti, Range, Clash, NotCode}
 use Rattle.tool.specs.declared.fault.Fault.{Fault}
 use Rattle.tool.specs.Folder.{Files, Replaces}
 use Rattle.tool.specs.Inputs.{HoldsSession, IsSessionUnread}

@@ -3,9 +3,9 @@ use Rattle.partition.proofs.Laws.{some_block}
 use Rattle.reception.specs.Symbols.{IsObject}
 use Rattle.cert.specs.Certificate.{Certificate}
 use Rattle.cert.specs.Verdict.{GivesObject}
-use Rattle.coder.proofs.Columns.{bytes_fit}
+use Rattle.block_code.proofs.SourceRows.{bytes_fit}
 use Rattle.coder.proofs.SessionReadings.{certifies_sent}
-use Rattle.coder.proofs.RowAdding.{take_front}
+use Rattle.block_code.proofs.RowAdding.{take_front}
 use Rattle.coder.proofs.certifying.certify.Goals as goal
 
 pub k-requires : goal.k-requires

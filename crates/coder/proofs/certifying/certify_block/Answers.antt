@@ -2,10 +2,10 @@ use Rattle.std.proofs.Common.{◌≡◌, ◌<◌, ◌≤◌, ◌+◌, ◌-◌, �
 use Rattle.std.proofs.Math.Nat.{mul-le-mul_right, mul_comm}
 use Rattle.gf256.proofs.RowPlaces.{row_ends, rows_apart, put_at, part_long}
 use Rattle.partition.specs.Fti.{start_of, source_count, source_byte, symbol_count}
-use Rattle.coder.proofs.Columns.{bytes_fit}
-use Rattle.coder.proofs.ColumnPlaces.{column_product}
+use Rattle.block_code.proofs.SourceRows.{bytes_fit}
+use Rattle.block_code.proofs.ColumnPlaces.{column_product}
 use Rattle.coder.proofs.Places.{gives_from_places}
-use Rattle.coder.proofs.RowAdding.{products}
+use Rattle.block_code.proofs.RowAdding.{products}
 use borrow.Rule.Slice.PartMut.{put_mid, same_len_mid}
 use Rattle.coder.proofs.certifying.certify_block.Goals as goal
 

@@ -5,7 +5,7 @@ use Rattle.poly.specs.Polynomial.{value}
 use Rattle.partition.specs.Fti.{source_count, block_count}
 use Rattle.cert.specs.Verdict.{GivesAt}
 use Rattle.std.proofs.Math.Nat.{mul-le-mul_right}
-use Rattle.coder.proofs.RowAdding.{products}
+use Rattle.block_code.proofs.RowAdding.{products}
 use Rattle.coder.proofs.InPasses.{first_source}
 use Rattle.coder.proofs.Places.{same_polynomial_at}
 use Rattle.coder.proofs.certifying.certify_blocks.Goals as goal

@@ -1,7 +1,7 @@
 use Rattle.std.proofs.Common.{◌≡◌, ℕ, ◌+◌, ◌*◌, get_or, ap, ◌∙◌, arith}
 use Rattle.gf256.proofs.RowPlaces.{rows_apart, part_byte}
 use Rattle.partition.specs.Fti.{start_of}
-use Rattle.coder.proofs.RowAdding.{products}
+use Rattle.block_code.proofs.RowAdding.{products}
 use Rattle.coder.proofs.rows.bytes_from.Goals as goal
 
 pub returns : goal.returns

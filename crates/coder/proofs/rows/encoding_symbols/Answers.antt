@@ -2,7 +2,7 @@ use Rattle.std.proofs.Common.{◌≡◌, ◌≤◌, ℕ, ◌+◌, ◌-◌, ◌*�
 use Rattle.std.proofs.lemmas.Bool.{cases_lt}
 use Rattle.gf256.proofs.RowPlaces.{rows_fit, rows_apart}
 use Rattle.partition.specs.Fti.{source_count, encoding_count}
-use Rattle.coder.proofs.Columns.{bytes_fit}
+use Rattle.block_code.proofs.SourceRows.{bytes_fit}
 use Rattle.coder.proofs.EncodedRows.{source_row, repair_row, part_column, length-part}
 use Rattle.coder.proofs.rows.encoding_symbols.Goals.{then-sources-gt0, else-sources-gt0}
 use Rattle.coder.proofs.rows.encoding_symbols.Goals as goal

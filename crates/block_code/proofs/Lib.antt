@@ -1,0 +1,4 @@
+pub mod Sizes
+pub mod ColumnPlaces
+pub mod RowAdding
+pub mod SourceRows

@@ -1,7 +1,0 @@
-use Rattle.std.proofs.Common.{map}
-use Rattle.coder.specs.Received.{stored}
-use Rattle.coder.proofs.Receiving.{Scanned}
-use Rattle.coder.proofs.received.receive.Given as goal
-
-abbrev pub invariant-loop-place : goal.invariant-loop-place
-invariant-loop-place l = Scanned (map (λ d. d.now) l.datagrams) l.scope (stored l.symbols) l.place

@@ -1,5 +1,0 @@
-use Rattle.coder.proofs.Listing.{AreListed}
-use Rattle.coder.proofs.unsolvable.blocks_of.Given as goal
-
-abbrev pub invariant-loop-key : goal.invariant-loop-key
-invariant-loop-key l = AreListed l.symbols l.key-iterator l.blocks.items

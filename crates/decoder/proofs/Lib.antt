@@ -1,0 +1,17 @@
+pub mod Erased
+pub mod Those
+pub mod Counts
+pub mod Meetings
+pub mod Words
+pub mod Index
+pub mod Receiving
+pub mod Erasing
+pub mod Solved
+pub mod RowPlaces
+pub mod BlockRows
+pub mod Answering
+pub mod Listing
+pub mod ObjectSoFar
+pub mod Promising
+pub mod Solving
+pub mod Unsound

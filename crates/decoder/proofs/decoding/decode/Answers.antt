@@ -1,0 +1,51 @@
+use Rattle.std.proofs.Common.{◌<◌, ℕ, List, map, length, arith, refl}
+use Rattle.std.specs.Borrow.{Bor}
+use Rattle.std.proofs.lemmas.List.{length-map}
+use Rattle.reception.specs.Answer.{IsAnswer}
+use Rattle.reception.specs.Step.{readings_of}
+use Rattle.decoder.specs.declared.answer.Answer.{Answer}
+use Rattle.decoder.specs.Answers.{answer_value}
+use Rattle.decoder.specs.Decoded.{Answers}
+use Rattle.decoder.specs.Received.{stored}
+use Rattle.decoder.proofs.Answering.{answered, read_all, stand_of, if_ok}
+use Rattle.decoder.proofs.decoding.decode.Goals as goal
+
+bytes_of : (xs : List (Bor (List ℕ))) (P : ℕ → Type 0) → ((i : ℕ) → i < length xs → P i) → (i : ℕ) → i < length (map (λ (d : Bor (List ℕ)). d.now) xs) → P i
+bytes_of xs P h i l = h i (omega (arith, l, length-map xs (λ (d : Bor (List ℕ)). d.now)))
+
+pub answer-requires : goal.answer-requires
+answer-requires c =
+    let ds = map (λ (d : Bor (List ℕ)). d.now) c.args.datagrams.now in
+    stand_of ds c.in-Ok-Some.received.fti (stored c.in-Ok-Some.received.symbols) (read_all ds (bytes_of c.args.datagrams.now _ c.all_are_bytes.ensures))
+    (rw c.in-Ok-Some.field-0-is at c.in-Ok-Some.ensures.received)
+
+pub returns-in-Ok-Some : goal.returns-in-Ok-Some
+returns-in-Ok-Some c =
+    let ds = map (λ (d : Bor (List ℕ)). d.now) c.args.datagrams.now in
+    let read = read_all ds (bytes_of c.args.datagrams.now _ c.all_are_bytes.ensures) in
+    if_ok (λ (a : Answer). Answers c.in-Ok-Some.received.fti (stored c.in-Ok-Some.received.symbols) (answer_value a)) (λ (a : Answer). IsAnswer (map (λ (d : Bor (List ℕ)). d.now) c.args.datagrams.now) (answer_value a)) _
+    (λ a h. record {
+      readings = readings_of ds;
+      read = read;
+      answers = answered ds c.in-Ok-Some.received.fti (stored c.in-Ok-Some.received.symbols) (answer_value a) read
+          (rw c.in-Ok-Some.field-0-is at c.in-Ok-Some.ensures.received) h;
+    })
+    c.answer.ensures
+
+pub returns-in-Ok-None : goal.returns-in-Ok-None
+returns-in-Ok-None c =
+    let ds = map (λ (d : Bor (List ℕ)). d.now) c.args.datagrams.now in
+    record {
+      readings = readings_of ds;
+      read = read_all ds (bytes_of c.args.datagrams.now _ c.all_are_bytes.ensures);
+      answers = (rw c.in-Ok-None.field-0-is at c.in-Ok-None.ensures.nothing) refl;
+    }
+
+pub returns-in-Err-Fault : goal.returns-in-Err-Fault
+returns-in-Err-Fault c =
+    let ds = map (λ (d : Bor (List ℕ)). d.now) c.args.datagrams.now in
+    rw c.in-Err-Fault.fault-is (record {
+      readings = readings_of ds;
+      read = read_all ds (bytes_of c.args.datagrams.now _ c.all_are_bytes.ensures);
+      answers = rw c.in-Err-Fault.field-0-is at c.in-Err-Fault.ensures.refusal;
+    })

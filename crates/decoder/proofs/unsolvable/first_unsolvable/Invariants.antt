@@ -1,0 +1,6 @@
+use Rattle.decoder.specs.Received.{stored}
+use Rattle.decoder.proofs.Unsound.{LeastSoFar}
+use Rattle.decoder.proofs.unsolvable.first_unsolvable.Given as goal
+
+abbrev pub invariant-loop-b : goal.invariant-loop-b
+invariant-loop-b l = LeastSoFar l.received.fti (stored l.received.symbols) l.b-items l.b-index l.least

@@ -1,0 +1,9 @@
+pub mod Rows
+pub mod Blocks
+pub mod Erasures
+pub mod Answers
+pub mod Columns
+pub mod Received
+pub mod Decoded
+pub mod Unsolvable
+pub mod Promised

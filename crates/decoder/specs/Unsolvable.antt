@@ -1,0 +1,15 @@
+-- Blocks of which enough symbols came, which are those of no object.
+use Rattle.std.specs.Prelude.{ℕ, ◌<◌, List, Option}
+use Rattle.partition.specs.Fti.{Fti, block_count}
+use Rattle.decoder.specs.Columns.{ColumnExplained}
+use Rattle.decoder.specs.Decoded.{IsEnoughAt, IsUnexplained}
+
+-- where enough symbols of the block came, polynomials explain them
+abbrev pub IsSound : Fti → (ℕ → ℕ → Option (List ℕ)) → ℕ → Type 0
+IsSound f at b = IsEnoughAt f b (at b) → (c : ℕ) → c < f.symbol_length → ColumnExplained f b (at b) c
+
+-- enough symbols of the block came, and no polynomials explain them
+pub record IsUnsound (f : Fti) (at : ℕ → ℕ → Option (List ℕ)) (b : ℕ) : Type 0 where
+  pub in_range : b < block_count f
+  pub enough : IsEnoughAt f b (at b)
+  pub unexplained : IsUnexplained f b (at b)

@@ -1,0 +1,86 @@
+//! The source symbols of a block of what was received.
+ghost use Rattle.std.specs.Prelude.{◌≡◌, ◌≢◌, ◌<◌, ◌≤◌, ◌*◌, ℕ, true, false, length, IfOk, IfSome, IsNone};
+ghost use Rattle.partition.specs.Fti.{block_count, source_count, source_place};
+ghost use Rattle.block_code.specs.Codes.{EachBlockHas, IsCodeOf};
+ghost use Rattle.decoder.specs.Blocks.{arrived};
+ghost use Rattle.decoder.specs.Decoded.{AreWithin, IsEnoughAt, AreRows, IsUnexplained};
+ghost use Rattle.decoder.specs.Received.{stored};
+ghost use Rattle.decoder.specs.Rows.{byte_in, HasSizes};
+
+use crate::block::Block;
+use crate::received::{Received, Symbols};
+use crate::recovering::recover;
+use crate::rows::{Rows, is_zero};
+use block_code::BlockCodes;
+use lists::are_bytes;
+use partition::Fti;
+use std::alloc::{AllocError, Global};
+
+// The symbols of a block at its ESIs, those that came.
+fn arrivals<'a>(
+    alloc: Global,
+    symbols: &Symbols<'a>,
+    b: u32,
+    n: usize,
+) -> Result<Vec<Option<&'a [u8]>>, AllocError>
+    requires { n ≤ 255 }
+    ensures len { IfOk result (λ v. length v.items ≡ n) }
+    ensures at { IfOk result (λ v. (j : ℕ) → j < n → arrived v.items j ≡ stored symbols.now b j) }
+{
+    let mut arrivals = Vec::with_capacity(alloc, n)?;
+    for esi in 0..n {
+        arrivals.push(symbols.get(&(b, esi as u8)).copied())?;
+    }
+    Ok(arrivals)
+}
+
+// Whether a block's rows are zero past the object's end.
+fn are_padded(fti: &Fti, b: u32, rows: &Rows) -> bool
+    requires number { b < block_count fti.now }
+    requires sizes { HasSizes (source_count fti.now b) fti.now.symbol_length rows.now }
+    ensures zero { result ≡ true → (i c : ℕ) → i < source_count fti.now b
+        → c < fti.now.symbol_length → fti.now.transfer_length ≤ source_place fti.now b i c
+        → byte_in rows.now i c ≡ 0 }
+    ensures other { result ≡ false → (i c : ℕ) × (i < source_count fti.now b)
+        × (c < fti.now.symbol_length) × (fti.now.transfer_length ≤ source_place fti.now b i c)
+        × (byte_in rows.now i c ≢ 0) }
+{
+    let left = fti.transfer_length() - fti.start(b) * u64::from(fti.symbol_length());
+    let used = left.min(rows.bytes.len() as u64) as usize;
+    is_zero(&rows.bytes[used..])
+}
+
+/// A block's source symbols, if all that came of it are symbols of an object.
+pub(crate) fn block_rows(
+    alloc: Global,
+    received: &Received<'_>,
+    codes: &BlockCodes,
+    b: u32,
+) -> Result<Option<Rows>, AllocError>
+    requires number { b < block_count received.now.fti }
+    requires codes { EachBlockHas (IsCodeOf received.now.fti) received.now.fti codes.now }
+    requires within { AreWithin received.now.fti (stored received.now.symbols) }
+    requires enough { IsEnoughAt received.now.fti b (stored received.now.symbols b) }
+    ensures rows { IfOk result (λ o. IfSome o (λ rows.
+        AreRows received.now.fti b (stored received.now.symbols b) rows.bytes.items)) }
+    ensures none { IfOk result (λ o. IsNone o
+        → IsUnexplained received.now.fti b (stored received.now.symbols b)) }
+{
+    let fti = &received.fti;
+    let code = codes.of(fti.k(b));
+    let arrivals = arrivals(alloc, &received.symbols, b, code.matrix.cols())?;
+    let block = Block {
+        received: &arrivals,
+        size: usize::from(fti.symbol_length()),
+        code,
+    };
+    let Some(rows) = recover(alloc, &block)? else {
+        return Ok(None);
+    };
+    are_bytes(&rows.bytes);
+    if are_padded(fti, b, &rows) {
+        Ok(Some(rows))
+    } else {
+        Ok(None)
+    }
+}

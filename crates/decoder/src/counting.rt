@@ -1,0 +1,54 @@
+//! How many of a block's encoding symbols came.
+ghost use Rattle.std.specs.Prelude.{◌≡◌, ◌≤◌, ℕ, List, length, filter, is_some, IfSome, IfNone};
+ghost use Rattle.std.specs.List.{AllByRecursion};
+ghost use Rattle.lists.specs.Below.{below};
+ghost use Rattle.partition.specs.Fti.{source_count};
+ghost use Rattle.reception.specs.Symbols.{Symbol, held_count, AllFull, IsFirstShort, IsWithin};
+ghost use Rattle.decoder.specs.Received.{stored, IsIndex};
+
+use crate::received::Symbols;
+use partition::Fti;
+
+/// A block that has fewer encoding symbols than it needs.
+#[derive(Clone, Copy)]
+pub(crate) struct Short {
+    /// Its source block number.
+    pub(crate) block: u32,
+    /// How many different ESIs of it came.
+    pub(crate) have: usize,
+    /// How many source symbols it has.
+    pub(crate) need: usize,
+}
+
+/// How many different ESIs below `n` came of a block.
+pub(crate) fn have(symbols: &Symbols<'_>, b: u32, n: usize) -> usize
+    requires { n ≤ 255 }
+    ensures { result ≡ length (filter (λ j. is_some (stored symbols.now b j)) (below n)) }
+{
+    let mut count = 0;
+    for j in 0..n {
+        if symbols.contains_key(&(b, j as u8)) {
+            count += 1;
+        }
+    }
+    count
+}
+
+/// The first block that has fewer encoding symbols than source symbols.
+pub(crate) fn first_short(symbols: &Symbols<'_>, fti: &Fti) -> Option<Short>
+    ensures short { (came : List Symbol) → IsIndex came (stored symbols.now)
+        → AllByRecursion (IsWithin fti.now) came
+        → IfSome result (λ s. IsFirstShort fti.now came s.block
+        × (s.have ≡ held_count came s.block) × (s.need ≡ source_count fti.now s.block)) }
+    ensures full { (came : List Symbol) → IsIndex came (stored symbols.now)
+        → AllByRecursion (IsWithin fti.now) came → IfNone result (AllFull fti.now came) }
+{
+    for block in 0..fti.block_count() {
+        let have = have(symbols, block, fti.n(block));
+        let need = fti.k(block);
+        if have < need {
+            return Some(Short { block, have, need });
+        }
+    }
+    None
+}

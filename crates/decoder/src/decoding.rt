@@ -1,0 +1,89 @@
+//! Decoding: the object that datagrams give, or why they give none.
+ghost use Rattle.std.specs.Prelude.{◌≡◌, ◌<◌, ℕ, [], length, map, slice_index_or, IfOk};
+ghost use Rattle.lists.specs.Bytes.{AreBytes};
+ghost use Rattle.partition.specs.Fti.{block_count};
+ghost use Rattle.block_code.specs.Codes.{EachBlockHas, IsCodeOf};
+ghost use Rattle.reception.specs.Answer.{IsAnswer};
+ghost use Rattle.decoder.specs.Answers.{answer_value};
+ghost use Rattle.decoder.specs.Decoded.{AreWithin, IsEnoughAt, Answers, Stand};
+ghost use Rattle.decoder.specs.Received.{stored};
+
+use crate::answer::{Answer, DecodeFault};
+use crate::blocks::block_rows;
+use crate::counting::first_short;
+use crate::received::{Received, Refusal, receive};
+use crate::unsolvable::first_unsolvable;
+use block_code::{BlockCodes, Kind};
+use lists::are_bytes;
+use std::alloc::{AllocError, Global};
+
+// What the type says of each datagram.
+fn all_are_bytes(datagrams: &[&[u8]])
+    ensures { (i : ℕ) → i < length datagrams.now → AreBytes (slice_index_or (map (λ d. d.now) datagrams.now) i []) }
+{
+    for i in 0..datagrams.len() {
+        are_bytes(datagrams[i]);
+    }
+}
+
+// The object, or the first block that isn't of one, where no block is short.
+fn decode_all(
+    alloc: Global,
+    received: &Received<'_>,
+    codes: &BlockCodes,
+) -> Result<Answer, AllocError>
+    requires codes { EachBlockHas (IsCodeOf received.now.fti) received.now.fti codes.now }
+    requires within { AreWithin received.now.fti (stored received.now.symbols) }
+    requires enough { (b : ℕ) → b < block_count received.now.fti
+        → IsEnoughAt received.now.fti b (stored received.now.symbols b) }
+    ensures { IfOk result (λ a.
+        Answers received.now.fti (stored received.now.symbols) (answer_value a)) }
+{
+    let fti = &received.fti;
+    let mut object = Vec::with_capacity(alloc, fti.transfer_length() as usize)?;
+    for b in 0..fti.block_count() {
+        let Some(rows) = block_rows(alloc, received, codes, b)? else {
+            return Ok(Answer::Fault(DecodeFault::NotCode(b)));
+        };
+        let left = fti.transfer_length() as usize - object.len();
+        object.extend_from_slice(&rows.bytes[..left.min(rows.bytes.len())])?;
+    }
+    Ok(Answer::Object(object))
+}
+
+// What the symbols give.
+fn answer(alloc: Global, received: &Received<'_>) -> Result<Answer, AllocError>
+    requires { Stand received.now.fti (stored received.now.symbols) }
+    ensures { IfOk result (λ a.
+        Answers received.now.fti (stored received.now.symbols) (answer_value a)) }
+{
+    received.fti.is_valid();
+    let codes = BlockCodes::new(alloc, Kind::Generator, &received.fti)?;
+    let Some(short) = first_short(&received.symbols, &received.fti) else {
+        return decode_all(alloc, received, &codes);
+    };
+    match first_unsolvable(alloc, received, &codes)? {
+        Some(b) => Ok(Answer::Fault(DecodeFault::NotCode(b))),
+        None => Ok(Answer::Missing {
+            block: short.block,
+            have: short.have,
+            need: short.need,
+        }),
+    }
+}
+
+/// What the datagrams say of the object that was sent (RFC 5510, section 8): the object, or why they give none. The
+/// first packet's identity and FTI hold. No datagram and no sender is trusted: the answer is exact for every list of
+/// datagrams. Memory for the object is asked for only where no block is short, and for a block only where it has enough
+/// symbols.
+pub fn decode(alloc: Global, datagrams: &[&[u8]]) -> Result<Answer, AllocError>
+    ensures { IfOk result (λ a. IsAnswer (map (λ d. d.now) datagrams.now) (answer_value a)) }
+{
+    all_are_bytes(datagrams);
+    match receive(alloc, datagrams) {
+        Ok(Some(received)) => answer(alloc, &received),
+        Ok(None) => Ok(Answer::Empty),
+        Err(Refusal::Fault(fault)) => Ok(Answer::Fault(fault)),
+        Err(Refusal::NoMemory) => Err(AllocError),
+    }
+}

@@ -1,0 +1,93 @@
+//! The encoding symbols that came, by block and ESI.
+ghost use Rattle.std.specs.Prelude.{◌≡◌, ◌==◌, ◌&&◌, ℕ, List, Some, false, map, IsNone, IfSome, IfOk, IfErr, OnOk};
+ghost use Rattle.alc.specs.Views.{packet_of};
+ghost use Rattle.reception.specs.Symbols.{Symbol};
+ghost use Rattle.reception.specs.Reception.{Faulty, symbol_of};
+ghost use Rattle.reception.specs.Answer.{Fault, clashes};
+ghost use Rattle.decoder.specs.Answers.{fault_value, IsRefusal};
+ghost use Rattle.decoder.specs.Received.{stored, IsIndex, AreReceived, IsNothing};
+
+use crate::answer::DecodeFault;
+use alc::Packet;
+use partition::Fti;
+use reception::{PlaceFault, Scope};
+use std::alloc::{AllocError, Global};
+use std::collections::BTreeMap;
+
+/// Why datagrams weren't received.
+#[derive(Clone, Copy)]
+pub(crate) enum Refusal {
+    Fault(DecodeFault),
+    NoMemory,
+}
+
+/// The symbols of a session: at a source block number and an ESI the bytes of the symbol, in its datagram.
+pub(crate) type Symbols<'a> = BTreeMap<(u32, u8), &'a [u8]>;
+
+/// What came of an object.
+#[derive(Drop)]
+pub(crate) struct Received<'a> {
+    pub(crate) fti: Fti,
+    pub(crate) symbols: Symbols<'a>,
+}
+
+// Whether an earlier symbol of the packet's block and ESI has other bytes.
+fn is_clash(symbols: &Symbols<'_>, packet: &Packet<'_>) -> bool
+    ensures { (earlier : List Symbol) → IsIndex earlier (stored symbols.now) → result ≡ clashes earlier (symbol_of (packet_of packet.now)) }
+{
+    match symbols.get(&(packet.sbn, packet.esi)) {
+        Some(bytes) => *bytes != packet.symbol,
+        None => false,
+    }
+}
+
+// The fault of the datagram at a place.
+fn fault_at(place: usize, fault: PlaceFault) -> DecodeFault
+    ensures { fault_value result ≡ Fault place (Faulty fault) }
+{
+    match fault {
+        PlaceFault::NoPacket(fault) => DecodeFault::Packet(place, fault),
+        PlaceFault::OtherIdentity => DecodeFault::OtherIdentity(place),
+        PlaceFault::OtherFti => DecodeFault::OtherFti(place),
+        PlaceFault::Range => DecodeFault::Range(place),
+    }
+}
+
+// Puts the packet's symbol at its block and ESI.
+fn keep<'a>(symbols: &mut Symbols<'a>, packet: &Packet<'a>) -> Result<(), AllocError>
+    ensures here { OnOk result (stored symbols.new packet.now.sbn packet.now.esi ≡ Some packet.now.symbol.now) }
+    ensures elsewhere { OnOk result ((b j : ℕ) → (packet.now.sbn == b && packet.now.esi == j) ≡ false → stored symbols.new b j ≡ stored symbols.old b j) }
+{
+    symbols.insert((packet.sbn, packet.esi), packet.symbol)?;
+    Ok(())
+}
+
+/// The symbols of the datagrams, if some came, or the first fault at the least place that has one.
+pub(crate) fn receive<'a>(
+    alloc: Global,
+    datagrams: &[&'a [u8]],
+) -> Result<Option<Received<'a>>, Refusal>
+    ensures received { IfOk result (λ o. IfSome o (λ r. AreReceived (map (λ d. d.now) datagrams.now) r.fti (stored r.symbols))) }
+    ensures nothing { IfOk result (λ o. IsNone o → IsNothing (map (λ d. d.now) datagrams.now)) }
+    ensures refusal { IfErr result (IsRefusal (map (λ d. d.now) datagrams.now)) }
+{
+    let mut scope = Scope::unknown();
+    let mut symbols = BTreeMap::new(alloc);
+    for place in 0..datagrams.len() {
+        let packet = match scope.look(datagrams[place]) {
+            Ok(Some(packet)) => packet,
+            Ok(None) => continue,
+            Err(fault) => return Err(Refusal::Fault(fault_at(place, fault))),
+        };
+        if is_clash(&symbols, &packet) {
+            return Err(Refusal::Fault(DecodeFault::Clash(place)));
+        }
+        let Ok(()) = keep(&mut symbols, &packet) else {
+            return Err(Refusal::NoMemory);
+        };
+    }
+    match scope.fti {
+        Some(fti) => Ok(Some(Received { fti, symbols })),
+        None => Ok(None),
+    }
+}

@@ -1,0 +1,41 @@
+//! What a check's yes and decoding give together.
+ghost use Rattle.std.specs.Prelude.{◌≡◌, ℕ, List, None, length, IfOk, IfErr, OnOk};
+ghost use Rattle.partition.specs.Fti.{Fti};
+ghost use Rattle.lists.specs.Selection.{chosen, first_outside};
+ghost use Rattle.session.specs.Frames.{IsPlaceFault};
+ghost use Rattle.reception.specs.Answer.{Answer as AnswerValue, IsAnswer};
+ghost use Rattle.reception.specs.Headline.{DecodesWhereEnough, UndecidedElse};
+ghost use Rattle.decoder.specs.Answers.{answer_value};
+ghost use Rattle.decoder.specs.Promised.{IsPromised};
+
+use crate::answer::Answer;
+use crate::decoding::decode;
+use session::{FrameFault, Session};
+use std::alloc::Global;
+
+/// No list of datagrams has two answers: whoever meets the definition of an answer gives what `decode` gives.
+pub fn one_answer()
+    ensures { (datagrams : List (List ℕ)) (a b : AnswerValue) → IsAnswer datagrams a → IsAnswer datagrams b → a ≡ b }
+{}
+
+/// What `decode` answers to a selection of a session's datagrams, in any order and with repeats.
+pub fn decode_selection(
+    alloc: Global,
+    session: &Session,
+    places: &[usize],
+) -> Result<Answer, FrameFault>
+    ensures answer { IfOk result (λ a. IsAnswer (chosen session.now places.now) (answer_value a)) }
+    // Where `check` said yes to the session, this object and a certificate with this FTI.
+    ensures promised { IfOk result (λ a. (f : Fti) (object : List ℕ) → DecodesWhereEnough f session.now object → UndecidedElse f session.now object → IsPromised f (chosen session.now places.now) object (answer_value a)) }
+    ensures inside { OnOk result (first_outside (length session.now) places.now ≡ None) }
+    ensures fault { IfErr result (λ e. IsPlaceFault e (first_outside (length session.now) places.now)) }
+{
+    let chosen = session.keep(alloc, places)?;
+    let Ok(datagrams) = chosen.views(alloc) else {
+        return Err(FrameFault::NoMemory);
+    };
+    match decode(alloc, &datagrams) {
+        Ok(answer) => Ok(answer),
+        Err(_) => Err(FrameFault::NoMemory),
+    }
+}

@@ -1,0 +1,73 @@
+//! Blocks whose symbols are those of no object.
+ghost use Rattle.std.specs.Prelude.{◌≡◌, ◌<◌, ℕ, List, true, length, is_some, slice_index, IfOk, IfSome, IsNone, IsTrue, ◌↔◌};
+ghost use Rattle.std.specs.List.{AllByRecursion};
+ghost use Rattle.block_code.specs.Codes.{EachBlockHas, IsCodeOf};
+ghost use Rattle.reception.specs.Symbols.{Symbol, FullSolvable, IsFirstUnsolvable, IsWithin};
+ghost use Rattle.decoder.specs.Decoded.{AreWithin};
+ghost use Rattle.decoder.specs.Received.{stored, IsIndex};
+
+use crate::blocks::block_rows;
+use crate::counting::have;
+use crate::received::{Received, Symbols};
+use block_code::BlockCodes;
+use std::alloc::{AllocError, Global};
+
+// The source blocks of which something came.
+fn blocks_of(alloc: Global, symbols: &Symbols<'_>) -> Result<Vec<u32>, AllocError>
+    ensures all { IfOk result (λ v. (b j : ℕ) → is_some (stored symbols.now b j) ≡ true
+        → (i : ℕ) × (i < length v.items) × (slice_index v.items i ≡ b)) }
+    ensures some { IfOk result (λ v. (i : ℕ) → i < length v.items
+        → (j : ℕ) × (is_some (stored symbols.now (slice_index v.items i) j) ≡ true)) }
+{
+    let mut blocks = Vec::new(alloc);
+    for key in symbols.keys() {
+        if blocks.last() != Some(&key.0) {
+            blocks.push(key.0)?;
+        }
+    }
+    Ok(blocks)
+}
+
+// Whether a block is below the least so far, if there is one.
+fn is_before(b: u32, least: Option<u32>) -> bool
+    ensures { IsTrue result ↔ IfSome least (λ a. b < a) }
+{
+    match least {
+        Some(a) => b < a,
+        None => true,
+    }
+}
+
+/// The least block that has enough symbols and whose symbols are those of no object.
+pub(crate) fn first_unsolvable(
+    alloc: Global,
+    received: &Received<'_>,
+    codes: &BlockCodes,
+) -> Result<Option<u32>, AllocError>
+    requires codes { EachBlockHas (IsCodeOf received.now.fti) received.now.fti codes.now }
+    requires within { AreWithin received.now.fti (stored received.now.symbols) }
+    ensures none { IfOk result (λ o. IsNone o → (came : List Symbol)
+        → IsIndex came (stored received.now.symbols)
+        → AllByRecursion (IsWithin received.now.fti) came → FullSolvable received.now.fti came) }
+    ensures some { IfOk result (λ o. IfSome o (λ b. (came : List Symbol)
+        → IsIndex came (stored received.now.symbols)
+        → AllByRecursion (IsWithin received.now.fti) came
+        → IsFirstUnsolvable received.now.fti came b)) }
+{
+    let fti = &received.fti;
+    fti.is_valid();
+    let blocks = blocks_of(alloc, &received.symbols)?;
+    let mut least = None;
+    for b in &blocks {
+        if !is_before(*b, least) {
+            continue;
+        }
+        if have(&received.symbols, *b, fti.n(*b)) < fti.k(*b) {
+            continue;
+        }
+        if block_rows(alloc, received, codes, *b)?.is_none() {
+            least = Some(*b);
+        }
+    }
+    Ok(least)
+}
