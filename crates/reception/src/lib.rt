@@ -9,5 +9,5 @@
 mod laws;
 mod scope;
 
-pub use laws::first_fault;
+pub use laws::{fault_order, first_fault};
 pub use scope::{Identity, PlaceFault, Scope};
