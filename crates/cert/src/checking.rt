@@ -7,15 +7,15 @@ ghost use Rattle.cert.specs.Certificate.{Certificate as CertificateValue, IsCert
 ghost use Rattle.reception.specs.Headline.{DecodesWhereEnough, UndecidedElse};
 ghost use Rattle.cert.specs.Report.{IsReport, OnYes};
 ghost use Rattle.losses.specs.Groups.{groups_of};
-ghost use Rattle.cert.specs.Scan.{line_in, AreEnough, IsThin, AreEnoughCertified, IsRefusal};
+ghost use Rattle.cert.specs.Scan.{line_in, AreEnough, IsThin, AreEnoughCertified, IsNoReport};
 ghost use Rattle.cert.specs.Verdict.{GivesObject, uncertified, IsVerdict, AreOneVerdict};
 ghost use Rattle.reception.specs.Reception.{with_fti};
 ghost use Rattle.reception.specs.First.{TellsTheFirst};
 
 use crate::certificate::Certificate;
 use crate::certified_symbols::CertifiedSymbols;
-use crate::datagrams::{Refusal, groups_of_session};
-use crate::source::not_given;
+use crate::datagrams::{NoReport, groups_of_session};
+use crate::source::first_not_given;
 use crate::verdict::{Reason, Report, Verdict};
 use lists::are_bytes;
 use losses::{Figures, Group, figures_of};
@@ -23,12 +23,12 @@ use session::Session;
 use std::alloc::{AllocError, Global};
 
 // For each block its source symbols and its different ESIs, or the reason of the least block that has too few.
-fn blocks_of(alloc: Global, groups: &[Group]) -> Result<Vec<(usize, usize)>, Refusal>
+fn blocks_of(alloc: Global, groups: &[Group]) -> Result<Vec<(usize, usize)>, NoReport>
     requires { length groups.now ≤ 2 ^ 24 }
     ensures lines { IfOk result (λ v.
         v.items ≡ map (line_in (groups_of groups.now)) (below (length groups.now))) }
     ensures enough { OnOk result (AreEnough (groups_of groups.now)) }
-    ensures refusal { IfErr result (IsThin (groups_of groups.now)) }
+    ensures no_report { IfErr result (IsThin (groups_of groups.now)) }
 {
     let mut blocks = Vec::new(alloc);
     for block in 0..groups.len() {
@@ -36,40 +36,38 @@ fn blocks_of(alloc: Global, groups: &[Group]) -> Result<Vec<(usize, usize)>, Ref
         let have = groups[block].different();
         if have < need {
             let block = block as u32;
-            return Err(Refusal::Reason(Reason::Thin { block, have, need }));
+            return Err(NoReport::Reason(Reason::Thin { block, have, need }));
         }
         let Ok(()) = blocks.push((need, have)) else {
-            return Err(Refusal::NoMemory);
+            return Err(NoReport::NoMemory);
         };
     }
     Ok(blocks)
 }
 
-// The report, or the first reason for which the datagrams don't suffice. `row` is room for one symbol.
+// The report, or the first reason for which the datagrams don't suffice.
 fn report_of(
     alloc: Global,
     session: &Session,
-    symbols: &CertifiedSymbols<'_>,
+    symbols: &mut CertifiedSymbols<'_>,
     object: &[u8],
-    row: &mut [u8],
-) -> Result<Report, Refusal>
-    requires gives { GivesObject object.now symbols.now.certificate.now }
+) -> Result<Report, NoReport>
+    requires gives { GivesObject object.now symbols.old }
     requires datagrams { AreDatagrams session.now }
-    requires room { length row.old ≡ symbols.now.certificate.now.fti.symbol_length }
-    ensures report { IfOk result (IsReport session.now symbols.now.certificate.now.fti) }
-    ensures certified { OnOk result (AreEnoughCertified session.now symbols.now.certificate.now) }
-    ensures refusal { IfErr result (IsRefusal session.now symbols.now.certificate.now) }
+    ensures report { IfOk result (IsReport session.now symbols.old.fti) }
+    ensures certified { OnOk result (AreEnoughCertified session.now symbols.old) }
+    ensures no_report { IfErr result (IsNoReport session.now symbols.old) }
 {
-    let groups = match groups_of_session(alloc, session, symbols, object, row) {
+    let groups = match groups_of_session(alloc, session, symbols, object) {
         Ok(groups) => groups,
-        Err(refusal) => return Err(refusal),
+        Err(no_report) => return Err(no_report),
     };
     let blocks = match blocks_of(alloc, &groups) {
         Ok(blocks) => blocks,
-        Err(refusal) => return Err(refusal),
+        Err(no_report) => return Err(no_report),
     };
     let Ok(figures) = figures_of(alloc, &groups) else {
-        return Err(Refusal::NoMemory);
+        return Err(NoReport::NoMemory);
     };
     let Figures {
         margin,
@@ -100,16 +98,15 @@ fn judge(
     if object.len() as u64 != certificate.fti().transfer_length() {
         return Ok(Verdict::No(Reason::ObjectLength));
     }
-    let symbols = CertifiedSymbols::new(alloc, certificate)?;
-    let mut row = Vec::from_elem(alloc, 0u8, usize::from(certificate.fti().symbol_length()))?;
-    match not_given(object, &symbols, &mut row) {
+    let mut symbols = CertifiedSymbols::new(alloc, certificate)?;
+    match first_not_given(object, &mut symbols) {
         Some(reason) => return Ok(Verdict::No(reason)),
         None => {}
     }
-    match report_of(alloc, session, &symbols, object, &mut row) {
+    match report_of(alloc, session, &mut symbols, object) {
         Ok(report) => Ok(Verdict::Yes(report)),
-        Err(Refusal::Reason(reason)) => Ok(Verdict::No(reason)),
-        Err(Refusal::NoMemory) => Err(AllocError),
+        Err(NoReport::Reason(reason)) => Ok(Verdict::No(reason)),
+        Err(NoReport::NoMemory) => Err(AllocError),
     }
 }
 

@@ -5,6 +5,7 @@ mod certificate;
 mod certified_symbols;
 mod checking;
 mod datagrams;
+mod differing;
 mod source;
 mod twins;
 mod verdict;

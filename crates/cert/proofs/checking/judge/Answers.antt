@@ -2,18 +2,18 @@ use Rattle.std.proofs.Common.{◌∙◌, sym, ap, refl, subst}
 use Rattle.partition.specs.Fti.{Fti}
 use Rattle.cert.specs.Certificate.{Certificate}
 use Rattle.reception.specs.Step.{readings_of}
-use Rattle.cert.specs.Scan.{IsRefusal}
-use Rattle.cert.specs.declared.datagrams.Refusal.TheVariants.{Reason as ByReason}
+use Rattle.cert.specs.Scan.{IsNoReport}
+use Rattle.cert.specs.declared.datagrams.NoReport.TheVariants.{Reason as ByReason}
 use Rattle.cert.proofs.Judging.{read_all, no_object, refused, yes_all}
 use Rattle.cert.proofs.checking.judge.Goals as goal
 
-pub returns-then-object-length-clause-verdict : goal.returns-then-object-length-clause-verdict
-returns-then-object-length-clause-verdict c =
+pub returns-then-object-transfer_length-clause-verdict : goal.returns-then-object-transfer_length-clause-verdict
+returns-then-object-transfer_length-clause-verdict c =
     let told = c.transfer_length.ensures.value ∙ ap (λ (f : Fti). f.transfer_length) c.fti.ensures.value in
     record {
       readings = readings_of c.args.session.now;
       read = read_all c.args.session.now c.len.ensures.datagrams;
-      judged = λ e. c.if-object-length.true (e ∙ sym told);
+      judged = λ e. c.if-object-transfer_length.true (e ∙ sym told);
     }
 
 pub returns-in-Some-clause-verdict : goal.returns-in-Some-clause-verdict
@@ -22,7 +22,7 @@ returns-in-Some-clause-verdict c =
     record {
       readings = readings_of c.args.session.now;
       read = read_all c.args.session.now c.len.ensures.datagrams;
-      judged = no_object (readings_of c.args.session.now) c.args.object.now c.args.certificate.now c.in-Some.reason (c.if-object-length.false ∙ told)
+      judged = no_object (readings_of c.args.session.now) c.args.object.now c.args.certificate.now c.in-Some.reason (c.if-object-transfer_length.false ∙ told)
           (rw c.in_ok-symbols.ensures at c.in-Some.ensures.some);
     }
 
@@ -33,8 +33,8 @@ returns-in-Ok-clause-verdict c =
       readings = readings_of c.args.session.now;
       read = read_all c.args.session.now c.len.ensures.datagrams;
       judged = yes_all c.args.session.now c.args.object.now c.args.certificate.now c.in-Ok.report
-          (record { count = c.if-object-length.false ∙ told; bytes = c.are_bytes.ensures }) (rw c.in_ok-symbols.ensures at (c.in-None.ensures.none refl))
-          (rw c.in_ok-symbols.ensures at c.in-Ok.ensures.certified);
+          (record { count = c.if-object-transfer_length.false ∙ told; bytes = c.are_bytes.ensures }) (rw c.in_ok-symbols.ensures at (c.in-None.ensures.none refl))
+          (rw (c.first_not_given.ensures.certificate, c.in_ok-symbols.ensures) at c.in-Ok.ensures.certified);
     }
 
 pub returns-in-Err-Reason-clause-verdict : goal.returns-in-Err-Reason-clause-verdict
@@ -44,7 +44,7 @@ returns-in-Err-Reason-clause-verdict c =
       readings = readings_of c.args.session.now;
       read = read_all c.args.session.now c.len.ensures.datagrams;
       judged = refused (readings_of c.args.session.now) c.args.object.now c.args.certificate.now c.in-Err-Reason.reason
-          (record { count = c.if-object-length.false ∙ told; bytes = c.are_bytes.ensures }) (rw c.in_ok-symbols.ensures at (c.in-None.ensures.none refl))
-          (subst (λ (z : Certificate). IsRefusal c.args.session.now z (ByReason c.in-Err-Reason.reason)) c.in_ok-symbols.ensures
-          (rw c.in-Err-Reason.field-0-is at c.in-Err-Reason.ensures.refusal));
+          (record { count = c.if-object-transfer_length.false ∙ told; bytes = c.are_bytes.ensures }) (rw c.in_ok-symbols.ensures at (c.in-None.ensures.none refl))
+          (subst (λ (z : Certificate). IsNoReport c.args.session.now z (ByReason c.in-Err-Reason.reason)) (c.first_not_given.ensures.certificate ∙ c.in_ok-symbols.ensures)
+          (rw c.in-Err-Reason.field-0-is at c.in-Err-Reason.ensures.no_report));
     }

@@ -2,7 +2,7 @@ use Rattle.std.proofs.Common.{◌≡◌, ◌<◌, ℕ, length, take, slice_index
 use Rattle.poly.specs.Polynomial.{value}
 use Rattle.cert.specs.Certificate.{polynomial}
 use Rattle.cert.proofs.RowValues.{power}
-use Rattle.cert.proofs.certified_symbols.CertifiedSymbols.put.Given as goal
+use Rattle.cert.proofs.certified_symbols.CoefficientRows.put.Given as goal
 
 abbrev pub invariant-loop-i : goal.invariant-loop-i
 invariant-loop-i l = record {

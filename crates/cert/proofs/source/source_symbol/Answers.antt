@@ -1,6 +1,6 @@
 use Rattle.std.proofs.Common.{arith}
 use Rattle.partition.proofs.Laws.{symbol_end, padded_below, start_fits, counts}
-use Rattle.cert.proofs.source.is_source_symbol.Goals as goal
+use Rattle.cert.proofs.source.source_symbol.Goals as goal
 
 pub overflow_add-from : goal.overflow_add-from
 overflow_add-from c =

@@ -6,7 +6,7 @@ use Rattle.cert.specs.Certificate.{polynomial}
 use Rattle.cert.proofs.Polynomials.{length_polynomial}
 use Rattle.cert.proofs.RowValues.{power_grows}
 use Rattle.cert.proofs.CoefficientRows.{row_summed}
-use Rattle.cert.proofs.certified_symbols.CertifiedSymbols.put.Goals as goal
+use Rattle.cert.proofs.certified_symbols.CoefficientRows.put.Goals as goal
 
 pub loop-i-init : goal.loop-i-init
 unfolding value_over power_over
