@@ -9,6 +9,10 @@ abbrev pub HasRow : Certificate → List ℕ → ℕ → ℕ → Type 0
 HasRow z rows b i =
     (c : ℕ) → c < z.fti.symbol_length → slice_index rows (source_place z.fti b i c) ≡ slice_index (polynomial z b c) i
 
+-- a row with coefficient i of the polynomial of each column of block b
+abbrev pub IsCoefficientRow : Certificate → ℕ → ℕ → List ℕ → Type 0
+IsCoefficientRow z b i row = (c : ℕ) → c < z.fti.symbol_length → slice_index row c ≡ slice_index (polynomial z b c) i
+
 -- the coefficients of all blocks
 pub record AreRowsOf (z : Certificate) (bytes : List ℕ) : Type 0 where
   pub count : length bytes ≡ coefficient_count z.fti

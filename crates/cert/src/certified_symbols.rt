@@ -4,6 +4,7 @@ ghost use Rattle.partition.specs.Fti.{block_count, source_count, start_of};
 ghost use Rattle.cert.specs.Certificate.{IsCertificate, coefficient_count};
 ghost use Rattle.cert.specs.CoefficientRows.{HasRow, AreRowsOf, IsCertifiedSymbol};
 ghost use Rattle.cert.specs.Columns.{IsFirstWrong};
+ghost use Rattle.cert.specs.Differences.{AreSameBelow};
 
 use crate::certificate::Certificate;
 use crate::differing::first_difference;
@@ -17,8 +18,11 @@ fn put_block(rows: &mut [u8], certificate: &Certificate, block: u32)
     requires block { block < block_count certificate.now.fti }
     requires room { length rows.old ≡ coefficient_count certificate.now.fti }
     ensures len { length rows.new ≡ length rows.old }
-    ensures here { (i : ℕ) → i < source_count certificate.now.fti block → HasRow certificate.now rows.new block i }
-    ensures before { (p : ℕ) → p < start_of certificate.now.fti block * certificate.now.fti.symbol_length → slice_index rows.new p ≡ slice_index rows.old p }
+    ensures here { (i : ℕ)
+        → i < source_count certificate.now.fti block
+        → HasRow certificate.now rows.new block i }
+    ensures before { AreSameBelow (start_of certificate.now.fti block * certificate.now.fti.symbol_length)
+        rows.new rows.old }
 {
     let fti = certificate.fti();
     let start = fti.start(block) as usize;
@@ -123,6 +127,7 @@ impl<'a> CertifiedSymbols<'a> {
         Ok(CertifiedSymbols { rows, symbol })
     }
 
+    /// The certificate's FTI.
     pub(crate) fn fti(&self) -> Fti
         ensures value { result ≡ self.now.fti }
         ensures certificate { IsCertificate self.now }

@@ -1,16 +1,13 @@
 //! The check.
-ghost use Rattle.std.specs.Prelude.{◌≡◌, ◌≤◌, ◌^◌, ℕ, List, length, map, IfOk, IfErr, OnOk};
+ghost use Rattle.std.specs.Prelude.{◌≡◌, ◌≤◌, ◌^◌, length, map, IfOk, IfErr, OnOk};
 ghost use Rattle.session.specs.Frames.{AreDatagrams};
 ghost use Rattle.lists.specs.Below.{below};
-ghost use Rattle.cert.specs.declared.verdict.Verdict.{Verdict as VerdictValue};
-ghost use Rattle.cert.specs.Certificate.{Certificate as CertificateValue, IsCertificate};
+ghost use Rattle.cert.specs.Certificate.{IsCertificate};
 ghost use Rattle.reception.specs.Headline.{DecodesWhereEnough, UndecidedElse};
 ghost use Rattle.cert.specs.Report.{IsReport, OnYes};
 ghost use Rattle.losses.specs.Groups.{groups_of};
 ghost use Rattle.cert.specs.Scan.{line_in, AreEnough, IsThin, AreEnoughCertified, IsNoReport};
-ghost use Rattle.cert.specs.Verdict.{GivesObject, uncertified, IsVerdict, AreOneVerdict};
-ghost use Rattle.reception.specs.Reception.{with_fti};
-ghost use Rattle.reception.specs.First.{TellsTheFirst};
+ghost use Rattle.cert.specs.Verdict.{GivesObject, IsVerdict};
 
 use crate::certificate::Certificate;
 use crate::certified_symbols::CertifiedSymbols;
@@ -111,7 +108,8 @@ fn judge(
 }
 
 /// Whether the certificate is one of the session and the object, and at yes what the session can lose. Neither the
-/// session's sender nor the certificate's maker is trusted.
+/// session's sender nor the certificate's maker is trusted, so any session, object and certificate will do. `No` has the
+/// first reason, in the order of [`Reason`]. Want of memory is the only error, and says nothing of the three.
 pub fn check(
     alloc: Global,
     session: &Session,
@@ -121,24 +119,13 @@ pub fn check(
     // The verdict: yes exactly where the certificate is one, and else the first reason.
     ensures verdict { IfOk result (IsVerdict session.now object.now certificate.now) }
     // At yes, each selection of the datagrams that leaves no block short decodes to the object.
-    ensures decodes { IfOk result (λ v. OnYes v (λ _. DecodesWhereEnough certificate.now.fti session.now object.now)) }
+    ensures decodes { IfOk result (λ v.
+        OnYes v (λ _. DecodesWhereEnough certificate.now.fti session.now object.now)) }
     // At yes, each other selection leaves another object that agrees with all of it, and a decoder says what lacks.
-    ensures undecided { IfOk result (λ v. OnYes v (λ _. UndecidedElse certificate.now.fti session.now object.now)) }
+    ensures undecided { IfOk result (λ v.
+        OnYes v (λ _. UndecidedElse certificate.now.fti session.now object.now)) }
     // At yes, what each block needs and has, and of all losses of datagrams the margin, the kill and the burst.
     ensures report { IfOk result (λ v. OnYes v (IsReport session.now certificate.now.fti)) }
 {
     judge(alloc, session, object, certificate)
 }
-
-/// A session, an object and a certificate have one verdict: two that meet its definition are both yes, or both no for one
-/// reason. So `check` says yes exactly where the certificate is one.
-pub fn one_verdict()
-    ensures { (datagrams : List (List ℕ)) (object : List ℕ) (z : CertificateValue) (a b : VerdictValue)
-        → IsVerdict datagrams object z a → IsVerdict datagrams object z b → AreOneVerdict a b }
-{}
-
-/// The reason of a check at a place is the one at the least place that has one, and there the first in the order of the
-/// definition.
-pub fn first_reason()
-    ensures { (z : CertificateValue) → TellsTheFirst (uncertified z) (with_fti z.fti) }
-{}

@@ -74,7 +74,9 @@ fn empty_groups(alloc: Global, fti: &Fti) -> Result<Vec<Group>, AllocError>
 // Puts the symbol of the packet at a place into its block's group.
 fn put(groups: &mut [Group], place: usize, packet: &Packet<'_>) -> Result<(), AllocError>
     requires { packet.now.sbn < length groups.old }
-    ensures { OnOk result (IsPut (groups_of groups.old) place (symbol_of (packet_of packet.now)) (groups_of groups.new)) }
+    ensures { OnOk result
+        (IsPut (groups_of groups.old) place (symbol_of (packet_of packet.now))
+        (groups_of groups.new)) }
 {
     let esi = packet.esi;
     groups[packet.sbn as usize]

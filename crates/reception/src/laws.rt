@@ -1,4 +1,4 @@
-//! Laws of the definitions, for callers to cite.
+//! Laws of the definitions, for callers to cite. They do nothing.
 ghost use Rattle.reception.specs.Reception.{unknown};
 ghost use Rattle.reception.specs.Answer.{clash};
 ghost use Rattle.reception.specs.First.{TellsTheFirst};
