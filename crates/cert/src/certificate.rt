@@ -196,9 +196,10 @@ impl Certificate {
         gather(self.coefficients.as_slice(), from, count, row);
     }
 
-    /// The certificate in all bytes up to the reader's end, where the reader then is. Memory grows with the bytes that come,
-    /// never with what the first ones claim. `Magic`, `Fti` and `Size` tell why the bytes are none, `Io` that the reader has
-    /// failed, which a sound one never does, `NoMemory` that memory lacks. After a fault it isn't told how much was consumed.
+    /// The certificate in all bytes up to the reader's end, where the reader then is. Memory grows with the bytes that
+    /// come, never with what the first ones claim. `Magic`, `Fti` and `Size` tell why the bytes are none, `Io` that the
+    /// reader has failed, which a sound one never does, `NoMemory` that memory lacks. After a fault it isn't told how much
+    /// was consumed.
     pub fn read<R: Read>(alloc: Global, reader: &mut R) -> Result<Certificate, CertFault>
         // All that was left is the certificate's text.
         ensures ok { IfOk result (λ z.

@@ -20,7 +20,7 @@ use session::Session;
 use std::alloc::{AllocError, Global};
 
 // For each block its source symbols and its different ESIs, or the reason of the least block that has too few.
-fn blocks_of(alloc: Global, groups: &[Group]) -> Result<Vec<(usize, usize)>, NoReport>
+fn block_lines(alloc: Global, groups: &[Group]) -> Result<Vec<(usize, usize)>, NoReport>
     requires { length groups.now ≤ 2 ^ 24 }
     ensures lines { IfOk result (λ v.
         v.items ≡ map (line_in (groups_of groups.now)) (below (length groups.now))) }
@@ -59,7 +59,7 @@ fn report_of(
         Ok(groups) => groups,
         Err(no_report) => return Err(no_report),
     };
-    let blocks = match blocks_of(alloc, &groups) {
+    let blocks = match block_lines(alloc, &groups) {
         Ok(blocks) => blocks,
         Err(no_report) => return Err(no_report),
     };
@@ -80,7 +80,7 @@ fn report_of(
 }
 
 // The verdict, without what a yes promises.
-fn judge(
+fn verdict_of(
     alloc: Global,
     session: &Session,
     object: &[u8],
@@ -127,5 +127,5 @@ pub fn check(
     // At yes, what each block needs and has, and of all losses of datagrams the margin, the kill and the burst.
     ensures report { IfOk result (λ v. OnYes v (IsReport session.now certificate.now.fti)) }
 {
-    judge(alloc, session, object, certificate)
+    verdict_of(alloc, session, object, certificate)
 }

@@ -17,8 +17,8 @@ pub struct Report {
 
 /// Why a certificate isn't one of a session and an object. Places, blocks, columns and symbols count from 0.
 ///
-/// The first of these is told: `ObjectLength`, `NotObject`, the reason at the least place (`Packet` to `Symbol`, at one place
-/// in this order), `Empty`, `Thin`.
+/// The first of these is told: `ObjectLength`, `NotObject`, the reason at the least place (`Packet` to `Symbol`, at one
+/// place in this order), `Empty`, `Thin`.
 #[derive(Clone, Copy, Debug, PartialEq, Eq)]
 pub enum Reason {
     /// N1: the object hasn't the certificate's length.

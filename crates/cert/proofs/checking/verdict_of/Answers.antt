@@ -5,7 +5,7 @@ use Rattle.reception.specs.Step.{readings_of}
 use Rattle.cert.specs.Scan.{IsNoReport}
 use Rattle.cert.specs.declared.datagrams.NoReport.TheVariants.{Reason as ByReason}
 use Rattle.cert.proofs.Judging.{read_all, no_object, refused, yes_all}
-use Rattle.cert.proofs.checking.judge.Goals as goal
+use Rattle.cert.proofs.checking.verdict_of.Goals as goal
 
 pub returns-then-object-transfer_length-clause-verdict : goal.returns-then-object-transfer_length-clause-verdict
 returns-then-object-transfer_length-clause-verdict c =
