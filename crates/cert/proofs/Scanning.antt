@@ -1,12 +1,9 @@
 -- A scan over the datagrams, one by one.
-use Rattle.std.proofs.Common.{◌≡◌, ℕ, zero, suc, ◌+◌, ◌-◌, ◌<◌, ◌≤◌, true, List, Some, None, take, refl, sym, ap, ◌∙◌, arith, ltb-true}
-use Rattle.std.specs.Prelude.{slice_index}
-use Rattle.std.proofs.lemmas.Bool.{eq-eqb}
+use Rattle.std.proofs.Common.{◌≡◌, ℕ, ◌<◌, true, List, Some, None, take, sym, ap, ◌∙◌, arith, ltb-true}
 use Rattle.lists.proofs.Lists.{both}
 use Rattle.partition.specs.Fti.{Fti, IsValidFti, block_count, encoding_count}
 use Rattle.partition.proofs.Laws.{counts}
 use Rattle.alc.specs.Packet.{Packet}
-use Rattle.reception.specs.Symbols.{Symbol}
 use Rattle.reception.specs.Reception.{in_range, with_fti, counted}
 use Rattle.reception.specs.Step.{readings_of}
 use Rattle.reception.proofs.Stepping.{fti_stays}

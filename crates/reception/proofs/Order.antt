@@ -1,18 +1,16 @@
 -- What is told of a reading is the first that is wrong with it.
-use Rattle.std.specs.Prelude.{◌≡◌, ◌≢◌, ◌==◌, not, Bool, true, false, if◌then◌else◌, ℕ, ◌<◌, List, Option, Some, None, Ok, Err, refl}
+use Rattle.std.specs.Prelude.{◌≡◌, ◌==◌, not, Bool, true, false, if◌then◌else◌, ◌<◌, List, Option, Some, None, Ok, Err, refl}
 use Rattle.std.proofs.Common.{◌∙◌, sym, ap, subst, arith, ltb-true, lt-ltb}
 use Rattle.std.proofs.lemmas.Bool.{eqb-true, eq-eqb}
 use Rattle.lists.proofs.Lists.{both}
-use Rattle.partition.specs.Fti.{Fti, block_count, encoding_count}
+use Rattle.partition.specs.Fti.{Fti}
 use Rattle.alc.specs.Packet.{Packet}
-use Rattle.alc.specs.Reading.{Reading}
 use Rattle.reception.specs.declared.scope.Identity.{Identity}
 use Rattle.reception.specs.declared.scope.Scope.{Scope}
-use Rattle.reception.specs.declared.scope.PlaceFault.{PlaceFault}
 use Rattle.reception.specs.declared.scope.PlaceFault.TheVariants.{NoPacket, OtherIdentity, OtherFti, Range}
 use Rattle.reception.specs.Symbols.{Symbol}
-use Rattle.reception.specs.Reception.{Judge, Wrong, Faulty, Judged, is_of_identity, same_fti, in_range, symbol_of, packet_fault, or_packet, look_by, judged, wrong_by, reading_wrong}
-use Rattle.reception.specs.Order.{IsOf, IsInRange, WrongHolds, rank, IsFirstHere, Hold, TellsInOrder}
+use Rattle.reception.specs.Reception.{Judge, Wrong, Faulty, Judged, is_of_identity, same_fti, in_range, symbol_of, or_packet, look_by, judged, wrong_by, reading_wrong}
+use Rattle.reception.specs.Order.{IsOf, IsInRange, WrongHolds, rank, IsFirstHere, TellsInOrder}
 use Rattle.reception.proofs.Within.{fti_same, same_fti_refl}
 
 -- the answer of a test
