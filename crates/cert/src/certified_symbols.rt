@@ -21,7 +21,8 @@ fn put_block(rows: &mut [u8], certificate: &Certificate, block: u32)
     ensures here { (i : ℕ)
         → i < source_count certificate.now.fti block
         → HasRow certificate.now rows.new block i }
-    ensures before { AreSameBelow (start_of certificate.now.fti block * certificate.now.fti.symbol_length)
+    ensures before { AreSameBelow
+        (start_of certificate.now.fti block * certificate.now.fti.symbol_length)
         rows.new rows.old }
 {
     let fti = certificate.fti();
