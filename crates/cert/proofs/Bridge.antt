@@ -23,11 +23,11 @@ use Rattle.reception.specs.Step.{readings_of}
 use Rattle.cert.specs.Certificate.{Certificate}
 use Rattle.cert.specs.declared.verdict.Reason.{Reason}
 use Rattle.cert.specs.declared.verdict.Reason.TheVariants.{ObjectLength, NotObject, Empty, Packet as NoPacket, OtherIdentity, OtherFti, Range, Symbol as Wrong, Thin}
-use Rattle.cert.specs.declared.datagrams.Refusal.{Refusal}
-use Rattle.cert.specs.declared.datagrams.Refusal.TheVariants.{Reason as ByReason, NoMemory}
+use Rattle.cert.specs.declared.datagrams.NoReport.{NoReport}
+use Rattle.cert.specs.declared.datagrams.NoReport.TheVariants.{Reason as ByReason, NoMemory}
 use Rattle.cert.specs.Verdict.{first_reason, IsAgainst}
 use Rattle.cert.specs.Report.{block_lines}
-use Rattle.cert.specs.Scan.{members_at, members_of, AreGroupsOf, IsPut, IsRefusal, different_in, line_in, AreEnough, IsFirstThin, IsThin}
+use Rattle.cert.specs.Scan.{members_at, members_of, AreGroupsOf, IsPut, IsNoReport, different_in, line_in, AreEnough, IsFirstThin, IsThin}
 
 -- ---- one symbol more
 
@@ -204,8 +204,8 @@ module _ (z : Certificate) (ds : List (List ℕ)) (groups : List Group) (are : A
   refused_reason (Range i) none some h = absurd h
   refused_reason (Wrong i c) none some h = absurd h
 
-  -- a refusal by the counts
-  pub counts_refused : (e : Refusal) → first_reason z (readings_of ds) ≡ None → counted (readings_of ds) ≢ [] → IsThin groups e → IsRefusal ds z e
+  -- no report, by the counts
+  pub counts_refused : (e : NoReport) → first_reason z (readings_of ds) ≡ None → counted (readings_of ds) ≢ [] → IsThin groups e → IsNoReport ds z e
   counts_refused NoMemory none some h = tt
   counts_refused (ByReason r) none some h = refused_reason r none some h
 

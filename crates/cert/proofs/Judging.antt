@@ -1,8 +1,7 @@
 -- What the answers of the parts of a check say of the verdict.
-use Rattle.std.proofs.Common.{◌≡◌, ◌≢◌, ℕ, zero, suc, ◌+◌, ◌<◌, ◌≤◌, true, false, cond, List, [], ◌∷◌, ◌++◌, Option, Some, None, Ok, Err, length, refl, sym, ap, subst, arith}
-use Rattle.std.specs.Prelude.{slice_index, ◌==◌, option_map}
+use Rattle.std.proofs.Common.{◌≡◌, ◌≢◌, ℕ, suc, List, [], ◌∷◌, ◌++◌, Option, Some, None, Ok, Err, length, refl, ap, subst}
+use Rattle.std.specs.Prelude.{option_map}
 use Rattle.std.specs.List.{AllByRecursion}
-use Rattle.std.proofs.lemmas.Bool.{eqb-true, eqb-false}
 use Rattle.alc.specs.Packet.{Packet}
 use Rattle.alc.specs.Reading.{Reading}
 use Rattle.alc.specs.Computed.{read_of}
@@ -21,9 +20,10 @@ use Rattle.cert.specs.declared.verdict.Reason.{Reason}
 use Rattle.cert.specs.declared.verdict.Reason.TheVariants.{ObjectLength, NotObject, Empty, Packet as NoPacket, OtherIdentity, OtherFti, Range, Symbol, Thin}
 use Rattle.cert.specs.declared.verdict.Report.{Report}
 use Rattle.cert.specs.declared.verdict.Verdict.TheVariants.{Yes, No}
-use Rattle.cert.specs.Certificate.{Certificate, certified_byte}
-use Rattle.cert.specs.Verdict.{GivesObject, IsNotGiven, wrong_column, uncertified, came_to, reason_at, IsCertified, IsCertifiedReading, AreCertified, IsAgainst, VerdictOn}
+use Rattle.cert.specs.Certificate.{Certificate}
+use Rattle.cert.specs.Verdict.{GivesObject, IsNotGiven, wrong_column, uncertified, came_to, reason_at, IsCertifiedPacket, IsCertifiedReading, AreCertified, IsAgainst, VerdictOn}
 use Rattle.cert.specs.Scan.{AreEnoughCertified}
+use Rattle.cert.proofs.Columns.{certified_where_none}
 
 -- each datagram has the reading that is computed
 pub read_all : (ds : List (List ℕ)) → AreDatagrams ds → ReadAll ds (readings_of ds)
@@ -32,25 +32,12 @@ read_all (d ∷ ds) h = (reads d (h 0).bytes (read_of d) refl, read_all ds (λ i
 
 -- ---- nothing wrong
 
--- columns that are all certified
-columns_right : (z : Certificate) (s : Received) (c n : ℕ) → wrong_column z s c n ≡ None → (x : ℕ) → c ≤ x → x < c + n → slice_index s.bytes x ≡ certified_byte z s.block s.esi x
-columns_right z s c zero h x low high = absurd (omega arith)
-columns_right z s c (suc n) h x low high =
-    elim (slice_index s.bytes c == certified_byte z s.block s.esi c) as (λ v. (slice_index s.bytes c == certified_byte z s.block s.esi c) ≡ v → cond v (wrong_column z s (c + 1) n) (Some c) ≡ None → slice_index s.bytes x ≡ certified_byte z s.block s.esi x) [
-      | true ↦ λ e g.
-          (elim (x == c) as (λ v. (x == c) ≡ v → slice_index s.bytes x ≡ certified_byte z s.block s.esi x) [
-            | true ↦ λ q. subst (λ (y : ℕ). slice_index s.bytes y ≡ certified_byte z s.block s.esi y) (sym (eqb-true x c q)) (eqb-true _ _ e)
-            | false ↦ λ q. columns_right z s (c + 1) n g x (let ne = eqb-false x c q in omega arith) (omega arith)
-          ] refl)
-      | false ↦ λ e g. absurd (cc)
-    ] refl h
-
 nothing_judged : {R : Type 0} (o : Option R) → judged o ≡ None → o ≡ None
 nothing_judged None h = refl
 nothing_judged (Some r) h = absurd (cc)
 
 -- a packet with nothing wrong
-certified : (z : Certificate) (who : Identity) (earlier : List Received) (p : Packet) → wrong_by (uncertified z) earlier (or_packet p (packet_fault who z.fti p)) ≡ None → IsCertified z who p
+certified : (z : Certificate) (who : Identity) (earlier : List Received) (p : Packet) → wrong_by (uncertified z) earlier (or_packet p (packet_fault who z.fti p)) ≡ None → IsCertifiedPacket z who p
 certified z who earlier p h =
     let none = none_wrong (uncertified z) earlier p (packet_fault who z.fti p) h in
     let w = faultless who z.fti p none in
@@ -61,7 +48,7 @@ certified z who earlier p h =
       toi = w.toi;
       fti = w.fti;
       range = w.range;
-      symbol = λ c l. columns_right z (symbol_of p) 0 z.fti.symbol_length right c (omega arith) (omega arith);
+      symbol = certified_where_none z (symbol_of p) right;
     }
 
 -- readings with nothing wrong

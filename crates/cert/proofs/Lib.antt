@@ -16,4 +16,5 @@ pub mod Few
 pub mod Short
 pub mod RowValues
 pub mod CoefficientRows
+pub mod Columns
 pub mod OneVerdict

@@ -17,17 +17,17 @@ use Rattle.cert.specs.declared.verdict.Reason.TheVariants.{ObjectLength, NotObje
 use Rattle.cert.specs.declared.verdict.Verdict.{Verdict}
 use Rattle.cert.specs.declared.verdict.Verdict.TheVariants.{Yes, No}
 use Rattle.cert.specs.Certificate.{Certificate}
-use Rattle.cert.specs.Verdict.{GivesObject, IsFirstNotGiven, uncertified, came_to, first_reason, IsCertified, IsCertifiedReading, AreCertified, IsCertificateOf, VerdictOn, IsVerdict, AreOneVerdict}
-use Rattle.cert.proofs.Scanning.{all_columns_right}
+use Rattle.cert.specs.Verdict.{GivesObject, IsFirstNotGiven, uncertified, came_to, first_reason, IsCertifiedPacket, IsCertifiedReading, AreCertified, IsCertificateOf, VerdictOn, IsVerdict, AreOneVerdict}
+use Rattle.cert.proofs.Columns.{none_is}
 use Rattle.cert.proofs.Judging.{no_reason}
 
 -- ---- where all is certified there is no reason
 
-not_wrong : (z : Certificate) (who : Identity) (earlier : List Received) (p : Packet) → IsCertified z who p
+not_wrong : (z : Certificate) (who : Identity) (earlier : List Received) (p : Packet) → IsCertifiedPacket z who p
     → wrong_by (uncertified z) earlier (or_packet p (packet_fault who z.fti p)) ≡ None
 not_wrong z who earlier p h =
     let a : packet_fault who z.fti p ≡ None = no_fault who z.fti p (record { tsi = h.tsi; toi = h.toi; fti = h.fti; range = h.range }) in
-    let b : uncertified z earlier (symbol_of p) ≡ None = all_columns_right z (symbol_of p) 0 z.fti.symbol_length (λ x low high. h.symbol x (omega arith)) in
+    let b : uncertified z earlier (symbol_of p) ≡ None = none_is z (symbol_of p) h.symbol in
     rw (a, b) refl
 
 none_wrong : (z : Certificate) (who : Identity) (earlier : List Received) (xs : List Placed) → AllByRecursion (λ x. IsCertifiedReading z who x.reading) xs

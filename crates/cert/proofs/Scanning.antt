@@ -1,35 +1,16 @@
 -- A scan over the datagrams, one by one.
-use Rattle.std.proofs.Common.{◌≡◌, ℕ, zero, suc, ◌+◌, ◌-◌, ◌<◌, ◌≤◌, true, List, Some, None, take, refl, sym, ap, ◌∙◌, arith, ltb-true}
-use Rattle.std.specs.Prelude.{slice_index}
-use Rattle.std.proofs.lemmas.Bool.{eq-eqb}
+use Rattle.std.proofs.Common.{◌≡◌, ℕ, ◌<◌, true, List, Some, None, take, sym, ap, ◌∙◌, arith, ltb-true}
 use Rattle.lists.proofs.Lists.{both}
 use Rattle.partition.specs.Fti.{Fti, IsValidFti, block_count, encoding_count}
 use Rattle.partition.proofs.Laws.{counts}
 use Rattle.alc.specs.Packet.{Packet}
-use Rattle.reception.specs.Symbols.{Symbol}
 use Rattle.reception.specs.Reception.{in_range, with_fti, counted}
 use Rattle.reception.specs.Step.{readings_of}
 use Rattle.reception.proofs.Stepping.{fti_stays}
 use Rattle.reception.specs.declared.scope.Scope.{Scope}
 use Rattle.reception.proofs.Walking.{Walked}
-use Rattle.cert.specs.Certificate.{Certificate, certified_byte}
-use Rattle.cert.specs.Verdict.{wrong_column, uncertified}
-
--- a column that is certified
-pub column_right : (z : Certificate) (s : Symbol) (c n : ℕ) → c < n → slice_index s.bytes c ≡ certified_byte z s.block s.esi c
-    → wrong_column z s c (n - c) ≡ wrong_column z s (c + 1) (n - (c + 1))
-column_right z s c n l e =
-    let left : n - c ≡ suc (n - (c + 1)) = omega arith in
-    let t = eq-eqb (slice_index s.bytes c) (certified_byte z s.block s.esi c) e in
-    rw (left, t) refl
-
--- columns that are all right
-pub all_columns_right : (z : Certificate) (s : Symbol) (c n : ℕ) → ((x : ℕ) → c ≤ x → x < c + n → slice_index s.bytes x ≡ certified_byte z s.block s.esi x)
-    → wrong_column z s c n ≡ None
-all_columns_right z s c zero h = refl
-all_columns_right z s c (suc n) h =
-    let t = eq-eqb (slice_index s.bytes c) (certified_byte z s.block s.esi c) (h c (omega arith) (omega arith)) in
-    rw t (all_columns_right z s (c + 1) n (λ x low high. h x (omega arith) (omega arith)))
+use Rattle.cert.specs.Certificate.{Certificate}
+use Rattle.cert.specs.Verdict.{uncertified}
 
 -- an ESI in range is below 255
 pub in_range_small : (f : Fti) (p : Packet) → IsValidFti f → in_range p f ≡ true → p.esi < 255

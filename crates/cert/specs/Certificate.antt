@@ -1,5 +1,5 @@
 -- The certificate: an FTI, and for each byte column of each block the coefficients of its polynomial.
-use Rattle.std.specs.Prelude.{◌≡◌, ℕ, ◌+◌, ◌*◌, List, [], ◌∷◌, ◌++◌, length, take, drop, slice_index, nat_eq, nat_lt, ◌==◌, not, Bool, true, if◌then◌else◌, Option, Some, None, IfSome}
+use Rattle.std.specs.Prelude.{◌≡◌, ℕ, ◌+◌, ◌*◌, ◌<◌, List, [], ◌∷◌, ◌++◌, length, take, drop, slice_index, nat_eq, nat_lt, ◌==◌, not, Bool, true, if◌then◌else◌, Option, Some, None, IfSome}
 use Rattle.std.specs.List.{starts_with}
 use Rattle.byteorder.specs.Endian.{big_bytes, big_number}
 use Rattle.lists.specs.Bytes.{AreBytes}
@@ -80,6 +80,10 @@ abbrev pub IsTold : CertFault → Type 0
 IsTold Io = ⊥
 IsTold NoMemory = ⊥
 IsTold _ = Unit {0}
+
+-- the fault of a text that begins with these bytes, of which there are fewer than 14 only where it ends
+abbrev pub IsHeadFault : List ℕ → CertFault → Type 0
+IsHeadFault x e = (rest : List ℕ) → (length x < 14 → rest ≡ []) → text_fault (x ++ rest) ≡ Some e
 
 -- fourteen bytes that tell this valid FTI
 pub record IsHead (x : List ℕ) (f : Fti) : Type 0 where

@@ -7,8 +7,8 @@ use Rattle.partition.specs.Fti.{Fti, block_count, source_count}
 use Rattle.reception.specs.Symbols.{Symbol}
 use Rattle.reception.specs.Reception.{Placed, symbols_in, Suffices}
 use Rattle.reception.specs.Step.{readings_of}
-use Rattle.cert.specs.declared.datagrams.Refusal.{Refusal}
-use Rattle.cert.specs.declared.datagrams.Refusal.TheVariants.{Reason as ByReason, NoMemory}
+use Rattle.cert.specs.declared.datagrams.NoReport.{NoReport}
+use Rattle.cert.specs.declared.datagrams.NoReport.TheVariants.{Reason as ByReason, NoMemory}
 use Rattle.cert.specs.declared.verdict.Reason.TheVariants.{Thin}
 use Rattle.cert.specs.Certificate.{Certificate}
 use Rattle.cert.specs.Verdict.{IsAgainst, AreCertified}
@@ -36,10 +36,10 @@ pub record IsPut (old : List Group) (place : ℕ) (s : Symbol) (new : List Group
   pub here : (group_at new s.block).members ≡ (group_at old s.block).members ++ record { place = place; esi = s.esi } ∷ []
   pub elsewhere : (b : ℕ) → b < length old → b ≢ s.block → (group_at new b).members ≡ (group_at old b).members
 
--- the datagrams are refused for a reason, or for want of memory
-abbrev pub IsRefusal : List (List ℕ) → Certificate → Refusal → Type 0
-IsRefusal datagrams z (ByReason r) = IsAgainst (readings_of datagrams) z r
-IsRefusal datagrams z NoMemory = Unit {0}
+-- there is no report for this reason against the datagrams, or for want of memory
+abbrev pub IsNoReport : List (List ℕ) → Certificate → NoReport → Type 0
+IsNoReport datagrams z (ByReason r) = IsAgainst (readings_of datagrams) z r
+IsNoReport datagrams z NoMemory = Unit {0}
 
 -- how many different symbols a group has
 abbrev pub different_in : List Group → ℕ → ℕ
@@ -61,7 +61,7 @@ pub record IsFirstThin (groups : List Group) (b have need : ℕ) : Type 0 where
   pub few : have < need
   pub blocks_before : (a : ℕ) → a < b → (group_at groups a).need ≤ different_in groups a
 
-abbrev pub IsThin : List Group → Refusal → Type 0
+abbrev pub IsThin : List Group → NoReport → Type 0
 IsThin groups (ByReason (Thin b have need)) = IsFirstThin groups b have need
 IsThin groups (ByReason _) = ⊥
 IsThin groups NoMemory = Unit {0}

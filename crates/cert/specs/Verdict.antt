@@ -71,7 +71,7 @@ abbrev pub first_reason : Certificate → List Reading → Option Reason
 first_reason z rs = option_map (λ x. reason_at x.0 x.1) (came_to z rs).wrong
 
 -- the packet is of this identity and of the certificate's FTI, in range, and has the certified symbol
-pub record IsCertified (z : Certificate) (who : Identity) (p : Packet) : Type 0 where
+pub record IsCertifiedPacket (z : Certificate) (who : Identity) (p : Packet) : Type 0 where
   pub tsi : p.tsi ≡ who.tsi
   pub toi : p.toi ≡ who.toi
   pub fti : p.fti ≡ z.fti
@@ -79,7 +79,7 @@ pub record IsCertified (z : Certificate) (who : Identity) (p : Packet) : Type 0 
   pub symbol : (c : ℕ) → c < z.fti.symbol_length → slice_index p.bytes c ≡ certified_byte z p.block p.esi c
 
 abbrev pub IsCertifiedReading : Certificate → Identity → Reading → Type 0
-IsCertifiedReading z who (Ok p) = IsCertified z who p
+IsCertifiedReading z who (Ok p) = IsCertifiedPacket z who p
 IsCertifiedReading z who (Err r) = ⊥
 
 -- some packets came, all of one identity and as certified

@@ -3,7 +3,8 @@ ghost use Rattle.std.specs.Prelude.{◌≡◌, ◌≢◌, ◌+◌, ◌*◌, ◌<
 ghost use Rattle.std.specs.Io.KnownBytes.{Consumes, IsAtEnd, Appends};
 ghost use Rattle.session.specs.Pieces.{AppendsSome};
 ghost use Rattle.partition.specs.Fti.{IsValidFti, symbol_count, source_count, block_count};
-ghost use Rattle.cert.specs.Certificate.{Certificate as CertificateValue, IsCertificate, coefficient_count, polynomial as polynomial_of, head_text, certificate_text, text_fault, IsCertFault, IsReadFault, IsTold, IsHead};
+ghost use Rattle.cert.specs.Certificate.{Certificate as CertificateValue, IsCertificate, coefficient_count, polynomial as polynomial_of, head_text, certificate_text, text_fault, IsCertFault, IsReadFault, IsTold, IsHead, IsHeadFault};
+ghost use Rattle.cert.specs.CoefficientRows.{IsCoefficientRow};
 
 use byteorder::{BigEndian, ByteOrder};
 use lists::are_bytes;
@@ -13,20 +14,23 @@ use std::alloc::Global;
 use std::marker::Model;
 use thiserror::Error;
 
-/// Why a certificate wasn't read or written.
+/// Why a certificate wasn't read or written. `Magic`, `Fti` and `Size` tell why bytes are no certificate, in the order in
+/// which they are looked at.
 #[derive(Debug, Clone, Copy, PartialEq, Eq, Error)]
 pub enum CertFault {
     /// The first four bytes aren't `RSC1`.
     #[error("Z1 Magic")]
     Magic,
+    /// The FTI in bytes 4 to 13 isn't valid; the first fault of it.
     #[error("Z2 Fti {0}")]
     Fti(FtiError),
-    /// There are other than 14 bytes and T·E coefficients.
+    /// There are other than 14 bytes and T·E coefficients, T being the object's source symbols and E the symbol's bytes.
     #[error("Z3 Size")]
     Size,
     /// The reader or writer has failed.
     #[error("Z4 Io")]
     Io,
+    /// There is no memory for the bytes that came.
     #[error("Z5 NoMemory")]
     NoMemory,
 }
@@ -45,7 +49,8 @@ impl Model for Certificate {
 
     ghost view = { λ z. record { fti = z.fti; coefficients = z.coefficients.items } };
 
-    ghost invariant = { λ z. IsCertificate (record { fti = z.fti; coefficients = z.coefficients.items }) };
+    ghost invariant = { λ z.
+        IsCertificate (record { fti = z.fti; coefficients = z.coefficients.items }) };
 }
 
 // How many coefficients a certificate of this FTI has.
@@ -69,7 +74,9 @@ fn part(bytes: &[u8], from: usize, count: usize) -> &[u8]
 fn gather(bytes: &[u8], from: usize, step: usize, row: &mut [u8])
     requires { (c : ℕ) → c < length row.old → from + c * step < length bytes.now }
     ensures len { length row.new ≡ length row.old }
-    ensures bytes { (c : ℕ) → c < length row.old → slice_index row.new c ≡ slice_index bytes.now (from + c * step) }
+    ensures bytes { (c : ℕ)
+        → c < length row.old
+        → slice_index row.new c ≡ slice_index bytes.now (from + c * step) }
 {
     for c in 0..row.len() {
         row[c] = bytes[from + c * step];
@@ -99,7 +106,7 @@ fn read_head(bytes: &[u8]) -> Result<Fti, CertFault>
     ensures ok { IfOk result (λ f. bytes.now ≡ head_text f) }
     ensures head { IfOk result (IsHead bytes.now) }
     ensures told { IfErr result IsTold }
-    ensures fault { IfErr result (λ e. (rest : List ℕ) → (length bytes.now < 14 → rest ≡ []) → text_fault (bytes.now ++ rest) ≡ Some e) }
+    ensures fault { IfErr result (IsHeadFault bytes.now) }
 {
     if !bytes.starts_with(&MAGIC) {
         return Err(CertFault::Magic);
@@ -140,9 +147,11 @@ fn read_coefficients<R: Read>(
 
 impl Certificate {
     /// The certificate of these coefficients, in the order of its file: blocks rising, in a block columns rising, in a
-    /// column the constant one first. `None` where there are other than T·E.
+    /// column the constant one first. `None` where there are other than T·E, source symbols of the object times bytes of a
+    /// symbol, and only then.
     pub fn from_parts(fti: Fti, coefficients: Vec<u8>) -> Option<Certificate>
-        ensures parts { MatchOption result (vec_len coefficients ≢ coefficient_count fti) (λ z. z ≡ record { fti = fti; coefficients = coefficients.items }) }
+        ensures parts { MatchOption result (vec_len coefficients ≢ coefficient_count fti)
+            (λ z. z ≡ record { fti = fti; coefficients = coefficients.items }) }
         ensures count { IfSome result (λ z. vec_len coefficients ≡ coefficient_count fti) }
         ensures certificate { IfSome result IsCertificate }
     {
@@ -153,6 +162,7 @@ impl Certificate {
         Some(Certificate { fti, coefficients })
     }
 
+    /// The certificate's FTI, which is valid.
     pub fn fti(&self) -> Fti
         ensures value { result ≡ self.now.fti }
         ensures certificate { IsCertificate self.now }
@@ -160,7 +170,8 @@ impl Certificate {
         self.fti
     }
 
-    /// The coefficients of column `c` of block `b`, as many as the block has source symbols.
+    /// The coefficients of byte column `c` of block `b`, the constant one first, as many as the block has source symbols. It
+    /// needs that the FTI has the block and its symbols the column.
     pub fn polynomial(&self, b: u32, c: usize) -> &[u8]
         requires block { b < block_count self.now.fti }
         requires column { c < self.now.fti.symbol_length }
@@ -178,19 +189,21 @@ impl Certificate {
         requires coefficient { i < source_count self.now.fti b }
         requires room { length row.old ≡ self.now.fti.symbol_length }
         ensures len { length row.new ≡ length row.old }
-        ensures bytes { (c : ℕ) → c < self.now.fti.symbol_length → slice_index row.new c ≡ slice_index (polynomial_of self.now b c) i }
+        ensures bytes { IsCoefficientRow self.now b i row.new }
     {
         let count = self.fti.k(b);
         let from = self.fti.start(b) as usize * usize::from(self.fti.symbol_length()) + i;
         gather(self.coefficients.as_slice(), from, count, row);
     }
 
-    /// The certificate in all bytes up to the reader's end. Memory grows with the bytes that come, never with what the
-    /// first ones claim. `Magic`, `Fti` and `Size` tell why the bytes are none, `Io` that the reader has failed, which a
-    /// sound one never does. After a fault it isn't told how much was consumed.
+    /// The certificate in all bytes up to the reader's end, where the reader then is. Memory grows with the bytes that
+    /// come, never with what the first ones claim. `Magic`, `Fti` and `Size` tell why the bytes are none, `Io` that the
+    /// reader has failed, which a sound one never does, `NoMemory` that memory lacks. After a fault it isn't told how much
+    /// was consumed.
     pub fn read<R: Read>(alloc: Global, reader: &mut R) -> Result<Certificate, CertFault>
         // All that was left is the certificate's text.
-        ensures ok { IfOk result (λ z. IfSome (R.remaining reader.old) (λ x. x ≡ certificate_text z)) }
+        ensures ok { IfOk result (λ z.
+            IfSome (R.remaining reader.old) (λ x. x ≡ certificate_text z)) }
         ensures end { OnOk result (IsAtEnd (R.remaining reader.new)) }
         ensures fault { IfErr result (λ e.
             IsCertFault e (R.remaining reader.old) (R.failed reader.new)) }
@@ -213,13 +226,14 @@ impl Certificate {
         }
     }
 
-    /// Writes the certificate's text. `Io` comes only where the writer has failed, and never where it has room for the
-    /// text. It has a beginning of it then.
+    /// Writes the certificate's text: `RSC1`, the FTI in ten bytes and the coefficients. `Io`, the only fault, comes only
+    /// where the writer has failed, and never where it has room for the text. It has a beginning of it then.
     pub fn write<W: Write>(&self, writer: &mut W) -> Result<(), CertFault>
         ensures ok { OnOk result
             (Appends (W.contents writer.old) (W.contents writer.new) (certificate_text self.now)) }
         ensures err { OnErr result
-            (AppendsSome (W.contents writer.old) (W.contents writer.new) (certificate_text self.now)) }
+            (AppendsSome (W.contents writer.old) (W.contents writer.new)
+            (certificate_text self.now)) }
         ensures io { IfErr result (λ e. (e ≡ CertFault.Io) × (W.failed writer.new ≡ true)) }
         ensures full { OnErr result (W.room writer.old < length (certificate_text self.now)) }
     {
@@ -235,7 +249,11 @@ impl Certificate {
     }
 }
 
-/// No two certificates have one text.
+/// A law to cite: no two certificates have one text. It does nothing.
 pub fn one_certificate()
-    ensures { (x y : CertificateValue) → IsCertificate x → IsCertificate y → certificate_text x ≡ certificate_text y → x ≡ y }
+    ensures { (x y : CertificateValue)
+        → IsCertificate x
+        → IsCertificate y
+        → certificate_text x ≡ certificate_text y
+        → x ≡ y }
 {}

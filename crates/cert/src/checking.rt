@@ -1,21 +1,18 @@
 //! The check.
-ghost use Rattle.std.specs.Prelude.{◌≡◌, ◌≤◌, ◌^◌, ℕ, List, length, map, IfOk, IfErr, OnOk};
+ghost use Rattle.std.specs.Prelude.{◌≡◌, ◌≤◌, ◌^◌, length, map, IfOk, IfErr, OnOk};
 ghost use Rattle.session.specs.Frames.{AreDatagrams};
 ghost use Rattle.lists.specs.Below.{below};
-ghost use Rattle.cert.specs.declared.verdict.Verdict.{Verdict as VerdictValue};
-ghost use Rattle.cert.specs.Certificate.{Certificate as CertificateValue, IsCertificate};
+ghost use Rattle.cert.specs.Certificate.{IsCertificate};
 ghost use Rattle.reception.specs.Headline.{DecodesWhereEnough, UndecidedElse};
 ghost use Rattle.cert.specs.Report.{IsReport, OnYes};
 ghost use Rattle.losses.specs.Groups.{groups_of};
-ghost use Rattle.cert.specs.Scan.{line_in, AreEnough, IsThin, AreEnoughCertified, IsRefusal};
-ghost use Rattle.cert.specs.Verdict.{GivesObject, uncertified, IsVerdict, AreOneVerdict};
-ghost use Rattle.reception.specs.Reception.{with_fti};
-ghost use Rattle.reception.specs.First.{TellsTheFirst};
+ghost use Rattle.cert.specs.Scan.{line_in, AreEnough, IsThin, AreEnoughCertified, IsNoReport};
+ghost use Rattle.cert.specs.Verdict.{GivesObject, IsVerdict};
 
 use crate::certificate::Certificate;
 use crate::certified_symbols::CertifiedSymbols;
-use crate::datagrams::{Refusal, groups_of_session};
-use crate::source::not_given;
+use crate::datagrams::{NoReport, groups_of_session};
+use crate::source::first_not_given;
 use crate::verdict::{Reason, Report, Verdict};
 use lists::are_bytes;
 use losses::{Figures, Group, figures_of};
@@ -23,12 +20,12 @@ use session::Session;
 use std::alloc::{AllocError, Global};
 
 // For each block its source symbols and its different ESIs, or the reason of the least block that has too few.
-fn blocks_of(alloc: Global, groups: &[Group]) -> Result<Vec<(usize, usize)>, Refusal>
+fn block_lines(alloc: Global, groups: &[Group]) -> Result<Vec<(usize, usize)>, NoReport>
     requires { length groups.now ≤ 2 ^ 24 }
     ensures lines { IfOk result (λ v.
         v.items ≡ map (line_in (groups_of groups.now)) (below (length groups.now))) }
     ensures enough { OnOk result (AreEnough (groups_of groups.now)) }
-    ensures refusal { IfErr result (IsThin (groups_of groups.now)) }
+    ensures no_report { IfErr result (IsThin (groups_of groups.now)) }
 {
     let mut blocks = Vec::new(alloc);
     for block in 0..groups.len() {
@@ -36,40 +33,38 @@ fn blocks_of(alloc: Global, groups: &[Group]) -> Result<Vec<(usize, usize)>, Ref
         let have = groups[block].different();
         if have < need {
             let block = block as u32;
-            return Err(Refusal::Reason(Reason::Thin { block, have, need }));
+            return Err(NoReport::Reason(Reason::Thin { block, have, need }));
         }
         let Ok(()) = blocks.push((need, have)) else {
-            return Err(Refusal::NoMemory);
+            return Err(NoReport::NoMemory);
         };
     }
     Ok(blocks)
 }
 
-// The report, or the first reason for which the datagrams don't suffice. `row` is room for one symbol.
+// The report, or the first reason for which the datagrams don't suffice.
 fn report_of(
     alloc: Global,
     session: &Session,
-    symbols: &CertifiedSymbols<'_>,
+    symbols: &mut CertifiedSymbols<'_>,
     object: &[u8],
-    row: &mut [u8],
-) -> Result<Report, Refusal>
-    requires gives { GivesObject object.now symbols.now.certificate.now }
+) -> Result<Report, NoReport>
+    requires gives { GivesObject object.now symbols.old }
     requires datagrams { AreDatagrams session.now }
-    requires room { length row.old ≡ symbols.now.certificate.now.fti.symbol_length }
-    ensures report { IfOk result (IsReport session.now symbols.now.certificate.now.fti) }
-    ensures certified { OnOk result (AreEnoughCertified session.now symbols.now.certificate.now) }
-    ensures refusal { IfErr result (IsRefusal session.now symbols.now.certificate.now) }
+    ensures report { IfOk result (IsReport session.now symbols.old.fti) }
+    ensures certified { OnOk result (AreEnoughCertified session.now symbols.old) }
+    ensures no_report { IfErr result (IsNoReport session.now symbols.old) }
 {
-    let groups = match groups_of_session(alloc, session, symbols, object, row) {
+    let groups = match groups_of_session(alloc, session, symbols, object) {
         Ok(groups) => groups,
-        Err(refusal) => return Err(refusal),
+        Err(no_report) => return Err(no_report),
     };
-    let blocks = match blocks_of(alloc, &groups) {
+    let blocks = match block_lines(alloc, &groups) {
         Ok(blocks) => blocks,
-        Err(refusal) => return Err(refusal),
+        Err(no_report) => return Err(no_report),
     };
     let Ok(figures) = figures_of(alloc, &groups) else {
-        return Err(Refusal::NoMemory);
+        return Err(NoReport::NoMemory);
     };
     let Figures {
         margin,
@@ -85,7 +80,7 @@ fn report_of(
 }
 
 // The verdict, without what a yes promises.
-fn judge(
+fn verdict_of(
     alloc: Global,
     session: &Session,
     object: &[u8],
@@ -100,21 +95,21 @@ fn judge(
     if object.len() as u64 != certificate.fti().transfer_length() {
         return Ok(Verdict::No(Reason::ObjectLength));
     }
-    let symbols = CertifiedSymbols::new(alloc, certificate)?;
-    let mut row = Vec::from_elem(alloc, 0u8, usize::from(certificate.fti().symbol_length()))?;
-    match not_given(object, &symbols, &mut row) {
+    let mut symbols = CertifiedSymbols::new(alloc, certificate)?;
+    match first_not_given(object, &mut symbols) {
         Some(reason) => return Ok(Verdict::No(reason)),
         None => {}
     }
-    match report_of(alloc, session, &symbols, object, &mut row) {
+    match report_of(alloc, session, &mut symbols, object) {
         Ok(report) => Ok(Verdict::Yes(report)),
-        Err(Refusal::Reason(reason)) => Ok(Verdict::No(reason)),
-        Err(Refusal::NoMemory) => Err(AllocError),
+        Err(NoReport::Reason(reason)) => Ok(Verdict::No(reason)),
+        Err(NoReport::NoMemory) => Err(AllocError),
     }
 }
 
 /// Whether the certificate is one of the session and the object, and at yes what the session can lose. Neither the
-/// session's sender nor the certificate's maker is trusted.
+/// session's sender nor the certificate's maker is trusted, so any session, object and certificate will do. `No` has the
+/// first reason, in the order of [`Reason`]. Want of memory is the only error, and says nothing of the three.
 pub fn check(
     alloc: Global,
     session: &Session,
@@ -124,24 +119,13 @@ pub fn check(
     // The verdict: yes exactly where the certificate is one, and else the first reason.
     ensures verdict { IfOk result (IsVerdict session.now object.now certificate.now) }
     // At yes, each selection of the datagrams that leaves no block short decodes to the object.
-    ensures decodes { IfOk result (λ v. OnYes v (λ _. DecodesWhereEnough certificate.now.fti session.now object.now)) }
+    ensures decodes { IfOk result (λ v.
+        OnYes v (λ _. DecodesWhereEnough certificate.now.fti session.now object.now)) }
     // At yes, each other selection leaves another object that agrees with all of it, and a decoder says what lacks.
-    ensures undecided { IfOk result (λ v. OnYes v (λ _. UndecidedElse certificate.now.fti session.now object.now)) }
+    ensures undecided { IfOk result (λ v.
+        OnYes v (λ _. UndecidedElse certificate.now.fti session.now object.now)) }
     // At yes, what each block needs and has, and of all losses of datagrams the margin, the kill and the burst.
     ensures report { IfOk result (λ v. OnYes v (IsReport session.now certificate.now.fti)) }
 {
-    judge(alloc, session, object, certificate)
+    verdict_of(alloc, session, object, certificate)
 }
-
-/// A session, an object and a certificate have one verdict: two that meet its definition are both yes, or both no for one
-/// reason. So `check` says yes exactly where the certificate is one.
-pub fn one_verdict()
-    ensures { (datagrams : List (List ℕ)) (object : List ℕ) (z : CertificateValue) (a b : VerdictValue)
-        → IsVerdict datagrams object z a → IsVerdict datagrams object z b → AreOneVerdict a b }
-{}
-
-/// The reason of a check at a place is the one at the least place that has one, and there the first in the order of the
-/// definition.
-pub fn first_reason()
-    ensures { (z : CertificateValue) → TellsTheFirst (uncertified z) (with_fti z.fti) }
-{}

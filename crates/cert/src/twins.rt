@@ -1,12 +1,11 @@
 //! Another object that agrees with all that came, where a block is short.
-ghost use Rattle.std.specs.Prelude.{◌≡◌, ◌<◌, ◌-◌, ◌/◌, ℕ, cond, length, map, slice_index, IfOk};
-ghost use Rattle.gf256.specs.Arithmetic.{sum_of, point as point_of};
-ghost use Rattle.poly.specs.Polynomial.{value};
-ghost use Rattle.partition.specs.Fti.{IsValidFti, block_count, source_count, start_of};
+ghost use Rattle.std.specs.Prelude.{◌≡◌, ◌<◌, ℕ, length, map, slice_index, IfOk};
+ghost use Rattle.gf256.specs.Arithmetic.{point as point_of};
+ghost use Rattle.partition.specs.Fti.{IsValidFti, block_count, source_count};
 ghost use Rattle.reception.specs.Reception.{counted, symbols};
 ghost use Rattle.reception.specs.Step.{readings_of};
 ghost use Rattle.cert.specs.Verdict.{came_to};
-ghost use Rattle.cert.specs.Twins.{different_esis, is_first_of, esis_of, IsTwin, IsThinIn, IsTwinOfSession};
+ghost use Rattle.cert.specs.Twins.{different_esis, byte_with_value, esis_of, IsTwin, IsThinIn, IsTwinOfSession};
 
 use crate::certificate::Certificate;
 use gf256::{Field, Gf, point};
@@ -37,8 +36,7 @@ fn add_values(object: &mut [u8], fti: &Fti, block: u32, polynomial: &Poly<Gf>)
     requires block { block < block_count fti.now }
     ensures length { length object.new ≡ length object.old }
     ensures bytes { (x : ℕ)
-        → slice_index object.new x
-        ≡ cond (is_first_of fti.now block (source_count fti.now block) x) (sum_of (slice_index object.old x) (value polynomial.now (point_of (x / fti.now.symbol_length - start_of fti.now block)))) (slice_index object.old x) }
+        → slice_index object.new x ≡ byte_with_value fti.now block polynomial.now object.old x }
 {
     let start = fti.start(block) as usize;
     let length = usize::from(fti.symbol_length());
@@ -50,7 +48,11 @@ fn add_values(object: &mut [u8], fti: &Fti, block: u32, polynomial: &Poly<Gf>)
 }
 
 /// A twin: another object of this FTI that agrees with every symbol of other blocks with which the object does, and with
-/// every one of this block whose ESI is held, where the ESIs held are too few.
+/// every one of this block whose ESI is held.
+///
+/// It needs that the object has the FTI's length, that the FTI has the block, and that there are fewer different ESIs held
+/// than the block has source symbols. ESIs may come in any order and more than once, and those past 254 are passed over.
+/// Want of memory is the only error.
 pub fn twin(
     alloc: Global,
     object: &[u8],
@@ -79,7 +81,8 @@ fn esis_held(
     block: u32,
 ) -> Result<Vec<u8>, AllocError>
     requires { (came_to certificate.now (readings_of session.now)).wrong ≡ None }
-    ensures { IfOk result (λ v. v.items ≡ esis_of block (symbols (counted (readings_of session.now)))) }
+    ensures { IfOk result (λ v.
+        v.items ≡ esis_of block (symbols (counted (readings_of session.now)))) }
 {
     let mut scope = Scope::with_fti(certificate.fti());
     let mut held = Vec::new(alloc);
@@ -97,8 +100,8 @@ fn esis_held(
     Ok(held)
 }
 
-/// A twin of the object where the check of the three finds this block short: another object of the certificate's FTI that
-/// agrees with all that the session holds.
+/// A twin of the object where the check of the three says `Thin` of this block, as it needs: another object of the
+/// certificate's FTI that agrees with all that the session holds. Want of memory is the only error.
 pub fn session_twin(
     alloc: Global,
     session: &Session,
@@ -107,7 +110,8 @@ pub fn session_twin(
     block: u32,
 ) -> Result<Vec<u8>, AllocError>
     requires { IsThinIn session.now object.now certificate.now block }
-    ensures { IfOk result (λ other. IsTwinOfSession certificate.now.fti block session.now object.now other.items) }
+    ensures { IfOk result (λ other.
+        IsTwinOfSession certificate.now.fti block session.now object.now other.items) }
 {
     session.len();
     let held = esis_held(alloc, session, certificate, block)?;

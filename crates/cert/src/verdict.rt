@@ -4,7 +4,7 @@ use alc::PacketFault;
 /// What a check tells of a session that it says yes to.
 #[derive(Drop, Debug)]
 pub struct Report {
-    /// For each block, how many source symbols it has and how many different ESIs of it the session holds.
+    /// For each block, rising, how many source symbols it has and how many different ESIs of it the session holds.
     pub blocks: Vec<(usize, usize)>,
     /// The greatest number of datagrams whose loss, whichever they are, leaves no block short.
     pub margin: usize,
@@ -15,7 +15,10 @@ pub struct Report {
     pub burst: usize,
 }
 
-/// Why a certificate isn't one of a session and an object. Places count from 0.
+/// Why a certificate isn't one of a session and an object. Places, blocks, columns and symbols count from 0.
+///
+/// The first of these is told: `ObjectLength`, `NotObject`, the reason at the least place (`Packet` to `Symbol`, at one
+/// place in this order), `Empty`, `Thin`.
 #[derive(Clone, Copy, Debug, PartialEq, Eq)]
 pub enum Reason {
     /// N1: the object hasn't the certificate's length.
@@ -27,19 +30,19 @@ pub enum Reason {
         column: usize,
         symbol: usize,
     },
-    /// N3: there are no datagrams.
+    /// N3: no datagram counts, so there are none.
     Empty,
     /// N4: the datagram at a place is no packet.
     Packet(usize, PacketFault),
-    /// N5: its TSI or TOI isn't that of the first.
+    /// N5: its TSI or TOI isn't that of the first packet.
     OtherIdentity(usize),
     /// N6: its FTI isn't the certificate's.
     OtherFti(usize),
     /// N7: there is no such block, or no such ESI in it.
     Range(usize),
-    /// N8: its symbol isn't the polynomials' value at its point; the least column.
+    /// N8: its symbol isn't the polynomials' value at its point; the place and the least column.
     Symbol(usize, usize),
-    /// N9: a block has fewer different ESIs than source symbols; the least block.
+    /// N9: a block has fewer different ESIs (`have`) than source symbols (`need`); the least block.
     Thin {
         block: u32,
         have: usize,
@@ -50,6 +53,8 @@ pub enum Reason {
 /// Whether a certificate is one of a session and an object.
 #[derive(Drop, Debug)]
 pub enum Verdict {
+    /// It is one, and this is what the session can lose.
     Yes(Report),
+    /// It isn't, for this reason, the first.
     No(Reason),
 }

@@ -7,3 +7,4 @@ pub mod OneAnswer
 pub mod Different
 pub mod Full
 pub mod First
+pub mod Order

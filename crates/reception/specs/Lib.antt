@@ -4,3 +4,4 @@ pub mod Answer
 pub mod Headline
 pub mod Step
 pub mod First
+pub mod Order

@@ -7,14 +7,15 @@ ghost use Rattle.reception.specs.Step.{IsLook};
 use alc::{Packet, PacketFault, read};
 use partition::Fti;
 
-/// Whose packets they are (RFC 5651): the transport session identifier and, in it, the transport object identifier.
+/// Whose packets they are (RFC 5651): the transport session identifier, below 2^48, and, in it, the transport object
+/// identifier, below 2^112.
 #[derive(Clone, Copy, PartialEq, Eq, Debug)]
 pub struct Identity {
     pub tsi: u64,
     pub toi: u128,
 }
 
-/// Why a datagram is wrong before its symbol is looked at.
+/// Why a datagram is wrong before its symbol is looked at, in the order in which it is told (`specs/Order`).
 #[derive(Clone, Copy, PartialEq, Eq, Debug)]
 pub enum PlaceFault {
     /// The datagram is no packet.
@@ -35,7 +36,7 @@ pub struct Scope {
 }
 
 impl Scope {
-    /// Nothing is known before the first packet: a decoder's.
+    /// Neither identity nor FTI is known before the first packet: a decoder's.
     pub fn unknown() -> Scope
         ensures { result ≡ unknown }
     {
@@ -45,7 +46,7 @@ impl Scope {
         }
     }
 
-    /// The FTI is known before: a check's, whose certificate has it.
+    /// The FTI is known before, the identity isn't: a check's, whose certificate has the FTI.
     pub fn with_fti(fti: Fti) -> Scope
         ensures { result ≡ with_fti fti }
     {
@@ -55,8 +56,10 @@ impl Scope {
         }
     }
 
-    /// Looks at one datagram: the packet, whose symbol is left to the caller to judge, or the first fault before that.
-    /// `None` is a datagram that doesn't count. The scope takes what it doesn't know yet from a packet.
+    /// Looks at one datagram, of any bytes. `Ok` has a packet of the scope and in range, whose symbol, of the FTI's symbol
+    /// length, is left to the caller to judge; `None` is a datagram that doesn't count, of which there is none today. Else
+    /// it is the first fault: `NoPacket`, `OtherIdentity`, `OtherFti`, `Range`. In any case the scope takes from a packet
+    /// what it doesn't know yet; what it knows stays.
     pub fn look<'a>(&mut self, datagram: &'a [u8]) -> Result<Option<Packet<'a>>, PlaceFault>
         ensures { IsLook datagram.now self.old self.new result }
     {

@@ -11,49 +11,49 @@ use Rattle.cert.proofs.Bridge.{lines_are, enough_full, counts_refused}
 use Rattle.cert.proofs.Losing.{are_groups, margin_told, kill_told, burst_told}
 use Rattle.cert.proofs.checking.report_of.Goals as goal
 
-pub blocks_of-requires : goal.blocks_of-requires
-blocks_of-requires c =
-    let f = c.args.symbols.now.certificate.now.fti in
+pub block_lines-requires : goal.block_lines-requires
+block_lines-requires c =
+    let f = c.args.symbols.now.fti in
     let n = count_of c.in-Ok.groups.items in
     let g = c.in-Ok.ensures.groups.count in
     let d = ap (λ (gs : List GroupOf). length gs) c.deref.ensures.value in
-    let few = c.args.symbols.now.valid.fti.blocks in
+    let few = c.in-Ok.ensures.certificate.fti.blocks in
     omega (arith, n, g, d, few)
 
-pub returns-in-Err-blocks_of-clause-refusal : goal.returns-in-Err-blocks_of-clause-refusal
-returns-in-Err-blocks_of-clause-refusal c =
-    let z = c.args.symbols.now.certificate.now in
+pub returns-in-Err-block_lines-clause-no_report : goal.returns-in-Err-block_lines-clause-no_report
+returns-in-Err-block_lines-clause-no_report c =
+    let z = c.args.symbols.now in
     let all = c.in-Ok.ensures.certified in
-    counts_refused z c.args.session.now (groups_of c.in-Ok.groups.items) c.in-Ok.ensures.groups c.in-Err-blocks_of.refusal c.in-Ok.ensures.none
-    (some_counted z (readings_of c.args.session.now) all.who all.some) (rw c.deref.ensures.value at c.in-Err-blocks_of.ensures.refusal)
+    counts_refused z c.args.session.now (groups_of c.in-Ok.groups.items) c.in-Ok.ensures.groups c.in-Err-block_lines.no_report c.in-Ok.ensures.none
+    (some_counted z (readings_of c.args.session.now) all.who all.some) (rw c.deref.ensures.value at c.in-Err-block_lines.ensures.no_report)
 
 pub figures_of-requires-clause-some : goal.figures_of-requires-clause-some
 figures_of-requires-clause-some c =
     let n = count_of c.in-Ok.groups.items in
     let g = c.in-Ok.ensures.groups.count in
     let d = ap (λ (gs : List GroupOf). length gs) c.deref-2.ensures.value in
-    let s = some_block c.args.symbols.now.certificate.now.fti c.args.symbols.now.valid.fti in
+    let s = some_block c.args.symbols.now.fti c.in-Ok.ensures.certificate.fti in
     omega (arith, n, g, d, s)
 
 pub figures_of-requires-clause-groups : goal.figures_of-requires-clause-groups
 figures_of-requires-clause-groups c =
-    let z = c.args.symbols.now.certificate.now in
+    let z = c.args.symbols.now in
     let all = c.in-Ok.ensures.certified in
     let rs = readings_of c.args.session.now in
-    let enough = rw c.deref.ensures.value at c.in-Ok-blocks_of.ensures.enough in
+    let enough = rw c.deref.ensures.value at c.in-Ok-block_lines.ensures.enough in
     rw c.deref-2.ensures.value
-    (length rs, are_groups z c.args.symbols.now.valid.fti all.who rs all.packets (groups_of c.in-Ok.groups.items) c.in-Ok.ensures.groups enough)
+    (length rs, are_groups z c.in-Ok.ensures.certificate.fti all.who rs all.packets (groups_of c.in-Ok.groups.items) c.in-Ok.ensures.groups enough)
 
 pub returns-clause-report : goal.returns-clause-report
 returns-clause-report c =
-    let z = c.args.symbols.now.certificate.now in
-    let valid = c.args.symbols.now.valid.fti in
+    let z = c.args.symbols.now in
+    let valid = c.in-Ok.ensures.certificate.fti in
     let all = c.in-Ok.ensures.certified in
     let rs = readings_of c.args.session.now in
     let groups = groups_of c.in-Ok.groups.items in
     let n = count_of c.in-Ok.groups.items in
-    let lines = rw c.deref.ensures.value at c.in-Ok-blocks_of.ensures.lines in
-    let enough = rw c.deref.ensures.value at c.in-Ok-blocks_of.ensures.enough in
+    let lines = rw c.deref.ensures.value at c.in-Ok-block_lines.ensures.lines in
+    let enough = rw c.deref.ensures.value at c.in-Ok-block_lines.ensures.enough in
     let are = are_groups z valid all.who rs all.packets groups c.in-Ok.ensures.groups enough in
     record {
       readings = rs;
@@ -66,6 +66,6 @@ returns-clause-report c =
 
 pub returns-clause-certified : goal.returns-clause-certified
 returns-clause-certified c =
-    let z = c.args.symbols.now.certificate.now in
-    let enough = rw c.deref.ensures.value at c.in-Ok-blocks_of.ensures.enough in
+    let z = c.args.symbols.now in
+    let enough = rw c.deref.ensures.value at c.in-Ok-block_lines.ensures.enough in
     record { all = c.in-Ok.ensures.certified; full = enough_full z.fti (readings_of c.args.session.now) (groups_of c.in-Ok.groups.items) c.in-Ok.ensures.groups enough }

@@ -1,4 +1,4 @@
-use Rattle.std.proofs.Common.{◌≡◌, length, take}
+use Rattle.std.proofs.Common.{◌≡◌, take}
 use Rattle.losses.specs.Groups.{groups_of}
 use Rattle.reception.specs.Reception.{counted}
 use Rattle.reception.specs.Step.{readings_of}
@@ -8,7 +8,7 @@ use Rattle.cert.proofs.datagrams.groups_of_session.Given as goal
 
 abbrev pub invariant-loop-place : goal.invariant-loop-place
 invariant-loop-place l = record {
-  len : length l.row ≡ length l.initial.row;
-  scanned : Scanned l.symbols.certificate.now l.session l.place l.scope;
-  groups : AreGroupsOf l.symbols.certificate.now.fti (counted (take l.place (readings_of l.session))) (groups_of l.groups.items);
+  certificate : l.symbols ≡ l.initial.symbols;
+  scanned : Scanned l.initial.symbols l.session l.place l.scope;
+  groups : AreGroupsOf l.initial.symbols.fti (counted (take l.place (readings_of l.session))) (groups_of l.groups.items);
 }

@@ -1,0 +1,28 @@
+use Rattle.std.proofs.Common.{◌∙◌, ◌++◌, ◌∷◌, [], ℕ, List, get_or, map, sym, ap, arith, below_more}
+use Rattle.lists.specs.Below.{below}
+use Rattle.losses.specs.Groups.{Group, groups_of, group_at}
+use Rattle.losses.specs.Members.{different_outside}
+use Rattle.losses.specs.declared.groups.Group.{Group as GroupOf}
+use Rattle.losses.proofs.GroupFigures.{seen}
+use Rattle.cert.specs.Scan.{line_in}
+use Rattle.cert.proofs.Bridge.{map_below_more}
+use Rattle.cert.proofs.checking.block_lines.Goals as goal
+
+pub loop-block-init : goal.loop-block-init
+unfolding below
+loop-block-init c = record { lines = c.new-blocks.ensures.items; enough = λ b l. absurd (omega arith) }
+
+pub loop-block-preserved : goal.loop-block-preserved
+loop-block-preserved c =
+    let gs = groups_of c.args.groups.now in
+    let need = ap (λ (g : Group). g.need) (seen c.args.groups.now c.loop-block.block c.index-groups-block.result c.loop-block-test.true) in
+    let have = c.different-have.ensures ∙ ap (λ (g : GroupOf). different_outside g.members.items 0 0) c.index-groups-block-in-loop-block.is ∙ sym (ap (λ (g : Group). different_outside g.members 0 0) (seen c.args.groups.now c.loop-block.block c.index-groups-block-in-loop-block.result c.loop-block-test.true)) in
+    record {
+      lines =
+          c.in-Ok.ensures.items
+          ∙ ap (λ (ls : List (ℕ × ℕ)). ls ++ ((get_or c.args.groups.now c.loop-block.block c.index-groups-block.result).need, c.different-have.result) ∷ []) c.loop-block.invariant.lines
+          ∙ ap (λ (n : ℕ). map (line_in (groups_of c.args.groups.now)) (below c.loop-block.block) ++ (n, c.different-have.result) ∷ []) (sym need)
+          ∙ ap (λ (n : ℕ). map (line_in (groups_of c.args.groups.now)) (below c.loop-block.block) ++ ((group_at (groups_of c.args.groups.now) c.loop-block.block).need, n) ∷ []) have
+          ∙ sym (map_below_more (line_in (groups_of c.args.groups.now)) c.loop-block.block);
+      enough = below_more _ _ c.loop-block.invariant.enough (omega (arith, need, have, c.if-have-need.false));
+    }

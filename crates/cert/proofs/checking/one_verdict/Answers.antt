@@ -1,5 +1,0 @@
-use Rattle.cert.proofs.OneVerdict.{one_verdict}
-use Rattle.cert.proofs.checking.one_verdict.Goals as goal
-
-pub returns : goal.returns
-returns c = one_verdict
