@@ -11,7 +11,7 @@ const SIDE: usize = 16;
 /// Turns columns into rows: puts byte i of column c at place c of row i.
 ///
 /// Each of the `width` columns has `count` bytes and stands behind the one before it, and so does
-/// each of the `count` rows, of `width` bytes.
+/// each of the `count` rows, of `width` bytes. Both numbers may be 0. No byte of `rows` stays.
 pub fn rows_from_columns(rows: &mut [u8], columns: &[u8], count: usize, width: usize)
     requires rows { length rows.old ≡ count * width }
     requires columns { length columns.now ≡ width * count }
