@@ -104,8 +104,8 @@ impl<F: Field> Matrix<F> {
     pub(crate) fn swap_rows(&mut self, a: usize, b: usize)
         requires first { a < self.old.rows }
         requires second { b < self.old.rows }
-        ensures { IsStep F.element F.ZERO (IsSwapped self.old.rows self.old.cols a b)
-            self.old self.new }
+        ensures { IsStep F.element F.ZERO
+            (IsSwapped self.old.rows self.old.cols a b) self.old self.new }
     {
         let cols = self.cols();
         for j in 0..cols {
@@ -120,8 +120,8 @@ impl<F: Field> Matrix<F> {
     pub(crate) fn scale_row(&mut self, r: usize, c: F)
         requires row { r < self.old.rows }
         requires scale { F.element c }
-        ensures { IsStep F.element F.ZERO (IsScaled F.product self.old.rows self.old.cols r c)
-            self.old self.new }
+        ensures { IsStep F.element F.ZERO
+            (IsScaled F.product self.old.rows self.old.cols r c) self.old self.new }
     {
         let cols = self.cols();
         for j in 0..cols {
@@ -136,8 +136,8 @@ impl<F: Field> Matrix<F> {
         requires other { p < self.old.rows }
         requires apart { p ≢ r }
         requires scale { F.element c }
-        ensures { IsStep F.element F.ZERO (IsAdded F.sum F.product self.old.rows self.old.cols r c p)
-            self.old self.new }
+        ensures { IsStep F.element F.ZERO
+            (IsAdded F.sum F.product self.old.rows self.old.cols r c p) self.old self.new }
     {
         add_scaled_rows(&mut self.entries, self.cols, r, c, p);
     }
