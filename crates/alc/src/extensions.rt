@@ -1,4 +1,4 @@
-// The header extensions (RFC 5651, section 5.2), and EXT_FTI among them (RFC 5510, section 5.2.4.1).
+//! The header extensions (RFC 5651, section 5.2), and EXT_FTI among them (RFC 5510, section 5.2.4.1).
 ghost use Rattle.std.specs.Prelude.{◌≡◌, ◌<◌, length, IfOk, IfErr, IfSome, None, Some, option_map, Ok, Err};
 ghost use Rattle.partition.specs.FtiFault.{fti_fault};
 ghost use Rattle.alc.specs.Computed.{size_of, walk, fti_in};
@@ -26,8 +26,9 @@ fn size_in_front(rest: &[u8]) -> usize
 
 /// The content of EXT_FTI among the header extensions, where they are whole and at most one of them is EXT_FTI.
 pub(crate) fn fti_content(extensions: &[u8]) -> Result<Option<&[u8]>, PacketFault>
-    ensures found { IfOk result
-        (λ found. walk (length extensions.now) extensions.now None ≡ Ok (option_map (λ content. content.now) found)) }
+    ensures found { IfOk result (λ found.
+        walk (length extensions.now) extensions.now None
+        ≡ Ok (option_map (λ content. content.now) found)) }
     ensures fault { IfErr result (λ e. walk (length extensions.now) extensions.now None ≡ Err e) }
     ensures ten { IfOk result (λ found. IfSome found (λ content. length content.now ≡ 10)) }
 {
@@ -59,7 +60,8 @@ pub(crate) fn fti_of(content: &[u8]) -> Result<Fti, PacketFault>
     requires { length content.now ≡ 10 }
     ensures numbers { IfOk result (λ f. f ≡ fti_in content.now) }
     ensures no_fault { IfOk result (λ _. fti_fault (fti_in content.now) ≡ None) }
-    ensures fault { IfErr result (λ r. option_map PacketFault.FtiValue (fti_fault (fti_in content.now)) ≡ Some r) }
+    ensures fault { IfErr result (λ r.
+        option_map PacketFault.FtiValue (fti_fault (fti_in content.now)) ≡ Some r) }
 {
     let transfer_length = BigEndian::read_u48(content);
     let symbol_length = BigEndian::read_u16(&content[6..]);

@@ -1,3 +1,4 @@
+//! Faults of datagrams.
 use partition::FtiError;
 use thiserror::Error;
 

@@ -1,4 +1,4 @@
-// The fixed part of the header (RFC 5651, section 5.1).
+//! The fixed part of the header (RFC 5651, section 5.1).
 ghost use Rattle.std.specs.Prelude.{◌≡◌, Err, IfOk, IfErr};
 ghost use Rattle.alc.specs.Computed.{read_of};
 ghost use Rattle.alc.specs.Layout.{Lies};

@@ -3,6 +3,12 @@
 //! encoding symbol.
 //!
 //! Numbers of more than one byte are big-endian. No call takes memory: a packet borrows its symbol from its datagram.
+//!
+//! - `fault`: why a datagram is no packet.
+//! - `header`: the fixed part of the header, and where its fields begin.
+//! - `extensions`: the header extensions, and the FTI in EXT_FTI.
+//! - `reading`: a datagram as a packet or its first fault.
+//! - `writing`: a packet as a datagram.
 #![tactic(auto)]
 
 mod extensions;

@@ -1,4 +1,4 @@
-// Reading a datagram.
+//! Reading a datagram.
 ghost use Rattle.std.specs.Prelude.{◌≡◌, ◌+◌, ◌<◌, ◌^◌, ℕ, List, length, IfOk};
 ghost use Rattle.lists.specs.Bytes.{AreBytes};
 ghost use Rattle.partition.specs.Fti.{IsValidFti};
@@ -62,7 +62,8 @@ fn parse(datagram: &[u8]) -> Result<Packet<'_>, PacketFault>
     Ok(packet_with_fti(datagram, header, fti))
 }
 
-/// The packet that the datagram is, or the first fault for which it is none.
+/// The packet that the datagram is, or the first fault for which it is none, in the order of `PacketFault`'s variants.
+/// Any bytes may be given. The packet's symbol is the end of the datagram.
 pub fn read(datagram: &[u8]) -> Result<Packet<'_>, PacketFault>
     // The datagram is that packet, or has that fault and none before it.
     ensures reads { Reads datagram.now (reading_of result) }

@@ -1,5 +1,5 @@
-// Writing a datagram, in the one form that is written: TSI and TOI of 32 bits, CCI of 32 bits, all zero, and no header
-// extension but EXT_FTI.
+//! Writing a datagram, in the one form that is written: TSI and TOI of 32 bits, CCI of 32 bits, all zero, and no header
+//! extension but EXT_FTI.
 ghost use Rattle.std.specs.Prelude.{◌≡◌, ◌+◌, ◌<◌, ◌≤◌, ◌++◌, ◌^◌, length, drop, take};
 ghost use Rattle.partition.specs.Fti.{block_count, encoding_count};
 ghost use Rattle.alc.specs.Packet.{IsPacket, written};
@@ -45,6 +45,9 @@ fn write_payload_id(out: &mut [u8], sbn: u32, esi: u8)
 
 /// Writes the datagram of this packet at the front of `out`, and returns the datagram's length: 32 bytes of header and
 /// payload ID, and E bytes of symbol. The rest of `out` stays as it was.
+///
+/// `sbn` is a block of the FTI, `esi` one of that block's encoding symbols, `symbol` has E bytes, and `out` room for the
+/// whole datagram.
 pub fn write(
     tsi: u32,
     toi: u32,

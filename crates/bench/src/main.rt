@@ -41,6 +41,6 @@ fn next_points() -> usize {
         row[usize::from(esi)] = point(esi).0;
     }
     let mut scaled = [0u8; 255];
-    add_scaled(&mut scaled, Gf::ALPHA, &row);
+    add_scaled(&mut scaled, Gf::alpha(), &row);
     (0..254).filter(|&i| scaled[i] == row[i + 1]).count()
 }

@@ -43,6 +43,12 @@ pub record HasShape {F : Type 0} (r c : ℕ) (g : Grid F) : Type 0 where
 pub record HasEntries {F : Type 0} (none : F) (r c : ℕ) (f : ℕ → ℕ → F) (g : Grid F) : Type 0 where
   pub at : (i j : ℕ) → i < r → j < c → entry none g i j ≡ f i j
 
+-- a matrix of r rows and c columns whose entries are the values of f, each an element
+pub record IsMatrixOf {F : Type 0} (element : F → Type 0) (none : F) (r c : ℕ) (f : ℕ → ℕ → F) (g : Grid F) : Type 0 where
+  pub shape : HasShape r c g
+  pub entries : HasEntries none r c f g
+  pub elements : HasElements element none g
+
 -- the square matrices m and w are the inverses of each other
 abbrev pub AreInverse : {F : Type 0} → (F → F → F) → (F → F → F) → F → F → Grid F → Grid F → Type 0
 AreInverse add mul none one m w = AreInverseSquares add mul none one m.rows (entry none m) (entry none w)

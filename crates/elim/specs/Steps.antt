@@ -2,11 +2,18 @@
 use Rattle.std.specs.Prelude.{◌≡◌, ◌≢◌, ◌<◌, ◌+◌, ℕ}
 use Rattle.gf256.specs.Sums.{dot}
 use Rattle.elim.specs.Matrices.{identity_entry, AreElements}
+use Rattle.elim.specs.Grid.{Grid, entry, HasElements, HasShape}
 
 -- one entry is v, and the others stay
 pub record IsSet {F : Type 0} (n i j : ℕ) (v : F) (old new : ℕ → ℕ → F) : Type 0 where
   pub here : new i j ≡ v
   pub others : (a b : ℕ) → b < n → (a ≡ i → b ≡ j → ⊥) → new a b ≡ old a b
+
+-- a step on a matrix: as many rows and columns as before, and its entries, all elements, have changed like this
+pub record IsStep {F : Type 0} (element : F → Type 0) (none : F) (change : (ℕ → ℕ → F) → (ℕ → ℕ → F) → Type 0) (old new : Grid F) : Type 0 where
+  pub shape : HasShape old.rows old.cols new
+  pub entries : change (entry none old) (entry none new)
+  pub elements : HasElements element none new
 
 -- rows a and b have changed places
 pub record IsSwapped {F : Type 0} (k n a b : ℕ) (old new : ℕ → ℕ → F) : Type 0 where

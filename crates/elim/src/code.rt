@@ -9,7 +9,7 @@ use crate::matrix::Matrix;
 use gf256::{Gf, point};
 use std::alloc::{AllocError, Global};
 
-/// The first points of the code.
+// The first points of the code.
 fn points(alloc: Global, count: usize) -> Result<Vec<Gf>, AllocError>
     requires { count ≤ 255 }
     ensures { IfOk result (λ v. ArePoints count v.items) }
@@ -23,7 +23,8 @@ fn points(alloc: Global, count: usize) -> Result<Vec<Gf>, AllocError>
 
 /// The generator matrix of `k` rows and `n` columns of RFC 5510, section 8.2.1: the inverse of the
 /// Vandermonde matrix of the first `k` points and `k` rows, times that of the first `n` points and
-/// `k` rows. Want of memory is the only error.
+/// `k` rows. A block has `k` source symbols, one at least, and `n` encoding symbols, at least `k` and
+/// at most 255. Want of memory is the only error.
 pub fn generator(alloc: Global, k: usize, n: usize) -> Result<Matrix<Gf>, AllocError>
     requires some { 0 < k }
     requires wide { k ≤ n }
@@ -43,9 +44,9 @@ pub fn generator(alloc: Global, k: usize, n: usize) -> Result<Matrix<Gf>, AllocE
     product(alloc, &inverse, &wide)
 }
 
-/// The inverse of the Vandermonde matrix of the first `k` points: a row of `k` bytes times it is the
-/// coefficients, the constant one first, of the polynomial with these values at the points. Want of
-/// memory is the only error.
+/// The inverse of the Vandermonde matrix of the first `k` points, 1 to 255: a row of `k` bytes times it
+/// is the coefficients, the constant one first, of the polynomial with these values at the points.
+/// Want of memory is the only error.
 pub fn interpolator(alloc: Global, k: usize) -> Result<Matrix<Gf>, AllocError>
     requires some { 0 < k }
     requires few { k ≤ 255 }

@@ -3,7 +3,7 @@ ghost use Rattle.std.specs.Prelude.{◌≡◌, ◌≢◌, ◌<◌, ◌≤◌, �
 ghost use Rattle.poly.specs.Polynomial.{AreDifferent};
 ghost use Rattle.elim.specs.Matrices.{identity_entry};
 ghost use Rattle.elim.specs.Vandermonde.{vandermonde_entry};
-ghost use Rattle.elim.specs.Grid.{entry, product_entry, HasElements, HasShape, HasEntries, IsSingular};
+ghost use Rattle.elim.specs.Grid.{entry, product_entry, HasElements, HasShape, IsMatrixOf, IsSingular};
 
 use crate::matrix::Matrix;
 use gf256::Field;
@@ -11,10 +11,8 @@ use std::alloc::{AllocError, Global};
 
 /// The same entries with rows for columns.
 pub(crate) fn transposed<F: Field>(alloc: Global, m: &Matrix<F>) -> Result<Matrix<F>, AllocError>
-    ensures shape { IfOk result (HasShape m.now.cols m.now.rows) }
-    ensures entries { IfOk result
-        (HasEntries F.ZERO m.now.cols m.now.rows (λ i j. entry F.ZERO m.now j i)) }
-    ensures elements { IfOk result (HasElements F.element F.ZERO) }
+    ensures { IfOk result
+        (IsMatrixOf F.element F.ZERO m.now.cols m.now.rows (λ i j. entry F.ZERO m.now j i)) }
 {
     let rows = m.cols();
     let cols = m.rows();
@@ -31,9 +29,8 @@ pub(crate) fn transposed<F: Field>(alloc: Global, m: &Matrix<F>) -> Result<Matri
 pub(crate) fn identity<F: Field>(alloc: Global, size: usize) -> Result<Matrix<F>, AllocError>
     requires some { 0 < size }
     requires few { size ≤ 255 }
-    ensures shape { IfOk result (HasShape size size) }
-    ensures entries { IfOk result (HasEntries F.ZERO size size (identity_entry F.ZERO F.ONE)) }
-    ensures elements { IfOk result (HasElements F.element F.ZERO) }
+    ensures { IfOk result
+        (IsMatrixOf F.element F.ZERO size size (identity_entry F.ZERO F.ONE)) }
 {
     let mut made = Matrix::try_new(alloc, size, size)?;
     for i in 0..size {
@@ -44,7 +41,7 @@ pub(crate) fn identity<F: Field>(alloc: Global, size: usize) -> Result<Matrix<F>
     Ok(made)
 }
 
-/// Row `i` of `a` times column `j` of `b`.
+// Row `i` of `a` times column `j` of `b`.
 fn entry_of_product<F: Field>(a: &Matrix<F>, b: &Matrix<F>, i: usize, j: usize) -> F
     requires fit { a.now.cols ≡ b.now.rows }
     requires row { i < a.now.rows }
@@ -60,18 +57,17 @@ fn entry_of_product<F: Field>(a: &Matrix<F>, b: &Matrix<F>, i: usize, j: usize) 
     total
 }
 
-/// The matrix product `a * b`. Want of memory is the only error.
+/// The matrix product `a * b`, of a's rows and b's columns, where `a` has as many columns as `b` rows.
+/// Want of memory is the only error.
 pub fn product<F: Field>(
     alloc: Global,
     a: &Matrix<F>,
     b: &Matrix<F>,
 ) -> Result<Matrix<F>, AllocError>
     requires { a.now.cols ≡ b.now.rows }
-    ensures shape { IfOk result (HasShape a.now.rows b.now.cols) }
-    ensures entries { IfOk result
-        (HasEntries F.ZERO a.now.rows b.now.cols
+    ensures { IfOk result
+        (IsMatrixOf F.element F.ZERO a.now.rows b.now.cols
         (product_entry F.sum F.product F.ZERO a.now b.now)) }
-    ensures elements { IfOk result (HasElements F.element F.ZERO) }
 {
     let rows = a.rows();
     let cols = b.cols();
@@ -84,23 +80,22 @@ pub fn product<F: Field>(
     Ok(made)
 }
 
-/// The Vandermonde matrix of `k` rows: row `i` has each point to the power `i`. A square one of
-/// different points isn't singular. Want of memory is the only error.
+/// The Vandermonde matrix of `k` rows, 1 to 255, and a column for each of 1 to 255 points: row `i` has
+/// each point to the power `i`. A square one of different points isn't singular. Want of memory is
+/// the only error.
 pub fn vandermonde<F: Field>(alloc: Global, points: &[F], k: usize) -> Result<Matrix<F>, AllocError>
     requires some_points { 0 < length points.now }
     requires few_points { length points.now ≤ 255 }
     requires some_rows { 0 < k }
     requires few_rows { k ≤ 255 }
-    ensures shape { IfOk result (HasShape k (length points.now)) }
-    ensures entries { IfOk result
-        (HasEntries F.ZERO k (length points.now)
+    ensures matrix { IfOk result
+        (IsMatrixOf F.element F.ZERO k (length points.now)
         (vandermonde_entry F.product F.ZERO F.ONE points.now)) }
     ensures regular { IfOk result (λ m.
         length points.now ≡ k
         → All F.element points.now
         → AreDifferent points.now
         → ¬ IsSingular F.element F.sum F.product F.ZERO m) }
-    ensures elements { IfOk result (HasElements F.element F.ZERO) }
 {
     let cols = points.len();
     let mut made = Matrix::try_new(alloc, k, cols)?;

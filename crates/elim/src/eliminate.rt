@@ -17,6 +17,7 @@ pub enum ElimError {
     /// Some row that isn't zero, times the matrix, is zero.
     #[error("E1 Singular")]
     Singular,
+    /// There is no memory.
     #[error("E2 NoMemory")]
     NoMemory,
 }
@@ -32,7 +33,7 @@ impl From<AllocError> for ElimError {
     }
 }
 
-/// A row from `p` on with an entry in column `p` that isn't zero, and that entry's inverse.
+// A row from `p` on with an entry in column `p` that isn't zero, and that entry's inverse.
 fn pivot<F: Field>(work: &Matrix<F>, p: usize) -> Option<(usize, F)>
     requires row { p < work.now.rows }
     requires column { p < work.now.cols }
@@ -52,7 +53,7 @@ fn pivot<F: Field>(work: &Matrix<F>, p: usize) -> Option<(usize, F)>
     None
 }
 
-/// Brings row `q` to place `p` and makes its entry in column `p` one.
+// Brings row `q` to place `p` and makes its entry in column `p` one.
 fn normalize<F: Field>(work: &mut Matrix<F>, right: &mut Matrix<F>, p: usize, q: usize, inverse: F)
     requires work { HasShape work.old.rows work.old.rows work.old }
     requires right { HasShape work.old.rows work.old.rows right.old }
@@ -74,7 +75,7 @@ fn normalize<F: Field>(work: &mut Matrix<F>, right: &mut Matrix<F>, p: usize, q:
     right.scale_row(p, inverse);
 }
 
-/// Takes column `p` out of all rows but row `p`, whose entry there is one.
+// Takes column `p` out of all rows but row `p`, whose entry there is one.
 fn clear<F: Field>(work: &mut Matrix<F>, right: &mut Matrix<F>, p: usize)
     requires work { HasShape work.old.rows work.old.rows work.old }
     requires right { HasShape work.old.rows work.old.rows right.old }
@@ -100,9 +101,10 @@ fn clear<F: Field>(work: &mut Matrix<F>, right: &mut Matrix<F>, p: usize)
     }
 }
 
-/// The inverse of a square matrix, on both sides.
+/// The inverse of a square matrix, on both sides, of as many rows and columns.
 ///
-/// `Singular` is answered exactly where some row that isn't zero, times the matrix, is zero.
+/// The error is `Singular` exactly where some row that isn't zero, times the matrix, is zero, or
+/// `NoMemory`.
 /// Columns are eliminated, as rows of the transposed matrix, so that such a row is at hand.
 pub fn invert<F: Field>(alloc: Global, m: &Matrix<F>) -> Result<Matrix<F>, ElimError>
     requires { m.now.cols ≡ m.now.rows }

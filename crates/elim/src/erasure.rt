@@ -3,14 +3,14 @@ ghost use Rattle.std.specs.Prelude.{◌≡◌, ◌<◌, ◌≤◌, ℕ, IfOk, le
 ghost use Rattle.lists.specs.Bytes.{IsByte};
 ghost use Rattle.elim.specs.Generator.{Encodes};
 ghost use Rattle.elim.specs.Erasures.{AreErasures, Recovers, part_entry};
-ghost use Rattle.elim.specs.Grid.{HasElements, HasShape, HasEntries};
+ghost use Rattle.elim.specs.Grid.{HasShape, IsMatrixOf};
 
 use crate::eliminate::{ElimError, invert};
 use crate::matrix::Matrix;
 use gf256::Gf;
 use std::alloc::{AllocError, Global};
 
-/// The entries of `m` in these rows and columns.
+// The entries of `m` in these rows and columns.
 fn part(alloc: Global, m: &Matrix<Gf>, rows: &[u8], cols: &[u8]) -> Result<Matrix<Gf>, AllocError>
     requires some_rows { 0 < length rows.now }
     requires few_rows { length rows.now ≤ 255 }
@@ -18,10 +18,9 @@ fn part(alloc: Global, m: &Matrix<Gf>, rows: &[u8], cols: &[u8]) -> Result<Matri
     requires few_cols { length cols.now ≤ 255 }
     requires rows { (i : ℕ) → i < length rows.now → slice_index rows.now i < m.now.rows }
     requires cols { (j : ℕ) → j < length cols.now → slice_index cols.now j < m.now.cols }
-    ensures shape { IfOk result (HasShape (length rows.now) (length cols.now)) }
-    ensures entries { IfOk result
-        (HasEntries 0 (length rows.now) (length cols.now) (part_entry m.now rows.now cols.now)) }
-    ensures elements { IfOk result (HasElements IsByte 0) }
+    ensures { IfOk result
+        (IsMatrixOf IsByte 0 (length rows.now) (length cols.now)
+        (part_entry m.now rows.now cols.now)) }
 {
     let mut made = Matrix::try_new(alloc, rows.len(), cols.len())?;
     for i in 0..rows.len() {
@@ -35,7 +34,7 @@ fn part(alloc: Global, m: &Matrix<Gf>, rows: &[u8], cols: &[u8]) -> Result<Matri
 /// The matrix that makes a block's missing source symbols of as many repair symbols, once the source
 /// symbols that came are taken out of them, for decoding (RFC 5510, section 8.3): the inverse of the
 /// generator matrix's part in the missing rows and the repair columns, both given as rising ESIs. It
-/// has as many rows and columns as there are missing. Want of memory is the only error.
+/// has as many rows and columns as there are missing: one at least. Want of memory is the only error.
 pub fn recovery(
     alloc: Global,
     generator: &Matrix<Gf>,

@@ -1,5 +1,11 @@
 //! Matrices over a field: products, inverses by elimination, and the generator matrix of the code
 //! of RFC 5510, section 8.2.1.
+//!
+//! - `matrix`: a matrix over any field, its entries, and steps on its rows.
+//! - `combine`: the transposed matrix, the identity, products and Vandermonde matrices.
+//! - `eliminate`: the inverse, or that there is none.
+//! - `code`: the generator matrix, and what gives a polynomial's coefficients from its values.
+//! - `erasure`: what gives missing source symbols from repair symbols.
 #![tactic(auto)]
 
 mod code;

@@ -1,7 +1,7 @@
 //! A matrix, and steps on its rows.
 ghost use Rattle.std.specs.Prelude.{◌≡◌, ◌≢◌, ◌<◌, ◌≤◌, ◌+◌, ◌*◌, ◌^◌, ℕ, IfOk, replicate, length, slice_index_or};
 ghost use Rattle.elim.specs.Grid.{Grid, entry, HasElements, HasShape, IsMatrix};
-ghost use Rattle.elim.specs.Steps.{IsSet, IsSwapped, IsScaled, IsAdded};
+ghost use Rattle.elim.specs.Steps.{IsSet, IsStep, IsSwapped, IsScaled, IsAdded};
 
 use gf256::Field;
 use std::alloc::{AllocError, Global};
@@ -28,6 +28,7 @@ impl<F: Field> Model for Matrix<F> {
         (record { rows = m.rows; cols = m.cols; entries = m.entries.items }) };
 }
 
+// The entries of a matrix of zeros.
 fn zeros<F: Field>(alloc: Global, count: usize) -> Result<Vec<F>, AllocError>
     ensures { IfOk result (λ v. v.items ≡ replicate count F.ZERO) }
 {
@@ -39,7 +40,8 @@ fn zeros<F: Field>(alloc: Global, count: usize) -> Result<Vec<F>, AllocError>
 }
 
 impl<F: Field> Matrix<F> {
-    /// A matrix whose entries are all zero.
+    /// A matrix of 1 to 255 rows and 1 to 255 columns whose entries are all zero. Want of memory is the
+    /// only error.
     pub fn try_new(alloc: Global, rows: usize, cols: usize) -> Result<Matrix<F>, AllocError>
         requires some_rows { 0 < rows }
         requires few_rows { rows ≤ 255 }
@@ -57,7 +59,7 @@ impl<F: Field> Matrix<F> {
         })
     }
 
-    /// The number of rows.
+    /// The number of rows, 1 to 255.
     pub fn rows(&self) -> usize
         ensures value { result ≡ self.now.rows }
         ensures matrix { IsMatrix F.element F.ZERO self.now }
@@ -65,7 +67,7 @@ impl<F: Field> Matrix<F> {
         self.rows
     }
 
-    /// The number of columns.
+    /// The number of columns, 1 to 255.
     pub fn cols(&self) -> usize
         ensures value { result ≡ self.now.cols }
         ensures matrix { IsMatrix F.element F.ZERO self.now }
@@ -73,7 +75,7 @@ impl<F: Field> Matrix<F> {
         self.cols
     }
 
-    /// The entry in row `i` and column `j`.
+    /// The entry in row `i` and column `j`, counted from 0, of which the matrix has both.
     pub fn get(&self, i: usize, j: usize) -> F
         requires row { i < self.now.rows }
         requires column { j < self.now.cols }
@@ -83,7 +85,8 @@ impl<F: Field> Matrix<F> {
         self.entries[i * self.cols + j]
     }
 
-    /// Makes the entry in row `i` and column `j` this value.
+    /// Makes the entry in row `i` and column `j`, counted from 0, this value. The matrix has that row and
+    /// column; all other entries stay.
     pub fn set(&mut self, i: usize, j: usize, value: F)
         requires row { i < self.old.rows }
         requires column { j < self.old.cols }
@@ -101,10 +104,8 @@ impl<F: Field> Matrix<F> {
     pub(crate) fn swap_rows(&mut self, a: usize, b: usize)
         requires first { a < self.old.rows }
         requires second { b < self.old.rows }
-        ensures shape { HasShape self.old.rows self.old.cols self.new }
-        ensures swapped { IsSwapped self.old.rows self.old.cols a b
-            (entry F.ZERO self.old) (entry F.ZERO self.new) }
-        ensures elements { HasElements F.element F.ZERO self.new }
+        ensures { IsStep F.element F.ZERO
+            (IsSwapped self.old.rows self.old.cols a b) self.old self.new }
     {
         let cols = self.cols();
         for j in 0..cols {
@@ -119,10 +120,8 @@ impl<F: Field> Matrix<F> {
     pub(crate) fn scale_row(&mut self, r: usize, c: F)
         requires row { r < self.old.rows }
         requires scale { F.element c }
-        ensures shape { HasShape self.old.rows self.old.cols self.new }
-        ensures scaled { IsScaled F.product self.old.rows self.old.cols r c
-            (entry F.ZERO self.old) (entry F.ZERO self.new) }
-        ensures elements { HasElements F.element F.ZERO self.new }
+        ensures { IsStep F.element F.ZERO
+            (IsScaled F.product self.old.rows self.old.cols r c) self.old self.new }
     {
         let cols = self.cols();
         for j in 0..cols {
@@ -137,16 +136,14 @@ impl<F: Field> Matrix<F> {
         requires other { p < self.old.rows }
         requires apart { p ≢ r }
         requires scale { F.element c }
-        ensures shape { HasShape self.old.rows self.old.cols self.new }
-        ensures added { IsAdded F.sum F.product self.old.rows self.old.cols r c p
-            (entry F.ZERO self.old) (entry F.ZERO self.new) }
-        ensures elements { HasElements F.element F.ZERO self.new }
+        ensures { IsStep F.element F.ZERO
+            (IsAdded F.sum F.product self.old.rows self.old.cols r c p) self.old self.new }
     {
         add_scaled_rows(&mut self.entries, self.cols, r, c, p);
     }
 }
 
-/// Of rows of `cols` entries, adds `c` times row `p` to row `r`, another one.
+// Of rows of `cols` entries, adds `c` times row `p` to row `r`, another one.
 fn add_scaled_rows<F: Field>(entries: &mut [F], cols: usize, r: usize, c: F, p: usize)
     requires small { length entries.old < 2 ^ 32 }
     requires row { r * cols + cols ≤ length entries.old }

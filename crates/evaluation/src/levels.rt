@@ -1,5 +1,6 @@
 //! The values at the first points, in one level or in two.
 ghost use Rattle.std.specs.Prelude.{◌≡◌, ◌<◌, ◌≤◌, ◌+◌, ◌*◌, ◌^◌, ℕ, length, slice_index};
+ghost use Rattle.lists.specs.Bytes.{AreBytes};
 ghost use Rattle.evaluation.specs.Columns.{AreValues, AreSums, IsPart, AreParts};
 
 use crate::powers::write_powers;
@@ -14,9 +15,21 @@ const POWERS: usize = 17;
 /// Fewer coefficients are not worth two levels, by measurement.
 const LEAST_COUNT: usize = 80;
 
+/// Rows of coefficients: row i has coefficient i of the polynomial of each byte column.
+#[derive(Drop)]
+struct Coefficients<'a> {
+    bytes: &'a [u8],
+    k: usize,
+    width: usize,
+    ghost few: { k ≤ 255 },
+    ghost whole: { length bytes.now ≡ k * width },
+    ghost fit: { AreBytes bytes.now },
+}
+
 /// Makes row j of `symbols` the values at point j of the polynomials whose coefficients stand in
 /// the columns of `coefficients`. There are `n` rows of symbols and `k` of coefficients, each of
-/// `width` bytes; `sums` is room to work in, and what it has afterwards means nothing.
+/// `width` bytes; `n` and `k` are at most 255, and `width` may be 0. `sums` is room to work in, of 255
+/// rows, and what it has afterwards means nothing.
 ///
 /// With x = alpha^j a polynomial is the sum over v < 15 of x^v times a polynomial in x^15, which
 /// takes 17 values over all points. So from some `k` on two sums of few products replace one of `k`
@@ -36,12 +49,17 @@ pub fn evaluate(
     requires sums { length sums.old ≡ 255 * width }
     ensures { AreValues coefficients.now k width n symbols.new }
 {
+    let coefficients = Coefficients {
+        bytes: coefficients,
+        k,
+        width,
+    };
     clear(symbols);
     if k < LEAST_COUNT {
-        add_values(symbols, n, coefficients, k, width);
+        add_values(symbols, n, &coefficients);
     } else {
-        write_parts(sums, coefficients, k, width);
-        add_parts(symbols, n, coefficients, k, width, sums);
+        write_parts(sums, &coefficients);
+        add_parts(symbols, n, &coefficients, sums);
     }
 }
 
@@ -53,47 +71,45 @@ fn clear(bytes: &mut [u8])
 }
 
 // In one level: each value is the sum of the coefficients times their powers.
-fn add_values(symbols: &mut [u8], n: usize, coefficients: &[u8], k: usize, width: usize)
-    requires few { k < 80 }
+fn add_values(symbols: &mut [u8], n: usize, coefficients: &Coefficients<'_>)
+    requires few { coefficients.now.k < 80 }
     requires points { n ≤ 255 }
-    requires symbols { length symbols.old ≡ n * width }
-    requires coefficients { length coefficients.now ≡ k * width }
+    requires symbols { length symbols.old ≡ n * coefficients.now.width }
     requires zeros { (p : ℕ) → slice_index symbols.old p ≡ 0 }
-    ensures { AreSums coefficients.now k width n symbols.new }
+    ensures { AreSums coefficients.now.bytes.now coefficients.now.k coefficients.now.width n
+        symbols.new }
 {
+    let Coefficients { bytes, k, width } = *coefficients;
     let mut matrix = [0u8; 20145];
     let powers = &mut matrix[..n * k];
     write_powers(powers, n, k, 0, 1, 1);
-    add_products(symbols, n, powers, coefficients, k, width, width);
+    add_products(symbols, n, powers, bytes, k, width, width);
 }
 
 // The first level: for each part and each power of alpha below 17 the sum of the part's
 // coefficients times their powers.
-fn write_parts(sums: &mut [u8], coefficients: &[u8], k: usize, width: usize)
-    requires parts { 15 ≤ k }
-    requires few { k ≤ 255 }
-    requires coefficients { length coefficients.now ≡ k * width }
-    requires room { length sums.old ≡ 255 * width }
+fn write_parts(sums: &mut [u8], coefficients: &Coefficients<'_>)
+    requires parts { 15 ≤ coefficients.now.k }
+    requires room { length sums.old ≡ 255 * coefficients.now.width }
     ensures len { length sums.new ≡ length sums.old }
-    ensures parts { AreParts coefficients.now width sums.new }
+    ensures parts { AreParts coefficients.now.bytes.now coefficients.now.width sums.new }
 {
-    let size = POWERS * width;
+    let size = POWERS * coefficients.width;
     for v in 0..PARTS {
         let from = v * size;
-        write_part(&mut sums[from..from + size], v, coefficients, k, width);
+        write_part(&mut sums[from..from + size], v, coefficients);
     }
 }
 
 // The sums of one part.
-fn write_part(sums: &mut [u8], v: usize, coefficients: &[u8], k: usize, width: usize)
+fn write_part(sums: &mut [u8], v: usize, coefficients: &Coefficients<'_>)
     requires part { v < 15 }
-    requires narrow { 256 * width < 2 ^ 64 }
-    requires parts { 15 ≤ k }
-    requires few { k ≤ 255 }
-    requires coefficients { length coefficients.now ≡ k * width }
-    requires room { length sums.old ≡ 17 * width }
-    ensures { IsPart coefficients.now width v sums.new }
+    requires narrow { 256 * coefficients.now.width < 2 ^ 64 }
+    requires parts { 15 ≤ coefficients.now.k }
+    requires room { length sums.old ≡ 17 * coefficients.now.width }
+    ensures { IsPart coefficients.now.bytes.now coefficients.now.width v sums.new }
 {
+    let Coefficients { bytes, k, width } = *coefficients;
     let count = (k - v + PARTS - 1) / PARTS;
     let mut matrix = [0u8; 289];
     let powers = &mut matrix[..POWERS * count];
@@ -103,7 +119,7 @@ fn write_part(sums: &mut [u8], v: usize, coefficients: &[u8], k: usize, width: u
         sums,
         POWERS,
         powers,
-        &coefficients[v * width..],
+        &bytes[v * width..],
         count,
         PARTS * width,
         width,
@@ -112,16 +128,16 @@ fn write_part(sums: &mut [u8], v: usize, coefficients: &[u8], k: usize, width: u
 
 // The second level: 17 rows of values side by side are the sum of the parts, each times a power of
 // alpha.
-fn add_parts(symbols: &mut [u8], n: usize, coefficients: &[u8], k: usize, width: usize, sums: &[u8])
-    requires few { k ≤ 255 }
+fn add_parts(symbols: &mut [u8], n: usize, coefficients: &Coefficients<'_>, sums: &[u8])
     requires points { n ≤ 255 }
-    requires symbols { length symbols.old ≡ n * width }
-    requires coefficients { length coefficients.now ≡ k * width }
-    requires room { length sums.now ≡ 255 * width }
+    requires symbols { length symbols.old ≡ n * coefficients.now.width }
+    requires room { length sums.now ≡ 255 * coefficients.now.width }
     requires zeros { (p : ℕ) → slice_index symbols.old p ≡ 0 }
-    requires parts { AreParts coefficients.now width sums.now }
-    ensures { AreSums coefficients.now k width n symbols.new }
+    requires parts { AreParts coefficients.now.bytes.now coefficients.now.width sums.now }
+    ensures { AreSums coefficients.now.bytes.now coefficients.now.k coefficients.now.width n
+        symbols.new }
 {
+    let width = coefficients.width;
     let size = POWERS * width;
     let whole = n / POWERS;
     let rest = n % POWERS;

@@ -2,6 +2,9 @@
 //!
 //! Row i of the coefficients has coefficient i of each polynomial, a byte column for each. So a row
 //! of values is a sum of rows of coefficients, each times a power of alpha.
+//!
+//! - `powers`: the matrices of these powers.
+//! - `levels`: the values, in one level of sums or in two.
 #![tactic(auto)]
 
 mod levels;

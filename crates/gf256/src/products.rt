@@ -451,7 +451,7 @@ fn add_one(output: &mut [u8], coefficients: &[u8], sources: &[u8], stride: usize
 ///
 /// A row of `outputs` has `width` bytes, and one of `coefficients` a byte for each source. A source
 /// has `width` bytes, too, and begins `stride` bytes after the one before it; past the end of
-/// `sources` all bytes are 0. Each number may be 0.
+/// `sources` all bytes are 0. Each number may be 0, and `count * stride + width` is below 2^64.
 pub fn add_products(
     outputs: &mut [u8],
     rows: usize,

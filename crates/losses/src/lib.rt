@@ -2,6 +2,13 @@
 //!
 //! A place may be in one group, in several or in none; nothing here knows of packets. The definitions are of all losses
 //! (`specs/Losses`), and hold of groups of places (`specs/Groups`) as of any list; the code counts copies and slides a window.
+//!
+//! - `groups`: the places of a block's symbols.
+//! - `counting`: how often each ESI stands among them, and how many different ones do.
+//! - `pricing`: the symbols of a block that go with the fewest copies.
+//! - `window`: the narrowest run of places whose loss leaves a block short.
+//! - `weighing`: both of one block, and the places of the cheapest symbols.
+//! - `report`: margin, kill and burst, of the blocks together.
 #![tactic(auto)]
 
 mod counting;

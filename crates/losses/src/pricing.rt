@@ -48,7 +48,8 @@ pub(crate) fn cheapest(
     requires enough { spare ≤ filled copies.now }
     requires fits { cost_of copies.now (came copies.now) < 2 ^ 64 }
     ensures count { IfOk result (λ c. length (cheapest_of copies.now c.copies c.last) ≡ spare) }
-    ensures cost { IfOk result (λ c. c.cost ≡ cost_of copies.now (cheapest_of copies.now c.copies c.last)) }
+    ensures cost { IfOk result (λ c.
+        c.cost ≡ cost_of copies.now (cheapest_of copies.now c.copies c.last)) }
 {
     let mut pairs = pairs_of(alloc, copies)?;
     pairs.sort()?;

@@ -7,7 +7,7 @@ use crate::groups::Group;
 use crate::weighing::{doomed_places, weigh};
 use std::alloc::{AllocError, Global};
 
-/// What a list can lose.
+/// What a list can lose, in places.
 #[derive(Drop, Debug)]
 pub struct Figures {
     /// The greatest number of places whose loss, whichever they are, leaves no group short.
@@ -18,15 +18,17 @@ pub struct Figures {
     pub burst: usize,
 }
 
-/// The figures of groups, one at least, that have the symbols that they need. They are those of a list of any length that
-/// has the groups' places.
+/// The figures of groups, one at least, that have the symbols that they need: at least one, and no more than there are
+/// different ones among the group's. They are those of a list of any length that has the groups' places. Want of memory is
+/// the only error.
 pub fn figures_of(alloc: Global, groups: &[Group]) -> Result<Figures, AllocError>
     requires some { 0 < length groups.now }
     requires groups { (n : ℕ) × AreGroups (groups_of groups.now) n }
     ensures margin { IfOk result (λ r. (n : ℕ) → AreGroups (groups_of groups.now) n
         → IsMargin (blocks_of_groups (groups_of groups.now)) (places 0 n) r.margin) }
     ensures kill { IfOk result (λ r. (n : ℕ) → AreGroups (groups_of groups.now) n
-        → IsKill (blocks_of_groups (groups_of groups.now)) (places 0 n) (r.margin + 1) r.kill.items) }
+        → IsKill (blocks_of_groups (groups_of groups.now)) (places 0 n)
+        (r.margin + 1) r.kill.items) }
     ensures burst { IfOk result (λ r. (n : ℕ) → AreGroups (groups_of groups.now) n
         → IsBurst (blocks_of_groups (groups_of groups.now)) (places 0 n) r.burst) }
 {

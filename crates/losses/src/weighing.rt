@@ -21,7 +21,8 @@ pub(crate) fn weigh(alloc: Global, members: &[Member], need: usize) -> Result<We
     requires placed { ArePlaced members.now }
     requires some { 0 < need }
     requires enough { need ≤ different_outside members.now 0 0 }
-    ensures cut { IfOk result (λ w. IsWeighed members.now need w.threshold.cost w.threshold.copies w.threshold.last) }
+    ensures cut { IfOk result (λ w.
+        IsWeighed members.now need w.threshold.cost w.threshold.copies w.threshold.last) }
     ensures gap { IfOk result (λ w. IsLeastGap members.now need w.gap) }
 {
     let copies = copies_of(members);
@@ -33,7 +34,9 @@ pub(crate) fn weigh(alloc: Global, members: &[Member], need: usize) -> Result<We
 
 // Whether an ESI with so many copies is among the cheapest.
 fn is_up_to(copies: usize, esi: u8, threshold: Threshold) -> bool
-    ensures { result ≡ (nat_lt copies threshold.copies || (copies == threshold.copies && nat_le esi threshold.last)) }
+    ensures { result
+        ≡ (nat_lt copies threshold.copies
+        || (copies == threshold.copies && nat_le esi threshold.last)) }
 {
     copies < threshold.copies || (copies == threshold.copies && esi <= threshold.last)
 }
@@ -44,7 +47,8 @@ pub(crate) fn doomed_places(
     members: &[Member],
     threshold: Threshold,
 ) -> Result<Vec<usize>, AllocError>
-    ensures { IfOk result (λ v. v.items ≡ cheap_places members.now threshold.copies threshold.last) }
+    ensures { IfOk result (λ v.
+        v.items ≡ cheap_places members.now threshold.copies threshold.last) }
 {
     let copies = copies_of(members);
     let mut places = Vec::new(alloc);

@@ -3,6 +3,9 @@
 //!
 //! An object of L bytes is cut into T source symbols of E bytes, the last of them filled up with zeros, and these into
 //! N source blocks of nearly equal size: the first I of them have one source symbol more than the others.
+//!
+//! The FTI and what it makes of an object are in this file; `order` is how the symbols follow one another when they are
+//! sent. No call takes memory.
 #![tactic(auto)]
 
 ghost use Rattle.std.specs.Prelude.{◌≡◌, ℕ, ◌+◌, ◌*◌, ◌^◌, ◌<◌, ◌≤◌, min, Some, None, IfOk, IfErr};
@@ -14,7 +17,7 @@ pub use order::Order;
 use std::marker::Model;
 use thiserror::Error;
 
-/// Why four numbers are no FTI.
+/// Why four numbers are no FTI: the first fault that holds, in this order.
 #[derive(Debug, Clone, Copy, PartialEq, Eq, Error)]
 pub enum FtiError {
     /// The transfer length is 0.
@@ -37,7 +40,7 @@ pub enum FtiError {
     TooManyBlocks,
 }
 
-/// A valid FTI, compared by its four numbers.
+/// A valid FTI, compared by its four numbers. Contracts see these, and that they are valid.
 #[derive(Debug, Clone, Copy, PartialEq, Eq)]
 pub struct Fti {
     transfer_length: u64,
@@ -53,16 +56,23 @@ impl Model for Fti {
 
     ghost view = { λ f. fti_from f.transfer_length f.symbol_length f.block_length f.max_symbols };
 
-    ghost invariant = { λ f. IsValidFti (fti_from f.transfer_length f.symbol_length f.block_length f.max_symbols) };
+    ghost invariant = { λ f.
+        IsValidFti (fti_from f.transfer_length f.symbol_length f.block_length f.max_symbols) };
 
-    ghost inverse = { λ v. record { transfer_length = v.transfer_length; symbol_length = v.symbol_length; block_length = v.block_length; max_symbols = v.max_symbols } };
+    ghost inverse = { λ v. record {
+      transfer_length = v.transfer_length;
+      symbol_length = v.symbol_length;
+      block_length = v.block_length;
+      max_symbols = v.max_symbols;
+    } };
 }
 
 impl Fti {
     ghost use Rattle.partition.specs.FtiFault.{fti_fault};
 
     /// The FTI of transfer length `l` and encoding symbol length `e`, both in bytes, of at most `b` source symbols and
-    /// at most `max_n` encoding symbols a block; or the first fault, in the order of the variants.
+    /// at most `max_n` encoding symbols a block. Any numbers may be given. Where they are no FTI, the error is the first
+    /// that holds of `LengthZero`, `LengthTooGreat`, `SymbolZero`, `BlockZero`, `MaxBelowBlock` and `TooManyBlocks`.
     #[tactic(auto, using(crate::proofs::Laws::ceiling_is, crate::proofs::Faults::valid_no_fault), unfolding(crate::specs::Fti::symbol_count, crate::specs::Fti::block_count))]
     pub fn new(l: u64, e: u16, b: u8, max_n: u8) -> Result<Fti, FtiError>
         ensures numbers { IfOk result (λ f. f ≡ fti_from l e b max_n) }
@@ -106,7 +116,7 @@ impl Fti {
         let _ = &self.max_symbols;
     }
 
-    /// L: the transfer length, the object's length in bytes.
+    /// L: the transfer length, the object's length in bytes, at least one and below 2^48.
     pub fn transfer_length(&self) -> u64
         ensures value { result ≡ self.now.transfer_length }
         ensures valid { IsValidFti self.now }
@@ -114,7 +124,7 @@ impl Fti {
         self.transfer_length
     }
 
-    /// E: the encoding symbol length, the bytes of each symbol.
+    /// E: the encoding symbol length, the bytes of each symbol, at least one.
     pub fn symbol_length(&self) -> u16
         ensures value { result ≡ self.now.symbol_length }
         ensures valid { IsValidFti self.now }
@@ -122,7 +132,7 @@ impl Fti {
         self.symbol_length
     }
 
-    /// B: the maximum source block length, the most source symbols of a block.
+    /// B: the maximum source block length, the most source symbols of a block, at least one.
     pub fn block_length(&self) -> u8
         ensures value { result ≡ self.now.block_length }
         ensures valid { IsValidFti self.now }
@@ -130,7 +140,7 @@ impl Fti {
         self.block_length
     }
 
-    /// The most encoding symbols of a block.
+    /// The most encoding symbols of a block, at least B and at most 255.
     pub fn max_symbols(&self) -> u8
         ensures value { result ≡ self.now.max_symbols }
         ensures valid { IsValidFti self.now }
@@ -138,7 +148,7 @@ impl Fti {
         self.max_symbols
     }
 
-    /// T: how many source symbols the object has.
+    /// T: how many source symbols the object has, at least one.
     #[tactic(auto, using(crate::proofs::Laws::symbols_are, crate::proofs::Laws::some_symbol, crate::proofs::Laws::symbols_few))]
     pub fn symbol_count(&self) -> u64
         ensures value { result ≡ symbol_count self.now }
@@ -149,7 +159,7 @@ impl Fti {
         self.transfer_length.div_ceil(u64::from(self.symbol_length))
     }
 
-    /// N: how many source blocks the object has.
+    /// N: how many source blocks the object has, at least one and at most 2^24. They share its source symbols.
     #[tactic(auto, using(crate::proofs::Laws::blocks_are, crate::proofs::Laws::some_block, crate::proofs::Laws::start_end))]
     pub fn block_count(&self) -> u32
         ensures value { result ≡ block_count self.now }
@@ -175,7 +185,7 @@ impl Fti {
         (symbols / blocks, symbols % blocks)
     }
 
-    /// k: how many source symbols block `b` has.
+    /// k: how many source symbols block `b`, which is below N, has: at least one and at most B.
     #[tactic(auto, using(crate::proofs::Laws::some_source, crate::proofs::Laws::source_most))]
     pub fn k(&self, b: u32) -> usize
         requires { b < block_count self.now }
@@ -192,7 +202,8 @@ impl Fti {
         }
     }
 
-    /// n: how many encoding symbols block `b` has, its source symbols among them (RFC 5510, section 6.2).
+    /// n: how many encoding symbols block `b`, which is below N, has, its source symbols among them (RFC 5510, section
+    /// 6.2): at least k and at most `max_symbols`.
     #[tactic(auto, using(crate::proofs::Laws::source_encoding, crate::proofs::Laws::encoding_most), unfolding(crate::specs::Fti::encoding_count))]
     pub fn n(&self, b: u32) -> usize
         requires { b < block_count self.now }
@@ -204,15 +215,16 @@ impl Fti {
         self.k(b) * usize::from(self.max_symbols) / usize::from(self.block_length)
     }
 
-    /// Whether the object has source block `b`, and the block the encoding symbol with this ESI.
+    /// Whether the object has source block `b`, and the block the encoding symbol with this ESI. Any two numbers may be
+    /// given.
     pub fn has(&self, b: u32, esi: u8) -> bool
         ensures { result ≡ has_symbol self.now b esi }
     {
         b < self.block_count() && usize::from(esi) < self.n(b)
     }
 
-    /// How many source symbols the blocks before `b` have, and so the place of the first one of block `b` among those of
-    /// the object.
+    /// How many source symbols the blocks before `b` have, and so the place of the first one of block `b`, which is below
+    /// N, among those of the object.
     #[tactic(auto, using(crate::proofs::Laws::block_end, crate::proofs::Laws::start_fits))]
     pub fn start(&self, b: u32) -> u64
         requires { b < block_count self.now }

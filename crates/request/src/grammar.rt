@@ -142,7 +142,8 @@ const SIZES: [NumberOption<'static>; 3] = [
 ];
 
 fn number<'a>(alloc: Global, option: &NumberOption<'a>) -> Arg<'a>
-    ensures rule { rule_of result ≡ number_rule option.now.name.now option.now.least option.now.most }
+    ensures rule { rule_of result
+        ≡ number_rule option.now.name.now option.now.least option.now.most }
     ensures local { result.global ≡ false }
 {
     Arg::new(alloc, option.name)
@@ -160,7 +161,8 @@ fn with_numbers<'a>(
     command: Command<'a>,
     options: &[NumberOption<'a>],
 ) -> Result<Command<'a>, AllocError>
-    ensures { IfOk result (AddsRules command.entry (map (λ option. number_rule option.name.now option.least option.most) options.now)) }
+    ensures { IfOk result (AddsRules command.entry
+        (map (λ option. number_rule option.name.now option.least option.most) options.now)) }
 {
     let mut command = command;
     for option in options {
@@ -170,7 +172,8 @@ fn with_numbers<'a>(
 }
 
 fn encode_command<'a>(alloc: Global) -> Result<Command<'a>, AllocError>
-    ensures { IfOk result (λ command. (orders : _) × IsOrders orders × IsShaped (encode_shape orders) command) }
+    ensures { IfOk result (λ command.
+        (orders : _) × IsOrders orders × IsShaped (encode_shape orders) command) }
 {
     let command = Command::new(alloc, "encode")
         .about("Writes the session file of an object: all encoding symbols of all its blocks")

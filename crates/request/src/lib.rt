@@ -1,4 +1,10 @@
 //! The command line of alcrs: its grammar, its help, and the request that its words make.
+//!
+//! - `requests`: the commands with their values.
+//! - `usage`: why words are no request.
+//! - `grammar`: the commands, their arguments and their help, for clap.
+//! - `matched`: the request of what clap matched.
+//! - `line`: the request of a command line's words.
 #![tactic(auto)]
 
 mod grammar;

@@ -13,7 +13,8 @@ use std::str::FromStr;
 // The text of an argument.
 fn text<'a>(matches: &ArgMatches<'a>, name: &str) -> Result<&'a str, Usage>
     ensures ok { IfOk result (λ text. HasText (rows_in matches.now) name.now text.now) }
-    ensures err { IfErr result (λ usage. (usage ≡ Usage.Value) × (first_of name.now (rows_in matches.now) ≡ None)) }
+    ensures err { IfErr result (λ usage.
+        (usage ≡ Usage.Value) × (first_of name.now (rows_in matches.now) ≡ None)) }
 {
     matches.get_str(name).ok_or(Usage::Value)
 }
@@ -23,7 +24,9 @@ fn number<T: FromStr>(matches: &ArgMatches<'_>, name: &str) -> Result<T, Usage>
 where
     T::Err: Drop,
     ensures ok { IfOk result (Gives T.from_str_gives (one_of name.now (rows_in matches.now))) }
-    ensures err { IfErr result (λ usage. (usage ≡ Usage.Value) × GivesNone T.from_str_gives (one_of name.now (rows_in matches.now))) }
+    ensures err { IfErr result (λ usage.
+        (usage ≡ Usage.Value)
+        × GivesNone T.from_str_gives (one_of name.now (rows_in matches.now))) }
 {
     matches.get_one::<T>(name).ok_or(Usage::Value)
 }

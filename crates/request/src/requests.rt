@@ -15,13 +15,17 @@ pub struct Sizes {
 /// What is sent, and how.
 #[derive(Clone, Copy, Debug, PartialEq, Eq)]
 pub struct Sending {
+    /// The transport session identifier.
     pub tsi: u32,
+    /// The transport object identifier.
     pub toi: u32,
+    /// The FTI, but for the object's length.
     pub sizes: Sizes,
+    /// In which order the encoding symbols follow one another.
     pub order: Order,
 }
 
-/// A command with its values.
+/// A command with its values. Texts are paths as the command line has them.
 #[derive(Drop)]
 pub enum Request<'a> {
     /// Is the certificate one of the session and the object?

@@ -10,5 +10,6 @@ pub enum Usage {
     Line(Error),
     /// U2: a value that the line's grammar lets through is none. `request` is proved never to answer this.
     Value,
+    /// There is no memory.
     NoMemory,
 }

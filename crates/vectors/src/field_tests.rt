@@ -67,9 +67,9 @@ fn takes_powers_of_alpha(rt: HostRuntime) {
     for esi in 0..32u8 {
         assert_eq!(rt; point(esi), Gf(powers[usize::from(esi)]), "power {esi}");
     }
-    assert_eq!(rt; point(1), Gf::ALPHA);
+    assert_eq!(rt; point(1), Gf::alpha());
     assert_eq!(rt; point(254), Gf(0x8E));
-    assert_eq!(rt; point(254).mul(Gf::ALPHA), Gf::ONE);
+    assert_eq!(rt; point(254).mul(Gf::alpha()), Gf::ONE);
 }
 
 #[test]

@@ -1,4 +1,4 @@
-use Rattle.std.proofs.Common.{◌≤◌, take, IfOk, Result, Ok, Err, arith}
+use Rattle.std.proofs.Common.{◌≤◌, take, arith}
 use Rattle.std.proofs.lemmas.Result.{IfOk-weaker}
 use Rattle.poly.proofs.Lists.{all_by_place}
 use Rattle.lists.specs.Bytes.{IsByte}
@@ -6,11 +6,6 @@ use Rattle.elim.specs.Generator.{ArePoints, IsGenerator, IsSystematic, Encodes}
 use Rattle.elim.proofs.CodePoints.{points_front, points_bytes, points_different}
 use Rattle.elim.proofs.Generating.{GeneratesAll, made_is}
 use Rattle.elim.proofs.code.generator.Goals as goal
-
--- three facts of one value, and what follows from them
-if_ok_from : {T E : Type 0} (A B C D : T → Type 0) (r : Result T E) → ((x : T) → A x → B x → C x → D x) → IfOk r A → IfOk r B → IfOk r C → IfOk r D
-if_ok_from A B C D (Ok x) f a b c = f x a b c
-if_ok_from A B C D (Err e) f a b c = tt
 
 pub unreachable-requires : goal.unreachable-requires
 unreachable-requires c =
@@ -23,13 +18,13 @@ pub returns : goal.returns
 returns c =
     let front : ArePoints c.args.k (take c.args.k c.deref.result.now) = rw c.deref.ensures.value (points_front c.args.k c.args.n c.in_ok-points.points.items c.requires.wide c.in_ok-points.ensures) in
     let points : ArePoints c.args.n c.deref-2.result.now = rw c.deref-2.ensures.value c.in_ok-points.ensures in
-    let all = if_ok_from _ _ _ (GeneratesAll c.args.k c.args.n) c.product.result
-    (λ made shape entries elements.
+    let all = IfOk-weaker c.product.result _ (GeneratesAll c.args.k c.args.n)
+    (λ made m.
     made_is c.args.k c.args.n c.requires.wide (take c.args.k c.deref.result.now) c.deref-2.result.now front points c.in_ok-square.square c.in_ok-wide.wide c.in-Ok.inverse made
-    c.in_ok-square.ensures.shape c.in_ok-square.ensures.entries c.in_ok-square.ensures.elements
-    c.in_ok-wide.ensures.shape c.in_ok-wide.ensures.entries c.in_ok-wide.ensures.elements
-    c.in-Ok.ensures.shape c.in-Ok.ensures.inverse c.in-Ok.ensures.elements shape entries elements)
-    c.product.ensures.shape c.product.ensures.entries c.product.ensures.elements in
+    c.in_ok-square.ensures.matrix.shape c.in_ok-square.ensures.matrix.entries c.in_ok-square.ensures.matrix.elements
+    c.in_ok-wide.ensures.matrix.shape c.in_ok-wide.ensures.matrix.entries c.in_ok-wide.ensures.matrix.elements
+    c.in-Ok.ensures.shape c.in-Ok.ensures.inverse c.in-Ok.ensures.elements m.shape m.entries m.elements)
+    c.product.ensures in
     record {
       generator = IfOk-weaker c.product.result (GeneratesAll c.args.k c.args.n) (IsGenerator c.args.k c.args.n) (λ g h. h.generator) all;
       systematic = IfOk-weaker c.product.result (GeneratesAll c.args.k c.args.n) (IsSystematic c.args.k) (λ g h. h.systematic) all;

@@ -16,8 +16,8 @@ pub returns-in-Ok : goal.returns-in-Ok
 returns-in-Ok c =
     let h : ArePoints c.args.k c.deref.result.now = rw c.deref.ensures.value c.in_ok-points.ensures in
     record {
-      shape = record { rows = c.in-Ok.ensures.shape.rows ∙ c.in_ok-square.ensures.shape.rows; cols = c.in-Ok.ensures.shape.cols ∙ c.in_ok-square.ensures.shape.rows };
+      shape = record { rows = c.in-Ok.ensures.shape.rows ∙ c.in_ok-square.ensures.matrix.shape.rows; cols = c.in-Ok.ensures.shape.cols ∙ c.in_ok-square.ensures.matrix.shape.rows };
       interpolates = interpolates c.args.k c.deref.result.now h c.in_ok-square.square c.in-Ok.inverse
-          c.in_ok-square.ensures.shape c.in_ok-square.ensures.entries c.in_ok-square.ensures.elements
+          c.in_ok-square.ensures.matrix.shape c.in_ok-square.ensures.matrix.entries c.in_ok-square.ensures.matrix.elements
           c.in-Ok.ensures.shape c.in-Ok.ensures.inverse c.in-Ok.ensures.elements;
     }
