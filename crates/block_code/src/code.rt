@@ -4,6 +4,7 @@ ghost use Rattle.block_code.specs.Columns.{AreColumns};
 
 use elim::Matrix;
 use gf256::Gf;
+use lists::are_bytes;
 use std::alloc::{AllocError, Global};
 
 /// A matrix, and its columns one behind the other: each holds the coefficients of a sum of rows.
@@ -35,6 +36,7 @@ fn write_columns(matrix: &Matrix<Gf>, columns: &mut [u8])
             columns[j * count + i] = matrix.get(i, j).0;
         }
     }
+    are_bytes(columns);
 }
 
 impl Code {

@@ -1,18 +1,11 @@
 -- A byte column of a block: its source symbols' bytes as a row, and the encoding symbols' bytes that the generator makes.
-use Rattle.std.proofs.Common.{◌≡◌, ℕ, ◌+◌, ◌<◌, ◌≤◌, List, length, get_or, take, map, arith, ap, ◌∙◌, sym, inl, inr, get_or-take, length-take, Fits, w8}
-use Rattle.std.specs.List.{range_with_len}
-use Rattle.std.proofs.lemmas.Bool.{cases_lt}
-use Rattle.std.proofs.lemmas.List.{get_or-map, get_or_past, length-map}
-use Rattle.std.proofs.lemmas.List.FromFn.{get_or-range_with_len, length-range_with_len}
+use Rattle.std.proofs.Common.{◌≡◌, ℕ, ◌<◌, ◌≤◌, List, length, get_or, take, arith, ap, ◌∙◌, sym, get_or-take, length-take}
 use Rattle.lists.specs.Bytes.{AreBytes}
 use Rattle.gf256.specs.Arithmetic.{sum_of, product}
-use Rattle.gf256.specs.ByteField.{byte_field}
-use Rattle.lists.specs.Bytes.{IsByte}
 use Rattle.partition.specs.Fti.{Fti, block_count, source_count, encoding_count, source_byte}
 use Rattle.elim.specs.Grid.{Grid, entry, row_product}
 use Rattle.gf256.specs.Sums.{row_times}
-use Rattle.elim.proofs.Sums.{sum_same}
-use Rattle.elim.proofs.RowProducts.{length-row_product, get_or-row_product}
+use Rattle.elim.proofs.RowProducts.{length-row_product}
 use Rattle.reception.specs.Symbols.{Agrees, ColumnAgrees}
 use Rattle.block_code.specs.Codes.{IsCodeOf}
 use Rattle.block_code.proofs.SourceRows.{row_of, length-row_of, get_or-row_of, bytes-row_of, product_at}

@@ -1,6 +1,6 @@
 -- What is missing of a block and what came beside it, where enough symbols came.
 use Rattle.std.specs.Prelude.{slice_index, is_some, not, filter}
-use Rattle.std.proofs.Common.{◌≡◌, ◌≢◌, ℕ, ◌+◌, ◌*◌, ◌<◌, ◌≤◌, true, List, Option, Some, None, length, get_or, take, arith, ap, ◌∙◌, sym, refl, subst, inl, inr, get_or-take, length-take-le}
+use Rattle.std.proofs.Common.{◌≡◌, ℕ, ◌*◌, ◌<◌, ◌≤◌, true, List, Option, Some, None, length, get_or, take, arith, ap, ◌∙◌, sym, refl, subst, inl, inr, get_or-take, length-take-le}
 use Rattle.std.proofs.lemmas.Bool.{cases_lt}
 use Rattle.lists.specs.Below.{below}
 use Rattle.gf256.specs.Arithmetic.{product}

@@ -1,5 +1,5 @@
 -- What came of a source block, and rows of source bytes that have it.
-use Rattle.std.specs.Prelude.{◌≡◌, ◌≢◌, ℕ, ◌<◌, ◌≤◌, ◌+◌, ◌*◌, List, length, slice_index, slice_index_or, Option, Some, None, option_map}
+use Rattle.std.specs.Prelude.{◌≡◌, ℕ, ◌<◌, ◌≤◌, ◌+◌, ◌*◌, List, length, slice_index, slice_index_or, Option, Some, None, option_map}
 use Rattle.std.specs.Borrow.{Bor}
 use Rattle.lists.specs.Bytes.{IsByte}
 use Rattle.gf256.specs.Arithmetic.{sum_of, product}

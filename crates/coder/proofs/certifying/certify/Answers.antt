@@ -14,7 +14,7 @@ k-requires c = some_block c.args.fti.now c.transfer_length.ensures.valid
 pub returns-clause-certifies : goal.returns-clause-certifies
 returns-clause-certifies c =
     let z = c.in-Some.certificate in
-    let whole : length c.args.object.now ≡ c.args.fti.now.transfer_length = c.if-object-length.false ∙ c.transfer_length.ensures.value in
+    let whole : length c.args.object.now ≡ c.args.fti.now.transfer_length = c.if-object-transfer_length.false ∙ c.transfer_length.ensures.value in
     let fti = ap (λ (x : Certificate). x.fti.transfer_length) c.in-Some.ensures.parts in
     let form : IsObject z.fti c.args.object.now = record { count = whole ∙ sym fti; bytes = bytes_fit c.args.object.now c.type_inv.object } in
     let front = take_front c.in-Ok-from_elem-2.coefficients.len c.certify_blocks.new.coefficients (drop (length c.certify_blocks.new.coefficients) c.in-Ok-from_elem-2.coefficients.items) (sym (c.certify_blocks.ensures.len ∙ c.deref_mut-2.ensures.len)) in

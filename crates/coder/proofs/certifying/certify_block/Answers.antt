@@ -4,6 +4,7 @@ use Rattle.gf256.proofs.RowPlaces.{row_ends, rows_apart, put_at, part_long}
 use Rattle.partition.specs.Fti.{start_of, source_count, source_byte, symbol_count}
 use Rattle.block_code.proofs.SourceRows.{bytes_fit}
 use Rattle.block_code.proofs.ColumnPlaces.{column_product}
+use Rattle.block_code.specs.Columns.{AreColumns}
 use Rattle.coder.proofs.Places.{gives_from_places}
 use Rattle.block_code.proofs.RowAdding.{products}
 use borrow.Rule.Slice.PartMut.{put_mid, same_len_mid}
@@ -27,7 +28,9 @@ returns-clause-gives c =
     let f = c.args.fti.now in
     let b = c.args.b in
     let k : ℕ = source_count f c.args.b in
-    let m = c.requires.interpolator in
+    let g = c.args.interpolator.now.matrix in
+    let made = c.requires.interpolator in
+    let laid_out : AreColumns c.args.interpolator.now.matrix c.deref.result.now = rw c.deref.ensures.value c.args.interpolator.now.laid_out in
     let size = c.from-size.ensures ∙ c.symbol_length.ensures.value in
     let from = products c.start.result c.from-size.result (start_of f c.args.b) f.symbol_length c.start.ensures.value size in
     let within : start_of f c.args.b + source_count f c.args.b ≤ symbol_count f = omega (arith, c.start.ensures.value, c.start.ensures.within) in
@@ -42,17 +45,17 @@ returns-clause-gives c =
     let new = c.put_columns.new.out in
     gives_from_places f c.symbol_length.ensures.valid c.args.object.now
     (put_mid (c.start.result * c.from-size.result) (length c.args.coefficients.now - c.start.result * c.from-size.result) c.args.coefficients.now c.put_columns.new.out)
-    c.args.b m.matrix bytes c.requires.block
+    c.args.b g bytes c.requires.block
     (same_len_mid at (length c.args.coefficients.now - c.start.result * c.from-size.result) c.args.coefficients.now c.put_columns.new.out c.put_columns.ensures.len ∙ c.requires.room)
-    m.property
+    made
     (λ y n ly ln.
     let ends = row_ends y f.symbol_length k ly in
     let turned = mul_comm f.symbol_length (source_count f c.args.b) in
     let long = part_long c.args.coefficients.now (c.start.result * c.from-size.result) in
     let place : start_of f c.args.b * f.symbol_length + y * k + n ≡ at + (y * k + n) = omega (arith, from) in
     let inside : y * k + n < length c.put_columns.new.out = omega (arith, from, most, split, turned, ends, ln, long, c.put_columns.ensures.len, c.requires.room) in
-    let column : n < m.matrix.cols = rw m.property.cols ln in
+    let column : n < c.args.interpolator.now.matrix.cols = rw made.cols ln in
     ap (λ (p : ℕ). get_or (put_mid (c.start.result * c.from-size.result) (length c.args.coefficients.now - c.start.result * c.from-size.result) c.args.coefficients.now c.put_columns.new.out) p 0) place
     ∙ put_at c.args.coefficients.now c.put_columns.new.out _ at (y * k + n) start inside
     ∙ columns y n ly ln ∙ sums n y ln ly
-    ∙ column_product m.matrix c.args.columns.now (λ i. source_byte f c.args.object.now c.args.b i y) k n (bytes_fit c.args.columns.now c.type_inv.columns) m.columns m.property.rows column (λ i. bytes _))
+    ∙ column_product g c.deref.result.now (λ i. source_byte f c.args.object.now c.args.b i y) k n laid_out.small laid_out made.rows column (λ i. bytes _))

@@ -3,6 +3,7 @@ use Rattle.std.proofs.lemmas.Bool.{cases_lt}
 use Rattle.gf256.proofs.RowPlaces.{rows_fit, rows_apart}
 use Rattle.partition.specs.Fti.{source_count, encoding_count}
 use Rattle.block_code.proofs.SourceRows.{bytes_fit}
+use Rattle.block_code.specs.Columns.{AreColumns}
 use Rattle.coder.proofs.EncodedRows.{source_row, repair_row, part_column, length-part}
 use Rattle.coder.proofs.rows.encoding_symbols.Goals.{then-sources-gt0, else-sources-gt0}
 use Rattle.coder.proofs.rows.encoding_symbols.Goals as goal
@@ -10,10 +11,12 @@ use Rattle.coder.proofs.rows.encoding_symbols.Goals as goal
 pub combine-requires-clause-coefficients : goal.combine-requires-clause-coefficients
 combine-requires-clause-coefficients c =
     let code = c.requires.code in
+    let g = c.args.code.now.matrix in
+    let laid_out : AreColumns c.args.code.now.matrix c.deref.result.now = rw c.deref.ensures.value c.args.code.now.laid_out in
     let k = c.k-k.ensures.value in
-    let wide = code.columns.count ∙ ap (λ (v : ℕ). v * code.matrix.rows) code.property.cols ∙ ap (λ (v : ℕ). encoding_count c.args.fti.now c.args.b * v) (code.property.rows ∙ sym k) in
+    let wide = laid_out.count ∙ ap (λ (v : ℕ). v * c.args.code.now.matrix.rows) code.cols ∙ ap (λ (v : ℕ). encoding_count c.args.fti.now c.args.b * v) (code.rows ∙ sym k) in
     let room = rows_fit 0 (c.args.first + c.args.count) (encoding_count c.args.fti.now c.args.b) c.k-k.result (omega arith) in
-    length-part c.args.columns.now c.k-k.result c.args.first c.min-sources.result c.args.count (omega arith) (omega (arith, wide, room))
+    length-part c.deref.result.now c.k-k.result c.args.first c.min-sources.result c.args.count (omega arith) (omega (arith, wide, room))
     ∙ ap (λ (v : ℕ). (c.args.count - c.min-sources.result) * v) k
 
 pub combine-requires-clause-room : goal.combine-requires-clause-room
@@ -29,6 +32,8 @@ pub returns-clause-symbols : goal.returns-clause-symbols
 returns-clause-symbols c = λ r lr.
     let f = c.args.fti.now in
     let code = c.requires.code in
+    let g = c.args.code.now.matrix in
+    let laid_out : AreColumns c.args.code.now.matrix c.deref.result.now = rw c.deref.ensures.value c.args.code.now.laid_out in
     let m : ℕ = c.min-sources.result in
     let k = c.k-k.ensures.value in
     let size = c.from-size.ensures ∙ c.symbol_length.ensures.value in
@@ -40,13 +45,13 @@ returns-clause-symbols c = λ r lr.
     let whole = ap (λ (v : ℕ). v * f.symbol_length) e in
     let back : length c.combine.new.out ≡ (c.args.count - c.min-sources.result) * f.symbol_length =
     omega (arith, at, split, whole, c.split_at_mut-source_rows.ensures.back_len, c.requires.room, c.combine.ensures.len) in
-    let wide = code.columns.count ∙ ap (λ (v : ℕ). v * code.matrix.rows) code.property.cols ∙ ap (λ (v : ℕ). encoding_count f c.args.b * v) code.property.rows in
+    let wide = laid_out.count ∙ ap (λ (v : ℕ). v * c.args.code.now.matrix.rows) code.cols ∙ ap (λ (v : ℕ). encoding_count f c.args.b * v) code.rows in
     let room = rows_fit 0 (c.args.first + c.args.count) (encoding_count f c.args.b) (source_count f c.args.b) (omega arith) in
-    let held : (c.args.first + c.args.count) * source_count f c.args.b ≤ length c.args.columns.now = omega (arith, wide, room) in
+    let held : (c.args.first + c.args.count) * source_count f c.args.b ≤ length c.deref.result.now = omega (arith, wide, room) in
     elim (cases_lt r m) [
       | inl lt ↦ elim c.if-sources-gt0.branch [
         | then-sources-gt0 w ↦
-            source_row f c.args.object.now c.args.b code.matrix code.property (bytes_fit c.args.object.now c.type_inv.object) c.requires.block
+            source_row f c.args.object.now c.args.b g code (bytes_fit c.args.object.now c.type_inv.object) c.requires.block
             c.if-sources-gt0.source_rows c.combine.new.out c.args.first m c.args.count front back most
             w.bytes_from.result.now r lt (omega arith)
             (λ p lp. ap (λ l. get_or l p 0) w.source_rows-is ∙ w.copy_padded.ensures.bytes p (omega arith))
@@ -54,9 +59,9 @@ returns-clause-symbols c = λ r lr.
         | else-sources-gt0 w ↦ absurd (omega arith)
       ]
       | inr ge ↦
-          repair_row f c.args.object.now c.args.b code.matrix code.property (bytes_fit c.args.object.now c.type_inv.object) c.requires.block
+          repair_row f c.args.object.now c.args.b g code (bytes_fit c.args.object.now c.type_inv.object) c.requires.block
           c.if-sources-gt0.source_rows c.combine.new.out c.args.first m c.args.count front back most
-          c.args.columns.now _ r ge lr c.requires.within (bytes_fit c.args.columns.now c.type_inv.columns) code.columns
-          (λ i li. part_column c.args.columns.now (source_count f c.args.b) c.k-k.result c.args.first m c.args.count r i k ge lr li held)
+          c.deref.result.now _ r ge lr c.requires.within laid_out.small laid_out
+          (λ i li. part_column c.deref.result.now (source_count f c.args.b) c.k-k.result c.args.first m c.args.count r i k ge lr li held)
           (λ y hy. c.combine.ensures.sums (r - m) y (omega arith) hy)
     ]

@@ -1,10 +1,9 @@
-use Rattle.std.proofs.Common.{◌≡◌, ◌≢◌, ◌+◌, ◌*◌, ◌<◌, ◌≤◌, ◌∙◌, ℕ, List, length, take, drop, get_or, ap, sym, refl, arith}
+use Rattle.std.proofs.Common.{◌≡◌, ◌+◌, ◌*◌, ◌<◌, ◌∙◌, ℕ, List, length, take, drop, ap, sym, refl, arith}
 use Rattle.std.specs.Prelude.{slice_index, is_some}
 use Rattle.std.proofs.lemmas.List.{length-drop}
 use Rattle.gf256.specs.Arithmetic.{sum_of}
 use Rattle.decoder.specs.Rows.{byte_in}
 use Rattle.decoder.specs.Blocks.{arrived, byte_of, given}
-use Rattle.decoder.specs.Erasures.{AreErased}
 use Rattle.decoder.proofs.RowPlaces.{row_and_column}
 use Rattle.decoder.proofs.Erased.{sum_none_same, sum_itself}
 use Rattle.decoder.proofs.Erasing.{erased_as, enough_repair, few_repair, erasures_of, none_byte, some_bytes}

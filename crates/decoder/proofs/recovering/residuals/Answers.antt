@@ -1,4 +1,4 @@
-use Rattle.std.proofs.Common.{◌≡◌, ◌+◌, ◌*◌, ◌∙◌, ℕ, List, length, get_or, ap, sym, arith}
+use Rattle.std.proofs.Common.{◌+◌, ◌*◌, ◌∙◌, ℕ, List, ap, arith}
 use Rattle.std.specs.Prelude.{slice_index}
 use Rattle.lists.specs.Bytes.{IsByte}
 use Rattle.gf256.specs.Arithmetic.{sum_of, product}
@@ -6,7 +6,7 @@ use Rattle.gf256.specs.Sums.{row_times}
 use Rattle.elim.specs.Grid.{entry}
 use Rattle.elim.proofs.Entries.{elements_by_row}
 use Rattle.decoder.specs.Rows.{byte_in}
-use Rattle.decoder.specs.Blocks.{arrived, byte_of, given}
+use Rattle.decoder.specs.Blocks.{arrived, byte_of}
 use Rattle.decoder.proofs.Erasing.{factors_changed}
 use Rattle.decoder.proofs.recovering.residuals.Goals as goal
 

@@ -1,4 +1,4 @@
-use Rattle.std.proofs.Common.{◌≡◌, ◌<◌, ◌+◌, ◌∙◌, ℕ, List, true, is_some, refl, ap, subst, sym, arith, length, get_or}
+use Rattle.std.proofs.Common.{◌≡◌, ◌∙◌, ℕ, List, true, is_some, refl, ap, subst, arith, length, get_or}
 use Rattle.std.specs.Prelude.{not}
 use Rattle.decoder.specs.Received.{stored}
 use Rattle.decoder.proofs.Listing.{Stands}
