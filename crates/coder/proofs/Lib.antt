@@ -4,3 +4,4 @@ pub mod InPasses
 pub mod Sent
 pub mod Places
 pub mod SessionReadings
+pub mod SourcePlaces

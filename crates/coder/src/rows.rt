@@ -1,5 +1,5 @@
 //! Rows of bytes: a block's source symbols, and what a matrix makes of them.
-ghost use Rattle.std.specs.Prelude.{◌≡◌, ◌<◌, ◌≤◌, ◌+◌, ◌*◌, ℕ, length, slice_index};
+ghost use Rattle.std.specs.Prelude.{◌≡◌, ◌<◌, ◌≤◌, ◌+◌, ◌*◌, ◌^◌, ℕ, length, slice_index};
 ghost use Rattle.gf256.specs.Arithmetic.{sum_of, product};
 ghost use Rattle.gf256.specs.Sums.{row_times};
 ghost use Rattle.partition.specs.Fti.{block_count, source_count, encoding_count, source_byte};
@@ -11,25 +11,20 @@ use block_code::Code;
 use gf256::add_products;
 use partition::Fti;
 
-// The object's bytes from source symbol `i` of block `b` on. Past the object's end there is
-// padding.
-#[tactic(auto, using(partition::proofs::Laws::in_object, partition::proofs::Laws::place_fits, partition::proofs::Laws::start_fits, partition::proofs::Laws::source_most))]
-fn bytes_from<'a>(object: &'a [u8], fti: &Fti, b: u32, i: usize) -> &'a [u8]
-    requires object { length object.now ≡ fti.now.transfer_length }
-    requires block { b < block_count fti.now }
-    requires symbol { i < source_count fti.now b }
-    ensures { (r c : ℕ) → slice_index result.now (r * fti.now.symbol_length + c)
-        ≡ source_byte fti.now object.now b (i + r) c }
+// The object's bytes from source symbol `i` on, counted over all blocks. Past the object's end
+// there is padding.
+fn bytes_from(object: &[u8], size: usize, i: usize) -> &[u8]
+    requires size { size < 2 ^ 16 }
+    requires symbol { i < 2 ^ 48 }
+    ensures { (p : ℕ) → slice_index result.now p ≡ slice_index object.now (i * size + p) }
 {
-    let size = usize::from(fti.symbol_length());
-    let from = (fti.start(b) as usize + i) * size;
+    let from = (i * size).min(object.len());
     &object[from..]
 }
 
 // As many bytes as there is room for, and zeros behind them.
 fn copy_padded(out: &mut [u8], bytes: &[u8])
-    ensures len { length out.new ≡ length out.old }
-    ensures bytes { (p : ℕ) → p < length out.new
+    ensures { (p : ℕ) → p < length out.new
         → slice_index out.new p ≡ slice_index bytes.now p }
 {
     let count = bytes.len().min(out.len());
@@ -56,7 +51,6 @@ pub(crate) fn combine(
     rows: usize,
     out: &mut [u8],
 )
-    requires object { length object.now ≡ fti.now.transfer_length }
     requires block { b < block_count fti.now }
     requires coefficients { length coefficients.now ≡ rows * source_count fti.now b }
     requires room { length out.old ≡ rows * fti.now.symbol_length }
@@ -70,7 +64,7 @@ pub(crate) fn combine(
     clear(out);
     let size = usize::from(fti.symbol_length());
     let count = fti.k(b);
-    let sources = bytes_from(object, fti, b, 0);
+    let sources = bytes_from(object, size, fti.start(b) as usize);
     add_products(out, rows, coefficients, sources, count, size, size);
 }
 
@@ -104,7 +98,8 @@ pub(crate) fn encoding_symbols(
     let sources = k.saturating_sub(first).min(count);
     let (source_rows, repair_rows) = out.split_at_mut(sources * size);
     if sources > 0 {
-        copy_padded(source_rows, bytes_from(object, fti, b, first));
+        let start = fti.start(b) as usize;
+        copy_padded(source_rows, bytes_from(object, size, start + first));
     }
     let coefficients = &code.columns[(first + sources) * k..(first + count) * k];
     combine(object, fti, b, coefficients, count - sources, repair_rows);

@@ -19,7 +19,8 @@ use std::alloc::{AllocError, Global};
 
 // What the type says of each datagram.
 fn all_are_bytes(datagrams: &[&[u8]])
-    ensures { (i : ℕ) → i < length datagrams.now → AreBytes (slice_index_or (map (λ d. d.now) datagrams.now) i []) }
+    ensures { (i : ℕ) → i < length datagrams.now
+        → AreBytes (slice_index_or (map (λ d. d.now) datagrams.now) i []) }
 {
     for i in 0..datagrams.len() {
         are_bytes(datagrams[i]);

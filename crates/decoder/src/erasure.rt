@@ -53,7 +53,8 @@ pub(crate) fn erasure_of(
     requires few { length received.now ≤ 255 }
     requires within { k ≤ length received.now }
     ensures { IfOk result
-        (λ e. AreErased (arrived received.now) k (length received.now) e.missing.items e.repair.items) }
+        (λ e. AreErased (arrived received.now) k (length received.now)
+        e.missing.items e.repair.items) }
 {
     let missing = missing_esis(alloc, received, k)?;
     let repair = repair_esis(alloc, received, k)?;

@@ -33,7 +33,8 @@ pub(crate) struct Received<'a> {
 
 // Whether an earlier symbol of the packet's block and ESI has other bytes.
 fn is_clash(symbols: &Symbols<'_>, packet: &Packet<'_>) -> bool
-    ensures { (earlier : List Symbol) → IsIndex earlier (stored symbols.now) → result ≡ clashes earlier (symbol_of (packet_of packet.now)) }
+    ensures { (earlier : List Symbol) → IsIndex earlier (stored symbols.now)
+        → result ≡ clashes earlier (symbol_of (packet_of packet.now)) }
 {
     match symbols.get(&(packet.sbn, packet.esi)) {
         Some(bytes) => *bytes != packet.symbol,
@@ -55,8 +56,11 @@ fn fault_at(place: usize, fault: PlaceFault) -> DecodeFault
 
 // Puts the packet's symbol at its block and ESI.
 fn keep<'a>(symbols: &mut Symbols<'a>, packet: &Packet<'a>) -> Result<(), AllocError>
-    ensures here { OnOk result (stored symbols.new packet.now.sbn packet.now.esi ≡ Some packet.now.symbol.now) }
-    ensures elsewhere { OnOk result ((b j : ℕ) → (packet.now.sbn == b && packet.now.esi == j) ≡ false → stored symbols.new b j ≡ stored symbols.old b j) }
+    ensures here { OnOk result
+        (stored symbols.new packet.now.sbn packet.now.esi ≡ Some packet.now.symbol.now) }
+    ensures elsewhere { OnOk result
+        ((b j : ℕ) → (packet.now.sbn == b && packet.now.esi == j) ≡ false
+        → stored symbols.new b j ≡ stored symbols.old b j) }
 {
     symbols.insert((packet.sbn, packet.esi), packet.symbol)?;
     Ok(())
@@ -67,7 +71,8 @@ pub(crate) fn receive<'a>(
     alloc: Global,
     datagrams: &[&'a [u8]],
 ) -> Result<Option<Received<'a>>, Refusal>
-    ensures received { IfOk result (λ o. IfSome o (λ r. AreReceived (map (λ d. d.now) datagrams.now) r.fti (stored r.symbols))) }
+    ensures received { IfOk result (λ o. IfSome o (λ r.
+        AreReceived (map (λ d. d.now) datagrams.now) r.fti (stored r.symbols))) }
     ensures nothing { IfOk result (λ o. IsNone o → IsNothing (map (λ d. d.now) datagrams.now)) }
     ensures refusal { IfErr result (IsRefusal (map (λ d. d.now) datagrams.now)) }
 {

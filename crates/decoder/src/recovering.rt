@@ -37,7 +37,8 @@ fn symbols_at(alloc: Global, block: &Block<'_>, esis: &[u8]) -> Result<Rows, All
 // The coefficients of the encoding symbols at these ESIs.
 fn coefficients_at(alloc: Global, code: &Code, esis: &[u8]) -> Result<Vec<u8>, AllocError>
     requires few { length esis.now ≤ 255 }
-    requires within { (m : ℕ) → m < length esis.now → slice_index esis.now m < code.now.matrix.cols }
+    requires within { (m : ℕ) → m < length esis.now
+        → slice_index esis.now m < code.now.matrix.cols }
     ensures { IfOk result (λ v. AreCoefficients code.now.matrix esis.now v.items) }
 {
     let k = code.matrix.rows();
@@ -126,7 +127,8 @@ pub(crate) fn recover(alloc: Global, block: &Block<'_>) -> Result<Option<Rows>, 
     requires enough { block.now.code.now.matrix.rows
         ≤ length (filter (λ j. is_some (arrived block.now.received.now j))
         (below block.now.code.now.matrix.cols)) }
-    ensures sizes { IfOk result (λ o. IfSome o (HasSizes block.now.code.now.matrix.rows block.now.size)) }
+    ensures sizes { IfOk result (λ o. IfSome o
+        (HasSizes block.now.code.now.matrix.rows block.now.size)) }
     ensures rows { IfOk result (λ o. IfSome o (λ rows. AreOnly (arrived block.now.received.now)
         block.now.code.now.matrix block.now.size (byte_in rows))) }
     ensures none { IfOk result (λ o. IsNone o

@@ -15,7 +15,8 @@ use std::alloc::Global;
 
 /// No list of datagrams has two answers: whoever meets the definition of an answer gives what `decode` gives.
 pub fn one_answer()
-    ensures { (datagrams : List (List ℕ)) (a b : AnswerValue) → IsAnswer datagrams a → IsAnswer datagrams b → a ≡ b }
+    ensures { (datagrams : List (List ℕ)) (a b : AnswerValue)
+        → IsAnswer datagrams a → IsAnswer datagrams b → a ≡ b }
 {}
 
 /// What `decode` answers to a selection of a session's datagrams, in any order and with repeats.
@@ -26,9 +27,12 @@ pub fn decode_selection(
 ) -> Result<Answer, FrameFault>
     ensures answer { IfOk result (λ a. IsAnswer (chosen session.now places.now) (answer_value a)) }
     // Where `check` said yes to the session, this object and a certificate with this FTI.
-    ensures promised { IfOk result (λ a. (f : Fti) (object : List ℕ) → DecodesWhereEnough f session.now object → UndecidedElse f session.now object → IsPromised f (chosen session.now places.now) object (answer_value a)) }
+    ensures promised { IfOk result (λ a. (f : Fti) (object : List ℕ)
+        → DecodesWhereEnough f session.now object → UndecidedElse f session.now object
+        → IsPromised f (chosen session.now places.now) object (answer_value a)) }
     ensures inside { OnOk result (first_outside (length session.now) places.now ≡ None) }
-    ensures fault { IfErr result (λ e. IsPlaceFault e (first_outside (length session.now) places.now)) }
+    ensures fault { IfErr result
+        (λ e. IsPlaceFault e (first_outside (length session.now) places.now)) }
 {
     let chosen = session.keep(alloc, places)?;
     let Ok(datagrams) = chosen.views(alloc) else {

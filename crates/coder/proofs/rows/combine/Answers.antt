@@ -5,8 +5,14 @@ use Rattle.gf256.specs.Arithmetic.{sum_of, product}
 use Rattle.gf256.specs.Sums.{byte_sum}
 use Rattle.gf256.proofs.SliceSums.{sum_same}
 use Rattle.gf256.proofs.RowPlaces.{rows_fit}
+use Rattle.partition.proofs.Laws.{start_fits}
 use Rattle.partition.specs.Fti.{source_count, source_byte}
+use Rattle.coder.proofs.SourcePlaces.{source_from}
 use Rattle.coder.proofs.rows.combine.Goals as goal
+
+pub bytes_from-sources-requires-clause-symbol : goal.bytes_from-sources-requires-clause-symbol
+bytes_from-sources-requires-clause-symbol c =
+    omega (arith, start_fits c.args.fti.now c.symbol_length.ensures.valid c.args.b c.requires.block, c.start.ensures.value)
 
 pub add_products-requires-clause-reach : goal.add_products-requires-clause-reach
 add_products-requires-clause-reach c =
@@ -22,5 +28,7 @@ returns-clause-sums c = λ r y lr ly.
     sums r y lr ly
     ∙ ap (λ (v : ℕ). sum_of v sum) (c.clear.ensures.zeros (r * f.symbol_length + y))
     ∙ xor_comm 0 sum ∙ xor_zero_r sum
-    ∙ sum_same (source_count f c.args.b) _ _ (λ i li. ap (product (get_or c.args.coefficients.now (r * source_count f c.args.b + i) 0)) (c.bytes_from-sources.ensures i y
+    ∙ sum_same (source_count f c.args.b) _ _ (λ i li. ap (product (get_or c.args.coefficients.now (r * source_count f c.args.b + i) 0)) (c.bytes_from-sources.ensures (i * f.symbol_length + y)
+    ∙ ap (λ (v : ℕ). get_or c.args.object.now (v * c.from-size.result + (i * f.symbol_length + y)) 0) (let z : c.start.result ≡ c.start.result + 0 = omega arith in z)
+    ∙ source_from f c.args.object.now c.args.b 0 c.from-size.result c.start.result i y size c.start.ensures.value
     ∙ (let e : 0 + i ≡ i = omega arith in ap (λ (v : ℕ). source_byte f c.args.object.now c.args.b v y) e)))

@@ -1,12 +1,26 @@
 use Rattle.std.proofs.Common.{◌≡◌, ◌≤◌, ℕ, ◌+◌, ◌-◌, ◌*◌, length, get_or, ap, sym, ◌∙◌, inl, inr, arith}
 use Rattle.std.proofs.lemmas.Bool.{cases_lt}
 use Rattle.gf256.proofs.RowPlaces.{rows_fit, rows_apart}
+use Rattle.partition.proofs.Laws.{symbol_within, symbols_few}
 use Rattle.partition.specs.Fti.{source_count, encoding_count}
 use Rattle.block_code.proofs.SourceRows.{bytes_fit}
 use Rattle.block_code.specs.Columns.{AreColumns}
 use Rattle.coder.proofs.EncodedRows.{source_row, repair_row, part_column, length-part}
 use Rattle.coder.proofs.rows.encoding_symbols.Goals.{then-sources-gt0, else-sources-gt0}
+use Rattle.coder.proofs.SourcePlaces.{source_from}
 use Rattle.coder.proofs.rows.encoding_symbols.Goals as goal
+
+pub overflow_add-start : goal.overflow_add-start
+overflow_add-start c =
+    let f = c.args.fti.now in
+    let valid = c.symbol_length.ensures.valid in
+    omega (arith, symbol_within f valid c.args.b c.args.first c.requires.block (omega (arith, c.k-k.ensures.value)), symbols_few f valid, valid.length_below, c.start-start.ensures.value)
+
+pub bytes_from-requires-clause-symbol : goal.bytes_from-requires-clause-symbol
+bytes_from-requires-clause-symbol c =
+    let f = c.args.fti.now in
+    let valid = c.symbol_length.ensures.valid in
+    omega (arith, symbol_within f valid c.args.b c.args.first c.requires.block (omega (arith, c.k-k.ensures.value)), symbols_few f valid, valid.length_below, c.start-start.ensures.value)
 
 pub combine-requires-clause-coefficients : goal.combine-requires-clause-coefficients
 combine-requires-clause-coefficients c =
@@ -54,8 +68,8 @@ returns-clause-symbols c = λ r lr.
             source_row f c.args.object.now c.args.b g code (bytes_fit c.args.object.now c.type_inv.object) c.requires.block
             c.if-sources-gt0.source_rows c.combine.new.out c.args.first m c.args.count front back most
             w.bytes_from.result.now r lt (omega arith)
-            (λ p lp. ap (λ l. get_or l p 0) w.source_rows-is ∙ w.copy_padded.ensures.bytes p (omega arith))
-            w.bytes_from.ensures
+            (λ p lp. ap (λ l. get_or l p 0) w.source_rows-is ∙ w.copy_padded.ensures p (omega arith))
+            (λ i y. w.bytes_from.ensures (i * f.symbol_length + y) ∙ source_from f c.args.object.now c.args.b c.args.first c.from-size.result w.start-start.result i y size w.start-start.ensures.value)
         | else-sources-gt0 w ↦ absurd (omega arith)
       ]
       | inr ge ↦
