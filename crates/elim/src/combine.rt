@@ -41,22 +41,6 @@ pub(crate) fn identity<F: Field>(alloc: Global, size: usize) -> Result<Matrix<F>
     Ok(made)
 }
 
-// Row `i` of `a` times column `j` of `b`.
-fn entry_of_product<F: Field>(a: &Matrix<F>, b: &Matrix<F>, i: usize, j: usize) -> F
-    requires fit { a.now.cols ≡ b.now.rows }
-    requires row { i < a.now.rows }
-    requires column { j < b.now.cols }
-    ensures value { result ≡ product_entry F.sum F.product F.ZERO a.now b.now i j }
-    ensures fits { F.element result }
-{
-    let mut total = F::ZERO;
-    total.is_element();
-    for m in 0..a.cols() {
-        total = total.add(a.get(i, m).mul(b.get(m, j)));
-    }
-    total
-}
-
 /// The matrix product `a * b`, of a's rows and b's columns, where `a` has as many columns as `b` rows.
 /// Want of memory is the only error.
 pub fn product<F: Field>(
@@ -73,8 +57,8 @@ pub fn product<F: Field>(
     let cols = b.cols();
     let mut made = Matrix::try_new(alloc, rows, cols)?;
     for i in 0..rows {
-        for j in 0..cols {
-            made.set(i, j, entry_of_product(a, b, i, j));
+        for m in 0..a.cols() {
+            made.add_row_of(i, a.get(i, m), b, m);
         }
     }
     Ok(made)

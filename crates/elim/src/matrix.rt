@@ -1,7 +1,7 @@
 //! A matrix, and steps on its rows.
 ghost use Rattle.std.specs.Prelude.{◌≡◌, ◌≢◌, ◌<◌, ◌≤◌, ◌+◌, ◌*◌, ◌^◌, ℕ, IfOk, replicate, length, slice_index_or};
 ghost use Rattle.elim.specs.Grid.{Grid, entry, HasElements, HasShape, IsMatrix};
-ghost use Rattle.elim.specs.Steps.{IsSet, IsStep, IsSwapped, IsScaled, IsAdded};
+ghost use Rattle.elim.specs.Steps.{IsSet, IsStep, IsSwapped, IsScaled, IsAdded, IsRowAdded};
 
 use gf256::Field;
 use std::alloc::{AllocError, Global};
@@ -141,6 +141,41 @@ impl<F: Field> Matrix<F> {
     {
         add_scaled_rows(&mut self.entries, self.cols, r, c, p);
     }
+
+    /// Adds `c` times row `p` of another matrix, which has as many columns, to row `r`.
+    pub(crate) fn add_row_of(&mut self, r: usize, c: F, other: &Matrix<F>, p: usize)
+        requires row { r < self.old.rows }
+        requires other { p < other.now.rows }
+        requires columns { other.now.cols ≡ self.old.cols }
+        requires scale { F.element c }
+        ensures { IsStep F.element F.ZERO
+            (IsRowAdded F.sum F.product self.old.rows self.old.cols r c (entry F.ZERO other.now p))
+            self.old self.new }
+    {
+        let from = p * other.cols;
+        let row = &other.entries[from..from + other.cols];
+        add_at(&mut self.entries, r * self.cols, c, row);
+    }
+}
+
+// Adds `c` times a row to the entries from a place on.
+fn add_at<F: Field>(entries: &mut [F], at: usize, c: F, row: &[F])
+    requires room { at + length row.now ≤ length entries.old }
+    requires scale { F.element c }
+    ensures length { length entries.new ≡ length entries.old }
+    ensures here { (j : ℕ)
+        → j < length row.now
+        → slice_index_or entries.new (at + j) F.ZERO
+        ≡ F.sum (slice_index_or entries.old (at + j) F.ZERO)
+        (F.product c (slice_index_or row.now j F.ZERO)) }
+    ensures before { (i : ℕ)
+        → i < at
+        → slice_index_or entries.new i F.ZERO ≡ slice_index_or entries.old i F.ZERO }
+    ensures after { (i : ℕ)
+        → at + length row.now ≤ i
+        → slice_index_or entries.new i F.ZERO ≡ slice_index_or entries.old i F.ZERO }
+{
+    F::add_scaled_row(&mut entries[at..at + row.len()], c, row);
 }
 
 // Of rows of `cols` entries, adds `c` times row `p` to row `r`, another one.
