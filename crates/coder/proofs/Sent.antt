@@ -1,10 +1,11 @@
 -- Datagrams that are sent one after the other, and the lists of encoding symbols that grow by it.
-use Rattle.std.proofs.Common.{◌≡◌, ℕ, zero, suc, ◌+◌, ◌-◌, ◌<◌, ◌≤◌, List, [], ◌∷◌, ◌++◌, Option, Some, None, length, map, arith, refl, ap, sym, subst, ◌∙◌, append_assoc, drop, length-append, true, false, Result, Ok, Err, IfErr}
+use Rattle.std.proofs.Common.{◌≡◌, ℕ, zero, suc, ◌+◌, ◌-◌, ◌*◌, ◌<◌, ◌≤◌, List, [], ◌∷◌, ◌++◌, Option, Some, None, length, map, arith, refl, ap, sym, subst, ◌∙◌, append_assoc, drop, length-append, true, false, Result, Ok, Err, IfErr}
 use Rattle.std.specs.Prelude.{flat_map, nat_lt}
 use Rattle.std.proofs.lemmas.Bool.{lt-ltb, le-ltb}
 use Rattle.std.proofs.lemmas.List.{append-nil, map-append, drop_all, length-map}
 use Rattle.std.proofs.lemmas.Grind.{flat_map-append}
 use Rattle.std.specs.Io.KnownBytes.{Appends}
+use Rattle.gf256.proofs.RowPlaces.{rows_apart, rows_fit}
 use Rattle.lists.specs.Below.{below}
 use Rattle.lists.proofs.Below.{length_below}
 use Rattle.partition.specs.Fti.{Fti, encoding_count}
@@ -134,6 +135,23 @@ length_of_map g n = length-map (below n) g ∙ length_below n
 
 pub length_next : {A : Type 0} (g : ℕ → List A) (n : ℕ) → length (flat_map g (below (n + 1))) ≡ length (flat_map g (below n)) + length (g n)
 length_next g n = ap length (flat_next g n) ∙ length-append (flat_map g (below n)) (g n)
+
+pub length_within : {A : Type 0} (g : ℕ → List A) (m n : ℕ) → m < n → length (flat_map g (below m)) + length (g m) ≤ length (flat_map g (below n))
+length_within g m n lt =
+    let r = flat_later g (m + 1) n (omega arith) in
+    let whole : length (flat_map g (below n)) ≡ length (flat_map g (below (m + 1))) + length r.0 = ap length r.1 ∙ length-append (flat_map g (below (m + 1))) r.0 in
+    omega (arith, whole, length_next g m)
+
+-- ---- the writer's room, by frames of e bytes
+
+pub length_frame : (d : List ℕ) → length (frame d) ≡ 2 + length d
+length_frame d = let e : length (frame d) ≡ suc (suc (length d)) = refl in omega (arith, e)
+
+pub room_next : (a b c s l e : ℕ) → a ≤ b + s * e → b ≤ c + l * e → a ≤ c + (s + l) * e
+room_next a b c s l e h k = let apart = rows_apart s l e in omega (arith, h, k, apart)
+
+pub room_short : (a b s l n e : ℕ) → a ≤ b + s * e → b < l * e → s + l ≤ n → a < n * e
+room_short a b s l n e h k le = let fit = rows_fit s l n e le in omega (arith, h, k, fit)
 
 -- the same of an equal list of encoding symbols
 pub sends_as : (object : List ℕ) (f : Fti) (t u : ℕ) (a b : Option (List ℕ)) (ps qs : List (ℕ × ℕ)) → qs ≡ ps → Sends object f t u ps a b → Sends object f t u qs a b

@@ -1,5 +1,5 @@
 -- The session that is sent of an object: which encoding symbols, in which order, in which datagrams.
-use Rattle.std.specs.Prelude.{◌≡◌, ◌≢◌, ℕ, ◌<◌, ◌≤◌, Bool, true, nat_lt, List, [], ◌∷◌, ◌++◌, length, map, flat_map, if◌then◌else◌, Option}
+use Rattle.std.specs.Prelude.{◌≡◌, ◌≢◌, ℕ, ◌<◌, ◌≤◌, ◌+◌, Bool, true, nat_lt, List, [], ◌∷◌, ◌++◌, length, map, flat_map, if◌then◌else◌, Option}
 use Rattle.std.specs.Io.KnownBytes.{Appends}
 use Rattle.lists.specs.Below.{below}
 use Rattle.partition.specs.Fti.{Fti, block_count, encoding_count}
@@ -64,6 +64,10 @@ pub record SendsSome (object : List ℕ) (f : Fti) (tsi toi : ℕ) (ps : List (�
 -- the most bytes of an encoding symbol that a datagram of 65,507 bytes holds
 abbrev pub most_symbol_bytes : ℕ
 most_symbol_bytes = 65475
+
+-- the bytes of a frame: two that tell the length, 32 of the datagram's headers, and the encoding symbol
+abbrev pub frame_bytes : Fti → ℕ
+frame_bytes f = 34 + f.symbol_length
 
 -- the object has the FTI's length, and its symbols go into datagrams
 pub record CanBeSent (object : List ℕ) (f : Fti) : Type 0 where

@@ -1,9 +1,9 @@
 //! Sending an object: its encoding symbols as the datagrams of a session.
-ghost use Rattle.std.specs.Prelude.{◌≡◌, ◌^◌, ◌≤◌, ◌<◌, ◌+◌, ◌*◌, true, length, IfOk, IfErr, OnOk};
+ghost use Rattle.std.specs.Prelude.{◌≡◌, ◌^◌, ◌≤◌, ◌<◌, ◌+◌, ◌*◌, true, length, IfOk, IfErr, OnOk, OnErr};
 ghost use Rattle.partition.specs.Fti.{IsValidFti, block_count, encoding_count};
 ghost use Rattle.block_code.specs.Codes.{EachBlockHas, IsCodeOf};
 ghost use Rattle.coder.specs.Passes.{run_of, pairs_in, pairs_of_pass, passes, at_once};
-ghost use Rattle.coder.specs.Sending.{pairs, Sends, SendsSome, CanBeSent, IsSendFault, most_symbol_bytes};
+ghost use Rattle.coder.specs.Sending.{pairs, Sends, SendsSome, CanBeSent, IsSendFault, most_symbol_bytes, frame_bytes};
 
 use crate::rows::encoding_symbols;
 use alc::write;
@@ -66,6 +66,9 @@ fn send_symbols<W: Write>(
     ensures some { IfErr result (λ e. SendsSome t.now.object.now t.now.fti t.now.tsi t.now.toi
         (run_of block first count) (W.contents writer.old) (W.contents writer.new)) }
     ensures io { IfErr result (λ e. (e ≡ SendFault.Io) × (W.failed writer.new ≡ true)) }
+    ensures full { OnErr result (W.room writer.old < count * frame_bytes t.now.fti) }
+    ensures fills { OnOk result
+        (W.room writer.old ≤ W.room writer.new + count * frame_bytes t.now.fti) }
 {
     let code = t.codes.of(t.fti.k(block));
     encoding_symbols(t.object, &t.fti, block, code, first, count, symbols);
@@ -117,6 +120,10 @@ fn send_pass<W: Write>(
     ensures some { IfErr result (λ e. SendsSome t.now.object.now t.now.fti t.now.tsi t.now.toi
         (pairs_of_pass order t.now.fti pass) (W.contents writer.old) (W.contents writer.new)) }
     ensures io { IfErr result (λ e. (e ≡ SendFault.Io) × (W.failed writer.new ≡ true)) }
+    ensures full { OnErr result
+        (W.room writer.old < length (pairs_of_pass order t.now.fti pass) * frame_bytes t.now.fti) }
+    ensures fills { OnOk result (W.room writer.old
+        ≤ W.room writer.new + length (pairs_of_pass order t.now.fti pass) * frame_bytes t.now.fti) }
 {
     let size = usize::from(t.fti.symbol_length());
     let mut sent = 0;
@@ -158,6 +165,10 @@ fn send_all<W: Write>(
     ensures some { IfErr result (λ e. SendsSome t.now.object.now t.now.fti t.now.tsi t.now.toi
         (pairs order t.now.fti) (W.contents writer.old) (W.contents writer.new)) }
     ensures io { IfErr result (λ e. (e ≡ SendFault.Io) × (W.failed writer.new ≡ true)) }
+    ensures full { OnErr result
+        (W.room writer.old < length (pairs order t.now.fti) * frame_bytes t.now.fti) }
+    ensures fills { OnOk result (W.room writer.old
+        ≤ W.room writer.new + length (pairs order t.now.fti) * frame_bytes t.now.fti) }
 {
     let mut sent = 0;
     for pass in 0..pass_count(&t.fti, order) {
@@ -182,7 +193,8 @@ fn most_at_once(fti: &Fti, order: Order) -> usize
 /// symbols among them (RFC 5510, section 8), in this order, and tells how many datagrams. All
 /// memory is asked for before the first byte is written: two generator matrices at most, and room
 /// for one datagram and for the encoding symbols that are made at once: a block's, or in order
-/// `Rounds` one.
+/// `Rounds` one. `Io` comes only where the writer has failed, and never where it is sure to have
+/// room for the whole session.
 pub fn encode<W: Write>(
     alloc: Global,
     object: &[u8],
@@ -198,6 +210,8 @@ pub fn encode<W: Write>(
     ensures can { OnOk result (CanBeSent object.now fti.now) }
     ensures fault { IfErr result (λ e. IsSendFault e object.now fti.now tsi toi order
         (W.contents writer.old) (W.contents writer.new) (W.failed writer.new)) }
+    ensures full { IfErr result (λ e. e ≡ SendFault.Io
+        → W.room writer.old < length (pairs order fti.now) * frame_bytes fti.now) }
 {
     if object.len() as u64 != fti.transfer_length() {
         return Err(SendFault::Length);
