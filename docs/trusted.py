@@ -3,10 +3,10 @@
 
 A public contract is one of a `pub fn`, of a trait's method or of a public type's model. From the names that it cites the
 list goes through the definitions of `specs/` that these stand on. All other definitions of `specs/` are the vocabulary of
-private contracts and of proofs, and need no trust.
+private contracts and of proofs, and need no trust. They stand in files of their own.
 
-    docs/trusted.py          fails where docs/THEOREMS.md ends with another list
-    docs/trusted.py --write  writes it there
+    docs/trusted.py          fails where docs/THEOREMS.md ends with another list, or a file has definitions of both kinds
+    docs/trusted.py --write  writes the list there
 """
 import re
 import sys
@@ -159,9 +159,16 @@ def crate_order():
     return [line.split(":")[0].split()[0] for line in lines if line.strip() and not line.startswith("#")]
 
 
-def listing():
-    modules = spec_modules()
-    wanted = closure(modules)
+def mixed(modules, wanted):
+    """The files that have definitions of both kinds."""
+    files = {module.path: module for module in modules.values()}
+    for path in sorted(files):
+        kinds = {(path, name) in wanted for name in files[path].definitions}
+        if len(kinds) > 1:
+            yield f"{path.parts[-3]}/specs/{path.stem}"
+
+
+def listing(modules, wanted):
     files = {module.path: module for module in modules.values()}
     order = {name: place for place, name in enumerate(crate_order())}
     lines, total, count = [], 0, 0
@@ -189,9 +196,14 @@ def listing():
 def main():
     path = ROOT / "docs" / "THEOREMS.md"
     before, found, kept = path.read_text().partition(HEADING)
-    text = listing()
+    modules = spec_modules()
+    wanted = closure(modules)
+    text = listing(modules, wanted)
+    both = list(mixed(modules, wanted))
     if sys.argv[1:] == ["--write"]:
         path.write_text(before + text)
+    elif both:
+        sys.exit("definitions that public contracts speak of, and others, stand in one file: " + ", ".join(both))
     elif found + kept != text:
         sys.exit("docs/THEOREMS.md has another list of what has to be read: run docs/trusted.py --write")
     else:

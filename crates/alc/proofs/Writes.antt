@@ -5,7 +5,8 @@ use Rattle.lists.specs.Bytes.{AreBytes}
 use Rattle.partition.specs.Fti.{Fti, IsValidFti}
 use Rattle.byteorder.specs.Endian.{big_bytes}
 use Rattle.alc.specs.Packet.{Packet, IsPacket, written, written_form, header_length}
-use Rattle.alc.specs.Written.{fixed_part, fti_part, payload_id, packet_from}
+use Rattle.alc.specs.Written.{packet_from}
+use Rattle.alc.specs.WrittenParts.{fixed_part, fti_part, payload_id}
 use Rattle.alc.proofs.Bytes.{AreBytes-cons, AreBytes-append, AreBytes-test, AreBytes-big_bytes}
 
 pub length-written : (p : Packet) → length (written p) ≡ 32 + length p.bytes

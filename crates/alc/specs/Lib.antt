@@ -5,3 +5,4 @@ pub mod Computed
 pub mod Layout
 pub mod Views
 pub mod Written
+pub mod WrittenParts

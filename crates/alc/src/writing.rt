@@ -3,7 +3,8 @@
 ghost use Rattle.std.specs.Prelude.{◌≡◌, ◌+◌, ◌<◌, ◌≤◌, ◌++◌, ◌^◌, length, drop, take};
 ghost use Rattle.partition.specs.Fti.{block_count, encoding_count};
 ghost use Rattle.alc.specs.Packet.{IsPacket, written};
-ghost use Rattle.alc.specs.Written.{fixed_part, fti_part, payload_id, packet_from};
+ghost use Rattle.alc.specs.Written.{packet_from};
+ghost use Rattle.alc.specs.WrittenParts.{fixed_part, fti_part, payload_id};
 
 use crate::extensions::{EXT_FTI, EXT_FTI_SIZE};
 use byteorder::{BigEndian, ByteOrder};

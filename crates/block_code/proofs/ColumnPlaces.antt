@@ -3,7 +3,8 @@ use Rattle.std.proofs.Common.{◌≡◌, ℕ, ◌+◌, ◌*◌, ◌<◌, List, R
 use Rattle.std.specs.Prelude.{IfOk}
 use Rattle.gf256.specs.Arithmetic.{sum_of, product}
 use Rattle.gf256.specs.ProductLaws.{product_comm}
-use Rattle.gf256.specs.Sums.{byte_sum, row_times}
+use Rattle.gf256.specs.Sums.{row_times}
+use Rattle.gf256.specs.ByteSums.{byte_sum}
 use Rattle.gf256.proofs.SliceSums.{sum_same}
 use Rattle.elim.specs.Grid.{Grid, entry}
 use Rattle.block_code.specs.Columns.{AreColumns}

@@ -28,12 +28,6 @@ IsOfKind Interpolator k n g = IsInterpolator k g
 abbrev pub IsOfBlock : Kind → Fti → ℕ → Grid ℕ → Type 0
 IsOfBlock kind f b g = IsOfKind kind (source_count f b) (encoding_count f b) g
 
-abbrev pub IsCodeOf : Fti → ℕ → Grid ℕ → Type 0
-IsCodeOf f b g = IsOfBlock Generator f b g
-
-abbrev pub IsInterpolatorOf : Fti → ℕ → Grid ℕ → Type 0
-IsInterpolatorOf f b g = IsOfBlock Interpolator f b g
-
 -- the code with so many rows, if one is smaller
 abbrev pub code_for : ℕ → Code → Option Code → Code
 code_for k large None = large

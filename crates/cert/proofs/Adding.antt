@@ -10,7 +10,7 @@ use Rattle.gf256.specs.Arithmetic.{sum_of, point}
 use Rattle.lists.specs.Below.{below}
 use Rattle.partition.specs.Fti.{Fti, start_of}
 use Rattle.lists.proofs.Lists.{both}
-use Rattle.cert.specs.Twins.{is_first_of}
+use Rattle.cert.specs.TwinBytes.{is_first_of}
 
 -- what an object is after values were added at n source symbols
 abbrev pub added : Fti → ℕ → ℕ → (ℕ → ℕ) → List ℕ → ℕ → ℕ

@@ -19,7 +19,7 @@ use Rattle.partition.specs.Fti.{Fti, block_count, source_count}
 use Rattle.alc.specs.Reading.{Reading}
 use Rattle.reception.specs.Symbols.{Symbol, is_held, held_count, IsFirstShort}
 use Rattle.reception.specs.Reception.{Placed, counted_from, counted, symbols, symbols_in, Suffices}
-use Rattle.reception.specs.Step.{readings_of}
+use Rattle.reception.specs.Walks.{readings_of}
 use Rattle.cert.specs.Certificate.{Certificate}
 use Rattle.cert.specs.declared.verdict.Reason.{Reason}
 use Rattle.cert.specs.declared.verdict.Reason.TheVariants.{ObjectLength, NotObject, Empty, Packet as NoPacket, OtherIdentity, OtherFti, Range, Symbol as Wrong, Thin}

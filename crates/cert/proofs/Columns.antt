@@ -5,7 +5,8 @@ use Rattle.std.proofs.lemmas.Bool.{eqb-true, eqb-false, eq-eqb}
 use Rattle.reception.specs.Symbols.{Symbol}
 use Rattle.partition.specs.Fti.{block_count, source_count}
 use Rattle.cert.specs.Certificate.{Certificate, certified_byte}
-use Rattle.cert.specs.CoefficientRows.{IsCertifiedSymbol, IsSourceSymbol}
+use Rattle.cert.specs.CoefficientRows.{IsSourceSymbol}
+use Rattle.cert.specs.CertifiedSymbol.{IsCertifiedSymbol}
 use Rattle.cert.specs.Columns.{IsFirstWrong, TellsFirstWrong}
 use Rattle.cert.specs.Differences.{AreSameBelow, IsFirstDifference}
 use Rattle.cert.specs.Verdict.{GivesObject, wrong_column, uncertified}

@@ -6,7 +6,8 @@ use Rattle.partition.specs.Fti.{Fti}
 use Rattle.partition.specs.FtiFault.{fti_fault}
 use Rattle.cert.specs.declared.certificate.CertFault.{CertFault}
 use Rattle.cert.specs.declared.certificate.CertFault.TheVariants.{Magic, Fti as WrongFti, Size, Io, NoMemory}
-use Rattle.cert.specs.Certificate.{coefficient_count, text_fault, IsCertFault, IsReadFault, IsHead}
+use Rattle.cert.specs.Certificate.{coefficient_count, text_fault, IsCertFault}
+use Rattle.cert.specs.CertificateReading.{IsReadFault, IsHead}
 use Rattle.cert.proofs.Texts.{wrong_size}
 
 -- other than the right number of coefficients

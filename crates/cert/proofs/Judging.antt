@@ -13,7 +13,7 @@ use Rattle.reception.specs.declared.scope.PlaceFault.{PlaceFault}
 use Rattle.reception.specs.declared.scope.PlaceFault.TheVariants as fault
 use Rattle.reception.specs.Symbols.{Symbol as Received, IsObject}
 use Rattle.reception.specs.Reception.{ReadAll, Placed, Wrong, Faulty, Judged, Found, counted, counted_from, symbol_of, symbols_in, packet_fault, or_packet, wrong_by, judged, reading_wrong, at_place, wrong_after, with_fti, scope_from}
-use Rattle.reception.specs.Step.{readings_of}
+use Rattle.reception.specs.Walks.{readings_of}
 use Rattle.reception.proofs.Stepping.{scope, stays}
 use Rattle.reception.proofs.Within.{faultless, none_wrong, neither, nowhere}
 use Rattle.cert.specs.declared.verdict.Reason.{Reason}
@@ -21,7 +21,8 @@ use Rattle.cert.specs.declared.verdict.Reason.TheVariants.{ObjectLength, NotObje
 use Rattle.cert.specs.declared.verdict.Report.{Report}
 use Rattle.cert.specs.declared.verdict.Verdict.TheVariants.{Yes, No}
 use Rattle.cert.specs.Certificate.{Certificate}
-use Rattle.cert.specs.Verdict.{GivesObject, IsNotGiven, wrong_column, uncertified, came_to, reason_at, IsCertifiedPacket, IsCertifiedReading, AreCertified, IsAgainst, VerdictOn}
+use Rattle.cert.specs.Verdict.{GivesObject, wrong_column, uncertified, came_to, reason_at, IsCertifiedPacket, IsCertifiedReading, AreCertified, IsAgainst, VerdictOn}
+use Rattle.cert.specs.NotGiven.{IsNotGiven}
 use Rattle.cert.specs.Scan.{AreEnoughCertified}
 use Rattle.cert.proofs.Columns.{certified_where_none}
 

@@ -5,7 +5,7 @@ use Rattle.partition.specs.Fti.{Fti, IsValidFti, block_count, encoding_count}
 use Rattle.partition.proofs.Laws.{counts}
 use Rattle.alc.specs.Packet.{Packet}
 use Rattle.reception.specs.Reception.{in_range, with_fti, counted}
-use Rattle.reception.specs.Step.{readings_of}
+use Rattle.reception.specs.Walks.{readings_of}
 use Rattle.reception.proofs.Stepping.{fti_stays}
 use Rattle.reception.specs.declared.scope.Scope.{Scope}
 use Rattle.reception.proofs.Walking.{Walked}

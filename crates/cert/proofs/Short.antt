@@ -18,7 +18,7 @@ use Rattle.alc.specs.Computed.{read_of}
 use Rattle.reception.specs.Symbols.{Symbol, is_held, held_count, IsObject, IsFirstShort, Agrees, Fits, AreTwins}
 use Rattle.cert.specs.Certificate.{Certificate, IsCertificate}
 use Rattle.reception.specs.Reception.{ReadAll, Placed, counted, symbols, symbols_in}
-use Rattle.reception.specs.Step.{readings_of}
+use Rattle.reception.specs.Walks.{readings_of}
 use Rattle.reception.proofs.Walk.{counted_one_more, symbols_more}
 use Rattle.reception.proofs.Walking.{came_before, reading_here}
 use Rattle.cert.specs.declared.verdict.Verdict.TheVariants.{No}

@@ -19,7 +19,8 @@ use Rattle.lists.proofs.Below.{all_below, one_missing, at_passing}
 use Rattle.partition.specs.Fti.{Fti, IsValidFti, source_count, block_count, start_of, source_byte}
 use Rattle.partition.proofs.Laws.{counts}
 use Rattle.reception.specs.Symbols.{Symbol, Agrees, IsObject}
-use Rattle.cert.specs.Twins.{different_esis, root_value, is_first_of, IsTwin}
+use Rattle.cert.specs.Twins.{different_esis, root_value, IsTwin}
+use Rattle.cert.specs.TwinBytes.{is_first_of}
 use Rattle.cert.proofs.Twinning.{vanishing, twin_byte, twin_of, is_first_column, at_place, length_with_places, agrees, twin_form, differs, changed, unchanged}
 
 -- the symbols of an object are bytes

@@ -11,7 +11,7 @@ use Rattle.gf256.specs.Arithmetic.{sum_of, product, point}
 use Rattle.poly.specs.Polynomial.{value, root_product_over, IsPolynomial}
 use Rattle.partition.specs.Fti.{Fti, IsValidFti, source_count, block_count, start_of, source_byte, source_place}
 use Rattle.reception.specs.Symbols.{Symbol, is_held, Agrees, ColumnAgrees, IsObject}
-use Rattle.cert.specs.Twins.{is_first_of}
+use Rattle.cert.specs.TwinBytes.{is_first_of}
 use Rattle.gf256.specs.ByteField.{byte_field, point_byte, point_apart}
 use Rattle.poly.proofs.Roots.{sums_over, sums_elements, sums_length, value_of_sums, value_element}
 use Rattle.poly.proofs.Product.{roots_over, roots_elements, roots_length, are_roots, not_a_root, value_of_padded, value_is_product}

@@ -1,5 +1,5 @@
 -- The certificate: an FTI, and for each byte column of each block the coefficients of its polynomial.
-use Rattle.std.specs.Prelude.{◌≡◌, ℕ, ◌+◌, ◌*◌, ◌<◌, List, [], ◌∷◌, ◌++◌, length, take, drop, slice_index, nat_eq, nat_lt, ◌==◌, not, Bool, true, if◌then◌else◌, Option, Some, None, IfSome}
+use Rattle.std.specs.Prelude.{◌≡◌, ℕ, ◌+◌, ◌*◌, List, [], ◌∷◌, ◌++◌, length, take, drop, slice_index, nat_eq, nat_lt, ◌==◌, not, Bool, true, if◌then◌else◌, Option, Some, None, IfSome}
 use Rattle.std.specs.List.{starts_with}
 use Rattle.byteorder.specs.Endian.{big_bytes, big_number}
 use Rattle.lists.specs.Bytes.{AreBytes}
@@ -67,27 +67,3 @@ abbrev pub IsCertFault : CertFault → Option (List ℕ) → Bool → Type 0
 IsCertFault Io old failed = failed ≡ true
 IsCertFault NoMemory old failed = Unit {0}
 IsCertFault fault old failed = IfSome old (λ x. text_fault x ≡ Some fault)
-
--- coefficients are refused for their size, or for want of memory, or because the reader has failed
-abbrev pub IsReadFault : CertFault → Bool → Type 0
-IsReadFault Io failed = failed ≡ true
-IsReadFault NoMemory failed = Unit {0}
-IsReadFault Size failed = Unit {0}
-IsReadFault _ failed = ⊥
-
--- a fault that bytes tell
-abbrev pub IsTold : CertFault → Type 0
-IsTold Io = ⊥
-IsTold NoMemory = ⊥
-IsTold _ = Unit {0}
-
--- the fault of a text that begins with these bytes, of which there are fewer than 14 only where it ends
-abbrev pub IsHeadFault : List ℕ → CertFault → Type 0
-IsHeadFault x e = (rest : List ℕ) → (length x < 14 → rest ≡ []) → text_fault (x ++ rest) ≡ Some e
-
--- fourteen bytes that tell this valid FTI
-pub record IsHead (x : List ℕ) (f : Fti) : Type 0 where
-  pub long : length x ≡ 14
-  pub magic_first : starts_with nat_eq x magic ≡ true
-  pub told : told_fti x ≡ f
-  pub good : fti_fault f ≡ None

@@ -1,7 +1,7 @@
 -- A certificate's coefficients row by row.
 use Rattle.std.specs.Prelude.{◌≡◌, ℕ, ◌<◌, List, length, slice_index}
 use Rattle.partition.specs.Fti.{Fti, block_count, source_count, source_place, source_byte}
-use Rattle.cert.specs.Certificate.{Certificate, coefficient_count, polynomial, certified_byte}
+use Rattle.cert.specs.Certificate.{Certificate, coefficient_count, polynomial}
 use Rattle.cert.specs.Verdict.{GivesAt}
 
 -- where symbol i of block b stands in an object, coefficient i of the polynomial of each of the block's columns
@@ -17,10 +17,6 @@ IsCoefficientRow z b i row = (c : ℕ) → c < z.fti.symbol_length → slice_ind
 pub record AreRowsOf (z : Certificate) (bytes : List ℕ) : Type 0 where
   pub count : length bytes ≡ coefficient_count z.fti
   pub rows : (b i : ℕ) → b < block_count z.fti → i < source_count z.fti b → HasRow z bytes b i
-
--- what the certificate says of symbol j of block b
-abbrev pub IsCertifiedSymbol : Certificate → ℕ → ℕ → List ℕ → Type 0
-IsCertifiedSymbol z b j symbol = (c : ℕ) → c < z.fti.symbol_length → slice_index symbol c ≡ certified_byte z b j c
 
 -- the polynomials give a block of the object
 abbrev pub GivesBlock : List ℕ → Certificate → ℕ → Type 0

@@ -2,7 +2,7 @@
 use Rattle.std.specs.Prelude.{◌≡◌, ◌≢◌, ◌↔◌, ℕ, ◌<◌, List, slice_index, Some, None}
 use Rattle.reception.specs.Symbols.{Symbol}
 use Rattle.cert.specs.Certificate.{Certificate, certified_byte}
-use Rattle.cert.specs.CoefficientRows.{IsCertifiedSymbol}
+use Rattle.cert.specs.CertifiedSymbol.{IsCertifiedSymbol}
 use Rattle.cert.specs.Verdict.{uncertified}
 
 -- the least column in which these bytes aren't symbol j of block b as certified

@@ -6,3 +6,7 @@ pub mod Columns
 pub mod Scan
 pub mod Report
 pub mod Twins
+pub mod CertificateReading
+pub mod CertifiedSymbol
+pub mod TwinBytes
+pub mod NotGiven

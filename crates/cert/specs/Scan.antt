@@ -6,7 +6,7 @@ use Rattle.losses.specs.Groups.{Group, group_at}
 use Rattle.partition.specs.Fti.{Fti, block_count, source_count}
 use Rattle.reception.specs.Symbols.{Symbol}
 use Rattle.reception.specs.Reception.{Placed, symbols_in, Suffices}
-use Rattle.reception.specs.Step.{readings_of}
+use Rattle.reception.specs.Walks.{readings_of}
 use Rattle.cert.specs.declared.datagrams.NoReport.{NoReport}
 use Rattle.cert.specs.declared.datagrams.NoReport.TheVariants.{Reason as ByReason, NoMemory}
 use Rattle.cert.specs.declared.verdict.Reason.TheVariants.{Thin}

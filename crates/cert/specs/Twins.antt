@@ -1,10 +1,10 @@
 -- Another object that agrees with all that came, where a block is short.
-use Rattle.std.specs.Prelude.{◌≡◌, ◌≢◌, ◌+◌, ◌-◌, ◌/◌, ◌%◌, ◌<◌, ◌==◌, ◌&&◌, ◌↔◌, Bool, true, if◌then◌else◌, nat_le, nat_lt, ℕ, List, [], ◌∷◌, map, filter, flat_map, slice_index}
+use Rattle.std.specs.Prelude.{◌≡◌, ◌≢◌, ◌<◌, ◌==◌, ◌↔◌, true, if◌then◌else◌, ℕ, List, [], ◌∷◌, map, filter, flat_map}
 use Rattle.gf256.specs.Arithmetic.{sum_of, product, point}
-use Rattle.poly.specs.Polynomial.{value, root_product_over}
+use Rattle.poly.specs.Polynomial.{root_product_over}
 use Rattle.lists.specs.Selection.{is_among}
 use Rattle.lists.specs.Below.{below}
-use Rattle.partition.specs.Fti.{Fti, source_count, block_count, start_of, source_byte}
+use Rattle.partition.specs.Fti.{Fti, source_count, block_count, source_byte}
 use Rattle.alc.specs.Reading.{Reading}
 use Rattle.cert.specs.declared.verdict.Verdict.TheVariants.{No}
 use Rattle.cert.specs.declared.verdict.Reason.TheVariants.{Thin}
@@ -20,18 +20,6 @@ different_esis held = filter (is_among held) (below 255)
 -- the product of z + point(j) over the different ESIs j
 abbrev pub root_value : List ℕ → ℕ → ℕ
 root_value held z = root_product_over sum_of product 1 (map point (different_esis held)) z
-
--- whether a place of an object is in the first byte column of one of the first n source symbols of block b
-abbrev pub is_first_of : Fti → ℕ → ℕ → ℕ → Bool
-is_first_of f b n x =
-    x % f.symbol_length == 0 && (nat_le (start_of f b) (x / f.symbol_length) && nat_lt (x / f.symbol_length) (start_of f b + n))
-
--- the byte at place x of an object, and a polynomial's value added to it where it is the first of a source symbol of block b
-abbrev pub byte_with_value : Fti → ℕ → List ℕ → List ℕ → ℕ → ℕ
-byte_with_value f b polynomial object x =
-    if is_first_of f b (source_count f b) x
-    then sum_of (slice_index object x) (value polynomial (point (x / f.symbol_length - start_of f b)))
-    else slice_index object x
 
 -- The other object is the object with that product's value at the point of each source symbol of block b added to the
 -- symbol's first byte; it is not the object; and a symbol of another block, or of block b with one of these ESIs, is one

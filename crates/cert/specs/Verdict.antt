@@ -40,10 +40,6 @@ pub record IsFirstNotGiven (object : List ℕ) (z : Certificate) (b c i : ℕ) :
   pub first : IsFirstInBlock object z b c i
   pub blocks_before : (x y n : ℕ) → x < b → y < z.fti.symbol_length → n < source_count z.fti x → GivesAt object z x y n
 
-abbrev pub IsNotGiven : List ℕ → Certificate → Reason → Type 0
-IsNotGiven object z (NotObject b c i) = IsFirstNotGiven object z b c i
-IsNotGiven object z _ = ⊥
-
 -- the first of n columns, from column c on, in which the symbol isn't the certified one
 abbrev pub wrong_column : Certificate → Received → ℕ → ℕ → Option ℕ
 wrong_column z s c zero = None

@@ -3,7 +3,8 @@ ghost use Rattle.std.specs.Prelude.{◌≡◌, ◌≢◌, ◌+◌, ◌*◌, ◌<
 ghost use Rattle.std.specs.Io.KnownBytes.{Consumes, IsAtEnd, Appends};
 ghost use Rattle.session.specs.Pieces.{AppendsSome};
 ghost use Rattle.partition.specs.Fti.{IsValidFti, symbol_count, source_count, block_count};
-ghost use Rattle.cert.specs.Certificate.{Certificate as CertificateValue, IsCertificate, coefficient_count, polynomial as polynomial_of, head_text, certificate_text, text_fault, IsCertFault, IsReadFault, IsTold, IsHead, IsHeadFault};
+ghost use Rattle.cert.specs.Certificate.{Certificate as CertificateValue, IsCertificate, coefficient_count, polynomial as polynomial_of, head_text, certificate_text, text_fault, IsCertFault};
+ghost use Rattle.cert.specs.CertificateReading.{IsReadFault, IsTold, IsHead, IsHeadFault};
 ghost use Rattle.cert.specs.CoefficientRows.{IsCoefficientRow};
 
 use byteorder::{BigEndian, ByteOrder};

@@ -2,7 +2,8 @@
 ghost use Rattle.std.specs.Prelude.{◌≡◌, ◌+◌, ◌*◌, ◌<◌, ℕ, length, slice_index, IsNone, IfSome, IfOk};
 ghost use Rattle.partition.specs.Fti.{block_count, source_count, start_of};
 ghost use Rattle.cert.specs.Certificate.{IsCertificate, coefficient_count};
-ghost use Rattle.cert.specs.CoefficientRows.{HasRow, AreRowsOf, IsCertifiedSymbol};
+ghost use Rattle.cert.specs.CoefficientRows.{HasRow, AreRowsOf};
+ghost use Rattle.cert.specs.CertifiedSymbol.{IsCertifiedSymbol};
 ghost use Rattle.cert.specs.Columns.{IsFirstWrong};
 ghost use Rattle.cert.specs.Differences.{AreSameBelow};
 

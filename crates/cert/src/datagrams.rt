@@ -2,7 +2,7 @@
 ghost use Rattle.std.specs.Prelude.{◌≡◌, ◌<◌, None, true, [], length, IfOk, IfErr, OnOk};
 ghost use Rattle.alc.specs.Views.{packet_of};
 ghost use Rattle.reception.specs.Reception.{Faulty, in_range, symbol_of, counted};
-ghost use Rattle.reception.specs.Step.{readings_of};
+ghost use Rattle.reception.specs.Walks.{readings_of};
 ghost use Rattle.cert.specs.Certificate.{IsCertificate};
 ghost use Rattle.cert.specs.Verdict.{GivesObject, uncertified, reason_at, first_reason, AreCertified};
 ghost use Rattle.cert.specs.Scan.{AreGroupsOf, IsPut, IsNoReport};

@@ -2,7 +2,8 @@
 ghost use Rattle.std.specs.Prelude.{◌≡◌, ◌+◌, ◌<◌, ℕ, slice_index, IsNone, IfSome};
 ghost use Rattle.partition.specs.Fti.{block_count, source_count};
 ghost use Rattle.cert.specs.CoefficientRows.{GivesBlock, IsSourceSymbol};
-ghost use Rattle.cert.specs.Verdict.{GivesObject, IsFirstInBlock, IsNotGiven};
+ghost use Rattle.cert.specs.Verdict.{GivesObject, IsFirstInBlock};
+ghost use Rattle.cert.specs.NotGiven.{IsNotGiven};
 
 use crate::certified_symbols::CertifiedSymbols;
 use crate::verdict::Reason;

@@ -3,9 +3,10 @@ ghost use Rattle.std.specs.Prelude.{◌≡◌, ◌<◌, ℕ, length, map, slice_
 ghost use Rattle.gf256.specs.Arithmetic.{point as point_of};
 ghost use Rattle.partition.specs.Fti.{IsValidFti, block_count, source_count};
 ghost use Rattle.reception.specs.Reception.{counted, symbols};
-ghost use Rattle.reception.specs.Step.{readings_of};
+ghost use Rattle.reception.specs.Walks.{readings_of};
 ghost use Rattle.cert.specs.Verdict.{came_to};
-ghost use Rattle.cert.specs.Twins.{different_esis, byte_with_value, esis_of, IsTwin, IsThinIn, IsTwinOfSession};
+ghost use Rattle.cert.specs.Twins.{different_esis, esis_of, IsTwin, IsThinIn, IsTwinOfSession};
+ghost use Rattle.cert.specs.TwinBytes.{byte_with_value};
 
 use crate::certificate::Certificate;
 use gf256::{Field, Gf, point};

@@ -7,7 +7,7 @@ use Rattle.elim.specs.Grid.{Grid, entry, row_product}
 use Rattle.gf256.specs.Sums.{row_times}
 use Rattle.elim.proofs.RowProducts.{length-row_product}
 use Rattle.reception.specs.Symbols.{Agrees, ColumnAgrees}
-use Rattle.block_code.specs.Codes.{IsCodeOf}
+use Rattle.block_code.specs.CodesOf.{IsCodeOf}
 use Rattle.block_code.proofs.SourceRows.{row_of, length-row_of, get_or-row_of, bytes-row_of, product_at}
 
 length-take-most : (n : ℕ) (xs : List ℕ) → length (take n xs) ≤ length xs

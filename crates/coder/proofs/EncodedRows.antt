@@ -3,13 +3,13 @@ use Rattle.std.proofs.Common.{◌≡◌, ℕ, ◌+◌, ◌-◌, ◌*◌, ◌<◌
 use Rattle.std.proofs.lemmas.List.{get_or_append_left, get_or-append_right, get_or-drop}
 use Rattle.lists.specs.Bytes.{AreBytes}
 use Rattle.gf256.specs.Arithmetic.{product}
-use Rattle.gf256.specs.Sums.{byte_sum}
+use Rattle.gf256.specs.ByteSums.{byte_sum}
 use Rattle.gf256.proofs.SliceSums.{sum_same}
 use Rattle.gf256.proofs.RowPlaces.{row_ends, rows_apart}
 use Rattle.partition.specs.Fti.{Fti, block_count, source_count, encoding_count, source_byte}
 use Rattle.elim.specs.Grid.{Grid}
 use Rattle.reception.specs.Symbols.{Agrees}
-use Rattle.block_code.specs.Codes.{IsCodeOf}
+use Rattle.block_code.specs.CodesOf.{IsCodeOf}
 use Rattle.coder.specs.Rows.{row_of}
 use Rattle.block_code.specs.Columns.{AreColumns}
 use Rattle.block_code.proofs.ColumnPlaces.{column_product}

@@ -14,7 +14,7 @@ use Rattle.elim.proofs.RowProducts.{length-row_product}
 use Rattle.cert.specs.Certificate.{coefficient_count, polynomial}
 use Rattle.cert.specs.Verdict.{GivesAt}
 use Rattle.cert.proofs.Polynomials.{polynomial_end}
-use Rattle.block_code.specs.Codes.{IsInterpolatorOf}
+use Rattle.block_code.specs.CodesOf.{IsInterpolatorOf}
 use Rattle.block_code.proofs.SourceRows.{row_of, length-row_of, get_or-row_of, bytes-row_of, product_at}
 
 length-take-below : (k : ℕ) (xs : List ℕ) (i : ℕ) → i < length (take k xs) → i < k

@@ -3,7 +3,8 @@ ghost use Rattle.std.specs.Prelude.{◌≡◌, ◌<◌, ◌≤◌, ◌+◌, ◌*
 ghost use Rattle.partition.specs.Fti.{block_count, source_count, start_of};
 ghost use Rattle.cert.specs.Certificate.{coefficient_count};
 ghost use Rattle.cert.specs.Verdict.{GivesAt, GivesObject};
-ghost use Rattle.block_code.specs.Codes.{EachBlockHas, IsInterpolatorOf};
+ghost use Rattle.block_code.specs.Codes.{EachBlockHas};
+ghost use Rattle.block_code.specs.CodesOf.{IsInterpolatorOf};
 ghost use Rattle.coder.specs.Certified.{CertifiesSent, IsCertifyFault};
 
 use crate::rows::combine;

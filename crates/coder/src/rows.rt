@@ -4,7 +4,7 @@ ghost use Rattle.gf256.specs.Arithmetic.{sum_of, product};
 ghost use Rattle.gf256.specs.Sums.{row_times};
 ghost use Rattle.partition.specs.Fti.{block_count, source_count, encoding_count, source_byte};
 ghost use Rattle.reception.specs.Symbols.{Agrees};
-ghost use Rattle.block_code.specs.Codes.{IsCodeOf};
+ghost use Rattle.block_code.specs.CodesOf.{IsCodeOf};
 ghost use Rattle.coder.specs.Rows.{row_of};
 
 use block_code::Code;

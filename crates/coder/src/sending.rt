@@ -1,7 +1,8 @@
 //! Sending an object: its encoding symbols as the datagrams of a session.
 ghost use Rattle.std.specs.Prelude.{◌≡◌, ◌^◌, ◌≤◌, ◌<◌, ◌+◌, ◌*◌, true, length, IfOk, IfErr, OnOk, OnErr};
 ghost use Rattle.partition.specs.Fti.{IsValidFti, block_count, encoding_count};
-ghost use Rattle.block_code.specs.Codes.{EachBlockHas, IsCodeOf};
+ghost use Rattle.block_code.specs.Codes.{EachBlockHas};
+ghost use Rattle.block_code.specs.CodesOf.{IsCodeOf};
 ghost use Rattle.coder.specs.Passes.{run_of, pairs_in, pairs_of_pass, passes, at_once};
 ghost use Rattle.coder.specs.Sending.{pairs, Sends, SendsSome, CanBeSent, IsSendFault, most_symbol_bytes, frame_bytes};
 

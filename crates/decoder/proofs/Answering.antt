@@ -6,9 +6,10 @@ use Rattle.partition.specs.Fti.{Fti, IsValidFti, block_count}
 use Rattle.partition.proofs.Laws.{counts}
 use Rattle.alc.specs.Computed.{read_of}
 use Rattle.alc.proofs.Again.{reads}
-use Rattle.reception.specs.Symbols.{is_of, AllFull, IsWithin}
+use Rattle.reception.specs.Symbols.{is_of, AllFull}
+use Rattle.reception.specs.Within.{IsWithin}
 use Rattle.reception.specs.Reception.{ReadAll, Came, IsClean, unknown, counted, symbols}
-use Rattle.reception.specs.Step.{readings_of}
+use Rattle.reception.specs.Walks.{readings_of}
 use Rattle.reception.specs.Answer as value
 use Rattle.reception.specs.Answer.{Clash, AnswerTo, clash, came_of}
 use Rattle.std.proofs.lemmas.Bool.{and_from, eq-eqb}

@@ -13,7 +13,7 @@ use Rattle.poly.specs.Polynomial.{value, IsPolynomial}
 use Rattle.partition.specs.Fti.{Fti, source_count, encoding_count, source_place}
 use Rattle.elim.specs.Generator.{Encodes}
 use Rattle.elim.specs.Grid.{Grid}
-use Rattle.block_code.specs.Codes.{IsCodeOf}
+use Rattle.block_code.specs.CodesOf.{IsCodeOf}
 use Rattle.decoder.specs.Blocks.{arrived, HaveLength, Meets, CanBeMet, AreOnly}
 use Rattle.decoder.specs.Columns.{ColumnExplained}
 use Rattle.decoder.specs.Decoded.{AreWithin, IsEnoughAt, row_byte, RowsColumn, AreRows, IsUnexplained}

@@ -7,7 +7,8 @@ use Rattle.std.proofs.lemmas.List.Elements.{filter-append}
 use Rattle.lists.specs.Below.{below}
 use Rattle.lists.proofs.Lists.{filter_same, all_of}
 use Rattle.partition.specs.Fti.{Fti, encoding_count}
-use Rattle.reception.specs.Symbols.{Symbol, is_of, is_held, held_count, IsWithin}
+use Rattle.reception.specs.Symbols.{Symbol, is_of, is_held, held_count}
+use Rattle.reception.specs.Within.{IsWithin}
 use Rattle.decoder.specs.Received.{IsIndex}
 
 parts_count : (t : ℕ → Bool) (n : ℕ) → length (filter t (below (suc n))) ≡ length (filter t (below n)) + length (filter t (n ∷ []))

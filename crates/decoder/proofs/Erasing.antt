@@ -5,7 +5,7 @@ use Rattle.std.proofs.lemmas.Bool.{cases_lt}
 use Rattle.lists.specs.Below.{below}
 use Rattle.gf256.specs.Arithmetic.{product}
 use Rattle.gf256.specs.ProductLaws.{product_comm}
-use Rattle.gf256.specs.Sums.{byte_sum}
+use Rattle.gf256.specs.ByteSums.{byte_sum}
 use Rattle.gf256.proofs.SliceSums.{sum_same}
 use Rattle.elim.specs.Erasures.{AreErasures}
 use Rattle.decoder.specs.Blocks.{byte_of}

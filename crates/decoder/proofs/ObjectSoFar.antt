@@ -7,7 +7,8 @@ use Rattle.std.proofs.lemmas.List.{get_or_append_left, get_or-append-add, get_or
 use Rattle.lists.specs.Bytes.{AreBytes}
 use Rattle.partition.specs.Fti.{Fti, IsValidFti, symbol_count, block_count, source_count, start_of, source_place, source_byte}
 use Rattle.partition.proofs.Laws.{counts, in_object, start_step, start_end, rising_to, symbols_bounds}
-use Rattle.reception.specs.Symbols.{Symbol, AllFull, IsObject, IsWithin}
+use Rattle.reception.specs.Symbols.{Symbol, AllFull, IsObject}
+use Rattle.reception.specs.Within.{IsWithin}
 use Rattle.reception.specs.Answer as value_of
 use Rattle.decoder.specs.Columns.{BlockColumn}
 use Rattle.decoder.specs.Decoded.{IsEnoughAt, AreRows, IsUnexplained, Answers}

@@ -7,7 +7,8 @@ use Rattle.gf256.specs.Arithmetic.{point}
 use Rattle.poly.specs.Polynomial.{value}
 use Rattle.partition.specs.Fti.{Fti, IsValidFti, block_count, source_place}
 use Rattle.lists.proofs.Lists.{all_both, all_to}
-use Rattle.reception.specs.Symbols.{Symbol, is_of, is_held, IsObject, Agrees, Fits, Solvable, AllFull, FullSolvable, FitsOnly, IsWithin}
+use Rattle.reception.specs.Symbols.{Symbol, is_of, is_held, IsObject, Agrees, Fits, Solvable, AllFull, FullSolvable, FitsOnly}
+use Rattle.reception.specs.Within.{IsWithin}
 use Rattle.reception.proofs.Full.{found, fits_only}
 use Rattle.decoder.specs.Received.{IsIndex}
 use Rattle.decoder.specs.Columns.{ColumnExplained, BlockColumn}

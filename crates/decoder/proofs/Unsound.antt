@@ -6,7 +6,8 @@ use Rattle.std.proofs.lemmas.Bool.{cases_Bool, cases_eq, le-leb, leb-true}
 use Rattle.lists.specs.Below.{below}
 use Rattle.partition.specs.Fti.{Fti, IsValidFti, block_count, source_count, encoding_count}
 use Rattle.partition.proofs.Laws.{counts}
-use Rattle.reception.specs.Symbols.{Symbol, held_count, is_full, Solvable, FullSolvable, IsFirstUnsolvable, IsWithin}
+use Rattle.reception.specs.Symbols.{Symbol, held_count, is_full, Solvable, FullSolvable, IsFirstUnsolvable}
+use Rattle.reception.specs.Within.{IsWithin}
 use Rattle.decoder.specs.Columns.{ColumnExplained}
 use Rattle.decoder.specs.Decoded.{AreWithin, AreRows, IsEnoughAt}
 use Rattle.decoder.specs.Received.{IsIndex}

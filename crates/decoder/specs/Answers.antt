@@ -1,16 +1,12 @@
 -- The answers of `decode`, as values.
-use Rattle.std.specs.Prelude.{ℕ, List}
 use Rattle.reception.specs.Answer as value
 use Rattle.reception.specs.Answer.{AnswerTo, came_of, Clashes}
 use Rattle.reception.specs.Reception.{Faulty, Judged}
 use Rattle.reception.specs.declared.scope.PlaceFault.TheVariants as fault
-use Rattle.reception.specs.Step.{readings_of}
 use Rattle.decoder.specs.declared.answer.DecodeFault.{DecodeFault}
 use Rattle.decoder.specs.declared.answer.DecodeFault.TheVariants.{Packet, OtherIdentity, OtherFti, Range, Clash, NotCode}
 use Rattle.decoder.specs.declared.answer.Answer.{Answer}
 use Rattle.decoder.specs.declared.answer.Answer.TheVariants.{Empty, Fault, Missing, Object}
-use Rattle.decoder.specs.declared.received.Refusal.{Refusal}
-use Rattle.decoder.specs.declared.received.Refusal.TheVariants as refusal
 
 abbrev pub fault_value : DecodeFault → value.Answer
 fault_value (Packet i r) = value.Fault i (Faulty (fault.NoPacket r))
@@ -25,8 +21,3 @@ answer_value Empty = value.Empty
 answer_value (Fault e) = fault_value e
 answer_value (Missing b have need) = value.Missing b have need
 answer_value (Object object) = value.Object object.items
-
--- the datagrams aren't received for the first fault at a place, or for want of memory
-abbrev pub IsRefusal : List (List ℕ) → Refusal → Type 0
-IsRefusal datagrams (refusal.Fault e) = AnswerTo (came_of (readings_of datagrams)) (fault_value e)
-IsRefusal datagrams refusal.NoMemory = Unit {0}

@@ -6,7 +6,8 @@ use Rattle.gf256.specs.Arithmetic.{point}
 use Rattle.poly.specs.Polynomial.{value, IsPolynomial}
 use Rattle.partition.specs.Fti.{Fti, block_count, source_count, encoding_count, source_place}
 use Rattle.lists.specs.Below.{below}
-use Rattle.reception.specs.Symbols.{Symbol, held_count, AllFull, FullSolvable, FitsOnly, IsFirstShort, IsFirstUnsolvable, IsWithin}
+use Rattle.reception.specs.Symbols.{Symbol, held_count, AllFull, FullSolvable, FitsOnly, IsFirstShort, IsFirstUnsolvable}
+use Rattle.reception.specs.Within.{IsWithin}
 use Rattle.reception.specs.Answer as value
 use Rattle.decoder.specs.declared.counting.Short.{Short}
 use Rattle.decoder.specs.Received.{IsIndex}

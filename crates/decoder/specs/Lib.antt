@@ -7,3 +7,4 @@ pub mod Received
 pub mod Decoded
 pub mod Unsolvable
 pub mod Promised
+pub mod Refusals

@@ -8,7 +8,7 @@ use Rattle.std.specs.BTreeMap.{BTreeMap, get}
 use Rattle.partition.specs.Fti.{Fti}
 use Rattle.reception.specs.Symbols.{Symbol, is_of, is_held}
 use Rattle.reception.specs.Reception.{counted, symbols, IsClean}
-use Rattle.reception.specs.Step.{readings_of}
+use Rattle.reception.specs.Walks.{readings_of}
 use Rattle.reception.specs.Answer.{Empty, AnswerTo, came_of}
 
 -- by block, and in a block by ESI

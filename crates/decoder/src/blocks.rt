@@ -1,7 +1,8 @@
 //! The source symbols of a block of what was received.
 ghost use Rattle.std.specs.Prelude.{◌≡◌, ◌≢◌, ◌<◌, ◌≤◌, ◌*◌, ℕ, true, false, length, IfOk, IfSome, IsNone};
 ghost use Rattle.partition.specs.Fti.{block_count, source_count, source_place};
-ghost use Rattle.block_code.specs.Codes.{EachBlockHas, IsCodeOf};
+ghost use Rattle.block_code.specs.Codes.{EachBlockHas};
+ghost use Rattle.block_code.specs.CodesOf.{IsCodeOf};
 ghost use Rattle.decoder.specs.Blocks.{arrived};
 ghost use Rattle.decoder.specs.Decoded.{AreWithin, IsEnoughAt, AreRows, IsUnexplained};
 ghost use Rattle.decoder.specs.Received.{stored};

@@ -3,7 +3,8 @@ ghost use Rattle.std.specs.Prelude.{◌≡◌, ◌≤◌, ℕ, List, length, fil
 ghost use Rattle.std.specs.List.{AllByRecursion};
 ghost use Rattle.lists.specs.Below.{below};
 ghost use Rattle.partition.specs.Fti.{source_count};
-ghost use Rattle.reception.specs.Symbols.{Symbol, held_count, AllFull, IsFirstShort, IsWithin};
+ghost use Rattle.reception.specs.Symbols.{Symbol, held_count, AllFull, IsFirstShort};
+ghost use Rattle.reception.specs.Within.{IsWithin};
 ghost use Rattle.decoder.specs.Received.{stored, IsIndex};
 
 use crate::received::Symbols;

@@ -2,7 +2,8 @@
 ghost use Rattle.std.specs.Prelude.{◌≡◌, ◌<◌, ℕ, [], length, map, slice_index_or, IfOk};
 ghost use Rattle.lists.specs.Bytes.{AreBytes};
 ghost use Rattle.partition.specs.Fti.{block_count};
-ghost use Rattle.block_code.specs.Codes.{EachBlockHas, IsCodeOf};
+ghost use Rattle.block_code.specs.Codes.{EachBlockHas};
+ghost use Rattle.block_code.specs.CodesOf.{IsCodeOf};
 ghost use Rattle.reception.specs.Answer.{IsAnswer};
 ghost use Rattle.decoder.specs.Answers.{answer_value};
 ghost use Rattle.decoder.specs.Decoded.{AreWithin, IsEnoughAt, Answers, Stand};

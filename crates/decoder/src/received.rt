@@ -4,7 +4,8 @@ ghost use Rattle.alc.specs.Views.{packet_of};
 ghost use Rattle.reception.specs.Symbols.{Symbol};
 ghost use Rattle.reception.specs.Reception.{Faulty, symbol_of};
 ghost use Rattle.reception.specs.Answer.{Fault, clashes};
-ghost use Rattle.decoder.specs.Answers.{fault_value, IsRefusal};
+ghost use Rattle.decoder.specs.Answers.{fault_value};
+ghost use Rattle.decoder.specs.Refusals.{IsRefusal};
 ghost use Rattle.decoder.specs.Received.{stored, IsIndex, AreReceived, IsNothing};
 
 use crate::answer::DecodeFault;

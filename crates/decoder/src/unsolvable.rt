@@ -1,8 +1,10 @@
 //! Blocks whose symbols are those of no object.
 ghost use Rattle.std.specs.Prelude.{◌≡◌, ◌<◌, ℕ, List, true, length, is_some, slice_index, IfOk, IfSome, IsNone, IsTrue, ◌↔◌};
 ghost use Rattle.std.specs.List.{AllByRecursion};
-ghost use Rattle.block_code.specs.Codes.{EachBlockHas, IsCodeOf};
-ghost use Rattle.reception.specs.Symbols.{Symbol, FullSolvable, IsFirstUnsolvable, IsWithin};
+ghost use Rattle.block_code.specs.Codes.{EachBlockHas};
+ghost use Rattle.block_code.specs.CodesOf.{IsCodeOf};
+ghost use Rattle.reception.specs.Symbols.{Symbol, FullSolvable, IsFirstUnsolvable};
+ghost use Rattle.reception.specs.Within.{IsWithin};
 ghost use Rattle.decoder.specs.Decoded.{AreWithin};
 ghost use Rattle.decoder.specs.Received.{stored, IsIndex};
 

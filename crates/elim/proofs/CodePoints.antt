@@ -9,7 +9,8 @@ use Rattle.gf256.specs.Powers.{alpha_to_sum}
 use Rattle.gf256.specs.ByteField.{point_byte, point_apart}
 use Rattle.poly.specs.Polynomial.{power_over, AreDifferent}
 use Rattle.poly.proofs.Lists.{all_from_places, different_from_places}
-use Rattle.elim.specs.Generator.{ArePoints, power_entry}
+use Rattle.elim.specs.Generator.{power_entry}
+use Rattle.elim.specs.CodePoints.{ArePoints}
 
 pub points_bytes : (n : ℕ) (xs : List ℕ) → ArePoints n xs → AllByRecursion IsByte xs
 points_bytes n xs h = all_from_places IsByte 0 xs (λ i lt. let inside : i < n = rw h.count at lt in rw (h.at i inside) (point_byte i))

@@ -2,7 +2,8 @@
 use Rattle.std.specs.Prelude.{◌≡◌, ◌≢◌, ◌<◌, ◌≤◌, ◌+◌, ℕ, refl}
 use Rattle.std.proofs.Common.{◌∙◌, ap, arith, inl, inr}
 use Rattle.std.proofs.lemmas.Bool.{cases_eq}
-use Rattle.elim.specs.Steps.{IsSet, IsSwapped, IsScaled, IsAdded}
+use Rattle.elim.specs.Steps.{IsSwapped, IsScaled, IsAdded}
+use Rattle.elim.specs.Setting.{IsSet}
 
 -- row r has the values of f in its first places, and all else is as before
 pub record IsRowTo {F : Type 0} (n r to : ℕ) (f : ℕ → F) (old new : ℕ → ℕ → F) : Type 0 where

@@ -11,7 +11,8 @@ use Rattle.gf256.specs.Sums.{row_times}
 use Rattle.elim.specs.Matrices.{AreElements, AreInverseSquares}
 use Rattle.elim.specs.Vandermonde.{vandermonde_entry}
 use Rattle.elim.specs.Grid.{Grid, entry, product_entry, row_product, HasElements, HasEntries, HasShape}
-use Rattle.elim.specs.Generator.{ArePoints, power_entry, IsGenerator, IsSystematic, Encodes}
+use Rattle.elim.specs.Generator.{power_entry, IsGenerator, IsSystematic, Encodes}
+use Rattle.elim.specs.CodePoints.{ArePoints}
 use Rattle.elim.proofs.Sums.{sum_same}
 use Rattle.elim.proofs.RowTimes.{dot_element}
 use Rattle.elim.proofs.Interpolation.{listed, length-listed, listed_elements}

@@ -9,7 +9,8 @@ use Rattle.gf256.specs.Sums.{row_times}
 use Rattle.elim.specs.Matrices.{identity_entry, AreElements, AreInverseSquares}
 use Rattle.elim.specs.Vandermonde.{vandermonde_entry}
 use Rattle.elim.specs.Grid.{Grid, entry, row_product, HasElements, HasEntries, HasShape}
-use Rattle.elim.specs.Generator.{ArePoints, Interpolates}
+use Rattle.elim.specs.Generator.{Interpolates}
+use Rattle.elim.specs.CodePoints.{ArePoints}
 use Rattle.elim.proofs.RowTimes.{unit_swapped, dot_element, dot_same, dot_picks, row_times_twice}
 use Rattle.elim.proofs.Interpolation.{listed, length-listed, value_is}
 use Rattle.elim.proofs.Entries.{elements_by_row}

@@ -7,11 +7,6 @@ use Rattle.gf256.specs.Sums.{row_times}
 use Rattle.elim.specs.Matrices.{identity_entry}
 use Rattle.elim.specs.Grid.{Grid, entry, row_product}
 
--- the first n points
-pub record ArePoints (n : ℕ) (xs : List ℕ) : Type 0 where
-  pub count : length xs ≡ n
-  pub at : (j : ℕ) → j < n → slice_index xs j ≡ point j
-
 -- the entry of V in row i and column j, whatever its counts of rows and columns
 abbrev pub power_entry : ℕ → ℕ → ℕ
 power_entry i j = alpha_to (i * j)

@@ -5,3 +5,5 @@ pub mod Pivot
 pub mod Vandermonde
 pub mod Generator
 pub mod Erasures
+pub mod CodePoints
+pub mod Setting

@@ -4,11 +4,6 @@ use Rattle.gf256.specs.Sums.{dot}
 use Rattle.elim.specs.Matrices.{identity_entry, AreElements}
 use Rattle.elim.specs.Grid.{Grid, entry, HasElements, HasShape}
 
--- one entry is v, and the others stay
-pub record IsSet {F : Type 0} (n i j : ℕ) (v : F) (old new : ℕ → ℕ → F) : Type 0 where
-  pub here : new i j ≡ v
-  pub others : (a b : ℕ) → b < n → (a ≡ i → b ≡ j → ⊥) → new a b ≡ old a b
-
 -- a step on a matrix: as many rows and columns as before, and its entries, all elements, have changed like this
 pub record IsStep {F : Type 0} (element : F → Type 0) (none : F) (change : (ℕ → ℕ → F) → (ℕ → ℕ → F) → Type 0) (old new : Grid F) : Type 0 where
   pub shape : HasShape old.rows old.cols new

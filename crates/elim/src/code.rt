@@ -1,6 +1,7 @@
 //! The generator matrix of the code.
 ghost use Rattle.std.specs.Prelude.{◌≡◌, ◌<◌, ◌≤◌, IfOk};
-ghost use Rattle.elim.specs.Generator.{ArePoints, IsGenerator, IsSystematic, Encodes, Interpolates};
+ghost use Rattle.elim.specs.Generator.{IsGenerator, IsSystematic, Encodes, Interpolates};
+ghost use Rattle.elim.specs.CodePoints.{ArePoints};
 ghost use Rattle.elim.specs.Grid.{HasShape};
 
 use crate::combine::{product, vandermonde};

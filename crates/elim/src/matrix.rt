@@ -1,7 +1,8 @@
 //! A matrix, and steps on its rows.
 ghost use Rattle.std.specs.Prelude.{◌≡◌, ◌≢◌, ◌<◌, ◌≤◌, ◌+◌, ◌*◌, ◌^◌, ℕ, IfOk, replicate, length, slice_index_or};
 ghost use Rattle.elim.specs.Grid.{Grid, entry, HasElements, HasShape, IsMatrix};
-ghost use Rattle.elim.specs.Steps.{IsSet, IsStep, IsSwapped, IsScaled, IsAdded, IsRowAdded};
+ghost use Rattle.elim.specs.Setting.{IsSet};
+ghost use Rattle.elim.specs.Steps.{IsStep, IsSwapped, IsScaled, IsAdded, IsRowAdded};
 
 use gf256::Field;
 use std::alloc::{AllocError, Global};

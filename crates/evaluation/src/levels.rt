@@ -1,7 +1,8 @@
 //! The values at the first points, in one level or in two.
 ghost use Rattle.std.specs.Prelude.{◌≡◌, ◌<◌, ◌≤◌, ◌+◌, ◌*◌, ◌^◌, ℕ, length, slice_index};
 ghost use Rattle.lists.specs.Bytes.{AreBytes};
-ghost use Rattle.evaluation.specs.Columns.{AreValues, AreSums, IsPart, AreParts};
+ghost use Rattle.evaluation.specs.Columns.{AreValues};
+ghost use Rattle.evaluation.specs.Parts.{AreSums, IsPart, AreParts};
 
 use crate::powers::write_powers;
 use gf256::add_products;

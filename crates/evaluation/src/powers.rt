@@ -1,7 +1,7 @@
 //! Matrices of powers of alpha.
 ghost use Rattle.std.specs.Prelude.{◌≡◌, ◌<◌, ◌≤◌, ◌*◌, ◌^◌, length};
 ghost use Rattle.gf256.specs.Arithmetic.{alpha_to};
-ghost use Rattle.evaluation.specs.Columns.{ArePowers};
+ghost use Rattle.evaluation.specs.Parts.{ArePowers};
 
 use gf256::point;
 

@@ -2,7 +2,7 @@
 use Rattle.std.specs.Prelude.{ℕ, ◌≡◌, ◌<◌, ◌-◌, zero, suc, slice_index_or, [], ◌+◌, ◌*◌, ◌/◌, ◌%◌, ◌^◌, ◌==◌, List, cond, slice_index}
 use lib.Dec.{ltb}
 use Rattle.gf256.specs.Arithmetic.{sum_of, doubled}
-use Rattle.gf256.specs.Sums.{byte_sum}
+use Rattle.gf256.specs.ByteSums.{byte_sum}
 
 -- x where the bit is 1, else 0
 abbrev pub pick : ℕ → ℕ → ℕ

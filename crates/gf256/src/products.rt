@@ -6,7 +6,8 @@
 //! coefficients is one addition.
 ghost use Rattle.std.specs.Prelude.{◌≡◌, ℕ, ◌<◌, ◌≤◌, ◌+◌, ◌-◌, ◌*◌, ◌/◌, ◌%◌, ◌^◌, List, [], map, length, slice_index, slice_index_or};
 ghost use Rattle.gf256.specs.Arithmetic.{sum_of, product, doubled};
-ghost use Rattle.gf256.specs.Sums.{byte_sum, row_times};
+ghost use Rattle.gf256.specs.Sums.{row_times};
+ghost use Rattle.gf256.specs.ByteSums.{byte_sum};
 ghost use Rattle.gf256.specs.Slices.{pick_four, nibble, bit, below, horner, IsFilled, IsList, AreSmall, tile_sum, sum_at};
 ghost use Rattle.std.specs.Simd.Lanes.{zip2};
 

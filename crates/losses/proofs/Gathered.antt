@@ -7,7 +7,7 @@ use Rattle.losses.proofs.Margins.{IsCut}
 use Rattle.losses.proofs.Narrowest.{members_between, present_all}
 use Rattle.losses.proofs.Weights.{cheap_are, cost_are}
 use Rattle.losses.specs.Costs.{IsWeighed, copies, is_cheap}
-use Rattle.losses.specs.Members.{ArePlaced, members}
+use Rattle.losses.specs.Windows.{ArePlaced, members}
 use Rattle.losses.specs.Numbers.{present}
 use Rattle.losses.specs.declared.groups.Member.{Member}
 use Rattle.losses.specs.Number.{Number}

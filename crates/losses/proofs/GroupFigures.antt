@@ -9,7 +9,8 @@ use Rattle.losses.specs.Number.{Number}
 use Rattle.losses.specs.declared.groups.Member.{Member}
 use Rattle.lists.specs.Below.{below}
 use Rattle.losses.specs.Numbers.{has, present}
-use Rattle.losses.specs.Members.{ArePlaced, IsLeastGap, members, different_outside}
+use Rattle.losses.specs.Members.{different_outside}
+use Rattle.losses.specs.Windows.{ArePlaced, IsLeastGap, members}
 use Rattle.losses.specs.Costs.{IsWeighed, cheap_places}
 use Rattle.losses.specs.Losses.{Blocks, IsBefore, IsKill, IsMargin, IsBurst, is_enough, esis_in, taken_wholly}
 use Rattle.losses.specs.declared.groups.Group.{Group as GroupOf}

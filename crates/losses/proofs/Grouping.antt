@@ -7,7 +7,8 @@ use Rattle.std.proofs.lemmas.List.Sums.{sum_by-cons}
 use Rattle.losses.specs.Number.{Number}
 use Rattle.losses.specs.declared.groups.Member.{Member}
 use Rattle.losses.specs.Numbers.{has}
-use Rattle.losses.specs.Members.{member, members, has_esi}
+use Rattle.losses.specs.Members.{has_esi}
+use Rattle.losses.specs.Windows.{member, members}
 
 pub has_members : (b j i : ℕ) (ps : List Number) → has b ps j ≡ list_any (has_esi j) (members b i ps)
 has_members b j i [] = refl

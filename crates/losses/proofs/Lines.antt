@@ -7,7 +7,7 @@ use Rattle.lists.specs.Selection.{rest_from, rest, is_among}
 use Rattle.losses.specs.Number.{Number}
 use Rattle.losses.specs.declared.groups.Member.{Member}
 use Rattle.losses.specs.Numbers.{has}
-use Rattle.losses.specs.Members.{member, members}
+use Rattle.losses.specs.Windows.{member, members}
 use Rattle.losses.specs.Groups.{places, is_at, AreMembers}
 use Rattle.losses.proofs.Copies.{HasByteEsi}
 use Rattle.losses.proofs.Link.{is_left, has_rest}

@@ -5,7 +5,8 @@ use Rattle.std.proofs.Common.{ap, arith}
 use Rattle.lists.specs.Selection.{rest_from}
 use Rattle.losses.proofs.Grouping.{count_cons}
 use Rattle.losses.specs.Costs.{copies, count}
-use Rattle.losses.specs.Members.{has_esi, member, members, outside, place_at}
+use Rattle.losses.specs.Members.{has_esi, outside}
+use Rattle.losses.specs.Windows.{member, members, place_at}
 use Rattle.losses.specs.Numbers.{has, is_number}
 use Rattle.losses.specs.declared.groups.Member.{Member}
 use Rattle.losses.specs.Number.{Number}

@@ -7,7 +7,8 @@ use Rattle.losses.proofs.Link.{IsWindow, has_rest, is_left, window_left}
 use Rattle.lists.proofs.Lists.{all_of, filter_same}
 use Rattle.losses.proofs.Runs.{IsLeastRun}
 use Rattle.losses.proofs.Windows.{place_le, short_some}
-use Rattle.losses.specs.Members.{ArePlaced, IsLeastGap, different_outside, member, members, outside, place_at}
+use Rattle.losses.specs.Members.{different_outside, outside}
+use Rattle.losses.specs.Windows.{ArePlaced, IsLeastGap, member, members, place_at}
 use Rattle.lists.specs.Below.{below}
 use Rattle.losses.specs.Numbers.{has, present}
 use Rattle.losses.specs.declared.groups.Member.{Member}

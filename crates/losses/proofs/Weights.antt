@@ -12,7 +12,8 @@ use Rattle.lists.proofs.Lists.{all_of, all_to, filter_all, filter_same}
 use Rattle.losses.proofs.Places.{places_from}
 use Rattle.losses.specs.Costs.{IsWeighed, came, cheap_esis, cheap_places, cheapest_of, copies, cost_of, esi_copies, esis, is_cheap, total}
 use Rattle.losses.specs.Losses.{IsRising}
-use Rattle.losses.specs.Members.{different_outside, filled, has_esi, member, members, outside}
+use Rattle.losses.specs.Members.{different_outside, has_esi, outside}
+use Rattle.losses.specs.Windows.{filled, member, members}
 use Rattle.lists.specs.Below.{below}
 use Rattle.losses.specs.Numbers.{has, present}
 use Rattle.losses.specs.declared.groups.Member.{Member}

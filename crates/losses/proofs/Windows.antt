@@ -5,7 +5,8 @@ use Rattle.std.proofs.lemmas.List.Sums.{sum_by-cons, sum_by-take-drop, sum_by_mo
 use Rattle.std.proofs.lemmas.Bool.{lt-ltb, le-ltb, ltb-true, ltb-false, eqb-true, eq-eqb}
 use Rattle.losses.proofs.Filled.{same_count}
 use Rattle.losses.proofs.Runs.{filter_fewer}
-use Rattle.losses.specs.Members.{ArePlaced, IsLeastGap, IsShortWindow, different_outside, filled, has_esi, member, outside, place_at}
+use Rattle.losses.specs.Members.{different_outside, has_esi, outside}
+use Rattle.losses.specs.Windows.{ArePlaced, IsLeastGap, IsShortWindow, filled, member, place_at}
 use Rattle.lists.specs.Below.{below}
 use Rattle.losses.specs.declared.groups.Member.{Member}
 

@@ -4,3 +4,4 @@ pub mod Members
 pub mod Losses
 pub mod Groups
 pub mod Costs
+pub mod Windows

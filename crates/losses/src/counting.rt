@@ -1,6 +1,7 @@
 //! Different symbols of a group.
 ghost use Rattle.std.specs.Prelude.{◌≡◌, ◌<◌, ℕ, count_by, slice_index};
-ghost use Rattle.losses.specs.Members.{has_esi, filled};
+ghost use Rattle.losses.specs.Members.{has_esi};
+ghost use Rattle.losses.specs.Windows.{filled};
 
 use crate::groups::Member;
 

@@ -1,6 +1,6 @@
 //! The cheapest symbols of a block.
 ghost use Rattle.std.specs.Prelude.{◌≡◌, ℕ, ◌+◌, ◌-◌, ◌<◌, ◌≤◌, ◌^◌, length, slice_index, IfOk, sum_by};
-ghost use Rattle.losses.specs.Members.{filled};
+ghost use Rattle.losses.specs.Windows.{filled};
 ghost use Rattle.losses.specs.Costs.{priced, came, cheapest_of, cost_of};
 
 use std::alloc::{AllocError, Global};

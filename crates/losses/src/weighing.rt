@@ -1,6 +1,7 @@
 //! What a block can lose.
 ghost use Rattle.std.specs.Prelude.{◌≡◌, ◌<◌, ◌≤◌, IfOk, nat_lt, nat_le, ◌||◌, ◌&&◌, ◌==◌};
-ghost use Rattle.losses.specs.Members.{ArePlaced, different_outside, IsLeastGap};
+ghost use Rattle.losses.specs.Members.{different_outside};
+ghost use Rattle.losses.specs.Windows.{ArePlaced, IsLeastGap};
 ghost use Rattle.losses.specs.Costs.{IsWeighed, cheap_places};
 
 use crate::counting::{copies_of, different};

@@ -1,6 +1,7 @@
 //! The narrowest run of places whose loss leaves a block short.
 ghost use Rattle.std.specs.Prelude.{◌≡◌, ℕ, ◌+◌, ◌-◌, ◌<◌, ◌≤◌, slice_index, slice_set, ◌^◌};
-ghost use Rattle.losses.specs.Members.{filled, different_outside, ArePlaced, IsLeastGap};
+ghost use Rattle.losses.specs.Members.{different_outside};
+ghost use Rattle.losses.specs.Windows.{filled, ArePlaced, IsLeastGap};
 
 use crate::counting::{copies_of, different};
 use crate::groups::Member;

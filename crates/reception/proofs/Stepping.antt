@@ -8,7 +8,7 @@ use Rattle.reception.specs.declared.scope.Identity.{Identity}
 use Rattle.reception.specs.declared.scope.Scope.{Scope}
 use Rattle.reception.specs.Symbols.{Symbol}
 use Rattle.reception.specs.Reception.{Judge, Found, Placed, Came, counted, symbols, symbols_in, identity_in, carried, or_later, learned, scope_from, or_else, at_place, reading_wrong, wrong_after, first_wrong, came_with}
-use Rattle.reception.specs.Step.{step, Timely, IsTimely}
+use Rattle.reception.specs.Walks.{step, Timely, IsTimely}
 use Rattle.reception.proofs.Walk.{counted_one_more, symbols_more, scope_more, or_else_none, wrong_more}
 
 came_is : {R : Type 0} (a b : Found R) (f g : Scope) (s t : List Symbol) → a ≡ b → f ≡ g → s ≡ t

@@ -13,7 +13,8 @@ use Rattle.reception.specs.declared.scope.Scope.{Scope}
 use Rattle.reception.specs.declared.scope.PlaceFault.{PlaceFault}
 use Rattle.reception.specs.Symbols.{Symbol}
 use Rattle.reception.specs.Reception.{Judge, Wrong, Found, Came, counted, symbols, symbols_in, learned, look, look_by, or_packet, packet_fault, wrong_by, or_else, at_place, reading_wrong, came_with}
-use Rattle.reception.specs.Step.{readings_of, told, looked, IsLook}
+use Rattle.reception.specs.Step.{told, looked, IsLook}
+use Rattle.reception.specs.Walks.{readings_of}
 use Rattle.reception.proofs.Stepping.{one_more, stays_wrong, after_packet}
 
 -- the reading of the datagram at a place

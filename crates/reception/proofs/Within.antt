@@ -11,7 +11,8 @@ use Rattle.reception.specs.declared.scope.Identity.{Identity}
 use Rattle.reception.specs.declared.scope.Scope.{Scope}
 use Rattle.reception.specs.declared.scope.PlaceFault.{PlaceFault}
 use Rattle.reception.specs.declared.scope.PlaceFault.TheVariants.{OtherIdentity, OtherFti, Range}
-use Rattle.reception.specs.Symbols.{Symbol, IsWithin}
+use Rattle.reception.specs.Symbols.{Symbol}
+use Rattle.reception.specs.Within.{IsWithin}
 use Rattle.reception.specs.Reception.{ReadAll, Judge, Wrong, Placed, counted_from, counted, learned, scope_from, symbols_in, symbols, is_of_identity, same_fti, in_range, packet_fault, or_packet, wrong_by, or_else, at_place, reading_wrong, wrong_after, IsClean, came_with}
 use Rattle.reception.proofs.Stepping.{scope, stays, after_packet}
 

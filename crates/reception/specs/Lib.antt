@@ -5,3 +5,5 @@ pub mod Headline
 pub mod Step
 pub mod First
 pub mod Order
+pub mod Walks
+pub mod Within

@@ -95,9 +95,3 @@ pub record IsFirstUnsolvable (f : Fti) (came : List Symbol) (b : ℕ) : Type 0 w
   pub full : is_full f came b ≡ true
   pub unsolvable : ¬ Solvable f came b
   pub least : (a : ℕ) → a < b → is_full f came a ≡ true → Solvable f came a
-
--- a symbol that the FTI has
-pub record IsWithin (f : Fti) (s : Symbol) : Type 0 where
-  pub block : s.block < block_count f
-  pub esi : s.esi < encoding_count f s.block
-  pub count : length s.bytes ≡ f.symbol_length

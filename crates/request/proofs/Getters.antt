@@ -9,7 +9,8 @@ use Rattle.clap.specs.Matches.{ReadsOne, values_left}
 use Rattle.clap.specs.declared.parser.matches.ValuesRef.{ValuesRef}
 use Rattle.clap.specs.declared.parser.matches.Found.{Found}
 use Rattle.clap.proofs.WalkLemmas.{first_value-rows, one_text-rows, typed_values-rows}
-use Rattle.request.specs.Requests.{Asked, EncodeAsked, CertifyAsked, CheckAsked, DropAsked, DecodeAsked, TwinAsked, ShowAsked, AnswersRead, Gives, GivesNone, IsNoPlaces, NoneIs, HasOrder, HasPlaces, HasSending, HasSizes, HasText, HasValues, IsRead, name_of, order_name}
+use Rattle.request.specs.Requests.{Asked, EncodeAsked, CertifyAsked, CheckAsked, DropAsked, DecodeAsked, TwinAsked, ShowAsked, HasOrder, HasPlaces, HasSending, HasSizes, HasText, HasValues, IsRead, name_of, order_name}
+use Rattle.request.specs.RequestReading.{AnswersRead, Gives, GivesNone, IsNoPlaces, NoneIs}
 use Rattle.request.specs.declared.requests.Request.{Request}
 use Rattle.request.specs.declared.usage.Usage.{Usage}
 use Rattle.request.specs.declared.usage.Usage.TheVariants.{Help, Line, Value, NoMemory}

@@ -6,8 +6,9 @@ use Rattle.clap.specs.declared.error.Error.{Error}
 use Rattle.clap.specs.declared.error.kind.ErrorKind.TheVariants.{DisplayHelp, OutOfMemory}
 use Rattle.clap.proofs.OnLiterals.{clap_on_literals}
 use Rattle.request.specs.Grammar.{IsOrders, grammar_of}
-use Rattle.request.specs.Requests.{Answers, AnswersRead}
-use Rattle.request.specs.Usages.{IsUsageOf}
+use Rattle.request.specs.Requests.{Answers}
+use Rattle.request.specs.RequestReading.{AnswersRead}
+use Rattle.request.specs.UsageOf.{IsUsageOf}
 use Rattle.request.proofs.Existing.{asks}
 use Rattle.request.specs.declared.requests.Request.{Request}
 use Rattle.request.specs.declared.usage.Usage.{Usage}

@@ -2,3 +2,5 @@ pub mod Building
 pub mod Grammar
 pub mod Requests
 pub mod Usages
+pub mod RequestReading
+pub mod UsageOf

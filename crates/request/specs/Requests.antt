@@ -1,8 +1,7 @@
 -- What the words of a command line ask for.
-use Rattle.std.specs.Prelude.{◌≡◌, ◌<◌, ◌≤◌, ◌^◌, ◌∷◌, [], ℕ, List, Option, Some, None, Result, Ok, Err, IfOk, IfErr, length, codes, ⊤}
+use Rattle.std.specs.Prelude.{◌≡◌, ◌<◌, ◌≤◌, ◌^◌, ◌∷◌, [], ℕ, List, Option, Some, Result, Ok, Err, length, codes, ⊤}
 use Rattle.std.specs.Str.Parse.{IsNumeral, digits_value, without_leading_plus}
-use Rattle.clap.specs.Words.{App, IsAmong, Row, Text, fault_of, first_of, found_of, kind_of, many_of, one_of, rows_of, subcommand_of}
-use Rattle.clap.specs.declared.parser.matches.ArgMatches.{ArgMatches}
+use Rattle.clap.specs.Words.{App, IsAmong, Row, Text, fault_of, first_of, kind_of, many_of, one_of, subcommand_of}
 use Rattle.clap.specs.declared.error.kind.ErrorKind.TheVariants.{DisplayHelp}
 use Rattle.partition.specs.declared.order.Order.{Order}
 use Rattle.partition.specs.declared.order.Order.TheVariants.{Blocks, Rounds}
@@ -15,9 +14,6 @@ use Rattle.request.specs.declared.usage.Usage.TheVariants.{Help, Line, Value, No
 use Rattle.request.specs.Usages.{IsRefusal}
 
 -- ---- values, by the rows that the grammar reads from a command's words
-
-abbrev pub rows_in : ArgMatches → List Row
-rows_in matches = rows_of (found_of matches)
 
 abbrev pub HasText : List Row → Text → Text → Type 0
 HasText rows name value = first_of name rows ≡ Some value
@@ -70,29 +66,6 @@ pub record HasPlaces (rows : List Row) (places : List ℕ) : Type 0 where
   pub numbers : AreNumbers texts places
   pub some : 0 < length places
 
--- the text that was read gives this number
-abbrev pub Gives : {N E : Type 0} → (Text → Result N E → Type 0) → Option Text → N → Type 0
-Gives gives read n = (text : Text) × (read ≡ Some text) × gives text (Ok n)
-
--- no text was read, or one that gives no number
-abbrev pub GivesNone : {N E : Type 0} → (Text → Result N E → Type 0) → Option Text → Type 0
-GivesNone gives None = ⊤
-GivesNone {N} {E} gives (Some text) = (e : E) × gives text (Err e)
-
-abbrev pub NoneIs : {X : Type 0} → (X → Type 0) → Type 0
-NoneIs {X} Is = (x : X) → Is x → ⊥
-
--- a value that is as it should be, or `Value` where none is
-abbrev pub Finds : {X : Type 0} → (X → Type 0) → Result X Usage → Type 0
-Finds Is result = IfOk result Is × IfErr result (λ usage. (usage ≡ Value) × NoneIs Is)
-
--- why there are no places
-abbrev pub IsNoPlaces : List Row → Usage → Type 0
-IsNoPlaces rows Value = NoneIs (HasPlaces rows)
-IsNoPlaces rows NoMemory = ⊤
-IsNoPlaces rows (Help told) = ⊥
-IsNoPlaces rows (Line told) = ⊥
-
 -- ---- requests
 
 -- a request's values: files by their names, what is sent, an FTI's numbers, places
@@ -142,14 +115,6 @@ HasValues rows (ShowAsked session) = HasText rows (codes "SESSION") session
 -- what was read, a command's name and rows, asks for this
 abbrev pub IsRead : Option (Text × List Row) → Asked → Type 0
 IsRead read asked = (rows : List Row) × (read ≡ Some (name_of asked, rows)) × HasValues rows asked
-
--- the answer to what was read: the request that it is, or that it is none
-abbrev pub AnswersRead : Option (Text × List Row) → Result Request Usage → Type 0
-AnswersRead read (Ok request) = IsRead read (asked_of request)
-AnswersRead read (Err Value) = NoneIs (IsRead read)
-AnswersRead read (Err NoMemory) = ⊤
-AnswersRead read (Err (Help told)) = ⊥
-AnswersRead read (Err (Line told)) = ⊥
 
 -- The answer to the words, by the grammar: a request where they have no fault, else why there is none; or want of memory.
 abbrev pub Answers : App → List Text → Result Request Usage → Type 0

@@ -2,7 +2,7 @@
 ghost use Rattle.std.specs.Prelude.{map};
 ghost use Rattle.request.specs.Grammar.{IsOrders, grammar_of};
 ghost use Rattle.request.specs.Requests.{Answers};
-ghost use Rattle.request.specs.Usages.{IsUsageOf};
+ghost use Rattle.request.specs.UsageOf.{IsUsageOf};
 
 use crate::grammar::grammar;
 use crate::matched::matched_request;

@@ -1,7 +1,8 @@
 //! Requests of what the grammar matched.
 ghost use Rattle.std.specs.Prelude.{◌≡◌, ◌∷◌, None, Some, IfOk, IfErr, codes};
 ghost use Rattle.clap.specs.Words.{first_of, one_of, subcommand_rows_of};
-ghost use Rattle.request.specs.Requests.{AnswersRead, Finds, Gives, GivesNone, HasOrder, HasPlaces, HasSending, HasSizes, HasText, IsNoPlaces, rows_in};
+ghost use Rattle.request.specs.Requests.{HasOrder, HasPlaces, HasSending, HasSizes, HasText};
+ghost use Rattle.request.specs.RequestReading.{AnswersRead, Finds, Gives, GivesNone, IsNoPlaces, rows_in};
 
 use crate::requests::{Request, Sending, Sizes};
 use crate::usage::Usage;

@@ -6,7 +6,8 @@ use Rattle.cert.specs.declared.verdict.Verdict.TheVariants.{No}
 use Rattle.tool.specs.Lines.{Prints, PrintsTwin}
 use Rattle.partition.specs.Fti.{Fti}
 use Rattle.tool.specs.Folder.{Files}
-use Rattle.tool.specs.Outcomes.{short_of, twin_status_of, MakesTwin}
+use Rattle.tool.specs.Outcomes.{twin_status_of, MakesTwin}
+use Rattle.tool.specs.ShortBlocks.{short_of}
 
 some_same : {A : Type 0} {x y : A} → Some x ≡ Some y → x ≡ y
 some_same e = cc

@@ -7,3 +7,5 @@ pub mod Making
 pub mod Decoding
 pub mod Outcomes
 pub mod Answering
+pub mod GivingUp
+pub mod ShortBlocks

@@ -81,10 +81,6 @@ IsUnwritten files (CertificateFault CertificateIo) = files ≡ None
 IsUnwritten files (Frame FrameIo) = files ≡ None
 IsUnwritten files _ = ⊥
 
--- What is told where writing has failed with this fault: it, where the folder doesn't tell its files, or want of memory.
-abbrev pub IsGivenUp : Option Files → Fault → Fault → Type 0
-IsGivenUp files fault told = (told ≡ Memory) ⊎ ((told ≡ fault) × (files ≡ None))
-
 -- After a fault the files are as before. Only where printing has failed the output may be there by then, and no other.
 abbrev pub LeavesFiles : Option Files → Option Files → List ℕ → Fault → Type 0
 LeavesFiles old new output Output = (new ≡ old) ⊎ ((bytes : List ℕ) × Replaces old new output bytes)

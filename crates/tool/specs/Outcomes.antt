@@ -48,11 +48,6 @@ IsUnchecked files session object certificate failed fault =
     IsSessionUnread files session fault ⊎ IsObjectUnread files object fault
     ⊎ IsCertificateUnread files certificate fault ⊎ IsPrintFault failed fault
 
--- the block that is short, how many symbols it has and how many it needs, where that is the reason
-abbrev pub short_of : Reason → Option (ℕ × ℕ × ℕ)
-short_of (Thin block have need) = Some (block, have, need)
-short_of _ = None
-
 -- 0 where there is a twin to be written
 abbrev pub twin_status_of : Verdict → ℕ
 twin_status_of (Yes report) = 1

@@ -2,7 +2,8 @@
 ghost use Rattle.std.specs.Prelude.{◌≡◌, ◌⊎◌, IfOk, IfErr, IfSome, OnOk, OnErr};
 ghost use Rattle.std.specs.Io.KnownBytes.{Appends};
 ghost use Rattle.tool.specs.Folder.{IsBlank, Replaces};
-ghost use Rattle.tool.specs.Making.{IsUnmade, IsGivenUp};
+ghost use Rattle.tool.specs.Making.{IsUnmade};
+ghost use Rattle.tool.specs.GivingUp.{IsGivenUp};
 
 use crate::fault::Fault;
 use crate::folder::{FileFault, Folder};

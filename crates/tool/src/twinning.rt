@@ -2,7 +2,8 @@
 ghost use Rattle.std.specs.Prelude.{◌≡◌, IfOk, IfErr, codes};
 ghost use Rattle.tool.specs.Lines.{twin_line};
 ghost use Rattle.tool.specs.Making.{Fails};
-ghost use Rattle.tool.specs.Outcomes.{short_of, IsTwinned, IsUntwinned};
+ghost use Rattle.tool.specs.Outcomes.{IsTwinned, IsUntwinned};
+ghost use Rattle.tool.specs.ShortBlocks.{short_of};
 
 use crate::check::reason_line;
 use crate::fault::Fault;

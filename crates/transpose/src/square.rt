@@ -1,6 +1,6 @@
 //! Squares of 16 by 16 bytes, turned over the diagonal.
 ghost use Rattle.std.specs.Prelude.{◌≡◌, ◌<◌, ◌+◌, ◌*◌, ◌/◌, ◌%◌, ℕ, slice_index};
-ghost use Rattle.transpose.specs.Squares.{byte, IsTurned};
+ghost use Rattle.transpose.specs.Turned.{byte, IsTurned};
 
 use std::simd::prelude::*;
 

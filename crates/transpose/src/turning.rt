@@ -1,6 +1,7 @@
 //! Columns turned into rows.
 ghost use Rattle.std.specs.Prelude.{◌≡◌, ◌<◌, ◌≤◌, ◌+◌, ◌*◌, ℕ, length, slice_index, slice_index_or, []};
-ghost use Rattle.transpose.specs.Squares.{byte, IsMoved};
+ghost use Rattle.transpose.specs.Squares.{IsMoved};
+ghost use Rattle.transpose.specs.Turned.{byte};
 
 use crate::square::turned;
 use std::simd::prelude::*;

@@ -4,7 +4,7 @@ use Rattle.losses.specs.declared.groups.Group.{Group as GroupOf}
 use Rattle.losses.specs.Groups.{groups_of}
 use Rattle.losses.proofs.GroupFigures.{count_of}
 use Rattle.partition.proofs.Laws.{some_block}
-use Rattle.reception.specs.Step.{readings_of}
+use Rattle.reception.specs.Walks.{readings_of}
 use Rattle.cert.specs.Scan.{line_in}
 use Rattle.cert.proofs.Judging.{read_all, some_counted}
 use Rattle.cert.proofs.Bridge.{lines_are, enough_full, counts_refused}

@@ -1,7 +1,7 @@
 use Rattle.std.proofs.Common.{◌∙◌, sym, ap, refl, subst}
 use Rattle.partition.specs.Fti.{Fti}
 use Rattle.cert.specs.Certificate.{Certificate}
-use Rattle.reception.specs.Step.{readings_of}
+use Rattle.reception.specs.Walks.{readings_of}
 use Rattle.cert.specs.Scan.{IsNoReport}
 use Rattle.cert.specs.declared.datagrams.NoReport.TheVariants.{Reason as ByReason}
 use Rattle.cert.proofs.Judging.{read_all, no_object, refused, yes_all}

@@ -10,7 +10,7 @@ use Rattle.alc.specs.Views.{packet_of}
 use Rattle.alc.specs.Reading.{Reading}
 use Rattle.alc.specs.Computed.{read_of}
 use Rattle.reception.specs.Reception.{Faulty, Judged, Placed, judged, symbol_of, symbols_in, with_fti, counted}
-use Rattle.reception.specs.Step.{readings_of}
+use Rattle.reception.specs.Walks.{readings_of}
 use Rattle.reception.specs.declared.scope.Scope.{Scope}
 use Rattle.reception.proofs.Walk.{counted_one_more}
 use Rattle.reception.proofs.Walking.{begins, stops, goes_on, ends, front, none_passed, is_packet, came_before}

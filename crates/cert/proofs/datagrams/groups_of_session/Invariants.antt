@@ -1,7 +1,7 @@
 use Rattle.std.proofs.Common.{◌≡◌, take}
 use Rattle.losses.specs.Groups.{groups_of}
 use Rattle.reception.specs.Reception.{counted}
-use Rattle.reception.specs.Step.{readings_of}
+use Rattle.reception.specs.Walks.{readings_of}
 use Rattle.cert.specs.Scan.{AreGroupsOf}
 use Rattle.cert.proofs.Scanning.{Scanned}
 use Rattle.cert.proofs.datagrams.groups_of_session.Given as goal

@@ -1,6 +1,6 @@
 use Rattle.std.proofs.Common.{◌∙◌}
 use Rattle.std.proofs.lemmas.Result.{IfOk-weaker}
-use Rattle.reception.specs.Step.{readings_of}
+use Rattle.reception.specs.Walks.{readings_of}
 use Rattle.cert.specs.Verdict.{came_to}
 use Rattle.cert.proofs.Judging.{nothing_found}
 use Rattle.cert.proofs.Short.{thinned, few_thin, twin_of_session}

@@ -3,7 +3,7 @@ use Rattle.std.specs.Prelude.{slice_index, filter, is_some}
 use Rattle.lists.specs.Below.{below}
 use Rattle.lists.specs.Bytes.{AreBytes}
 use Rattle.partition.specs.Fti.{encoding_count}
-use Rattle.block_code.specs.Codes.{IsCodeOf}
+use Rattle.block_code.specs.CodesOf.{IsCodeOf}
 use Rattle.block_code.proofs.RowAdding.{products}
 use Rattle.block_code.proofs.Sizes.{picked_has}
 use Rattle.decoder.specs.Blocks.{arrived, AreOnly}

@@ -1,6 +1,7 @@
 use Rattle.std.proofs.Common.{◌≡◌, ◌<◌, ℕ, true, List}
 use Rattle.std.specs.List.{AllByRecursion}
-use Rattle.reception.specs.Symbols.{Symbol, is_full, IsWithin}
+use Rattle.reception.specs.Symbols.{Symbol, is_full}
+use Rattle.reception.specs.Within.{IsWithin}
 use Rattle.decoder.specs.Received.{stored, IsIndex}
 use Rattle.decoder.proofs.counting.first_short.Given as goal
 

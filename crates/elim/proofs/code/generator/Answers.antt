@@ -2,7 +2,8 @@ use Rattle.std.proofs.Common.{◌≤◌, take, arith}
 use Rattle.std.proofs.lemmas.Result.{IfOk-weaker}
 use Rattle.poly.proofs.Lists.{all_by_place}
 use Rattle.lists.specs.Bytes.{IsByte}
-use Rattle.elim.specs.Generator.{ArePoints, IsGenerator, IsSystematic, Encodes}
+use Rattle.elim.specs.Generator.{IsGenerator, IsSystematic, Encodes}
+use Rattle.elim.specs.CodePoints.{ArePoints}
 use Rattle.elim.proofs.CodePoints.{points_front, points_bytes, points_different}
 use Rattle.elim.proofs.Generating.{GeneratesAll, made_is}
 use Rattle.elim.proofs.code.generator.Goals as goal

@@ -1,7 +1,7 @@
 use Rattle.std.proofs.Common.{◌∙◌}
 use Rattle.poly.proofs.Lists.{all_by_place}
 use Rattle.lists.specs.Bytes.{IsByte}
-use Rattle.elim.specs.Generator.{ArePoints}
+use Rattle.elim.specs.CodePoints.{ArePoints}
 use Rattle.elim.proofs.CodePoints.{points_bytes, points_different}
 use Rattle.elim.proofs.Interpolating.{interpolates}
 use Rattle.elim.proofs.code.interpolator.Goals as goal

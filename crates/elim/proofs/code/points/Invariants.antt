@@ -1,4 +1,4 @@
-use Rattle.elim.specs.Generator.{ArePoints}
+use Rattle.elim.specs.CodePoints.{ArePoints}
 use Rattle.elim.proofs.code.points.Given as goal
 
 abbrev pub invariant-loop-j : goal.invariant-loop-j

@@ -1,7 +1,7 @@
 use Rattle.std.proofs.Common.{ℕ, ◌≡◌, ◌+◌, ◌-◌, ◌*◌, length, get_or, take, drop, bit_xor, ap, sym, ◌∙◌, arith}
 use Rattle.std.specs.Int.Bits.{xor_assoc, xor_zero_r}
 use Rattle.gf256.specs.Arithmetic.{product}
-use Rattle.gf256.specs.Sums.{byte_sum}
+use Rattle.gf256.specs.ByteSums.{byte_sum}
 use Rattle.gf256.proofs.SliceSums.{sum_same, sum_parts}
 use Rattle.gf256.proofs.RowPlaces.{rows_apart, rows_fit, part_byte}
 use Rattle.gf256.proofs.products.add_by_tables.Goals as goal

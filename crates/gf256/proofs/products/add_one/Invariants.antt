@@ -1,6 +1,6 @@
 use Rattle.std.proofs.Common.{◌≡◌, ℕ, ◌<◌, ◌+◌, ◌*◌, bit_xor, get_or, length}
 use Rattle.gf256.specs.Arithmetic.{product}
-use Rattle.gf256.specs.Sums.{byte_sum}
+use Rattle.gf256.specs.ByteSums.{byte_sum}
 use Rattle.gf256.proofs.products.add_one.Given as goal
 
 abbrev pub invariant-loop-i : goal.invariant-loop-i

@@ -2,7 +2,7 @@ use Rattle.std.proofs.Common.{ℕ, ◌≡◌, ◌<◌, ◌≤◌, ◌+◌, ◌-�
 use Rattle.std.proofs.lemmas.Bool.{cases_lt}
 use Rattle.std.proofs.lemmas.Simd.{get_or-chunk}
 use Rattle.gf256.specs.Arithmetic.{product}
-use Rattle.gf256.specs.Sums.{byte_sum}
+use Rattle.gf256.specs.ByteSums.{byte_sum}
 use Rattle.gf256.proofs.SliceSums.{sum_same}
 use Rattle.gf256.proofs.RowPlaces.{row_ends, rows_fit, put_below, put_at, part_long, from_row, from_row_within}
 use borrow.Rule.Slice.PartMut.{put_mid}

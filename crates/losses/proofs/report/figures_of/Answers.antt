@@ -1,6 +1,7 @@
 use Rattle.std.proofs.Common.{◌≡◌, ◌<◌, ◌+◌, ◌-◌, ℕ, List, length, get_or, ap, sym, ◌∙◌, arith, subst}
 use Rattle.losses.specs.Costs.{IsWeighed, cheap_places}
-use Rattle.losses.specs.Members.{ArePlaced, IsLeastGap, different_outside}
+use Rattle.losses.specs.Members.{different_outside}
+use Rattle.losses.specs.Windows.{ArePlaced, IsLeastGap}
 use Rattle.losses.specs.Losses.{IsKill}
 use Rattle.losses.specs.declared.groups.Member.{Member}
 use Rattle.losses.specs.declared.groups.Group.{Group as GroupOf}

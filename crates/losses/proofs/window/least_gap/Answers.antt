@@ -1,7 +1,8 @@
 use Rattle.std.proofs.Common.{◌≡◌, ℕ, ◌+◌, ◌-◌, ◌<◌, ◌≤◌, true, false, nat_lt, length, get_or, ap, arith, inl, inr, refl}
 use Rattle.std.proofs.lemmas.Bool.{ltb-true, ltb-false}
 use Rattle.losses.proofs.Windows.{IsFound, different_le, done_all, done_early, filled_is, given_copies, lost_copies, more_least, place_le, short_some}
-use Rattle.losses.specs.Members.{IsShortWindow, different_outside, member, place_at}
+use Rattle.losses.specs.Members.{different_outside}
+use Rattle.losses.specs.Windows.{IsShortWindow, member, place_at}
 use Rattle.losses.proofs.window.least_gap.Goals as goal
 use Rattle.losses.proofs.window.least_gap.Goals.{then-loop-left-test+else-end-members, else-loop-left-test, then-start-eq0, then-start-eq0-via-then-start-eq0, then-start-eq0-via-else-start-eq0+then-gap-least, else-start-eq0+else-gap-least}
 

@@ -1,6 +1,7 @@
 use Rattle.std.proofs.Common.{◌≡◌, ℕ, ◌+◌, ◌-◌, ◌<◌, ◌≤◌, ◌⊎◌, length, get_or}
 use Rattle.losses.proofs.Windows.{IsFound}
-use Rattle.losses.specs.Members.{IsShortWindow, different_outside, filled, outside, place_at}
+use Rattle.losses.specs.Members.{different_outside, outside}
+use Rattle.losses.specs.Windows.{IsShortWindow, filled, place_at}
 use Rattle.losses.proofs.window.least_gap.Given as goal
 
 abbrev pub invariant-loop-left : goal.invariant-loop-left
