@@ -49,6 +49,7 @@ impl Session {
         self.datagrams.len()
     }
 
+    /// Whether there is none.
     pub fn is_empty(&self) -> bool
         ensures { result ≡ (length self.now == 0) }
     {

@@ -1,4 +1,9 @@
-//! Readers and writers: what they promise, the standard library's as ours, those in memory, and the loops over them.
+//! Readers and writers.
+//!
+//! - `io`: what a reader and a writer promise;
+//! - `device`: the standard library's as ours;
+//! - `memory`: those over bytes in memory;
+//! - `filling` and `whole`: the loops over them: a buffer filled, all bytes written, a reader read to its end.
 #![tactic(auto)]
 
 mod device;
