@@ -29,7 +29,8 @@ pub(crate) fn fti_content(extensions: &[u8]) -> Result<Option<&[u8]>, PacketFaul
     ensures found { IfOk result (λ found.
         walk (length extensions.now) extensions.now None
         ≡ Ok (option_map (λ content. content.now) found)) }
-    ensures fault { IfErr result (λ e. walk (length extensions.now) extensions.now None ≡ Err e) }
+    ensures fault { IfErr result
+        (λ e. walk (length extensions.now) extensions.now None ≡ Err e) }
     ensures ten { IfOk result (λ found. IfSome found (λ content. length content.now ≡ 10)) }
 {
     let mut rest = extensions;

@@ -11,7 +11,8 @@ use partition::Fti;
 
 // The object's bytes from a place on, `count` of them, or fewer where it ends.
 fn part_of(object: &[u8], from: usize, count: usize) -> &[u8]
-    ensures { (c : ℕ) → c < count → slice_index result.now c ≡ slice_index object.now (from + c) }
+    ensures { (c : ℕ) → c < count
+        → slice_index result.now c ≡ slice_index object.now (from + c) }
 {
     let rest = &object[from.min(object.len())..];
     &rest[..count.min(rest.len())]

@@ -6,5 +6,6 @@ ghost use Rattle.coder.specs.Certified.{CertifiesSent, ChecksYes};
 /// A check says yes to what `encode` wrote of an object, whatever the TSI, the TOI and the order, with the certificate that
 /// `certify` made of it.
 pub fn sent_checks_yes()
-    ensures { (object : List ℕ) (z : Certificate) → CertifiesSent object z → ChecksYes object z }
+    ensures { (object : List ℕ) (z : Certificate)
+        → CertifiesSent object z → ChecksYes object z }
 {}

@@ -26,7 +26,8 @@ fn arrivals<'a>(
 ) -> Result<Vec<Option<&'a [u8]>>, AllocError>
     requires { n ≤ 255 }
     ensures len { IfOk result (λ v. length v.items ≡ n) }
-    ensures at { IfOk result (λ v. (j : ℕ) → j < n → arrived v.items j ≡ stored symbols.now b j) }
+    ensures at { IfOk result
+        (λ v. (j : ℕ) → j < n → arrived v.items j ≡ stored symbols.now b j) }
 {
     let mut arrivals = Vec::with_capacity(alloc, n)?;
     for esi in 0..n {

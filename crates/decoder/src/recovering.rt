@@ -21,8 +21,10 @@ fn symbols_at(alloc: Global, block: &Block<'_>, esis: &[u8]) -> Result<Rows, All
     requires within { (m : ℕ) → m < length esis.now
         → slice_index esis.now m < block.now.code.now.matrix.cols }
     ensures sizes { IfOk result (HasSizes (length esis.now) block.now.size) }
-    ensures symbols { IfOk result (λ rows. (m c : ℕ) → m < length esis.now → c < block.now.size
-        → byte_in rows m c ≡ byte_of (arrived block.now.received.now (slice_index esis.now m)) c) }
+    ensures symbols { IfOk result (λ rows. (m c : ℕ)
+        → m < length esis.now → c < block.now.size
+        → byte_in rows m c
+        ≡ byte_of (arrived block.now.received.now (slice_index esis.now m)) c) }
 {
     let mut rows = Rows::zeros(alloc, esis.len(), block.size)?;
     for m in 0..esis.len() {
@@ -71,7 +73,8 @@ fn residuals(alloc: Global, block: &Block<'_>, esis: &[u8], rows: &Rows) -> Resu
 
 // Puts rows at these places, which rise.
 fn put_rows(rows: &mut Rows, places: &[u8], others: &Rows)
-    requires places { (a : ℕ) → a < length places.now → slice_index places.now a < rows.old.count }
+    requires places { (a : ℕ) → a < length places.now
+        → slice_index places.now a < rows.old.count }
     requires rise { AreRising places.now }
     requires others { HasSizes (length places.now) rows.old.size others.now }
     ensures sizes { SameSizes rows.old rows.new }
@@ -132,7 +135,8 @@ pub(crate) fn recover(alloc: Global, block: &Block<'_>) -> Result<Option<Rows>, 
     ensures rows { IfOk result (λ o. IfSome o (λ rows. AreOnly (arrived block.now.received.now)
         block.now.code.now.matrix block.now.size (byte_in rows))) }
     ensures none { IfOk result (λ o. IsNone o
-        → CanBeMet (arrived block.now.received.now) block.now.code.now.matrix block.now.size → ⊥) }
+        → CanBeMet (arrived block.now.received.now) block.now.code.now.matrix block.now.size
+        → ⊥) }
 {
     let k = block.code.matrix.rows();
     let mut rows = symbols_at(alloc, block, &source_esis(alloc, k)?)?;

@@ -67,7 +67,8 @@ impl Rows {
         requires place { i < self.old.count }
         requires row { length row.now ≡ self.old.size }
         ensures sizes { SameSizes self.old self.new }
-        ensures here { (c : ℕ) → c < self.old.size → byte_in self.new i c ≡ slice_index row.now c }
+        ensures here { (c : ℕ) → c < self.old.size
+            → byte_in self.new i c ≡ slice_index row.now c }
         ensures elsewhere { (m c : ℕ) → m ≢ i → c < self.old.size
             → byte_in self.new m c ≡ byte_in self.old m c }
     {

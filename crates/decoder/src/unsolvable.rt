@@ -50,7 +50,8 @@ pub(crate) fn first_unsolvable(
     requires within { AreWithin received.now.fti (stored received.now.symbols) }
     ensures none { IfOk result (λ o. IsNone o → (came : List Symbol)
         → IsIndex came (stored received.now.symbols)
-        → AllByRecursion (IsWithin received.now.fti) came → FullSolvable received.now.fti came) }
+        → AllByRecursion (IsWithin received.now.fti) came
+        → FullSolvable received.now.fti came) }
     ensures some { IfOk result (λ o. IfSome o (λ b. (came : List Symbol)
         → IsIndex came (stored received.now.symbols)
         → AllByRecursion (IsWithin received.now.fti) came

@@ -29,7 +29,8 @@ const LIST_BYTES: usize = 128;
 
 #[inline(always)]
 fn sum_lanes(a: u8x64, b: u8x64) -> u8x64
-    ensures { (t : ℕ) → t < 64 → slice_index result t ≡ sum_of (slice_index a t) (slice_index b t) }
+    ensures { (t : ℕ) → t < 64
+        → slice_index result t ≡ sum_of (slice_index a t) (slice_index b t) }
 {
     a ^ b
 }
@@ -71,7 +72,8 @@ fn add_lanes(bytes: &mut [u8], at: usize, used: usize, v: u8x64)
         → slice_index bytes.new (at + t)
         ≡ sum_of (slice_index bytes.old (at + t)) (slice_index v t) }
     ensures below { (p : ℕ) → p < at → slice_index bytes.new p ≡ slice_index bytes.old p }
-    ensures above { (p : ℕ) → at + used ≤ p → slice_index bytes.new p ≡ slice_index bytes.old p }
+    ensures above { (p : ℕ) → at + used ≤ p
+        → slice_index bytes.new p ≡ slice_index bytes.old p }
 {
     if used == LANES {
         let old = u8x64::from_slice(&bytes[at..]);

@@ -40,7 +40,8 @@ fn with_files<'a>(
     command: Command<'a>,
     files: &[FileArgument<'a>],
 ) -> Result<Command<'a>, AllocError>
-    ensures { IfOk result (AddsRules command.entry (map (λ file. file_rule file.0.now) files.now)) }
+    ensures { IfOk result
+        (AddsRules command.entry (map (λ file. file_rule file.0.now) files.now)) }
 {
     let mut command = command;
     for (name, help) in files {

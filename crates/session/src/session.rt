@@ -86,7 +86,8 @@ impl Session {
         ensures end { OnOk result (IsAtEnd (R.remaining reader.new)) }
         ensures fault { IfErr result (λ e.
             IsSessionFault e (R.remaining reader.old) (R.failed reader.new)) }
-        ensures unsound { IfErr result (λ e. e ≡ FrameFault.Io → R.sound reader.old ≡ false) }
+        ensures unsound { IfErr result
+            (λ e. e ≡ FrameFault.Io → R.sound reader.old ≡ false) }
     {
         let mut session = Session::new(alloc);
         loop {

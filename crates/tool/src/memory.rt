@@ -81,7 +81,8 @@ impl MemoryFolder {
 
     /// What stands under a name.
     pub fn get(&self, name: &str) -> Option<&[u8]>
-        ensures { option_map (λ bytes. bytes.now) result ≡ files_of self.now.files.items name.now }
+        ensures { option_map (λ bytes. bytes.now) result
+            ≡ files_of self.now.files.items name.now }
     {
         let mut found = None;
         for (known, bytes) in &self.files {

@@ -25,7 +25,8 @@ struct Columns<'a> {
 pub fn rows_from_columns(rows: &mut [u8], columns: &[u8], count: usize, width: usize)
     requires rows { length rows.old ≡ count * width }
     requires columns { length columns.now ≡ width * count }
-    ensures { (i c : ℕ) → i < count → c < width → IsMoved columns.now count width rows.new i c }
+    ensures { (i c : ℕ) → i < count → c < width
+        → IsMoved columns.now count width rows.new i c }
 {
     let source = Columns {
         bytes: columns,
@@ -119,9 +120,11 @@ fn square_at(columns: &[u8], count: usize, width: usize, top: usize, left: usize
 #[inline(always)]
 fn put_row(rows: &mut [u8], at: usize, lanes: u8x16)
     requires { at + 16 ≤ length rows.old }
-    ensures within { (l : ℕ) → l < 16 → slice_index rows.new (at + l) ≡ slice_index lanes l }
+    ensures within { (l : ℕ) → l < 16
+        → slice_index rows.new (at + l) ≡ slice_index lanes l }
     ensures below { (p : ℕ) → p < at → slice_index rows.new p ≡ slice_index rows.old p }
-    ensures above { (p : ℕ) → at + 16 ≤ p → slice_index rows.new p ≡ slice_index rows.old p }
+    ensures above { (p : ℕ) → at + 16 ≤ p
+        → slice_index rows.new p ≡ slice_index rows.old p }
 {
     lanes.copy_to_slice(&mut rows[at..]);
 }

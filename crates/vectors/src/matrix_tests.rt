@@ -113,7 +113,8 @@ fn generates_the_largest(rt: HostRuntime) -> Result<(), Fail> {
 fn rising(alloc: Global, from: u8, step: u8, count: usize) -> Result<Vec<u8>, AllocError>
     requires { from + step * count ≤ 255 }
     ensures count { IfOk result (λ v. length v.items ≡ count) }
-    ensures at { IfOk result (λ v. (i : ℕ) → i < count → slice_index v.items i ≡ from + step * i) }
+    ensures at { IfOk result
+        (λ v. (i : ℕ) → i < count → slice_index v.items i ≡ from + step * i) }
 {
     let mut esis = Vec::with_capacity(alloc, count)?;
     let mut next = from;
