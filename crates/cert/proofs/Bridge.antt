@@ -17,7 +17,7 @@ use Rattle.losses.proofs.Grouping.{any_is}
 use Rattle.losses.proofs.Link.{is_left}
 use Rattle.partition.specs.Fti.{Fti, block_count, source_count}
 use Rattle.alc.specs.Reading.{Reading}
-use Rattle.reception.specs.Symbols.{Symbol, is_held, held_count, IsFirstShort}
+use Rattle.reception.specs.Symbols.{Symbol, has_arrived, arrived_count, IsFirstShort}
 use Rattle.reception.specs.Reception.{Placed, counted_from, counted, symbols, symbols_in, Suffices}
 use Rattle.reception.specs.Walks.{readings_of}
 use Rattle.cert.specs.Certificate.{Certificate}
@@ -103,12 +103,12 @@ put_is gs place s d g l need members =
 
 -- what a loss leaves of a block
 pub held_left : (lost : ℕ → Bool) (b j k i : ℕ) (rs : List Reading)
-    → is_held (symbols (counted_from k (rest_from i lost rs))) b j ≡ list_any (is_left lost j) (members_of b (counted_from i rs))
+    → has_arrived (symbols (counted_from k (rest_from i lost rs))) b j ≡ list_any (is_left lost j) (members_of b (counted_from i rs))
 held_left lost b j k i [] = refl
 held_left lost b j k i (Err e ∷ rs) =
     let gone = held_left lost b j k (i + 1) rs in
     let later = held_left lost b j (k + 1) (i + 1) rs in
-    elim (lost i) as (λ v. is_held (symbols (counted_from k (if v then rest_from (i + 1) lost rs else Err e ∷ rest_from (i + 1) lost rs))) b j ≡ list_any (is_left lost j) (members_of b (counted_from (i + 1) rs))) [
+    elim (lost i) as (λ v. has_arrived (symbols (counted_from k (if v then rest_from (i + 1) lost rs else Err e ∷ rest_from (i + 1) lost rs))) b j ≡ list_any (is_left lost j) (members_of b (counted_from (i + 1) rs))) [
       | true ↦ gone
       | false ↦ later
     ]
@@ -116,14 +116,14 @@ held_left lost b j k i (Ok p ∷ rs) =
     let gone = held_left lost b j k (i + 1) rs in
     let later = held_left lost b j (k + 1) (i + 1) rs in
     let ms = members_of b (counted_from (i + 1) rs) in
-    elim (p.block == b) as (λ w. (p.block == b) ≡ w → is_held (symbols (counted_from k (rest_from i lost (Ok p ∷ rs)))) b j ≡ list_any (is_left lost j) (cond w (record { place = i; esi = p.esi } ∷ []) [] ++ ms)) [
+    elim (p.block == b) as (λ w. (p.block == b) ≡ w → has_arrived (symbols (counted_from k (rest_from i lost (Ok p ∷ rs)))) b j ≡ list_any (is_left lost j) (cond w (record { place = i; esi = p.esi } ∷ []) [] ++ ms)) [
       | true ↦ λ e.
-          elim (lost i) as (λ v. is_held (symbols (counted_from k (if v then rest_from (i + 1) lost rs else Ok p ∷ rest_from (i + 1) lost rs))) b j ≡ ((not v && p.esi == j) || list_any (is_left lost j) ms)) [
+          elim (lost i) as (λ v. has_arrived (symbols (counted_from k (if v then rest_from (i + 1) lost rs else Ok p ∷ rest_from (i + 1) lost rs))) b j ≡ ((not v && p.esi == j) || list_any (is_left lost j) ms)) [
             | true ↦ gone
             | false ↦ rw e (ap (λ (v : Bool). p.esi == j || v) later)
           ]
       | false ↦ λ e.
-          elim (lost i) as (λ v. is_held (symbols (counted_from k (if v then rest_from (i + 1) lost rs else Ok p ∷ rest_from (i + 1) lost rs))) b j ≡ list_any (is_left lost j) ms) [
+          elim (lost i) as (λ v. has_arrived (symbols (counted_from k (if v then rest_from (i + 1) lost rs else Ok p ∷ rest_from (i + 1) lost rs))) b j ≡ list_any (is_left lost j) ms) [
             | true ↦ gone
             | false ↦ rw e later
           ]
@@ -133,16 +133,16 @@ pub nothing_lost : {X : Type 0} (i : ℕ) (xs : List X) → rest_from i (λ k. f
 nothing_lost i [] = refl
 nothing_lost i (x ∷ xs) = ap (λ ys. x ∷ ys) (nothing_lost (i + 1) xs)
 
-pub held_has : (b j : ℕ) (rs : List Reading) → is_held (symbols (counted rs)) b j ≡ list_any (has_esi j) (members_of b (counted rs))
+pub held_has : (b j : ℕ) (rs : List Reading) → has_arrived (symbols (counted rs)) b j ≡ list_any (has_esi j) (members_of b (counted rs))
 held_has b j rs =
-    ap (λ (xs : List Reading). is_held (symbols (counted xs)) b j) (sym (nothing_lost 0 rs)) ∙ held_left (λ k. false) b j 0 0 rs
+    ap (λ (xs : List Reading). has_arrived (symbols (counted xs)) b j) (sym (nothing_lost 0 rs)) ∙ held_left (λ k. false) b j 0 0 rs
 
 -- how many different symbols a group has
-pub held_different : (b : ℕ) (rs : List Reading) (qs : List Member) → qs ≡ members_of b (counted rs) → different_outside qs 0 0 ≡ held_count (symbols (counted rs)) b
+pub held_different : (b : ℕ) (rs : List Reading) (qs : List Member) → qs ≡ members_of b (counted rs) → different_outside qs 0 0 ≡ arrived_count (symbols (counted rs)) b
 unfolding different_outside
 held_different b rs qs is =
-    ap length (filter_same (λ j. nat_lt 0 (outside qs 0 0 j)) (is_held (symbols (counted rs)) b) (below 256)
-    (all_below (λ j. nat_lt 0 (outside qs 0 0 j) ≡ is_held (symbols (counted rs)) b j) 256
+    ap length (filter_same (λ j. nat_lt 0 (outside qs 0 0 j)) (has_arrived (symbols (counted rs)) b) (below 256)
+    (all_below (λ j. nat_lt 0 (outside qs 0 0 j) ≡ has_arrived (symbols (counted rs)) b j) 256
     (λ j l. sym (held_has b j rs ∙ ap (λ (ms : List Member). list_any (has_esi j) ms) (sym is) ∙ any_is (has_esi j) qs ∙ ap (nat_lt 0) (let e : count_by (has_esi j) qs ≡ outside qs 0 0 j = counted_twice j qs in e)))))
   where
     counted_twice : (j : ℕ) (ms : List Member) → count_by (has_esi j) ms ≡ outside ms 0 0 j
@@ -151,14 +151,14 @@ held_different b rs qs is =
 -- ---- lines and short blocks
 
 module _ (f : Fti) (rs : List Reading) (groups : List Group) (are : AreGroupsOf f (counted rs) groups) where
-  pub count_is : (b : ℕ) → b < block_count f → different_in groups b ≡ held_count (symbols (counted rs)) b
+  pub count_is : (b : ℕ) → b < block_count f → different_in groups b ≡ arrived_count (symbols (counted rs)) b
   count_is b l = held_different b rs (group_at groups b).members (are.members b l)
 
   pub enough_full : AreEnough groups → Suffices f rs
   enough_full h b l = le-leb _ _ (let e = count_is b l in let n = are.need b l in let c = are.count in let g = h b (omega (arith, l, c)) in omega (arith, e, g, n))
 
   pub thin_short : (b have need : ℕ) → IsFirstThin groups b have need
-      → IsFirstShort f (symbols (counted rs)) b × (have ≡ held_count (symbols (counted rs)) b) × (need ≡ source_count f b)
+      → IsFirstShort f (symbols (counted rs)) b × (have ≡ arrived_count (symbols (counted rs)) b) × (need ≡ source_count f b)
   thin_short b have need h =
       let c = are.count in
       let l : b < block_count f = (let g = h.block in omega (arith, g, c)) in
@@ -182,12 +182,12 @@ module _ (f : Fti) (rs : List Reading) (groups : List Group) (are : AreGroupsOf 
   unfolding below
   lines_same zero l = refl
   lines_same (suc n) l =
-      let came = symbols (counted rs) in
+      let arrivals = symbols (counted rs) in
       map-append (line_in groups) (below n) (n ∷ [])
       ∙ ap (λ ls. ls ++ line_in groups n ∷ []) (lines_same n (omega arith))
       ∙ ap (λ (c : ℕ). block_lines f (symbols (counted rs)) n ++ ((group_at groups n).need, c) ∷ []) (count_is n (omega arith))
-      ∙ ap (λ (c : ℕ). block_lines f (symbols (counted rs)) n ++ (c, held_count (symbols (counted rs)) n) ∷ []) (are.need n (omega arith))
-      ∙ sym (map-append (λ b. (source_count f b, held_count came b)) (below n) (n ∷ []))
+      ∙ ap (λ (c : ℕ). block_lines f (symbols (counted rs)) n ++ (c, arrived_count (symbols (counted rs)) n) ∷ []) (are.need n (omega arith))
+      ∙ sym (map-append (λ b. (source_count f b, arrived_count arrivals b)) (below n) (n ∷ []))
 
   pub lines_are : map (line_in groups) (below (length groups)) ≡ block_lines f (symbols (counted rs)) (block_count f)
   lines_are = ap (λ (n : ℕ). map (line_in groups) (below n)) are.count ∙ lines_same (block_count f) (omega arith)

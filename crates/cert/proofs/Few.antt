@@ -30,8 +30,8 @@ count_few (p ∷ ps) js up =
     let c = count_few ps js up in
     omega (arith, a, b, c)
 
-pub different_few : (held : List ℕ) → length (different_esis held) ≤ length held
-different_few held =
-    let e = length_count (is_among held) (below 255) in
-    let l = count_few held (below 255) (rising_below 255) in
+pub different_few : (arrived_esis : List ℕ) → length (different_esis arrived_esis) ≤ length arrived_esis
+different_few arrived_esis =
+    let e = length_count (is_among arrived_esis) (below 255) in
+    let l = count_few arrived_esis (below 255) (rising_below 255) in
     omega (arith, e, l)

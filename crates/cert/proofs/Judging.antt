@@ -21,7 +21,7 @@ use Rattle.cert.specs.declared.verdict.Reason.TheVariants.{ObjectLength, NotObje
 use Rattle.cert.specs.declared.verdict.Report.{Report}
 use Rattle.cert.specs.declared.verdict.Verdict.TheVariants.{Yes, No}
 use Rattle.cert.specs.Certificate.{Certificate}
-use Rattle.cert.specs.Verdict.{GivesObject, wrong_column, uncertified, came_to, reason_at, IsCertifiedPacket, IsCertifiedReading, AreCertified, IsAgainst, VerdictOn}
+use Rattle.cert.specs.Verdict.{GivesObject, wrong_column, uncertified, reception_to, reason_at, IsCertifiedPacket, IsCertifiedReading, AreCertified, IsAgainst, VerdictOn}
 use Rattle.cert.specs.NotGiven.{IsNotGiven}
 use Rattle.cert.specs.Scan.{AreEnoughCertified}
 use Rattle.cert.proofs.Columns.{certified_where_none}
@@ -65,7 +65,7 @@ all_certified z who earlier (x ∷ xs) h =
     by (Err e) k = absurd (cc)
     by (Ok p) k = certified z who earlier p k
 
-pub are_certified : (z : Certificate) (rs : List Reading) → (came_to z rs).wrong ≡ None → counted rs ≢ [] → AreCertified rs z
+pub are_certified : (z : Certificate) (rs : List Reading) → (reception_to z rs).wrong ≡ None → counted rs ≢ [] → AreCertified rs z
 are_certified z [] h some = absurd (some refl)
 are_certified z (Err r ∷ rs) h some = absurd (cc)
 are_certified z (Ok p ∷ rs) h some =
@@ -112,7 +112,7 @@ is_at_place None r h = absurd (cc)
 is_at_place (Some x) r h = subst IsAtPlace (some_same h) (judged_place x.0 x.1)
 
 -- something wrong at a place
-pub against : (rs : List Reading) (z : Certificate) (i : ℕ) (w : Wrong ℕ) → (came_to z rs).wrong ≡ Some (i, w) → IsAgainst rs z (reason_at i w)
+pub against : (rs : List Reading) (z : Certificate) (i : ℕ) (w : Wrong ℕ) → (reception_to z rs).wrong ≡ Some (i, w) → IsAgainst rs z (reason_at i w)
 against rs z i (Faulty (fault.NoPacket r)) h = ap reason_of h
 against rs z i (Faulty fault.OtherIdentity) h = ap reason_of h
 against rs z i (Faulty fault.OtherFti) h = ap reason_of h
@@ -122,8 +122,8 @@ against rs z i (Judged c) h = ap reason_of h
 -- the verdict for what the datagrams say
 pub refused : (rs : List Reading) (object : List ℕ) (z : Certificate) (r : Reason) → IsObject z.fti object → GivesObject object z
     → IsAgainst rs z r → VerdictOn rs object z (No r)
-refused rs object z ObjectLength form gives h = absurd (is_at_place (came_to z rs).wrong ObjectLength h)
-refused rs object z (NotObject b c i) form gives h = absurd (is_at_place (came_to z rs).wrong (NotObject b c i) h)
+refused rs object z ObjectLength form gives h = absurd (is_at_place (reception_to z rs).wrong ObjectLength h)
+refused rs object z (NotObject b c i) form gives h = absurd (is_at_place (reception_to z rs).wrong (NotObject b c i) h)
 refused rs object z Empty form gives h = (form, gives, h)
 refused rs object z (Thin b have need) form gives h = (form, gives, h)
 refused rs object z (NoPacket i x) form gives h = (form, gives, h)
@@ -145,16 +145,16 @@ no_object rs object z (Symbol i c) len h = absurd h
 no_object rs object z (Thin b have need) len h = absurd h
 
 -- where no identity came to be known, nothing came
-pub none_counted : (z : Certificate) (rs : List Reading) → (came_to z rs).wrong ≡ None → (came_to z rs).scope.identity ≡ None → counted rs ≡ []
+pub none_counted : (z : Certificate) (rs : List Reading) → (reception_to z rs).wrong ≡ None → (reception_to z rs).scope.identity ≡ None → counted rs ≡ []
 none_counted z [] h none = refl
 none_counted z (Err r ∷ rs) h none = absurd (cc)
 none_counted z (Ok p ∷ rs) h none =
     let who : Identity = record { tsi = p.tsi; toi = p.toi } in
-    let is : (came_to z (Ok p ∷ rs)).scope.identity ≡ Some who = ap (λ (s : Scope). s.identity) (stays who z.fti (counted_from 1 rs)) in
+    let is : (reception_to z (Ok p ∷ rs)).scope.identity ≡ Some who = ap (λ (s : Scope). s.identity) (stays who z.fti (counted_from 1 rs)) in
     absurd (cc)
 
 -- and where one did, something did
-pub some_counted : (z : Certificate) (rs : List Reading) (who : Identity) → (came_to z rs).scope.identity ≡ Some who → counted rs ≢ []
+pub some_counted : (z : Certificate) (rs : List Reading) (who : Identity) → (reception_to z rs).scope.identity ≡ Some who → counted rs ≢ []
 some_counted z [] who some e = cc
 some_counted z (r ∷ rs) who some e = cc
 

@@ -13,7 +13,7 @@ use Rattle.partition.specs.Fti.{Fti, IsValidFti, source_count}
 use Rattle.partition.proofs.Laws.{some_source}
 use Rattle.alc.specs.Reading.{Reading}
 use Rattle.reception.specs.declared.scope.Identity.{Identity}
-use Rattle.reception.specs.Symbols.{is_held}
+use Rattle.reception.specs.Symbols.{has_arrived}
 use Rattle.reception.specs.Reception.{ReadAll, counted_from, counted, symbols}
 use Rattle.reception.specs.Headline.{IsEnough}
 use Rattle.cert.specs.Certificate.{Certificate}
@@ -63,16 +63,16 @@ module _ (z : Certificate) (valid : IsValidFti z.fti) (who : Identity) (rs : Lis
     enough = enough;
   }
 
-  left : (lost : ℕ → Bool) (b j : ℕ) → b < length groups → is_held (symbols (counted (rest lost rs))) b j ≡ list_any (is_at (rest lost (places 0 (length rs))) j) (group_at groups b).members
+  left : (lost : ℕ → Bool) (b j : ℕ) → b < length groups → has_arrived (symbols (counted (rest lost rs))) b j ≡ list_any (is_at (rest lost (places 0 (length rs))) j) (group_at groups b).members
   left lost b j hb =
       let c = are.count in
       held_left lost b j 0 0 rs
       ∙ ap (λ (qs : List Member). list_any (is_left lost j) qs) (sym (are.members b (omega (arith, hb, c))))
       ∙ sym (any_left lost 0 (length rs) (length rs) j (group_at groups b).members (members_in b hb) refl)
 
-  whole : (b j : ℕ) → b < length groups → is_held (symbols (counted rs)) b j ≡ list_any (is_at (places 0 (length rs)) j) (group_at groups b).members
+  whole : (b j : ℕ) → b < length groups → has_arrived (symbols (counted rs)) b j ≡ list_any (is_at (places 0 (length rs)) j) (group_at groups b).members
   whole b j hb =
-      ap (λ (xs : List Reading). is_held (symbols (counted xs)) b j) (sym (nothing_lost 0 rs))
+      ap (λ (xs : List Reading). has_arrived (symbols (counted xs)) b j) (sym (nothing_lost 0 rs))
       ∙ left (λ k. false) b j hb
       ∙ ap (λ (xs : List ℕ). list_any (is_at xs j) (group_at groups b).members) (nothing_lost 0 (places 0 (length rs)))
 

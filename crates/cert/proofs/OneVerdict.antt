@@ -17,7 +17,7 @@ use Rattle.cert.specs.declared.verdict.Reason.TheVariants.{ObjectLength, NotObje
 use Rattle.cert.specs.declared.verdict.Verdict.{Verdict}
 use Rattle.cert.specs.declared.verdict.Verdict.TheVariants.{Yes, No}
 use Rattle.cert.specs.Certificate.{Certificate}
-use Rattle.cert.specs.Verdict.{GivesObject, IsFirstNotGiven, uncertified, came_to, first_reason, IsCertifiedPacket, IsCertifiedReading, AreCertified, IsCertificateOf, VerdictOn, IsVerdict, AreOneVerdict}
+use Rattle.cert.specs.Verdict.{GivesObject, IsFirstNotGiven, uncertified, reception_to, first_reason, IsCertifiedPacket, IsCertifiedReading, AreCertified, IsCertificateOf, VerdictOn, IsVerdict, AreOneVerdict}
 use Rattle.cert.proofs.Columns.{none_is}
 use Rattle.cert.proofs.Judging.{no_reason}
 
@@ -56,7 +56,7 @@ yes_no_reason z (Ok p ∷ rs) h =
     let same : ◌≡◌ {A = Identity} (record { tsi = p.tsi; toi = p.toi }) h.who = identity_is p.tsi p.toi h.who h.packets.0.tsi h.packets.0.toi in
     let is : scope_from (with_fti z.fti) (counted (Ok p ∷ rs)) ≡ scope (Some h.who) (Some z.fti) =
     stays first z.fti (counted_from 1 rs) ∙ ap (λ (i : Identity). scope (Some i) (Some z.fti)) same in
-    no_reason (came_to z (Ok p ∷ rs)).wrong
+    no_reason (reception_to z (Ok p ∷ rs)).wrong
     (subst (λ (s : Scope). wrong_after (uncertified z) s [] (counted (Ok p ∷ rs)) ≡ None) (sym is) (none_wrong z h.who [] (counted (Ok p ∷ rs)) h.packets))
 
 -- ---- the tests in their order

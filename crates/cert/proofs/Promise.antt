@@ -10,14 +10,14 @@ use Rattle.gf256.specs.Arithmetic.{point}
 use Rattle.poly.specs.Polynomial.{value}
 use Rattle.partition.specs.Fti.{Fti, IsValidFti, source_count, encoding_count, block_count}
 use Rattle.lists.specs.Below.{below}
-use Rattle.reception.specs.Symbols.{Symbol, is_held, is_full, Agrees, IsObject, FullSolvable}
+use Rattle.reception.specs.Symbols.{Symbol, has_arrived, is_full, Agrees, IsObject, FullSolvable}
 use Rattle.alc.specs.Packet.{Packet}
 use Rattle.alc.specs.PacketFault.{same}
 use Rattle.alc.specs.Reading.{Reading}
 use Rattle.reception.specs.declared.scope.Identity.{Identity}
 use Rattle.reception.specs.declared.scope.Scope.{Scope}
 use Rattle.reception.specs.Reception.{ReadAll, counted_from, counted, symbol_of, symbols, in_range, packet_fault, unknown, scope_from, wrong_after, IsClean, Suffices}
-use Rattle.reception.specs.Answer.{Object, IsAnswer, clashes, clash, came_of}
+use Rattle.reception.specs.Answer.{Object, IsAnswer, clashes, clash, reception_of}
 use Rattle.reception.proofs.Stepping.{scope, stays}
 use Rattle.reception.proofs.Within.{no_fault}
 use Rattle.cert.specs.Certificate.{Certificate, IsCertificate, polynomial, certified_byte}
@@ -152,7 +152,7 @@ no_fault_after z who first sf (Ok p ∷ rs) h earlier g i =
     rw (a, b, c) refl
 
 -- sound readings, some, are without a fault and of the certificate's FTI
-pub clean : (z : Certificate) (who : Identity) (rs : List Reading) → AllByRecursion (IsSoundReading z who) rs → rs ≢ [] → IsClean (came_of rs) z.fti
+pub clean : (z : Certificate) (who : Identity) (rs : List Reading) → AllByRecursion (IsSoundReading z who) rs → rs ≢ [] → IsClean (reception_of rs) z.fti
 clean z who [] h some = absurd (some refl)
 clean z who (Err r ∷ rs) h some = absurd h.0
 clean z who (Ok p ∷ rs) h some =
@@ -162,7 +162,7 @@ clean z who (Ok p ∷ rs) h some =
       some = ap (λ (s : Scope). s.fti) is ∙ ap Some h.0.fti;
     }
 
-none_held : (xs : List ℕ) → length (filter (is_held [] 0) xs) ≡ 0
+none_held : (xs : List ℕ) → length (filter (has_arrived [] 0) xs) ≡ 0
 none_held [] = refl
 none_held (x ∷ xs) = none_held xs
 
@@ -194,19 +194,19 @@ all_right z who i [] h = tt
 all_right z who i (Err r ∷ rs) h = absurd h.0
 all_right z who i (Ok p ∷ rs) h = (record { count = h.0.count; symbol = h.0.symbol }, all_right z who (i + 1) rs h.1)
 
-through : (z : Certificate) (b c : ℕ) → c < z.fti.symbol_length → (came : List Symbol) → AllByRecursion (IsRight z) came
-    → AllByRecursion (λ s. s.block ≡ b → value (polynomial z b c) (point s.esi) ≡ slice_index s.bytes c) came
+through : (z : Certificate) (b c : ℕ) → c < z.fti.symbol_length → (arrivals : List Symbol) → AllByRecursion (IsRight z) arrivals
+    → AllByRecursion (λ s. s.block ≡ b → value (polynomial z b c) (point s.esi) ≡ slice_index s.bytes c) arrivals
 through z b c hc [] h = tt
 through z b c hc (s ∷ ss) h =
     (λ e. ap (λ (x : ℕ). certified_byte z x s.esi c) (sym e) ∙ sym (h.0.symbol c hc), through z b c hc ss h.1)
 
 -- what came is a code word's, and zero where there is padding
 pub solvable : (z : Certificate) (object : List ℕ) → IsCertificate z → IsObject z.fti object → GivesObject object z
-    → (came : List Symbol) → AllByRecursion (IsRight z) came → FullSolvable z.fti came
-solvable z object good form gives came right b hb full c hc = record {
+    → (arrivals : List Symbol) → AllByRecursion (IsRight z) arrivals → FullSolvable z.fti arrivals
+solvable z object good form gives arrivals right b hb full c hc = record {
   polynomial = polynomial z b c;
   form = forms z good b c hb hc;
-  symbols = through z b c hc came right;
+  symbols = through z b c hc arrivals right;
   padding = λ i hi past.
       gives b c i hb hc hi ∙ get_or-eq_default object 0 (omega (arith, form.count));
 }
@@ -217,7 +217,7 @@ some_came f valid rs full none =
     let a : is_full f (symbols (counted rs)) 0 ≡ true = full 0 hb in
     let b : is_full f [] 0 ≡ true = subst (λ (x : List Reading). is_full f (symbols (counted x)) 0 ≡ true) none a in
     let k = (counts f valid 0 hb).0 in
-    let l : source_count f 0 ≤ length (filter (is_held [] 0) (below 256)) = leb-true _ _ b in
+    let l : source_count f 0 ≤ length (filter (has_arrived [] 0) (below 256)) = leb-true _ _ b in
     let n = none_held (below 256) in
     absurd (omega arith)
 

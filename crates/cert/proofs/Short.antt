@@ -15,7 +15,7 @@ use Rattle.partition.specs.Fti.{Fti, source_count}
 use Rattle.alc.specs.Packet.{Packet}
 use Rattle.alc.specs.Reading.{Reading, Reads}
 use Rattle.alc.specs.Computed.{read_of}
-use Rattle.reception.specs.Symbols.{Symbol, is_held, held_count, IsObject, IsFirstShort, Agrees, Fits, AreTwins}
+use Rattle.reception.specs.Symbols.{Symbol, has_arrived, arrived_count, IsObject, IsFirstShort, Agrees, Fits, AreTwins}
 use Rattle.cert.specs.Certificate.{Certificate, IsCertificate}
 use Rattle.reception.specs.Reception.{ReadAll, Placed, counted, symbols, symbols_in}
 use Rattle.reception.specs.Walks.{readings_of}
@@ -23,7 +23,7 @@ use Rattle.reception.proofs.Walk.{counted_one_more, symbols_more}
 use Rattle.reception.proofs.Walking.{came_before, reading_here}
 use Rattle.cert.specs.declared.verdict.Verdict.TheVariants.{No}
 use Rattle.cert.specs.declared.verdict.Reason.TheVariants.{Thin}
-use Rattle.cert.specs.Verdict.{GivesObject, IsCertifiedReading, came_to, first_reason, VerdictOn}
+use Rattle.cert.specs.Verdict.{GivesObject, IsCertifiedReading, reception_to, first_reason, VerdictOn}
 use Rattle.cert.specs.Twins.{different_esis, esi_in, esis_of, IsTwin, IsThinIn, IsTwinOfSession}
 use Rattle.cert.proofs.Judging.{read_all, are_certified, nothing_found}
 use Rattle.reception.proofs.OneAnswer.{same_readings}
@@ -31,10 +31,10 @@ use Rattle.cert.proofs.Promise.{sound_all, unplaced_all, fits_sound}
 use Rattle.cert.proofs.Undecided.{held_self}
 
 -- the ESIs of a block that came are those among its ESIs
-pub among_held : (b j : ℕ) (came : List Symbol) → is_among (esis_of b came) j ≡ is_held came b j
+pub among_held : (b j : ℕ) (arrivals : List Symbol) → is_among (esis_of b arrivals) j ≡ has_arrived arrivals b j
 among_held b j [] = refl
 among_held b j (s ∷ ss) =
-    elim (s.block == b) as (λ v. is_among (cond v (s.esi ∷ []) [] ++ esis_of b ss) j ≡ ((v && s.esi == j) || is_held ss b j)) [
+    elim (s.block == b) as (λ v. is_among (cond v (s.esi ∷ []) [] ++ esis_of b ss) j ≡ ((v && s.esi == j) || has_arrived ss b j)) [
       | true ↦ ap (λ (v : Bool). s.esi == j || v) (among_held b j ss)
       | false ↦ among_held b j ss
     ]
@@ -44,51 +44,51 @@ unfolding below
 one_more t n = omega (arith, ap length (filter-append t (below n) (n ∷ [])), length-append (filter t (below n)) (filter t (n ∷ [])))
 
 -- there are no more of them than different ones that came
-pub different_held : (b : ℕ) (came : List Symbol) → length (different_esis (esis_of b came)) ≤ held_count came b
-different_held b came =
-    let same : different_esis (esis_of b came) ≡ filter (is_held came b) (below 255) =
-    filter_same _ _ (below 255) (all_below (λ j. is_among (esis_of b came) j ≡ is_held came b j) 255 (λ j l. among_held b j came)) in
-    let more : length (filter (is_held came b) (below 255)) ≤ held_count came b = one_more (is_held came b) 255 in
+pub different_held : (b : ℕ) (arrivals : List Symbol) → length (different_esis (esis_of b arrivals)) ≤ arrived_count arrivals b
+different_held b arrivals =
+    let same : different_esis (esis_of b arrivals) ≡ filter (has_arrived arrivals b) (below 255) =
+    filter_same _ _ (below 255) (all_below (λ j. is_among (esis_of b arrivals) j ≡ has_arrived arrivals b j) 255 (λ j l. among_held b j arrivals)) in
+    let more : length (filter (has_arrived arrivals b) (below 255)) ≤ arrived_count arrivals b = one_more (has_arrived arrivals b) 255 in
     omega (arith, ap length same, more)
 
 -- fewer than the block needs
-pub few_held : (f : Fti) (b : ℕ) (came : List Symbol) → IsFirstShort f came b → length (different_esis (esis_of b came)) < source_count f b
-few_held f b came short =
-    let few : held_count came b < source_count f b = leb-false _ _ short.short in
-    let most = different_held b came in
+pub few_held : (f : Fti) (b : ℕ) (arrivals : List Symbol) → IsFirstShort f arrivals b → length (different_esis (esis_of b arrivals)) < source_count f b
+few_held f b arrivals short =
+    let few : arrived_count arrivals b < source_count f b = leb-false _ _ short.short in
+    let most = different_held b arrivals in
     omega (arith, few, most)
 
 -- an object agrees with what came, where nothing is wrong with it
 pub fits_clean : (z : Certificate) (object : List ℕ) (ds : List (List ℕ)) (rs : List Reading) → IsCertificate z → ReadAll ds rs → IsObject z.fti object → GivesObject object z
     → first_reason z rs ≡ None → counted rs ≢ [] → Fits z.fti (symbols (counted rs)) object
 fits_clean z object ds rs good read form gives clean some =
-    let all = are_certified z rs (nothing_found (came_to z rs).wrong clean) some in
+    let all = are_certified z rs (nothing_found (reception_to z rs).wrong clean) some in
     let sound = sound_all z all.who ds rs read (unplaced_all (IsCertifiedReading z all.who) 0 rs all.packets) in
     record { form = form; agrees = fits_sound z all.who object good gives 0 rs sound }
 
 -- what came of a block has an ESI among those
-among_self : (b : ℕ) (all came : List Symbol) → AllByRecursion (λ s. is_held all s.block s.esi ≡ true) came
-    → AllByRecursion (λ s. s.block ≡ b → is_among (esis_of b all) s.esi ≡ true) came
+among_self : (b : ℕ) (all arrivals : List Symbol) → AllByRecursion (λ s. has_arrived all s.block s.esi ≡ true) arrivals
+    → AllByRecursion (λ s. s.block ≡ b → is_among (esis_of b all) s.esi ≡ true) arrivals
 among_self b all [] h = tt
 among_self b all (s ∷ ss) h = (
-  λ e. among_held b s.esi all ∙ subst (λ (x : ℕ). is_held all x s.esi ≡ true) e h.0,
+  λ e. among_held b s.esi all ∙ subst (λ (x : ℕ). has_arrived all x s.esi ≡ true) e h.0,
   among_self b all ss h.1,
 )
 
-alike_all : (f : Fti) (b : ℕ) (held object other : List ℕ) → IsTwin f b held object other → (came : List Symbol)
-    → AllByRecursion (λ s. s.block ≡ b → is_among held s.esi ≡ true) came → AllByRecursion (Agrees f object) came → AllByRecursion (Agrees f other) came
-alike_all f b held object other twin [] h a = tt
-alike_all f b held object other twin (s ∷ ss) h a = ((twin.alike s h.0).0 a.0, alike_all f b held object other twin ss h.1 a.1)
+alike_all : (f : Fti) (b : ℕ) (arrived_esis object other : List ℕ) → IsTwin f b arrived_esis object other → (arrivals : List Symbol)
+    → AllByRecursion (λ s. s.block ≡ b → is_among arrived_esis s.esi ≡ true) arrivals → AllByRecursion (Agrees f object) arrivals → AllByRecursion (Agrees f other) arrivals
+alike_all f b arrived_esis object other twin [] h a = tt
+alike_all f b arrived_esis object other twin (s ∷ ss) h a = ((twin.alike s h.0).0 a.0, alike_all f b arrived_esis object other twin ss h.1 a.1)
 
 -- the twin made for the ESIs that came agrees with all that came
-pub twins_all : (f : Fti) (b : ℕ) (object other : List ℕ) (came : List Symbol) → Fits f came object → IsTwin f b (esis_of b came) object other
-    → AreTwins f came object other
-twins_all f b object other came fits twin = record {
+pub twins_all : (f : Fti) (b : ℕ) (object other : List ℕ) (arrivals : List Symbol) → Fits f arrivals object → IsTwin f b (esis_of b arrivals) object other
+    → AreTwins f arrivals object other
+twins_all f b object other arrivals fits twin = record {
   differ = twin.differ;
   first = fits;
   second = record {
     form = twin.form;
-    agrees = alike_all f b (esis_of b came) object other twin came (among_self b came came (held_self came)) fits.agrees;
+    agrees = alike_all f b (esis_of b arrivals) object other twin arrivals (among_self b arrivals arrivals (held_self arrivals)) fits.agrees;
   };
 }
 

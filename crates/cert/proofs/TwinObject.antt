@@ -65,14 +65,14 @@ module _ (f : Fti) (valid : IsValidFti f) (b : ℕ) (hb : b < block_count f) (q 
             | false ↦ refl
           ]
 
-  module _ (held : List ℕ) (roots : (j : ℕ) → j < 255 → is_among held j ≡ true → value q (point j) ≡ 0) where
+  module _ (arrived_esis : List ℕ) (roots : (j : ℕ) → j < 255 → is_among arrived_esis j ≡ true → value q (point j) ≡ 0) where
     -- what agrees with an object agrees with its twin
-    agrees_too : (object : List ℕ) → IsObject f object → (s : Symbol) → (s.block ≡ b → is_among held s.esi ≡ true) → Agrees f object s → Agrees f (twin_of f b q object) s
+    agrees_too : (object : List ℕ) → IsObject f object → (s : Symbol) → (s.block ≡ b → is_among arrived_esis s.esi ≡ true) → Agrees f object s → Agrees f (twin_of f b q object) s
     agrees_too object form s listed a =
         let small : s.esi < 255 = (let e = a.esi in let n = (counts f valid s.block a.block).2 in omega (arith, e, n)) in
         (agrees f valid object q form b hb hq (s ∷ []) ((symbol_bytes f object s a, λ e. roots s.esi small (listed e)), tt) (a, tt)).0
 
-    alike : (object : List ℕ) → IsObject f object → (s : Symbol) → (s.block ≡ b → is_among held s.esi ≡ true)
+    alike : (object : List ℕ) → IsObject f object → (s : Symbol) → (s.block ≡ b → is_among arrived_esis s.esi ≡ true)
         → (Agrees f object s → Agrees f (twin_of f b q object) s) × (Agrees f (twin_of f b q object) s → Agrees f object s)
     alike object form s listed = (
       agrees_too object form s listed,
@@ -81,7 +81,7 @@ module _ (f : Fti) (valid : IsValidFti f) (b : ℕ) (hb : b < block_count f) (q 
 
     -- a twin of the object, where the added polynomial has these values
     made : (object : List ℕ) → IsObject f object → (i : ℕ) → i < source_count f b → value q (point i) ≢ 0
-        → ((z : ℕ) → z < 256 → value q z ≡ root_value held z) → IsTwin f b held object (twin_of f b q object)
+        → ((z : ℕ) → z < 256 → value q z ≡ root_value arrived_esis z) → IsTwin f b arrived_esis object (twin_of f b q object)
     made object form i hi apart same = record {
       form = twin_form f valid object q form b hb hq;
       differ = differs f valid object q form b hb hq i hi apart;
@@ -102,23 +102,23 @@ module _ (f : Fti) (valid : IsValidFti f) (b : ℕ) (hb : b < block_count f) (q 
       ∙ sym (at_place (twin_byte f b q) 0 object x (omega (arith, l, len)) ∙ (let z : 0 + x ≡ x = omega arith in ap (λ (n : ℕ). twin_byte f b q n (get_or object x 0)) z)))
 
 -- what the code makes is a twin
-pub is_twin : (f : Fti) → IsValidFti f → (b : ℕ) → b < block_count f → (held object other p : List ℕ) → IsObject f object → length (different_esis held) < source_count f b
-    → ((z : ℕ) → z < 256 → value p z ≡ root_value held z) → length other ≡ length object
+pub is_twin : (f : Fti) → IsValidFti f → (b : ℕ) → b < block_count f → (arrived_esis object other p : List ℕ) → IsObject f object → length (different_esis arrived_esis) < source_count f b
+    → ((z : ℕ) → z < 256 → value p z ≡ root_value arrived_esis z) → length other ≡ length object
     → ((x : ℕ) → slice_index other x ≡ cond (is_first_of f b (source_count f b) x) (sum_of (slice_index object x) (value p (point (x / f.symbol_length - start_of f b)))) (slice_index object x))
-    → IsTwin f b held object other
-is_twin f valid b hb held object other p form few values len bytes =
-    let js = different_esis held in
+    → IsTwin f b arrived_esis object other
+is_twin f valid b hb arrived_esis object other p form few values len bytes =
+    let js = different_esis arrived_esis in
     let n = counts f valid b hb in
-    let gap = one_missing (is_among held) (source_count f b) 255 (omega (arith, n.1)) few in
-    let passing : AllByRecursion (λ j. (is_among held j ≡ true) × (j < 255)) (different_esis held) =
-    all_filter (λ j. j < 255) (is_among held) (below 255) (all_below (λ j. j < 255) 255 (λ j h. h)) in
-    let small : AllByRecursion (λ j. j < 255) (different_esis held) =
-    all_weaker (λ j. (is_among held j ≡ true) × (j < 255)) (λ j. j < 255) (λ j h. h.1) _ passing in
-    let apart : AllByRecursion (λ j. j ≢ gap.0) (different_esis held) =
-    all_weaker (λ j. (is_among held j ≡ true) × (j < 255)) (λ j. j ≢ gap.0)
-    (λ j h e. let x = subst (λ (y : ℕ). is_among held y ≡ true) e h.0 in let g = gap.2 in absurd (cc)) _ passing in
-    let w = vanishing (source_count f b) gap.0 (different_esis held) few (omega (arith, gap.1, n.1)) small apart in
-    let same : (z : ℕ) → z < 256 → value w.0 z ≡ root_value held z = w.4 in
-    let twin = made f valid b hb w.0 w.1 held (at_passing (λ j. value w.0 (point j) ≡ 0) (is_among held) 255 w.2) object form gap.0 gap.1 w.3 same in
-    subst (λ (o : List ℕ). IsTwin f b held object o)
+    let gap = one_missing (is_among arrived_esis) (source_count f b) 255 (omega (arith, n.1)) few in
+    let passing : AllByRecursion (λ j. (is_among arrived_esis j ≡ true) × (j < 255)) (different_esis arrived_esis) =
+    all_filter (λ j. j < 255) (is_among arrived_esis) (below 255) (all_below (λ j. j < 255) 255 (λ j h. h)) in
+    let small : AllByRecursion (λ j. j < 255) (different_esis arrived_esis) =
+    all_weaker (λ j. (is_among arrived_esis j ≡ true) × (j < 255)) (λ j. j < 255) (λ j h. h.1) _ passing in
+    let apart : AllByRecursion (λ j. j ≢ gap.0) (different_esis arrived_esis) =
+    all_weaker (λ j. (is_among arrived_esis j ≡ true) × (j < 255)) (λ j. j ≢ gap.0)
+    (λ j h e. let x = subst (λ (y : ℕ). is_among arrived_esis y ≡ true) e h.0 in let g = gap.2 in absurd (cc)) _ passing in
+    let w = vanishing (source_count f b) gap.0 (different_esis arrived_esis) few (omega (arith, gap.1, n.1)) small apart in
+    let same : (z : ℕ) → z < 256 → value w.0 z ≡ root_value arrived_esis z = w.4 in
+    let twin = made f valid b hb w.0 w.1 arrived_esis (at_passing (λ j. value w.0 (point j) ≡ 0) (is_among arrived_esis) 255 w.2) object form gap.0 gap.1 w.3 same in
+    subst (λ (o : List ℕ). IsTwin f b arrived_esis object o)
     (sym (same_bytes f valid b hb w.0 w.1 object other p len (λ j. values (point j) (point_byte j) ∙ sym (same (point j) (point_byte j))) bytes)) twin

@@ -10,7 +10,7 @@ use Rattle.lists.specs.Bytes.{IsByte, AreBytes}
 use Rattle.gf256.specs.Arithmetic.{sum_of, product, point}
 use Rattle.poly.specs.Polynomial.{value, root_product_over, IsPolynomial}
 use Rattle.partition.specs.Fti.{Fti, IsValidFti, source_count, block_count, start_of, source_byte, source_place}
-use Rattle.reception.specs.Symbols.{Symbol, is_held, Agrees, ColumnAgrees, IsObject}
+use Rattle.reception.specs.Symbols.{Symbol, has_arrived, Agrees, ColumnAgrees, IsObject}
 use Rattle.cert.specs.TwinBytes.{is_first_of}
 use Rattle.gf256.specs.ByteField.{byte_field, point_byte, point_apart}
 use Rattle.poly.proofs.Roots.{sums_over, sums_elements, sums_length, value_of_sums, value_element}
@@ -182,8 +182,8 @@ module _ (f : Fti) (valid : IsValidFti f) where
                 })
           ] refl
 
-      pub agrees : (came : List Symbol) → AllByRecursion (λ s. AreBytes s.bytes × (s.block ≡ b → value q (point s.esi) ≡ 0)) came
-          → AllByRecursion (Agrees f object) came → AllByRecursion (Agrees f (twin_of f b q object)) came
+      pub agrees : (arrivals : List Symbol) → AllByRecursion (λ s. AreBytes s.bytes × (s.block ≡ b → value q (point s.esi) ≡ 0)) arrivals
+          → AllByRecursion (Agrees f object) arrivals → AllByRecursion (Agrees f (twin_of f b q object)) arrivals
       agrees [] h a = tt
       agrees (s ∷ ss) h a = (
         record {
@@ -237,9 +237,9 @@ module _ (f : Fti) (valid : IsValidFti f) where
           apart (cc)
 
   -- a symbol of a short block is a root
-  pub roots_held : (b : ℕ) (q : List ℕ) (came all : List Symbol) → ((j : ℕ) → j < 256 → is_held all b j ≡ true → value q (point j) ≡ 0)
-      → AllByRecursion (λ s. AreBytes s.bytes × (s.esi < 256) × (is_held all s.block s.esi ≡ true)) came
-      → AllByRecursion (λ s. AreBytes s.bytes × (s.block ≡ b → value q (point s.esi) ≡ 0)) came
+  pub roots_held : (b : ℕ) (q : List ℕ) (arrivals all : List Symbol) → ((j : ℕ) → j < 256 → has_arrived all b j ≡ true → value q (point j) ≡ 0)
+      → AllByRecursion (λ s. AreBytes s.bytes × (s.esi < 256) × (has_arrived all s.block s.esi ≡ true)) arrivals
+      → AllByRecursion (λ s. AreBytes s.bytes × (s.block ≡ b → value q (point s.esi) ≡ 0)) arrivals
   roots_held b q [] all h g = tt
   roots_held b q (s ∷ ss) all h g =
-      ((g.0.0, λ e. h s.esi g.0.1 (subst (λ (x : ℕ). is_held all x s.esi ≡ true) e g.0.2)), roots_held b q ss all h g.1)
+      ((g.0.0, λ e. h s.esi g.0.1 (subst (λ (x : ℕ). has_arrived all x s.esi ≡ true) e g.0.2)), roots_held b q ss all h g.1)

@@ -9,7 +9,7 @@ use Rattle.gf256.specs.Arithmetic.{point}
 use Rattle.poly.specs.Polynomial.{value}
 use Rattle.partition.specs.Fti.{Fti, IsValidFti, source_count, block_count}
 use Rattle.lists.specs.Below.{below}
-use Rattle.reception.specs.Symbols.{Symbol, is_of, is_held, held, held_count, is_full, IsFirstShort, Agrees, Fits, AreTwins}
+use Rattle.reception.specs.Symbols.{Symbol, is_of, has_arrived, arrived_esis, arrived_count, is_full, IsFirstShort, Agrees, Fits, AreTwins}
 use Rattle.alc.specs.Reading.{Reading}
 use Rattle.reception.specs.declared.scope.Identity.{Identity}
 use Rattle.reception.specs.Reception.{ReadAll, counted_from, counted, symbols}
@@ -28,30 +28,30 @@ use Rattle.cert.proofs.Promise.{read_chosen, all_chosen, sound_all, unplaced_all
 use Rattle.cert.proofs.Twinning.{vanishing, twin_of, agrees, twin_form, differs, roots_held}
 
 -- the first short block below n, or none
-first_short : (f : Fti) (came : List Symbol) (n : ℕ) → ((b : ℕ) × (b < n) × (is_full f came b ≡ false) × ((a : ℕ) → a < b → is_full f came a ≡ true)) ⊎ ((a : ℕ) → a < n → is_full f came a ≡ true)
-first_short f came zero = inr (λ a l. absurd (omega arith))
-first_short f came (suc n) =
-    elim (first_short f came n) [
+first_short : (f : Fti) (arrivals : List Symbol) (n : ℕ) → ((b : ℕ) × (b < n) × (is_full f arrivals b ≡ false) × ((a : ℕ) → a < b → is_full f arrivals a ≡ true)) ⊎ ((a : ℕ) → a < n → is_full f arrivals a ≡ true)
+first_short f arrivals zero = inr (λ a l. absurd (omega arith))
+first_short f arrivals (suc n) =
+    elim (first_short f arrivals n) [
       | inl w ↦ inl (w.0, omega (arith, w.1), w.2, w.3)
       | inr h ↦
-          (elim (is_full f came n) as (λ v. is_full f came n ≡ v → ((b : ℕ) × (b < suc n) × (is_full f came b ≡ false) × ((a : ℕ) → a < b → is_full f came a ≡ true)) ⊎ ((a : ℕ) → a < suc n → is_full f came a ≡ true)) [
+          (elim (is_full f arrivals n) as (λ v. is_full f arrivals n ≡ v → ((b : ℕ) × (b < suc n) × (is_full f arrivals b ≡ false) × ((a : ℕ) → a < b → is_full f arrivals a ≡ true)) ⊎ ((a : ℕ) → a < suc n → is_full f arrivals a ≡ true)) [
             | false ↦ λ e. inl (n, omega arith, e, h)
             | true ↦ λ e. inr (λ a l.
-                (elim (a == n) as (λ v. (a == n) ≡ v → is_full f came a ≡ true) [
-                  | true ↦ λ g. subst (λ (x : ℕ). is_full f came x ≡ true) (sym (eqb-true a n g)) e
+                (elim (a == n) as (λ v. (a == n) ≡ v → is_full f arrivals a ≡ true) [
+                  | true ↦ λ g. subst (λ (x : ℕ). is_full f arrivals x ≡ true) (sym (eqb-true a n g)) e
                   | false ↦ λ g. h a (let ne : a ≡ n → ⊥ = λ x. (let y = eq-eqb a n x in absurd (cc)) in omega arith)
                 ] refl))
           ] refl)
     ]
 
 -- each that came is held
-pub held_self : (came : List Symbol) → AllByRecursion (λ s. is_held came s.block s.esi ≡ true) came
+pub held_self : (arrivals : List Symbol) → AllByRecursion (λ s. has_arrived arrivals s.block s.esi ≡ true) arrivals
 held_self [] = tt
 held_self (s ∷ ss) = (
   (let a : (s.block == s.block) ≡ true = eq-eqb _ _ refl in
       let b : (s.esi == s.esi) ≡ true = eq-eqb _ _ refl in
       rw (a, b)),
-  all_weaker (λ x. is_held ss x.block x.esi ≡ true) (λ x. is_held (s ∷ ss) x.block x.esi ≡ true) (λ x h. rw h (or-true (is_of x.block x.esi s))) ss (held_self ss),
+  all_weaker (λ x. has_arrived ss x.block x.esi ≡ true) (λ x. has_arrived (s ∷ ss) x.block x.esi ≡ true) (λ x h. rw h (or-true (is_of x.block x.esi s))) ss (held_self ss),
 )
 
 bytes_came : (i : ℕ) (ds : List (List ℕ)) (rs : List Reading) → ReadAll ds rs → AllByRecursion (λ s. AreBytes s.bytes × (s.esi < 256)) (symbols (counted_from i rs))
@@ -61,37 +61,37 @@ bytes_came i (d ∷ ds) [] h = absurd h
 bytes_came i (d ∷ ds) (Ok p ∷ rs) h = (packet_bytes d p h.0, bytes_came (i + 1) ds rs h.1)
 bytes_came i (d ∷ ds) (Err r ∷ rs) h = bytes_came (i + 1) ds rs h.1
 
-three : (came all : List Symbol) → AllByRecursion (λ s. AreBytes s.bytes × (s.esi < 256)) came → AllByRecursion (λ s. is_held all s.block s.esi ≡ true) came
-    → AllByRecursion (λ s. AreBytes s.bytes × (s.esi < 256) × (is_held all s.block s.esi ≡ true)) came
+three : (arrivals all : List Symbol) → AllByRecursion (λ s. AreBytes s.bytes × (s.esi < 256)) arrivals → AllByRecursion (λ s. has_arrived all s.block s.esi ≡ true) arrivals
+    → AllByRecursion (λ s. AreBytes s.bytes × (s.esi < 256) × (has_arrived all s.block s.esi ≡ true)) arrivals
 three [] all h g = tt
 three (s ∷ ss) all h g = ((h.0.0, h.0.1, g.0), three ss all h.1 g.1)
 
 -- a twin, where block b is short
-twin_at : (f : Fti) → IsValidFti f → (came : List Symbol) (object : List ℕ) → Fits f came object
-    → AllByRecursion (λ s. AreBytes s.bytes × (s.esi < 256)) came → (b : ℕ) → b < block_count f → is_full f came b ≡ false
-    → (other : List ℕ) × AreTwins f came object other
-twin_at f valid came object fits bytes b hb short =
+twin_at : (f : Fti) → IsValidFti f → (arrivals : List Symbol) (object : List ℕ) → Fits f arrivals object
+    → AllByRecursion (λ s. AreBytes s.bytes × (s.esi < 256)) arrivals → (b : ℕ) → b < block_count f → is_full f arrivals b ≡ false
+    → (other : List ℕ) × AreTwins f arrivals object other
+twin_at f valid arrivals object fits bytes b hb short =
     let n = counts f valid b hb in
-    let few : length (held came b) < source_count f b = leb-false _ _ short in
-    let gap = one_missing (is_held came b) (source_count f b) 256 (omega (arith, n.1)) few in
-    let passing : AllByRecursion (λ j. (is_held came b j ≡ true) × (j < 256)) (held came b) =
-    all_filter (λ j. j < 256) (is_held came b) (below 256) (all_below (λ j. j < 256) 256 (λ j h. h)) in
-    let small : AllByRecursion (λ j. j < 255) (held came b) =
-    all_weaker (λ j. (is_held came b j ≡ true) × (j < 256)) (λ j. j < 255)
-    (λ j h. let s = found (Agrees f object) b j came h.0 fits.agrees in let e = s.1.esi in omega (arith, n.2)) _ passing in
-    let apart : AllByRecursion (λ j. j ≢ gap.0) (held came b) =
-    all_weaker (λ j. (is_held came b j ≡ true) × (j < 256)) (λ j. j ≢ gap.0)
-    (λ j h e. let x = subst (λ (y : ℕ). is_held came b y ≡ true) e h.0 in let g = gap.2 in absurd (cc)) _ passing in
-    let q = vanishing (source_count f b) gap.0 (held came b) few (omega (arith, gap.1, n.1)) small apart in
-    let roots = roots_held f valid b q.0 came came
-    (at_passing (λ j. value q.0 (point j) ≡ 0) (is_held came b) 256 q.2) (three came came bytes (held_self came)) in (
+    let few : length (arrived_esis arrivals b) < source_count f b = leb-false _ _ short in
+    let gap = one_missing (has_arrived arrivals b) (source_count f b) 256 (omega (arith, n.1)) few in
+    let passing : AllByRecursion (λ j. (has_arrived arrivals b j ≡ true) × (j < 256)) (arrived_esis arrivals b) =
+    all_filter (λ j. j < 256) (has_arrived arrivals b) (below 256) (all_below (λ j. j < 256) 256 (λ j h. h)) in
+    let small : AllByRecursion (λ j. j < 255) (arrived_esis arrivals b) =
+    all_weaker (λ j. (has_arrived arrivals b j ≡ true) × (j < 256)) (λ j. j < 255)
+    (λ j h. let s = found (Agrees f object) b j arrivals h.0 fits.agrees in let e = s.1.esi in omega (arith, n.2)) _ passing in
+    let apart : AllByRecursion (λ j. j ≢ gap.0) (arrived_esis arrivals b) =
+    all_weaker (λ j. (has_arrived arrivals b j ≡ true) × (j < 256)) (λ j. j ≢ gap.0)
+    (λ j h e. let x = subst (λ (y : ℕ). has_arrived arrivals b y ≡ true) e h.0 in let g = gap.2 in absurd (cc)) _ passing in
+    let q = vanishing (source_count f b) gap.0 (arrived_esis arrivals b) few (omega (arith, gap.1, n.1)) small apart in
+    let roots = roots_held f valid b q.0 arrivals arrivals
+    (at_passing (λ j. value q.0 (point j) ≡ 0) (has_arrived arrivals b) 256 q.2) (three arrivals arrivals bytes (held_self arrivals)) in (
       twin_of f b q.0 object,
       record {
         differ = differs f valid object q.0 fits.form b hb q.1 gap.0 gap.1 q.3;
         first = fits;
         second = record {
           form = twin_form f valid object q.0 fits.form b hb q.1;
-          agrees = agrees f valid object q.0 fits.form b hb q.1 came roots fits.agrees;
+          agrees = agrees f valid object q.0 fits.form b hb q.1 arrivals roots fits.agrees;
         };
       },
     )
@@ -109,7 +109,7 @@ told z who object good form gives [] [] read sound b first twin = record {
 told z who object good form gives [] (r ∷ rs) read sound b first twin = absurd read
 told z who object good form gives (d ∷ ds) [] read sound b first twin = absurd read
 told z who object good form gives (d ∷ ds) (r ∷ rs) read sound b first twin = record {
-  answer = Missing b (held_count (symbols (counted (r ∷ rs))) b) (source_count z.fti b);
+  answer = Missing b (arrived_count (symbols (counted (r ∷ rs))) b) (source_count z.fti b);
   told = record {
     readings = r ∷ rs;
     read = read;

@@ -7,16 +7,16 @@ use Rattle.alc.specs.Reading.{Reading}
 use Rattle.cert.specs.declared.verdict.Report.{Report}
 use Rattle.cert.specs.declared.verdict.Verdict.{Verdict}
 use Rattle.cert.specs.declared.verdict.Verdict.TheVariants.{Yes, No}
-use Rattle.reception.specs.Symbols.{Symbol, is_held, held_count}
+use Rattle.reception.specs.Symbols.{Symbol, has_arrived, arrived_count}
 use Rattle.reception.specs.Reception.{ReadAll, counted, symbols}
 
 -- for each block below n its source symbols, and how many different ESIs of it came
 abbrev pub block_lines : Fti → List Symbol → ℕ → List (ℕ × ℕ)
-block_lines f came n = map (λ b. (source_count f b, held_count came b)) (below n)
+block_lines f arrivals n = map (λ b. (source_count f b, arrived_count arrivals b)) (below n)
 
 -- the blocks of an FTI, and which of their symbols a list of readings holds
 abbrev pub blocks_of : Fti → Blocks Reading
-blocks_of f = record { count = block_count f; need = source_count f; has_symbol = λ rs b j. is_held (symbols (counted rs)) b j }
+blocks_of f = record { count = block_count f; need = source_count f; has_symbol = λ rs b j. has_arrived (symbols (counted rs)) b j }
 
 pub record IsReport (datagrams : List (List ℕ)) (f : Fti) (report : Report) : Type 0 where
   pub readings : List Reading

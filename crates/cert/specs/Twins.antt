@@ -15,22 +15,22 @@ use Rattle.cert.specs.Verdict.{IsVerdict}
 
 -- the different ESIs among these, rising
 abbrev pub different_esis : List ℕ → List ℕ
-different_esis held = filter (is_among held) (below 255)
+different_esis arrived_esis = filter (is_among arrived_esis) (below 255)
 
 -- the product of z + point(j) over the different ESIs j
 abbrev pub root_value : List ℕ → ℕ → ℕ
-root_value held z = root_product_over sum_of product 1 (map point (different_esis held)) z
+root_value arrived_esis z = root_product_over sum_of product 1 (map point (different_esis arrived_esis)) z
 
 -- The other object is the object with that product's value at the point of each source symbol of block b added to the
 -- symbol's first byte; it is not the object; and a symbol of another block, or of block b with one of these ESIs, is one
 -- of the one exactly where it is one of the other.
-pub record IsTwin (f : Fti) (b : ℕ) (held object other : List ℕ) : Type 0 where
+pub record IsTwin (f : Fti) (b : ℕ) (arrived_esis object other : List ℕ) : Type 0 where
   pub form : IsObject f other
   pub differ : object ≢ other
-  pub changed : (i : ℕ) → i < source_count f b → source_byte f other b i 0 ≡ sum_of (source_byte f object b i 0) (root_value held (point i))
+  pub changed : (i : ℕ) → i < source_count f b → source_byte f other b i 0 ≡ sum_of (source_byte f object b i 0) (root_value arrived_esis (point i))
   pub unchanged : (d i c : ℕ) → d < block_count f → i < source_count f d → c < f.symbol_length → ((d ≡ b) × (c ≡ 0) → ⊥)
       → source_byte f other d i c ≡ source_byte f object d i c
-  pub alike : (s : Symbol) → (s.block ≡ b → is_among held s.esi ≡ true) → Agrees f object s ↔ Agrees f other s
+  pub alike : (s : Symbol) → (s.block ≡ b → is_among arrived_esis s.esi ≡ true) → Agrees f object s ↔ Agrees f other s
 
 -- the verdict is that this block is the least that has too few symbols
 abbrev pub IsThinIn : List (List ℕ) → List ℕ → Certificate → ℕ → Type 0
@@ -41,7 +41,7 @@ esi_in b s = if s.block == b then s.esi ∷ [] else []
 
 -- the ESIs of this block that came, repeats and all
 abbrev pub esis_of : ℕ → List Symbol → List ℕ
-esis_of b came = flat_map (esi_in b) came
+esis_of b arrivals = flat_map (esi_in b) arrivals
 
 -- the other object is a twin made for the ESIs of this block that came, and agrees with all that came, as the object does
 pub record IsTwinOfSession (f : Fti) (b : ℕ) (datagrams : List (List ℕ)) (object other : List ℕ) : Type 0 where

@@ -10,9 +10,9 @@ use Rattle.cert.specs.declared.verdict.Reason.{Reason}
 use Rattle.cert.specs.declared.verdict.Reason.TheVariants.{ObjectLength, NotObject, Empty, Packet as NoPacket, OtherIdentity, OtherFti, Range, Symbol, Thin}
 use Rattle.reception.specs.declared.scope.Identity.{Identity}
 use Rattle.reception.specs.declared.scope.PlaceFault.TheVariants as fault
-use Rattle.reception.specs.Symbols.{Symbol as Received, held_count, IsFirstShort, IsObject}
+use Rattle.reception.specs.Symbols.{Symbol as Received, arrived_count, IsFirstShort, IsObject}
 use Rattle.cert.specs.Certificate.{Certificate, certified_byte}
-use Rattle.reception.specs.Reception.{ReadAll, Judge, Wrong, Faulty, Judged, Came, counted, symbols, came_with, with_fti, in_range, Suffices}
+use Rattle.reception.specs.Reception.{ReadAll, Judge, Wrong, Faulty, Judged, Reception, counted, symbols, reception_with, with_fti, in_range, Suffices}
 
 abbrev pub GivesAt : List ℕ → Certificate → ℕ → ℕ → ℕ → Type 0
 GivesAt object z b c i = certified_byte z b i c ≡ source_byte z.fti object b i c
@@ -51,8 +51,8 @@ abbrev pub uncertified : Certificate → Judge ℕ
 uncertified z earlier s = wrong_column z s 0 z.fti.symbol_length
 
 -- what came, to a check, which knows the certificate's FTI before
-abbrev pub came_to : Certificate → List Reading → Came ℕ
-came_to z rs = came_with (uncertified z) (with_fti z.fti) rs
+abbrev pub reception_to : Certificate → List Reading → Reception ℕ
+reception_to z rs = reception_with (uncertified z) (with_fti z.fti) rs
 
 -- the reason that something is wrong at a place
 abbrev pub reason_at : ℕ → Wrong ℕ → Reason
@@ -64,7 +64,7 @@ reason_at i (Judged c) = Symbol i c
 
 -- the reason at the least place that has one, and there the first
 abbrev pub first_reason : Certificate → List Reading → Option Reason
-first_reason z rs = option_map (λ x. reason_at x.0 x.1) (came_to z rs).wrong
+first_reason z rs = option_map (λ x. reason_at x.0 x.1) (reception_to z rs).wrong
 
 -- the packet is of this identity and of the certificate's FTI, in range, and has the certified symbol
 pub record IsCertifiedPacket (z : Certificate) (who : Identity) (p : Packet) : Type 0 where
@@ -81,7 +81,7 @@ IsCertifiedReading z who (Err r) = ⊥
 -- some packets came, all of one identity and as certified
 pub record AreCertified (rs : List Reading) (z : Certificate) : Type 0 where
   pub who : Identity
-  pub some : (came_to z rs).scope.identity ≡ Some who
+  pub some : (reception_to z rs).scope.identity ≡ Some who
   pub packets : AllByRecursion (λ x. IsCertifiedReading z who x.reading) (counted rs)
 
 -- the certificate is one of these readings and this object
@@ -97,7 +97,7 @@ abbrev pub IsAgainst : List Reading → Certificate → Reason → Type 0
 IsAgainst rs z Empty = (first_reason z rs ≡ None) × (counted rs ≡ [])
 IsAgainst rs z (Thin b have need) =
     (first_reason z rs ≡ None) × (counted rs ≢ []) × IsFirstShort z.fti (symbols (counted rs)) b
-    × (have ≡ held_count (symbols (counted rs)) b) × (need ≡ source_count z.fti b)
+    × (have ≡ arrived_count (symbols (counted rs)) b) × (need ≡ source_count z.fti b)
 IsAgainst rs z reason = first_reason z rs ≡ Some reason
 
 -- Yes where the certificate is one, and each no the first reason in this order.

@@ -4,7 +4,7 @@ ghost use Rattle.gf256.specs.Arithmetic.{point as point_of};
 ghost use Rattle.partition.specs.Fti.{IsValidFti, block_count, source_count};
 ghost use Rattle.reception.specs.Reception.{counted, symbols};
 ghost use Rattle.reception.specs.Walks.{readings_of};
-ghost use Rattle.cert.specs.Verdict.{came_to};
+ghost use Rattle.cert.specs.Verdict.{reception_to};
 ghost use Rattle.cert.specs.Twins.{different_esis, esis_of, IsTwin, IsThinIn, IsTwinOfSession};
 ghost use Rattle.cert.specs.TwinBytes.{byte_with_value};
 
@@ -18,13 +18,13 @@ use session::Session;
 use std::alloc::{AllocError, Global};
 
 // The points of the different ESIs among these, rising.
-fn points_of(alloc: Global, fti: &Fti, held: &[u8]) -> Result<Vec<Gf>, AllocError>
-    ensures points { IfOk result (λ v. v.items ≡ map point_of (different_esis held.now)) }
+fn points_of(alloc: Global, fti: &Fti, arrived_esis: &[u8]) -> Result<Vec<Gf>, AllocError>
+    ensures points { IfOk result (λ v. v.items ≡ map point_of (different_esis arrived_esis.now)) }
     ensures valid { IsValidFti fti.now }
 {
     let mut points = Vec::with_capacity(alloc, usize::from(fti.block_length()))?;
     for esi in 0..255u8 {
-        if held.contains(&esi) {
+        if arrived_esis.contains(&esi) {
             points.push(point(esi))?;
         }
     }
@@ -59,15 +59,15 @@ pub fn twin(
     object: &[u8],
     fti: &Fti,
     block: u32,
-    held: &[u8],
+    arrived_esis: &[u8],
 ) -> Result<Vec<u8>, AllocError>
     requires object { length object.now ≡ fti.now.transfer_length }
     requires block { block < block_count fti.now }
-    requires few { length (different_esis held.now) < source_count fti.now block }
-    ensures { IfOk result (λ other. IsTwin fti.now block held.now object.now other.items) }
+    requires few { length (different_esis arrived_esis.now) < source_count fti.now block }
+    ensures { IfOk result (λ other. IsTwin fti.now block arrived_esis.now object.now other.items) }
 {
     are_bytes(object);
-    let points = points_of(alloc, fti, held)?;
+    let points = points_of(alloc, fti, arrived_esis)?;
     let polynomial = Poly::from_roots(points.as_slice());
     let mut other = object.to_vec(alloc)?;
     add_values(other.as_mut_slice(), fti, block, &polynomial);
@@ -81,24 +81,24 @@ fn esis_held(
     certificate: &Certificate,
     block: u32,
 ) -> Result<Vec<u8>, AllocError>
-    requires { (came_to certificate.now (readings_of session.now)).wrong ≡ None }
+    requires { (reception_to certificate.now (readings_of session.now)).wrong ≡ None }
     ensures { IfOk result (λ v.
         v.items ≡ esis_of block (symbols (counted (readings_of session.now)))) }
 {
     let mut scope = Scope::with_fti(certificate.fti());
-    let mut held = Vec::new(alloc);
+    let mut arrived_esis = Vec::new(alloc);
     for place in 0..session.len() {
         match scope.look(session.get(place)) {
             Ok(Some(packet)) => {
                 if packet.sbn == block {
-                    held.push(packet.esi)?;
+                    arrived_esis.push(packet.esi)?;
                 }
             }
             Ok(None) => {}
             Err(_) => {}
         }
     }
-    Ok(held)
+    Ok(arrived_esis)
 }
 
 /// A twin of the object where the check of the three says `Thin` of this block, as it needs: another object of the
@@ -115,6 +115,12 @@ pub fn session_twin(
         IsTwinOfSession certificate.now.fti block session.now object.now other.items) }
 {
     session.len();
-    let held = esis_held(alloc, session, certificate, block)?;
-    twin(alloc, object, &certificate.fti(), block, held.as_slice())
+    let arrived_esis = esis_held(alloc, session, certificate, block)?;
+    twin(
+        alloc,
+        object,
+        &certificate.fti(),
+        block,
+        arrived_esis.as_slice(),
+    )
 }

@@ -19,7 +19,7 @@ use Rattle.alc.specs.Packet.{IsPacket, written}
 use Rattle.alc.specs.Written.{packet_from}
 use Rattle.alc.specs.Reading.{Reading}
 use Rattle.alc.proofs.Writes.{written_packet}
-use Rattle.reception.specs.Symbols.{is_held, held_count, is_full, IsObject, Agrees}
+use Rattle.reception.specs.Symbols.{has_arrived, arrived_count, is_full, IsObject, Agrees}
 use Rattle.reception.specs.declared.scope.Identity.{Identity}
 use Rattle.reception.specs.declared.scope.Scope.{Scope}
 use Rattle.reception.specs.Reception.{ReadAll, counted_from, counted, symbols, Suffices}
@@ -124,7 +124,7 @@ module _ (z : Certificate) (good : IsCertificate z) (object : List ℕ) (gives :
     readings : List Reading
     read : ReadAll ds readings
     sound : AllByRecursion (IsSoundReading z who) readings
-    numbers : (i b j : ℕ) → is_held (symbols (counted_from i readings)) b j ≡ list_any (is_pair b j) ps
+    numbers : (i b j : ℕ) → has_arrived (symbols (counted_from i readings)) b j ≡ list_any (is_pair b j) ps
 
   read_sent : (ps : List (ℕ × ℕ)) (ds : List (List ℕ)) → AreSent object z.fti t u ps ds → SentReadings ps ds
   read_sent [] [] h = record { readings = []; read = tt; sound = tt; numbers = λ i b j. refl }
@@ -165,13 +165,13 @@ module _ (z : Certificate) (good : IsCertificate z) (object : List ℕ) (gives :
   -- the session leaves no block short
   suffices : (order : Order) (ds : List (List ℕ)) → (r : SentReadings (pairs order z.fti) ds) → Suffices z.fti r.readings
   suffices order ds r b hb =
-      let came = symbols (counted r.readings) in
+      let arrivals = symbols (counted r.readings) in
       let few = (counts z.fti good.fti b hb).1 in
       let wide = source_encoding z.fti good.fti b in
-      elim (nat_le (source_count z.fti b) (held_count came b)) as (λ v. nat_le (source_count z.fti b) (held_count came b) ≡ v → is_full z.fti came b ≡ true) [
+      elim (nat_le (source_count z.fti b) (arrived_count arrivals b)) as (λ v. nat_le (source_count z.fti b) (arrived_count arrivals b) ≡ v → is_full z.fti arrivals b ≡ true) [
         | true ↦ λ e. e
         | false ↦ λ e.
-            (let w = one_missing (is_held came b) (source_count z.fti b) 256 (omega (arith, few)) (leb-false _ _ e) in
+            (let w = one_missing (has_arrived arrivals b) (source_count z.fti b) 256 (omega (arith, few)) (leb-false _ _ e) in
             let h = w.2 in
             let g = r.numbers 0 b w.0 ∙ all_pairs z.fti good.fti order b w.0 hb (let l = w.1 in omega (arith, l, wide)) in
             absurd (cc))
@@ -183,7 +183,7 @@ module _ (z : Certificate) (good : IsCertificate z) (object : List ℕ) (gives :
       let k = (counts z.fti good.fti 0 hb).0 in
       let wide = source_encoding z.fti good.fti 0 in
       let g = r.numbers 0 0 0 ∙ all_pairs z.fti good.fti order 0 0 hb (omega (arith, k, wide)) in
-      let h : is_held (symbols (counted [])) 0 0 ≡ true = subst (λ (x : List Reading). is_held (symbols (counted x)) 0 0 ≡ true) none g in
+      let h : has_arrived (symbols (counted [])) 0 0 ≡ true = subst (λ (x : List Reading). has_arrived (symbols (counted x)) 0 0 ≡ true) none g in
       absurd (cc)
 
   pub certifies : IsObject z.fti object → (order : Order) (ds : List (List ℕ)) → IsSessionOf object z.fti t u order ds → Certifies z object ds

@@ -8,10 +8,10 @@ use Rattle.alc.specs.Computed.{read_of}
 use Rattle.alc.proofs.Again.{reads}
 use Rattle.reception.specs.Symbols.{is_of, AllFull}
 use Rattle.reception.specs.Within.{IsWithin}
-use Rattle.reception.specs.Reception.{ReadAll, Came, IsClean, unknown, counted, symbols}
+use Rattle.reception.specs.Reception.{ReadAll, Reception, IsClean, unknown, counted, symbols}
 use Rattle.reception.specs.Walks.{readings_of}
 use Rattle.reception.specs.Answer as value
-use Rattle.reception.specs.Answer.{Clash, AnswerTo, clash, came_of}
+use Rattle.reception.specs.Answer.{Clash, AnswerTo, clash, reception_of}
 use Rattle.std.proofs.lemmas.Bool.{and_from, eq-eqb}
 use Rattle.lists.proofs.Lists.{all_both}
 use Rattle.reception.proofs.Within.{within}
@@ -21,12 +21,12 @@ use Rattle.decoder.specs.Received.{AreReceived}
 use Rattle.decoder.proofs.Counts.{held_is}
 
 -- an answer to symbols is one to what came, where no datagram has a fault
-pub answers_came : (came : Came Clash) (f : Fti) (v : value.Answer) → IsClean came f → AnswerBy f came.symbols v → AnswerTo came v
-answers_came came f value.Empty clean h = absurd h
-answers_came came f (value.Fault i r) clean h = absurd h
-answers_came came f (value.NotCode b) clean h = (f, clean, h)
-answers_came came f (value.Missing b have need) clean h = (f, clean, h.0, h.1, h.2, h.3)
-answers_came came f (value.Object object) clean h = (f, clean, h.0, h.1, h.2)
+pub answers_came : (reception : Reception Clash) (f : Fti) (v : value.Answer) → IsClean reception f → AnswerBy f reception.symbols v → AnswerTo reception v
+answers_came reception f value.Empty clean h = absurd h
+answers_came reception f (value.Fault i r) clean h = absurd h
+answers_came reception f (value.NotCode b) clean h = (f, clean, h)
+answers_came reception f (value.Missing b have need) clean h = (f, clean, h.0, h.1, h.2, h.3)
+answers_came reception f (value.Object object) clean h = (f, clean, h.0, h.1, h.2)
 
 -- each datagram of bytes has its reading
 pub read_all : (ds : List (List ℕ)) → ((i : ℕ) → i < length ds → AreBytes (get_or ds i [])) → ReadAll ds (readings_of ds)
@@ -37,7 +37,7 @@ module _ (f : Fti) (at : ℕ → ℕ → Option (List ℕ)) (s : Stand f at) whe
   stands : (b j : ℕ) (y : List ℕ) → at b j ≡ Some y → IsWithin f (record { block = b; esi = j; bytes = y })
   stands b j y some =
       let c = s.index.some b j y some in
-      let w = found (λ s. IsWithin f s × (is_of b j s ≡ true → s.bytes ≡ y)) b j s.came c.is_there (all_both (IsWithin f) (λ s. is_of b j s ≡ true → s.bytes ≡ y) s.came s.within c.same) in
+      let w = found (λ s. IsWithin f s × (is_of b j s ≡ true → s.bytes ≡ y)) b j s.arrivals c.is_there (all_both (IsWithin f) (λ s. is_of b j s ≡ true → s.bytes ≡ y) s.arrivals s.within c.same) in
       subst (λ (bytes : List ℕ). IsWithin f (record { block = b; esi = j; bytes = bytes })) (w.1.1 (and_from (b == b) (j == j) (eq-eqb b b refl) (eq-eqb j j refl))) w.1.0
 
   pub are_within : AreWithin f at
@@ -47,23 +47,23 @@ module _ (f : Fti) (at : ℕ → ℕ → Option (List ℕ)) (s : Stand f at) whe
     count = λ b j y some. (stands b j y some).count;
   }
 
-  pub enough_where_full : IsValidFti f → AllFull f s.came → (b : ℕ) → b < block_count f → IsEnoughAt f b (at b)
+  pub enough_where_full : IsValidFti f → AllFull f s.arrivals → (b : ℕ) → b < block_count f → IsEnoughAt f b (at b)
   enough_where_full valid full b hb =
-      omega (arith, held_is f s.came at b s.index s.within (omega (arith, counts f valid b hb)), leb-true _ _ (full b hb))
+      omega (arith, held_is f s.arrivals at b s.index s.within (omega (arith, counts f valid b hb)), leb-true _ _ (full b hb))
 
 -- what is received stands
 pub stand_of : (ds : List (List ℕ)) (f : Fti) (at : ℕ → ℕ → Option (List ℕ)) → ReadAll ds (readings_of ds) → AreReceived ds f at → Stand f at
 stand_of ds f at read r = record {
-  came = symbols (counted (readings_of ds));
+  arrivals = symbols (counted (readings_of ds));
   index = r.index;
   within = within clash unknown ds (readings_of ds) f read r.clean;
 }
 
 -- an answer to all symbols that stand so answers the datagrams
 pub answered : (ds : List (List ℕ)) (f : Fti) (at : ℕ → ℕ → Option (List ℕ)) (v : value.Answer) → ReadAll ds (readings_of ds) → AreReceived ds f at → Answers f at v
-    → AnswerTo (came_of (readings_of ds)) v
+    → AnswerTo (reception_of (readings_of ds)) v
 answered ds f at v read r h =
-    answers_came (came_of (readings_of ds)) f v r.clean
+    answers_came (reception_of (readings_of ds)) f v r.clean
     (h (symbols (counted (readings_of ds))) r.index (within clash unknown ds (readings_of ds) f read r.clean))
 
 -- what is so of a result is so of what follows

@@ -14,7 +14,7 @@ use Rattle.partition.specs.Fti.{Fti, source_count, encoding_count, source_place}
 use Rattle.elim.specs.Generator.{Encodes}
 use Rattle.elim.specs.Grid.{Grid}
 use Rattle.block_code.specs.CodesOf.{IsCodeOf}
-use Rattle.decoder.specs.Blocks.{arrived, HaveLength, Meets, CanBeMet, AreOnly}
+use Rattle.decoder.specs.Blocks.{bytes_of_esi, HaveLength, Meets, CanBeMet, AreOnly}
 use Rattle.decoder.specs.Columns.{ColumnExplained}
 use Rattle.decoder.specs.Decoded.{AreWithin, IsEnoughAt, row_byte, RowsColumn, AreRows, IsUnexplained}
 use Rattle.decoder.proofs.Words.{through, word_of_values, values_bytes}
@@ -79,7 +79,7 @@ module _ (f : Fti) (b : ℕ) (at : ℕ → Option (List ℕ)) (g : Grid ℕ) (si
         ∙ e.padding i li past
 
 -- what stands at an ESI stands within
-pub stands_within : (received : List (Option (Bor (List ℕ)))) (j : ℕ) (y : List ℕ) → arrived received j ≡ Some y → j < length received
+pub stands_within : (received : List (Option (Bor (List ℕ)))) (j : ℕ) (y : List ℕ) → bytes_of_esi received j ≡ Some y → j < length received
 stands_within received j y some = elim (cases_lt j (length received)) [
   | inl lt ↦ lt
   | inr past ↦ (let e = ap (λ (o : Option (Bor (List ℕ))). option_map (λ s. s.now) o) (get_or_past received j None past) in absurd (cc))
@@ -87,27 +87,27 @@ stands_within received j y some = elim (cases_lt j (length received)) [
 
 -- the symbols of a block that were read at its ESIs are those that stand there
 module _ (f : Fti) (b : ℕ) (at : ℕ → ℕ → Option (List ℕ)) (within : AreWithin f at) (received : List (Option (Bor (List ℕ)))) (len : length received ≡ encoding_count f b)
-    (same : (j : ℕ) → j < length received → arrived received j ≡ at b j) where
+    (same : (j : ℕ) → j < length received → bytes_of_esi received j ≡ at b j) where
   nothing_past : (j : ℕ) (o : Option (List ℕ)) → at b j ≡ o → length received ≤ j → o ≡ None
   nothing_past j None e past = refl
   nothing_past j (Some y) e past = let h = within.esi b j y e in absurd (omega (arith, h, past, len))
 
-  pub same_at : (j : ℕ) → arrived received j ≡ at b j
+  pub same_at : (j : ℕ) → bytes_of_esi received j ≡ at b j
   same_at j = elim (cases_lt j (length received)) [
     | inl lt ↦ same j lt
     | inr past ↦ ap (λ (o : Option (Bor (List ℕ))). option_map (λ s. s.now) o) (get_or_past received j None past) ∙ sym (nothing_past j (at b j) refl past)
   ]
 
-  pub have_length : HaveLength f.symbol_length (arrived received)
+  pub have_length : HaveLength f.symbol_length (bytes_of_esi received)
   have_length j y some = within.count b j y (sym (same_at j) ∙ some)
 
-  pub enough_arrived : IsEnoughAt f b (at b) → IsEnoughAt f b (arrived received)
+  pub enough_arrived : IsEnoughAt f b (at b) → IsEnoughAt f b (bytes_of_esi received)
   enough_arrived enough =
       subst (λ (l : List ℕ). source_count f b ≤ length l)
-      (filter_same (λ j. is_some (at b j)) (λ j. is_some (arrived received j)) (below (encoding_count f b))
-      (all_below (λ j. is_some (at b j) ≡ is_some (arrived received j)) (encoding_count f b) (λ j lj. ap is_some (sym (same_at j))))) enough
+      (filter_same (λ j. is_some (at b j)) (λ j. is_some (bytes_of_esi received j)) (below (encoding_count f b))
+      (all_below (λ j. is_some (at b j) ≡ is_some (bytes_of_esi received j)) (encoding_count f b) (λ j lj. ap is_some (sym (same_at j))))) enough
 
-  pub rows_at : (rows : List ℕ) → AreRows f b (arrived received) rows → AreRows f b (at b) rows
+  pub rows_at : (rows : List ℕ) → AreRows f b (bytes_of_esi received) rows → AreRows f b (at b) rows
   rows_at rows h = record {
     count = h.count;
     bytes = h.bytes;
@@ -116,18 +116,18 @@ module _ (f : Fti) (b : ℕ) (at : ℕ → ℕ → Option (List ℕ)) (within : 
     padding = h.padding;
   }
 
-  pub unexplained_at : IsUnexplained f b (arrived received) → IsUnexplained f b (at b)
+  pub unexplained_at : IsUnexplained f b (bytes_of_esi received) → IsUnexplained f b (at b)
   unexplained_at h explained = h (λ c lc. (let w = explained c lc in
       record { polynomial = w.polynomial; form = w.form; symbols = λ j y some. w.symbols j y (sym (same_at j) ∙ some); padding = w.padding }))
 
 -- the symbols that were read at a block's ESIs, where they are in a vector
 pub record AreArrivals (f : Fti) (b : ℕ) (at : ℕ → ℕ → Option (List ℕ)) (received : List (Option (Bor (List ℕ)))) : Type 0 where
   pub len : length received ≡ encoding_count f b
-  pub same : (j : ℕ) → j < length received → arrived received j ≡ at b j
+  pub same : (j : ℕ) → j < length received → bytes_of_esi received j ≡ at b j
 
 pub are_arrivals : (f : Fti) (b : ℕ) (at : ℕ → ℕ → Option (List ℕ)) (g : Grid ℕ) (n : ℕ) (items received : List (Option (Bor (List ℕ)))) → IsCodeOf f b g → n ≡ g.cols → length items ≡ n
-    → ((j : ℕ) → j < n → arrived items j ≡ at b j) → received ≡ items → AreArrivals f b at received
+    → ((j : ℕ) → j < n → bytes_of_esi items j ≡ at b j) → received ≡ items → AreArrivals f b at received
 are_arrivals f b at g n items received code count len same is = record {
   len = ap length is ∙ len ∙ count ∙ code.cols;
-  same = λ j lj. ap (λ (l : List (Option (Bor (List ℕ)))). arrived l j) is ∙ same j (omega (arith, lj, ap length is, len));
+  same = λ j lj. ap (λ (l : List (Option (Bor (List ℕ)))). bytes_of_esi l j) is ∙ same j (omega (arith, lj, ap length is, len));
 }

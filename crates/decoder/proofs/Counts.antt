@@ -7,7 +7,7 @@ use Rattle.std.proofs.lemmas.List.Elements.{filter-append}
 use Rattle.lists.specs.Below.{below}
 use Rattle.lists.proofs.Lists.{filter_same, all_of}
 use Rattle.partition.specs.Fti.{Fti, encoding_count}
-use Rattle.reception.specs.Symbols.{Symbol, is_of, is_held, held_count}
+use Rattle.reception.specs.Symbols.{Symbol, is_of, has_arrived, arrived_count}
 use Rattle.reception.specs.Within.{IsWithin}
 use Rattle.decoder.specs.Received.{IsIndex}
 
@@ -28,12 +28,12 @@ none_beyond t n zero none = rw add-zero refl
 none_beyond t n (suc d) none = rw add-suc (none_more_held t (n + d) (none (n + d) (omega arith)) ∙ none_beyond t n d none)
 
 -- a symbol came where one stands at its block and ESI
-pub held_at : (came : List Symbol) (at : ℕ → ℕ → Option (List ℕ)) → IsIndex came at → (b j : ℕ) (o : Option (List ℕ)) → at b j ≡ o → is_held came b j ≡ is_some o
-held_at came at index b j None none = index.none b j none
-held_at came at index b j (Some y) some = (index.some b j y some).is_there
+pub held_at : (arrivals : List Symbol) (at : ℕ → ℕ → Option (List ℕ)) → IsIndex arrivals at → (b j : ℕ) (o : Option (List ℕ)) → at b j ≡ o → has_arrived arrivals b j ≡ is_some o
+held_at arrivals at index b j None none = index.none b j none
+held_at arrivals at index b j (Some y) some = (index.some b j y some).is_there
 
 -- no symbol came at an ESI that the block hasn't
-none_held : (f : Fti) (b j : ℕ) → encoding_count f b ≤ j → (came : List Symbol) → AllByRecursion (IsWithin f) came → is_held came b j ≡ false
+none_held : (f : Fti) (b j : ℕ) → encoding_count f b ≤ j → (arrivals : List Symbol) → AllByRecursion (IsWithin f) arrivals → has_arrived arrivals b j ≡ false
 none_held f b j past [] within = refl
 none_held f b j past (s ∷ ss) within =
     or_from _ _
@@ -46,21 +46,21 @@ none_held f b j past (s ∷ ss) within =
     (none_held f b j past ss within.1)
 
 -- how many different ESIs of a block came, by what stands at the ESIs that it has
-pub held_is : (f : Fti) (came : List Symbol) (at : ℕ → ℕ → Option (List ℕ)) (b : ℕ) → IsIndex came at → AllByRecursion (IsWithin f) came
-    → encoding_count f b ≤ 255 → held_count came b ≡ length (filter (λ j. is_some (at b j)) (below (encoding_count f b)))
-held_is f came at b index within few =
+pub held_is : (f : Fti) (arrivals : List Symbol) (at : ℕ → ℕ → Option (List ℕ)) (b : ℕ) → IsIndex arrivals at → AllByRecursion (IsWithin f) arrivals
+    → encoding_count f b ≤ 255 → arrived_count arrivals b ≡ length (filter (λ j. is_some (at b j)) (below (encoding_count f b)))
+held_is f arrivals at b index within few =
     let t = λ (j : ℕ). is_some (at b j) in
     let n = encoding_count f b in
-    let tests = filter_same (is_held came b) t (below 256) (all_of (λ j. is_held came b j ≡ is_some (at b j)) (λ j. held_at came at index b j (at b j) refl) (below 256)) in
-    let none : (j : ℕ) → n ≤ j → t j ≡ false = λ j past. sym (held_at came at index b j (at b j) refl) ∙ none_held f b j past came within in
+    let tests = filter_same (has_arrived arrivals b) t (below 256) (all_of (λ j. has_arrived arrivals b j ≡ is_some (at b j)) (λ j. held_at arrivals at index b j (at b j) refl) (below 256)) in
+    let none : (j : ℕ) → n ≤ j → t j ≡ false = λ j past. sym (held_at arrivals at index b j (at b j) refl) ∙ none_held f b j past arrivals within in
     let whole : n + (256 - n) ≡ 256 = omega arith in
     ap length tests ∙ subst (λ (x : ℕ). length (filter t (below x)) ≡ length (filter t (below n))) whole (none_beyond t n (256 - n) none)
 
 -- and so a count of them at the ESIs that it has
-pub counted_held : (f : Fti) (came : List Symbol) (at : ℕ → ℕ → Option (List ℕ)) (b n count : ℕ) → IsIndex came at → AllByRecursion (IsWithin f) came
-    → n ≡ encoding_count f b → n ≤ 255 → count ≡ length (filter (λ j. is_some (at b j)) (below n)) → count ≡ held_count came b
-counted_held f came at b n count index within is few counts =
-    counts ∙ ap (λ (x : ℕ). length (filter (λ j. is_some (at b j)) (below x))) is ∙ sym (held_is f came at b index within (omega (arith, is, few)))
+pub counted_held : (f : Fti) (arrivals : List Symbol) (at : ℕ → ℕ → Option (List ℕ)) (b n count : ℕ) → IsIndex arrivals at → AllByRecursion (IsWithin f) arrivals
+    → n ≡ encoding_count f b → n ≤ 255 → count ≡ length (filter (λ j. is_some (at b j)) (below n)) → count ≡ arrived_count arrivals b
+counted_held f arrivals at b n count index within is few counts =
+    counts ∙ ap (λ (x : ℕ). length (filter (λ j. is_some (at b j)) (below x))) is ∙ sym (held_is f arrivals at b index within (omega (arith, is, few)))
 
 -- something stands there whatever is made of it
 pub same_some : {A B : Type 0} (g : A → B) (o : Option A) → is_some (option_map g o) ≡ is_some o

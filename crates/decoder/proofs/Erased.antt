@@ -50,30 +50,30 @@ row_of_sums x y m n j ex ey em =
     e ∙ f ∙ ap (λ (v : ℕ). sum_of v (row_times sum_of product 0 (λ i. m i j) (λ i _. y i) n 0)) (sym g) ∙ ap (sum_of (row_times sum_of product 0 x m n j)) (sym h)
 
 module _ (g : Grid ℕ) (bytes : HasElements IsByte 0 g) (few : g.cols ≤ 255) (code : Encodes g.rows g.cols g) (missing repair : List ℕ) (h : AreErasures g.rows g.cols missing repair)
-    (w : Grid ℕ) (back : Recovers g missing repair w) (held y lacks : ℕ → ℕ) (eh : AreElements IsByte held) (el : AreElements IsByte lacks)
-    (lack : (m : ℕ) → m < length missing → lacks m ≡ sum_of (y m) (row_times sum_of product 0 held (entry 0 g) g.rows (get_or repair m 0)))
-    (none : (a : ℕ) → a < length missing → held (get_or missing a 0) ≡ 0) where
+    (w : Grid ℕ) (back : Recovers g missing repair w) (arrived_esis y lacks : ℕ → ℕ) (eh : AreElements IsByte arrived_esis) (el : AreElements IsByte lacks)
+    (lack : (m : ℕ) → m < length missing → lacks m ≡ sum_of (y m) (row_times sum_of product 0 arrived_esis (entry 0 g) g.rows (get_or repair m 0)))
+    (none : (a : ℕ) → a < length missing → arrived_esis (get_or missing a 0) ≡ 0) where
   gen_bytes : (i : ℕ) → AreElements IsByte (entry 0 g i)
   gen_bytes = elements_by_row IsByte 0 g bytes
 
-  module _ (x : ℕ → ℕ) (ex : AreElements IsByte x) (kept : (i : ℕ) → i < g.rows → ((a : ℕ) → a < length missing → get_or missing a 0 ≢ i) → x i ≡ held i) where
+  module _ (x : ℕ → ℕ) (ex : AreElements IsByte x) (kept : (i : ℕ) → i < g.rows → ((a : ℕ) → a < length missing → get_or missing a 0 ≢ i) → x i ≡ arrived_esis i) where
     abbrev more : ℕ → ℕ
-    more i = sum_of (x i) (held i)
+    more i = sum_of (x i) (arrived_esis i)
 
     more_bytes : AreElements IsByte more
-    more_bytes i = byte_field.add_element (x i) (held i) (ex i) (eh i)
+    more_bytes i = byte_field.add_element (x i) (arrived_esis i) (ex i) (eh i)
 
     more_none : (i : ℕ) → i < g.rows → ((a : ℕ) → a < length missing → get_or missing a 0 ≢ i) → more i ≡ 0
-    more_none i li apart = ap (λ (v : ℕ). sum_of v (held i)) (kept i li apart) ∙ xor_self (held i)
+    more_none i li apart = ap (λ (v : ℕ). sum_of v (arrived_esis i)) (kept i li apart) ∙ xor_self (arrived_esis i)
 
     more_here : (a : ℕ) → a < length missing → more (get_or missing a 0) ≡ x (get_or missing a 0)
     more_here a la = ap (sum_of (x (get_or missing a 0))) (none a la) ∙ xor_zero_r (x (get_or missing a 0))
 
     -- a row's products, by its missing symbols
-    by_missing : (m : ℕ) → sum_of (row_times sum_of product 0 x (entry 0 g) g.rows (get_or repair m 0)) (row_times sum_of product 0 held (entry 0 g) g.rows (get_or repair m 0))
+    by_missing : (m : ℕ) → sum_of (row_times sum_of product 0 x (entry 0 g) g.rows (get_or repair m 0)) (row_times sum_of product 0 arrived_esis (entry 0 g) g.rows (get_or repair m 0))
         ≡ row_times sum_of product 0 (λ a. x (get_or missing a 0)) (part_entry g missing repair) (length missing) m
     by_missing m =
-        sym (row_of_sums x held (entry 0 g) g.rows (get_or repair m 0) ex eh gen_bytes)
+        sym (row_of_sums x arrived_esis (entry 0 g) g.rows (get_or repair m 0) ex eh gen_bytes)
         ∙ spread_sum g bytes few code missing repair h more more_bytes more_none (get_or repair m 0)
         ∙ row_same (λ a. more (get_or missing a 0)) (λ a. x (get_or missing a 0)) (part_entry g missing repair) (length missing) m more_here
 
@@ -82,14 +82,14 @@ module _ (g : Grid ℕ) (bytes : HasElements IsByte 0 g) (few : g.cols ≤ 255) 
         → row_times sum_of product 0 lacks (entry 0 w) (length missing) a ≡ x (get_or missing a 0)
     worked_out gives a la =
         row_same lacks (row_times sum_of product 0 (λ a. x (get_or missing a 0)) (part_entry g missing repair) (length missing)) (entry 0 w) (length missing) a
-        (λ m lm. lack m lm ∙ ap (λ (v : ℕ). sum_of v (row_times sum_of product 0 held (entry 0 g) g.rows (get_or repair m 0))) (gives m lm) ∙ by_missing m)
+        (λ m lm. lack m lm ∙ ap (λ (v : ℕ). sum_of v (row_times sum_of product 0 arrived_esis (entry 0 g) g.rows (get_or repair m 0))) (gives m lm) ∙ by_missing m)
         ∙ back.back (λ a. x (get_or missing a 0)) (λ a. ex (get_or missing a 0)) a la
 
     -- a row with the missing bytes that are worked out gives the repair symbols
     pub gives_repair : ((a : ℕ) → a < length missing → x (get_or missing a 0) ≡ row_times sum_of product 0 lacks (entry 0 w) (length missing) a) → (m : ℕ) → m < length missing
         → row_times sum_of product 0 x (entry 0 g) g.rows (get_or repair m 0) ≡ y m
     gives_repair solved m lm =
-        sums_less _ _ (row_times sum_of product 0 held (entry 0 g) g.rows (get_or repair m 0))
+        sums_less _ _ (row_times sum_of product 0 arrived_esis (entry 0 g) g.rows (get_or repair m 0))
         (by_missing m
         ∙ row_same (λ a. x (get_or missing a 0)) (row_times sum_of product 0 lacks (entry 0 w) (length missing)) (part_entry g missing repair) (length missing) m solved
         ∙ back.forth lacks el m lm ∙ lack m lm)

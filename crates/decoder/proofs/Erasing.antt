@@ -34,15 +34,15 @@ module _ (at : ℕ → Option (List ℕ)) where
   pub erased_as : (k k2 n n2 : ℕ) (m m2 r r2 : List ℕ) → AreErased at k n m r → k ≡ k2 → n ≡ n2 → m2 ≡ m → r2 ≡ r → AreErased at k2 n2 m2 r2
   erased_as k k2 n n2 m m2 r r2 h e1 e2 e3 e4 = record {
     lost = those_same_as (λ j. not (is_some (at j))) 0 0 k k2 m m2 h.lost refl e1 e3;
-    came = those_same_as (λ j. is_some (at j)) k k2 n n2 r r2 h.came e1 e2 e4;
+    arrivals = those_same_as (λ j. is_some (at j)) k k2 n n2 r r2 h.arrivals e1 e2 e4;
   }
 
   module _ (k n : ℕ) (m r : List ℕ) (h : AreErased at k n m r) where
     pub enough_repair : k ≤ length (filter (λ j. is_some (at j)) (below n)) → length m ≤ length r
-    enough_repair enough = as_many (λ j. is_some (at j)) k n m r h.lost h.came enough
+    enough_repair enough = as_many (λ j. is_some (at j)) k n m r h.lost h.arrivals enough
 
     pub few_repair : length r ≤ n
-    few_repair = omega (arith, h.came.count, few_pass (λ j. is_some (at j)) n)
+    few_repair = omega (arith, h.arrivals.count, few_pass (λ j. is_some (at j)) n)
 
     pub erasures_of : (used : List ℕ) → length m ≤ length r → used ≡ take (length m) r → 0 < length m → AreErasures k n m used
     erasures_of used le is some =
@@ -52,11 +52,11 @@ module _ (at : ℕ → Option (List ℕ)) where
           some = some;
           count = count;
           source = h.lost.most;
-          beyond = λ i l. subst (λ (v : ℕ). k ≤ v) (sym (here i l)) (h.came.least i (omega (arith, l, count, le)));
-          within = λ i l. subst (λ (v : ℕ). v < n) (sym (here i l)) (h.came.most i (omega (arith, l, count, le)));
+          beyond = λ i l. subst (λ (v : ℕ). k ≤ v) (sym (here i l)) (h.arrivals.least i (omega (arith, l, count, le)));
+          within = λ i l. subst (λ (v : ℕ). v < n) (sym (here i l)) (h.arrivals.most i (omega (arith, l, count, le)));
           missing_rise = h.lost.rise;
           repair_rise = λ i j lt l.
               let low = here i (omega (arith, lt, l)) in
               let high = here j l in
-              omega (arith, low, high, h.came.rise i j lt (omega (arith, l, count, le)));
+              omega (arith, low, high, h.arrivals.rise i j lt (omega (arith, l, count, le)));
         }

@@ -10,7 +10,7 @@ use Rattle.std.specs.Set.{is_member}
 use Rattle.std.proofs.lemmas.Bool.{cases_Bool, cases_lt, or_left, or_right, and_from, and_parts, eqb-true, eq-eqb, not-false}
 use Rattle.std.proofs.lemmas.List.{get_or_append_left, get_or_push}
 use Rattle.std.proofs.lemmas.Option.{slice_get_within, get_or_from_slice_get}
-use Rattle.decoder.specs.Received.{stored, payload_id_cmp}
+use Rattle.decoder.specs.Received.{bytes_at, payload_id_cmp}
 use Rattle.decoder.proofs.Counts.{same_some}
 use Rattle.decoder.proofs.Index.{key_eq}
 
@@ -33,9 +33,9 @@ is_key left q = is_member (eq_by_cmp payload_id_cmp) left q
 
 -- the blocks of the keys that aren't left are listed, and no others
 pub record AreListed (m : BTreeMap (ℕ × ℕ) (Bor (List ℕ))) (left : List (ℕ × ℕ)) (blocks : List ℕ) : Type 0 where
-  pub all : (b j : ℕ) → is_some (stored m b j) ≡ true → (is_key left (b, j) ≡ true) ⊎ Stands blocks b
+  pub all : (b j : ℕ) → is_some (bytes_at m b j) ≡ true → (is_key left (b, j) ≡ true) ⊎ Stands blocks b
   pub rest : (q : ℕ × ℕ) → is_key left q ≡ true → is_some (get payload_id_cmp m q) ≡ true
-  pub some : (i : ℕ) → i < length blocks → (j : ℕ) × (is_some (stored m (get_or blocks i 0) j) ≡ true)
+  pub some : (i : ℕ) → i < length blocks → (j : ℕ) × (is_some (bytes_at m (get_or blocks i 0) j) ≡ true)
 
 module _ (m : BTreeMap (ℕ × ℕ) (Bor (List ℕ))) where
   pub listed_none : (left : List (ℕ × ℕ)) → ((q : ℕ × ℕ) → is_some (get payload_id_cmp m q) ≡ is_key left q) → AreListed m left []
@@ -46,13 +46,13 @@ module _ (m : BTreeMap (ℕ × ℕ) (Bor (List ℕ))) where
   }
 
   -- a key stands at its block
-  key_stored : (k : ℕ × ℕ) → is_some (get payload_id_cmp m k) ≡ true → is_some (stored m k.0 k.1) ≡ true
+  key_stored : (k : ℕ × ℕ) → is_some (get payload_id_cmp m k) ≡ true → is_some (bytes_at m k.0 k.1) ≡ true
   key_stored k h = same_some (λ s. s.now) _ ∙ h
 
   module _ (k : ℕ × ℕ) (left : List (ℕ × ℕ)) (blocks : List ℕ) (listed : AreListed m (k ∷ left) blocks) where
     -- where the key's block stands in a list that has what the one before had
     passed : (more : List ℕ) → ((b : ℕ) → Stands blocks b → Stands more b) → Stands more k.0
-        → (b j : ℕ) → is_some (stored m b j) ≡ true → (is_key left (b, j) ≡ true) ⊎ Stands more b
+        → (b j : ℕ) → is_some (bytes_at m b j) ≡ true → (is_key left (b, j) ≡ true) ⊎ Stands more b
     passed more keeps here b j h = elim (listed.all b j h) [
       | inr stands ↦ inr (keeps b stands)
       | inl member ↦ elim (cases_Bool (b == k.0 && j == k.1)) [
@@ -64,7 +64,7 @@ module _ (m : BTreeMap (ℕ × ℕ) (Bor (List ℕ))) where
     rest_left : (q : ℕ × ℕ) → is_key left q ≡ true → is_some (get payload_id_cmp m q) ≡ true
     rest_left q h = listed.rest q (or_right _ _ h)
 
-    here_some : is_some (stored m k.0 k.1) ≡ true
+    here_some : is_some (bytes_at m k.0 k.1) ≡ true
     here_some = key_stored k (listed.rest k (or_left _ _ (sym (key_eq k.0 k.1 k.0 k.1) ∙ and_from _ _ (eq-eqb k.0 k.0 refl) (eq-eqb k.1 k.1 refl))))
 
     -- the key's block is listed
@@ -90,7 +90,7 @@ module _ (m : BTreeMap (ℕ × ℕ) (Bor (List ℕ))) where
     listed_same here = record { all = passed blocks (λ b stands. stands) here; rest = rest_left; some = listed.some }
 
 -- where no key is left, all are listed
-pub listed_all : (m : BTreeMap (ℕ × ℕ) (Bor (List ℕ))) (blocks : List ℕ) → AreListed m [] blocks → (b j : ℕ) → is_some (stored m b j) ≡ true → Stands blocks b
+pub listed_all : (m : BTreeMap (ℕ × ℕ) (Bor (List ℕ))) (blocks : List ℕ) → AreListed m [] blocks → (b j : ℕ) → is_some (bytes_at m b j) ≡ true → Stands blocks b
 listed_all m blocks listed b j h = elim (listed.all b j h) [
   | inr stands ↦ stands
   | inl member ↦ absurd (cc)

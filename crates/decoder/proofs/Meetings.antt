@@ -47,7 +47,7 @@ module _ (at : ℕ → Option (List ℕ)) (size : ℕ) (g : Grid ℕ) (missing r
   meet rest_given c lc = record {
     source = λ i y li some. source_is i c y li lc some;
     repair = λ j y past lj some.
-        let w = erased.came.all j past lj (ap is_some some) in
+        let w = erased.arrivals.all j past lj (ap is_some some) in
         let here : byte_of (at j) c ≡ slice_index y c = ap (λ (o : Option (List ℕ)). byte_of o c) some in
         elim (cases_lt w.0 (length missing)) [
           | inl lt ↦
@@ -60,26 +60,26 @@ module _ (at : ℕ → Option (List ℕ)) (size : ℕ) (g : Grid ℕ) (missing r
   }
 
   -- what came at an ESI
-  came : (i : ℕ) → is_some (at i) ≡ true → (y : List ℕ) × (at i ≡ Some y)
-  came i yes_some = some_of (at i) yes_some
+  arrivals : (i : ℕ) → is_some (at i) ≡ true → (y : List ℕ) × (at i ≡ Some y)
+  arrivals i yes_some = some_of (at i) yes_some
 
   only : (c : ℕ) (x : ℕ → ℕ) → c < size → AreElements IsByte x → Meets at g c x → (i : ℕ) → i < g.rows → new i c ≡ x i
   only c x lc ex meets i li = elim (cases_Bool (is_some (at i))) [
-    | inl some ↦ (let w = came i some in source_is i c w.0 li lc w.1 ∙ sym (meets.source i w.0 li w.1))
+    | inl some ↦ (let w = arrivals i some in source_is i c w.0 li lc w.1 ∙ sym (meets.source i w.0 li w.1))
     | inr none ↦
         (let w = erased.lost.all i (omega (arith)) li (rw none refl) in
         subst (λ (n : ℕ). new n c ≡ x n) w.2
         (solved.only c x lc ex
         (λ n ln others. elim (cases_Bool (is_some (at n))) [
-          | inl some ↦ (let v = came n some in meets.source n v.0 ln v.1 ∙ sym (placed n c ln lc ∙ ap (λ (o : Option (List ℕ)). byte_of o c) v.1))
+          | inl some ↦ (let v = arrivals n some in meets.source n v.0 ln v.1 ∙ sym (placed n c ln lc ∙ ap (λ (o : Option (List ℕ)). byte_of o c) v.1))
           | inr gone ↦ (let v = erased.lost.all n (omega (arith)) ln (rw gone refl) in absurd (others v.0 v.1 v.2))
         ])
         (λ m lm.
         let lt : m < length missing = omega (arith, lm, used_count) in
         let inside : m < length repair = omega (arith, lt, enough) in
-        let v = came (slice_index repair m) (erased.came.pass m inside) in
+        let v = arrivals (slice_index repair m) (erased.arrivals.pass m inside) in
         subst (λ (n : ℕ). byte_of (at n) c ≡ given g x n) (sym (used_at m lt))
-        (ap (λ (o : Option (List ℕ)). byte_of o c) v.1 ∙ sym (meets.repair (slice_index repair m) v.0 (erased.came.least m inside) (erased.came.most m inside) v.1)))
+        (ap (λ (o : Option (List ℕ)). byte_of o c) v.1 ∙ sym (meets.repair (slice_index repair m) v.0 (erased.arrivals.least m inside) (erased.arrivals.most m inside) v.1)))
         w.0 w.1))
   ]
 
@@ -92,8 +92,8 @@ module _ (at : ℕ → Option (List ℕ)) (size : ℕ) (g : Grid ℕ) (missing r
   none_meets m c lm lc ne can =
       let x = can c lc in
       let inside : length missing + m < length repair = omega (arith, lm, left_count) in
-      let v = came (slice_index repair (length missing + m)) (erased.came.pass (length missing + m) inside) in
+      let v = arrivals (slice_index repair (length missing + m)) (erased.arrivals.pass (length missing + m) inside) in
       ne (subst (λ (n : ℕ). given g (λ i. new i c) n ≡ byte_of (at n) c) (sym (left_at m))
       (row_same (λ i. new i c) x.row (entry 0 g) g.rows (slice_index repair (length missing + m)) (λ i li. only c x.row lc x.bytes x.meets i li)
-      ∙ x.meets.repair (slice_index repair (length missing + m)) v.0 (erased.came.least (length missing + m) inside) (erased.came.most (length missing + m) inside) v.1
+      ∙ x.meets.repair (slice_index repair (length missing + m)) v.0 (erased.arrivals.least (length missing + m) inside) (erased.arrivals.most (length missing + m) inside) v.1
       ∙ sym (ap (λ (o : Option (List ℕ)). byte_of o c) v.1)))

@@ -117,29 +117,29 @@ module _ (f : Fti) (valid : IsValidFti f) (at : ℕ → ℕ → Option (List ℕ
 
 -- all blocks are full
 full_of : (f : Fti) (valid : IsValidFti f) (at : ℕ → ℕ → Option (List ℕ)) → ((b : ℕ) → b < block_count f → IsEnoughAt f b (at b))
-    → (came : List Symbol) → IsIndex came at → AllByRecursion (IsWithin f) came → AllFull f came
-full_of f valid at enough came index within b hb =
-    le-leb _ _ (omega (arith, held_is f came at b index within (omega (arith, counts f valid b hb)), enough b hb))
+    → (arrivals : List Symbol) → IsIndex arrivals at → AllByRecursion (IsWithin f) arrivals → AllFull f arrivals
+full_of f valid at enough arrivals index within b hb =
+    le-leb _ _ (omega (arith, held_is f arrivals at b index within (omega (arith, counts f valid b hb)), enough b hb))
 
 -- the object where there are no more blocks
 pub object_answers : (f : Fti) (valid : IsValidFti f) (at : ℕ → ℕ → Option (List ℕ)) (b : ℕ) (object : List ℕ) → SoFar f at b object → b ≡ block_count f
     → ((b : ℕ) → b < block_count f → IsEnoughAt f b (at b)) → Answers f at (value_of.Object object)
-object_answers f valid at b object so_far end enough came index within =
+object_answers f valid at b object so_far end enough arrivals index within =
     let form : IsObject f object = record { count = so_far.whole end; bytes = so_far.bytes } in
     let columns = λ (a c : ℕ) (la : a < block_count f) (lc : c < f.symbol_length). so_far.columns a c (omega (arith, la, end)) lc in
-    let full = full_of f valid at enough came index within in
-    (all_solvable f came at index within object form columns, full, fits_only_from f came at index within object form columns valid full)
+    let full = full_of f valid at enough arrivals index within in
+    (all_solvable f arrivals at index within object form columns, full, fits_only_from f arrivals at index within object form columns valid full)
 
 -- a block that isn't explained, where those before it are
 pub not_code_answers : (f : Fti) (valid : IsValidFti f) (at : ℕ → ℕ → Option (List ℕ)) (b : ℕ) (object : List ℕ) → SoFar f at b object → b < block_count f → IsUnexplained f b (at b)
     → ((b : ℕ) → b < block_count f → IsEnoughAt f b (at b)) → Answers f at (value_of.NotCode b)
-not_code_answers f valid at b object so_far hb none enough came index within =
+not_code_answers f valid at b object so_far hb none enough arrivals index within =
     let first = in_object f valid b 0 hb (omega (arith, counts f valid b hb)) in
     record {
       in_range = hb;
-      full = full_of f valid at enough came index within b hb;
-      unsolvable = λ s. none (solvable_gives f came at index b s);
-      least = λ a la full. solvable_from f came at index a (λ c lc.
+      full = full_of f valid at enough arrivals index within b hb;
+      unsolvable = λ s. none (solvable_gives f arrivals at index b s);
+      least = λ a la full. solvable_from f arrivals at index a (λ c lc.
           let w = so_far.columns a c la lc in
           record {
             polynomial = w.polynomial;

@@ -6,7 +6,7 @@ use Rattle.std.proofs.lemmas.Bool.{cases_Bool, cases_eq, le-leb, leb-true}
 use Rattle.lists.specs.Below.{below}
 use Rattle.partition.specs.Fti.{Fti, IsValidFti, block_count, source_count, encoding_count}
 use Rattle.partition.proofs.Laws.{counts}
-use Rattle.reception.specs.Symbols.{Symbol, held_count, is_full, Solvable, FullSolvable, IsFirstUnsolvable}
+use Rattle.reception.specs.Symbols.{Symbol, arrived_count, is_full, Solvable, FullSolvable, IsFirstUnsolvable}
 use Rattle.reception.specs.Within.{IsWithin}
 use Rattle.decoder.specs.Columns.{ColumnExplained}
 use Rattle.decoder.specs.Decoded.{AreWithin, AreRows, IsEnoughAt}
@@ -91,51 +91,51 @@ one_passes t (suc n) some = elim (cases_Bool (t n)) [
   | inr other ↦ one_passes t n (omega (arith, some, none_more_held t n other))
 ]
 
-module _ (f : Fti) (valid : IsValidFti f) (came : List Symbol) (at : ℕ → ℕ → Option (List ℕ)) (index : IsIndex came at) (within : AllByRecursion (IsWithin f) came) where
-  held_at_esis : (b : ℕ) → b < block_count f → held_count came b ≡ length (filter (λ j. is_some (at b j)) (below (encoding_count f b)))
-  held_at_esis b hb = held_is f came at b index within (counts f valid b hb).2
+module _ (f : Fti) (valid : IsValidFti f) (arrivals : List Symbol) (at : ℕ → ℕ → Option (List ℕ)) (index : IsIndex arrivals at) (within : AllByRecursion (IsWithin f) arrivals) where
+  held_at_esis : (b : ℕ) → b < block_count f → arrived_count arrivals b ≡ length (filter (λ j. is_some (at b j)) (below (encoding_count f b)))
+  held_at_esis b hb = held_is f arrivals at b index within (counts f valid b hb).2
 
-  enough_of_full : (b : ℕ) → b < block_count f → is_full f came b ≡ true → IsEnoughAt f b (at b)
-  enough_of_full b hb full = let l = leb-true (source_count f b) (held_count came b) full in omega (arith, l, held_at_esis b hb)
+  enough_of_full : (b : ℕ) → b < block_count f → is_full f arrivals b ≡ true → IsEnoughAt f b (at b)
+  enough_of_full b hb full = let l = leb-true (source_count f b) (arrived_count arrivals b) full in omega (arith, l, held_at_esis b hb)
 
-  full_of_enough : (b : ℕ) → b < block_count f → IsEnoughAt f b (at b) → is_full f came b ≡ true
-  full_of_enough b hb enough = le-leb (source_count f b) (held_count came b) (omega (arith, enough, held_at_esis b hb))
+  full_of_enough : (b : ℕ) → b < block_count f → IsEnoughAt f b (at b) → is_full f arrivals b ≡ true
+  full_of_enough b hb enough = le-leb (source_count f b) (arrived_count arrivals b) (omega (arith, enough, held_at_esis b hb))
 
   -- something came of a full block
-  something : (b : ℕ) → b < block_count f → is_full f came b ≡ true → (j : ℕ) × (is_some (at b j) ≡ true)
+  something : (b : ℕ) → b < block_count f → is_full f arrivals b ≡ true → (j : ℕ) × (is_some (at b j) ≡ true)
   something b hb full = one_passes (λ j. is_some (at b j)) (encoding_count f b) (omega (arith, enough_of_full b hb full, (counts f valid b hb).0))
 
   module _ (blocks : List ℕ) (all : (b j : ℕ) → is_some (at b j) ≡ true → Stands blocks b) where
     -- a full block is solvable where it's below the least that isn't sound
     solvable_below : (o : Option ℕ) → ((i : ℕ) → i < length blocks → IfSome o (λ x. get_or blocks i 0 < x) → IsSound f at (get_or blocks i 0))
-        → (a : ℕ) → a < block_count f → IfSome o (λ x. a < x) → is_full f came a ≡ true → Solvable f came a
+        → (a : ℕ) → a < block_count f → IfSome o (λ x. a < x) → is_full f arrivals a ≡ true → Solvable f arrivals a
     solvable_below o sound a ha before full =
         let w = something a ha full in
         let s = all a w.0 w.1 in
         let here = sound s.0 s.1 (subst (λ (x : ℕ). IfSome o (λ y. x < y)) (sym s.2) before) in
-        solvable_from f came at index a (subst (IsSound f at) s.2 here (enough_of_full a ha full))
+        solvable_from f arrivals at index a (subst (IsSound f at) s.2 here (enough_of_full a ha full))
 
     all_sound : (o : Option ℕ) → ((i : ℕ) → i < length blocks → IfSome o (λ x. get_or blocks i 0 < x) → IsSound f at (get_or blocks i 0))
-        → IsNone o → FullSolvable f came
+        → IsNone o → FullSolvable f arrivals
     all_sound None sound none = λ b hb full. solvable_below None sound b hb tt full
     all_sound (Some b) sound none = absurd (cc)
 
     first_is : (b : ℕ) → IsUnsound f at b → ((i : ℕ) → i < length blocks → get_or blocks i 0 < b → IsSound f at (get_or blocks i 0))
-        → IsFirstUnsolvable f came b
+        → IsFirstUnsolvable f arrivals b
     first_is b unsound sound = record {
       in_range = unsound.in_range;
       full = full_of_enough b unsound.in_range unsound.enough;
-      unsolvable = λ solvable. unsound.unexplained (solvable_gives f came at index b solvable);
+      unsolvable = λ solvable. unsound.unexplained (solvable_gives f arrivals at index b solvable);
       least = λ a less full. solvable_below (Some b) sound a (let r = unsound.in_range in omega (arith, less, r)) less full;
     }
 
 -- what each listed block's being sound says, of any list of the symbols
 module _ (f : Fti) (valid : IsValidFti f) (at : ℕ → ℕ → Option (List ℕ)) (blocks : List ℕ) (all : (b j : ℕ) → is_some (at b j) ≡ true → Stands blocks b) where
   pub none_gives : (o : Option ℕ) → LeastSoFar f at blocks (length blocks) o → IsNone o
-      → (came : List Symbol) → IsIndex came at → AllByRecursion (IsWithin f) came → FullSolvable f came
-  none_gives o so_far none came index within = all_sound f valid came at index within blocks all o so_far.sound none
+      → (arrivals : List Symbol) → IsIndex arrivals at → AllByRecursion (IsWithin f) arrivals → FullSolvable f arrivals
+  none_gives o so_far none arrivals index within = all_sound f valid arrivals at index within blocks all o so_far.sound none
 
   pub some_gives : (o : Option ℕ) → LeastSoFar f at blocks (length blocks) o
-      → IfSome o (λ b. (came : List Symbol) → IsIndex came at → AllByRecursion (IsWithin f) came → IsFirstUnsolvable f came b)
-  some_gives (Some b) so_far = λ came index within. first_is f valid came at index within blocks all b so_far.unsound so_far.sound
+      → IfSome o (λ b. (arrivals : List Symbol) → IsIndex arrivals at → AllByRecursion (IsWithin f) arrivals → IsFirstUnsolvable f arrivals b)
+  some_gives (Some b) so_far = λ arrivals index within. first_is f valid arrivals at index within blocks all b so_far.unsound so_far.sound
   some_gives None so_far = tt

@@ -1,6 +1,6 @@
 -- The answers of `decode`, as values.
 use Rattle.reception.specs.Answer as value
-use Rattle.reception.specs.Answer.{AnswerTo, came_of, Clashes}
+use Rattle.reception.specs.Answer.{AnswerTo, reception_of, Clashes}
 use Rattle.reception.specs.Reception.{Faulty, Judged}
 use Rattle.reception.specs.declared.scope.PlaceFault.TheVariants as fault
 use Rattle.decoder.specs.declared.answer.DecodeFault.{DecodeFault}

@@ -8,8 +8,8 @@ use Rattle.elim.specs.Matrices.{AreElements}
 use Rattle.elim.specs.Grid.{Grid, entry}
 
 -- the bytes of the symbol at an ESI, if it came
-abbrev pub arrived : List (Option (Bor (List ℕ))) → ℕ → Option (List ℕ)
-arrived received j = option_map (λ s. s.now) (slice_index_or received j None)
+abbrev pub bytes_of_esi : List (Option (Bor (List ℕ))) → ℕ → Option (List ℕ)
+bytes_of_esi received j = option_map (λ s. s.now) (slice_index_or received j None)
 
 -- byte c of a symbol, and zero of none
 abbrev pub byte_of : Option (List ℕ) → ℕ → ℕ

@@ -6,7 +6,7 @@ use Rattle.gf256.specs.Arithmetic.{point}
 use Rattle.poly.specs.Polynomial.{value, IsPolynomial}
 use Rattle.partition.specs.Fti.{Fti, block_count, source_count, encoding_count, source_place}
 use Rattle.lists.specs.Below.{below}
-use Rattle.reception.specs.Symbols.{Symbol, held_count, AllFull, FullSolvable, FitsOnly, IsFirstShort, IsFirstUnsolvable}
+use Rattle.reception.specs.Symbols.{Symbol, arrived_count, AllFull, FullSolvable, FitsOnly, IsFirstShort, IsFirstUnsolvable}
 use Rattle.reception.specs.Within.{IsWithin}
 use Rattle.reception.specs.Answer as value
 use Rattle.decoder.specs.declared.counting.Short.{Short}
@@ -47,24 +47,24 @@ IsUnexplained f b at = ((c : ℕ) → c < f.symbol_length → ColumnExplained f 
 
 -- the answer to symbols of which no datagram has a fault
 abbrev pub AnswerBy : Fti → List Symbol → value.Answer → Type 0
-AnswerBy f came (value.NotCode b) = IsFirstUnsolvable f came b
-AnswerBy f came (value.Missing b have need) =
-    FullSolvable f came × IsFirstShort f came b × (have ≡ held_count came b) × (need ≡ source_count f b)
-AnswerBy f came (value.Object object) = FullSolvable f came × AllFull f came × FitsOnly f came object
-AnswerBy f came _ = ⊥
+AnswerBy f arrivals (value.NotCode b) = IsFirstUnsolvable f arrivals b
+AnswerBy f arrivals (value.Missing b have need) =
+    FullSolvable f arrivals × IsFirstShort f arrivals b × (have ≡ arrived_count arrivals b) × (need ≡ source_count f b)
+AnswerBy f arrivals (value.Object object) = FullSolvable f arrivals × AllFull f arrivals × FitsOnly f arrivals object
+AnswerBy f arrivals _ = ⊥
 
 -- it answers all lists of symbols that stand so
 abbrev pub Answers : Fti → (ℕ → ℕ → Option (List ℕ)) → value.Answer → Type 0
-Answers f at answer = (came : List Symbol) → IsIndex came at → AllByRecursion (IsWithin f) came → AnswerBy f came answer
+Answers f at answer = (arrivals : List Symbol) → IsIndex arrivals at → AllByRecursion (IsWithin f) arrivals → AnswerBy f arrivals answer
 
 -- some symbols that the FTI has stand so
 pub record Stand (f : Fti) (at : ℕ → ℕ → Option (List ℕ)) : Type 0 where
-  pub came : List Symbol
-  pub index : IsIndex came at
-  pub within : AllByRecursion (IsWithin f) came
+  pub arrivals : List Symbol
+  pub index : IsIndex arrivals at
+  pub within : AllByRecursion (IsWithin f) arrivals
 
 -- the first block that is short, of all lists of symbols that stand so
 abbrev pub IsShort : Fti → (ℕ → ℕ → Option (List ℕ)) → Short → Type 0
 IsShort f at s =
-    (came : List Symbol) → IsIndex came at → AllByRecursion (IsWithin f) came
-    → IsFirstShort f came s.block × (s.have ≡ held_count came s.block) × (s.need ≡ source_count f s.block)
+    (arrivals : List Symbol) → IsIndex arrivals at → AllByRecursion (IsWithin f) arrivals
+    → IsFirstShort f arrivals s.block × (s.have ≡ arrived_count arrivals s.block) × (s.need ≡ source_count f s.block)

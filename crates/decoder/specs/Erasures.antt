@@ -19,7 +19,7 @@ pub record AreThose (t : ℕ → Bool) (from to : ℕ) (xs : List ℕ) : Type 0 
 -- the missing ones of the k source symbols, and the repair symbols that came, of n encoding symbols
 pub record AreErased (at : ℕ → Option (List ℕ)) (k n : ℕ) (missing repair : List ℕ) : Type 0 where
   pub lost : AreThose (λ j. not (is_some (at j))) 0 k missing
-  pub came : AreThose (λ j. is_some (at j)) k n repair
+  pub arrivals : AreThose (λ j. is_some (at j)) k n repair
 
 -- the source symbol isn't among the missing ones
 abbrev pub IsApart : List ℕ → ℕ → Type 0

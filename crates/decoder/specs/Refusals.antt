@@ -1,6 +1,6 @@
 -- Why datagrams aren't received.
 use Rattle.std.specs.Prelude.{ℕ, List}
-use Rattle.reception.specs.Answer.{AnswerTo, came_of}
+use Rattle.reception.specs.Answer.{AnswerTo, reception_of}
 use Rattle.reception.specs.Walks.{readings_of}
 use Rattle.decoder.specs.declared.received.Refusal.{Refusal}
 use Rattle.decoder.specs.declared.received.Refusal.TheVariants as refusal
@@ -8,5 +8,5 @@ use Rattle.decoder.specs.Answers.{fault_value}
 
 -- the datagrams aren't received for the first fault at a place, or for want of memory
 abbrev pub IsRefusal : List (List ℕ) → Refusal → Type 0
-IsRefusal datagrams (refusal.Fault e) = AnswerTo (came_of (readings_of datagrams)) (fault_value e)
+IsRefusal datagrams (refusal.Fault e) = AnswerTo (reception_of (readings_of datagrams)) (fault_value e)
 IsRefusal datagrams refusal.NoMemory = Unit {0}

@@ -2,7 +2,7 @@
 ghost use Rattle.std.specs.Prelude.{◌≡◌, ◌<◌, ◌^◌, length};
 ghost use Rattle.lists.specs.Bytes.{IsByte};
 ghost use Rattle.elim.specs.Grid.{IsMatrix};
-ghost use Rattle.decoder.specs.Blocks.{arrived, HaveLength};
+ghost use Rattle.decoder.specs.Blocks.{bytes_of_esi, HaveLength};
 
 use block_code::Code;
 
@@ -15,5 +15,5 @@ pub(crate) struct Block<'a> {
     ghost matrix: { IsMatrix IsByte 0 code.now.matrix },
     ghost all: { length received.now ≡ code.now.matrix.cols },
     ghost small: { size < 2 ^ 16 },
-    ghost symbols: { HaveLength size (arrived received.now) },
+    ghost symbols: { HaveLength size (bytes_of_esi received.now) },
 }

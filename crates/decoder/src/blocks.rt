@@ -3,9 +3,9 @@ ghost use Rattle.std.specs.Prelude.{◌≡◌, ◌≢◌, ◌<◌, ◌≤◌, �
 ghost use Rattle.partition.specs.Fti.{block_count, source_count, source_place};
 ghost use Rattle.block_code.specs.Codes.{EachBlockHas};
 ghost use Rattle.block_code.specs.CodesOf.{IsCodeOf};
-ghost use Rattle.decoder.specs.Blocks.{arrived};
+ghost use Rattle.decoder.specs.Blocks.{bytes_of_esi};
 ghost use Rattle.decoder.specs.Decoded.{AreWithin, IsEnoughAt, AreRows, IsUnexplained};
-ghost use Rattle.decoder.specs.Received.{stored};
+ghost use Rattle.decoder.specs.Received.{bytes_at};
 ghost use Rattle.decoder.specs.Rows.{byte_in, HasSizes};
 
 use crate::block::Block;
@@ -27,7 +27,7 @@ fn arrivals<'a>(
     requires { n ≤ 255 }
     ensures len { IfOk result (λ v. length v.items ≡ n) }
     ensures at { IfOk result
-        (λ v. (j : ℕ) → j < n → arrived v.items j ≡ stored symbols.now b j) }
+        (λ v. (j : ℕ) → j < n → bytes_of_esi v.items j ≡ bytes_at symbols.now b j) }
 {
     let mut arrivals = Vec::with_capacity(alloc, n)?;
     for esi in 0..n {
@@ -61,12 +61,12 @@ pub(crate) fn block_rows(
 ) -> Result<Option<Rows>, AllocError>
     requires number { b < block_count received.now.fti }
     requires codes { EachBlockHas (IsCodeOf received.now.fti) received.now.fti codes.now }
-    requires within { AreWithin received.now.fti (stored received.now.symbols) }
-    requires enough { IsEnoughAt received.now.fti b (stored received.now.symbols b) }
+    requires within { AreWithin received.now.fti (bytes_at received.now.symbols) }
+    requires enough { IsEnoughAt received.now.fti b (bytes_at received.now.symbols b) }
     ensures rows { IfOk result (λ o. IfSome o (λ rows.
-        AreRows received.now.fti b (stored received.now.symbols b) rows.bytes.items)) }
+        AreRows received.now.fti b (bytes_at received.now.symbols b) rows.bytes.items)) }
     ensures none { IfOk result (λ o. IsNone o
-        → IsUnexplained received.now.fti b (stored received.now.symbols b)) }
+        → IsUnexplained received.now.fti b (bytes_at received.now.symbols b)) }
 {
     let fti = &received.fti;
     let code = codes.of(fti.k(b));

@@ -3,9 +3,9 @@ ghost use Rattle.std.specs.Prelude.{◌≡◌, ◌≤◌, ℕ, List, length, fil
 ghost use Rattle.std.specs.List.{AllByRecursion};
 ghost use Rattle.lists.specs.Below.{below};
 ghost use Rattle.partition.specs.Fti.{source_count};
-ghost use Rattle.reception.specs.Symbols.{Symbol, held_count, AllFull, IsFirstShort};
+ghost use Rattle.reception.specs.Symbols.{Symbol, arrived_count, AllFull, IsFirstShort};
 ghost use Rattle.reception.specs.Within.{IsWithin};
-ghost use Rattle.decoder.specs.Received.{stored, IsIndex};
+ghost use Rattle.decoder.specs.Received.{bytes_at, IsIndex};
 
 use crate::received::Symbols;
 use partition::Fti;
@@ -24,7 +24,7 @@ pub(crate) struct Short {
 /// How many different ESIs below `n` came of a block.
 pub(crate) fn have(symbols: &Symbols<'_>, b: u32, n: usize) -> usize
     requires { n ≤ 255 }
-    ensures { result ≡ length (filter (λ j. is_some (stored symbols.now b j)) (below n)) }
+    ensures { result ≡ length (filter (λ j. is_some (bytes_at symbols.now b j)) (below n)) }
 {
     let mut count = 0;
     for j in 0..n {
@@ -37,12 +37,12 @@ pub(crate) fn have(symbols: &Symbols<'_>, b: u32, n: usize) -> usize
 
 /// The first block that has fewer encoding symbols than source symbols.
 pub(crate) fn first_short(symbols: &Symbols<'_>, fti: &Fti) -> Option<Short>
-    ensures short { (came : List Symbol) → IsIndex came (stored symbols.now)
-        → AllByRecursion (IsWithin fti.now) came
-        → IfSome result (λ s. IsFirstShort fti.now came s.block
-        × (s.have ≡ held_count came s.block) × (s.need ≡ source_count fti.now s.block)) }
-    ensures full { (came : List Symbol) → IsIndex came (stored symbols.now)
-        → AllByRecursion (IsWithin fti.now) came → IfNone result (AllFull fti.now came) }
+    ensures short { (arrivals : List Symbol) → IsIndex arrivals (bytes_at symbols.now)
+        → AllByRecursion (IsWithin fti.now) arrivals
+        → IfSome result (λ s. IsFirstShort fti.now arrivals s.block
+        × (s.have ≡ arrived_count arrivals s.block) × (s.need ≡ source_count fti.now s.block)) }
+    ensures full { (arrivals : List Symbol) → IsIndex arrivals (bytes_at symbols.now)
+        → AllByRecursion (IsWithin fti.now) arrivals → IfNone result (AllFull fti.now arrivals) }
 {
     for block in 0..fti.block_count() {
         let have = have(symbols, block, fti.n(block));

@@ -7,7 +7,7 @@ ghost use Rattle.block_code.specs.CodesOf.{IsCodeOf};
 ghost use Rattle.reception.specs.Answer.{IsAnswer};
 ghost use Rattle.decoder.specs.Answers.{answer_value};
 ghost use Rattle.decoder.specs.Decoded.{AreWithin, IsEnoughAt, Answers, Stand};
-ghost use Rattle.decoder.specs.Received.{stored};
+ghost use Rattle.decoder.specs.Received.{bytes_at};
 
 use crate::answer::{Answer, DecodeFault};
 use crate::blocks::block_rows;
@@ -35,11 +35,11 @@ fn decode_all(
     codes: &BlockCodes,
 ) -> Result<Answer, AllocError>
     requires codes { EachBlockHas (IsCodeOf received.now.fti) received.now.fti codes.now }
-    requires within { AreWithin received.now.fti (stored received.now.symbols) }
+    requires within { AreWithin received.now.fti (bytes_at received.now.symbols) }
     requires enough { (b : ℕ) → b < block_count received.now.fti
-        → IsEnoughAt received.now.fti b (stored received.now.symbols b) }
+        → IsEnoughAt received.now.fti b (bytes_at received.now.symbols b) }
     ensures { IfOk result (λ a.
-        Answers received.now.fti (stored received.now.symbols) (answer_value a)) }
+        Answers received.now.fti (bytes_at received.now.symbols) (answer_value a)) }
 {
     let fti = &received.fti;
     let mut object = Vec::with_capacity(alloc, fti.transfer_length() as usize)?;
@@ -55,9 +55,9 @@ fn decode_all(
 
 // What the symbols give.
 fn answer(alloc: Global, received: &Received<'_>) -> Result<Answer, AllocError>
-    requires { Stand received.now.fti (stored received.now.symbols) }
+    requires { Stand received.now.fti (bytes_at received.now.symbols) }
     ensures { IfOk result (λ a.
-        Answers received.now.fti (stored received.now.symbols) (answer_value a)) }
+        Answers received.now.fti (bytes_at received.now.symbols) (answer_value a)) }
 {
     received.fti.is_valid();
     let codes = BlockCodes::new(alloc, Kind::Generator, &received.fti)?;

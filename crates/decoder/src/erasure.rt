@@ -1,6 +1,6 @@
 //! Which source symbols of a block are missing, and which repair symbols came.
 ghost use Rattle.std.specs.Prelude.{◌≡◌, ◌<◌, ◌≤◌, ℕ, not, length, slice_index, is_some, IfOk};
-ghost use Rattle.decoder.specs.Blocks.{arrived};
+ghost use Rattle.decoder.specs.Blocks.{bytes_of_esi};
 ghost use Rattle.decoder.specs.Erasures.{AreThose, AreErased};
 
 use std::alloc::{AllocError, Global};
@@ -17,7 +17,7 @@ fn missing_esis(alloc: Global, received: &[Option<&[u8]>], k: usize) -> Result<V
     requires few { k ≤ 255 }
     requires within { k ≤ length received.now }
     ensures { IfOk result
-        (λ v. AreThose (λ j. not (is_some (arrived received.now j))) 0 k v.items) }
+        (λ v. AreThose (λ j. not (is_some (bytes_of_esi received.now j))) 0 k v.items) }
 {
     let mut missing = Vec::new(alloc);
     for i in 0..k {
@@ -33,7 +33,7 @@ fn repair_esis(alloc: Global, received: &[Option<&[u8]>], k: usize) -> Result<Ve
     requires few { length received.now ≤ 255 }
     requires within { k ≤ length received.now }
     ensures { IfOk result
-        (λ v. AreThose (λ j. is_some (arrived received.now j)) k (length received.now) v.items) }
+        (λ v. AreThose (λ j. is_some (bytes_of_esi received.now j)) k (length received.now) v.items) }
 {
     let mut repair = Vec::new(alloc);
     for j in k..received.len() {
@@ -53,7 +53,7 @@ pub(crate) fn erasure_of(
     requires few { length received.now ≤ 255 }
     requires within { k ≤ length received.now }
     ensures { IfOk result
-        (λ e. AreErased (arrived received.now) k (length received.now)
+        (λ e. AreErased (bytes_of_esi received.now) k (length received.now)
         e.missing.items e.repair.items) }
 {
     let missing = missing_esis(alloc, received, k)?;

@@ -6,7 +6,7 @@ ghost use Rattle.reception.specs.Reception.{Faulty, symbol_of};
 ghost use Rattle.reception.specs.Answer.{Fault, clashes};
 ghost use Rattle.decoder.specs.Answers.{fault_value};
 ghost use Rattle.decoder.specs.Refusals.{IsRefusal};
-ghost use Rattle.decoder.specs.Received.{stored, IsIndex, AreReceived, IsNothing};
+ghost use Rattle.decoder.specs.Received.{bytes_at, IsIndex, AreReceived, IsNothing};
 
 use crate::answer::DecodeFault;
 use alc::Packet;
@@ -34,7 +34,7 @@ pub(crate) struct Received<'a> {
 
 // Whether an earlier symbol of the packet's block and ESI has other bytes.
 fn is_clash(symbols: &Symbols<'_>, packet: &Packet<'_>) -> bool
-    ensures { (earlier : List Symbol) → IsIndex earlier (stored symbols.now)
+    ensures { (earlier : List Symbol) → IsIndex earlier (bytes_at symbols.now)
         → result ≡ clashes earlier (symbol_of (packet_of packet.now)) }
 {
     match symbols.get(&(packet.sbn, packet.esi)) {
@@ -58,10 +58,10 @@ fn fault_at(place: usize, fault: PlaceFault) -> DecodeFault
 // Puts the packet's symbol at its block and ESI.
 fn keep<'a>(symbols: &mut Symbols<'a>, packet: &Packet<'a>) -> Result<(), AllocError>
     ensures here { OnOk result
-        (stored symbols.new packet.now.sbn packet.now.esi ≡ Some packet.now.symbol.now) }
+        (bytes_at symbols.new packet.now.sbn packet.now.esi ≡ Some packet.now.symbol.now) }
     ensures elsewhere { OnOk result
         ((b j : ℕ) → (packet.now.sbn == b && packet.now.esi == j) ≡ false
-        → stored symbols.new b j ≡ stored symbols.old b j) }
+        → bytes_at symbols.new b j ≡ bytes_at symbols.old b j) }
 {
     symbols.insert((packet.sbn, packet.esi), packet.symbol)?;
     Ok(())
@@ -73,7 +73,7 @@ pub(crate) fn receive<'a>(
     datagrams: &[&'a [u8]],
 ) -> Result<Option<Received<'a>>, Refusal>
     ensures received { IfOk result (λ o. IfSome o (λ r.
-        AreReceived (map (λ d. d.now) datagrams.now) r.fti (stored r.symbols))) }
+        AreReceived (map (λ d. d.now) datagrams.now) r.fti (bytes_at r.symbols))) }
     ensures nothing { IfOk result (λ o. IsNone o → IsNothing (map (λ d. d.now) datagrams.now)) }
     ensures refusal { IfErr result (IsRefusal (map (λ d. d.now) datagrams.now)) }
 {

@@ -5,7 +5,7 @@ ghost use Rattle.gf256.specs.Arithmetic.{sum_of};
 ghost use Rattle.elim.specs.Generator.{Encodes};
 ghost use Rattle.elim.specs.Erasures.{AreErasures, AreRising};
 ghost use Rattle.decoder.specs.Rows.{byte_in, HasSizes, SameSizes};
-ghost use Rattle.decoder.specs.Blocks.{arrived, byte_of, given, AreCoefficients, AreOnly, CanBeMet};
+ghost use Rattle.decoder.specs.Blocks.{bytes_of_esi, byte_of, given, AreCoefficients, AreOnly, CanBeMet};
 ghost use Rattle.decoder.specs.Erasures.{Keeps, AreSolved};
 
 use crate::block::Block;
@@ -24,7 +24,7 @@ fn symbols_at(alloc: Global, block: &Block<'_>, esis: &[u8]) -> Result<Rows, All
     ensures symbols { IfOk result (λ rows. (m c : ℕ)
         → m < length esis.now → c < block.now.size
         → byte_in rows m c
-        ≡ byte_of (arrived block.now.received.now (slice_index esis.now m)) c) }
+        ≡ byte_of (bytes_of_esi block.now.received.now (slice_index esis.now m)) c) }
 {
     let mut rows = Rows::zeros(alloc, esis.len(), block.size)?;
     for m in 0..esis.len() {
@@ -61,7 +61,7 @@ fn residuals(alloc: Global, block: &Block<'_>, esis: &[u8], rows: &Rows) -> Resu
     ensures sizes { IfOk result (HasSizes (length esis.now) block.now.size) }
     ensures sums { IfOk result (λ sums. (m c : ℕ) → m < length esis.now → c < block.now.size
         → byte_in sums m c
-        ≡ sum_of (byte_of (arrived block.now.received.now (slice_index esis.now m)) c)
+        ≡ sum_of (byte_of (bytes_of_esi block.now.received.now (slice_index esis.now m)) c)
         (given block.now.code.now.matrix (λ i. byte_in rows.now i c) (slice_index esis.now m))) }
 {
     let mut sums = symbols_at(alloc, block, esis)?;
@@ -104,7 +104,7 @@ fn solve(
     requires empty { (a c : ℕ) → a < length missing.now → c < block.now.size
         → byte_in rows.old (slice_index missing.now a) c ≡ 0 }
     ensures sizes { SameSizes rows.old rows.new }
-    ensures solved { OnOk result (AreSolved (arrived block.now.received.now)
+    ensures solved { OnOk result (AreSolved (bytes_of_esi block.now.received.now)
         missing.now repair.now block.now.size block.now.code.now.matrix
         (byte_in rows.old) (byte_in rows.new)) }
 {
@@ -128,14 +128,14 @@ pub(crate) fn recover(alloc: Global, block: &Block<'_>) -> Result<Option<Rows>, 
     requires code { Encodes block.now.code.now.matrix.rows block.now.code.now.matrix.cols
         block.now.code.now.matrix }
     requires enough { block.now.code.now.matrix.rows
-        ≤ length (filter (λ j. is_some (arrived block.now.received.now j))
+        ≤ length (filter (λ j. is_some (bytes_of_esi block.now.received.now j))
         (below block.now.code.now.matrix.cols)) }
     ensures sizes { IfOk result (λ o. IfSome o
         (HasSizes block.now.code.now.matrix.rows block.now.size)) }
-    ensures rows { IfOk result (λ o. IfSome o (λ rows. AreOnly (arrived block.now.received.now)
+    ensures rows { IfOk result (λ o. IfSome o (λ rows. AreOnly (bytes_of_esi block.now.received.now)
         block.now.code.now.matrix block.now.size (byte_in rows))) }
     ensures none { IfOk result (λ o. IsNone o
-        → CanBeMet (arrived block.now.received.now) block.now.code.now.matrix block.now.size
+        → CanBeMet (bytes_of_esi block.now.received.now) block.now.code.now.matrix block.now.size
         → ⊥) }
 {
     let k = block.code.matrix.rows();

@@ -6,7 +6,7 @@ ghost use Rattle.block_code.specs.CodesOf.{IsCodeOf};
 ghost use Rattle.reception.specs.Symbols.{Symbol, FullSolvable, IsFirstUnsolvable};
 ghost use Rattle.reception.specs.Within.{IsWithin};
 ghost use Rattle.decoder.specs.Decoded.{AreWithin};
-ghost use Rattle.decoder.specs.Received.{stored, IsIndex};
+ghost use Rattle.decoder.specs.Received.{bytes_at, IsIndex};
 
 use crate::blocks::block_rows;
 use crate::counting::have;
@@ -16,10 +16,10 @@ use std::alloc::{AllocError, Global};
 
 // The source blocks of which something came.
 fn blocks_of(alloc: Global, symbols: &Symbols<'_>) -> Result<Vec<u32>, AllocError>
-    ensures all { IfOk result (λ v. (b j : ℕ) → is_some (stored symbols.now b j) ≡ true
+    ensures all { IfOk result (λ v. (b j : ℕ) → is_some (bytes_at symbols.now b j) ≡ true
         → (i : ℕ) × (i < length v.items) × (slice_index v.items i ≡ b)) }
     ensures some { IfOk result (λ v. (i : ℕ) → i < length v.items
-        → (j : ℕ) × (is_some (stored symbols.now (slice_index v.items i) j) ≡ true)) }
+        → (j : ℕ) × (is_some (bytes_at symbols.now (slice_index v.items i) j) ≡ true)) }
 {
     let mut blocks = Vec::new(alloc);
     for key in symbols.keys() {
@@ -47,15 +47,15 @@ pub(crate) fn first_unsolvable(
     codes: &BlockCodes,
 ) -> Result<Option<u32>, AllocError>
     requires codes { EachBlockHas (IsCodeOf received.now.fti) received.now.fti codes.now }
-    requires within { AreWithin received.now.fti (stored received.now.symbols) }
-    ensures none { IfOk result (λ o. IsNone o → (came : List Symbol)
-        → IsIndex came (stored received.now.symbols)
-        → AllByRecursion (IsWithin received.now.fti) came
-        → FullSolvable received.now.fti came) }
-    ensures some { IfOk result (λ o. IfSome o (λ b. (came : List Symbol)
-        → IsIndex came (stored received.now.symbols)
-        → AllByRecursion (IsWithin received.now.fti) came
-        → IsFirstUnsolvable received.now.fti came b)) }
+    requires within { AreWithin received.now.fti (bytes_at received.now.symbols) }
+    ensures none { IfOk result (λ o. IsNone o → (arrivals : List Symbol)
+        → IsIndex arrivals (bytes_at received.now.symbols)
+        → AllByRecursion (IsWithin received.now.fti) arrivals
+        → FullSolvable received.now.fti arrivals) }
+    ensures some { IfOk result (λ o. IfSome o (λ b. (arrivals : List Symbol)
+        → IsIndex arrivals (bytes_at received.now.symbols)
+        → AllByRecursion (IsWithin received.now.fti) arrivals
+        → IsFirstUnsolvable received.now.fti arrivals b)) }
 {
     let fti = &received.fti;
     fti.is_valid();

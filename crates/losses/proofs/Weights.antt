@@ -10,7 +10,7 @@ use Rattle.losses.proofs.Grouping.{any_is, count_cons, has_members}
 use Rattle.losses.proofs.Link.{copies_are}
 use Rattle.lists.proofs.Lists.{all_of, all_to, filter_all, filter_same}
 use Rattle.losses.proofs.Places.{places_from}
-use Rattle.losses.specs.Costs.{IsWeighed, came, cheap_esis, cheap_places, cheapest_of, copies, cost_of, esi_copies, esis, is_cheap, total}
+use Rattle.losses.specs.Costs.{IsWeighed, present_esis, cheap_esis, cheap_places, cheapest_of, copies, cost_of, esi_copies, esis, is_cheap, total}
 use Rattle.losses.specs.Losses.{IsRising}
 use Rattle.losses.specs.Members.{different_outside, has_esi, outside}
 use Rattle.losses.specs.Windows.{filled, member, members}
@@ -23,7 +23,7 @@ total_at : (f g : ℕ → ℕ) (xs : List ℕ) → AllByRecursion (λ x. f x ≡
 total_at f g xs h = total_same f g xs h
 
 module _ (counts : List ℕ) (qs : List Member) (known : (j : ℕ) → j < 256 → get_or counts j 0 ≡ esi_copies qs j) where
-  pub came_is : came counts ≡ esis qs
+  pub came_is : present_esis counts ≡ esis qs
   came_is = filter_same (λ j. nat_lt 0 (slice_index counts j)) (λ j. nat_lt 0 (esi_copies qs j)) (below 256) (all_to (λ j. j < 256) _ (λ j l. ap (nat_lt 0) (known j l)) (below 256) (below_all 256 256 (omega arith)))
 
   pub esis_small : AllByRecursion (λ j. j < 256) (esis qs)
@@ -123,7 +123,7 @@ module _ (b : ℕ) (ps : List Number) where
       ap (map (λ (q : Member). q.place)) (filter_members (λ q. is_cheap (esi_copies (members b 0 ps)) t last q.esi) (λ q. is_cheap (copies b ps) t last q.esi) (members b 0 ps) (λ q. cheap_same t last q.esi))
       ∙ places_are (is_cheap (copies b ps) t last) 0 ps
 
-pub cost_fits : (counts : List ℕ) (qs : List Member) → ((j : ℕ) → j < 256 → get_or counts j 0 ≡ esi_copies qs j) → cost_of counts (came counts) ≤ length qs
+pub cost_fits : (counts : List ℕ) (qs : List Member) → ((j : ℕ) → j < 256 → get_or counts j 0 ≡ esi_copies qs j) → cost_of counts (present_esis counts) ≤ length qs
 cost_fits counts qs known =
     let a = cost_is counts qs known (esis qs) (esis_small counts qs known) in
     let b = ap (cost_of counts) (came_is counts qs known) in

@@ -32,12 +32,12 @@ abbrev pub priced : (ℕ → ℕ) → List ℕ → List Pair
 priced cost esis = map (λ j. (cost j, j)) esis
 
 -- the ESIs that came, by how often each did; rising
-abbrev pub came : List ℕ → List ℕ
-came counts = filter (λ j. nat_lt 0 (slice_index counts j)) (below 256)
+abbrev pub present_esis : List ℕ → List ℕ
+present_esis counts = filter (λ j. nat_lt 0 (slice_index counts j)) (below 256)
 
 -- those up to (t, last) in the order of (cost, ESI)
 abbrev pub cheapest_of : List ℕ → ℕ → ℕ → List ℕ
-cheapest_of counts t last = filter (is_cheap (slice_index counts) t last) (came counts)
+cheapest_of counts t last = filter (is_cheap (slice_index counts) t last) (present_esis counts)
 
 -- what ESIs cost
 abbrev pub cost_of : List ℕ → List ℕ → ℕ

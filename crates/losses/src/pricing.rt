@@ -1,7 +1,7 @@
 //! The cheapest symbols of a block.
 ghost use Rattle.std.specs.Prelude.{◌≡◌, ℕ, ◌+◌, ◌-◌, ◌<◌, ◌≤◌, ◌^◌, length, slice_index, IfOk, sum_by};
 ghost use Rattle.losses.specs.Windows.{filled};
-ghost use Rattle.losses.specs.Costs.{priced, came, cheapest_of, cost_of};
+ghost use Rattle.losses.specs.Costs.{priced, present_esis, cheapest_of, cost_of};
 
 use std::alloc::{AllocError, Global};
 
@@ -9,13 +9,13 @@ use std::alloc::{AllocError, Global};
 #[derive(Clone, Copy)]
 pub(crate) struct Threshold {
     pub(crate) cost: usize,
-    pub(crate) copies: usize,
-    pub(crate) last: u8,
+    pub(crate) most_copies: usize,
+    pub(crate) last_esi: u8,
 }
 
 // Each ESI that came, behind its copies.
 fn pairs_of(alloc: Global, copies: &[usize; 256]) -> Result<Vec<(usize, u8)>, AllocError>
-    ensures { IfOk result (λ v. v.items ≡ priced (slice_index copies.now) (came copies.now)) }
+    ensures { IfOk result (λ v. v.items ≡ priced (slice_index copies.now) (present_esis copies.now)) }
 {
     let mut pairs = Vec::new(alloc);
     for esi in 0..256usize {
@@ -46,10 +46,10 @@ pub(crate) fn cheapest(
 ) -> Result<Threshold, AllocError>
     requires some { 0 < spare }
     requires enough { spare ≤ filled copies.now }
-    requires fits { cost_of copies.now (came copies.now) < 2 ^ 64 }
-    ensures count { IfOk result (λ c. length (cheapest_of copies.now c.copies c.last) ≡ spare) }
+    requires fits { cost_of copies.now (present_esis copies.now) < 2 ^ 64 }
+    ensures count { IfOk result (λ c. length (cheapest_of copies.now c.most_copies c.last_esi) ≡ spare) }
     ensures cost { IfOk result (λ c.
-        c.cost ≡ cost_of copies.now (cheapest_of copies.now c.copies c.last)) }
+        c.cost ≡ cost_of copies.now (cheapest_of copies.now c.most_copies c.last_esi)) }
 {
     let mut pairs = pairs_of(alloc, copies)?;
     pairs.sort()?;
@@ -57,7 +57,7 @@ pub(crate) fn cheapest(
     let last = pairs[spare - 1];
     Ok(Threshold {
         cost,
-        copies: last.0,
-        last: last.1,
+        most_copies: last.0,
+        last_esi: last.1,
     })
 }

@@ -35,15 +35,15 @@ pub fn figures_of(alloc: Global, groups: &[Group]) -> Result<Figures, AllocError
     let first = weigh(alloc, &groups[0].members, groups[0].need)?;
     let mut at = 0;
     let mut threshold = first.threshold;
-    let mut burst = first.gap;
+    let mut burst = first.burst;
     for block in 1..groups.len() {
         let weight = weigh(alloc, &groups[block].members, groups[block].need)?;
         if weight.threshold.cost < threshold.cost {
             threshold = weight.threshold;
             at = block;
         }
-        if weight.gap < burst {
-            burst = weight.gap;
+        if weight.burst < burst {
+            burst = weight.burst;
         }
     }
     let kill = doomed_places(alloc, &groups[at].members, threshold)?;

@@ -10,11 +10,11 @@ use crate::pricing::{Threshold, cheapest};
 use crate::window::least_gap;
 use std::alloc::{AllocError, Global};
 
-/// The cheapest symbols whose loss leaves a block short, and how far the places of the narrowest run that does lie apart.
+/// What leaves a block short: the cheapest symbols to lose, and how many neighbouring places it can lose wherever they stand.
 #[derive(Clone, Copy)]
 pub(crate) struct Weight {
     pub(crate) threshold: Threshold,
-    pub(crate) gap: usize,
+    pub(crate) burst: usize,
 }
 
 /// The cheapest loss and the narrowest run that leave a block fewer than `need` different ESIs.
@@ -23,23 +23,24 @@ pub(crate) fn weigh(alloc: Global, members: &[Member], need: usize) -> Result<We
     requires some { 0 < need }
     requires enough { need ≤ different_outside members.now 0 0 }
     ensures cut { IfOk result (λ w.
-        IsWeighed members.now need w.threshold.cost w.threshold.copies w.threshold.last) }
-    ensures gap { IfOk result (λ w. IsLeastGap members.now need w.gap) }
+        IsWeighed members.now need w.threshold.cost w.threshold.most_copies w.threshold.last_esi) }
+    ensures burst { IfOk result (λ w. IsLeastGap members.now need w.burst) }
 {
     let copies = copies_of(members);
-    let came = different(&copies);
-    let threshold = cheapest(alloc, &copies, came - need + 1)?;
-    let gap = least_gap(members, need);
-    Ok(Weight { threshold, gap })
+    let esi_count = different(&copies);
+    let threshold = cheapest(alloc, &copies, esi_count - need + 1)?;
+    // The narrowest run that leaves the block short is longer by one place.
+    let burst = least_gap(members, need);
+    Ok(Weight { threshold, burst })
 }
 
 // Whether an ESI with so many copies is among the cheapest.
 fn is_up_to(copies: usize, esi: u8, threshold: Threshold) -> bool
     ensures { result
-        ≡ (nat_lt copies threshold.copies
-        || (copies == threshold.copies && nat_le esi threshold.last)) }
+        ≡ (nat_lt copies threshold.most_copies
+        || (copies == threshold.most_copies && nat_le esi threshold.last_esi)) }
 {
-    copies < threshold.copies || (copies == threshold.copies && esi <= threshold.last)
+    copies < threshold.most_copies || (copies == threshold.most_copies && esi <= threshold.last_esi)
 }
 
 /// All places of the cheapest symbols.
@@ -49,7 +50,7 @@ pub(crate) fn doomed_places(
     threshold: Threshold,
 ) -> Result<Vec<usize>, AllocError>
     ensures { IfOk result (λ v.
-        v.items ≡ cheap_places members.now threshold.copies threshold.last) }
+        v.items ≡ cheap_places members.now threshold.most_copies threshold.last_esi) }
 {
     let copies = copies_of(members);
     let mut places = Vec::new(alloc);

@@ -4,7 +4,7 @@ use Rattle.std.proofs.Common.{◌∙◌, sym, ap, subst}
 use Rattle.std.proofs.lemmas.List.{append_assoc, append-nil}
 use Rattle.reception.specs.declared.scope.Scope.{Scope}
 use Rattle.reception.specs.Symbols.{Symbol}
-use Rattle.reception.specs.Reception.{Judge, Wrong, Found, Placed, counted, symbols, symbols_in, or_else, at_place, reading_wrong, wrong_after, first_wrong, came_with}
+use Rattle.reception.specs.Reception.{Judge, Wrong, Found, Placed, counted, symbols, symbols_in, or_else, at_place, reading_wrong, wrong_after, first_wrong, reception_with}
 use Rattle.reception.specs.First.{IsFirstAt, TellsTheFirst}
 use Rattle.reception.proofs.Walk.{symbols_more, wrong_more}
 use Rattle.reception.proofs.Within.{neither, nowhere}
@@ -61,6 +61,6 @@ module _ {R : Type 0} (judge : Judge R) (f : Scope) where
 
 pub tells_the_first : {R : Type 0} (judge : Judge R) (known : Scope) → TellsTheFirst judge known
 tells_the_first judge known rs i r = (
-  λ h. some_from judge (came_with judge known rs).scope [] (counted rs) i r refl h,
-  λ h. told judge (came_with judge known rs).scope (counted rs) i r h,
+  λ h. some_from judge (reception_with judge known rs).scope [] (counted rs) i r refl h,
+  λ h. told judge (reception_with judge known rs).scope (counted rs) i r h,
 )

@@ -9,7 +9,7 @@ use Rattle.poly.specs.Polynomial.{value, IsPolynomial}
 use Rattle.partition.specs.Fti.{Fti, IsValidFti, source_count, encoding_count, source_byte}
 use Rattle.lists.specs.Below.{below}
 use Rattle.partition.proofs.Laws.{counts, covers}
-use Rattle.reception.specs.Symbols.{Symbol, is_of, is_held, held, is_full, AllFull, Agrees, Fits, FitsOnly}
+use Rattle.reception.specs.Symbols.{Symbol, is_of, has_arrived, arrived_esis, is_full, AllFull, Agrees, Fits, FitsOnly}
 use Rattle.poly.proofs.Lists.{all_weaker}
 use Rattle.lists.proofs.Lists.{both, either, all_both, all_filter, all_take, some_member}
 use Rattle.lists.proofs.Below.{all_below, length_below}
@@ -18,11 +18,11 @@ use Rattle.poly.proofs.Bytes.{same_polynomial}
 use Rattle.reception.proofs.Different.{different_below, different_filter, different_take}
 
 -- a symbol that was found, and what holds of all that came
-pub found : (P : Symbol → Type 0) (b j : ℕ) (came : List Symbol) → is_held came b j ≡ true → AllByRecursion P came
+pub found : (P : Symbol → Type 0) (b j : ℕ) (arrivals : List Symbol) → has_arrived arrivals b j ≡ true → AllByRecursion P arrivals
     → (y : List ℕ) × P (record { block = b; esi = j; bytes = y })
 found P b j [] h all = absurd (cc)
 found P b j (s ∷ ss) h all =
-    elim (either (is_of b j s) (is_held ss b j) h) [
+    elim (either (is_of b j s) (has_arrived ss b j) h) [
       | inl e ↦
           (let t = both (s.block == b) (s.esi == j) e in (
             s.bytes,
@@ -43,26 +43,26 @@ same_source f object p q b c small hp hq sp sq =
     (all_below (λ i. value p (point i) ≡ value q (point i)) _ (λ i h. sp i h ∙ sym (sq i h)))
 
 -- the source symbols of a full block are those of one object
-pub column_same : (f : Fti) (came : List Symbol) (o o2 : List ℕ) (b c : ℕ)
-    → AllByRecursion (λ s. Agrees f o s × Agrees f o2 s) came → is_full f came b ≡ true
+pub column_same : (f : Fti) (arrivals : List Symbol) (o o2 : List ℕ) (b c : ℕ)
+    → AllByRecursion (λ s. Agrees f o s × Agrees f o2 s) arrivals → is_full f arrivals b ≡ true
     → 1 ≤ source_count f b → source_count f b ≤ 255 → encoding_count f b ≤ 255 → c < f.symbol_length
     → (i : ℕ) → i < source_count f b → source_byte f o b i c ≡ source_byte f o2 b i c
-column_same f came o o2 b c agree full some small few hc i hi =
+column_same f arrivals o o2 b c agree full some small few hc i hi =
     let k = source_count f b in
-    let enough : source_count f b ≤ length (held came b) = leb-true _ _ full in
-    let js = take (source_count f b) (held came b) in
-    let len : length (take (source_count f b) (held came b)) ≡ source_count f b = length-take-le _ _ enough in
-    let here : AllByRecursion (λ j. is_held came b j ≡ true) (take (source_count f b) (held came b)) =
-    all_take (λ j. is_held came b j ≡ true) _ _
-    (all_weaker (λ j. (is_held came b j ≡ true) × (j < 256)) (λ j. is_held came b j ≡ true) (λ j h. h.0) _
-    (all_filter (λ j. j < 256) (is_held came b) (below 256) (all_below (λ j. j < 256) 256 (λ j h. h)))) in
-    let apart : AreDifferent (take (source_count f b) (held came b)) =
-    different_take _ _ (different_filter (is_held came b) (below 256) (different_below 256)) in
-    let one = some_member (λ j. is_held came b j ≡ true) js (omega arith) here in
-    let at = λ (j : ℕ) (h : is_held came b j ≡ true). found (λ s. Agrees f o s × Agrees f o2 s) b j came h agree in
+    let enough : source_count f b ≤ length (arrived_esis arrivals b) = leb-true _ _ full in
+    let js = take (source_count f b) (arrived_esis arrivals b) in
+    let len : length (take (source_count f b) (arrived_esis arrivals b)) ≡ source_count f b = length-take-le _ _ enough in
+    let here : AllByRecursion (λ j. has_arrived arrivals b j ≡ true) (take (source_count f b) (arrived_esis arrivals b)) =
+    all_take (λ j. has_arrived arrivals b j ≡ true) _ _
+    (all_weaker (λ j. (has_arrived arrivals b j ≡ true) × (j < 256)) (λ j. has_arrived arrivals b j ≡ true) (λ j h. h.0) _
+    (all_filter (λ j. j < 256) (has_arrived arrivals b) (below 256) (all_below (λ j. j < 256) 256 (λ j h. h)))) in
+    let apart : AreDifferent (take (source_count f b) (arrived_esis arrivals b)) =
+    different_take _ _ (different_filter (has_arrived arrivals b) (below 256) (different_below 256)) in
+    let one = some_member (λ j. has_arrived arrivals b j ≡ true) js (omega arith) here in
+    let at = λ (j : ℕ) (h : has_arrived arrivals b j ≡ true). found (λ s. Agrees f o s × Agrees f o2 s) b j arrivals h agree in
     let a = (at one.0 one.1).1.0.columns c hc in
     let d = (at one.0 one.1).1.1.columns c hc in
-    let meet = λ (j : ℕ) (h : is_held came b j ≡ true).
+    let meet = λ (j : ℕ) (h : has_arrived arrivals b j ≡ true).
     (let g = at j h in
     let x = g.1.0.columns c hc in
     let y = g.1.1.columns c hc in
@@ -71,14 +71,14 @@ column_same f came o o2 b c agree full some small few hc i hi =
     ∙ sym (ap (λ (p : List ℕ). value p (point j)) (same_source f o2 d.polynomial y.polynomial b c small d.form y.form d.source y.source))) in
     let p_is_q : a.polynomial ≡ d.polynomial =
     same_polynomial (source_count f b) a.polynomial d.polynomial js a.form d.form len
-    (all_weaker (λ j. is_held came b j ≡ true) (λ j. j < 255) (λ j h. let e = (at j h).1.0.esi in omega arith) js here)
+    (all_weaker (λ j. has_arrived arrivals b j ≡ true) (λ j. j < 255) (λ j h. let e = (at j h).1.0.esi in omega arith) js here)
     apart
-    (all_weaker (λ j. is_held came b j ≡ true) (λ j. value a.polynomial (point j) ≡ value d.polynomial (point j)) meet js here) in
+    (all_weaker (λ j. has_arrived arrivals b j ≡ true) (λ j. value a.polynomial (point j) ≡ value d.polynomial (point j)) meet js here) in
     sym (a.source i hi) ∙ ap (λ (p : List ℕ). value p (point i)) p_is_q ∙ d.source i hi
 
 -- where all blocks are full, what came fits one object only
-pub fits_only : (f : Fti) (came : List Symbol) (o : List ℕ) → IsValidFti f → AllFull f came → Fits f came o → FitsOnly f came o
-fits_only f came o valid full fits = record {
+pub fits_only : (f : Fti) (arrivals : List Symbol) (o : List ℕ) → IsValidFti f → AllFull f arrivals → Fits f arrivals o → FitsOnly f arrivals o
+fits_only f arrivals o valid full fits = record {
   fits = fits;
   only = λ o2 other.
       same_number_lists o2 o (other.form.count ∙ sym fits.form.count)
@@ -86,7 +86,7 @@ fits_only f came o valid full fits = record {
       let hl : x < f.transfer_length = omega (arith, other.form.count) in
       let w = covers f valid x hl in
       let n = counts f valid w.0 w.3 in
-      let e = column_same f came o o2 w.0 w.2
-      (all_both (Agrees f o) (Agrees f o2) came fits.agrees other.agrees) (full w.0 w.3) n.0 n.1 n.2 w.5 w.1 w.4 in
+      let e = column_same f arrivals o o2 w.0 w.2
+      (all_both (Agrees f o) (Agrees f o2) arrivals fits.agrees other.agrees) (full w.0 w.3) n.0 n.1 n.2 w.5 w.1 w.4 in
       sym (subst (λ (y : ℕ). slice_index o y ≡ slice_index o2 y) w.6 e));
 }

@@ -7,12 +7,12 @@ use Rattle.alc.specs.Reading.{Reading}
 use Rattle.reception.specs.declared.scope.Identity.{Identity}
 use Rattle.reception.specs.declared.scope.Scope.{Scope}
 use Rattle.reception.specs.Symbols.{Symbol}
-use Rattle.reception.specs.Reception.{Judge, Found, Placed, Came, counted, symbols, symbols_in, identity_in, carried, or_later, learned, scope_from, or_else, at_place, reading_wrong, wrong_after, first_wrong, came_with}
+use Rattle.reception.specs.Reception.{Judge, Found, Placed, Reception, counted, symbols, symbols_in, identity_in, carried, or_later, learned, scope_from, or_else, at_place, reading_wrong, wrong_after, first_wrong, reception_with}
 use Rattle.reception.specs.Walks.{step, Timely, IsTimely}
 use Rattle.reception.proofs.Walk.{counted_one_more, symbols_more, scope_more, or_else_none, wrong_more}
 
 came_is : {R : Type 0} (a b : Found R) (f g : Scope) (s t : List Symbol) → a ≡ b → f ≡ g → s ≡ t
-    → ◌≡◌ {A = Came R} (record { wrong = a; scope = f; symbols = s }) (record { wrong = b; scope = g; symbols = t })
+    → ◌≡◌ {A = Reception R} (record { wrong = a; scope = f; symbols = s }) (record { wrong = b; scope = g; symbols = t })
 came_is a b f g s t h k l = cc
 
 -- ---- what is known stays known
@@ -87,7 +87,7 @@ module _ {R : Type 0} (judge : Judge R) where
 
   -- what holds with one reading more is a step from what held before
   pub one_more : (known : Scope) (rs : List Reading) (r : Reading)
-      → came_with judge known (rs ++ r ∷ []) ≡ step judge (length rs) (came_with judge known rs) r
+      → reception_with judge known (rs ++ r ∷ []) ≡ step judge (length rs) (reception_with judge known rs) r
   one_more known rs r =
       let xs = counted rs in
       let x : Placed = record { place = length rs; reading = r } in
@@ -105,14 +105,14 @@ module _ {R : Type 0} (judge : Judge R) where
       (symbols_more xs (x ∷ []) ∙ ap (λ (ss : List Symbol). symbols xs ++ ss) (append-nil (symbols_in r)))
 
   -- what is wrong in the beginning of a list is wrong in the list
-  pub stays_wrong : (known : Scope) (rs ss : List Reading) (x : ℕ × _) → (came_with judge known rs).wrong ≡ Some x
-      → (came_with judge known (rs ++ ss)).wrong ≡ Some x
-  stays_wrong known rs [] x h = subst (λ (ts : List Reading). (came_with judge known ts).wrong ≡ Some x) (sym (append-nil rs)) h
+  pub stays_wrong : (known : Scope) (rs ss : List Reading) (x : ℕ × _) → (reception_with judge known rs).wrong ≡ Some x
+      → (reception_with judge known (rs ++ ss)).wrong ≡ Some x
+  stays_wrong known rs [] x h = subst (λ (ts : List Reading). (reception_with judge known ts).wrong ≡ Some x) (sym (append-nil rs)) h
   stays_wrong known rs (s ∷ ss) x h =
-      let one : (came_with judge known (rs ++ s ∷ [])).wrong ≡ Some x =
-      ap (λ (c : Came R). c.wrong) (one_more known rs s)
+      let one : (reception_with judge known (rs ++ s ∷ [])).wrong ≡ Some x =
+      ap (λ (c : Reception R). c.wrong) (one_more known rs s)
       ∙ ap (λ (o : Found R). or_else o (at_place (length rs) (reading_wrong judge (learned (scope_from known (counted rs)) s) (symbols (counted rs)) s))) h in
-      subst (λ (ts : List Reading). (came_with judge known ts).wrong ≡ Some x) (one_behind rs s ss) (stays_wrong known (rs ++ s ∷ []) ss x one)
+      subst (λ (ts : List Reading). (reception_with judge known ts).wrong ≡ Some x) (one_behind rs s ss) (stays_wrong known (rs ++ s ∷ []) ss x one)
     where
       one_behind : (xs : List Reading) (y : Reading) (zs : List Reading) → (xs ++ y ∷ []) ++ zs ≡ xs ++ y ∷ zs
       one_behind [] y zs = refl

@@ -12,7 +12,7 @@ use Rattle.reception.specs.declared.scope.Identity.{Identity}
 use Rattle.reception.specs.declared.scope.Scope.{Scope}
 use Rattle.reception.specs.declared.scope.PlaceFault.{PlaceFault}
 use Rattle.reception.specs.Symbols.{Symbol}
-use Rattle.reception.specs.Reception.{Judge, Wrong, Found, Came, counted, symbols, symbols_in, learned, look, look_by, or_packet, packet_fault, wrong_by, or_else, at_place, reading_wrong, came_with}
+use Rattle.reception.specs.Reception.{Judge, Wrong, Found, Reception, counted, symbols, symbols_in, learned, look, look_by, or_packet, packet_fault, wrong_by, or_else, at_place, reading_wrong, reception_with}
 use Rattle.reception.specs.Step.{told, looked, IsLook}
 use Rattle.reception.specs.Walks.{readings_of}
 use Rattle.reception.proofs.Stepping.{one_more, stays_wrong, after_packet}
@@ -23,8 +23,8 @@ reading_here ds i d r e l here h = get_or-map read_of ds i [] e l ∙ ap read_of
 
 -- the datagrams before a place have nothing wrong, and this is known of them
 pub record Walked {R : Type 0} (judge : Judge R) (known : Scope) (ds : List (List ℕ)) (place : ℕ) (scope : Scope) : Type 0 where
-  pub clean : (came_with judge known (take place (readings_of ds))).wrong ≡ None
-  pub holds : (came_with judge known (take place (readings_of ds))).scope ≡ scope
+  pub clean : (reception_with judge known (take place (readings_of ds))).wrong ≡ None
+  pub holds : (reception_with judge known (take place (readings_of ds))).scope ≡ scope
 
 -- the symbols of the datagrams before a place
 abbrev pub came_before : List (List ℕ) → ℕ → List Symbol
@@ -46,33 +46,33 @@ module _ {R : Type 0} (judge : Judge R) (known : Scope) (ds : List (List ℕ)) w
     long = length-take-le place (readings_of ds) (omega (arith, inside, length-map ds read_of))
 
     -- what is known with this datagram
-    pub now : came_with judge known (take (place + 1) (readings_of ds)) ≡ told judge place (came_with judge known (take place (readings_of ds))) at.reading
+    pub now : reception_with judge known (take (place + 1) (readings_of ds)) ≡ told judge place (reception_with judge known (take place (readings_of ds))) at.reading
     now =
-        ap (λ (l : List Reading). came_with judge known l) front ∙ one_more judge known (take place (readings_of ds)) at.reading
-        ∙ ap (λ (n : ℕ). told judge n (came_with judge known (take place (readings_of ds))) at.reading) long
+        ap (λ (l : List Reading). reception_with judge known l) front ∙ one_more judge known (take place (readings_of ds)) at.reading
+        ∙ ap (λ (n : ℕ). told judge n (reception_with judge known (take place (readings_of ds))) at.reading) long
 
-    wrong_here : reading_wrong judge (learned (came_with judge known (take place (readings_of ds))).scope at.reading) (came_before ds place) at.reading
+    wrong_here : reading_wrong judge (learned (reception_with judge known (take place (readings_of ds))).scope at.reading) (came_before ds place) at.reading
         ≡ wrong_by judge (came_before ds place) (looked answer)
     wrong_here =
         ap (λ (s : Scope). reading_wrong judge (learned s at.reading) (came_before ds place) at.reading) w.holds
         ∙ ap (λ (s : Scope). reading_wrong judge s (came_before ds place) at.reading) (sym at.scope)
         ∙ ap (λ (a : Result (Option Packet) PlaceFault). wrong_by judge (came_before ds place) a) (sym at.told)
 
-    wrong_now : (came_with judge known (take (place + 1) (readings_of ds))).wrong ≡ at_place place (wrong_by judge (came_before ds place) (looked answer))
+    wrong_now : (reception_with judge known (take (place + 1) (readings_of ds))).wrong ≡ at_place place (wrong_by judge (came_before ds place) (looked answer))
     wrong_now =
-        ap (λ (c : Came R). c.wrong) now
-        ∙ ap (λ (o : Found R). or_else o (at_place place (reading_wrong judge (learned (came_with judge known (take place (readings_of ds))).scope at.reading) (came_before ds place) at.reading))) w.clean
+        ap (λ (c : Reception R). c.wrong) now
+        ∙ ap (λ (o : Found R). or_else o (at_place place (reading_wrong judge (learned (reception_with judge known (take place (readings_of ds))).scope at.reading) (came_before ds place) at.reading))) w.clean
         ∙ ap (λ (o : Option (Wrong R)). at_place place o) wrong_here
 
     -- something is wrong at the place, and so of the whole list
-    pub stops : (r : Wrong R) → wrong_by judge (came_before ds place) (looked answer) ≡ Some r → (came_with judge known (readings_of ds)).wrong ≡ Some (place, r)
+    pub stops : (r : Wrong R) → wrong_by judge (came_before ds place) (looked answer) ≡ Some r → (reception_with judge known (readings_of ds)).wrong ≡ Some (place, r)
     stops r is =
-        subst (λ (l : List Reading). (came_with judge known l).wrong ≡ Some (place, r)) (take-append-drop (place + 1) (readings_of ds))
+        subst (λ (l : List Reading). (reception_with judge known l).wrong ≡ Some (place, r)) (take-append-drop (place + 1) (readings_of ds))
         (stays_wrong judge known (take (place + 1) (readings_of ds)) (drop (place + 1) (readings_of ds)) (place, r)
         (wrong_now ∙ ap (λ (o : Option (Wrong R)). at_place place o) is))
 
     -- where nothing is wrong in the whole list, nothing is at the place
-    pub passes : (came_with judge known (readings_of ds)).wrong ≡ None → wrong_by judge (came_before ds place) (looked answer) ≡ None
+    pub passes : (reception_with judge known (readings_of ds)).wrong ≡ None → wrong_by judge (came_before ds place) (looked answer) ≡ None
     passes none = by (wrong_by judge (came_before ds place) (looked answer)) refl
       where
         by : (o : Option (Wrong R)) → wrong_by judge (came_before ds place) (looked answer) ≡ o → wrong_by judge (came_before ds place) (looked answer) ≡ None
@@ -83,20 +83,20 @@ module _ {R : Type 0} (judge : Judge R) (known : Scope) (ds : List (List ℕ)) w
     pub goes_on : wrong_by judge (came_before ds place) (looked answer) ≡ None → Walked judge known ds (place + 1) new
     goes_on is = record {
       clean = wrong_now ∙ ap (λ (o : Option (Wrong R)). at_place place o) is;
-      holds = ap (λ (c : Came R). c.scope) now ∙ ap (λ (s : Scope). learned s at.reading) w.holds ∙ sym at.scope;
+      holds = ap (λ (c : Reception R). c.scope) now ∙ ap (λ (s : Scope). learned s at.reading) w.holds ∙ sym at.scope;
     }
 
     -- the symbols with this datagram's
     pub symbols_now : came_before ds (place + 1) ≡ came_before ds place ++ symbols_in at.reading
-    symbols_now = ap (λ (c : Came R). c.symbols) now
+    symbols_now = ap (λ (c : Reception R). c.symbols) now
 
   -- all datagrams were looked at
   pub ends : (place : ℕ) (scope : Scope) → Walked judge known ds place scope → length ds ≤ place
-      → ((came_with judge known (readings_of ds)).wrong ≡ None) × ((came_with judge known (readings_of ds)).scope ≡ scope)
+      → ((reception_with judge known (readings_of ds)).wrong ≡ None) × ((reception_with judge known (readings_of ds)).scope ≡ scope)
   ends place scope w l =
       let whole : take place (readings_of ds) ≡ readings_of ds = take_all place (readings_of ds) (omega (arith, l, length-map ds read_of)) in (
-        subst (λ (rs : List Reading). (came_with judge known rs).wrong ≡ None) whole w.clean,
-        subst (λ (rs : List Reading). (came_with judge known rs).scope ≡ scope) whole w.holds,
+        subst (λ (rs : List Reading). (reception_with judge known rs).wrong ≡ None) whole w.clean,
+        subst (λ (rs : List Reading). (reception_with judge known rs).scope ≡ scope) whole w.holds,
       )
 
 pub came_all : (ds : List (List ℕ)) (place : ℕ) → length ds ≤ place → came_before ds place ≡ symbols (counted (readings_of ds))

@@ -13,7 +13,7 @@ use Rattle.reception.specs.declared.scope.PlaceFault.{PlaceFault}
 use Rattle.reception.specs.declared.scope.PlaceFault.TheVariants.{OtherIdentity, OtherFti, Range}
 use Rattle.reception.specs.Symbols.{Symbol}
 use Rattle.reception.specs.Within.{IsWithin}
-use Rattle.reception.specs.Reception.{ReadAll, Judge, Wrong, Placed, counted_from, counted, learned, scope_from, symbols_in, symbols, is_of_identity, same_fti, in_range, packet_fault, or_packet, wrong_by, or_else, at_place, reading_wrong, wrong_after, IsClean, came_with}
+use Rattle.reception.specs.Reception.{ReadAll, Judge, Wrong, Placed, counted_from, counted, learned, scope_from, symbols_in, symbols, is_of_identity, same_fti, in_range, packet_fault, or_packet, wrong_by, or_else, at_place, reading_wrong, wrong_after, IsClean, reception_with}
 use Rattle.reception.proofs.Stepping.{scope, stays, after_packet}
 
 pub fti_same : (f g : Fti) → same_fti f g ≡ true → f ≡ g
@@ -124,7 +124,7 @@ within_all who f i (d ∷ ds) (Ok p ∷ rs) read h =
 
 -- where nothing is wrong, and the FTI is known
 pub within : {R : Type 0} (judge : Judge R) (known : Scope) (ds : List (List ℕ)) (rs : List Reading) (f : Fti) → ReadAll ds rs
-    → IsClean (came_with judge known rs) f → AllByRecursion (IsWithin f) (symbols (counted rs))
+    → IsClean (reception_with judge known rs) f → AllByRecursion (IsWithin f) (symbols (counted rs))
 within judge known [] [] f read h = tt
 within judge known [] (r ∷ rs) f read h = absurd read
 within judge known (d ∷ ds) [] f read h = absurd read

@@ -4,8 +4,8 @@ use Rattle.std.specs.List.{list_any}
 use Rattle.partition.specs.Fti.{Fti, source_count}
 use Rattle.alc.specs.PacketFault.{same}
 use Rattle.alc.specs.Reading.{Reading}
-use Rattle.reception.specs.Symbols.{Symbol, held_count, AllFull, FullSolvable, FitsOnly, IsFirstShort, IsFirstUnsolvable}
-use Rattle.reception.specs.Reception.{ReadAll, Judge, Wrong, Came, came_with, unknown, IsClean}
+use Rattle.reception.specs.Symbols.{Symbol, arrived_count, AllFull, FullSolvable, FitsOnly, IsFirstShort, IsFirstUnsolvable}
+use Rattle.reception.specs.Reception.{ReadAll, Judge, Wrong, Reception, reception_with, unknown, IsClean}
 
 -- what a decoder says against a symbol in range
 pub data Clash : Type 0 where
@@ -26,26 +26,26 @@ pub data Answer : Type 0 where
   Object : List ℕ → Answer
 
 -- what came, to a decoder, who knows nothing before
-abbrev pub came_of : List Reading → Came Clash
-came_of rs = came_with clash unknown rs
+abbrev pub reception_of : List Reading → Reception Clash
+reception_of rs = reception_with clash unknown rs
 
 -- The answer, by cases in this order: the first that is wrong at a place; nothing came; a full block that no object
 -- explains; a short block; the object.
-abbrev pub AnswerTo : Came Clash → Answer → Type 0
-AnswerTo came (Fault i r) = came.wrong ≡ Some (i, r)
-AnswerTo came Empty = (came.wrong ≡ None) × (came.scope.fti ≡ None)
-AnswerTo came (NotCode b) = (f : Fti) × IsClean came f × IsFirstUnsolvable f came.symbols b
-AnswerTo came (Missing b have need) =
-    (f : Fti) × IsClean came f × FullSolvable f came.symbols × IsFirstShort f came.symbols b
-    × (have ≡ held_count came.symbols b) × (need ≡ source_count f b)
-AnswerTo came (Object object) =
-    (f : Fti) × IsClean came f × FullSolvable f came.symbols × AllFull f came.symbols × FitsOnly f came.symbols object
+abbrev pub AnswerTo : Reception Clash → Answer → Type 0
+AnswerTo reception (Fault i r) = reception.wrong ≡ Some (i, r)
+AnswerTo reception Empty = (reception.wrong ≡ None) × (reception.scope.fti ≡ None)
+AnswerTo reception (NotCode b) = (f : Fti) × IsClean reception f × IsFirstUnsolvable f reception.symbols b
+AnswerTo reception (Missing b have need) =
+    (f : Fti) × IsClean reception f × FullSolvable f reception.symbols × IsFirstShort f reception.symbols b
+    × (have ≡ arrived_count reception.symbols b) × (need ≡ source_count f b)
+AnswerTo reception (Object object) =
+    (f : Fti) × IsClean reception f × FullSolvable f reception.symbols × AllFull f reception.symbols × FitsOnly f reception.symbols object
 
 -- the answer to these datagrams
 pub record IsAnswer (datagrams : List (List ℕ)) (answer : Answer) : Type 0 where
   pub readings : List Reading
   pub read : ReadAll datagrams readings
-  pub answers : AnswerTo (came_of readings) answer
+  pub answers : AnswerTo (reception_of readings) answer
 
 -- it is the answer, and there is no other
 pub record IsOnlyAnswer (datagrams : List (List ℕ)) (answer : Answer) : Type 0 where

@@ -2,7 +2,7 @@
 use Rattle.std.specs.Prelude.{◌≡◌, ◌↔◌, ℕ, List, ◌∷◌, ◌++◌, Some, None}
 use Rattle.alc.specs.Reading.{Reading}
 use Rattle.reception.specs.declared.scope.Scope.{Scope}
-use Rattle.reception.specs.Reception.{Judge, Wrong, Placed, counted, symbols, reading_wrong, came_with}
+use Rattle.reception.specs.Reception.{Judge, Wrong, Placed, counted, symbols, reading_wrong, reception_with}
 
 -- At place i this is wrong, by the symbols that came before; and nothing is at a place before it.
 pub record IsFirstAt {R : Type 0} (judge : Judge R) (scope : Scope) (xs : List Placed) (i : ℕ) (r : Wrong R) : Type 0 where
@@ -18,4 +18,4 @@ pub record IsFirstAt {R : Type 0} (judge : Judge R) (scope : Scope) (xs : List P
 abbrev pub TellsTheFirst : {R : Type 0} → Judge R → Scope → Type 0
 TellsTheFirst {R} judge known =
     (rs : List Reading) (i : ℕ) (r : Wrong R)
-    → ((came_with judge known rs).wrong ≡ Some (i, r)) ↔ IsFirstAt judge (came_with judge known rs).scope (counted rs) i r
+    → ((reception_with judge known rs).wrong ≡ Some (i, r)) ↔ IsFirstAt judge (reception_with judge known rs).scope (counted rs) i r

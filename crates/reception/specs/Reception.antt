@@ -174,19 +174,19 @@ abbrev pub first_wrong : {R : Type 0} → Judge R → Scope → List Placed → 
 first_wrong judge scope xs = wrong_after judge scope [] xs
 
 -- All that is said above of a list: the first that is wrong, the scope that holds, and the symbols.
-pub record Came (R : Type 0) : Type 0 where
+pub record Reception (R : Type 0) : Type 0 where
   pub wrong : Found R
   pub scope : Scope
   pub symbols : List Symbol
 
-abbrev pub came_with : {R : Type 0} → Judge R → Scope → List Reading → Came R
-came_with judge known rs = record {
+abbrev pub reception_with : {R : Type 0} → Judge R → Scope → List Reading → Reception R
+reception_with judge known rs = record {
   wrong = first_wrong judge (scope_from known (counted rs)) (counted rs);
   scope = scope_from known (counted rs);
   symbols = symbols (counted rs);
 }
 
 -- nothing wrong at any place, and this FTI
-pub record IsClean {R : Type 0} (came : Came R) (f : Fti) : Type 0 where
-  pub clean : came.wrong ≡ None
-  pub some : came.scope.fti ≡ Some f
+pub record IsClean {R : Type 0} (reception : Reception R) (f : Fti) : Type 0 where
+  pub clean : reception.wrong ≡ None
+  pub some : reception.scope.fti ≡ Some f

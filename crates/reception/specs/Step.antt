@@ -6,10 +6,10 @@ use Rattle.alc.specs.Views.{packet_of}
 use Rattle.alc.specs.declared.reading.Packet.{Packet as ReadPacket}
 use Rattle.reception.specs.declared.scope.Scope.{Scope}
 use Rattle.reception.specs.declared.scope.PlaceFault.{PlaceFault}
-use Rattle.reception.specs.Reception.{Judge, Came, symbols_in, learned, look, or_else, at_place, reading_wrong}
+use Rattle.reception.specs.Reception.{Judge, Reception, symbols_in, learned, look, or_else, at_place, reading_wrong}
 
 -- what comes to be known by a reading that counts, at place i
-abbrev pub told : {R : Type 0} → Judge R → ℕ → Came R → Reading → Came R
+abbrev pub told : {R : Type 0} → Judge R → ℕ → Reception R → Reading → Reception R
 told judge i c r = record {
   wrong = or_else c.wrong (at_place i (reading_wrong judge (learned c.scope r) c.symbols r));
   scope = learned c.scope r;

@@ -17,27 +17,27 @@ abbrev pub is_of : ℕ → ℕ → Symbol → Bool
 is_of b j s = s.block == b && s.esi == j
 
 -- whether symbol j of block b came
-abbrev pub is_held : List Symbol → ℕ → ℕ → Bool
-is_held came b j = list_any (is_of b j) came
+abbrev pub has_arrived : List Symbol → ℕ → ℕ → Bool
+has_arrived arrivals b j = list_any (is_of b j) arrivals
 
 -- the different ESIs of block b that came, rising
-abbrev pub held : List Symbol → ℕ → List ℕ
-held came b = filter (is_held came b) (below 256)
+abbrev pub arrived_esis : List Symbol → ℕ → List ℕ
+arrived_esis arrivals b = filter (has_arrived arrivals b) (below 256)
 
-abbrev pub held_count : List Symbol → ℕ → ℕ
-held_count came b = length (held came b)
+abbrev pub arrived_count : List Symbol → ℕ → ℕ
+arrived_count arrivals b = length (arrived_esis arrivals b)
 
 abbrev pub is_full : Fti → List Symbol → ℕ → Bool
-is_full f came b = nat_le (source_count f b) (held_count came b)
+is_full f arrivals b = nat_le (source_count f b) (arrived_count arrivals b)
 
 abbrev pub AllFull : Fti → List Symbol → Type 0
-AllFull f came = (b : ℕ) → b < block_count f → is_full f came b ≡ true
+AllFull f arrivals = (b : ℕ) → b < block_count f → is_full f arrivals b ≡ true
 
 -- the least short block
-pub record IsFirstShort (f : Fti) (came : List Symbol) (b : ℕ) : Type 0 where
+pub record IsFirstShort (f : Fti) (arrivals : List Symbol) (b : ℕ) : Type 0 where
   pub in_range : b < block_count f
-  pub short : is_full f came b ≡ false
-  pub least : (a : ℕ) → a < b → is_full f came a ≡ true
+  pub short : is_full f arrivals b ≡ false
+  pub least : (a : ℕ) → a < b → is_full f arrivals a ≡ true
 
 -- One polynomial with as many coefficients as the block has source symbols passes through this column of
 -- the object's source symbols, and through y at the point of symbol j.
@@ -60,38 +60,38 @@ pub record IsObject (f : Fti) (object : List ℕ) : Type 0 where
   pub bytes : AreBytes object
 
 -- an object with which all that came agrees
-pub record Fits (f : Fti) (came : List Symbol) (object : List ℕ) : Type 0 where
+pub record Fits (f : Fti) (arrivals : List Symbol) (object : List ℕ) : Type 0 where
   pub form : IsObject f object
-  pub agrees : AllByRecursion (Agrees f object) came
+  pub agrees : AllByRecursion (Agrees f object) arrivals
 
 -- that object and no other
-pub record FitsOnly (f : Fti) (came : List Symbol) (object : List ℕ) : Type 0 where
-  pub fits : Fits f came object
-  pub only : (other : List ℕ) → Fits f came other → other ≡ object
+pub record FitsOnly (f : Fti) (arrivals : List Symbol) (object : List ℕ) : Type 0 where
+  pub fits : Fits f arrivals object
+  pub only : (other : List ℕ) → Fits f arrivals other → other ≡ object
 
 -- two objects that can't be told apart by what came
-pub record AreTwins (f : Fti) (came : List Symbol) (object other : List ℕ) : Type 0 where
+pub record AreTwins (f : Fti) (arrivals : List Symbol) (object other : List ℕ) : Type 0 where
   pub differ : object ≢ other
-  pub first : Fits f came object
-  pub second : Fits f came other
+  pub first : Fits f arrivals object
+  pub second : Fits f arrivals other
 
 -- a column of one block has a polynomial through all that came of it, which is zero where there is padding
-pub record ColumnSolvable (f : Fti) (came : List Symbol) (b c : ℕ) : Type 0 where
+pub record ColumnSolvable (f : Fti) (arrivals : List Symbol) (b c : ℕ) : Type 0 where
   pub polynomial : List ℕ
   pub form : IsPolynomial (source_count f b) polynomial
-  pub symbols : AllByRecursion (λ s. s.block ≡ b → value polynomial (point s.esi) ≡ slice_index s.bytes c) came
+  pub symbols : AllByRecursion (λ s. s.block ≡ b → value polynomial (point s.esi) ≡ slice_index s.bytes c) arrivals
   pub padding : (i : ℕ) → i < source_count f b → f.transfer_length ≤ source_place f b i c → value polynomial (point i) ≡ 0
 
 abbrev pub Solvable : Fti → List Symbol → ℕ → Type 0
-Solvable f came b = (c : ℕ) → c < f.symbol_length → ColumnSolvable f came b c
+Solvable f arrivals b = (c : ℕ) → c < f.symbol_length → ColumnSolvable f arrivals b c
 
 -- each full block is solvable
 abbrev pub FullSolvable : Fti → List Symbol → Type 0
-FullSolvable f came = (b : ℕ) → b < block_count f → is_full f came b ≡ true → Solvable f came b
+FullSolvable f arrivals = (b : ℕ) → b < block_count f → is_full f arrivals b ≡ true → Solvable f arrivals b
 
 -- the least full block that isn't solvable
-pub record IsFirstUnsolvable (f : Fti) (came : List Symbol) (b : ℕ) : Type 0 where
+pub record IsFirstUnsolvable (f : Fti) (arrivals : List Symbol) (b : ℕ) : Type 0 where
   pub in_range : b < block_count f
-  pub full : is_full f came b ≡ true
-  pub unsolvable : ¬ Solvable f came b
-  pub least : (a : ℕ) → a < b → is_full f came a ≡ true → Solvable f came a
+  pub full : is_full f arrivals b ≡ true
+  pub unsolvable : ¬ Solvable f arrivals b
+  pub least : (a : ℕ) → a < b → is_full f arrivals a ≡ true → Solvable f arrivals a

@@ -168,9 +168,9 @@ fn recovers_half_of_a_block(rt: HostRuntime) -> Result<(), Fail> {
     let missing = rising(rt.alloc(), 1, 2, 10)?;
     let repair = rising(rt.alloc(), 20, 1, 10)?;
     let sent = source_symbols(rt.alloc(), true)?;
-    let came = source_symbols(rt.alloc(), false)?;
+    let arrivals = source_symbols(rt.alloc(), false)?;
     let word = product(rt.alloc(), &sent, &generator)?;
-    let known = product(rt.alloc(), &came, &generator)?;
+    let known = product(rt.alloc(), &arrivals, &generator)?;
     let sums = repair_sums(rt.alloc(), &word, &known)?;
     let recovery = recovery(rt.alloc(), &generator, &missing, &repair)?;
     let made = product(rt.alloc(), &sums, &recovery)?;

@@ -6,4 +6,4 @@ use Rattle.lists.specs.Below.{below}
 use Rattle.cert.proofs.twins.points_of.Given as goal
 
 abbrev pub invariant-loop-esi : goal.invariant-loop-esi
-invariant-loop-esi l = l.points.items ≡ map point (filter (is_among l.held) (below l.esi-counter))
+invariant-loop-esi l = l.points.items ≡ map point (filter (is_among l.arrived_esis) (below l.esi-counter))

@@ -1,26 +1,26 @@
 use Rattle.std.proofs.Common.{◌∙◌}
 use Rattle.std.proofs.lemmas.Result.{IfOk-weaker}
 use Rattle.reception.specs.Walks.{readings_of}
-use Rattle.cert.specs.Verdict.{came_to}
+use Rattle.cert.specs.Verdict.{reception_to}
 use Rattle.cert.proofs.Judging.{nothing_found}
 use Rattle.cert.proofs.Short.{thinned, few_thin, twin_of_session}
 use Rattle.cert.proofs.twins.session_twin.Goals as goal
 
 pub esis_held-requires : goal.esis_held-requires
 esis_held-requires c =
-    nothing_found (came_to c.args.certificate.now (readings_of c.args.session.now)).wrong
+    nothing_found (reception_to c.args.certificate.now (readings_of c.args.session.now)).wrong
     (thinned c.args.session.now c.args.object.now c.args.certificate.now c.args.block c.len.ensures.datagrams c.requires).2
 
 pub twin-requires-clause-few : goal.twin-requires-clause-few
 twin-requires-clause-few c =
-    let held = c.as_slice.ensures.value ∙ c.in_ok-held.ensures in
-    rw (held, c.fti.ensures.value) (few_thin c.args.session.now c.args.object.now c.args.certificate.now c.args.block c.len.ensures.datagrams c.requires)
+    let arrived_esis = c.as_slice.ensures.value ∙ c.in_ok-arrived_esis.ensures in
+    rw (arrived_esis, c.fti.ensures.value) (few_thin c.args.session.now c.args.object.now c.args.certificate.now c.args.block c.len.ensures.datagrams c.requires)
 
 pub returns : goal.returns
 returns c =
-    let held = c.as_slice.ensures.value ∙ c.in_ok-held.ensures in
+    let arrived_esis = c.as_slice.ensures.value ∙ c.in_ok-arrived_esis.ensures in
     IfOk-weaker c.twin.result _ _
     (λ other made.
     twin_of_session c.args.session.now c.args.object.now other.items c.args.certificate.now c.args.block c.fti.ensures.certificate c.len.ensures.datagrams c.requires
-    (rw (held, c.fti.ensures.value) at made))
+    (rw (arrived_esis, c.fti.ensures.value) at made))
     c.twin.ensures

@@ -61,7 +61,7 @@ returns-clause-symbols c = λ r lr.
     omega (arith, at, split, whole, c.split_at_mut-source_rows.ensures.back_len, c.requires.room, c.combine.ensures.len) in
     let wide = laid_out.count ∙ ap (λ (v : ℕ). v * c.args.code.now.matrix.rows) code.cols ∙ ap (λ (v : ℕ). encoding_count f c.args.b * v) code.rows in
     let room = rows_fit 0 (c.args.first + c.args.count) (encoding_count f c.args.b) (source_count f c.args.b) (omega arith) in
-    let held : (c.args.first + c.args.count) * source_count f c.args.b ≤ length c.deref.result.now = omega (arith, wide, room) in
+    let arrived_esis : (c.args.first + c.args.count) * source_count f c.args.b ≤ length c.deref.result.now = omega (arith, wide, room) in
     elim (cases_lt r m) [
       | inl lt ↦ elim c.if-sources-gt0.branch [
         | then-sources-gt0 w ↦
@@ -76,6 +76,6 @@ returns-clause-symbols c = λ r lr.
           repair_row f c.args.object.now c.args.b g code (bytes_fit c.args.object.now c.type_inv.object) c.requires.block
           c.if-sources-gt0.source_rows c.combine.new.out c.args.first m c.args.count front back most
           c.deref.result.now _ r ge lr c.requires.within laid_out.small laid_out
-          (λ i li. part_column c.deref.result.now (source_count f c.args.b) c.k-k.result c.args.first m c.args.count r i k ge lr li held)
+          (λ i li. part_column c.deref.result.now (source_count f c.args.b) c.k-k.result c.args.first m c.args.count r i k ge lr li arrived_esis)
           (λ y hy. c.combine.ensures.sums (r - m) y (omega arith) hy)
     ]

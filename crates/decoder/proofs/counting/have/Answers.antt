@@ -1,7 +1,7 @@
 use Rattle.std.proofs.Common.{◌≡◌, ◌∙◌, ◌+◌, ℕ, sym, ap, arith, add-one, refl}
 use Rattle.std.specs.Prelude.{is_some}
 use Rattle.lists.specs.Below.{below}
-use Rattle.decoder.specs.Received.{stored}
+use Rattle.decoder.specs.Received.{bytes_at}
 use Rattle.decoder.proofs.Counts.{one_more_held, none_more_held, same_some}
 use Rattle.decoder.proofs.counting.have.Goals as goal
 use Rattle.decoder.proofs.counting.have.Goals.{then-contains_key, else-contains_key}
@@ -12,8 +12,8 @@ loop-j-init c = record { few = omega arith; counts = refl }
 
 pub loop-j-preserved : goal.loop-j-preserved
 loop-j-preserved c =
-    let t = λ (j : ℕ). is_some (stored c.args.symbols.now c.args.b j) in
-    let is : is_some (stored c.args.symbols.now c.args.b c.loop-j.j) ≡ c.contains_key.result = same_some (λ s. s.now) _ ∙ sym c.contains_key.ensures in
+    let t = λ (j : ℕ). is_some (bytes_at c.args.symbols.now c.args.b j) in
+    let is : is_some (bytes_at c.args.symbols.now c.args.b c.loop-j.j) ≡ c.contains_key.result = same_some (λ s. s.now) _ ∙ sym c.contains_key.ensures in
     elim c.if-contains_key.branch [
       | then-contains_key w ↦ record {
         few = omega arith;

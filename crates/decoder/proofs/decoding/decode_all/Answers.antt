@@ -1,15 +1,15 @@
 use Rattle.std.proofs.Common.{◌≡◌, ◌∙◌, arith, sym, ap, refl, length}
 use Rattle.partition.proofs.Laws.{in_object, some_source}
-use Rattle.decoder.specs.Received.{stored}
+use Rattle.decoder.specs.Received.{bytes_at}
 use Rattle.decoder.proofs.ObjectSoFar.{nothing_yet, one_more_block, object_answers, not_code_answers}
 use Rattle.decoder.proofs.decoding.decode_all.Goals as goal
 
 pub loop-b-init : goal.loop-b-init
-loop-b-init c = rw c.in_ok-object.ensures.items (nothing_yet c.args.received.now.fti (stored c.args.received.now.symbols) (omega (arith, c.block_count-b-end.ensures.some, c.block_count-b-end.ensures.value)))
+loop-b-init c = rw c.in_ok-object.ensures.items (nothing_yet c.args.received.now.fti (bytes_at c.args.received.now.symbols) (omega (arith, c.block_count-b-end.ensures.some, c.block_count-b-end.ensures.value)))
 
 pub returns-in_default : goal.returns-in_default
 returns-in_default c =
-    not_code_answers c.args.received.now.fti c.transfer_length.ensures.valid (stored c.args.received.now.symbols) c.loop-b.b c.loop-b.object.items c.loop-b.invariant
+    not_code_answers c.args.received.now.fti c.transfer_length.ensures.valid (bytes_at c.args.received.now.symbols) c.loop-b.b c.loop-b.object.items c.loop-b.invariant
     (omega (arith, c.block_count-b-end.ensures.value)) (c.in_ok-rows.ensures.none (rw c.in_default.is refl)) c.requires.enough
 
 pub overflow_sub-left : goal.overflow_sub-left
@@ -21,7 +21,7 @@ overflow_sub-left c =
 pub loop-b-preserved : goal.loop-b-preserved
 loop-b-preserved c =
     rw c.in_ok-extend_from_slice.ensures.items
-    (one_more_block c.args.received.now.fti c.transfer_length.ensures.valid (stored c.args.received.now.symbols) c.loop-b.b c.loop-b.object.items c.in-Some.rows.bytes.items _ c.loop-b.invariant
+    (one_more_block c.args.received.now.fti c.transfer_length.ensures.valid (bytes_at c.args.received.now.symbols) c.loop-b.b c.loop-b.object.items c.in-Some.rows.bytes.items _ c.loop-b.invariant
     (omega (arith, c.block_count-b-end.ensures.value)) (rw c.in-Some.is at c.in_ok-rows.ensures.rows)
     (let have : c.len.result ≡ length c.loop-b.object.items = omega (arith, c.len.ensures) in
     let more : c.len-in-loop-b.result ≡ length c.in-Some.rows.bytes.items = c.len-in-loop-b.ensures ∙ sym c.deref.ensures.len ∙ ap length c.deref.ensures.value in
@@ -29,5 +29,5 @@ loop-b-preserved c =
 
 pub returns : goal.returns
 returns c =
-    object_answers c.args.received.now.fti c.transfer_length.ensures.valid (stored c.args.received.now.symbols) c.loop-b.b c.loop-b.object.items c.loop-b.invariant
+    object_answers c.args.received.now.fti c.transfer_length.ensures.valid (bytes_at c.args.received.now.symbols) c.loop-b.b c.loop-b.object.items c.loop-b.invariant
     (omega (arith, c.block_count-b-end.ensures.value)) c.requires.enough

@@ -6,7 +6,7 @@ use Rattle.reception.specs.Reception.{Faulty, Judged, unknown, symbol_of}
 use Rattle.reception.specs.declared.scope.Scope.{Scope}
 use Rattle.reception.specs.Answer.{Clashes, clash}
 use Rattle.reception.proofs.Walking.{stops, none_passed, came_before}
-use Rattle.decoder.specs.Received.{stored}
+use Rattle.decoder.specs.Received.{bytes_at}
 use Rattle.decoder.proofs.Receiving.{Scanned, borrowed_at, starts, clashed, receives, received}
 use Rattle.decoder.proofs.received.receive.Goals as goal
 
@@ -18,8 +18,8 @@ some_mapped xs i l = omega (arith, l, length-map xs (λ (d : Bor (List ℕ)). d.
 
 pub loop-place-init : goal.loop-place-init
 loop-place-init c =
-    subst (λ (s : Scope). Scanned (map (λ (d : Bor (List ℕ)). d.now) c.args.datagrams.now) s (stored c.new-symbols.result) 0) (sym c.unknown-scope.ensures)
-    (starts (map (λ (d : Bor (List ℕ)). d.now) c.args.datagrams.now) (stored c.new-symbols.result) (λ b j. rw c.new-symbols.ensures.empty refl))
+    subst (λ (s : Scope). Scanned (map (λ (d : Bor (List ℕ)). d.now) c.args.datagrams.now) s (bytes_at c.new-symbols.result) 0) (sym c.unknown-scope.ensures)
+    (starts (map (λ (d : Bor (List ℕ)). d.now) c.args.datagrams.now) (bytes_at c.new-symbols.result) (λ b j. rw c.new-symbols.ensures.empty refl))
 
 pub loop-place-preserved-in-Ok-None : goal.loop-place-preserved-in-Ok-None
 loop-place-preserved-in-Ok-None c = absurd (none_passed _ c.loop-place.scope c.look.new.self (rw (c.in-Ok-None.is, c.in-Ok-None.field-0-is) at c.look.ensures))
@@ -49,11 +49,11 @@ loop-place-preserved c =
     let l : c.loop-place.place < length c.args.datagrams.now = omega arith in
     let at = rw (c.in-Ok-Some.is, c.in-Ok-Some.field-0-is) at c.look.ensures in
     let says = sym (c.is_clash.ensures (came_before ds c.loop-place.place) c.loop-place.invariant.index) ∙ c.if-is_clash.false in
-    receives ds c.loop-place.scope (stored c.loop-place.symbols) c.loop-place.place c.loop-place.invariant _ c.look.new.self c.in-Ok-Some.packet
+    receives ds c.loop-place.scope (bytes_at c.loop-place.symbols) c.loop-place.place c.loop-place.invariant _ c.look.new.self c.in-Ok-Some.packet
     (some_mapped c.args.datagrams.now _ l) (borrowed_at c.args.datagrams.now c.loop-place.place _ l) at
-    (stored c.keep.new.symbols) says c.in-Ok.ensures.here c.in-Ok.ensures.elsewhere
+    (bytes_at c.keep.new.symbols) says c.in-Ok.ensures.here c.in-Ok.ensures.elsewhere
 
 pub returns-in-Some-clause-received : goal.returns-in-Some-clause-received
 returns-in-Some-clause-received c =
-    received _ c.loop-place.scope (stored c.loop-place.symbols) c.loop-place.place c.loop-place.invariant
+    received _ c.loop-place.scope (bytes_at c.loop-place.symbols) c.loop-place.place c.loop-place.invariant
     (let e = length-map c.args.datagrams.now (λ (d : Bor (List ℕ)). d.now) in omega (arith, e)) c.in-Some.fti c.in-Some.is

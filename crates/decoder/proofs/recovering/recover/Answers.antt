@@ -3,7 +3,7 @@ use Rattle.std.specs.Prelude.{slice_index, is_some}
 use Rattle.std.proofs.lemmas.List.{length-drop}
 use Rattle.gf256.specs.Arithmetic.{sum_of}
 use Rattle.decoder.specs.Rows.{byte_in}
-use Rattle.decoder.specs.Blocks.{arrived, byte_of, given}
+use Rattle.decoder.specs.Blocks.{bytes_of_esi, byte_of, given}
 use Rattle.decoder.proofs.RowPlaces.{row_and_column}
 use Rattle.decoder.proofs.Erased.{sum_none_same, sum_itself}
 use Rattle.decoder.proofs.Erasing.{erased_as, enough_repair, few_repair, erasures_of, none_byte, some_bytes}
@@ -16,21 +16,21 @@ pub symbols_at-requires-clause-within : goal.symbols_at-requires-clause-within
 symbols_at-requires-clause-within c = λ m lm.
     let lt : m < c.rows-k.result = omega (arith, lm, ap length c.deref.ensures.value, c.in_ok-source_esis.ensures.len) in
     let e : slice_index c.deref.result.now m ≡ m = ap (λ (l : List ℕ). slice_index l m) c.deref.ensures.value ∙ c.in_ok-source_esis.ensures.all m lt in
-    omega (arith, e, lt, c.rows-k.ensures.value, c.requires.enough, few_pass (λ j. is_some (arrived c.args.block.now.received.now j)) c.args.block.now.code.now.matrix.cols)
+    omega (arith, e, lt, c.rows-k.ensures.value, c.requires.enough, few_pass (λ j. is_some (bytes_of_esi c.args.block.now.received.now j)) c.args.block.now.code.now.matrix.cols)
 
 pub split_at-requires : goal.split_at-requires
 split_at-requires c =
     let b = c.args.block.now in
     let g = b.code.now.matrix in
-    let erased = erased_as (arrived b.received.now) c.rows-k.result g.rows (length b.received.now) g.cols _ c.in_ok-erasure.erasure.missing.items _ c.deref-2.result.now c.in_ok-erasure.ensures c.rows-k.ensures.value b.all refl c.deref-2.ensures.value in
-    let le = enough_repair (arrived b.received.now) g.rows g.cols _ _ erased c.requires.enough in
+    let erased = erased_as (bytes_of_esi b.received.now) c.rows-k.result g.rows (length b.received.now) g.cols _ c.in_ok-erasure.erasure.missing.items _ c.deref-2.result.now c.in_ok-erasure.ensures c.rows-k.ensures.value b.all refl c.deref-2.ensures.value in
+    let le = enough_repair (bytes_of_esi b.received.now) g.rows g.cols _ _ erased c.requires.enough in
     omega (arith, le, c.len.ensures)
 
 pub solve-requires-clause-erasures : goal.solve-requires-clause-erasures
 solve-requires-clause-erasures c =
     let b = c.args.block.now in
     let g = b.code.now.matrix in
-    let at = arrived b.received.now in
+    let at = bytes_of_esi b.received.now in
     let erased = erased_as at c.rows-k.result g.rows (length b.received.now) g.cols _ c.deref-3.result.now _ c.deref-2.result.now c.in_ok-erasure.ensures c.rows-k.ensures.value b.all c.deref-3.ensures.value c.deref-2.ensures.value in
     let le = enough_repair at g.rows g.cols _ _ erased c.requires.enough in
     let n : c.len.result ≡ length c.deref-3.result.now = omega (arith, c.len.ensures, c.deref-3.ensures.len) in
@@ -41,21 +41,21 @@ pub solve-requires-clause-empty : goal.solve-requires-clause-empty
 solve-requires-clause-empty c = λ a y la ly.
     let b = c.args.block.now in
     let g = b.code.now.matrix in
-    let at = arrived b.received.now in
+    let at = bytes_of_esi b.received.now in
     let erased = erased_as at c.rows-k.result g.rows (length b.received.now) g.cols _ c.deref-3.result.now _ c.deref-2.result.now c.in_ok-erasure.ensures c.rows-k.ensures.value b.all c.deref-3.ensures.value c.deref-2.ensures.value in
     let le = enough_repair at g.rows g.cols _ _ erased c.requires.enough in
     let esis : length c.deref.result.now ≡ g.rows = ap length c.deref.ensures.value ∙ c.in_ok-source_esis.ensures.len ∙ c.rows-k.ensures.value in
-    let placed : (i y : ℕ) → i < c.args.block.now.code.now.matrix.rows → y < c.args.block.now.size → byte_in c.in_ok-rows.rows i y ≡ byte_of (arrived c.args.block.now.received.now i) y =
+    let placed : (i y : ℕ) → i < c.args.block.now.code.now.matrix.rows → y < c.args.block.now.size → byte_in c.in_ok-rows.rows i y ≡ byte_of (bytes_of_esi c.args.block.now.received.now i) y =
     λ i y li ly. c.in_ok-rows.ensures.symbols i y (omega (arith, li, esis)) ly
-    ∙ ap (λ (j : ℕ). byte_of (arrived c.args.block.now.received.now j) y) (ap (λ (l : List ℕ). slice_index l i) c.deref.ensures.value ∙ c.in_ok-source_esis.ensures.all i (omega (arith, li, c.rows-k.ensures.value))) in
+    ∙ ap (λ (j : ℕ). byte_of (bytes_of_esi c.args.block.now.received.now j) y) (ap (λ (l : List ℕ). slice_index l i) c.deref.ensures.value ∙ c.in_ok-source_esis.ensures.all i (omega (arith, li, c.rows-k.ensures.value))) in
     placed (slice_index c.deref-3.result.now a) y (erased.lost.most a la) ly
-    ∙ none_byte (arrived c.args.block.now.received.now (slice_index c.deref-3.result.now a)) y (erased.lost.pass a la)
+    ∙ none_byte (bytes_of_esi c.args.block.now.received.now (slice_index c.deref-3.result.now a)) y (erased.lost.pass a la)
 
 pub residuals-requires-clause-few : goal.residuals-requires-clause-few
 residuals-requires-clause-few c =
     let b = c.args.block.now in
     let g = b.code.now.matrix in
-    let at = arrived b.received.now in
+    let at = bytes_of_esi b.received.now in
     let erased = erased_as at c.rows-k.result g.rows (length b.received.now) g.cols _ c.deref-3.result.now _ c.deref-2.result.now c.in_ok-erasure.ensures c.rows-k.ensures.value b.all c.deref-3.ensures.value c.deref-2.ensures.value in
     let le = enough_repair at g.rows g.cols _ _ erased c.requires.enough in
     omega (arith, ap length c.split_at.ensures.back, length-drop c.len.result c.deref-2.result.now, few_repair at g.rows g.cols _ _ erased, b.matrix.few_cols)
@@ -64,16 +64,16 @@ pub returns-clause-rows : goal.returns-clause-rows
 returns-clause-rows c =
     let b = c.args.block.now in
     let g = b.code.now.matrix in
-    let at = arrived b.received.now in
+    let at = bytes_of_esi b.received.now in
     let erased = erased_as at c.rows-k.result g.rows (length b.received.now) g.cols _ c.deref-3.result.now _ c.deref-2.result.now c.in_ok-erasure.ensures c.rows-k.ensures.value b.all c.deref-3.ensures.value c.deref-2.ensures.value in
     let le = enough_repair at g.rows g.cols _ _ erased c.requires.enough in
     let n : c.len.result ≡ length c.deref-3.result.now = omega (arith, c.len.ensures, c.deref-3.ensures.len) in
     let front = c.split_at.ensures.front ∙ ap (λ (v : ℕ). take v c.deref-2.result.now) n in
     let rest = c.split_at.ensures.back ∙ ap (λ (v : ℕ). drop v c.deref-2.result.now) n in
     let esis : length c.deref.result.now ≡ g.rows = ap length c.deref.ensures.value ∙ c.in_ok-source_esis.ensures.len ∙ c.rows-k.ensures.value in
-    let placed : (i y : ℕ) → i < c.args.block.now.code.now.matrix.rows → y < c.args.block.now.size → byte_in c.in_ok-rows.rows i y ≡ byte_of (arrived c.args.block.now.received.now i) y =
+    let placed : (i y : ℕ) → i < c.args.block.now.code.now.matrix.rows → y < c.args.block.now.size → byte_in c.in_ok-rows.rows i y ≡ byte_of (bytes_of_esi c.args.block.now.received.now i) y =
     λ i y li ly. c.in_ok-rows.ensures.symbols i y (omega (arith, li, esis)) ly
-    ∙ ap (λ (j : ℕ). byte_of (arrived c.args.block.now.received.now j) y) (ap (λ (l : List ℕ). slice_index l i) c.deref.ensures.value ∙ c.in_ok-source_esis.ensures.all i (omega (arith, li, c.rows-k.ensures.value))) in
+    ∙ ap (λ (j : ℕ). byte_of (bytes_of_esi c.args.block.now.received.now j) y) (ap (λ (l : List ℕ). slice_index l i) c.deref.ensures.value ∙ c.in_ok-source_esis.ensures.all i (omega (arith, li, c.rows-k.ensures.value))) in
     let left = c.in_ok-left.left in
     elim c.if-is_zero.branch [
       | then-is_zero w ↦ rw w.result-is
@@ -89,16 +89,16 @@ pub returns-clause-none : goal.returns-clause-none
 returns-clause-none c =
     let b = c.args.block.now in
     let g = b.code.now.matrix in
-    let at = arrived b.received.now in
+    let at = bytes_of_esi b.received.now in
     let erased = erased_as at c.rows-k.result g.rows (length b.received.now) g.cols _ c.deref-3.result.now _ c.deref-2.result.now c.in_ok-erasure.ensures c.rows-k.ensures.value b.all c.deref-3.ensures.value c.deref-2.ensures.value in
     let le = enough_repair at g.rows g.cols _ _ erased c.requires.enough in
     let n : c.len.result ≡ length c.deref-3.result.now = omega (arith, c.len.ensures, c.deref-3.ensures.len) in
     let front = c.split_at.ensures.front ∙ ap (λ (v : ℕ). take v c.deref-2.result.now) n in
     let rest = c.split_at.ensures.back ∙ ap (λ (v : ℕ). drop v c.deref-2.result.now) n in
     let esis : length c.deref.result.now ≡ g.rows = ap length c.deref.ensures.value ∙ c.in_ok-source_esis.ensures.len ∙ c.rows-k.ensures.value in
-    let placed : (i y : ℕ) → i < c.args.block.now.code.now.matrix.rows → y < c.args.block.now.size → byte_in c.in_ok-rows.rows i y ≡ byte_of (arrived c.args.block.now.received.now i) y =
+    let placed : (i y : ℕ) → i < c.args.block.now.code.now.matrix.rows → y < c.args.block.now.size → byte_in c.in_ok-rows.rows i y ≡ byte_of (bytes_of_esi c.args.block.now.received.now i) y =
     λ i y li ly. c.in_ok-rows.ensures.symbols i y (omega (arith, li, esis)) ly
-    ∙ ap (λ (j : ℕ). byte_of (arrived c.args.block.now.received.now j) y) (ap (λ (l : List ℕ). slice_index l i) c.deref.ensures.value ∙ c.in_ok-source_esis.ensures.all i (omega (arith, li, c.rows-k.ensures.value))) in
+    ∙ ap (λ (j : ℕ). byte_of (bytes_of_esi c.args.block.now.received.now j) y) (ap (λ (l : List ℕ). slice_index l i) c.deref.ensures.value ∙ c.in_ok-source_esis.ensures.all i (omega (arith, li, c.rows-k.ensures.value))) in
     let left = c.in_ok-left.left in
     elim c.if-is_zero.branch [
       | then-is_zero w ↦ rw w.result-is (λ none. absurd (cc))

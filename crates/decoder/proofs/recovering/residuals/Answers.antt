@@ -6,7 +6,7 @@ use Rattle.gf256.specs.Sums.{row_times}
 use Rattle.elim.specs.Grid.{entry}
 use Rattle.elim.proofs.Entries.{elements_by_row}
 use Rattle.decoder.specs.Rows.{byte_in}
-use Rattle.decoder.specs.Blocks.{arrived, byte_of}
+use Rattle.decoder.specs.Blocks.{bytes_of_esi, byte_of}
 use Rattle.decoder.proofs.Erasing.{factors_changed}
 use Rattle.decoder.proofs.recovering.residuals.Goals as goal
 
@@ -20,7 +20,7 @@ returns-clause-sums c = λ m y lm ly.
     let coefficient : ℕ → ℕ = λ i. slice_index c.in_ok-coefficients.coefficients.items (m * g.rows + i) in
     c.add_products.ensures.sums m y (omega (arith, lm, c.in_ok-sums.ensures.sizes.rows_are)) (omega (arith, ly, c.in_ok-sums.ensures.sizes.bytes_are))
     ∙ ap (λ (v : ℕ). sum_of v (row_times sum_of product 0 (λ i. slice_index c.deref.result.now (m * rows.count + i)) (byte_in rows) rows.count y)) (c.in_ok-sums.ensures.symbols m y lm ly)
-    ∙ ap (sum_of (byte_of (arrived b.received.now (slice_index c.args.esis.now m)) y))
+    ∙ ap (sum_of (byte_of (bytes_of_esi b.received.now (slice_index c.args.esis.now m)) y))
     (ap (λ (n : ℕ). row_times sum_of product 0 (λ i. slice_index c.deref.result.now (m * n + i)) (byte_in rows) n y) count
     ∙ ap (λ (l : List ℕ). row_times sum_of product 0 (λ i. slice_index l (m * g.rows + i)) (byte_in rows) g.rows y) c.deref.ensures.value
     ∙ factors_changed g.rows _ (λ i. byte_in rows i y) (λ i. entry 0 g i (slice_index c.args.esis.now m))

@@ -3,7 +3,7 @@ use Rattle.std.specs.Prelude.{slice_index}
 use Rattle.gf256.specs.Arithmetic.{sum_of, product}
 use Rattle.gf256.specs.Sums.{row_times}
 use Rattle.decoder.specs.Rows.{byte_in}
-use Rattle.decoder.specs.Blocks.{arrived}
+use Rattle.decoder.specs.Blocks.{bytes_of_esi}
 use Rattle.decoder.proofs.Erased.{sum_with_none}
 use Rattle.decoder.proofs.Solved.{solved}
 use Rattle.decoder.proofs.recovering.solve.Goals as goal
@@ -15,7 +15,7 @@ returns-clause-solved c =
     let m : ℕ = length c.args.missing.now in
     let sums = c.in_ok-sums.sums in
     let sums_count : sums.count ≡ m = c.in_ok-sums.ensures.sizes.rows_are ∙ c.requires.count in
-    solved (arrived b.received.now) b.size b.code.now.matrix b.matrix c.requires.code c.args.missing.now c.args.repair.now (c.requires.erasures some)
+    solved (bytes_of_esi b.received.now) b.size b.code.now.matrix b.matrix c.requires.code c.args.missing.now c.args.repair.now (c.requires.erasures some)
     c.in_ok-recovery.recovery c.in_ok-recovery.ensures.shape (rw (← c.recovery-2.view_is) c.recovery-2.invariant.elements) c.in_ok-recovery.ensures.recovers
     c.in_ok-coefficients.coefficients.items c.in_ok-coefficients.ensures
     (byte_in c.args.rows.now) (byte_in c.put_rows.new.rows) (byte_in sums)

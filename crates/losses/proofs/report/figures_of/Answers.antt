@@ -50,16 +50,16 @@ loop-block-init c =
     let n = need_seen gs 0 c.index-groups-0-2.result c.requires.some in
     let is = c.deref.ensures.value ∙ sym (members_seen gs 0 c.index-groups-0.result c.requires.some) in
     let w = c.in_ok-first.first in
-    let cut : IsWeighed (group_at (groups_of gs) 0).members (group_at (groups_of gs) 0).need w.threshold.cost w.threshold.copies w.threshold.last =
+    let cut : IsWeighed (group_at (groups_of gs) 0).members (group_at (groups_of gs) 0).need w.threshold.cost w.threshold.most_copies w.threshold.last_esi =
     weighed_as is (sym n) c.in_ok-first.ensures.cut in
-    let gap : IsLeastGap (group_at (groups_of gs) 0).members (group_at (groups_of gs) 0).need w.gap = gap_as is (sym n) c.in_ok-first.ensures.gap in
+    let gap : IsLeastGap (group_at (groups_of gs) 0).members (group_at (groups_of gs) 0).need w.burst = gap_as is (sym n) c.in_ok-first.ensures.burst in
     record {
       within = omega arith;
       weighed = cut;
       heavy = λ b l. (let e : 0 ≡ b = omega (arith, l) in subst (λ (x : ℕ). IsHeavyGroup x (group_at (groups_of gs) x) w.threshold.cost 0) e
-          (record { t = w.threshold.copies; last = w.threshold.last; price = w.threshold.cost; weighed = cut; low = omega arith; early = λ z. absurd (omega arith) }));
+          (record { t = w.threshold.most_copies; last = w.threshold.last_esi; price = w.threshold.cost; weighed = cut; low = omega arith; early = λ z. absurd (omega arith) }));
       narrow = record { at = 0; within = omega arith; is = gap };
-      wide = λ b l. (let e : 0 ≡ b = omega (arith, l) in subst (λ (x : ℕ). IsWideGroup (group_at (groups_of gs) x) w.gap) e (record { gap = w.gap; is = gap; low = omega arith }));
+      wide = λ b l. (let e : 0 ≡ b = omega (arith, l) in subst (λ (x : ℕ). IsWideGroup (group_at (groups_of gs) x) w.burst) e (record { gap = w.burst; is = gap; low = omega arith }));
     }
 
 pub weigh-requires-in-loop-block-clause-placed : goal.weigh-requires-in-loop-block-clause-placed
@@ -93,9 +93,9 @@ loop-block-preserved c =
     let n = need_seen gs c.loop-block.block c.index-groups-block-in-loop-block.result c.loop-block-test.true in
     let is = c.deref-in-loop-block.ensures.value ∙ sym (members_seen gs c.loop-block.block c.index-groups-block.result c.loop-block-test.true) in
     let w = c.in_ok-weight.weight in
-    let cut : IsWeighed (group_at (groups_of c.args.groups.now) c.loop-block.block).members (group_at (groups_of c.args.groups.now) c.loop-block.block).need w.threshold.cost w.threshold.copies w.threshold.last =
+    let cut : IsWeighed (group_at (groups_of c.args.groups.now) c.loop-block.block).members (group_at (groups_of c.args.groups.now) c.loop-block.block).need w.threshold.cost w.threshold.most_copies w.threshold.last_esi =
     weighed_as is (sym n) c.in_ok-weight.ensures.cut in
-    let gap : IsLeastGap (group_at (groups_of c.args.groups.now) c.loop-block.block).members (group_at (groups_of c.args.groups.now) c.loop-block.block).need w.gap = gap_as is (sym n) c.in_ok-weight.ensures.gap in
+    let gap : IsLeastGap (group_at (groups_of c.args.groups.now) c.loop-block.block).members (group_at (groups_of c.args.groups.now) c.loop-block.block).need w.burst = gap_as is (sym n) c.in_ok-weight.ensures.burst in
     record {
       within = elim c.if-weight-threshold.branch [ then-weight-threshold w ↦ (let e = w.at-is in omega (arith, e)) | else-weight-threshold w ↦ (let e = w.at-is in omega (arith, e, here)) ];
       weighed =
@@ -107,10 +107,10 @@ loop-block-preserved c =
           elim c.if-weight-threshold.branch [
             | then-weight-threshold w ↦
                 rw (w.at-is, w.threshold-is) (heavy_new groups c.loop-block.block c.loop-block.at c.loop-block.threshold.cost c.in_ok-weight.weight.threshold.cost
-                c.in_ok-weight.weight.threshold.copies c.in_ok-weight.weight.threshold.last (omega (arith, w)) i.heavy cut)
+                c.in_ok-weight.weight.threshold.most_copies c.in_ok-weight.weight.threshold.last_esi (omega (arith, w)) i.heavy cut)
             | else-weight-threshold w ↦
                 rw (w.at-is, w.threshold-is) (heavy_same groups c.loop-block.block c.loop-block.at c.loop-block.threshold.cost c.in_ok-weight.weight.threshold.cost
-                c.in_ok-weight.weight.threshold.copies c.in_ok-weight.weight.threshold.last (omega (arith, w)) here i.heavy cut)
+                c.in_ok-weight.weight.threshold.most_copies c.in_ok-weight.weight.threshold.last_esi (omega (arith, w)) here i.heavy cut)
           ];
       narrow =
           elim c.if-weight-burst.branch [
@@ -119,8 +119,8 @@ loop-block-preserved c =
           ];
       wide =
           elim c.if-weight-burst.branch [
-            | then-weight-burst w ↦ rw w.burst-is (wide_new groups c.loop-block.block c.loop-block.burst c.in_ok-weight.weight.gap (omega (arith, w)) i.wide gap)
-            | else-weight-burst w ↦ rw w.burst-is (wide_same groups c.loop-block.block c.loop-block.burst c.in_ok-weight.weight.gap (omega (arith, w)) i.wide gap)
+            | then-weight-burst w ↦ rw w.burst-is (wide_new groups c.loop-block.block c.loop-block.burst c.in_ok-weight.weight.burst (omega (arith, w)) i.wide gap)
+            | else-weight-burst w ↦ rw w.burst-is (wide_same groups c.loop-block.block c.loop-block.burst c.in_ok-weight.weight.burst (omega (arith, w)) i.wide gap)
           ];
     }
 
@@ -130,7 +130,7 @@ overflow_sub-result c =
     let i = c.loop-block.invariant in
     let end : c.loop-block.block ≡ length c.args.groups.now = (let l = c.requires.some in omega (arith, l)) in
     let heavy = λ (b : ℕ) (l : b < length (groups_of c.args.groups.now)). i.heavy b (let k = count_of c.args.groups.now in omega (arith, l, k, end)) in
-    some (groups_of gs) c.requires.groups.0 c.requires.groups.1 c.loop-block.at c.loop-block.threshold.cost c.loop-block.threshold.copies c.loop-block.threshold.last
+    some (groups_of gs) c.requires.groups.0 c.requires.groups.1 c.loop-block.at c.loop-block.threshold.cost c.loop-block.threshold.most_copies c.loop-block.threshold.last_esi
     (let w = i.within in let k = count_of gs in omega (arith, w, k, end)) i.weighed heavy
 
 pub returns-clause-margin : goal.returns-clause-margin
@@ -138,7 +138,7 @@ returns-clause-margin c = λ n are.
     let i = c.loop-block.invariant in
     let end : c.loop-block.block ≡ length c.args.groups.now = (let l = c.requires.some in omega (arith, l)) in
     let heavy = λ (b : ℕ) (l : b < length (groups_of c.args.groups.now)). i.heavy b (let k = count_of c.args.groups.now in omega (arith, l, k, end)) in
-    margin_of_groups (groups_of c.args.groups.now) n are c.loop-block.at c.loop-block.threshold.cost c.loop-block.threshold.copies c.loop-block.threshold.last
+    margin_of_groups (groups_of c.args.groups.now) n are c.loop-block.at c.loop-block.threshold.cost c.loop-block.threshold.most_copies c.loop-block.threshold.last_esi
     (let w = i.within in let k = count_of c.args.groups.now in omega (arith, w, k, end)) i.weighed heavy
 
 pub returns-clause-kill : goal.returns-clause-kill
@@ -149,9 +149,9 @@ returns-clause-kill c = λ n are.
     let heavy = λ (b : ℕ) (l : b < length (groups_of c.args.groups.now)). i.heavy b (let k = count_of c.args.groups.now in omega (arith, l, k, end)) in
     let within : c.loop-block.at < length c.args.groups.now = (let w = i.within in omega (arith, w, end)) in
     let is = c.deref-2.ensures.value ∙ sym (members_seen gs c.loop-block.at c.index-groups-at.result within) in
-    let places_are = c.in_ok-kill.ensures ∙ ap (λ (qs : List Member). cheap_places qs c.loop-block.threshold.copies c.loop-block.threshold.last) is in
+    let places_are = c.in_ok-kill.ensures ∙ ap (λ (qs : List Member). cheap_places qs c.loop-block.threshold.most_copies c.loop-block.threshold.last_esi) is in
     subst (λ (ps : List ℕ). IsKill (blocks_of_groups (groups_of gs)) (places 0 n) (c.loop-block.threshold.cost - 1 + 1) ps) (sym places_are)
-    (kill_of_groups (groups_of gs) n are c.loop-block.at c.loop-block.threshold.cost c.loop-block.threshold.copies c.loop-block.threshold.last
+    (kill_of_groups (groups_of gs) n are c.loop-block.at c.loop-block.threshold.cost c.loop-block.threshold.most_copies c.loop-block.threshold.last_esi
     (let w = i.within in let k = count_of gs in omega (arith, w, k, end)) i.weighed heavy)
 
 pub returns-clause-burst : goal.returns-clause-burst
