@@ -3,7 +3,7 @@
 ghost use Rattle.std.specs.Prelude.{◌≡◌, ◌+◌, ◌<◌, ◌≤◌, ◌++◌, ◌^◌, length, drop, take};
 ghost use Rattle.partition.specs.Fti.{block_count, encoding_count};
 ghost use Rattle.alc.specs.Packet.{IsPacket, written};
-ghost use Rattle.alc.specs.Written.{packet_from};
+ghost use Rattle.alc.specs.Written.{header_bytes, packet_from};
 ghost use Rattle.alc.specs.WrittenParts.{fixed_part, fti_part, payload_id};
 
 use crate::extensions::{EXT_FTI, EXT_FTI_SIZE};
@@ -14,6 +14,9 @@ use partition::Fti;
 const FIXED_SIZE: usize = 16;
 
 const PAYLOAD_ID_SIZE: usize = 4;
+
+/// The bytes of a datagram that is written before its encoding symbol: the header and the FEC payload ID.
+pub const HEADER_SIZE: usize = FIXED_SIZE + EXT_FTI_SIZE + PAYLOAD_ID_SIZE;
 
 // The version, the flags S and O, the header's length of seven words, the codepoint, CCI, TSI and TOI.
 fn write_fixed_part(out: &mut [u8], tsi: u32, toi: u32)
@@ -44,8 +47,8 @@ fn write_payload_id(out: &mut [u8], sbn: u32, esi: u8)
     out[3] = esi;
 }
 
-/// Writes the datagram of this packet at the front of `out`, and returns the datagram's length: 32 bytes of header and
-/// payload ID, and E bytes of symbol. The rest of `out` stays as it was.
+/// Writes the datagram of this packet at the front of `out`, and returns the datagram's length: [`HEADER_SIZE`] bytes,
+/// and E bytes of symbol. The rest of `out` stays as it was.
 ///
 /// `sbn` is a block of the FTI, `esi` one of that block's encoding symbols, `symbol` has E bytes, and `out` room for the
 /// whole datagram.
@@ -61,8 +64,8 @@ pub fn write(
     requires block { sbn < block_count fti.now }
     requires esi { esi < encoding_count fti.now sbn }
     requires symbol { length symbol.now ≡ fti.now.symbol_length }
-    requires room { 32 + fti.now.symbol_length ≤ length out.old }
-    ensures length { result ≡ 32 + fti.now.symbol_length }
+    requires room { header_bytes + fti.now.symbol_length ≤ length out.old }
+    ensures length { result ≡ header_bytes + fti.now.symbol_length }
     ensures written { out.new
         ≡ written (packet_from tsi toi fti.now sbn esi symbol.now) ++ drop result out.old }
     ensures packet { IsPacket (take result out.new)
@@ -76,5 +79,5 @@ pub fn write(
     let (payload_id, rest) = rest.split_at_mut(PAYLOAD_ID_SIZE);
     write_payload_id(payload_id, sbn, esi);
     rest[..size].copy_from_slice(symbol);
-    FIXED_SIZE + EXT_FTI_SIZE + PAYLOAD_ID_SIZE + size
+    HEADER_SIZE + size
 }

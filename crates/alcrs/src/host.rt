@@ -124,7 +124,7 @@ impl<R: Files> Folder for HostFolder<'_, R> {
 
     ghost files = { λ _. None };
 
-    fn open_file(&mut self, name: &str) -> Result<Device<BufReader<R::File>>, FileFault> {
+    fn open_file(&self, name: &str) -> Result<Device<BufReader<R::File>>, FileFault> {
         let Ok(file) = fs::open(self.rt, name) else {
             return Err(FileFault::Io);
         };

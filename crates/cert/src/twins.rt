@@ -19,9 +19,11 @@ use std::alloc::{AllocError, Global};
 
 // The points of the different ESIs among these, rising.
 fn points_of(alloc: Global, fti: &Fti, arrived_esis: &[u8]) -> Result<Vec<Gf>, AllocError>
-    ensures points { IfOk result (λ v. v.items ≡ map point_of (different_esis arrived_esis.now)) }
+    ensures points { IfOk result (λ v.
+        v.items ≡ map point_of (different_esis arrived_esis.now)) }
     ensures valid { IsValidFti fti.now }
 {
+    fti.is_valid();
     let mut points = Vec::with_capacity(alloc, usize::from(fti.block_length()))?;
     for esi in 0..255u8 {
         if arrived_esis.contains(&esi) {

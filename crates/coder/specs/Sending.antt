@@ -1,11 +1,11 @@
 -- The session that is sent of an object: which encoding symbols, in which order, in which datagrams.
-use Rattle.std.specs.Prelude.{◌≡◌, ◌≢◌, ℕ, ◌<◌, ◌≤◌, ◌+◌, Bool, true, nat_lt, List, [], ◌∷◌, ◌++◌, length, map, flat_map, if◌then◌else◌, Option}
+use Rattle.std.specs.Prelude.{◌≡◌, ◌≢◌, ℕ, ◌<◌, ◌≤◌, ◌+◌, ◌-◌, Bool, true, nat_lt, List, [], ◌∷◌, ◌++◌, length, map, flat_map, if◌then◌else◌, Option}
 use Rattle.std.specs.Io.KnownBytes.{Appends}
 use Rattle.lists.specs.Below.{below}
 use Rattle.partition.specs.Fti.{Fti, block_count, encoding_count}
 use Rattle.alc.specs.Packet.{written}
-use Rattle.alc.specs.Written.{packet_from}
-use Rattle.session.specs.Frames.{frames, AppendsSome}
+use Rattle.alc.specs.Written.{header_bytes, packet_from}
+use Rattle.session.specs.Frames.{most_bytes, frames, AppendsSome}
 use Rattle.reception.specs.Symbols.{Agrees}
 use Rattle.partition.specs.declared.order.Order.{Order}
 use Rattle.partition.specs.declared.order.Order.TheVariants.{Blocks, Rounds}
@@ -61,13 +61,13 @@ pub record SendsSome (object : List ℕ) (f : Fti) (tsi toi : ℕ) (ps : List (�
   pub sent : AreSent object f tsi toi front datagrams
   pub gained : AppendsSome old new (frames datagrams)
 
--- the most bytes of an encoding symbol that a datagram of 65,507 bytes holds
+-- the most bytes of an encoding symbol that the longest datagram holds
 abbrev pub most_symbol_bytes : ℕ
-most_symbol_bytes = 65475
+most_symbol_bytes = most_bytes - header_bytes
 
--- the bytes of a frame: two that tell the length, 32 of the datagram's headers, and the encoding symbol
+-- the bytes of a frame: two that tell the length, the datagram's header, and the encoding symbol
 abbrev pub frame_bytes : Fti → ℕ
-frame_bytes f = 34 + f.symbol_length
+frame_bytes f = 2 + header_bytes + f.symbol_length
 
 -- the object has the FTI's length, and its symbols go into datagrams
 pub record CanBeSent (object : List ℕ) (f : Fti) : Type 0 where

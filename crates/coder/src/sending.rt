@@ -7,11 +7,11 @@ ghost use Rattle.coder.specs.Passes.{run_of, pairs_in, pairs_of_pass, passes, at
 ghost use Rattle.coder.specs.Sending.{pairs, Sends, SendsSome, CanBeSent, IsSendFault, most_symbol_bytes, frame_bytes};
 
 use crate::rows::encoding_symbols;
-use alc::write;
+use alc::{HEADER_SIZE, write};
 use block_code::{BlockCodes, Kind};
 use partition::{Fti, Order};
-use session::{Write, write_one};
-use std::alloc::Global;
+use session::{MOST_BYTES, Write, write_one};
+use std::alloc::{AllocError, Global};
 use thiserror::Error;
 
 /// Why a session wasn't sent.
@@ -30,11 +30,18 @@ pub enum SendFault {
     NoMemory,
 }
 
-/// The most bytes of an encoding symbol that can be sent.
-const MOST_SYMBOL_BYTES: u16 = 65475;
+impl From<AllocError> for SendFault {
+    ghost use Rattle.coder.specs.declared.sending.SendFault.TheVariants.{NoMemory};
 
-// The bytes of a datagram before its symbol.
-const HEADER_SIZE: usize = 32;
+    ghost from_gives = { λ _ fault. fault ≡ NoMemory };
+
+    fn from(_: AllocError) -> Self {
+        SendFault::NoMemory
+    }
+}
+
+// The most bytes of an encoding symbol that can be sent.
+const MOST_SYMBOL_BYTES: u16 = (MOST_BYTES - HEADER_SIZE) as u16;
 
 /// What is sent of an object, and the codes of its blocks.
 #[derive(Drop)]
@@ -123,8 +130,8 @@ fn send_pass<W: Write>(
     ensures io { IfErr result (λ e. (e ≡ SendFault.Io) × (W.failed writer.new ≡ true)) }
     ensures full { OnErr result
         (W.room writer.old < length (pairs_of_pass order t.now.fti pass) * frame_bytes t.now.fti) }
-    ensures fills { OnOk result (W.room writer.old
-        ≤ W.room writer.new + length (pairs_of_pass order t.now.fti pass) * frame_bytes t.now.fti) }
+    ensures fills { OnOk result (W.room writer.old ≤ W.room writer.new
+        + length (pairs_of_pass order t.now.fti pass) * frame_bytes t.now.fti) }
 {
     let size = usize::from(t.fti.symbol_length());
     let mut sent = 0;
@@ -220,16 +227,10 @@ pub fn encode<W: Write>(
     if fti.symbol_length() > MOST_SYMBOL_BYTES {
         return Err(SendFault::SymbolTooLong);
     }
-    let Ok(codes) = BlockCodes::new(alloc, Kind::Generator, fti) else {
-        return Err(SendFault::NoMemory);
-    };
+    let codes = BlockCodes::new(alloc, Kind::Generator, fti)?;
     let size = usize::from(fti.symbol_length());
-    let Ok(mut symbols) = Vec::from_elem(alloc, 0u8, most_at_once(fti, order) * size) else {
-        return Err(SendFault::NoMemory);
-    };
-    let Ok(mut datagram) = Vec::from_elem(alloc, 0u8, HEADER_SIZE + size) else {
-        return Err(SendFault::NoMemory);
-    };
+    let mut symbols = Vec::from_elem(alloc, 0u8, most_at_once(fti, order) * size)?;
+    let mut datagram = Vec::from_elem(alloc, 0u8, HEADER_SIZE + size)?;
     let transmission = Transmission {
         object,
         tsi,

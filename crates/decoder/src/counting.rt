@@ -40,9 +40,11 @@ pub(crate) fn first_short(symbols: &Symbols<'_>, fti: &Fti) -> Option<Short>
     ensures short { (arrivals : List Symbol) → IsIndex arrivals (bytes_at symbols.now)
         → AllByRecursion (IsWithin fti.now) arrivals
         → IfSome result (λ s. IsFirstShort fti.now arrivals s.block
-        × (s.have ≡ arrived_count arrivals s.block) × (s.need ≡ source_count fti.now s.block)) }
+        × (s.have ≡ arrived_count arrivals s.block)
+        × (s.need ≡ source_count fti.now s.block)) }
     ensures full { (arrivals : List Symbol) → IsIndex arrivals (bytes_at symbols.now)
-        → AllByRecursion (IsWithin fti.now) arrivals → IfNone result (AllFull fti.now arrivals) }
+        → AllByRecursion (IsWithin fti.now) arrivals
+        → IfNone result (AllFull fti.now arrivals) }
 {
     for block in 0..fti.block_count() {
         let have = have(symbols, block, fti.n(block));

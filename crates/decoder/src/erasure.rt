@@ -33,7 +33,8 @@ fn repair_esis(alloc: Global, received: &[Option<&[u8]>], k: usize) -> Result<Ve
     requires few { length received.now ≤ 255 }
     requires within { k ≤ length received.now }
     ensures { IfOk result
-        (λ v. AreThose (λ j. is_some (bytes_of_esi received.now j)) k (length received.now) v.items) }
+        (λ v. AreThose (λ j. is_some (bytes_of_esi received.now j))
+        k (length received.now) v.items) }
 {
     let mut repair = Vec::new(alloc);
     for j in k..received.len() {

@@ -132,7 +132,8 @@ pub(crate) fn recover(alloc: Global, block: &Block<'_>) -> Result<Option<Rows>, 
         (below block.now.code.now.matrix.cols)) }
     ensures sizes { IfOk result (λ o. IfSome o
         (HasSizes block.now.code.now.matrix.rows block.now.size)) }
-    ensures rows { IfOk result (λ o. IfSome o (λ rows. AreOnly (bytes_of_esi block.now.received.now)
+    ensures rows { IfOk result (λ o. IfSome o (λ rows.
+        AreOnly (bytes_of_esi block.now.received.now)
         block.now.code.now.matrix block.now.size (byte_in rows))) }
     ensures none { IfOk result (λ o. IsNone o
         → CanBeMet (bytes_of_esi block.now.received.now) block.now.code.now.matrix block.now.size

@@ -119,8 +119,7 @@ impl<F: Field> Matrix<F> {
 
     /// Row `r` becomes `c` times what it was.
     pub(crate) fn scale_row(&mut self, r: usize, c: F)
-        requires row { r < self.old.rows }
-        requires scale { F.element c }
+        requires { (r < self.old.rows) × F.element c }
         ensures { IsStep F.element F.ZERO
             (IsScaled F.product self.old.rows self.old.cols r c) self.old self.new }
     {
@@ -147,8 +146,7 @@ impl<F: Field> Matrix<F> {
     pub(crate) fn add_row_of(&mut self, r: usize, c: F, other: &Matrix<F>, p: usize)
         requires row { r < self.old.rows }
         requires other { p < other.now.rows }
-        requires columns { other.now.cols ≡ self.old.cols }
-        requires scale { F.element c }
+        requires columns { (other.now.cols ≡ self.old.cols) × F.element c }
         ensures { IsStep F.element F.ZERO
             (IsRowAdded F.sum F.product self.old.rows self.old.cols r c (entry F.ZERO other.now p))
             self.old self.new }

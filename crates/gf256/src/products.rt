@@ -128,7 +128,8 @@ fn put_sums(table: &mut [u8x64; 256], q: usize, s0: u8x64, s1: u8x64, s2: u8x64,
 fn source_lanes(sources: &[u8], i: usize, taken: usize, stride: usize, at: usize) -> u8x64
     requires { i < taken → i * stride + at < 2 ^ 64 }
     ensures { (t : ℕ) → t < 64
-        → slice_index result t ≡ below taken i (slice_index sources.now (i * stride + (at + t))) }
+        → slice_index result t
+        ≡ below taken i (slice_index sources.now (i * stride + (at + t))) }
 {
     if i >= taken {
         return u8x64::splat(0);

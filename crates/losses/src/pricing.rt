@@ -15,7 +15,8 @@ pub(crate) struct Threshold {
 
 // Each ESI that came, behind its copies.
 fn pairs_of(alloc: Global, copies: &[usize; 256]) -> Result<Vec<(usize, u8)>, AllocError>
-    ensures { IfOk result (λ v. v.items ≡ priced (slice_index copies.now) (present_esis copies.now)) }
+    ensures { IfOk result (λ v.
+        v.items ≡ priced (slice_index copies.now) (present_esis copies.now)) }
 {
     let mut pairs = Vec::new(alloc);
     for esi in 0..256usize {
@@ -47,7 +48,8 @@ pub(crate) fn cheapest(
     requires some { 0 < spare }
     requires enough { spare ≤ filled copies.now }
     requires fits { cost_of copies.now (present_esis copies.now) < 2 ^ 64 }
-    ensures count { IfOk result (λ c. length (cheapest_of copies.now c.most_copies c.last_esi) ≡ spare) }
+    ensures count { IfOk result (λ c.
+        length (cheapest_of copies.now c.most_copies c.last_esi) ≡ spare) }
     ensures cost { IfOk result (λ c.
         c.cost ≡ cost_of copies.now (cheapest_of copies.now c.most_copies c.last_esi)) }
 {

@@ -135,7 +135,7 @@ impl Fti {
     /// B: the maximum source block length, the most source symbols of a block, at least one.
     pub fn block_length(&self) -> u8
         ensures value { result ≡ self.now.block_length }
-        ensures valid { IsValidFti self.now }
+        ensures bounds { (1 ≤ result) × (result ≤ self.now.max_symbols) }
     {
         self.block_length
     }
@@ -143,7 +143,7 @@ impl Fti {
     /// The most encoding symbols of a block, at least B and at most 255.
     pub fn max_symbols(&self) -> u8
         ensures value { result ≡ self.now.max_symbols }
-        ensures valid { IsValidFti self.now }
+        ensures bounds { (self.now.block_length ≤ result) × (result ≤ 255) }
     {
         self.max_symbols
     }
@@ -154,7 +154,6 @@ impl Fti {
         ensures value { result ≡ symbol_count self.now }
         ensures some { 1 ≤ result }
         ensures few { result ≤ self.now.transfer_length }
-        ensures valid { IsValidFti self.now }
     {
         self.transfer_length.div_ceil(u64::from(self.symbol_length))
     }
@@ -178,7 +177,6 @@ impl Fti {
         ensures large { (b : ℕ) → b < result.1 → source_count self.now b ≡ result.0 + 1 }
         ensures small { (b : ℕ) → result.1 ≤ b → source_count self.now b ≡ result.0 }
         ensures start { (b : ℕ) → start_of self.now b ≡ b * result.0 + min b result.1 }
-        ensures valid { IsValidFti self.now }
     {
         let symbols = self.symbol_count();
         let blocks = u64::from(self.block_count());
@@ -194,6 +192,7 @@ impl Fti {
         ensures most { result ≤ self.now.block_length }
         ensures byte { result ≤ 255 }
     {
+        self.is_valid();
         let (small, large) = self.shares();
         if u64::from(b) < large {
             small as usize + 1
@@ -231,6 +230,7 @@ impl Fti {
         ensures value { result ≡ start_of self.now b }
         ensures within { result + source_count self.now b ≤ symbol_count self.now }
     {
+        self.is_valid();
         let (small, large) = self.shares();
         let before = u64::from(b);
         before * small + before.min(large)
@@ -240,9 +240,9 @@ impl Fti {
     #[tactic(auto, using(crate::proofs::Laws::last_bounds), unfolding(crate::specs::Fti::last_length))]
     pub fn last_length(&self) -> usize
         ensures value { result ≡ last_length self.now }
-        ensures some { 1 ≤ result }
-        ensures most { result ≤ self.now.symbol_length }
+        ensures bounds { (1 ≤ result) × (result ≤ self.now.symbol_length) }
     {
+        self.is_valid();
         (self.transfer_length - (self.symbol_count() - 1) * u64::from(self.symbol_length)) as usize
     }
 }

@@ -39,9 +39,13 @@ places = record (new_rule (codes "PLACE")) {
 abbrev pub identity : List Rule
 identity = number (codes "tsi") 0 4294967295 ∷ number (codes "toi") 0 4294967295 ∷ []
 
+-- the most bytes of an encoding symbol that can be sent
+abbrev pub most_symbol_bytes : ℕ
+most_symbol_bytes = 65475
+
 -- the numbers of an FTI
 abbrev pub sizes : List Rule
-sizes = number (codes "symbol") 1 65475 ∷ number (codes "block") 1 255 ∷ number (codes "max") 1 255 ∷ []
+sizes = number (codes "symbol") 1 most_symbol_bytes ∷ number (codes "block") 1 255 ∷ number (codes "max") 1 255 ∷ []
 
 abbrev pub command : Text → List Rule → Shape
 command name rules = record (new_shape name) { rules = rules }

@@ -12,6 +12,7 @@ use Rattle.request.specs.declared.requests.Request.TheVariants.{Check, Twin, Sho
 use Rattle.request.specs.declared.usage.Usage.{Usage}
 use Rattle.request.specs.declared.usage.Usage.TheVariants.{Help, Line, Value, NoMemory}
 use Rattle.request.specs.Usages.{IsRefusal}
+use Rattle.request.specs.Grammar.{most_symbol_bytes}
 
 -- ---- values, by the rows that the grammar reads from a command's words
 
@@ -33,7 +34,7 @@ pub record HasSizes (rows : List Row) (sizes : Sizes) : Type 0 where
   pub block : HasNumber 8 rows (codes "block") sizes.block
   pub max_n : HasNumber 8 rows (codes "max") sizes.max_n
   pub some_symbol : 1 ≤ sizes.symbol
-  pub sendable : sizes.symbol ≤ 65475
+  pub sendable : sizes.symbol ≤ most_symbol_bytes
   pub some_block : 1 ≤ sizes.block
   pub some_max : 1 ≤ sizes.max_n
 

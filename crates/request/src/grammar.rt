@@ -4,6 +4,7 @@ ghost use Rattle.clap.specs.Words.{rule_of};
 ghost use Rattle.request.specs.Grammar.{file as file_rule, number as number_rule, order as order_rule, places as places_rule, encode_command as encode_shape, certify_command as certify_shape, check_command as check_shape, drop_command as drop_shape, decode_command as decode_shape, twin_command as twin_shape, show_command as show_shape, IsOrders};
 ghost use Rattle.request.specs.Building.{HasGrammar, IsShaped, AddsRules, AddsCommand};
 
+use crate::requests::MOST_SYMBOL_BYTES;
 use clap::builder::ValueParser;
 use clap::{Arg, Command};
 use std::alloc::{AllocError, Global};
@@ -126,7 +127,7 @@ const SIZES: [NumberOption<'static>; 3] = [
         name: "symbol",
         help: "The encoding symbol length in bytes, 1 to 65475",
         least: 1,
-        most: 65_475,
+        most: MOST_SYMBOL_BYTES as u64,
     },
     NumberOption {
         name: "block",

@@ -4,7 +4,7 @@ ghost use Rattle.clap.specs.Words.{first_of, one_of, subcommand_rows_of};
 ghost use Rattle.request.specs.Requests.{HasOrder, HasPlaces, HasSending, HasSizes, HasText};
 ghost use Rattle.request.specs.RequestReading.{AnswersRead, Finds, Gives, GivesNone, IsNoPlaces, rows_in};
 
-use crate::requests::{Request, Sending, Sizes};
+use crate::requests::{MOST_SYMBOL_BYTES, Request, Sending, Sizes};
 use crate::usage::Usage;
 use clap::ArgMatches;
 use partition::Order;
@@ -39,7 +39,7 @@ fn sizes(matches: &ArgMatches<'_>) -> Result<Sizes, Usage>
     let symbol = number::<u16>(matches, "symbol")?;
     let block = number::<u8>(matches, "block")?;
     let max_n = number::<u8>(matches, "max")?;
-    if symbol == 0 || symbol > 65475 || block == 0 || max_n == 0 {
+    if symbol == 0 || symbol > MOST_SYMBOL_BYTES || block == 0 || max_n == 0 {
         return Err(Usage::Value);
     }
     Ok(Sizes {

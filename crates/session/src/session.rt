@@ -5,14 +5,10 @@ ghost use Rattle.streams.specs.Pieces.{AppendsSome};
 ghost use Rattle.session.specs.Frames.{most_bytes, frames, AreDatagrams, IsFramed, IsSessionFault};
 
 use crate::frame::{FrameFault, read_next, write_one};
+use lists::are_bytes;
 use std::alloc::{AllocError, Global};
 use std::marker::Model;
 use streams::{Read, Write};
-
-// What the type of a slice says: its members are bytes.
-fn are_bytes(bytes: &[u8])
-    ensures { (i : ℕ) → slice_index bytes.now i < 256 }
-{}
 
 /// A list of datagrams, each of at most 65,507 bytes.
 #[derive(Drop)]

@@ -1,5 +1,5 @@
 //! A reader or a writer of the standard library as one of ours.
-ghost use Rattle.std.specs.Prelude.{◌≡◌, ◌<◌, ◌≤◌, ◌+◌, None, true, false, ◌^◌, ◌-◌, [], length, IfOk, OnOk, OnErr};
+ghost use Rattle.std.specs.Prelude.{◌≡◌, ◌<◌, ◌≤◌, ◌+◌, None, true, false, ◌^◌, ◌-◌, [], length, IfOk, OnOk, OnErr, is_err};
 ghost use Rattle.std.specs.Io.KnownBytes.{ReadConsumes, WriteAppends, Keeps};
 ghost use Rattle.std.specs.Io.Buffered.{writer_buffer, writer_contents};
 
@@ -97,8 +97,8 @@ impl<T: io::Write + Drop> Device<BufWriter<T>> {
         ensures passed { OnOk result (writer_buffer self.new.inner ≡ []) }
         ensures inner { Keeps (writer_contents T.contents self.old.inner)
             (writer_contents T.contents self.new.inner) }
-        ensures fails { OnErr result (self.new.failed ≡ true) }
-        ensures works { OnOk result ((self.old.failed ≡ false) × (self.new.failed ≡ false)) }
+        ensures failed { self.new.failed ≡ is_err result }
+        ensures works { OnOk result (self.old.failed ≡ false) }
     {
         if self.failed {
             return Err(Failed);

@@ -15,20 +15,19 @@ use std::alloc::{AllocError, Global};
 /// Prints the verdict, and answers the status.
 pub(crate) fn check<'a, F: Folder, W: Write>(
     alloc: Global,
-    folder: &mut F,
+    folder: &F,
     out: &mut W,
     session: &'a str,
     object: &'a str,
     certificate: &'a str,
 ) -> Result<u8, Fault<'a>>
     // The verdict is on what the three files hold.
-    ensures ok { IfOk result (IsChecked (F.files folder.old) session.now object.now certificate.now
+    ensures ok { IfOk result (IsChecked (F.files folder.now) session.now object.now certificate.now
         (W.contents out.old) (W.contents out.new)) }
-    ensures fault { IfErr result (IsUnchecked (F.files folder.old) session.now object.now
+    ensures fault { IfErr result (IsUnchecked (F.files folder.now) session.now object.now
         certificate.now (W.failed out.new)) }
     ensures silent { IfErr result (λ fault.
         IsSilent fault (W.failed out.new) (W.contents out.old) (W.contents out.new)) }
-    ensures stays { F.files folder.new ≡ F.files folder.old }
 {
     let session = read_session(alloc, folder, session)?;
     let object = read_object(alloc, folder, object)?;

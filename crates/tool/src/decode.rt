@@ -1,7 +1,7 @@
 //! The command `decode`.
-ghost use Rattle.std.specs.Prelude.{◌≡◌, ◌≤◌, IfOk, IfErr, OnOk, OnErr, codes};
-ghost use Rattle.tool.specs.Decoding.{GainsFault, missing_text, object_text, IsAnswerLine, answer_status, MakesObject, IsDecoded, IsNotDecoded};
-ghost use Rattle.tool.specs.Making.{IsUnmade, Fails};
+ghost use Rattle.std.specs.Prelude.{◌≡◌, ◌≤◌, IfOk, IfErr, OnOk, codes};
+ghost use Rattle.tool.specs.Decoding.{GainsFault, missing_text, object_text, IsAnswerLine, answer_status, IsDecoded, IsNotDecoded};
+ghost use Rattle.tool.specs.Making.{Fails};
 
 use crate::fault::Fault;
 use crate::folder::Folder;
@@ -32,25 +32,12 @@ pub(crate) fn decode<'a, F: Folder, W: Write>(
     let datagrams = session.views(alloc)?;
     let answer = coder::decode(alloc, &datagrams)?;
     let line = answer_line(alloc, &answer)?;
-    write_object(folder, output, &answer)?;
+    match &answer {
+        Answer::Object(object) => write_output(folder, output, object.as_slice())?,
+        Answer::Empty | Answer::Fault(_) | Answer::Missing { .. } => {}
+    }
     line.print(out)?;
     Ok(status_of(&answer))
-}
-
-fn write_object<'a, F: Folder>(
-    folder: &mut F,
-    output: &'a str,
-    answer: &Answer,
-) -> Result<(), Fault<'a>>
-    ensures made { OnOk result
-        (MakesObject answer.now output.now (F.files folder.old) (F.files folder.new)) }
-    ensures fault { IfErr result (IsUnmade (F.files folder.old) output.now) }
-    ensures stays { OnErr result (F.files folder.new ≡ F.files folder.old) }
-{
-    match answer {
-        Answer::Object(object) => write_output(folder, output, object.as_slice()),
-        Answer::Empty | Answer::Fault(_) | Answer::Missing { .. } => Ok(()),
-    }
 }
 
 fn status_of(answer: &Answer) -> u8

@@ -25,11 +25,10 @@ pub trait Folder {
     ghost files: { Self → Option Files };
 
     /// Opens a file for reading. `Io` comes only where the file isn't there, or the folder doesn't tell its files.
-    fn open_file(&mut self, name: &str) -> Result<Self::Input, FileFault>
-        ensures input { IfOk result (λ file. HoldsInput (files self.old) name.now
+    fn open_file(&self, name: &str) -> Result<Self::Input, FileFault>
+        ensures input { IfOk result (λ file. HoldsInput (files self.now) name.now
             (Self.Input.remaining file) (Self.Input.sound file)) }
-        ensures fault { IfErr result (IsUnopened (files self.old) name.now) }
-        ensures stays { files self.new ≡ files self.old };
+        ensures fault { IfErr result (IsUnopened (files self.now) name.now) };
 
     /// Creates what is to be the file of this name. `Io` comes only where the folder doesn't tell its files.
     fn create_file(&mut self, name: &str) -> Result<Self::Output, FileFault>

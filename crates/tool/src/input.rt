@@ -1,5 +1,5 @@
 //! Input files, each read whole.
-ghost use Rattle.std.specs.Prelude.{◌≡◌, IfOk, IfErr};
+ghost use Rattle.std.specs.Prelude.{IfOk, IfErr};
 ghost use Rattle.tool.specs.Folder.{HoldsInput};
 ghost use Rattle.tool.specs.Inputs.{HoldsSession, HoldsBytes, HoldsCertificate, IsNotOpened, IsSessionUnread, IsCertificateUnread, IsObjectUnread};
 
@@ -9,11 +9,10 @@ use cert::{CertFault, Certificate};
 use session::{FrameFault, ReadFault, Session, read_to_end};
 use std::alloc::Global;
 
-fn open<'a, F: Folder>(folder: &mut F, name: &'a str) -> Result<F::Input, Fault<'a>>
-    ensures input { IfOk result (λ file. HoldsInput (F.files folder.old) name.now
+fn open<'a, F: Folder>(folder: &F, name: &'a str) -> Result<F::Input, Fault<'a>>
+    ensures input { IfOk result (λ file. HoldsInput (F.files folder.now) name.now
         (F.Input.remaining file) (F.Input.sound file)) }
-    ensures fault { IfErr result (IsNotOpened (F.files folder.old) name.now) }
-    ensures stays { F.files folder.new ≡ F.files folder.old }
+    ensures fault { IfErr result (IsNotOpened (F.files folder.now) name.now) }
 {
     match folder.open_file(name) {
         Ok(input) => Ok(input),
@@ -25,12 +24,11 @@ fn open<'a, F: Folder>(folder: &mut F, name: &'a str) -> Result<F::Input, Fault<
 /// The session in a file.
 pub(crate) fn read_session<'a, F: Folder>(
     alloc: Global,
-    folder: &mut F,
+    folder: &F,
     name: &'a str,
 ) -> Result<Session, Fault<'a>>
-    ensures ok { IfOk result (HoldsSession (F.files folder.old) name.now) }
-    ensures fault { IfErr result (IsSessionUnread (F.files folder.old) name.now) }
-    ensures stays { F.files folder.new ≡ F.files folder.old }
+    ensures ok { IfOk result (HoldsSession (F.files folder.now) name.now) }
+    ensures fault { IfErr result (IsSessionUnread (F.files folder.now) name.now) }
 {
     let mut input = open(folder, name)?;
     match Session::read(alloc, &mut input) {
@@ -43,12 +41,11 @@ pub(crate) fn read_session<'a, F: Folder>(
 /// The certificate in a file.
 pub(crate) fn read_certificate<'a, F: Folder>(
     alloc: Global,
-    folder: &mut F,
+    folder: &F,
     name: &'a str,
 ) -> Result<Certificate, Fault<'a>>
-    ensures ok { IfOk result (HoldsCertificate (F.files folder.old) name.now) }
-    ensures fault { IfErr result (IsCertificateUnread (F.files folder.old) name.now) }
-    ensures stays { F.files folder.new ≡ F.files folder.old }
+    ensures ok { IfOk result (HoldsCertificate (F.files folder.now) name.now) }
+    ensures fault { IfErr result (IsCertificateUnread (F.files folder.now) name.now) }
 {
     let mut input = open(folder, name)?;
     match Certificate::read(alloc, &mut input) {
@@ -61,12 +58,11 @@ pub(crate) fn read_certificate<'a, F: Folder>(
 /// The bytes of a file.
 pub(crate) fn read_object<'a, F: Folder>(
     alloc: Global,
-    folder: &mut F,
+    folder: &F,
     name: &'a str,
 ) -> Result<Vec<u8>, Fault<'a>>
-    ensures ok { IfOk result (λ v. HoldsBytes (F.files folder.old) name.now v.items) }
-    ensures fault { IfErr result (IsObjectUnread (F.files folder.old) name.now) }
-    ensures stays { F.files folder.new ≡ F.files folder.old }
+    ensures ok { IfOk result (λ v. HoldsBytes (F.files folder.now) name.now v.items) }
+    ensures fault { IfErr result (IsObjectUnread (F.files folder.now) name.now) }
 {
     let mut input = open(folder, name)?;
     match read_to_end(alloc, &mut input) {

@@ -101,7 +101,7 @@ impl Folder for MemoryFolder {
 
     ghost files = { λ folder. Some (files_of folder.files.items) };
 
-    fn open_file(&mut self, name: &str) -> Result<MemoryInput, FileFault> {
+    fn open_file(&self, name: &str) -> Result<MemoryInput, FileFault> {
         let Some(bytes) = self.get(name) else {
             return Err(FileFault::Io);
         };

@@ -16,16 +16,15 @@ use std::alloc::{AllocError, Global};
 /// Prints a line for each datagram, and answers the status: 0 where all are packets.
 pub(crate) fn show<'a, F: Folder, W: Write>(
     alloc: Global,
-    folder: &mut F,
+    folder: &F,
     out: &mut W,
     session: &'a str,
 ) -> Result<u8, Fault<'a>>
     ensures ok { IfOk result
-        (IsShown (F.files folder.old) session.now (W.contents out.old) (W.contents out.new)) }
-    ensures fault { IfErr result (IsUnshown (F.files folder.old) session.now (W.failed out.new)) }
-    ensures cut { IfErr result (λ fault. IsShownInPart (F.files folder.old) session.now fault
+        (IsShown (F.files folder.now) session.now (W.contents out.old) (W.contents out.new)) }
+    ensures fault { IfErr result (IsUnshown (F.files folder.now) session.now (W.failed out.new)) }
+    ensures cut { IfErr result (λ fault. IsShownInPart (F.files folder.now) session.now fault
         (W.failed out.new) (W.contents out.old) (W.contents out.new)) }
-    ensures stays { F.files folder.new ≡ F.files folder.old }
 {
     let session = read_session(alloc, folder, session)?;
     print_datagrams(alloc, out, &session)

@@ -14,25 +14,25 @@ returns-in-Some-clause-ok g c =
       polynomials = c.in_ok-certificate.certificate;
       verdict = No (Thin c.in-Some.block c.in-Some.have c.in-Some.need);
       sent = c.in_ok-session.ensures.ok;
-      whole = rw c.in_ok-session.ensures.stays at c.in_ok-object.ensures.ok;
-      certified = rw (c.in_ok-object.ensures.stays, c.in_ok-session.ensures.stays) at c.in_ok-certificate.ensures.ok;
+      whole = c.in_ok-object.ensures.ok;
+      certified = c.in_ok-certificate.ensures.ok;
       judged = rw (verdict, c.as_slice.ensures.value) at c.in_ok-check.ensures.verdict;
       told = refl;
       printed = rw c.in_ok-line-in-Some.ensures at c.in_ok-print-in-Some.ensures.ok;
-      made = (c.in_ok-other-in-Some.other.items, rw c.as_slice-in-Some.ensures.value at c.in_ok-other-in-Some.ensures, rw (c.as_slice-in-Some-2.ensures.value, c.in_ok-certificate.ensures.stays, c.in_ok-object.ensures.stays, c.in_ok-session.ensures.stays) at c.in_ok-write_output-in-Some.ensures.made);
+      made = (c.in_ok-other-in-Some.other.items, rw c.as_slice-in-Some.ensures.value at c.in_ok-other-in-Some.ensures, rw c.as_slice-in-Some-2.ensures.value at c.in_ok-write_output-in-Some.ensures.made);
     }
 
 pub returns-clause-ok : goal.returns-clause-ok
 returns-clause-ok g c =
-    let other = other_reason c.in-No.reason _ _ _ _ _ _ _ _ (sym c.short_block.ensures ∙ c.in-None.is) (c.in_ok-certificate.ensures.stays ∙ c.in_ok-object.ensures.stays ∙ c.in_ok-session.ensures.stays) (c.in_ok-reason_line-in-None.field-0, c.in_ok-reason_line-in-None.ensures, c.in_ok-print-in-None.ensures.ok) in
+    let other = other_reason c.in-No.reason _ _ _ _ _ _ _ _ (sym c.short_block.ensures ∙ c.in-None.is) refl (c.in_ok-reason_line-in-None.field-0, c.in_ok-reason_line-in-None.ensures, c.in_ok-print-in-None.ensures.ok) in
     record {
       datagrams = c.in_ok-session.session;
       bytes = c.in_ok-object.object.items;
       polynomials = c.in_ok-certificate.certificate;
       verdict = No c.in-No.reason;
       sent = c.in_ok-session.ensures.ok;
-      whole = rw c.in_ok-session.ensures.stays at c.in_ok-object.ensures.ok;
-      certified = rw (c.in_ok-object.ensures.stays, c.in_ok-session.ensures.stays) at c.in_ok-certificate.ensures.ok;
+      whole = c.in_ok-object.ensures.ok;
+      certified = c.in_ok-certificate.ensures.ok;
       judged = rw (c.in-No.is, c.as_slice.ensures.value) at c.in_ok-check.ensures.verdict;
       told = other.told;
       printed = other.printed;

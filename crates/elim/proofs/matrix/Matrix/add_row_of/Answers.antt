@@ -9,7 +9,7 @@ invariant_of-self g c =
     let none = g.F.Field.ZERO in
     let n : ℕ = c.other.inside.cols in
     let from : ℕ = c.args.p * c.other.inside.cols in
-    let cols : c.other.inside.cols ≡ c.self.inside.cols = ap (λ v. v.cols) c.other.view_is ∙ c.requires.columns ∙ sym (ap (λ v. v.cols) c.self.view_is) in
+    let cols : c.other.inside.cols ≡ c.self.inside.cols = ap (λ v. v.cols) c.other.view_is ∙ c.requires.columns.0 ∙ sym (ap (λ v. v.cols) c.self.view_is) in
     let rows : c.args.p < c.other.inside.rows = omega (arith, ap (λ v. v.rows) c.other.view_is, c.requires.other) in
     let ends = row_ends c.args.p c.other.inside.rows c.other.inside.cols rows in
     let inside : c.args.p * c.other.inside.cols + c.other.inside.cols ≤ length c.deref.result.now = omega (arith, ends, c.other.invariant.whole, ap length c.deref.ensures.value) in
@@ -21,7 +21,7 @@ invariant_of-self g c =
     let before = c.add_at.ensures.before in
     let after = λ (i : ℕ) (le : c.args.r * c.self.inside.cols + c.self.inside.cols ≤ i). c.add_at.ensures.after i (omega (arith, le, long)) in
     let whole = refill_whole c.self.inside.entries.len c.self.inside.entries.items c.add_at.new.entries (c.add_at.ensures.length ∙ ap length c.deref_mut.ensures.value ∙ sym c.self.inside.entries.ok.0) in
-    let elements = row_added_elements g.F.Field.element g.F.Field.sum g.F.Field.product none g.F.Field.ONE g.met.F.Field.laws c.args.c (c.args.r * c.self.inside.cols) c.self.inside.cols row c.self.inside.entries.items c.add_at.new.entries c.requires.scale c.self.invariant.elements.at (λ j. c.other.invariant.elements.at (from + j))
+    let elements = row_added_elements g.F.Field.element g.F.Field.sum g.F.Field.product none g.F.Field.ONE g.met.F.Field.laws c.args.c (c.args.r * c.self.inside.cols) c.self.inside.cols row c.self.inside.entries.items c.add_at.new.entries c.requires.columns.1 c.self.invariant.elements.at (λ j. c.other.invariant.elements.at (from + j))
     (rw c.deref_mut.ensures.value at here) (rw c.deref_mut.ensures.value at before) (rw c.deref_mut.ensures.value at after) in
     rw whole (record {
       some_rows = c.self.invariant.some_rows;
@@ -37,7 +37,7 @@ returns g c =
     let none = g.F.Field.ZERO in
     let n : ℕ = c.other.inside.cols in
     let from : ℕ = c.args.p * c.other.inside.cols in
-    let cols : c.other.inside.cols ≡ c.self.inside.cols = ap (λ v. v.cols) c.other.view_is ∙ c.requires.columns ∙ sym (ap (λ v. v.cols) c.self.view_is) in
+    let cols : c.other.inside.cols ≡ c.self.inside.cols = ap (λ v. v.cols) c.other.view_is ∙ c.requires.columns.0 ∙ sym (ap (λ v. v.cols) c.self.view_is) in
     let rows : c.args.p < c.other.inside.rows = omega (arith, ap (λ v. v.rows) c.other.view_is, c.requires.other) in
     let ends = row_ends c.args.p c.other.inside.rows c.other.inside.cols rows in
     let inside : c.args.p * c.other.inside.cols + c.other.inside.cols ≤ length c.deref.result.now = omega (arith, ends, c.other.invariant.whole, ap length c.deref.ensures.value) in
@@ -49,7 +49,7 @@ returns g c =
     let before = c.add_at.ensures.before in
     let after = λ (i : ℕ) (le : c.args.r * c.self.inside.cols + c.self.inside.cols ≤ i). c.add_at.ensures.after i (omega (arith, le, long)) in
     let whole = refill_whole c.self.inside.entries.len c.self.inside.entries.items c.add_at.new.entries (c.add_at.ensures.length ∙ ap length c.deref_mut.ensures.value ∙ sym c.self.inside.entries.ok.0) in
-    let elements = row_added_elements g.F.Field.element g.F.Field.sum g.F.Field.product none g.F.Field.ONE g.met.F.Field.laws c.args.c (c.args.r * c.self.inside.cols) c.self.inside.cols row c.self.inside.entries.items c.add_at.new.entries c.requires.scale c.self.invariant.elements.at (λ j. c.other.invariant.elements.at (from + j))
+    let elements = row_added_elements g.F.Field.element g.F.Field.sum g.F.Field.product none g.F.Field.ONE g.met.F.Field.laws c.args.c (c.args.r * c.self.inside.cols) c.self.inside.cols row c.self.inside.entries.items c.add_at.new.entries c.requires.columns.1 c.self.invariant.elements.at (λ j. c.other.invariant.elements.at (from + j))
     (rw c.deref_mut.ensures.value at here) (rw c.deref_mut.ensures.value at before) (rw c.deref_mut.ensures.value at after) in
     rw (← c.self.view_is, ← c.other.view_is, whole) (record {
       shape = record { rows = refl; cols = refl };
