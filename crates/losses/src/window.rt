@@ -6,36 +6,15 @@ ghost use Rattle.losses.specs.Windows.{filled, ArePlaced, IsLeastGap};
 use crate::counting::{copies_of, different};
 use crate::groups::Member;
 
-// Takes one copy away: how many counts aren't zero then.
-fn lose(copies: &mut [usize; 256], different: usize, esi: u8) -> usize
-    requires some { 0 < slice_index copies.old esi }
+// Sets how many copies of an ESI there are: how many counts aren't zero then.
+fn set_copies(copies: &mut [usize; 256], different: usize, esi: u8, count: usize) -> usize
     requires counted { different ≡ filled copies.old }
-    ensures copies { copies.new ≡ slice_set copies.old esi (slice_index copies.old esi - 1) }
+    ensures copies { copies.new ≡ slice_set copies.old esi count }
     ensures counted { result ≡ filled copies.new }
 {
-    let place = esi as usize;
-    copies[place] -= 1;
-    if copies[place] == 0 {
-        different - 1
-    } else {
-        different
-    }
-}
-
-// Gives one copy back: how many counts aren't zero then.
-fn give_back(copies: &mut [usize; 256], different: usize, esi: u8) -> usize
-    requires room { slice_index copies.old esi + 1 < 2 ^ 64 }
-    requires counted { different ≡ filled copies.old }
-    ensures copies { copies.new ≡ slice_set copies.old esi (slice_index copies.old esi + 1) }
-    ensures counted { result ≡ filled copies.new }
-{
-    let place = esi as usize;
-    copies[place] += 1;
-    if copies[place] == 1 {
-        different + 1
-    } else {
-        different
-    }
+    let before = copies[esi as usize];
+    copies[esi as usize] = count;
+    different + usize::from(count > 0) - usize::from(before > 0)
 }
 
 /// From the first to the last place of the narrowest window whose loss leaves fewer than `need` different ESIs. The
@@ -52,7 +31,9 @@ pub(crate) fn least_gap(members: &[Member], need: usize) -> usize
     let mut least = 0;
     for start in 0..members.len() {
         while left >= need && end < members.len() {
-            left = lose(&mut copies, left, members[end].esi);
+            let esi = members[end].esi;
+            let count = copies[esi as usize] - 1;
+            left = set_copies(&mut copies, left, esi, count);
             end += 1;
         }
         if left >= need {
@@ -62,7 +43,9 @@ pub(crate) fn least_gap(members: &[Member], need: usize) -> usize
         if start == 0 || gap < least {
             least = gap;
         }
-        left = give_back(&mut copies, left, members[start].esi);
+        let esi = members[start].esi;
+        let count = copies[esi as usize] + 1;
+        left = set_copies(&mut copies, left, esi, count);
     }
     least
 }

@@ -13,11 +13,11 @@ loop-left-preserved c =
     let f = filled_is c.args.members.now c.loop-left.copies c.loop-start.start c.loop-left.end i.copies in
     let t = c.loop-left-test.true in
     record {
-      size = c.lose-left.array_long;
+      size = c.set_copies-left.array_long;
       copies =
-          lost_copies c.args.members.now c.loop-left.copies c.lose-left.new.copies c.loop-start.start c.loop-left.end (get_or c.args.members.now c.loop-left.end (member 0 0)).esi i.size (omega arith) i.copies
-          (omega arith) refl c.lose-left.ensures.copies;
-      left = c.lose-left.ensures.counted;
+          lost_copies c.args.members.now c.loop-left.copies c.set_copies-left.new.copies c.loop-start.start c.loop-left.end (get_or c.args.members.now c.loop-left.end (member 0 0)).esi i.size (omega arith) i.copies
+          (omega arith) refl c.set_copies-left.ensures.copies;
+      left = c.set_copies-left.ensures.counted;
       order = omega arith;
       within = omega arith;
       before = λ y l.
@@ -70,11 +70,11 @@ loop-start-preserved c =
     let found : c.if-start-eq0.least ≡ place_at c.args.members.now (c.loop-left.end - 1) - place_at c.args.members.now c.loop-start.start → IsFound c.args.members.now c.args.need c.if-start-eq0.least =
     λ e. record { start = c.loop-start.start; end = c.loop-left.end; is = window; size = omega (arith, e, size) } in
     record {
-      size = c.give_back-left.array_long;
+      size = c.set_copies-left-in-loop-start.array_long;
       copies =
-          given_copies c.args.members.now c.loop-left.copies c.give_back-left.new.copies c.loop-start.start c.loop-left.end (get_or c.args.members.now c.loop-start.start (member 0 0)).esi i.size (omega arith) i.copies
-          (omega arith) refl c.give_back-left.ensures.copies;
-      left = c.give_back-left.ensures.counted;
+          given_copies c.args.members.now c.loop-left.copies c.set_copies-left-in-loop-start.new.copies c.loop-start.start c.loop-left.end (get_or c.args.members.now c.loop-start.start (member 0 0)).esi i.size (omega arith) i.copies
+          (omega arith) refl c.set_copies-left-in-loop-start.ensures.copies;
+      left = c.set_copies-left-in-loop-start.ensures.counted;
       order = omega (arith, s);
       within = n;
       before = λ y l. (let b = i.before y l in let m = different_le c.args.members.now c.loop-start.start y (c.loop-start.start + 1) y (omega arith) (omega arith) in omega (arith, b, m));
