@@ -10,22 +10,22 @@ use Rattle.partition.specs.Fti.{Fti, block_count, source_count, encoding_count, 
 use Rattle.elim.specs.Grid.{Grid}
 use Rattle.reception.specs.Symbols.{Agrees}
 use Rattle.block_code.specs.CodesOf.{IsCodeOf}
-use Rattle.coder.specs.Rows.{row_of}
+use Rattle.coder.specs.Rows.{row_at}
 use Rattle.block_code.specs.Columns.{AreColumns}
 use Rattle.block_code.proofs.ColumnPlaces.{column_product}
 use Rattle.coder.proofs.Columns.{made_agrees, source_agrees}
 
 -- a byte of a row
-pub get_or-row_of : (size : ℕ) (rows : List ℕ) (r c : ℕ) → c < size → get_or (row_of size rows r) c 0 ≡ get_or rows (r * size + c) 0
-get_or-row_of size rows r c lt = get_or-take size (drop (r * size) rows) c 0 lt ∙ get_or-drop (r * size) rows c 0
+pub get_or-row_at : (size : ℕ) (rows : List ℕ) (r c : ℕ) → c < size → get_or (row_at size rows r) c 0 ≡ get_or rows (r * size + c) 0
+get_or-row_at size rows r c lt = get_or-take size (drop (r * size) rows) c 0 lt ∙ get_or-drop (r * size) rows c 0
 
-pub length-row_of : (size m : ℕ) (rows : List ℕ) (r : ℕ) → length rows ≡ m * size → r < m → length (row_of size rows r) ≡ size
-length-row_of size m rows r long lt =
+pub length-row_at : (size m : ℕ) (rows : List ℕ) (r : ℕ) → length rows ≡ m * size → r < m → length (row_at size rows r) ≡ size
+length-row_at size m rows r long lt =
     let ends = row_ends r m size lt in
     length-take-le size (drop (r * size) rows) (omega (arith, length-drop (r * size) rows, long, ends))
 
 -- the rows of a place in a slice
-pub row_between : (size : ℕ) (rows : List ℕ) (r : ℕ) → take ((r + 1) * size - r * size) (drop (r * size) rows) ≡ row_of size rows r
+pub row_between : (size : ℕ) (rows : List ℕ) (r : ℕ) → take ((r + 1) * size - r * size) (drop (r * size) rows) ≡ row_at size rows r
 row_between size rows r = let e : (r + 1) * size - r * size ≡ size = omega arith in ap (λ (n : ℕ). take n (drop (r * size) rows)) e
 
 module _ (f : Fti) (object : List ℕ) (b : ℕ) (g : Grid ℕ) (code : IsCodeOf f b g) (bytes : AreBytes object) (hb : b < block_count f)
@@ -40,14 +40,14 @@ module _ (f : Fti) (object : List ℕ) (b : ℕ) (g : Grid ℕ) (code : IsCodeOf
   pub source_row : (from : List ℕ) (r : ℕ) → r < m → first + m ≤ source_count f b
       → ((p : ℕ) → p < length s → get_or s p 0 ≡ get_or from p 0)
       → ((i c : ℕ) → get_or from (i * f.symbol_length + c) 0 ≡ source_byte f object b (first + i) c)
-      → Agrees f object (record { block = b; esi = first + r; bytes = row_of f.symbol_length (s ++ rest) r })
+      → Agrees f object (record { block = b; esi = first + r; bytes = row_at f.symbol_length (s ++ rest) r })
   source_row from r lr within copied is =
       let ends = row_ends r m f.symbol_length lr in
-      source_agrees f object b g code bytes (first + r) (row_of f.symbol_length (s ++ rest) r) hb (omega arith)
-      (length-row_of f.symbol_length count (s ++ rest) r both_long (omega arith))
+      source_agrees f object b g code bytes (first + r) (row_at f.symbol_length (s ++ rest) r) hb (omega arith)
+      (length-row_at f.symbol_length count (s ++ rest) r both_long (omega arith))
       (λ c hc.
       let inside : r * f.symbol_length + c < length s = omega (arith, front, ends, hc) in
-      get_or-row_of f.symbol_length (s ++ rest) r c hc
+      get_or-row_at f.symbol_length (s ++ rest) r c hc
       ∙ get_or_append_left s rest 0 (r * f.symbol_length + c) inside
       ∙ copied (r * f.symbol_length + c) inside ∙ is r c)
 
@@ -55,7 +55,7 @@ module _ (f : Fti) (object : List ℕ) (b : ℕ) (g : Grid ℕ) (code : IsCodeOf
       → ((i : ℕ) → i < source_count f b → get_or part ((r - m) * source_count f b + i) 0 ≡ get_or columns ((first + r) * source_count f b + i) 0)
       → ((c : ℕ) → c < f.symbol_length → get_or rest ((r - m) * f.symbol_length + c) 0
       ≡ byte_sum (source_count f b) (λ i. product (get_or part ((r - m) * source_count f b + i) 0) (source_byte f object b i c)))
-      → Agrees f object (record { block = b; esi = first + r; bytes = row_of f.symbol_length (s ++ rest) r })
+      → Agrees f object (record { block = b; esi = first + r; bytes = row_at f.symbol_length (s ++ rest) r })
   repair_row columns part r ge lr within fits are part_is sums =
       let k = source_count f b in
       let e : m + (r - m) ≡ r = omega arith in
@@ -63,12 +63,12 @@ module _ (f : Fti) (object : List ℕ) (b : ℕ) (g : Grid ℕ) (code : IsCodeOf
       let whole : (m + (r - m)) * f.symbol_length ≡ r * f.symbol_length = ap (λ (v : ℕ). v * f.symbol_length) e in
       let inside : first + r < encoding_count f b = omega arith in
       let column : first + r < g.cols = rw code.cols inside in
-      made_agrees f object b g code bytes (first + r) (row_of f.symbol_length (s ++ rest) r) hb inside
-      (length-row_of f.symbol_length count (s ++ rest) r both_long lr)
+      made_agrees f object b g code bytes (first + r) (row_at f.symbol_length (s ++ rest) r) hb inside
+      (length-row_at f.symbol_length count (s ++ rest) r both_long lr)
       (λ c hc.
       let past : length s ≤ r * f.symbol_length + c = omega (arith, front, split, whole) in
       let place : r * f.symbol_length + c - m * f.symbol_length ≡ (r - m) * f.symbol_length + c = omega (arith, split, whole) in
-      get_or-row_of f.symbol_length (s ++ rest) r c hc
+      get_or-row_at f.symbol_length (s ++ rest) r c hc
       ∙ get_or-append_right s rest (m * f.symbol_length) (r * f.symbol_length + c) 0 front (omega (arith, front, past))
       ∙ ap (λ (p : ℕ). get_or rest p 0) place
       ∙ sums c hc

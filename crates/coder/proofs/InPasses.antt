@@ -12,7 +12,7 @@ use Rattle.partition.specs.declared.order.Order.TheVariants.{Blocks, Rounds}
 use Rattle.alc.specs.Packet.{written}
 use Rattle.alc.specs.Written.{packet_from}
 use Rattle.reception.specs.Symbols.{Agrees}
-use Rattle.coder.specs.Rows.{row_of}
+use Rattle.coder.specs.Rows.{row_at}
 use Rattle.coder.specs.Sending.{pairs, IsSent}
 use Rattle.coder.specs.Passes.{run_of, pairs_of_pass, passes}
 use Rattle.coder.proofs.EncodedRows.{row_between}
@@ -53,13 +53,13 @@ by_passes Rounds f = refl
 
 -- a datagram that was written of a row
 pub sent_row : (object : List ℕ) (f : Fti) (t u b j size i n : ℕ) (rows old new : List ℕ) → size ≡ f.symbol_length
-    → Agrees f object (record { block = b; esi = j; bytes = row_of f.symbol_length rows i }) → length old ≤ n
+    → Agrees f object (record { block = b; esi = j; bytes = row_at f.symbol_length rows i }) → length old ≤ n
     → new ≡ written (packet_from t u f b j (take ((i + 1) * size - i * size) (drop (i * size) rows))) ++ drop n old
     → IsSent object f t u (b, j) new
 sent_row object f t u b j size i n rows old new e agrees whole is =
-    let row : take ((i + 1) * size - i * size) (drop (i * size) rows) ≡ row_of f.symbol_length rows i = row_between size rows i ∙ ap (λ (v : ℕ). row_of v rows i) e in
+    let row : take ((i + 1) * size - i * size) (drop (i * size) rows) ≡ row_at f.symbol_length rows i = row_between size rows i ∙ ap (λ (v : ℕ). row_at v rows i) e in
     record {
-      symbol = row_of f.symbol_length rows i;
+      symbol = row_at f.symbol_length rows i;
       agrees = agrees;
       spelling = fills (written (packet_from t u f b j (take ((i + 1) * size - i * size) (drop (i * size) rows)))) old new n whole is
           ∙ ap (λ (y : List ℕ). written (packet_from t u f b j y)) row;

@@ -2,5 +2,5 @@
 use Rattle.std.specs.Prelude.{ℕ, ◌*◌, List, take, drop}
 
 -- row r of rows of so many bytes
-abbrev pub row_of : ℕ → List ℕ → ℕ → List ℕ
-row_of size rows r = take size (drop (r * size) rows)
+abbrev pub row_at : ℕ → List ℕ → ℕ → List ℕ
+row_at size rows r = take size (drop (r * size) rows)

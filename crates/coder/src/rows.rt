@@ -1,11 +1,11 @@
 //! Rows of bytes: a block's source symbols, and what a matrix makes of them.
 ghost use Rattle.std.specs.Prelude.{◌≡◌, ◌<◌, ◌≤◌, ◌+◌, ◌*◌, ◌^◌, ℕ, length, slice_index};
 ghost use Rattle.gf256.specs.Arithmetic.{sum_of, product};
-ghost use Rattle.gf256.specs.Sums.{row_times};
+ghost use Rattle.gf256.specs.Sums.{row_sum};
 ghost use Rattle.partition.specs.Fti.{block_count, source_count, encoding_count, source_byte};
 ghost use Rattle.reception.specs.Symbols.{Agrees};
 ghost use Rattle.block_code.specs.CodesOf.{IsCodeOf};
-ghost use Rattle.coder.specs.Rows.{row_of};
+ghost use Rattle.coder.specs.Rows.{row_at};
 
 use block_code::Code;
 use gf256::add_products;
@@ -57,9 +57,8 @@ pub(crate) fn combine(
     ensures len { length out.new ≡ length out.old }
     ensures sums { (r c : ℕ) → r < rows → c < fti.now.symbol_length
         → slice_index out.new (r * fti.now.symbol_length + c)
-        ≡ row_times sum_of product 0
-        (λ i. slice_index coefficients.now (r * source_count fti.now b + i))
-        (source_byte fti.now object.now b) (source_count fti.now b) c }
+        ≡ row_sum coefficients.now (source_count fti.now b)
+        (source_byte fti.now object.now b) r c }
 {
     clear(out);
     let size = usize::from(fti.symbol_length());
@@ -90,7 +89,7 @@ pub(crate) fn encoding_symbols(
         → Agrees fti.now object.now (record {
           block = b;
           esi = first + r;
-          bytes = row_of fti.now.symbol_length out.new r;
+          bytes = row_at fti.now.symbol_length out.new r;
         }) }
 {
     let size = usize::from(fti.symbol_length());

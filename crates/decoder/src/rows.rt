@@ -1,7 +1,7 @@
 //! Rows of bytes.
 ghost use Rattle.std.specs.Prelude.{◌≡◌, ◌≢◌, ◌<◌, ◌≤◌, ◌+◌, ◌*◌, ◌^◌, ℕ, true, false, IfOk, length, slice_index};
-ghost use Rattle.gf256.specs.Arithmetic.{sum_of, product};
-ghost use Rattle.gf256.specs.Sums.{row_times};
+ghost use Rattle.gf256.specs.Arithmetic.{sum_of};
+ghost use Rattle.gf256.specs.Sums.{row_sum};
 
 use gf256::add_products;
 use lists::are_bytes;
@@ -99,9 +99,7 @@ impl Rows {
         ensures sizes { SameSizes self.old self.new }
         ensures sums { (m c : ℕ) → m < self.old.count → c < self.old.size
             → byte_in self.new m c ≡ sum_of (byte_in self.old m c)
-            (row_times sum_of product 0
-            (λ i. slice_index coefficients.now (m * others.now.count + i))
-            (byte_in others.now) others.now.count c) }
+            (row_sum coefficients.now others.now.count (byte_in others.now) m c) }
     {
         let size = self.size;
         let bytes = &mut self.bytes;

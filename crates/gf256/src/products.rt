@@ -6,7 +6,7 @@
 //! coefficients is one addition.
 ghost use Rattle.std.specs.Prelude.{◌≡◌, ℕ, ◌<◌, ◌≤◌, ◌+◌, ◌-◌, ◌*◌, ◌/◌, ◌%◌, ◌^◌, List, [], map, length, slice_index, slice_index_or};
 ghost use Rattle.gf256.specs.Arithmetic.{sum_of, product, doubled};
-ghost use Rattle.gf256.specs.Sums.{row_times};
+ghost use Rattle.gf256.specs.Sums.{row_sum};
 ghost use Rattle.gf256.specs.ByteSums.{byte_sum};
 ghost use Rattle.gf256.specs.Slices.{pick_four, nibble, bit, below, horner, IsFilled, IsList, AreSmall, tile_sum, sum_at};
 ghost use Rattle.std.specs.Simd.Lanes.{zip2};
@@ -471,8 +471,7 @@ pub fn add_products(
     ensures { (r c : ℕ) → r < rows → c < width
         → slice_index outputs.new (r * width + c)
         ≡ sum_of (slice_index outputs.old (r * width + c))
-        (row_times sum_of product 0 (λ i. slice_index coefficients.now (r * count + i))
-        (λ i y. slice_index sources.now (i * stride + y)) count c) }
+        (row_sum coefficients.now count (λ i y. slice_index sources.now (i * stride + y)) r c) }
 {
     if rows == 1 {
         add_one(outputs, coefficients, sources, stride);
