@@ -15,3 +15,4 @@ pub mod ObjectSoFar
 pub mod Promising
 pub mod Solving
 pub mod Unsound
+pub mod Keeping

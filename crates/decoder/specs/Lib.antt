@@ -8,3 +8,4 @@ pub mod Decoded
 pub mod Unsolvable
 pub mod Promised
 pub mod Refusals
+pub mod Recoveries

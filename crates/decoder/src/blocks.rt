@@ -6,11 +6,13 @@ ghost use Rattle.block_code.specs.CodesOf.{IsCodeOf};
 ghost use Rattle.decoder.specs.Blocks.{bytes_of_esi};
 ghost use Rattle.decoder.specs.Decoded.{AreWithin, IsEnoughAt, AreRows, IsUnexplained};
 ghost use Rattle.decoder.specs.Received.{bytes_at};
+ghost use Rattle.decoder.specs.Recoveries.{IsKeptOf};
 ghost use Rattle.decoder.specs.Rows.{byte_in, HasSizes};
 
 use crate::block::Block;
 use crate::received::{Received, Symbols};
 use crate::recovering::recover;
+use crate::recovery::Recovery;
 use crate::rows::{Rows, is_zero};
 use block_code::BlockCodes;
 use lists::are_bytes;
@@ -58,15 +60,18 @@ pub(crate) fn block_rows(
     received: &Received<'_>,
     codes: &BlockCodes,
     b: u32,
+    kept: &mut Option<Recovery>,
 ) -> Result<Option<Rows>, AllocError>
     requires number { b < block_count received.now.fti }
     requires codes { EachBlockHas (IsCodeOf received.now.fti) received.now.fti codes.now }
     requires within { AreWithin received.now.fti (bytes_at received.now.symbols) }
     requires enough { IsEnoughAt received.now.fti b (bytes_at received.now.symbols b) }
+    requires kept { IsKeptOf codes.now kept.old }
     ensures rows { IfOk result (λ o. IfSome o (λ rows.
         AreRows received.now.fti b (bytes_at received.now.symbols b) rows.bytes.items)) }
     ensures none { IfOk result (λ o. IsNone o
         → IsUnexplained received.now.fti b (bytes_at received.now.symbols b)) }
+    ensures keeps { IsKeptOf codes.now kept.new }
 {
     let fti = &received.fti;
     let code = codes.of(fti.k(b));
@@ -76,7 +81,7 @@ pub(crate) fn block_rows(
         size: usize::from(fti.symbol_length()),
         code,
     };
-    let Some(rows) = recover(alloc, &block)? else {
+    let Some(rows) = recover(alloc, &block, kept)? else {
         return Ok(None);
     };
     are_bytes(&rows.bytes);

@@ -43,8 +43,9 @@ fn decode_all(
 {
     let fti = &received.fti;
     let mut object = Vec::with_capacity(alloc, fti.transfer_length() as usize)?;
+    let mut kept = None;
     for b in 0..fti.block_count() {
-        let Some(rows) = block_rows(alloc, received, codes, b)? else {
+        let Some(rows) = block_rows(alloc, received, codes, b, &mut kept)? else {
             return Ok(Answer::Fault(DecodeFault::NotCode(b)));
         };
         let left = fti.transfer_length() as usize - object.len();

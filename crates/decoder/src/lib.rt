@@ -17,6 +17,7 @@ mod decoding;
 mod erasure;
 mod received;
 mod recovering;
+mod recovery;
 mod rows;
 mod selecting;
 mod unsolvable;

@@ -7,12 +7,13 @@ ghost use Rattle.elim.specs.Erasures.{AreErasures, AreRising};
 ghost use Rattle.decoder.specs.Rows.{byte_in, HasSizes, SameSizes};
 ghost use Rattle.decoder.specs.Blocks.{bytes_of_esi, byte_of, given, AreCoefficients, AreOnly, CanBeMet};
 ghost use Rattle.decoder.specs.Erasures.{Keeps, AreSolved};
+ghost use Rattle.decoder.specs.Recoveries.{MayServe, StaysOrIsOf};
 
 use crate::block::Block;
 use crate::erasure::{erasure_of, source_esis};
+use crate::recovery::Recovery;
 use crate::rows::{Rows, is_zero};
-use block_code::{Code, columns};
-use elim::recovery;
+use block_code::Code;
 use std::alloc::{AllocError, Global};
 
 // The symbols at these ESIs as rows, and zeros where none came.
@@ -87,19 +88,22 @@ fn put_rows(rows: &mut Rows, places: &[u8], others: &Rows)
     }
 }
 
-// Works missing source symbols out of as many repair symbols, and puts them at their places, which are empty.
+// Works missing source symbols out of as many repair symbols, and puts them at their places, which are empty. What recovers
+// them is kept for the next block.
 fn solve(
     alloc: Global,
     block: &Block<'_>,
     missing: &[u8],
     repair: &[u8],
     rows: &mut Rows,
+    kept: &mut Option<Recovery>,
 ) -> Result<(), AllocError>
     requires code { Encodes block.now.code.now.matrix.rows block.now.code.now.matrix.cols
         block.now.code.now.matrix }
     requires erasures { 0 < length missing.now → AreErasures block.now.code.now.matrix.rows
         block.now.code.now.matrix.cols missing.now repair.now }
     requires count { length repair.now ≡ length missing.now }
+    requires kept { MayServe block.now.code.now.matrix kept.old }
     requires rows { HasSizes block.now.code.now.matrix.rows block.now.size rows.old }
     requires empty { (a c : ℕ) → a < length missing.now → c < block.now.size
         → byte_in rows.old (slice_index missing.now a) c ≡ 0 }
@@ -107,29 +111,35 @@ fn solve(
     ensures solved { OnOk result (AreSolved (bytes_of_esi block.now.received.now)
         missing.now repair.now block.now.size block.now.code.now.matrix
         (byte_in rows.old) (byte_in rows.new)) }
+    ensures keeps { StaysOrIsOf block.now.code.now.matrix kept.old kept.new }
 {
     if missing.is_empty() {
         return Ok(());
     }
-    let recovery = recovery(alloc, &block.code.matrix, missing, repair)?;
-    let coefficients = columns(alloc, &recovery)?;
+    let recovery = Recovery::of(alloc, block.code, missing, repair, kept.take())?;
     rows.are_bytes();
     let sums = residuals(alloc, block, repair, rows)?;
     sums.are_bytes();
     let mut solved = Rows::zeros(alloc, missing.len(), block.size)?;
-    solved.add_products(&coefficients, &sums);
+    solved.add_products(&recovery.coefficients, &sums);
+    *kept = Some(recovery);
     put_rows(rows, missing, &solved);
     rows.are_bytes();
     Ok(())
 }
 
 /// A block's source symbols, made of those that came, if all that came are symbols of one word.
-pub(crate) fn recover(alloc: Global, block: &Block<'_>) -> Result<Option<Rows>, AllocError>
+pub(crate) fn recover(
+    alloc: Global,
+    block: &Block<'_>,
+    kept: &mut Option<Recovery>,
+) -> Result<Option<Rows>, AllocError>
     requires code { Encodes block.now.code.now.matrix.rows block.now.code.now.matrix.cols
         block.now.code.now.matrix }
     requires enough { block.now.code.now.matrix.rows
         ≤ length (filter (λ j. is_some (bytes_of_esi block.now.received.now j))
         (below block.now.code.now.matrix.cols)) }
+    requires kept { MayServe block.now.code.now.matrix kept.old }
     ensures sizes { IfOk result (λ o. IfSome o
         (HasSizes block.now.code.now.matrix.rows block.now.size)) }
     ensures rows { IfOk result (λ o. IfSome o (λ rows.
@@ -138,12 +148,13 @@ pub(crate) fn recover(alloc: Global, block: &Block<'_>) -> Result<Option<Rows>, 
     ensures none { IfOk result (λ o. IsNone o
         → CanBeMet (bytes_of_esi block.now.received.now) block.now.code.now.matrix block.now.size
         → ⊥) }
+    ensures keeps { StaysOrIsOf block.now.code.now.matrix kept.old kept.new }
 {
     let k = block.code.matrix.rows();
     let mut rows = symbols_at(alloc, block, &source_esis(alloc, k)?)?;
     let erasure = erasure_of(alloc, block.received, k)?;
     let (used, others) = erasure.repair.split_at(erasure.missing.len());
-    solve(alloc, block, &erasure.missing, used, &mut rows)?;
+    solve(alloc, block, &erasure.missing, used, &mut rows, kept)?;
     let left = residuals(alloc, block, others, &rows)?;
     Ok(if is_zero(&left.bytes) {
         Some(rows)

@@ -61,6 +61,7 @@ pub(crate) fn first_unsolvable(
     fti.is_valid();
     let blocks = blocks_of(alloc, &received.symbols)?;
     let mut least = None;
+    let mut kept = None;
     for b in &blocks {
         if !is_before(*b, least) {
             continue;
@@ -68,7 +69,7 @@ pub(crate) fn first_unsolvable(
         if have(&received.symbols, *b, fti.n(*b)) < fti.k(*b) {
             continue;
         }
-        if block_rows(alloc, received, codes, *b)?.is_none() {
+        if block_rows(alloc, received, codes, *b, &mut kept)?.is_none() {
             least = Some(*b);
         }
     }

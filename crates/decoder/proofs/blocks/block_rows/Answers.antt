@@ -11,7 +11,33 @@ use Rattle.decoder.specs.Decoded.{row_byte}
 use Rattle.decoder.specs.Received.{bytes_at}
 use Rattle.decoder.specs.Rows.{byte_in, HasSizes}
 use Rattle.decoder.proofs.BlockRows.{stands_within, are_arrivals, enough_arrived, rows_at, unexplained_at, unexplained, rows_from, padding_zero}
+use Rattle.decoder.proofs.Keeping.{may_serve, still_kept}
 use Rattle.decoder.proofs.blocks.block_rows.Goals as goal
+
+pub recover-requires-clause-kept : goal.recover-requires-clause-kept
+recover-requires-clause-kept c =
+    let code = picked_has (IsCodeOf c.args.received.now.fti) c.args.received.now.fti c.args.codes.now c.requires.codes c.args.b c.k.result c.of-code.result.now c.requires.number c.k.ensures.value c.of-code.ensures in
+    may_serve c.args.codes.now c.k.result c.of-code.result.now (code.rows ∙ sym c.k.ensures.value) c.of-code.ensures c.args.kept.now c.requires.kept
+
+pub returns-in_default-clause-keeps : goal.returns-in_default-clause-keeps
+returns-in_default-clause-keeps c =
+    let code = picked_has (IsCodeOf c.args.received.now.fti) c.args.received.now.fti c.args.codes.now c.requires.codes c.args.b c.k.result c.of-code.result.now c.requires.number c.k.ensures.value c.of-code.ensures in
+    still_kept c.args.codes.now c.k.result c.of-code.result.now (code.rows ∙ sym c.k.ensures.value) c.of-code.ensures c.args.kept.now c.recover.new.kept c.recover.ensures.keeps c.requires.kept
+
+pub returns-then-are_padded-clause-keeps : goal.returns-then-are_padded-clause-keeps
+returns-then-are_padded-clause-keeps c =
+    let code = picked_has (IsCodeOf c.args.received.now.fti) c.args.received.now.fti c.args.codes.now c.requires.codes c.args.b c.k.result c.of-code.result.now c.requires.number c.k.ensures.value c.of-code.ensures in
+    still_kept c.args.codes.now c.k.result c.of-code.result.now (code.rows ∙ sym c.k.ensures.value) c.of-code.ensures c.args.kept.now c.recover.new.kept c.recover.ensures.keeps c.requires.kept
+
+pub returns-clause-keeps : goal.returns-clause-keeps
+returns-clause-keeps c =
+    let code = picked_has (IsCodeOf c.args.received.now.fti) c.args.received.now.fti c.args.codes.now c.requires.codes c.args.b c.k.result c.of-code.result.now c.requires.number c.k.ensures.value c.of-code.ensures in
+    still_kept c.args.codes.now c.k.result c.of-code.result.now (code.rows ∙ sym c.k.ensures.value) c.of-code.ensures c.args.kept.now c.recover.new.kept c.recover.ensures.keeps c.requires.kept
+
+pub returns-in_err-rows-clause-keeps : goal.returns-in_err-rows-clause-keeps
+returns-in_err-rows-clause-keeps c =
+    let code = picked_has (IsCodeOf c.args.received.now.fti) c.args.received.now.fti c.args.codes.now c.requires.codes c.args.b c.k.result c.of-code.result.now c.requires.number c.k.ensures.value c.of-code.ensures in
+    still_kept c.args.codes.now c.k.result c.of-code.result.now (code.rows ∙ sym c.k.ensures.value) c.of-code.ensures c.args.kept.now c.recover.new.kept c.recover.ensures.keeps c.requires.kept
 
 pub recover-requires-clause-enough : goal.recover-requires-clause-enough
 recover-requires-clause-enough c =

@@ -8,16 +8,19 @@ use Rattle.decoder.proofs.Erased.{sum_with_none}
 use Rattle.decoder.proofs.Solved.{solved}
 use Rattle.decoder.proofs.recovering.solve.Goals as goal
 
+pub residuals-requires-clause-few : goal.residuals-requires-clause-few
+residuals-requires-clause-few c = omega (arith, c.in_ok-recovery.ensures.recovering.few, c.requires.count)
+
 pub returns-clause-solved : goal.returns-clause-solved
 returns-clause-solved c =
     let b = c.args.block.now in
     let some : 0 < length c.args.missing.now = grind (arith, c.if-is_empty.false, c.is_empty.ensures) in
     let m : ℕ = length c.args.missing.now in
+    let by = c.in_ok-recovery.ensures.recovering in
     let sums = c.in_ok-sums.sums in
     let sums_count : sums.count ≡ m = c.in_ok-sums.ensures.sizes.rows_are ∙ c.requires.count in
     solved (bytes_of_esi b.received.now) b.size b.code.now.matrix b.matrix c.requires.code c.args.missing.now c.args.repair.now (c.requires.erasures some)
-    c.in_ok-recovery.recovery c.in_ok-recovery.ensures.shape (rw (← c.recovery-2.view_is) c.recovery-2.invariant.elements) c.in_ok-recovery.ensures.recovers
-    c.in_ok-coefficients.coefficients.items c.in_ok-coefficients.ensures
+    by.matrix by.shape by.elements by.recovers c.in_ok-recovery.recovery.coefficients.items by.columns
     (byte_in c.args.rows.now) (byte_in c.put_rows.new.rows) (byte_in sums)
     c.are_bytes.ensures c.are_bytes-3.ensures c.are_bytes-2.ensures
     c.in_ok-sums.ensures.sums c.requires.empty
