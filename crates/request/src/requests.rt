@@ -1,7 +1,7 @@
 //! What a command line asks for.
 use partition::Order;
 
-// The most bytes of an encoding symbol: `coder` sends no more. That they are as many is proved in `tool`.
+// The most bytes of an encoding symbol: no more go into a datagram.
 pub(crate) const MOST_SYMBOL_BYTES: u16 = 65_475;
 
 /// All of an FTI but the transfer length, which is the object's own.
