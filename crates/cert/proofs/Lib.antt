@@ -14,7 +14,7 @@ pub mod Adding
 pub mod TwinObject
 pub mod Few
 pub mod Short
-pub mod RowValues
-pub mod CoefficientRows
 pub mod Columns
+pub mod GreatestBlock
+pub mod BlockSymbols
 pub mod OneVerdict

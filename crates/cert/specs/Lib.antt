@@ -1,5 +1,6 @@
 pub mod Certificate
 pub mod CoefficientRows
+pub mod BlockSymbols
 pub mod Differences
 pub mod Verdict
 pub mod Columns

@@ -5,7 +5,7 @@ ghost use Rattle.session.specs.Pieces.{AppendsSome};
 ghost use Rattle.partition.specs.Fti.{IsValidFti, symbol_count, source_count, block_count};
 ghost use Rattle.cert.specs.Certificate.{Certificate as CertificateValue, IsCertificate, coefficient_count, polynomial as polynomial_of, head_text, certificate_text, text_fault, IsCertFault};
 ghost use Rattle.cert.specs.CertificateReading.{IsReadFault, IsTold, IsHead, IsHeadFault};
-ghost use Rattle.cert.specs.CoefficientRows.{IsCoefficientRow};
+ghost use Rattle.cert.specs.CoefficientRows.{AreRowsOf};
 
 use byteorder::{BigEndian, ByteOrder};
 use lists::are_bytes;
@@ -14,6 +14,7 @@ use session::{Read, ReadFault, Write, fill, read_to_end, write_all};
 use std::alloc::Global;
 use std::marker::Model;
 use thiserror::Error;
+use transpose::rows_from_columns;
 
 /// Why a certificate wasn't read or written. `Magic`, `Fti` and `Size` tell why bytes are no certificate, in the order in
 /// which they are looked at.
@@ -69,19 +70,6 @@ fn part(bytes: &[u8], from: usize, count: usize) -> &[u8]
     ensures len { length result.now ≡ count }
 {
     &bytes[from..from + count]
-}
-
-// Puts the bytes at the places `from`, `from + step` and so on into a row.
-fn gather(bytes: &[u8], from: usize, step: usize, row: &mut [u8])
-    requires { (c : ℕ) → c < length row.old → from + c * step < length bytes.now }
-    ensures len { length row.new ≡ length row.old }
-    ensures bytes { (c : ℕ)
-        → c < length row.old
-        → slice_index row.new c ≡ slice_index bytes.now (from + c * step) }
-{
-    for c in 0..row.len() {
-        row[c] = bytes[from + c * step];
-    }
 }
 
 const MAGIC: [u8; 4] = *b"RSC1";
@@ -184,17 +172,18 @@ impl Certificate {
         part(self.coefficients.as_slice(), from, count)
     }
 
-    // Makes this row that of coefficient `i` of the polynomial of each column of block `b`.
-    pub(crate) fn put_row(&self, b: u32, i: usize, row: &mut [u8])
+    // Makes these the rows of coefficients of block `b`: row `i` has coefficient `i` of the polynomial of each column.
+    pub(crate) fn put_rows(&self, b: u32, rows: &mut [u8])
         requires block { b < block_count self.now.fti }
-        requires coefficient { i < source_count self.now.fti b }
-        requires room { length row.old ≡ self.now.fti.symbol_length }
-        ensures len { length row.new ≡ length row.old }
-        ensures bytes { IsCoefficientRow self.now b i row.new }
+        requires room { length rows.old ≡ source_count self.now.fti b * self.now.fti.symbol_length }
+        ensures len { length rows.new ≡ length rows.old }
+        ensures rows { AreRowsOf self.now b rows.new }
     {
         let count = self.fti.k(b);
-        let from = self.fti.start(b) as usize * usize::from(self.fti.symbol_length()) + i;
-        gather(self.coefficients.as_slice(), from, count, row);
+        let width = usize::from(self.fti.symbol_length());
+        let from = self.fti.start(b) as usize * width;
+        let columns = part(self.coefficients.as_slice(), from, width * count);
+        rows_from_columns(rows, columns, count, width);
     }
 
     /// The certificate in all bytes up to the reader's end, where the reader then is. Memory grows with the bytes that

@@ -12,6 +12,7 @@
 //! `reception`'s `specs/Headline`; the theorems behind it stand in `proofs/Promise`, `Twinning` and `Undecided`.
 #![tactic(auto)]
 
+mod block_symbols;
 mod certificate;
 mod certified_symbols;
 mod checking;

@@ -13,8 +13,10 @@ const PARTS: usize = 15;
 /// How many values `x^PARTS` takes over the 255 points.
 const POWERS: usize = 17;
 
-/// Fewer coefficients are not worth two levels, by measurement.
+/// Fewer coefficients, or no more values than these, are not worth two levels, by measurement.
 const LEAST_COUNT: usize = 80;
+
+const FEW_VALUES: usize = 32;
 
 /// Rows of coefficients: row i has coefficient i of the polynomial of each byte column.
 #[derive(Drop)]
@@ -27,16 +29,17 @@ struct Coefficients<'a> {
     ghost fit: { AreBytes bytes.now },
 }
 
-/// Makes row j of `symbols` the values at point j of the polynomials whose coefficients stand in
-/// the columns of `coefficients`. There are `n` rows of symbols and `k` of coefficients, each of
-/// `width` bytes; `n` and `k` are at most 255, and `width` may be 0. `sums` is room to work in, of 255
-/// rows, and what it has afterwards means nothing.
+/// Makes row j of `symbols` the values at point `first + j` of the polynomials whose coefficients
+/// stand in the columns of `coefficients`. There are `n` rows of symbols and `k` of coefficients,
+/// each of `width` bytes; `first`, `n` and `k` are at most 255, and `width` may be 0. `sums` is room
+/// to work in, of 255 rows, and what it has afterwards means nothing.
 ///
 /// With x = alpha^j a polynomial is the sum over v < 15 of x^v times a polynomial in x^15, which
 /// takes 17 values over all points. So from some `k` on two sums of few products replace one of `k`
 /// for each value.
 pub fn evaluate(
     symbols: &mut [u8],
+    first: usize,
     n: usize,
     coefficients: &[u8],
     k: usize,
@@ -44,11 +47,12 @@ pub fn evaluate(
     sums: &mut [u8],
 )
     requires few { k ≤ 255 }
+    requires near { first ≤ 255 }
     requires points { n ≤ 255 }
     requires symbols { length symbols.old ≡ n * width }
     requires coefficients { length coefficients.now ≡ k * width }
     requires sums { length sums.old ≡ 255 * width }
-    ensures { AreValues coefficients.now k width n symbols.new }
+    ensures { AreValues coefficients.now k width first n symbols.new }
 {
     let coefficients = Coefficients {
         bytes: coefficients,
@@ -56,11 +60,11 @@ pub fn evaluate(
         width,
     };
     clear(symbols);
-    if k < LEAST_COUNT {
-        add_values(symbols, n, &coefficients);
+    if k < LEAST_COUNT || n <= FEW_VALUES {
+        add_values(symbols, first, n, &coefficients);
     } else {
-        write_parts(sums, &coefficients);
-        add_parts(symbols, n, &coefficients, sums);
+        write_parts(sums, first, &coefficients);
+        add_parts(symbols, first, n, &coefficients, sums);
     }
 }
 
@@ -72,49 +76,52 @@ fn clear(bytes: &mut [u8])
 }
 
 // In one level: each value is the sum of the coefficients times their powers.
-fn add_values(symbols: &mut [u8], n: usize, coefficients: &Coefficients<'_>)
-    requires few { coefficients.now.k < 80 }
+fn add_values(symbols: &mut [u8], first: usize, n: usize, coefficients: &Coefficients<'_>)
+    requires few { n * coefficients.now.k ≤ 20145 }
+    requires near { first ≤ 255 }
     requires points { n ≤ 255 }
     requires symbols { length symbols.old ≡ n * coefficients.now.width }
     requires zeros { (p : ℕ) → slice_index symbols.old p ≡ 0 }
-    ensures { AreSums coefficients.now.bytes.now coefficients.now.k coefficients.now.width n
+    ensures { AreSums coefficients.now.bytes.now coefficients.now.k coefficients.now.width first n
         symbols.new }
 {
     let Coefficients { bytes, k, width } = *coefficients;
     let mut matrix = [0u8; 20145];
     let powers = &mut matrix[..n * k];
-    write_powers(powers, n, k, 0, 1, 1);
+    write_powers(powers, n, k, 0, 1, first, 1);
     add_products(symbols, n, powers, bytes, k, width, width);
 }
 
 // The first level: for each part and each power of alpha below 17 the sum of the part's
 // coefficients times their powers.
-fn write_parts(sums: &mut [u8], coefficients: &Coefficients<'_>)
+fn write_parts(sums: &mut [u8], first: usize, coefficients: &Coefficients<'_>)
+    requires near { first ≤ 255 }
     requires parts { 15 ≤ coefficients.now.k }
     requires room { length sums.old ≡ 255 * coefficients.now.width }
     ensures len { length sums.new ≡ length sums.old }
-    ensures parts { AreParts coefficients.now.bytes.now coefficients.now.width sums.new }
+    ensures parts { AreParts coefficients.now.bytes.now coefficients.now.width first sums.new }
 {
     let size = POWERS * coefficients.width;
     for v in 0..PARTS {
         let from = v * size;
-        write_part(&mut sums[from..from + size], v, coefficients);
+        write_part(&mut sums[from..from + size], first, v, coefficients);
     }
 }
 
 // The sums of one part.
-fn write_part(sums: &mut [u8], v: usize, coefficients: &Coefficients<'_>)
+fn write_part(sums: &mut [u8], first: usize, v: usize, coefficients: &Coefficients<'_>)
+    requires near { first ≤ 255 }
     requires part { v < 15 }
     requires narrow { 256 * coefficients.now.width < 2 ^ 64 }
     requires parts { 15 ≤ coefficients.now.k }
     requires room { length sums.old ≡ 17 * coefficients.now.width }
-    ensures { IsPart coefficients.now.bytes.now coefficients.now.width v sums.new }
+    ensures { IsPart coefficients.now.bytes.now coefficients.now.width first v sums.new }
 {
     let Coefficients { bytes, k, width } = *coefficients;
     let count = (k - v + PARTS - 1) / PARTS;
     let mut matrix = [0u8; 289];
     let powers = &mut matrix[..POWERS * count];
-    write_powers(powers, POWERS, count, v, PARTS, 1);
+    write_powers(powers, POWERS, count, v, PARTS, first, 1);
     clear(sums);
     add_products(
         sums,
@@ -129,13 +136,19 @@ fn write_part(sums: &mut [u8], v: usize, coefficients: &Coefficients<'_>)
 
 // The second level: 17 rows of values side by side are the sum of the parts, each times a power of
 // alpha.
-fn add_parts(symbols: &mut [u8], n: usize, coefficients: &Coefficients<'_>, sums: &[u8])
+fn add_parts(
+    symbols: &mut [u8],
+    first: usize,
+    n: usize,
+    coefficients: &Coefficients<'_>,
+    sums: &[u8],
+)
     requires points { n ≤ 255 }
     requires symbols { length symbols.old ≡ n * coefficients.now.width }
     requires room { length sums.now ≡ 255 * coefficients.now.width }
     requires zeros { (p : ℕ) → slice_index symbols.old p ≡ 0 }
-    requires parts { AreParts coefficients.now.bytes.now coefficients.now.width sums.now }
-    ensures { AreSums coefficients.now.bytes.now coefficients.now.k coefficients.now.width n
+    requires parts { AreParts coefficients.now.bytes.now coefficients.now.width first sums.now }
+    ensures { AreSums coefficients.now.bytes.now coefficients.now.k coefficients.now.width first n
         symbols.new }
 {
     let width = coefficients.width;
@@ -144,7 +157,7 @@ fn add_parts(symbols: &mut [u8], n: usize, coefficients: &Coefficients<'_>, sums
     let rest = n % POWERS;
     let mut matrix = [0u8; 240];
     let powers = &mut matrix[..(whole + 1) * PARTS];
-    write_powers(powers, whole + 1, PARTS, 0, 1, POWERS);
+    write_powers(powers, whole + 1, PARTS, 0, 1, 0, POWERS);
     let (front, back) = symbols.split_at_mut(whole * size);
     let (front_powers, back_powers) = powers.split_at(whole * PARTS);
     add_products(front, whole, front_powers, sums, PARTS, size, size);

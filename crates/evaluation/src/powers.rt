@@ -14,14 +14,15 @@ fn power(exponent: usize) -> u8
     point((exponent % 255) as u8).0
 }
 
-/// Fills a matrix row by row: in row r and column i alpha to the power `(i * step + first) * (r *
-/// by)`.
+/// Fills a matrix row by row: in row r and column i alpha to the power `(i * step + first) * (from +
+/// r * by)`.
 pub(crate) fn write_powers(
     matrix: &mut [u8],
     rows: usize,
     columns: usize,
     first: usize,
     step: usize,
+    from: usize,
     by: usize,
 )
     requires room { length matrix.old ≡ rows * columns }
@@ -29,12 +30,13 @@ pub(crate) fn write_powers(
     requires few_columns { columns ≤ 255 }
     requires near { first ≤ 255 }
     requires low { step ≤ 255 }
+    requires few_before { from ≤ 255 }
     requires small { by ≤ 255 }
-    ensures { ArePowers matrix.new rows columns first step by }
+    ensures { ArePowers matrix.new rows columns first step from by }
 {
     for r in 0..rows {
         for i in 0..columns {
-            matrix[r * columns + i] = power((i * step + first) * (r * by));
+            matrix[r * columns + i] = power((i * step + first) * (from + r * by));
         }
     }
 }

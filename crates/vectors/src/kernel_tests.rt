@@ -143,7 +143,7 @@ fn evaluates_as_defined(alloc: Global, k: usize, n: usize, width: usize) -> Resu
     let coefficients = mixed(alloc, k * width, 4)?;
     let mut symbols = mixed(alloc, n * width, 5)?;
     let mut room = mixed(alloc, 255 * width, 6)?;
-    evaluate(&mut symbols, n, &coefficients, k, width, &mut room);
+    evaluate(&mut symbols, 0, n, &coefficients, k, width, &mut room);
     for j in 0..n {
         let power = if j < 255 { point(j as u8).0 } else { 0 };
         for c in 0..width {

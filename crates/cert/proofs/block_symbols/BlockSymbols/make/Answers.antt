@@ -1,0 +1,15 @@
+use Rattle.std.proofs.Common.{arith}
+use Rattle.cert.proofs.GreatestBlock.{few_symbols, rows_of_block}
+use Rattle.cert.proofs.block_symbols.BlockSymbols.make.Goals as goal
+
+pub put_symbols-requires-clause-few : goal.put_symbols-requires-clause-few
+put_symbols-requires-clause-few c =
+    let few = rw (← c.self.view_is) at c.requires.few in
+    few_symbols c.self.inside.certificate.now.fti c.self.invariant.0.valid.fti c.args.count few
+
+pub put_symbols-requires-clause-coefficients :
+    goal.put_symbols-requires-clause-coefficients
+put_symbols-requires-clause-coefficients c =
+    let room = c.self.invariant.1.for_coefficients in
+    rw c.deref_mut-2.ensures.value
+    (omega (arith, room, rows_of_block c.self.inside.certificate.now.fti c.self.invariant.0.valid.fti c.args.block))

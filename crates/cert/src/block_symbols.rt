@@ -1,0 +1,149 @@
+//! The symbols of a block that a certificate gives, many of them at once.
+ghost use Rattle.std.specs.Prelude.{◌≡◌, ◌↔◌, ◌<◌, ◌≤◌, ◌+◌, ◌*◌, IsTrue, length, IfOk};
+ghost use Rattle.partition.specs.Fti.{block_count, source_count, encoding_count};
+ghost use Rattle.cert.specs.Certificate.{IsCertificate};
+ghost use Rattle.cert.specs.CertifiedSymbol.{IsCertifiedSymbol};
+ghost use Rattle.cert.specs.BlockSymbols.{AreSymbols, Holds};
+
+use crate::certificate::Certificate;
+use evaluation::evaluate;
+use partition::Fti;
+use std::alloc::{AllocError, Global};
+use std::marker::Model;
+
+// Makes the front of these bytes `count` symbols of a block, from ESI `first` on. `coefficients` is room for those of the
+// block, and `sums` for 255 symbols; what they have afterwards means nothing.
+fn put_symbols(
+    certificate: &Certificate,
+    block: u32,
+    first: usize,
+    count: usize,
+    bytes: &mut [u8],
+    coefficients: &mut [u8],
+    sums: &mut [u8],
+)
+    requires block { block < block_count certificate.now.fti }
+    requires near { first ≤ 255 }
+    requires few { count ≤ 255 }
+    requires bytes { count * certificate.now.fti.symbol_length ≤ length bytes.old }
+    requires coefficients { source_count certificate.now.fti block
+        * certificate.now.fti.symbol_length ≤ length coefficients.old }
+    requires sums { length sums.old ≡ 255 * certificate.now.fti.symbol_length }
+    ensures { AreSymbols certificate.now block first count bytes.new }
+{
+    let fti = certificate.fti();
+    let k = fti.k(block);
+    let width = usize::from(fti.symbol_length());
+    let rows = &mut coefficients[..k * width];
+    certificate.put_rows(block, rows);
+    evaluate(
+        &mut bytes[..count * width],
+        first,
+        count,
+        rows,
+        k,
+        width,
+        sums,
+    );
+}
+
+/// Some symbols of one block, those that were made last, in room for all of the greatest block. Contracts see of which
+/// certificate and block they are, and their ESIs.
+#[derive(Drop)]
+pub(crate) struct BlockSymbols<'a> {
+    certificate: &'a Certificate,
+    block: u32,
+    first: usize,
+    count: usize,
+    bytes: Vec<u8>,
+    // Room to work in.
+    coefficients: Vec<u8>,
+    sums: Vec<u8>,
+}
+
+impl<'a> Model for BlockSymbols<'a> {
+    ghost use Rattle.cert.specs.BlockSymbols.{MadeSymbols, made_of, AreMade, IsRoom};
+
+    ghost Value = { MadeSymbols };
+
+    ghost view = { λ s. made_of s.certificate.now s.block s.first s.count };
+
+    ghost invariant = { λ s.
+        AreMade (made_of s.certificate.now s.block s.first s.count) s.bytes.items
+        × IsRoom s.certificate.now.fti s.coefficients.items s.sums.items };
+}
+
+impl<'a> BlockSymbols<'a> {
+    ghost use Rattle.cert.specs.BlockSymbols.{made_of};
+
+    /// Asks for room. No symbols are made yet.
+    pub(crate) fn new(
+        alloc: Global,
+        certificate: &'a Certificate,
+    ) -> Result<BlockSymbols<'a>, AllocError>
+        ensures { IfOk result (λ s. s ≡ made_of certificate.now 0 0 0) }
+    {
+        let fti = certificate.fti();
+        let width = usize::from(fti.symbol_length());
+        let bytes = Vec::from_elem(alloc, 0u8, fti.n(0) * width)?;
+        let coefficients = Vec::from_elem(alloc, 0u8, fti.k(0) * width)?;
+        let sums = Vec::from_elem(alloc, 0u8, 255 * width)?;
+        Ok(BlockSymbols {
+            certificate,
+            block: 0,
+            first: 0,
+            count: 0,
+            bytes,
+            coefficients,
+            sums,
+        })
+    }
+
+    /// The certificate's FTI.
+    pub(crate) fn fti(&self) -> Fti
+        ensures value { result ≡ self.now.certificate.fti }
+        ensures certificate { IsCertificate self.now.certificate }
+    {
+        self.certificate.fti()
+    }
+
+    /// Makes `count` symbols of a block, from ESI `first` on.
+    pub(crate) fn make(&mut self, block: u32, first: usize, count: usize)
+        requires block { block < block_count self.old.certificate.fti }
+        requires near { first ≤ 255 }
+        requires few { count ≤ encoding_count self.old.certificate.fti 0 }
+        ensures { self.new ≡ made_of self.old.certificate block first count }
+    {
+        put_symbols(
+            self.certificate,
+            block,
+            first,
+            count,
+            &mut self.bytes,
+            &mut self.coefficients,
+            &mut self.sums,
+        );
+        self.block = block;
+        self.first = first;
+        self.count = count;
+    }
+
+    /// Whether the symbol of a block that has this ESI was made last.
+    pub(crate) fn holds(&self, block: u32, esi: u8) -> bool
+        ensures { IsTrue result ↔ Holds self.now block esi }
+    {
+        let esi = usize::from(esi);
+        block == self.block && self.first <= esi && esi - self.first < self.count
+    }
+
+    /// The symbol with this ESI, where it was made last.
+    pub(crate) fn symbol(&self, esi: u8) -> &[u8]
+        requires { Holds self.now self.now.block esi }
+        ensures len { length result.now ≡ self.now.certificate.fti.symbol_length }
+        ensures certified { IsCertifiedSymbol self.now.certificate self.now.block esi result.now }
+    {
+        let width = usize::from(self.certificate.fti().symbol_length());
+        let from = (usize::from(esi) - self.first) * width;
+        &self.bytes[from..from + width]
+    }
+}
