@@ -17,4 +17,5 @@ pub mod Short
 pub mod Columns
 pub mod GreatestBlock
 pub mod BlockSymbols
+pub mod RepairSymbols
 pub mod OneVerdict

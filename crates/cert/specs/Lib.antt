@@ -1,6 +1,7 @@
 pub mod Certificate
 pub mod CoefficientRows
 pub mod BlockSymbols
+pub mod RepairSymbols
 pub mod Differences
 pub mod Verdict
 pub mod Columns

@@ -99,6 +99,13 @@ impl<'a> BlockSymbols<'a> {
         })
     }
 
+    /// The certificate.
+    pub(crate) fn certificate(&self) -> &'a Certificate
+        ensures { result.now ≡ self.now.certificate }
+    {
+        self.certificate
+    }
+
     /// The certificate's FTI.
     pub(crate) fn fti(&self) -> Fti
         ensures value { result ≡ self.now.certificate.fti }
@@ -126,6 +133,16 @@ impl<'a> BlockSymbols<'a> {
         self.block = block;
         self.first = first;
         self.count = count;
+    }
+
+    /// The symbols that were made last, one behind the other.
+    pub(crate) fn symbols(&self) -> &[u8]
+        ensures len { length result.now ≡ self.now.count * self.now.certificate.fti.symbol_length }
+        ensures certified { AreSymbols self.now.certificate self.now.block self.now.first
+            self.now.count result.now }
+    {
+        let width = usize::from(self.certificate.fti().symbol_length());
+        &self.bytes[..self.count * width]
     }
 
     /// Whether the symbol of a block that has this ESI was made last.

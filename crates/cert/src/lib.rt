@@ -19,6 +19,8 @@ mod checking;
 mod datagrams;
 mod differing;
 mod laws;
+mod repair_symbols;
+mod runs;
 mod source;
 mod twins;
 mod verdict;

@@ -9,11 +9,11 @@ make-requires-clause-few c =
     let valid : IsValidFti f = rw c.fti-fti.ensures.value c.fti-fti.ensures.certificate.fti in
     rw (← c.fti-fti.ensures.value) (most_symbols f valid c.args.block c.k-k.result (omega (arith, c.k-k.ensures.value, c.n-n.ensures.least)))
 
-pub make-requires-then-esi-n-clause-few : goal.make-requires-then-esi-n-clause-few
-make-requires-then-esi-n-clause-few c =
+pub make-requires-else-esi-n-clause-few : goal.make-requires-else-esi-n-clause-few
+make-requires-else-esi-n-clause-few c =
     let f = c.fti-fti.result in
     let valid : IsValidFti f = rw c.fti-fti.ensures.value c.fti-fti.ensures.certificate.fti in
     rw (← c.fti-fti.ensures.value) (most_symbols f valid c.args.block (c.n-n.result - c.k-k.result) (omega (arith, c.n-n.ensures.value)))
 
-pub make-requires-else-esi-n-clause-few : goal.make-requires-else-esi-n-clause-few
-make-requires-else-esi-n-clause-few c = some_encoding c.args.symbols.now.certificate.fti c.fti-fti.ensures.certificate.fti
+pub make-requires-then-esi-n-clause-few : goal.make-requires-then-esi-n-clause-few
+make-requires-then-esi-n-clause-few c = some_encoding c.args.symbols.now.certificate.fti c.fti-fti.ensures.certificate.fti
