@@ -6,13 +6,13 @@ ghost use Rattle.cert.specs.CertifiedSymbol.{IsCertifiedSymbol};
 ghost use Rattle.cert.specs.BlockSymbols.{AreSymbols, Holds};
 
 use crate::certificate::Certificate;
-use evaluation::evaluate;
+use evaluation::{evaluate, room};
 use partition::Fti;
 use std::alloc::{AllocError, Global};
 use std::marker::Model;
 
 // Makes the front of these bytes `count` symbols of a block, from ESI `first` on. `coefficients` is room for those of the
-// block, and `sums` for 255 symbols; what they have afterwards means nothing.
+// block, and `sums` for what `evaluate` needs; what they have afterwards means nothing.
 fn put_symbols(
     certificate: &Certificate,
     block: u32,
@@ -28,7 +28,8 @@ fn put_symbols(
     requires bytes { count * certificate.now.fti.symbol_length ≤ length bytes.old }
     requires coefficients { source_count certificate.now.fti block
         * certificate.now.fti.symbol_length ≤ length coefficients.old }
-    requires sums { length sums.old ≡ 255 * certificate.now.fti.symbol_length }
+    requires sums { 80 ≤ source_count certificate.now.fti block
+        → 255 * certificate.now.fti.symbol_length ≤ length sums.old }
     ensures { AreSymbols certificate.now block first count bytes.new }
 {
     let fti = certificate.fti();
@@ -85,9 +86,10 @@ impl<'a> BlockSymbols<'a> {
     {
         let fti = certificate.fti();
         let width = usize::from(fti.symbol_length());
+        let k = fti.k(0);
         let bytes = Vec::from_elem(alloc, 0u8, fti.n(0) * width)?;
-        let coefficients = Vec::from_elem(alloc, 0u8, fti.k(0) * width)?;
-        let sums = Vec::from_elem(alloc, 0u8, 255 * width)?;
+        let coefficients = Vec::from_elem(alloc, 0u8, k * width)?;
+        let sums = Vec::from_elem(alloc, 0u8, room(k, width))?;
         Ok(BlockSymbols {
             certificate,
             block: 0,

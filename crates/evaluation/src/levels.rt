@@ -29,14 +29,24 @@ struct Coefficients<'a> {
     ghost fit: { AreBytes bytes.now },
 }
 
+/// How many bytes of room [`evaluate`] needs for up to `k` coefficients: 255 rows, or none where one
+/// level is enough. These must be fewer than 2^64.
+pub fn room(k: usize, width: usize) -> usize
+    requires narrow { 255 * width < 2 ^ 64 }
+    ensures none { k < 80 → result ≡ 0 }
+    ensures rows { 80 ≤ k → result ≡ 255 * width }
+{
+    if k < LEAST_COUNT { 0 } else { 255 * width }
+}
+
 /// Makes row j of `symbols` the values at point `first + j` of the polynomials whose coefficients
 /// stand in the columns of `coefficients`. There are `n` rows of symbols and `k` of coefficients,
 /// each of `width` bytes; `first`, `n` and `k` are at most 255, and `width` may be 0. `sums` is room
-/// to work in, of 255 rows, and what it has afterwards means nothing.
+/// to work in, as much as [`room`] says, and what it has afterwards means nothing.
 ///
 /// With x = alpha^j a polynomial is the sum over v < 15 of x^v times a polynomial in x^15, which
 /// takes 17 values over all points. So from some `k` on two sums of few products replace one of `k`
-/// for each value.
+/// for each value, unless only few values are asked for.
 pub fn evaluate(
     symbols: &mut [u8],
     first: usize,
@@ -51,7 +61,7 @@ pub fn evaluate(
     requires points { n ≤ 255 }
     requires symbols { length symbols.old ≡ n * width }
     requires coefficients { length coefficients.now ≡ k * width }
-    requires sums { length sums.old ≡ 255 * width }
+    requires sums { 80 ≤ k → 255 * width ≤ length sums.old }
     ensures { AreValues coefficients.now k width first n symbols.new }
 {
     let coefficients = Coefficients {
@@ -63,6 +73,7 @@ pub fn evaluate(
     if k < LEAST_COUNT || n <= FEW_VALUES {
         add_values(symbols, first, n, &coefficients);
     } else {
+        let sums = &mut sums[..255 * width];
         write_parts(sums, first, &coefficients);
         add_parts(symbols, first, n, &coefficients, sums);
     }

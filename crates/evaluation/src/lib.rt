@@ -10,4 +10,4 @@
 mod levels;
 mod powers;
 
-pub use levels::evaluate;
+pub use levels::{evaluate, room};
