@@ -2,7 +2,7 @@
 ghost use Rattle.std.specs.Prelude.{◌≡◌, ◌≤◌, ◌<◌, ◌+◌, ◌*◌, ◌^◌, length, IfOk};
 
 use crate::field_tests::defined_product;
-use evaluation::evaluate;
+use evaluation::{evaluate, room};
 use gf256::{add_products, point};
 use std::alloc::{AllocError, Global};
 use std::test::Fail;
@@ -133,8 +133,15 @@ fn sums_products_of_sources_apart(rt: HostRuntime) -> Result<(), Fail> {
 }
 
 // Whether each row is the polynomials' values at its point.
-fn evaluates_as_defined(alloc: Global, k: usize, n: usize, width: usize) -> Result<bool, AllocError>
+fn evaluates_as_defined(
+    alloc: Global,
+    k: usize,
+    first: usize,
+    n: usize,
+    width: usize,
+) -> Result<bool, AllocError>
     requires few { k ≤ 255 }
+    requires near { first ≤ 255 }
     requires points { n ≤ 255 }
     requires narrow { width ≤ 100 }
     requires coefficients { k * width < 2 ^ 32 }
@@ -142,10 +149,10 @@ fn evaluates_as_defined(alloc: Global, k: usize, n: usize, width: usize) -> Resu
 {
     let coefficients = mixed(alloc, k * width, 4)?;
     let mut symbols = mixed(alloc, n * width, 5)?;
-    let mut room = mixed(alloc, 255 * width, 6)?;
-    evaluate(&mut symbols, 0, n, &coefficients, k, width, &mut room);
+    let mut sums = mixed(alloc, room(k, width), 6)?;
+    evaluate(&mut symbols, first, n, &coefficients, k, width, &mut sums);
     for j in 0..n {
-        let power = if j < 255 { point(j as u8).0 } else { 0 };
+        let power = point(((first + j) % 255) as u8).0;
         for c in 0..width {
             let mut value = 0u8;
             for i in (0..k).rev() {
@@ -161,13 +168,16 @@ fn evaluates_as_defined(alloc: Global, k: usize, n: usize, width: usize) -> Resu
 
 #[test]
 fn evaluates_at_all_points(rt: HostRuntime) -> Result<(), Fail> {
-    assert!(rt; evaluates_as_defined(rt.alloc(), 0, 3, 5)?);
-    assert!(rt; evaluates_as_defined(rt.alloc(), 1, 255, 3)?);
-    assert!(rt; evaluates_as_defined(rt.alloc(), 79, 100, 7)?);
-    assert!(rt; evaluates_as_defined(rt.alloc(), 80, 100, 7)?);
-    assert!(rt; evaluates_as_defined(rt.alloc(), 128, 170, 65)?);
-    assert!(rt; evaluates_as_defined(rt.alloc(), 255, 255, 3)?);
-    assert!(rt; evaluates_as_defined(rt.alloc(), 90, 10, 2)?);
+    assert!(rt; evaluates_as_defined(rt.alloc(), 0, 0, 3, 5)?);
+    assert!(rt; evaluates_as_defined(rt.alloc(), 1, 0, 255, 3)?);
+    assert!(rt; evaluates_as_defined(rt.alloc(), 79, 0, 100, 7)?);
+    assert!(rt; evaluates_as_defined(rt.alloc(), 80, 0, 100, 7)?);
+    assert!(rt; evaluates_as_defined(rt.alloc(), 128, 0, 170, 65)?);
+    assert!(rt; evaluates_as_defined(rt.alloc(), 255, 0, 255, 3)?);
+    assert!(rt; evaluates_as_defined(rt.alloc(), 90, 0, 10, 2)?);
+    assert!(rt; evaluates_as_defined(rt.alloc(), 20, 20, 12, 5)?);
+    assert!(rt; evaluates_as_defined(rt.alloc(), 100, 100, 60, 3)?);
+    assert!(rt; evaluates_as_defined(rt.alloc(), 100, 254, 32, 3)?);
     Ok(())
 }
 
