@@ -23,8 +23,8 @@ use Rattle.reception.specs.Walks.{readings_of}
 use Rattle.cert.specs.Certificate.{Certificate}
 use Rattle.cert.specs.declared.verdict.Reason.{Reason}
 use Rattle.cert.specs.declared.verdict.Reason.TheVariants.{ObjectLength, NotObject, Empty, Packet as NoPacket, OtherIdentity, OtherFti, Range, Symbol as Wrong, Thin}
-use Rattle.cert.specs.declared.datagrams.NoReport.{NoReport}
-use Rattle.cert.specs.declared.datagrams.NoReport.TheVariants.{Reason as ByReason, NoMemory}
+use Rattle.cert.specs.declared.walk.NoReport.{NoReport}
+use Rattle.cert.specs.declared.walk.NoReport.TheVariants.{Reason as ByReason, NoMemory}
 use Rattle.cert.specs.Verdict.{first_reason, IsAgainst}
 use Rattle.cert.specs.Report.{block_lines}
 use Rattle.cert.specs.Scan.{members_at, members_of, AreGroupsOf, IsPut, IsNoReport, different_in, line_in, AreEnough, IsFirstThin, IsThin}

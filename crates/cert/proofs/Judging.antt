@@ -107,7 +107,7 @@ judged_place i (Judged c) = tt
 some_same : {x y : Reason} → Some x ≡ Some y → x ≡ y
 some_same e = cc
 
-is_at_place : (found : Found ℕ) (r : Reason) → reason_of found ≡ Some r → IsAtPlace r
+pub is_at_place : (found : Found ℕ) (r : Reason) → reason_of found ≡ Some r → IsAtPlace r
 is_at_place None r h = absurd (cc)
 is_at_place (Some x) r h = subst IsAtPlace (some_same h) (judged_place x.0 x.1)
 

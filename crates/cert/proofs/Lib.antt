@@ -19,3 +19,5 @@ pub mod GreatestBlock
 pub mod BlockSymbols
 pub mod RepairSymbols
 pub mod OneVerdict
+pub mod DatagramSteps
+pub mod FromReader

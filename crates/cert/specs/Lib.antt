@@ -12,3 +12,6 @@ pub mod CertificateReading
 pub mod CertifiedSymbol
 pub mod TwinBytes
 pub mod NotGiven
+pub mod DatagramWalk
+pub mod FromReader
+pub mod Endings

@@ -7,8 +7,8 @@ use Rattle.partition.specs.Fti.{Fti, block_count, source_count}
 use Rattle.reception.specs.Symbols.{Symbol}
 use Rattle.reception.specs.Reception.{Placed, symbols_in, Suffices}
 use Rattle.reception.specs.Walks.{readings_of}
-use Rattle.cert.specs.declared.datagrams.NoReport.{NoReport}
-use Rattle.cert.specs.declared.datagrams.NoReport.TheVariants.{Reason as ByReason, NoMemory}
+use Rattle.cert.specs.declared.walk.NoReport.{NoReport}
+use Rattle.cert.specs.declared.walk.NoReport.TheVariants.{Reason as ByReason, NoMemory}
 use Rattle.cert.specs.declared.verdict.Reason.TheVariants.{Thin}
 use Rattle.cert.specs.Certificate.{Certificate}
 use Rattle.cert.specs.Verdict.{IsAgainst, AreCertified}

@@ -19,15 +19,18 @@ mod certified_symbols;
 mod checking;
 mod datagrams;
 mod differing;
+mod from_reader;
 mod laws;
 mod repair_symbols;
 mod runs;
 mod source;
 mod twins;
 mod verdict;
+mod walk;
 
 pub use certificate::{CertFault, Certificate, one_certificate};
 pub use checking::check;
+pub use from_reader::{CheckFault, check_from};
 pub use laws::{first_column, first_reason, one_verdict, reason_order};
 pub use twins::{session_twin, twin};
 pub use verdict::{Reason, Report, Verdict};

@@ -1,5 +1,5 @@
 //! Frames: a datagram behind its length in two bytes.
-ghost use Rattle.std.specs.Prelude.{◌≡◌, ◌≤◌, ◌<◌, ◌+◌, true, false, None, length, take, IfOk, IfErr, OnErr, OnOk, IfSome};
+ghost use Rattle.std.specs.Prelude.{◌≡◌, ◌≤◌, ◌<◌, ◌+◌, true, false, [], None, length, take, IfOk, IfErr, OnErr, OnOk, IfSome};
 ghost use Rattle.std.specs.Io.KnownBytes.{Consumes, IsAtEnd, Appends};
 ghost use Rattle.byteorder.specs.Endian.{big_bytes};
 ghost use Rattle.streams.specs.Pieces.{AppendsSome};
@@ -42,6 +42,8 @@ fn read_length<R: Read>(reader: &mut R) -> Result<Option<usize>, FrameFault>
     ensures short { IfOk result (λ o. IfSome o (λ n. n ≤ most_bytes)) }
     ensures none { IfOk result (λ o.
         o ≡ None → IsAtEnd (R.remaining reader.old) × IsAtEnd (R.remaining reader.new)) }
+    ensures nothing { IfOk result (λ o.
+        o ≡ None → Consumes (R.remaining reader.old) (R.remaining reader.new) []) }
     ensures fault { IfErr result (λ e.
         IsReadFault e (R.remaining reader.old) (R.remaining reader.new) (R.failed reader.new)) }
     ensures falls { IfOk result (λ o. IfSome o (λ n. R.left reader.new < R.left reader.old)) }
@@ -75,6 +77,8 @@ pub fn read_next<R: Read>(alloc: Global, reader: &mut R) -> Result<Option<Vec<u8
     ensures short { IfOk result (λ o. IfSome o (λ d. length d.items ≤ most_bytes)) }
     ensures none { IfOk result (λ o.
         o ≡ None → IsAtEnd (R.remaining reader.old) × IsAtEnd (R.remaining reader.new)) }
+    ensures nothing { IfOk result (λ o.
+        o ≡ None → Consumes (R.remaining reader.old) (R.remaining reader.new) []) }
     ensures fault { IfErr result (λ e.
         IsReadFault e (R.remaining reader.old) (R.remaining reader.new) (R.failed reader.new)) }
     ensures falls { IfOk result (λ o. IfSome o (λ d. R.left reader.new < R.left reader.old)) }

@@ -1,71 +1,68 @@
-use Rattle.std.proofs.Common.{◌∙◌, ℕ, List, arith, ap, length, map, sym}
-use Rattle.lists.specs.Below.{below}
-use Rattle.losses.specs.declared.groups.Group.{Group as GroupOf}
-use Rattle.losses.specs.Groups.{groups_of}
-use Rattle.losses.proofs.GroupFigures.{count_of}
-use Rattle.partition.proofs.Laws.{some_block}
-use Rattle.reception.specs.Walks.{readings_of}
-use Rattle.cert.specs.Scan.{line_in}
-use Rattle.cert.proofs.Judging.{read_all, some_counted}
-use Rattle.cert.proofs.Bridge.{lines_are, enough_full, counts_refused}
-use Rattle.cert.proofs.Losing.{are_groups, margin_told, kill_told, burst_told}
+use Rattle.std.proofs.Common.{◌≡◌, ◌∙◌, ◌+◌, ◌≤◌, ◌++◌, ◌∷◌, [], ℕ, List, take, drop, sym, ap, subst, arith, length}
+use Rattle.std.proofs.lemmas.List.{take_more, take-append-drop, take_all}
+use Rattle.std.proofs.lemmas.Result.{IfErr-weaker, on_ok_weaker}
+use Rattle.cert.specs.declared.walk.Walk.{Walk}
+use Rattle.cert.specs.Scan.{AreEnoughCertified}
+use Rattle.cert.specs.DatagramWalk.{HasWalked, IsNotPassed, IsNo}
+use Rattle.cert.proofs.DatagramSteps.{passed_on}
+use Rattle.cert.proofs.FromReader.{step_no, report_no}
 use Rattle.cert.proofs.checking.report_of.Goals as goal
 
-pub block_lines-requires : goal.block_lines-requires
-block_lines-requires c =
-    let f = c.args.symbols.now.fti in
-    let n = count_of c.in-Ok.groups.items in
-    let g = c.in-Ok.ensures.groups.count in
-    let d = ap (λ (gs : List GroupOf). length gs) c.deref.ensures.value in
-    let few = c.in-Ok.ensures.certificate.fti.blocks in
-    omega (arith, n, g, d, few)
+pub returns-in_err-step-clause-no : goal.returns-in_err-step-clause-no
+returns-in_err-step-clause-no c =
+    let ds = c.args.session.now in
+    let z = c.args.certificate.now in
+    let object = c.args.object.now in
+    let e = c.in_err-step.field-0.0 in
+    let front : take (c.loop-place.place + 1) ds ≡ take c.loop-place.place ds ++ c.get.result.now ∷ [] =
+    take_more ds c.loop-place.place [] (let h = c.loop-place-test.true in let n = c.len-place-end.ensures.value in omega (arith, h, n))
+    ∙ ap (λ (d : List ℕ). take c.loop-place.place c.args.session.now ++ d ∷ []) (sym c.get.ensures) in
+    let form = rw (c.loop-place.invariant.certificate, c.loop-place.invariant.object) at c.loop-place.walk.form in
+    let gives = rw (c.loop-place.invariant.certificate, c.loop-place.invariant.object) at c.loop-place.walk.gives in
+    let refused : IsNotPassed (take (c.loop-place.place + 1) ds) z e =
+    rw front (rw c.loop-place.invariant.certificate at (c.in_err-step.ensures.no_report (take c.loop-place.place ds) c.loop-place.invariant.walked)) in
+    passed_on c.from_residual-in_err-step.result e (IsNo ds object z) c.from_residual-in_err-step.ensures.1
+    (subst (λ (xs : List (List ℕ)). IsNo xs c.args.object.now c.args.certificate.now c.in_err-step.field-0.0) (take-append-drop (c.loop-place.place + 1) ds)
+    (step_no z object form gives (take (c.loop-place.place + 1) ds) (drop (c.loop-place.place + 1) ds) e refused))
 
-pub returns-in-Err-block_lines-clause-no_report : goal.returns-in-Err-block_lines-clause-no_report
-returns-in-Err-block_lines-clause-no_report c =
-    let z = c.args.symbols.now in
-    let all = c.in-Ok.ensures.certified in
-    counts_refused z c.args.session.now (groups_of c.in-Ok.groups.items) c.in-Ok.ensures.groups c.in-Err-block_lines.no_report c.in-Ok.ensures.none
-    (some_counted z (readings_of c.args.session.now) all.who all.some) (rw c.deref.ensures.value at c.in-Err-block_lines.ensures.no_report)
+pub loop-place-preserved : goal.loop-place-preserved
+loop-place-preserved c =
+    let ds = c.args.session.now in
+    let front : take (c.loop-place.place + 1) ds ≡ take c.loop-place.place ds ++ c.get.result.now ∷ [] =
+    take_more ds c.loop-place.place [] (let h = c.loop-place-test.true in let n = c.len-place-end.ensures.value in omega (arith, h, n))
+    ∙ ap (λ (d : List ℕ). take c.loop-place.place c.args.session.now ++ d ∷ []) (sym c.get.ensures) in
+    record {
+      certificate = c.step.ensures.certificate ∙ c.loop-place.invariant.certificate;
+      object = c.step.ensures.object ∙ c.loop-place.invariant.object;
+      walked = rw front (c.in_ok-step.ensures.passed (take c.loop-place.place ds) c.loop-place.invariant.walked);
+    }
 
-pub figures_of-requires-clause-some : goal.figures_of-requires-clause-some
-figures_of-requires-clause-some c =
-    let n = count_of c.in-Ok.groups.items in
-    let g = c.in-Ok.ensures.groups.count in
-    let d = ap (λ (gs : List GroupOf). length gs) c.deref-2.ensures.value in
-    let s = some_block c.args.symbols.now.fti c.in-Ok.ensures.certificate.fti in
-    omega (arith, n, g, d, s)
-
-pub figures_of-requires-clause-groups : goal.figures_of-requires-clause-groups
-figures_of-requires-clause-groups c =
-    let z = c.args.symbols.now in
-    let all = c.in-Ok.ensures.certified in
-    let rs = readings_of c.args.session.now in
-    let enough = rw c.deref.ensures.value at c.in-Ok-block_lines.ensures.enough in
-    rw c.deref-2.ensures.value
-    (length rs, are_groups z c.in-Ok.ensures.certificate.fti all.who rs all.packets (groups_of c.in-Ok.groups.items) c.in-Ok.ensures.groups enough)
+-- all datagrams were looked at
+whole : (ds : List (List ℕ)) (walk : Walk) (place : ℕ) → length ds ≤ place → HasWalked walk (take place ds) → HasWalked walk ds
+whole ds walk place l h = subst (λ (xs : List (List ℕ)). HasWalked walk xs) (take_all place ds l) h
 
 pub returns-clause-report : goal.returns-clause-report
 returns-clause-report c =
-    let z = c.args.symbols.now in
-    let valid = c.in-Ok.ensures.certificate.fti in
-    let all = c.in-Ok.ensures.certified in
-    let rs = readings_of c.args.session.now in
-    let groups = groups_of c.in-Ok.groups.items in
-    let n = count_of c.in-Ok.groups.items in
-    let lines = rw c.deref.ensures.value at c.in-Ok-block_lines.ensures.lines in
-    let enough = rw c.deref.ensures.value at c.in-Ok-block_lines.ensures.enough in
-    let are = are_groups z valid all.who rs all.packets groups c.in-Ok.ensures.groups enough in
-    record {
-      readings = rs;
-      read = read_all c.args.session.now c.requires.datagrams;
-      blocks = lines ∙ ap (λ (m : ℕ). map (line_in (groups_of c.in-Ok.groups.items)) (below m)) (sym n) ∙ lines_are z.fti rs groups c.in-Ok.ensures.groups;
-      margin = margin_told z valid all.who rs all.packets groups c.in-Ok.ensures.groups _ ((rw c.deref-2.ensures.value at c.in-Ok-figures_of.ensures.margin) (length rs) are);
-      kill = kill_told z valid all.who rs all.packets groups c.in-Ok.ensures.groups _ _ ((rw c.deref-2.ensures.value at c.in-Ok-figures_of.ensures.kill) (length rs) are);
-      burst = burst_told z valid all.who rs all.packets groups c.in-Ok.ensures.groups _ ((rw c.deref-2.ensures.value at c.in-Ok-figures_of.ensures.burst) (length rs) are);
-    }
+    let n : length c.args.session.now ≤ c.loop-place.place = (let n = c.len-place-end.ensures.value in let h = c.loop-place-test.false in omega (arith, n, h)) in
+    let h = whole c.args.session.now c.loop-place.walk c.loop-place.place n c.loop-place.invariant.walked in
+    rw c.loop-place.invariant.certificate at (c.report.ensures.report c.args.session.now c.len-place-end.ensures.datagrams h)
 
-pub returns-clause-certified : goal.returns-clause-certified
-returns-clause-certified c =
-    let z = c.args.symbols.now in
-    let enough = rw c.deref.ensures.value at c.in-Ok-block_lines.ensures.enough in
-    record { all = c.in-Ok.ensures.certified; full = enough_full z.fti (readings_of c.args.session.now) (groups_of c.in-Ok.groups.items) c.in-Ok.ensures.groups enough }
+pub returns-clause-yes : goal.returns-clause-yes
+returns-clause-yes c =
+    let z = c.args.certificate.now in
+    let n : length c.args.session.now ≤ c.loop-place.place = (let n = c.len-place-end.ensures.value in let h = c.loop-place-test.false in omega (arith, n, h)) in
+    let h = whole c.args.session.now c.loop-place.walk c.loop-place.place n c.loop-place.invariant.walked in
+    let form = rw (c.loop-place.invariant.certificate, c.loop-place.invariant.object) at c.loop-place.walk.form in
+    let gives = rw (c.loop-place.invariant.certificate, c.loop-place.invariant.object) at c.loop-place.walk.gives in
+    on_ok_weaker c.report.result (λ (enough : AreEnoughCertified c.args.session.now z). record { form = form; gives = gives; certified = enough.all; full = enough.full })
+    (rw c.loop-place.invariant.certificate at (c.report.ensures.certified c.args.session.now h))
+
+pub returns-clause-no : goal.returns-clause-no
+returns-clause-no c =
+    let z = c.args.certificate.now in
+    let n : length c.args.session.now ≤ c.loop-place.place = (let n = c.len-place-end.ensures.value in let h = c.loop-place-test.false in omega (arith, n, h)) in
+    let h = whole c.args.session.now c.loop-place.walk c.loop-place.place n c.loop-place.invariant.walked in
+    let form = rw (c.loop-place.invariant.certificate, c.loop-place.invariant.object) at c.loop-place.walk.form in
+    let gives = rw (c.loop-place.invariant.certificate, c.loop-place.invariant.object) at c.loop-place.walk.gives in
+    IfErr-weaker c.report.result _ _ (report_no z c.args.object.now form gives c.args.session.now)
+    (rw c.loop-place.invariant.certificate at (c.report.ensures.no_report c.args.session.now h))

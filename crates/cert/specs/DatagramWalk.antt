@@ -1,0 +1,54 @@
+-- What is known of datagrams that were looked at one by one.
+use Rattle.std.specs.Prelude.{◌≡◌, ◌≢◌, ℕ, List, [], length, None, Some, ⊤}
+use Rattle.losses.specs.Groups.{Group, groups_of}
+use Rattle.alc.specs.Packet.{Packet}
+use Rattle.reception.specs.Reception.{counted, symbol_of}
+use Rattle.reception.specs.declared.scope.Scope.{Scope}
+use Rattle.reception.specs.Walks.{readings_of}
+use Rattle.cert.specs.declared.walk.Walk.{Walk}
+use Rattle.cert.specs.declared.walk.NoReport.{NoReport}
+use Rattle.cert.specs.declared.walk.NoReport.TheVariants.{Reason as ByReason, NoMemory}
+use Rattle.cert.specs.declared.verdict.Reason.{Reason}
+use Rattle.cert.specs.declared.verdict.Reason.TheVariants.{ObjectLength, NotObject, Symbol}
+use Rattle.cert.specs.declared.verdict.Verdict.TheVariants.{No}
+use Rattle.cert.specs.Certificate.{Certificate}
+use Rattle.cert.specs.Scan.{AreGroupsOf}
+use Rattle.cert.specs.Verdict.{IsFirstNotGiven, reception_to, first_reason, VerdictOn, uncertified}
+
+-- these datagrams came to the check of a certificate, none with a reason against it: what is known of them
+pub record AreWalked (z : Certificate) (scope : Scope) (count : ℕ) (groups : List Group) (datagrams : List (List ℕ)) : Type 0 where
+  pub clean : (reception_to z (readings_of datagrams)).wrong ≡ None
+  pub holds : (reception_to z (readings_of datagrams)).scope ≡ scope
+  pub many : length datagrams ≡ count
+  pub grouped : AreGroupsOf z.fti (counted (readings_of datagrams)) groups
+
+abbrev pub HasWalked : Walk → List (List ℕ) → Type 0
+HasWalked walk datagrams =
+    AreWalked walk.symbols walk.scope walk.count (groups_of walk.groups.items) datagrams
+
+-- a reason against the object, whatever datagrams come
+abbrev pub IsAgainstObject : Reason → List ℕ → Certificate → Type 0
+IsAgainstObject ObjectLength object z = length object ≢ z.fti.transfer_length
+IsAgainstObject (NotObject b c i) object z = (length object ≡ z.fti.transfer_length) × IsFirstNotGiven object z b c i
+IsAgainstObject _ object z = ⊥
+
+-- why no datagram is looked at
+abbrev pub IsNotBegun : List ℕ → Certificate → NoReport → Type 0
+IsNotBegun object z (ByReason r) = IsAgainstObject r object z
+IsNotBegun object z NoMemory = ⊤
+
+-- why the last of these datagrams isn't taken: it has the first reason at a place
+abbrev pub IsNotPassed : List (List ℕ) → Certificate → NoReport → Type 0
+IsNotPassed datagrams z (ByReason r) = first_reason z (readings_of datagrams) ≡ Some r
+IsNotPassed datagrams z NoMemory = ⊤
+
+-- the no to these datagrams and this object
+abbrev pub IsNo : List (List ℕ) → List ℕ → Certificate → NoReport → Type 0
+IsNo datagrams object z (ByReason r) = VerdictOn (readings_of datagrams) object z (No r)
+IsNo datagrams object z NoMemory = ⊤
+
+-- why a packet's symbol isn't kept: it isn't the certified one
+abbrev pub IsNotKept : Certificate → ℕ → Packet → NoReport → Type 0
+IsNotKept z place p (ByReason (Symbol i c)) = (i ≡ place) × (uncertified z [] (symbol_of p) ≡ Some c)
+IsNotKept z place p (ByReason _) = ⊥
+IsNotKept z place p NoMemory = ⊤

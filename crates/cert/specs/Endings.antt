@@ -1,0 +1,19 @@
+-- Why there is no report on datagrams that are read.
+use Rattle.std.specs.Prelude.{ℕ, Bool, List, Option}
+use Rattle.cert.specs.Certificate.{Certificate}
+use Rattle.cert.specs.FromReader.{IsCheckedFrom, IsCheckFault}
+use Rattle.cert.specs.declared.walk.NoReport.{NoReport}
+use Rattle.cert.specs.declared.walk.NoReport.TheVariants.{Reason as ByReason, NoMemory as NoReportMemory}
+use Rattle.cert.specs.declared.from_reader.Ending.{Ending}
+use Rattle.cert.specs.declared.from_reader.Ending.TheVariants.{Reason, Fault}
+use Rattle.cert.specs.declared.from_reader.CheckFault.TheVariants.{NoMemory}
+use Rattle.cert.specs.declared.verdict.Verdict.TheVariants.{No}
+
+abbrev pub ending_of : NoReport → Ending
+ending_of (ByReason reason) = Reason reason
+ending_of NoReportMemory = Fault NoMemory
+
+-- a reason, which is the verdict then, or a fault
+abbrev pub IsEnding : Option (List ℕ) → Option (List ℕ) → Bool → List ℕ → Certificate → Ending → Type 0
+IsEnding old new failed object z (Reason reason) = IsCheckedFrom old new object z (No reason)
+IsEnding old new failed object z (Fault fault) = IsCheckFault fault old new failed object z

@@ -1,0 +1,107 @@
+//! The check of datagrams that are read one at a time.
+ghost use Rattle.std.specs.Prelude.{◌≡◌, false, IfOk, IfErr};
+ghost use Rattle.cert.specs.Endings.{IsEnding};
+ghost use Rattle.cert.specs.FromReader.{IsCheckedFrom, IsCheckFault};
+
+use crate::certificate::Certificate;
+use crate::verdict::{Reason, Report, Verdict};
+use crate::walk::{NoReport, Walk};
+use lists::are_bytes;
+use session::{FrameFault, Read, read_next};
+use std::alloc::Global;
+use thiserror::Error;
+
+/// Why datagrams weren't checked as they were read.
+#[derive(Debug, Clone, Copy, PartialEq, Eq, Error)]
+pub enum CheckFault {
+    /// The next datagram wasn't read: `CutLength`, `CutDatagram`, `TooLong`, `Io` or `NoMemory`.
+    #[error(transparent)]
+    Frame(FrameFault),
+    /// There is no memory for the check.
+    #[error("NoMemory")]
+    NoMemory,
+}
+
+// Why there is no report.
+#[derive(Clone, Copy)]
+enum Ending {
+    Reason(Reason),
+    Fault(CheckFault),
+}
+
+impl From<NoReport> for Ending {
+    ghost use Rattle.cert.specs.Endings.{ending_of};
+
+    ghost from_gives = { λ no_report ending. ending ≡ ending_of no_report };
+
+    fn from(no_report: NoReport) -> Self {
+        match no_report {
+            NoReport::Reason(reason) => Ending::Reason(reason),
+            NoReport::NoMemory => Ending::Fault(CheckFault::NoMemory),
+        }
+    }
+}
+
+impl From<FrameFault> for Ending {
+    ghost use Rattle.cert.specs.declared.from_reader.Ending.TheVariants.{Fault};
+    ghost use Rattle.cert.specs.declared.from_reader.CheckFault.TheVariants.{Frame};
+
+    ghost from_gives = { λ fault ending. ending ≡ Fault (Frame fault) };
+
+    fn from(fault: FrameFault) -> Self {
+        Ending::Fault(CheckFault::Frame(fault))
+    }
+}
+
+// The report on all datagrams that are left, or why there is none. Reading goes no further than the first reason.
+fn report_from<R: Read>(
+    alloc: Global,
+    reader: &mut R,
+    object: &[u8],
+    certificate: &Certificate,
+) -> Result<Report, Ending>
+    ensures yes { IfOk result (λ report. IsCheckedFrom (R.remaining reader.old)
+        (R.remaining reader.new) object.now certificate.now (Verdict.Yes report)) }
+    ensures no { IfErr result (IsEnding (R.remaining reader.old) (R.remaining reader.new)
+        (R.failed reader.new) object.now certificate.now) }
+    ensures unsound { IfErr result (λ ending.
+        ending ≡ Ending.Fault (CheckFault.Frame FrameFault.Io) → R.sound reader.old ≡ false) }
+    ensures stays { R.sound reader.new ≡ R.sound reader.old }
+{
+    let mut walk = Walk::new(alloc, object, certificate)?;
+    loop {
+        let Some(datagram) = read_next(alloc, reader)? else {
+            return Ok(walk.report(alloc)?);
+        };
+        let bytes = datagram.as_slice();
+        are_bytes(bytes);
+        walk.step(bytes)?;
+    }
+}
+
+/// The check of the datagrams that are left of a reader, read one at a time: none before the object is compared with the
+/// certificate, and none behind the first reason at a place. One datagram is held at a time, and of the others the places and
+/// the ESIs of their symbols. What can't be read is told as a fault where no reason stands before it; `Io` that the reader
+/// has failed, which a sound one never does. Want of memory says nothing of the session.
+pub fn check_from<R: Read>(
+    alloc: Global,
+    reader: &mut R,
+    object: &[u8],
+    certificate: &Certificate,
+) -> Result<Verdict, CheckFault>
+    // The frames of some datagrams were read, and the verdict is theirs, whatever follows, or they are all.
+    ensures verdict { IfOk result (IsCheckedFrom (R.remaining reader.old) (R.remaining reader.new)
+        object.now certificate.now) }
+    // They have no reason against them, and what follows is no frame.
+    ensures fault { IfErr result (λ fault. IsCheckFault fault (R.remaining reader.old)
+        (R.remaining reader.new) (R.failed reader.new) object.now certificate.now) }
+    ensures unsound { IfErr result (λ fault.
+        fault ≡ CheckFault.Frame FrameFault.Io → R.sound reader.old ≡ false) }
+    ensures stays { R.sound reader.new ≡ R.sound reader.old }
+{
+    match report_from(alloc, reader, object, certificate) {
+        Ok(report) => Ok(Verdict::Yes(report)),
+        Err(Ending::Reason(reason)) => Ok(Verdict::No(reason)),
+        Err(Ending::Fault(fault)) => Err(fault),
+    }
+}

@@ -1,0 +1,185 @@
+//! A check's walk over datagrams, one step each.
+ghost use Rattle.std.specs.Prelude.{◌≡◌, ◌<◌, ◌≤◌, ◌++◌, ◌∷◌, ◌^◌, [], true, None, ℕ, List, length, map, IfOk, IfErr, OnOk};
+ghost use Rattle.lists.specs.Below.{below};
+ghost use Rattle.losses.specs.Groups.{groups_of};
+ghost use Rattle.session.specs.Frames.{AreDatagrams};
+ghost use Rattle.alc.specs.Views.{packet_of};
+ghost use Rattle.reception.specs.Symbols.{IsObject};
+ghost use Rattle.reception.specs.Reception.{in_range, symbol_of};
+ghost use Rattle.cert.specs.Certificate.{IsCertificate};
+ghost use Rattle.cert.specs.Report.{IsReport};
+ghost use Rattle.cert.specs.Scan.{line_in, AreEnough, AreEnoughCertified, IsThin, IsPut, IsNoReport};
+ghost use Rattle.cert.specs.Verdict.{GivesObject, uncertified};
+
+use crate::certificate::Certificate;
+use crate::certified_symbols::CertifiedSymbols;
+use crate::datagrams::{empty_groups, first_wrong_column_of, put, reason_of};
+use crate::source::first_not_given;
+use crate::verdict::{Reason, Report};
+use alc::Packet;
+use lists::are_bytes;
+use losses::{Figures, Group, figures_of};
+use reception::Scope;
+use std::alloc::{AllocError, Global};
+
+/// Why there is no report: a reason, or want of memory.
+#[derive(Clone, Copy)]
+pub(crate) enum NoReport {
+    Reason(Reason),
+    NoMemory,
+}
+
+impl From<AllocError> for NoReport {
+    ghost use Rattle.cert.specs.declared.walk.NoReport.TheVariants.{NoMemory};
+
+    ghost from_gives = { λ _ no_report. no_report ≡ NoMemory };
+
+    fn from(_: AllocError) -> Self {
+        NoReport::NoMemory
+    }
+}
+
+/// A check on its way over datagrams: the polynomials give the object, and no datagram so far has a reason against it. None
+/// is kept, only the place and the ESI of its symbol, in its block's group.
+#[derive(Drop)]
+pub(crate) struct Walk<'a> {
+    pub(crate) symbols: CertifiedSymbols<'a>,
+    pub(crate) object: &'a [u8],
+    pub(crate) scope: Scope,
+    pub(crate) groups: Vec<Group>,
+    pub(crate) count: usize,
+    ghost valid: { IsCertificate symbols },
+    ghost form: { IsObject symbols.fti object.now },
+    ghost gives: { GivesObject object.now symbols },
+}
+
+impl<'a> Walk<'a> {
+    ghost use Rattle.cert.specs.DatagramWalk.{HasWalked, IsNotBegun, IsNotPassed, IsNotKept};
+
+    /// Before the first datagram, or the reason against the object.
+    pub(crate) fn new(
+        alloc: Global,
+        object: &'a [u8],
+        certificate: &'a Certificate,
+    ) -> Result<Walk<'a>, NoReport>
+        ensures certificate { IfOk result (λ walk. walk.symbols ≡ certificate.now) }
+        ensures object { IfOk result (λ walk. walk.object.now ≡ object.now) }
+        ensures none { IfOk result (λ walk. HasWalked walk []) }
+        ensures no_report { IfErr result (IsNotBegun object.now certificate.now) }
+    {
+        are_bytes(object);
+        let fti = certificate.fti();
+        if object.len() as u64 != fti.transfer_length() {
+            return Err(NoReport::Reason(Reason::ObjectLength));
+        }
+        let mut symbols = CertifiedSymbols::new(alloc, certificate)?;
+        match first_not_given(object, &mut symbols) {
+            Some(reason) => return Err(NoReport::Reason(reason)),
+            None => {}
+        }
+        Ok(Walk {
+            symbols,
+            object,
+            scope: Scope::with_fti(fti),
+            groups: empty_groups(alloc, &fti)?,
+            count: 0,
+        })
+    }
+
+    /// One datagram more, or the reason against it.
+    pub(crate) fn step(&mut self, datagram: &[u8]) -> Result<(), NoReport>
+        requires { (datagrams : List (List ℕ)) × HasWalked self.old datagrams }
+        ensures certificate { self.new.symbols ≡ self.old.symbols }
+        ensures object { self.new.object.now ≡ self.old.object.now }
+        ensures passed { (datagrams : List (List ℕ)) → HasWalked self.old datagrams
+            → OnOk result (HasWalked self.new (datagrams ++ datagram.now ∷ [])) }
+        ensures no_report { (datagrams : List (List ℕ)) → HasWalked self.old datagrams
+            → IfErr result (IsNotPassed (datagrams ++ datagram.now ∷ []) self.old.symbols) }
+    {
+        let place = self.count;
+        let Some(count) = place.checked_add(1) else {
+            return Err(NoReport::NoMemory);
+        };
+        self.count = count;
+        match self.scope.look(datagram) {
+            Ok(Some(packet)) => self.keep(place, &packet),
+            Ok(None) => Ok(()),
+            Err(fault) => Err(NoReport::Reason(reason_of(place, fault))),
+        }
+    }
+
+    // Puts the symbol of the packet at a place into its block's group, or tells the column in which it isn't certified.
+    fn keep(&mut self, place: usize, packet: &Packet<'_>) -> Result<(), NoReport>
+        requires range { in_range (packet_of packet.now) self.old.symbols.fti ≡ true }
+        requires symbol { length packet.now.symbol.now ≡ self.old.symbols.fti.symbol_length }
+        requires block { packet.now.sbn < length self.old.groups.items }
+        ensures certificate { self.new.symbols ≡ self.old.symbols }
+        ensures object { self.new.object.now ≡ self.old.object.now }
+        ensures scope { self.new.scope ≡ self.old.scope }
+        ensures count { self.new.count ≡ self.old.count }
+        ensures certified { OnOk result
+            (uncertified self.old.symbols [] (symbol_of (packet_of packet.now)) ≡ None) }
+        ensures put { OnOk result (IsPut (groups_of self.old.groups.items) place
+            (symbol_of (packet_of packet.now)) (groups_of self.new.groups.items)) }
+        ensures no_report { IfErr result (IsNotKept self.old.symbols place (packet_of packet.now)) }
+    {
+        match first_wrong_column_of(&mut self.symbols, self.object, packet) {
+            Some(column) => return Err(NoReport::Reason(Reason::Symbol(place, column))),
+            None => {}
+        }
+        put(&mut self.groups, place, packet)?;
+        Ok(())
+    }
+
+    /// The report on all datagrams so far, or the reason for which they don't suffice.
+    pub(crate) fn report(&self, alloc: Global) -> Result<Report, NoReport>
+        requires { (datagrams : List (List ℕ)) × HasWalked self.now datagrams }
+        ensures report { (datagrams : List (List ℕ)) → AreDatagrams datagrams
+            → HasWalked self.now datagrams
+            → IfOk result (IsReport datagrams self.now.symbols.fti) }
+        ensures certified { (datagrams : List (List ℕ)) → HasWalked self.now datagrams
+            → OnOk result (AreEnoughCertified datagrams self.now.symbols) }
+        ensures no_report { (datagrams : List (List ℕ)) → HasWalked self.now datagrams
+            → IfErr result (IsNoReport datagrams self.now.symbols) }
+    {
+        match self.scope.identity {
+            Some(_) => {}
+            None => return Err(NoReport::Reason(Reason::Empty)),
+        }
+        let blocks = block_lines(alloc, &self.groups)?;
+        let Figures {
+            margin,
+            kill,
+            burst,
+        } = figures_of(alloc, &self.groups)?;
+        Ok(Report {
+            blocks,
+            margin,
+            kill,
+            burst,
+        })
+    }
+}
+
+// For each block its source symbols and its different ESIs, or the reason of the least block that has too few.
+fn block_lines(alloc: Global, groups: &[Group]) -> Result<Vec<(usize, usize)>, NoReport>
+    requires { length groups.now ≤ 2 ^ 24 }
+    ensures lines { IfOk result (λ v.
+        v.items ≡ map (line_in (groups_of groups.now)) (below (length groups.now))) }
+    ensures enough { OnOk result (AreEnough (groups_of groups.now)) }
+    ensures no_report { IfErr result (IsThin (groups_of groups.now)) }
+{
+    let mut blocks = Vec::new(alloc);
+    for block in 0..groups.len() {
+        let need = groups[block].need;
+        let have = groups[block].different();
+        if have < need {
+            let block = block as u32;
+            return Err(NoReport::Reason(Reason::Thin { block, have, need }));
+        }
+        let Ok(()) = blocks.push((need, have)) else {
+            return Err(NoReport::NoMemory);
+        };
+    }
+    Ok(blocks)
+}
