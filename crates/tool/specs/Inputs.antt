@@ -12,6 +12,10 @@ use Rattle.tool.specs.declared.fault.Fault.TheVariants.{Open, File, Memory, Fram
 abbrev pub HoldsSession : Option Files → List ℕ → List (List ℕ) → Type 0
 HoldsSession files name datagrams = Holds files name (IsFramed datagrams)
 
+-- what the reader of a file that was opened gives: its bytes
+abbrev pub Opens : Option Files → List ℕ → Option (List ℕ) → Type 0
+Opens files name opened = Holds files name (λ bytes. opened ≡ Some bytes)
+
 abbrev pub HoldsBytes : Option Files → List ℕ → List ℕ → Type 0
 HoldsBytes files name bytes = Holds files name (λ held. held ≡ bytes)
 

@@ -9,3 +9,4 @@ pub mod Outcomes
 pub mod Answering
 pub mod GivingUp
 pub mod ShortBlocks
+pub mod Checks

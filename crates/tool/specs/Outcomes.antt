@@ -1,23 +1,24 @@
 -- What a command does, by what its files hold.
-use Rattle.std.specs.Prelude.{◌≡◌, ◌<◌, ◌⊎◌, ℕ, Bool, List, [], Option, Some, None, length, slice_index_or}
+use Rattle.std.specs.Prelude.{◌≡◌, ◌<◌, ◌⊎◌, ℕ, Bool, List, [], Option, None, length, slice_index_or}
 use Rattle.alc.specs.Packet.{Packet, IsPacket}
 use Rattle.alc.specs.PacketFault.{IsPacketFault}
 use Rattle.alc.specs.declared.fault.PacketFault.{PacketFault}
 use Rattle.partition.specs.Fti.{Fti}
 use Rattle.cert.specs.Certificate.{Certificate}
-use Rattle.reception.specs.Headline.{DecodesWhereEnough, UndecidedElse}
-use Rattle.cert.specs.Report.{IsReport, OnYes}
+use Rattle.session.specs.declared.frame.FrameFault.{FrameFault}
+use Rattle.session.specs.declared.frame.FrameFault.TheVariants.{Io as FrameIo, NoMemory as NoFrameMemory}
+use Rattle.cert.specs.FromReader.{IsCheckedFrom, IsRefusedBehind}
 use Rattle.cert.specs.Twins.{IsTwinOfSession}
 use Rattle.cert.specs.Verdict.{IsVerdict}
-use Rattle.cert.specs.declared.verdict.Reason.{Reason}
 use Rattle.cert.specs.declared.verdict.Reason.TheVariants.{Thin}
 use Rattle.cert.specs.declared.verdict.Verdict.{Verdict}
 use Rattle.cert.specs.declared.verdict.Verdict.TheVariants.{Yes, No}
 use Rattle.request.specs.declared.requests.Request.{Request}
 use Rattle.request.specs.declared.requests.Request.TheVariants.{Check, Twin, Show, Encode, Certify, Decode, Drop}
 use Rattle.tool.specs.declared.fault.Fault.{Fault}
+use Rattle.tool.specs.declared.fault.Fault.TheVariants.{Frame}
 use Rattle.tool.specs.Folder.{Files, Replaces}
-use Rattle.tool.specs.Inputs.{HoldsSession, HoldsBytes, HoldsCertificate, IsSessionUnread, IsObjectUnread, IsCertificateUnread}
+use Rattle.tool.specs.Inputs.{HoldsSession, Opens, HoldsBytes, HoldsCertificate, IsNotOpened, IsSessionUnread, IsObjectUnread, IsCertificateUnread}
 use Rattle.tool.specs.Lines.{IsPrintFault, IsSilent, TellsFault, Prints, PrintsTwin, PrintsDatagrams, PrintsSome}
 use Rattle.tool.specs.Decoding.{IsDecoded, IsNotDecoded}
 use Rattle.tool.specs.Making.{IsEncoded, IsNotEncoded, IsCertified, IsNotCertified, IsDropped, IsNotDropped, IsUnmade, Fails}
@@ -26,27 +27,46 @@ abbrev pub status_of : Verdict → ℕ
 status_of (Yes report) = 0
 status_of (No reason) = 1
 
--- The verdict on the session, the object and the certificate in these files was printed; its status; what a yes promises.
+-- The verdict on the object and the certificate in these files, and on the frames that were read of the session's, was
+-- printed; its status.
 pub record IsChecked (files : Option Files) (session object certificate : List ℕ) (before after : Option (List ℕ)) (status : ℕ) : Type 0 where
-  pub datagrams : List (List ℕ)
   pub bytes : List ℕ
   pub polynomials : Certificate
   pub verdict : Verdict
-  pub sent : HoldsSession files session datagrams
+  pub opened : Option (List ℕ)
+  pub left : Option (List ℕ)
+  pub sent : Opens files session opened
   pub whole : HoldsBytes files object bytes
   pub certified : HoldsCertificate files certificate polynomials
-  pub judged : IsVerdict datagrams bytes polynomials verdict
+  pub judged : IsCheckedFrom opened left bytes polynomials verdict
   pub told : status ≡ status_of verdict
   pub printed : Prints verdict before after
-  pub decodes : OnYes verdict (λ _. DecodesWhereEnough polynomials.fti datagrams bytes)
-  pub undecided : OnYes verdict (λ _. UndecidedElse polynomials.fti datagrams bytes)
-  pub report : OnYes verdict (IsReport datagrams polynomials.fti)
 
--- Why there is none: a file wasn't read, or there was no memory, or the output has failed.
+-- The object and the certificate were read, and of the session the frames of some datagrams that have no reason against
+-- them, but then no frame, for this fault.
+pub record IsCut (files : Option Files) (session object certificate : List ℕ) (fault : FrameFault) : Type 0 where
+  pub bytes : List ℕ
+  pub polynomials : Certificate
+  pub opened : Option (List ℕ)
+  pub left : Option (List ℕ)
+  pub failed : Bool
+  pub sent : Opens files session opened
+  pub whole : HoldsBytes files object bytes
+  pub certified : HoldsCertificate files certificate polynomials
+  pub refused : IsRefusedBehind fault opened left failed bytes polynomials
+
+abbrev pub IsFrameUnread : Option Files → List ℕ → List ℕ → List ℕ → Fault → Type 0
+IsFrameUnread files session object certificate (Frame FrameIo) = (files ≡ None) × IsCut files session object certificate FrameIo
+IsFrameUnread files session object certificate (Frame NoFrameMemory) = ⊥
+IsFrameUnread files session object certificate (Frame fault) = IsCut files session object certificate fault
+IsFrameUnread files session object certificate fault = ⊥
+
+-- Why there is none: the session didn't open, the object or the certificate wasn't read, then a frame of the session wasn't,
+-- or there was no memory, or the output has failed.
 abbrev pub IsUnchecked : Option Files → List ℕ → List ℕ → List ℕ → Bool → Fault → Type 0
 IsUnchecked files session object certificate failed fault =
-    IsSessionUnread files session fault ⊎ IsObjectUnread files object fault
-    ⊎ IsCertificateUnread files certificate fault ⊎ IsPrintFault failed fault
+    IsNotOpened files session fault ⊎ IsObjectUnread files object fault ⊎ IsCertificateUnread files certificate fault
+    ⊎ IsFrameUnread files session object certificate fault ⊎ IsPrintFault failed fault
 
 -- 0 where there is a twin to be written
 abbrev pub twin_status_of : Verdict → ℕ
@@ -76,10 +96,11 @@ pub record IsTwinned (old new : Option Files) (session object certificate output
   pub printed : PrintsTwin verdict before after
   pub made : MakesTwin verdict polynomials.fti datagrams bytes output old new
 
--- Why not: there was no verdict, or the output isn't there.
+-- Why not: a file wasn't read, or the output isn't there, or there was no memory, or the output has failed.
 abbrev pub IsUntwinned : List ℕ → List ℕ → List ℕ → List ℕ → Option Files → Bool → Fault → Type 0
 IsUntwinned session object certificate output files failed fault =
-    IsUnchecked files session object certificate failed fault ⊎ IsUnmade files output fault
+    IsSessionUnread files session fault ⊎ IsObjectUnread files object fault ⊎ IsCertificateUnread files certificate fault
+    ⊎ IsUnmade files output fault ⊎ IsPrintFault failed fault
 
 abbrev pub IsSomePacket : List ℕ → Type 0
 IsSomePacket datagram = (p : Packet) × IsPacket datagram p

@@ -1,18 +1,21 @@
 //! The command `check`.
 ghost use Rattle.std.specs.Prelude.{◌≡◌, ◌≤◌, ◌++◌, decimal, IfOk, IfErr, OnOk};
+ghost use Rattle.cert.specs.FromReader.{IsCheckedFrom};
+ghost use Rattle.tool.specs.Checks.{IsNotChecked};
 ghost use Rattle.tool.specs.Outcomes.{IsChecked, IsUnchecked};
 ghost use Rattle.tool.specs.Lines.{line_of, named, block_line, kill_line, losses_text, report_text, GainsReason, IsNoLine, IsSilent};
 
 use crate::fault::Fault;
 use crate::folder::Folder;
-use crate::input::{read_certificate, read_object, read_session};
+use crate::input::{open, read_certificate, read_object};
 use crate::print::Line;
 use crate::wording::put_packet_fault;
-use cert::{Reason, Report, Verdict};
-use session::Write;
+use cert::{Certificate, CheckFault, Reason, Report, Verdict, check_from};
+use session::{FrameFault, Read, Write};
 use std::alloc::{AllocError, Global};
 
-/// Prints the verdict, and answers the status.
+/// Prints the verdict, and answers the status. The session is opened first, but the object and the certificate are read
+/// before its frames.
 pub(crate) fn check<'a, F: Folder, W: Write>(
     alloc: Global,
     folder: &F,
@@ -21,7 +24,7 @@ pub(crate) fn check<'a, F: Folder, W: Write>(
     object: &'a str,
     certificate: &'a str,
 ) -> Result<u8, Fault<'a>>
-    // The verdict is on what the three files hold.
+    // The verdict is on what the object's and the certificate's files hold and the frames that were read of the session's.
     ensures ok { IfOk result (IsChecked (F.files folder.now) session.now object.now certificate.now
         (W.contents out.old) (W.contents out.new)) }
     ensures fault { IfErr result (IsUnchecked (F.files folder.now) session.now object.now
@@ -29,10 +32,10 @@ pub(crate) fn check<'a, F: Folder, W: Write>(
     ensures silent { IfErr result (λ fault.
         IsSilent fault (W.failed out.new) (W.contents out.old) (W.contents out.new)) }
 {
-    let session = read_session(alloc, folder, session)?;
+    let mut frames = open(folder, session)?;
     let object = read_object(alloc, folder, object)?;
     let certificate = read_certificate(alloc, folder, certificate)?;
-    match cert::check(alloc, &session, object.as_slice(), &certificate)? {
+    match verdict_of(alloc, &mut frames, object.as_slice(), &certificate)? {
         Verdict::Yes(report) => {
             report_lines(alloc, &report)?.print(out)?;
             Ok(0)
@@ -41,6 +44,25 @@ pub(crate) fn check<'a, F: Folder, W: Write>(
             reason_line(alloc, reason)?.print(out)?;
             Ok(1)
         }
+    }
+}
+
+// The verdict on the frames that a reader has left, or why there is none.
+fn verdict_of<'a, R: Read>(
+    alloc: Global,
+    frames: &mut R,
+    object: &[u8],
+    certificate: &Certificate,
+) -> Result<Verdict, Fault<'a>>
+    ensures ok { IfOk result (IsCheckedFrom (R.remaining frames.old) (R.remaining frames.new)
+        object.now certificate.now) }
+    ensures fault { IfErr result (IsNotChecked (R.sound frames.old) (R.remaining frames.old)
+        (R.remaining frames.new) (R.failed frames.new) object.now certificate.now) }
+{
+    match check_from(alloc, frames, object, certificate) {
+        Ok(verdict) => Ok(verdict),
+        Err(CheckFault::NoMemory | CheckFault::Frame(FrameFault::NoMemory)) => Err(Fault::Memory),
+        Err(CheckFault::Frame(fault)) => Err(Fault::Frame(fault)),
     }
 }
 

@@ -1,4 +1,4 @@
-//! Input files, each read whole.
+//! Input files.
 ghost use Rattle.std.specs.Prelude.{IfOk, IfErr};
 ghost use Rattle.tool.specs.Folder.{HoldsInput};
 ghost use Rattle.tool.specs.Inputs.{HoldsSession, HoldsBytes, HoldsCertificate, IsNotOpened, IsSessionUnread, IsCertificateUnread, IsObjectUnread};
@@ -9,7 +9,8 @@ use cert::{CertFault, Certificate};
 use session::{FrameFault, ReadFault, Session, read_to_end};
 use std::alloc::Global;
 
-fn open<'a, F: Folder>(folder: &F, name: &'a str) -> Result<F::Input, Fault<'a>>
+/// A file to be read.
+pub(crate) fn open<'a, F: Folder>(folder: &F, name: &'a str) -> Result<F::Input, Fault<'a>>
     ensures input { IfOk result (λ file. HoldsInput (F.files folder.now) name.now
         (F.Input.remaining file) (F.Input.sound file)) }
     ensures fault { IfErr result (IsNotOpened (F.files folder.now) name.now) }
