@@ -27,7 +27,7 @@ use Rattle.cert.specs.declared.walk.NoReport.{NoReport}
 use Rattle.cert.specs.declared.walk.NoReport.TheVariants.{Reason as ByReason, NoMemory}
 use Rattle.cert.specs.Verdict.{first_reason, IsAgainst}
 use Rattle.cert.specs.Report.{block_lines}
-use Rattle.cert.specs.Scan.{members_at, members_of, AreGroupsOf, IsPut, IsNoReport, different_in, line_in, AreEnough, IsFirstThin, IsThin}
+use Rattle.cert.specs.Scan.{members_at, members_of, AreGroupsOf, IsPut, IsNoReport, different_in, line_in, AreEnough, IsFirstShortGroup, IsShortGroup}
 
 -- ---- one symbol more
 
@@ -157,9 +157,9 @@ module _ (f : Fti) (rs : List Reading) (groups : List Group) (are : AreGroupsOf 
   pub enough_full : AreEnough groups → Suffices f rs
   enough_full h b l = le-leb _ _ (let e = count_is b l in let n = are.need b l in let c = are.count in let g = h b (omega (arith, l, c)) in omega (arith, e, g, n))
 
-  pub thin_short : (b have need : ℕ) → IsFirstThin groups b have need
+  pub short_group : (b have need : ℕ) → IsFirstShortGroup groups b have need
       → IsFirstShort f (symbols (counted rs)) b × (have ≡ arrived_count (symbols (counted rs)) b) × (need ≡ source_count f b)
-  thin_short b have need h =
+  short_group b have need h =
       let c = are.count in
       let l : b < block_count f = (let g = h.block in omega (arith, g, c)) in
       let e = count_is b l in
@@ -193,8 +193,8 @@ module _ (f : Fti) (rs : List Reading) (groups : List Group) (are : AreGroupsOf 
   lines_are = ap (λ (n : ℕ). map (line_in groups) (below n)) are.count ∙ lines_same (block_count f) (omega arith)
 
 module _ (z : Certificate) (ds : List (List ℕ)) (groups : List Group) (are : AreGroupsOf z.fti (counted (readings_of ds)) groups) where
-  refused_reason : (r : Reason) → first_reason z (readings_of ds) ≡ None → counted (readings_of ds) ≢ [] → IsThin groups (ByReason r) → IsAgainst (readings_of ds) z r
-  refused_reason (Thin b have need) none some h = let w = thin_short z.fti (readings_of ds) groups are b have need h in (none, some, w.0, w.1, w.2)
+  refused_reason : (r : Reason) → first_reason z (readings_of ds) ≡ None → counted (readings_of ds) ≢ [] → IsShortGroup groups (ByReason r) → IsAgainst (readings_of ds) z r
+  refused_reason (Thin b have need) none some h = let w = short_group z.fti (readings_of ds) groups are b have need h in (none, some, w.0, w.1, w.2)
   refused_reason ObjectLength none some h = absurd h
   refused_reason (NotObject b c i) none some h = absurd h
   refused_reason Empty none some h = absurd h
@@ -205,7 +205,7 @@ module _ (z : Certificate) (ds : List (List ℕ)) (groups : List Group) (are : A
   refused_reason (Wrong i c) none some h = absurd h
 
   -- no report, by the counts
-  pub counts_refused : (e : NoReport) → first_reason z (readings_of ds) ≡ None → counted (readings_of ds) ≢ [] → IsThin groups e → IsNoReport ds z e
+  pub counts_refused : (e : NoReport) → first_reason z (readings_of ds) ≡ None → counted (readings_of ds) ≢ [] → IsShortGroup groups e → IsNoReport ds z e
   counts_refused NoMemory none some h = tt
   counts_refused (ByReason r) none some h = refused_reason r none some h
 

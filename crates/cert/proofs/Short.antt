@@ -24,7 +24,7 @@ use Rattle.reception.proofs.Walking.{came_before, reading_here}
 use Rattle.cert.specs.declared.verdict.Verdict.TheVariants.{No}
 use Rattle.cert.specs.declared.verdict.Reason.TheVariants.{Thin}
 use Rattle.cert.specs.Verdict.{GivesObject, IsCertifiedReading, reception_to, first_reason, VerdictOn}
-use Rattle.cert.specs.Twins.{different_esis, esi_in, esis_of, IsTwin, IsThinIn, IsTwinOfSession}
+use Rattle.cert.specs.Twins.{different_esis, esi_in, esis_of, IsTwin, IsShortIn, IsTwinOfSession}
 use Rattle.cert.proofs.Judging.{read_all, are_certified, nothing_found}
 use Rattle.reception.proofs.OneAnswer.{same_readings}
 use Rattle.cert.proofs.Promise.{sound_all, unplaced_all, fits_sound}
@@ -127,25 +127,25 @@ module _ (b : ℕ) (ds : List (List ℕ)) (place : ℕ) (d : List ℕ) (l : plac
 
 -- ---- what a verdict of a short block says
 
-abbrev pub Thinned : List (List ℕ) → List ℕ → Certificate → ℕ → Type 0
-Thinned ds object z b =
+abbrev pub Shortness : List (List ℕ) → List ℕ → Certificate → ℕ → Type 0
+Shortness ds object z b =
     IsObject z.fti object × GivesObject object z × (first_reason z (readings_of ds) ≡ None) × (counted (readings_of ds) ≢ [])
     × IsFirstShort z.fti (symbols (counted (readings_of ds))) b
 
-pub thinned : (ds : List (List ℕ)) (object : List ℕ) (z : Certificate) (b : ℕ) → AreDatagrams ds → IsThinIn ds object z b → Thinned ds object z b
-thinned ds object z b small h =
+pub shortness : (ds : List (List ℕ)) (object : List ℕ) (z : Certificate) (b : ℕ) → AreDatagrams ds → IsShortIn ds object z b → Shortness ds object z b
+shortness ds object z b small h =
     let same : h.2.readings ≡ readings_of ds = same_readings ds h.2.readings (readings_of ds) h.2.read (read_all ds small) in
     let v = subst (λ (rs : List Reading). VerdictOn rs object z (No (Thin b h.0 h.1))) same h.2.judged in
     (v.0, v.1, v.2.0, v.2.1, v.2.2)
 
-pub few_thin : (ds : List (List ℕ)) (object : List ℕ) (z : Certificate) (b : ℕ) → AreDatagrams ds → IsThinIn ds object z b
+pub few_arrived : (ds : List (List ℕ)) (object : List ℕ) (z : Certificate) (b : ℕ) → AreDatagrams ds → IsShortIn ds object z b
     → length (different_esis (esis_of b (symbols (counted (readings_of ds))))) < source_count z.fti b
-few_thin ds object z b small h = few_held z.fti b (symbols (counted (readings_of ds))) (thinned ds object z b small h).4
+few_arrived ds object z b small h = few_held z.fti b (symbols (counted (readings_of ds))) (shortness ds object z b small h).4
 
-pub twin_of_session : (ds : List (List ℕ)) (object other : List ℕ) (z : Certificate) (b : ℕ) → IsCertificate z → AreDatagrams ds → IsThinIn ds object z b
+pub twin_of_session : (ds : List (List ℕ)) (object other : List ℕ) (z : Certificate) (b : ℕ) → IsCertificate z → AreDatagrams ds → IsShortIn ds object z b
     → IsTwin z.fti b (esis_of b (symbols (counted (readings_of ds)))) object other → IsTwinOfSession z.fti b ds object other
 twin_of_session ds object other z b good small h twin =
-    let t = thinned ds object z b small h in
+    let t = shortness ds object z b small h in
     let read : ReadAll ds (readings_of ds) = read_all ds small in
     let fits = fits_clean z object ds (readings_of ds) good read t.0 t.1 t.2 t.3 in
     record {

@@ -54,17 +54,17 @@ abbrev pub AreEnough : List Group → Type 0
 AreEnough groups = (b : ℕ) → b < length groups → (group_at groups b).need ≤ different_in groups b
 
 -- the least group that hasn't
-pub record IsFirstThin (groups : List Group) (b have need : ℕ) : Type 0 where
+pub record IsFirstShortGroup (groups : List Group) (b have need : ℕ) : Type 0 where
   pub block : b < length groups
   pub have_is : have ≡ different_in groups b
   pub need_is : need ≡ (group_at groups b).need
   pub few : have < need
   pub blocks_before : (a : ℕ) → a < b → (group_at groups a).need ≤ different_in groups a
 
-abbrev pub IsThin : List Group → NoReport → Type 0
-IsThin groups (ByReason (Thin b have need)) = IsFirstThin groups b have need
-IsThin groups (ByReason _) = ⊥
-IsThin groups NoMemory = Unit {0}
+abbrev pub IsShortGroup : List Group → NoReport → Type 0
+IsShortGroup groups (ByReason (Thin b have need)) = IsFirstShortGroup groups b have need
+IsShortGroup groups (ByReason _) = ⊥
+IsShortGroup groups NoMemory = Unit {0}
 
 -- what a yes says of the datagrams
 pub record AreEnoughCertified (datagrams : List (List ℕ)) (z : Certificate) : Type 0 where

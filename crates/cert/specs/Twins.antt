@@ -33,8 +33,8 @@ pub record IsTwin (f : Fti) (b : ℕ) (arrived_esis object other : List ℕ) : T
   pub alike : (s : Symbol) → (s.block ≡ b → is_among arrived_esis s.esi ≡ true) → Agrees f object s ↔ Agrees f other s
 
 -- the verdict is that this block is the least that has too few symbols
-abbrev pub IsThinIn : List (List ℕ) → List ℕ → Certificate → ℕ → Type 0
-IsThinIn datagrams object z b = (have : ℕ) × (need : ℕ) × IsVerdict datagrams object z (No (Thin b have need))
+abbrev pub IsShortIn : List (List ℕ) → List ℕ → Certificate → ℕ → Type 0
+IsShortIn datagrams object z b = (have : ℕ) × (need : ℕ) × IsVerdict datagrams object z (No (Thin b have need))
 
 abbrev pub esi_in : ℕ → Symbol → List ℕ
 esi_in b s = if s.block == b then s.esi ∷ [] else []

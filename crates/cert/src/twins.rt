@@ -5,7 +5,7 @@ ghost use Rattle.partition.specs.Fti.{IsValidFti, block_count, source_count};
 ghost use Rattle.reception.specs.Reception.{counted, symbols};
 ghost use Rattle.reception.specs.Walks.{readings_of};
 ghost use Rattle.cert.specs.Verdict.{reception_to};
-ghost use Rattle.cert.specs.Twins.{different_esis, esis_of, IsTwin, IsThinIn, IsTwinOfSession};
+ghost use Rattle.cert.specs.Twins.{different_esis, esis_of, IsTwin, IsShortIn, IsTwinOfSession};
 ghost use Rattle.cert.specs.TwinBytes.{byte_with_value};
 
 use crate::certificate::Certificate;
@@ -112,7 +112,7 @@ pub fn session_twin(
     certificate: &Certificate,
     block: u32,
 ) -> Result<Vec<u8>, AllocError>
-    requires { IsThinIn session.now object.now certificate.now block }
+    requires { IsShortIn session.now object.now certificate.now block }
     ensures { IfOk result (λ other.
         IsTwinOfSession certificate.now.fti block session.now object.now other.items) }
 {

@@ -8,7 +8,7 @@ ghost use Rattle.reception.specs.Symbols.{IsObject};
 ghost use Rattle.reception.specs.Reception.{in_range, symbol_of};
 ghost use Rattle.cert.specs.Certificate.{IsCertificate};
 ghost use Rattle.cert.specs.Report.{IsReport};
-ghost use Rattle.cert.specs.Scan.{line_in, AreEnough, AreEnoughCertified, IsThin, IsPut, IsNoReport};
+ghost use Rattle.cert.specs.Scan.{line_in, AreEnough, AreEnoughCertified, IsShortGroup, IsPut, IsNoReport};
 ghost use Rattle.cert.specs.Verdict.{GivesObject, uncertified};
 
 use crate::certificate::Certificate;
@@ -167,7 +167,7 @@ fn block_lines(alloc: Global, groups: &[Group]) -> Result<Vec<(usize, usize)>, N
     ensures lines { IfOk result (λ v.
         v.items ≡ map (line_in (groups_of groups.now)) (below (length groups.now))) }
     ensures enough { OnOk result (AreEnough (groups_of groups.now)) }
-    ensures no_report { IfErr result (IsThin (groups_of groups.now)) }
+    ensures no_report { IfErr result (IsShortGroup (groups_of groups.now)) }
 {
     let mut blocks = Vec::new(alloc);
     for block in 0..groups.len() {

@@ -13,16 +13,16 @@ some_same : {A : Type 0} {x y : A} → Some x ≡ Some y → x ≡ y
 some_same e = cc
 
 -- the reason that a block is short
-pub thin_reason : (reason : Reason) (t : ℕ × ℕ × ℕ) → short_of reason ≡ Some t → reason ≡ Thin t.0 t.1 t.2
-thin_reason (Thin block have need) t e = ap (λ (u : ℕ × ℕ × ℕ). Thin u.0 u.1 u.2) (some_same e)
-thin_reason ObjectLength t e = absurd (cc)
-thin_reason (NotObject b c i) t e = absurd (cc)
-thin_reason Empty t e = absurd (cc)
-thin_reason (Packet i x) t e = absurd (cc)
-thin_reason (OtherIdentity i) t e = absurd (cc)
-thin_reason (OtherFti i) t e = absurd (cc)
-thin_reason (Range i) t e = absurd (cc)
-thin_reason (Symbol i c) t e = absurd (cc)
+pub short_reason : (reason : Reason) (t : ℕ × ℕ × ℕ) → short_of reason ≡ Some t → reason ≡ Thin t.0 t.1 t.2
+short_reason (Thin block have need) t e = ap (λ (u : ℕ × ℕ × ℕ). Thin u.0 u.1 u.2) (some_same e)
+short_reason ObjectLength t e = absurd (cc)
+short_reason (NotObject b c i) t e = absurd (cc)
+short_reason Empty t e = absurd (cc)
+short_reason (Packet i x) t e = absurd (cc)
+short_reason (OtherIdentity i) t e = absurd (cc)
+short_reason (OtherFti i) t e = absurd (cc)
+short_reason (Range i) t e = absurd (cc)
+short_reason (Symbol i c) t e = absurd (cc)
 
 -- any other reason
 pub record IsOther (reason : Reason) (before after : Option (List ℕ)) (f : Fti) (datagrams : List (List ℕ)) (object output : List ℕ) (old new : Option Files) : Type 0 where

@@ -8,7 +8,7 @@ ghost use Rattle.tool.specs.Lines.{line_of, named, block_line, kill_line, losses
 use crate::fault::Fault;
 use crate::folder::Folder;
 use crate::input::{open, read_certificate, read_object};
-use crate::print::Line;
+use crate::print::Text;
 use crate::wording::put_packet_fault;
 use cert::{Certificate, CheckFault, Reason, Report, Verdict, check_from};
 use session::{FrameFault, Read, Write};
@@ -66,21 +66,21 @@ fn verdict_of<'a, R: Read>(
     }
 }
 
-fn block_line_of(alloc: Global, block: usize, counts: (usize, usize)) -> Result<Line, AllocError>
+fn block_line_of(alloc: Global, block: usize, counts: (usize, usize)) -> Result<Text, AllocError>
     ensures { IfOk result (λ line. line ≡ block_line block counts) }
 {
     let (need, have) = counts;
-    let mut line = Line::new(alloc);
+    let mut line = Text::new(alloc);
     line.named("block", block)?;
     line.named(" need", need)?;
     line.named(" have", have)?;
     Ok(line)
 }
 
-fn kill_line_of(alloc: Global, places: &[usize]) -> Result<Line, AllocError>
+fn kill_line_of(alloc: Global, places: &[usize]) -> Result<Text, AllocError>
     ensures { IfOk result (λ line. line ≡ kill_line places.now) }
 {
-    let mut line = Line::new(alloc);
+    let mut line = Text::new(alloc);
     line.text("kill")?;
     for place in places {
         line.named("", *place)?;
@@ -88,16 +88,16 @@ fn kill_line_of(alloc: Global, places: &[usize]) -> Result<Line, AllocError>
     Ok(line)
 }
 
-fn number_line(alloc: Global, name: &str, number: usize) -> Result<Line, AllocError>
+fn number_line(alloc: Global, name: &str, number: usize) -> Result<Text, AllocError>
     ensures { IfOk result (λ line. line ≡ named name.now (decimal number)) }
 {
-    let mut line = Line::new(alloc);
+    let mut line = Text::new(alloc);
     line.named(name, number)?;
     Ok(line)
 }
 
 // Puts the lines of what can be lost last.
-fn put_losses(alloc: Global, lines: &mut Line, report: &Report) -> Result<(), AllocError>
+fn put_losses(alloc: Global, lines: &mut Text, report: &Report) -> Result<(), AllocError>
     ensures { OnOk result (line_of lines.new ≡ line_of lines.old ++ losses_text report.now) }
 {
     lines.put_line(&number_line(alloc, "margin", report.margin)?)?;
@@ -106,10 +106,10 @@ fn put_losses(alloc: Global, lines: &mut Line, report: &Report) -> Result<(), Al
 }
 
 // The lines of a yes: they are printed together, so that want of memory leaves no yes behind.
-fn report_lines(alloc: Global, report: &Report) -> Result<Line, AllocError>
+fn report_lines(alloc: Global, report: &Report) -> Result<Text, AllocError>
     ensures { IfOk result (λ lines. line_of lines ≡ report_text report.now) }
 {
-    let mut lines = Line::new(alloc);
+    let mut lines = Text::new(alloc);
     lines.text("yes")?;
     for (block, counts) in report.blocks.iter().enumerate() {
         lines.put_line(&block_line_of(alloc, block, *counts)?)?;
@@ -119,7 +119,7 @@ fn report_lines(alloc: Global, report: &Report) -> Result<Line, AllocError>
 }
 
 // Puts a reason last.
-fn put_reason(line: &mut Line, reason: Reason) -> Result<(), AllocError>
+fn put_reason(line: &mut Text, reason: Reason) -> Result<(), AllocError>
     ensures { OnOk result (GainsReason reason line.old line.new) }
 {
     match reason {
@@ -154,10 +154,10 @@ fn put_reason(line: &mut Line, reason: Reason) -> Result<(), AllocError>
     }
 }
 
-pub(crate) fn reason_line(alloc: Global, reason: Reason) -> Result<Line, AllocError>
+pub(crate) fn reason_line(alloc: Global, reason: Reason) -> Result<Text, AllocError>
     ensures { IfOk result (IsNoLine reason) }
 {
-    let mut line = Line::new(alloc);
+    let mut line = Text::new(alloc);
     line.text("no ")?;
     put_reason(&mut line, reason)?;
     Ok(line)

@@ -7,7 +7,7 @@ use crate::fault::Fault;
 use crate::folder::Folder;
 use crate::input::read_session;
 use crate::output::write_output;
-use crate::print::Line;
+use crate::print::Text;
 use crate::wording::put_packet_fault;
 use coder::{Answer, DecodeFault};
 use session::Write;
@@ -51,7 +51,7 @@ fn status_of(answer: &Answer) -> u8
 }
 
 // Puts a fault last.
-fn put_fault(line: &mut Line, fault: DecodeFault) -> Result<(), AllocError>
+fn put_fault(line: &mut Text, fault: DecodeFault) -> Result<(), AllocError>
     ensures { OnOk result (GainsFault fault line.old line.new) }
 {
     match fault {
@@ -68,43 +68,43 @@ fn put_fault(line: &mut Line, fault: DecodeFault) -> Result<(), AllocError>
     }
 }
 
-fn missing_line(alloc: Global, block: u32, have: usize, need: usize) -> Result<Line, AllocError>
+fn missing_line(alloc: Global, block: u32, have: usize, need: usize) -> Result<Text, AllocError>
     ensures { IfOk result (λ line. line ≡ missing_text block have need) }
 {
-    let mut line = Line::new(alloc);
+    let mut line = Text::new(alloc);
     line.named("missing block", block)?;
     line.named(" have", have)?;
     line.named(" need", need)?;
     Ok(line)
 }
 
-fn object_line(alloc: Global, length: usize) -> Result<Line, AllocError>
+fn object_line(alloc: Global, length: usize) -> Result<Text, AllocError>
     ensures { IfOk result (λ line. line ≡ object_text length) }
 {
-    let mut line = Line::new(alloc);
+    let mut line = Text::new(alloc);
     line.named("object", length)?;
     line.text(" bytes")?;
     Ok(line)
 }
 
-fn empty_line(alloc: Global) -> Result<Line, AllocError>
+fn empty_line(alloc: Global) -> Result<Text, AllocError>
     ensures { IfOk result (λ line. line ≡ codes "empty") }
 {
-    let mut line = Line::new(alloc);
+    let mut line = Text::new(alloc);
     line.text("empty")?;
     Ok(line)
 }
 
-fn fault_line(alloc: Global, fault: DecodeFault) -> Result<Line, AllocError>
+fn fault_line(alloc: Global, fault: DecodeFault) -> Result<Text, AllocError>
     ensures { IfOk result (GainsFault fault (codes "fault ")) }
 {
-    let mut line = Line::new(alloc);
+    let mut line = Text::new(alloc);
     line.text("fault ")?;
     put_fault(&mut line, fault)?;
     Ok(line)
 }
 
-fn answer_line(alloc: Global, answer: &Answer) -> Result<Line, AllocError>
+fn answer_line(alloc: Global, answer: &Answer) -> Result<Text, AllocError>
     ensures { IfOk result (IsAnswerLine answer.now) }
 {
     match answer {

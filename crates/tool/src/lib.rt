@@ -5,6 +5,7 @@ mod answering;
 mod certify;
 mod check;
 mod decode;
+mod dropping;
 mod encode;
 mod fault;
 mod folder;
@@ -15,7 +16,6 @@ mod print;
 mod running;
 mod show;
 mod sizes;
-mod thin_out;
 mod twinning;
 mod wording;
 

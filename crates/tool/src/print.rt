@@ -9,13 +9,13 @@ use session::{Failed, Write, write_all};
 use std::alloc::{AllocError, Global};
 use std::marker::Model;
 
-/// A line that is being made, or some.
+/// The text of a line, or of several, that is being made.
 #[derive(Drop)]
-pub(crate) struct Line {
+pub(crate) struct Text {
     bytes: Vec<u8>,
 }
 
-impl Model for Line {
+impl Model for Text {
     ghost use Rattle.std.specs.Prelude.{List, ℕ};
 
     ghost Value = { List ℕ };
@@ -23,12 +23,12 @@ impl Model for Line {
     ghost view = { λ l. l.bytes.items };
 }
 
-impl Line {
-    /// The empty line.
-    pub(crate) fn new(alloc: Global) -> Line
+impl Text {
+    /// No text.
+    pub(crate) fn new(alloc: Global) -> Text
         ensures { result ≡ [] }
     {
-        Line {
+        Text {
             bytes: Vec::new(alloc),
         }
     }
@@ -61,7 +61,7 @@ impl Line {
     }
 
     /// Puts a line feed and another line last. After a fault there may be the line feed alone.
-    pub(crate) fn put_line(&mut self, line: &Line) -> Result<(), AllocError>
+    pub(crate) fn put_line(&mut self, line: &Text) -> Result<(), AllocError>
         ensures { OnOk result (line_of self.new ≡ line_of self.old ++ line_of line.now) }
     {
         self.bytes.push(b'\n')?;

@@ -8,12 +8,12 @@ ghost use Rattle.tool.specs.declared.fault.Fault.TheVariants.{Output};
 use crate::certify::certify;
 use crate::check::check;
 use crate::decode::decode;
+use crate::dropping::drop_places;
 use crate::encode::encode;
 use crate::fault::Fault;
 use crate::folder::Folder;
-use crate::print::Line;
+use crate::print::Text;
 use crate::show::show;
-use crate::thin_out::drop_places;
 use crate::twinning::twin;
 use crate::wording::{put_certificate_fault, put_frame_fault, put_fti_fault, put_send_fault};
 use request::Request;
@@ -118,11 +118,11 @@ pub(crate) fn tell_memory<W: Write>(out: &mut W)
     let _ = write_all(out, b"fault memory\n");
 }
 
-fn fault_line(alloc: Global, fault: Fault<'_>) -> Result<Line, AllocError>
+fn fault_line(alloc: Global, fault: Fault<'_>) -> Result<Text, AllocError>
     ensures { IfOk result (λ line.
         (text : List ℕ) × IsFaultText fault.entry text × (line ≡ codes "fault " ++ text)) }
 {
-    let mut line = Line::new(alloc);
+    let mut line = Text::new(alloc);
     line.text("fault ")?;
     match fault {
         Fault::Open(name) => {

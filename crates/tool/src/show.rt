@@ -7,7 +7,7 @@ ghost use Rattle.tool.specs.Lines.{packet_text, IsReadingLine, PrintsDatagrams, 
 use crate::fault::Fault;
 use crate::folder::Folder;
 use crate::input::read_session;
-use crate::print::Line;
+use crate::print::Text;
 use crate::wording::put_packet_fault;
 use alc::{Packet, PacketFault, read};
 use session::{Session, Write};
@@ -56,10 +56,10 @@ fn print_datagrams<'a, W: Write>(
     Ok(status)
 }
 
-fn packet_line(alloc: Global, place: usize, packet: &Packet<'_>) -> Result<Line, AllocError>
+fn packet_line(alloc: Global, place: usize, packet: &Packet<'_>) -> Result<Text, AllocError>
     ensures { IfOk result (λ line. line ≡ packet_text place (packet_of packet.now)) }
 {
-    let mut line = Line::new(alloc);
+    let mut line = Text::new(alloc);
     line.number(place)?;
     line.named(" tsi", packet.tsi)?;
     line.named(" toi", packet.toi)?;
@@ -72,10 +72,10 @@ fn packet_line(alloc: Global, place: usize, packet: &Packet<'_>) -> Result<Line,
     Ok(line)
 }
 
-fn fault_line(alloc: Global, place: usize, fault: PacketFault) -> Result<Line, AllocError>
+fn fault_line(alloc: Global, place: usize, fault: PacketFault) -> Result<Text, AllocError>
     ensures { IfOk result (IsReadingLine place (Err fault)) }
 {
-    let mut line = Line::new(alloc);
+    let mut line = Text::new(alloc);
     line.number(place)?;
     line.text(" ")?;
     put_packet_fault(&mut line, fault)?;

@@ -10,7 +10,7 @@ use crate::fault::Fault;
 use crate::folder::Folder;
 use crate::input::{read_certificate, read_object, read_session};
 use crate::output::write_output;
-use crate::print::Line;
+use crate::print::Text;
 use cert::{Reason, Verdict, session_twin};
 use session::Write;
 use std::alloc::{AllocError, Global};
@@ -73,18 +73,18 @@ fn short_block(reason: Reason) -> Option<(u32, usize, usize)>
     }
 }
 
-fn no_twin_line(alloc: Global) -> Result<Line, AllocError>
+fn no_twin_line(alloc: Global) -> Result<Text, AllocError>
     ensures { IfOk result (λ line. line ≡ codes "no twin") }
 {
-    let mut line = Line::new(alloc);
+    let mut line = Text::new(alloc);
     line.text("no twin")?;
     Ok(line)
 }
 
-fn twin_line_of(alloc: Global, block: u32, have: usize, need: usize) -> Result<Line, AllocError>
+fn twin_line_of(alloc: Global, block: u32, have: usize, need: usize) -> Result<Text, AllocError>
     ensures { IfOk result (λ line. line ≡ twin_line block have need) }
 {
-    let mut line = Line::new(alloc);
+    let mut line = Text::new(alloc);
     line.named("twin block", block)?;
     line.named(" have", have)?;
     line.named(" need", need)?;

@@ -2,7 +2,7 @@
 ghost use Rattle.std.specs.Prelude.{◌≡◌, ◌++◌, OnOk};
 ghost use Rattle.tool.specs.Words.{fti_words, packet_words, frame_words, certificate_words, send_words};
 
-use crate::print::Line;
+use crate::print::Text;
 use alc::PacketFault;
 use cert::CertFault;
 use coder::SendFault;
@@ -11,7 +11,7 @@ use session::FrameFault;
 use std::alloc::AllocError;
 
 /// Puts the words of a fault of an FTI last.
-pub(crate) fn put_fti_fault(line: &mut Line, fault: FtiError) -> Result<(), AllocError>
+pub(crate) fn put_fti_fault(line: &mut Text, fault: FtiError) -> Result<(), AllocError>
     ensures { OnOk result (line.new ≡ line.old ++ fti_words fault) }
 {
     match fault {
@@ -25,7 +25,7 @@ pub(crate) fn put_fti_fault(line: &mut Line, fault: FtiError) -> Result<(), Allo
 }
 
 /// Puts the words of a fault of a packet last.
-pub(crate) fn put_packet_fault(line: &mut Line, fault: PacketFault) -> Result<(), AllocError>
+pub(crate) fn put_packet_fault(line: &mut Text, fault: PacketFault) -> Result<(), AllocError>
     ensures { OnOk result (line.new ≡ line.old ++ packet_words fault) }
 {
     match fault {
@@ -48,7 +48,7 @@ pub(crate) fn put_packet_fault(line: &mut Line, fault: PacketFault) -> Result<()
 }
 
 /// Puts the words of a fault of a session last.
-pub(crate) fn put_frame_fault(line: &mut Line, fault: FrameFault) -> Result<(), AllocError>
+pub(crate) fn put_frame_fault(line: &mut Text, fault: FrameFault) -> Result<(), AllocError>
     ensures { OnOk result (line.new ≡ line.old ++ frame_words fault) }
 {
     match fault {
@@ -65,7 +65,7 @@ pub(crate) fn put_frame_fault(line: &mut Line, fault: FrameFault) -> Result<(), 
 }
 
 /// Puts the words of a fault of a certificate last.
-pub(crate) fn put_certificate_fault(line: &mut Line, fault: CertFault) -> Result<(), AllocError>
+pub(crate) fn put_certificate_fault(line: &mut Text, fault: CertFault) -> Result<(), AllocError>
     ensures { OnOk result (line.new ≡ line.old ++ certificate_words fault) }
 {
     match fault {
@@ -81,7 +81,7 @@ pub(crate) fn put_certificate_fault(line: &mut Line, fault: CertFault) -> Result
 }
 
 /// Puts the words of a fault of sending last.
-pub(crate) fn put_send_fault(line: &mut Line, fault: SendFault) -> Result<(), AllocError>
+pub(crate) fn put_send_fault(line: &mut Text, fault: SendFault) -> Result<(), AllocError>
     ensures { OnOk result (line.new ≡ line.old ++ send_words fault) }
 {
     match fault {

@@ -1,12 +1,12 @@
 use Rattle.std.proofs.Common.{◌≡◌, ◌∙◌, refl, sym, ap}
 use Rattle.cert.specs.declared.verdict.Reason.TheVariants.{Thin}
 use Rattle.cert.specs.declared.verdict.Verdict.TheVariants.{No}
-use Rattle.tool.proofs.Twinned.{thin_reason, other_reason}
+use Rattle.tool.proofs.Twinned.{short_reason, other_reason}
 use Rattle.tool.proofs.twinning.twin.Goals as goal
 
 pub returns-in-Some-clause-ok : goal.returns-in-Some-clause-ok
 returns-in-Some-clause-ok g c =
-    let thin = thin_reason c.in-No.reason (c.in-Some.block, c.in-Some.have, c.in-Some.need) (sym c.short_block.ensures ∙ c.in-Some.is) in
+    let thin = short_reason c.in-No.reason (c.in-Some.block, c.in-Some.have, c.in-Some.need) (sym c.short_block.ensures ∙ c.in-Some.is) in
     let verdict : c.in_ok-check.field-0 ≡ No (Thin c.in-Some.block c.in-Some.have c.in-Some.need) = c.in-No.is ∙ ap No thin in
     record {
       datagrams = c.in_ok-session.session;

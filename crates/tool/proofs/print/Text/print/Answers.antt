@@ -1,7 +1,7 @@
 use Rattle.std.proofs.Common.{◌∷◌, []}
 use Rattle.std.proofs.lemmas.Result.{on_err_weaker}
 use Rattle.session.proofs.Writes.{then_some}
-use Rattle.tool.proofs.print.Line.print.Goals as goal
+use Rattle.tool.proofs.print.Text.print.Goals as goal
 
 pub returns-clause-err : goal.returns-clause-err
 returns-clause-err g c =
