@@ -264,6 +264,43 @@ fn cut_sessions(rt: HostRuntime) -> Result<(), Fail> {
     Ok(())
 }
 
+// What is wrong with the object or at a place is told before a cut behind it.
+#[test]
+fn no_before_a_cut(rt: HostRuntime) -> Result<(), Fail> {
+    let alloc = rt.alloc();
+    for (session, object, line) in [
+        (PAIR_SESSION, PAIR, "fault S1 CutLength\n"),
+        (
+            PAIR_SESSION,
+            [1, 3],
+            "no N2 NotObject block 0 column 0 symbol 1\n",
+        ),
+        (
+            pair_changed(104, 5),
+            PAIR,
+            "no N8 Symbol place 2 column 0\n",
+        ),
+    ] {
+        let mut longer = session.to_vec(alloc)?;
+        longer.push(0)?;
+        checks(
+            alloc,
+            longer.as_slice(),
+            &object,
+            &PAIR_CERTIFICATE,
+            1,
+            line,
+        )?;
+    }
+    Ok(())
+}
+
+// The session is opened first, and its frames are read last.
+#[test]
+fn a_certificate_before_a_cut(rt: HostRuntime) -> Result<(), Fail> {
+    checks(rt.alloc(), &[0], &PAIR, b"RSC", 1, "fault Z1 Magic\n")
+}
+
 // The session file of a pair, without its bytes from `size` on.
 #[test]
 fn every_beginning_of_a_session(rt: HostRuntime) -> Result<(), Fail> {

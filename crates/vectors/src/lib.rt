@@ -4,6 +4,8 @@
 #[cfg(test)]
 mod certificate_tests;
 #[cfg(test)]
+mod check_tests;
+#[cfg(test)]
 mod decoding_tests;
 #[cfg(test)]
 mod field_tests;

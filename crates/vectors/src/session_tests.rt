@@ -109,9 +109,9 @@ fn devices(rt: HostRuntime) -> Result<(), Fail> {
     Ok(())
 }
 
-// Gives these bytes, two at a time, and then fails once, with the bytes behind them still to come.
+/// Gives these bytes, two at a time, and then fails once, with the bytes behind them still to come.
 #[derive(Drop)]
-struct Broken<'a> {
+pub(crate) struct Broken<'a> {
     before: &'a [u8],
     behind: &'a [u8],
     broken: bool,
@@ -139,7 +139,7 @@ impl io::Read for Broken<'_> {
     }
 }
 
-fn breaking_between<'a>(before: &'a [u8], behind: &'a [u8]) -> Device<Broken<'a>> {
+pub(crate) fn breaking_between<'a>(before: &'a [u8], behind: &'a [u8]) -> Device<Broken<'a>> {
     Device::new(Broken {
         before,
         behind,
