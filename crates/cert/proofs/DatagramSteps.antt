@@ -14,7 +14,8 @@ use Rattle.alc.proofs.Again.{exact}
 use Rattle.alc.specs.declared.reading.Packet.{Packet as ReadPacket}
 use Rattle.reception.specs.declared.scope.Scope.{Scope}
 use Rattle.reception.specs.declared.scope.PlaceFault.{PlaceFault}
-use Rattle.reception.specs.Reception.{Judge, Wrong, Judged, Found, Placed, Reception, counted, symbols, symbols_in, symbol_of, learned, in_range, with_fti, wrong_by, judged, or_else, at_place, reading_wrong, reception_with}
+use Rattle.reception.specs.declared.scope.PlaceFault.TheVariants as fault
+use Rattle.reception.specs.Reception.{Judge, Wrong, Faulty, Judged, Found, Placed, Reception, counted, symbols, symbols_in, symbol_of, learned, in_range, with_fti, wrong_by, judged, or_else, at_place, reading_wrong, reception_with}
 use Rattle.reception.specs.Step.{told, looked, IsLook}
 use Rattle.reception.specs.Walks.{readings_of}
 use Rattle.reception.proofs.Walk.{counted_one_more}
@@ -26,7 +27,7 @@ use Rattle.cert.specs.declared.verdict.Reason.TheVariants.{ObjectLength, NotObje
 use Rattle.cert.specs.declared.walk.NoReport.{NoReport}
 use Rattle.cert.specs.declared.walk.NoReport.TheVariants.{Reason as ByReason, NoMemory}
 use Rattle.cert.specs.Certificate.{Certificate}
-use Rattle.cert.specs.DatagramWalk.{AreWalked, IsNotKept, IsNotPassed}
+use Rattle.cert.specs.DatagramWalk.{AreWalked, IsAtLast, IsNotKept, IsNotPassed}
 use Rattle.cert.specs.Scan.{AreGroupsOf, IsPut}
 use Rattle.cert.specs.Verdict.{uncertified, reception_to, reason_at, first_reason}
 use Rattle.cert.proofs.Bridge.{group_more}
@@ -83,13 +84,25 @@ module _ (z : Certificate) (scope : Scope) (count : ℕ) (groups : List Group) (
   fti_holds = sym (ap (λ (s : Scope). s.fti) are.holds) ∙ fti_stays None z.fti (counted (readings_of ds))
 
   module _ (d : List ℕ) (new : Scope) (answer : Result (Option ReadPacket) PlaceFault) (at : IsLook d scope new answer) where
+    one_longer : length (ds ++ d ∷ []) ≡ count + 1
+    one_longer = let l = length-append ds (d ∷ []) in let m = are.many in omega (arith, l, m)
+
+    at_last : (w : Wrong ℕ) → IsAtLast (ds ++ d ∷ []) (reason_at count w)
+    at_last (Faulty (fault.NoPacket r)) = one_longer
+    at_last (Faulty fault.OtherIdentity) = one_longer
+    at_last (Faulty fault.OtherFti) = one_longer
+    at_last (Faulty fault.Range) = one_longer
+    at_last (Judged c) = one_longer
+
     -- something is wrong with the next datagram
     pub refuses : (w : Wrong ℕ) → wrong_by (uncertified z) (symbols (counted (readings_of ds))) (looked answer) ≡ Some w
-        → first_reason z (readings_of (ds ++ d ∷ [])) ≡ Some (reason_at count w)
-    refuses w is =
-        ap (λ (found : Found ℕ). option_map (λ x. reason_at x.0 x.1) found)
-        (wrong_now (uncertified z) (with_fti z.fti) ds scope are.clean are.holds d new answer at
-        ∙ ap (λ (o : Option (Wrong ℕ)). at_place (length ds) o) is ∙ ap (λ (n : ℕ). Some (n, w)) are.many)
+        → IsNotPassed (ds ++ d ∷ []) z (ByReason (reason_at count w))
+    refuses w is = (
+      ap (λ (found : Found ℕ). option_map (λ x. reason_at x.0 x.1) found)
+      (wrong_now (uncertified z) (with_fti z.fti) ds scope are.clean are.holds d new answer at
+      ∙ ap (λ (o : Option (Wrong ℕ)). at_place (length ds) o) is ∙ ap (λ (n : ℕ). Some (n, w)) are.many),
+      at_last w,
+    )
 
   module _ (d : List ℕ) (new : Scope) (p : ReadPacket) (at : IsLook d scope new (Ok (Some p))) where
     pub packet_in_range : in_range (packet_of p) z.fti ≡ true
@@ -130,7 +143,7 @@ module _ (z : Certificate) (scope : Scope) (count : ℕ) (groups : List Group) (
     pub refuses_symbol : (e : NoReport) → IsNotKept z count (packet_of p) e → IsNotPassed (ds ++ d ∷ []) z e
     refuses_symbol NoMemory h = tt
     refuses_symbol (ByReason (NotCertified i c)) h =
-        refuses d new (Ok (Some p)) at (Judged c) (ap (λ (o : Option ℕ). judged o) h.1) ∙ ap (λ (n : ℕ). Some (NotCertified n c)) (sym h.0)
+        rw h.0 (refuses d new (Ok (Some p)) at (Judged c) (ap (λ (o : Option ℕ). judged o) h.1))
     refuses_symbol (ByReason ObjectLength) h = absurd h
     refuses_symbol (ByReason (NotObject b c i)) h = absurd h
     refuses_symbol (ByReason Empty) h = absurd h

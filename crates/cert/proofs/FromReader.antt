@@ -76,7 +76,7 @@ module _ (z : Certificate) (object : List ℕ) (form : IsObject z.fti object) (g
   pub step_no : (ds rest : List (List ℕ)) (e : NoReport) → IsNotPassed ds z e → IsNo (ds ++ rest) object z e
   step_no ds rest NoMemory h = tt
   step_no ds rest (ByReason r) h =
-      refused (readings_of (ds ++ rest)) object z r form gives (against_place z (readings_of (ds ++ rest)) r (reason_stays z ds rest r h))
+      refused (readings_of (ds ++ rest)) object z r form gives (against_place z (readings_of (ds ++ rest)) r (reason_stays z ds rest r h.0))
 
   -- the no to a list that was walked over
   pub report_no : (ds : List (List ℕ)) (e : NoReport) → IsNoReport ds z e → IsNo ds object z e
@@ -88,16 +88,16 @@ module _ (z : Certificate) (object : List ℕ) (form : IsObject z.fti object) (g
     what_follows r h = λ rest more.
         verdict_no (ds ++ rest) r (datagrams_append ds rest each more) (against_place z (readings_of (ds ++ rest)) r (reason_stays z ds rest r h))
 
-    after_place : (r : Reason) → first_reason z (readings_of ds) ≡ Some r → IsVerdictAfter (No r) ds left object z
-    after_place ObjectLength h = absurd (is_at_place (reception_to z (readings_of ds)).wrong ObjectLength h)
-    after_place (NotObject b c i) h = absurd (is_at_place (reception_to z (readings_of ds)).wrong (NotObject b c i) h)
-    after_place Empty h = absurd (is_at_place (reception_to z (readings_of ds)).wrong Empty h)
-    after_place (Thin b have need) h = absurd (is_at_place (reception_to z (readings_of ds)).wrong (Thin b have need) h)
-    after_place (NoPacket i x) h = what_follows (NoPacket i x) h
-    after_place (OtherIdentity i) h = what_follows (OtherIdentity i) h
-    after_place (OtherFti i) h = what_follows (OtherFti i) h
-    after_place (Range i) h = what_follows (Range i) h
-    after_place (Symbol i c) h = what_follows (Symbol i c) h
+    after_place : (r : Reason) → IsNotPassed ds z (ByReason r) → IsVerdictAfter (No r) ds left object z
+    after_place ObjectLength h = absurd (is_at_place (reception_to z (readings_of ds)).wrong ObjectLength h.0)
+    after_place (NotObject b c i) h = absurd (is_at_place (reception_to z (readings_of ds)).wrong (NotObject b c i) h.0)
+    after_place Empty h = absurd (is_at_place (reception_to z (readings_of ds)).wrong Empty h.0)
+    after_place (Thin b have need) h = absurd (is_at_place (reception_to z (readings_of ds)).wrong (Thin b have need) h.0)
+    after_place (NoPacket i x) h = (h.1, what_follows (NoPacket i x) h.0)
+    after_place (OtherIdentity i) h = (h.1, what_follows (OtherIdentity i) h.0)
+    after_place (OtherFti i) h = (h.1, what_follows (OtherFti i) h.0)
+    after_place (Range i) h = (h.1, what_follows (Range i) h.0)
+    after_place (Symbol i c) h = (h.1, what_follows (Symbol i c) h.0)
 
     module _ (none : first_reason z (readings_of ds) ≡ None) where
       no_place : (r : Reason) → first_reason z (readings_of ds) ≡ Some r → ⊥

@@ -1,5 +1,5 @@
 -- What is known of datagrams that were looked at one by one.
-use Rattle.std.specs.Prelude.{◌≡◌, ◌≢◌, ℕ, List, [], length, None, Some, ⊤}
+use Rattle.std.specs.Prelude.{◌≡◌, ◌≢◌, ℕ, ◌+◌, List, [], length, Option, None, Some, IfSome, ⊤}
 use Rattle.losses.specs.Groups.{Group, groups_of}
 use Rattle.alc.specs.Packet.{Packet}
 use Rattle.reception.specs.Reception.{counted, symbol_of}
@@ -9,7 +9,7 @@ use Rattle.cert.specs.declared.walk.Walk.{Walk}
 use Rattle.cert.specs.declared.walk.NoReport.{NoReport}
 use Rattle.cert.specs.declared.walk.NoReport.TheVariants.{Reason as ByReason, NoMemory}
 use Rattle.cert.specs.declared.verdict.Reason.{Reason}
-use Rattle.cert.specs.declared.verdict.Reason.TheVariants.{ObjectLength, NotObject, Symbol}
+use Rattle.cert.specs.declared.verdict.Reason.TheVariants.{ObjectLength, NotObject, Packet as NoPacket, OtherIdentity, OtherFti, Range, Symbol}
 use Rattle.cert.specs.declared.verdict.Verdict.TheVariants.{No}
 use Rattle.cert.specs.Certificate.{Certificate}
 use Rattle.cert.specs.Scan.{AreGroupsOf}
@@ -37,9 +37,22 @@ abbrev pub IsNotBegun : List ℕ → Certificate → NoReport → Type 0
 IsNotBegun object z (ByReason r) = IsAgainstObject r object z
 IsNotBegun object z NoMemory = ⊤
 
--- why the last of these datagrams isn't taken: it has the first reason at a place
+-- the place that a reason tells
+abbrev pub place_of : Reason → Option ℕ
+place_of (NoPacket i fault) = Some i
+place_of (OtherIdentity i) = Some i
+place_of (OtherFti i) = Some i
+place_of (Range i) = Some i
+place_of (Symbol i c) = Some i
+place_of _ = None
+
+-- a reason at the place of the last of these datagrams
+abbrev pub IsAtLast : List (List ℕ) → Reason → Type 0
+IsAtLast datagrams reason = IfSome (place_of reason) (λ i. length datagrams ≡ i + 1)
+
+-- why the last of these datagrams isn't passed: it has the first reason at a place
 abbrev pub IsNotPassed : List (List ℕ) → Certificate → NoReport → Type 0
-IsNotPassed datagrams z (ByReason r) = first_reason z (readings_of datagrams) ≡ Some r
+IsNotPassed datagrams z (ByReason r) = (first_reason z (readings_of datagrams) ≡ Some r) × IsAtLast datagrams r
 IsNotPassed datagrams z NoMemory = ⊤
 
 -- the no to these datagrams and this object

@@ -1,5 +1,5 @@
 -- What a check answers whose datagrams come from a reader, one after the other.
-use Rattle.std.specs.Prelude.{◌≡◌, ℕ, Bool, List, [], ◌++◌, Option, None, ⊤}
+use Rattle.std.specs.Prelude.{◌≡◌, ℕ, ◌+◌, Bool, List, [], ◌++◌, length, Option, None, ⊤}
 use Rattle.std.specs.Io.KnownBytes.{Consumes, IsAtEnd}
 use Rattle.session.specs.Frames.{frames, AreDatagrams, IsReadFault}
 use Rattle.session.specs.declared.frame.FrameFault.{FrameFault}
@@ -12,7 +12,8 @@ use Rattle.cert.specs.Report.{IsReport, OnYes}
 use Rattle.cert.specs.Verdict.{GivesObject, first_reason, IsVerdict}
 use Rattle.cert.specs.declared.verdict.Verdict.{Verdict}
 use Rattle.cert.specs.declared.verdict.Verdict.TheVariants.{Yes, No}
-use Rattle.cert.specs.declared.verdict.Reason.TheVariants.{ObjectLength, NotObject, Empty, Thin}
+use Rattle.cert.specs.declared.verdict.Reason.{Reason}
+use Rattle.cert.specs.declared.verdict.Reason.TheVariants.{ObjectLength, NotObject, Empty, Packet as NoPacket, OtherIdentity, OtherFti, Range, Symbol, Thin}
 use Rattle.cert.specs.declared.from_reader.CheckFault.{CheckFault}
 use Rattle.cert.specs.declared.from_reader.CheckFault.TheVariants.{Frame, NoMemory}
 
@@ -21,8 +22,13 @@ abbrev pub IsVerdictWhatFollows : List (List ℕ) → List ℕ → Certificate �
 IsVerdictWhatFollows datagrams object z verdict =
     (rest : List (List ℕ)) → AreDatagrams rest → IsVerdict (datagrams ++ rest) object z verdict
 
--- The verdict once these datagrams were read, and that is left of the reader: a reason against the object needs none of
--- them, one at a place none behind it, and every other verdict needs all.
+-- a reason at the place of the last of these datagrams, whatever follows it
+abbrev pub IsVerdictAtLast : ℕ → List (List ℕ) → List ℕ → Certificate → Reason → Type 0
+IsVerdictAtLast place datagrams object z reason =
+    (length datagrams ≡ place + 1) × IsVerdictWhatFollows datagrams object z (No reason)
+
+-- The verdict once these datagrams were read, and that is left of the reader: for a reason against the object none is read,
+-- for one at a place none behind it, and for every other verdict all.
 abbrev pub IsVerdictAfter : Verdict → List (List ℕ) → Option (List ℕ) → List ℕ → Certificate → Type 0
 IsVerdictAfter (Yes report) datagrams left object z = IsAtEnd left × IsVerdict datagrams object z (Yes report)
 IsVerdictAfter (No ObjectLength) datagrams left object z =
@@ -31,7 +37,11 @@ IsVerdictAfter (No (NotObject b c i)) datagrams left object z =
     (datagrams ≡ []) × IsVerdictWhatFollows datagrams object z (No (NotObject b c i))
 IsVerdictAfter (No Empty) datagrams left object z = IsAtEnd left × IsVerdict datagrams object z (No Empty)
 IsVerdictAfter (No (Thin b have need)) datagrams left object z = IsAtEnd left × IsVerdict datagrams object z (No (Thin b have need))
-IsVerdictAfter (No reason) datagrams left object z = IsVerdictWhatFollows datagrams object z (No reason)
+IsVerdictAfter (No (NoPacket i fault)) datagrams left object z = IsVerdictAtLast i datagrams object z (NoPacket i fault)
+IsVerdictAfter (No (OtherIdentity i)) datagrams left object z = IsVerdictAtLast i datagrams object z (OtherIdentity i)
+IsVerdictAfter (No (OtherFti i)) datagrams left object z = IsVerdictAtLast i datagrams object z (OtherFti i)
+IsVerdictAfter (No (Range i)) datagrams left object z = IsVerdictAtLast i datagrams object z (Range i)
+IsVerdictAfter (No (Symbol i c)) datagrams left object z = IsVerdictAtLast i datagrams object z (Symbol i c)
 
 -- Just the frames of some datagrams were read, and the verdict is theirs. At yes it promises of them what a check of a
 -- session does.

@@ -43,11 +43,11 @@ impl From<AllocError> for NoReport {
 /// is kept, only the place and the ESI of its symbol, in its block's group.
 #[derive(Drop)]
 pub(crate) struct Walk<'a> {
-    pub(crate) symbols: CertifiedSymbols<'a>,
-    pub(crate) object: &'a [u8],
-    pub(crate) scope: Scope,
-    pub(crate) groups: Vec<Group>,
-    pub(crate) count: usize,
+    symbols: CertifiedSymbols<'a>,
+    object: &'a [u8],
+    scope: Scope,
+    groups: Vec<Group>,
+    count: usize,
     ghost valid: { IsCertificate symbols },
     ghost form: { IsObject symbols.fti object.now },
     ghost gives: { GivesObject object.now symbols },
