@@ -99,8 +99,8 @@ module _ (z : Certificate) (scope : Scope) (count : ℕ) (groups : List Group) (
         → IsNotPassed (ds ++ d ∷ []) z (ByReason (reason_at count w))
     refuses w is = (
       ap (λ (found : Found ℕ). option_map (λ x. reason_at x.0 x.1) found)
-      (wrong_now (uncertified z) (with_fti z.fti) ds scope are.clean are.holds d new answer at
-      ∙ ap (λ (o : Option (Wrong ℕ)). at_place (length ds) o) is ∙ ap (λ (n : ℕ). Some (n, w)) are.many),
+          (wrong_now (uncertified z) (with_fti z.fti) ds scope are.clean are.holds d new answer at
+          ∙ ap (λ (o : Option (Wrong ℕ)). at_place (length ds) o) is ∙ ap (λ (n : ℕ). Some (n, w)) are.many),
       at_last w,
     )
 

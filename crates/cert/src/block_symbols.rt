@@ -139,7 +139,8 @@ impl<'a> BlockSymbols<'a> {
 
     /// The symbols that were made last, one behind the other.
     pub(crate) fn symbols(&self) -> &[u8]
-        ensures len { length result.now ≡ self.now.count * self.now.certificate.fti.symbol_length }
+        ensures len { length result.now
+            ≡ self.now.count * self.now.certificate.fti.symbol_length }
         ensures certified { AreSymbols self.now.certificate self.now.block self.now.first
             self.now.count result.now }
     {

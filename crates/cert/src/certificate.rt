@@ -175,7 +175,8 @@ impl Certificate {
     // Makes these the rows of coefficients of block `b`: row `i` has coefficient `i` of the polynomial of each column.
     pub(crate) fn put_rows(&self, b: u32, rows: &mut [u8])
         requires block { b < block_count self.now.fti }
-        requires room { length rows.old ≡ source_count self.now.fti b * self.now.fti.symbol_length }
+        requires room { length rows.old
+            ≡ source_count self.now.fti b * self.now.fti.symbol_length }
         ensures len { length rows.new ≡ length rows.old }
         ensures rows { AreRowsOf self.now b rows.new }
     {

@@ -59,8 +59,10 @@ impl<'a> RepairSymbols<'a> {
     pub(crate) fn get(&self, block: u32, esi: u8) -> Option<&[u8]>
         requires { block < block_count self.now.certificate.fti }
         ensures none { IsNone result → ¬ Keeps self.now block esi }
-        ensures some { IfSome result (λ s. IsCertifiedSymbol self.now.certificate block esi s.now) }
-        ensures len { IfSome result (λ s. length s.now ≡ self.now.certificate.fti.symbol_length) }
+        ensures some { IfSome result (λ s.
+            IsCertifiedSymbol self.now.certificate block esi s.now) }
+        ensures len { IfSome result (λ s.
+            length s.now ≡ self.now.certificate.fti.symbol_length) }
     {
         let fti = self.certificate.fti();
         let k = fti.k(block);

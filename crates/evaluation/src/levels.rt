@@ -74,7 +74,7 @@ pub fn evaluate(
         add_values(symbols, first, n, &coefficients);
     } else {
         let sums = &mut sums[..255 * width];
-        write_parts(sums, first, &coefficients);
+        write_parts(sums, first as u8, &coefficients);
         add_parts(symbols, first, n, &coefficients, sums);
     }
 }
@@ -105,8 +105,7 @@ fn add_values(symbols: &mut [u8], first: usize, n: usize, coefficients: &Coeffic
 
 // The first level: for each part and each power of alpha below 17 the sum of the part's
 // coefficients times their powers.
-fn write_parts(sums: &mut [u8], first: usize, coefficients: &Coefficients<'_>)
-    requires near { first ≤ 255 }
+fn write_parts(sums: &mut [u8], first: u8, coefficients: &Coefficients<'_>)
     requires parts { 15 ≤ coefficients.now.k }
     requires room { length sums.old ≡ 255 * coefficients.now.width }
     ensures len { length sums.new ≡ length sums.old }
@@ -120,8 +119,7 @@ fn write_parts(sums: &mut [u8], first: usize, coefficients: &Coefficients<'_>)
 }
 
 // The sums of one part.
-fn write_part(sums: &mut [u8], first: usize, v: usize, coefficients: &Coefficients<'_>)
-    requires near { first ≤ 255 }
+fn write_part(sums: &mut [u8], first: u8, v: usize, coefficients: &Coefficients<'_>)
     requires part { v < 15 }
     requires narrow { 256 * coefficients.now.width < 2 ^ 64 }
     requires parts { 15 ≤ coefficients.now.k }
@@ -132,7 +130,7 @@ fn write_part(sums: &mut [u8], first: usize, v: usize, coefficients: &Coefficien
     let count = (k - v + PARTS - 1) / PARTS;
     let mut matrix = [0u8; 289];
     let powers = &mut matrix[..POWERS * count];
-    write_powers(powers, POWERS, count, v, PARTS, first, 1);
+    write_powers(powers, POWERS, count, v, PARTS, usize::from(first), 1);
     clear(sums);
     add_products(
         sums,
