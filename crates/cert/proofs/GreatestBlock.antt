@@ -23,10 +23,11 @@ module _ (f : Fti) (valid : IsValidFti f) where
       let more = mul-le-mul_right f.max_symbols (most_source b) in
       (le-div_iff_mul-le {k = f.block_length} {x = source_count f b * f.max_symbols / f.block_length} {y = source_count f 0 * f.max_symbols} valid.some_block).1 (omega (arith, whole, more))
 
-  -- all symbols of any block are at most 255, and no fewer than its source symbols, of which there are some
+  -- what a block has, the greatest has
   pub most_symbols : (b n : ℕ) → n ≤ encoding_count f b → n ≤ encoding_count f 0
   most_symbols b n le = omega (arith, le, most_encoding b)
 
+  -- at least one symbol, and at most 255
   pub some_encoding : 1 ≤ encoding_count f 0
   some_encoding = omega (arith, some_source f valid 0, source_encoding f valid 0)
 

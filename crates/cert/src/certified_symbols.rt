@@ -22,8 +22,9 @@ use std::marker::Model;
 #[derive(Drop)]
 pub(crate) struct CertifiedSymbols<'a> {
     latest: BlockSymbols<'a>,
-    // Those of all blocks, once they were asked for so that keeping them pays.
+    // The repair symbols of all blocks, once blocks came again and again.
     kept: Option<RepairSymbols<'a>>,
+    // Whether they are few enough, and weren't made yet.
     may_keep: bool,
     runs: Runs,
     alloc: Global,

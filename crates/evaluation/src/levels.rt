@@ -18,13 +18,19 @@ const LEAST_COUNT: usize = 80;
 
 const FEW_VALUES: usize = 32;
 
-/// Rows of coefficients: row i has coefficient i of the polynomial of each byte column.
+/// So many powers have room of their own, which is cleared for each block.
+const FEW_POWERS: usize = 512;
+
+/// Rows of coefficients, row i with coefficient i of the polynomial of each byte column, and the first
+/// of the points at which values are asked for.
 #[derive(Drop)]
 struct Coefficients<'a> {
     bytes: &'a [u8],
     k: usize,
     width: usize,
+    first: usize,
     ghost few: { k ≤ 255 },
+    ghost near: { first ≤ 255 },
     ghost whole: { length bytes.now ≡ k * width },
     ghost fit: { AreBytes bytes.now },
 }
@@ -68,14 +74,15 @@ pub fn evaluate(
         bytes: coefficients,
         k,
         width,
+        first,
     };
     clear(symbols);
     if k < LEAST_COUNT || n <= FEW_VALUES {
-        add_values(symbols, first, n, &coefficients);
+        add_values(symbols, n, &coefficients);
     } else {
         let sums = &mut sums[..255 * width];
-        write_parts(sums, first as u8, &coefficients);
-        add_parts(symbols, first, n, &coefficients, sums);
+        write_parts(sums, &coefficients);
+        add_parts(symbols, n, &coefficients, sums);
     }
 }
 
@@ -87,50 +94,77 @@ fn clear(bytes: &mut [u8])
 }
 
 // In one level: each value is the sum of the coefficients times their powers.
-fn add_values(symbols: &mut [u8], first: usize, n: usize, coefficients: &Coefficients<'_>)
+fn add_values(symbols: &mut [u8], n: usize, coefficients: &Coefficients<'_>)
     requires few { n * coefficients.now.k ≤ 20145 }
-    requires near { first ≤ 255 }
     requires points { n ≤ 255 }
     requires symbols { length symbols.old ≡ n * coefficients.now.width }
     requires zeros { (p : ℕ) → slice_index symbols.old p ≡ 0 }
-    ensures { AreSums coefficients.now.bytes.now coefficients.now.k coefficients.now.width first n
-        symbols.new }
+    ensures { AreSums coefficients.now.bytes.now coefficients.now.k coefficients.now.width
+        coefficients.now.first n symbols.new }
 {
-    let Coefficients { bytes, k, width } = *coefficients;
-    let mut matrix = [0u8; 20145];
-    let powers = &mut matrix[..n * k];
+    let count = n * coefficients.k;
+    // For a small block, clearing room for the most powers would take longer than its products.
+    if count <= FEW_POWERS {
+        add_by_powers(symbols, n, coefficients, &mut [0u8; FEW_POWERS][..count]);
+    } else {
+        add_by_powers(symbols, n, coefficients, &mut [0u8; 20145][..count]);
+    }
+}
+
+// The same, with room for the powers.
+fn add_by_powers(symbols: &mut [u8], n: usize, coefficients: &Coefficients<'_>, powers: &mut [u8])
+    requires points { n ≤ 255 }
+    requires symbols { length symbols.old ≡ n * coefficients.now.width }
+    requires powers { length powers.old ≡ n * coefficients.now.k }
+    requires zeros { (p : ℕ) → slice_index symbols.old p ≡ 0 }
+    ensures { AreSums coefficients.now.bytes.now coefficients.now.k coefficients.now.width
+        coefficients.now.first n symbols.new }
+{
+    let Coefficients {
+        bytes,
+        k,
+        width,
+        first,
+    } = *coefficients;
     write_powers(powers, n, k, 0, 1, first, 1);
     add_products(symbols, n, powers, bytes, k, width, width);
 }
 
-// The first level: for each part and each power of alpha below 17 the sum of the part's
-// coefficients times their powers.
-fn write_parts(sums: &mut [u8], first: u8, coefficients: &Coefficients<'_>)
+// The first level: for each part and each of 17 powers of alpha, from the first point on, the sum of
+// the part's coefficients times their powers.
+fn write_parts(sums: &mut [u8], coefficients: &Coefficients<'_>)
     requires parts { 15 ≤ coefficients.now.k }
     requires room { length sums.old ≡ 255 * coefficients.now.width }
     ensures len { length sums.new ≡ length sums.old }
-    ensures parts { AreParts coefficients.now.bytes.now coefficients.now.width first sums.new }
+    ensures parts { AreParts coefficients.now.bytes.now coefficients.now.width
+        coefficients.now.first sums.new }
 {
     let size = POWERS * coefficients.width;
     for v in 0..PARTS {
         let from = v * size;
-        write_part(&mut sums[from..from + size], first, v, coefficients);
+        write_part(&mut sums[from..from + size], v, coefficients);
     }
 }
 
 // The sums of one part.
-fn write_part(sums: &mut [u8], first: u8, v: usize, coefficients: &Coefficients<'_>)
+fn write_part(sums: &mut [u8], v: usize, coefficients: &Coefficients<'_>)
     requires part { v < 15 }
     requires narrow { 256 * coefficients.now.width < 2 ^ 64 }
     requires parts { 15 ≤ coefficients.now.k }
     requires room { length sums.old ≡ 17 * coefficients.now.width }
-    ensures { IsPart coefficients.now.bytes.now coefficients.now.width first v sums.new }
+    ensures { IsPart coefficients.now.bytes.now coefficients.now.width
+        coefficients.now.first v sums.new }
 {
-    let Coefficients { bytes, k, width } = *coefficients;
+    let Coefficients {
+        bytes,
+        k,
+        width,
+        first,
+    } = *coefficients;
     let count = (k - v + PARTS - 1) / PARTS;
     let mut matrix = [0u8; 289];
     let powers = &mut matrix[..POWERS * count];
-    write_powers(powers, POWERS, count, v, PARTS, usize::from(first), 1);
+    write_powers(powers, POWERS, count, v, PARTS, first, 1);
     clear(sums);
     add_products(
         sums,
@@ -145,20 +179,15 @@ fn write_part(sums: &mut [u8], first: u8, v: usize, coefficients: &Coefficients<
 
 // The second level: 17 rows of values side by side are the sum of the parts, each times a power of
 // alpha.
-fn add_parts(
-    symbols: &mut [u8],
-    first: usize,
-    n: usize,
-    coefficients: &Coefficients<'_>,
-    sums: &[u8],
-)
+fn add_parts(symbols: &mut [u8], n: usize, coefficients: &Coefficients<'_>, sums: &[u8])
     requires points { n ≤ 255 }
     requires symbols { length symbols.old ≡ n * coefficients.now.width }
     requires room { length sums.now ≡ 255 * coefficients.now.width }
     requires zeros { (p : ℕ) → slice_index symbols.old p ≡ 0 }
-    requires parts { AreParts coefficients.now.bytes.now coefficients.now.width first sums.now }
-    ensures { AreSums coefficients.now.bytes.now coefficients.now.k coefficients.now.width first n
-        symbols.new }
+    requires parts { AreParts coefficients.now.bytes.now coefficients.now.width
+        coefficients.now.first sums.now }
+    ensures { AreSums coefficients.now.bytes.now coefficients.now.k coefficients.now.width
+        coefficients.now.first n symbols.new }
 {
     let width = coefficients.width;
     let size = POWERS * width;

@@ -10,6 +10,6 @@ add_products-requires-clause-reach c =
 
 pub returns : goal.returns
 returns c = λ w y lw ly.
-    first_level c.write_powers.new.matrix c.args.coefficients.now.bytes.now 15 17 ((c.args.coefficients.now.k - c.args.v + 15 - 1) / 15) c.args.coefficients.now.k c.args.coefficients.now.width y c.args.v c.args.first w _ _
+    first_level c.write_powers.new.matrix c.args.coefficients.now.bytes.now 15 17 ((c.args.coefficients.now.k - c.args.v + 15 - 1) / 15) c.args.coefficients.now.k c.args.coefficients.now.width y c.args.v c.args.coefficients.now.first w _ _
     c.args.coefficients.now.whole ly (omega arith) (λ t lt. omega arith) (λ t lt. omega arith)
-    (c.add_products.ensures w y lw ly) (c.clear.ensures.zeros (w * c.args.coefficients.now.width + y)) (λ t lt. rw c.from.ensures at (c.write_powers.ensures w t lw lt))
+    (c.add_products.ensures w y lw ly) (c.clear.ensures.zeros (w * c.args.coefficients.now.width + y)) (λ t lt. c.write_powers.ensures w t lw lt)
