@@ -95,8 +95,7 @@ fn clear(bytes: &mut [u8])
 
 // In one level: each value is the sum of the coefficients times their powers.
 fn add_values(symbols: &mut [u8], n: usize, coefficients: &Coefficients<'_>)
-    requires few { n * coefficients.now.k ≤ 20145 }
-    requires points { n ≤ 255 }
+    requires few { (n ≤ 255) × (n * coefficients.now.k ≤ 20145) }
     requires symbols { length symbols.old ≡ n * coefficients.now.width }
     requires zeros { (p : ℕ) → slice_index symbols.old p ≡ 0 }
     ensures { AreSums coefficients.now.bytes.now coefficients.now.k coefficients.now.width
