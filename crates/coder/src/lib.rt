@@ -14,6 +14,8 @@ mod rows;
 mod sending;
 
 pub use certifying::{CertifyFault, certify};
-pub use decoder::{Answer, DecodeFault, decode, decode_selection, one_answer};
+pub use decoder::{
+    Answer, DecodeFault, FeedFault, Progress, Receiver, decode, decode_selection, one_answer,
+};
 pub use laws::sent_checks_yes;
 pub use sending::{SendFault, encode};

@@ -125,9 +125,9 @@ pub record AreArrivals (f : Fti) (b : ℕ) (at : ℕ → ℕ → Option (List �
   pub len : length received ≡ encoding_count f b
   pub same : (j : ℕ) → j < length received → bytes_of_esi received j ≡ at b j
 
-pub are_arrivals : (f : Fti) (b : ℕ) (at : ℕ → ℕ → Option (List ℕ)) (g : Grid ℕ) (n : ℕ) (items received : List (Option (Bor (List ℕ)))) → IsCodeOf f b g → n ≡ g.cols → length items ≡ n
+pub are_arrivals : (f : Fti) (b : ℕ) (at : ℕ → ℕ → Option (List ℕ)) (n : ℕ) (items received : List (Option (Bor (List ℕ)))) → n ≡ encoding_count f b → length items ≡ n
     → ((j : ℕ) → j < n → bytes_of_esi items j ≡ at b j) → received ≡ items → AreArrivals f b at received
-are_arrivals f b at g n items received code count len same is = record {
-  len = ap length is ∙ len ∙ count ∙ code.cols;
+are_arrivals f b at n items received count len same is = record {
+  len = ap length is ∙ len ∙ count;
   same = λ j lj. ap (λ (l : List (Option (Bor (List ℕ)))). bytes_of_esi l j) is ∙ same j (omega (arith, lj, ap length is, len));
 }

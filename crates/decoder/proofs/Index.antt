@@ -52,7 +52,7 @@ clash_some p arrivals at y index some =
     ap not (pointwise_same y p.bytes) ∙ sym (clash_is p y arrivals c.same ∙ rw c.is_there refl)
 
 -- two numbers compare as equal where they are
-number_eq : (x y : ℕ) → (x == y) ≡ is_eq (nat_cmp x y)
+pub number_eq : (x y : ℕ) → (x == y) ≡ is_eq (nat_cmp x y)
 number_eq x y = elim (cases_order x y) [
   | inl same ↦ (rw (le-ltb x y (omega (arith, same)), eq-eqb x y same) refl)
   | inr (inl less) ↦ (rw (lt-ltb x y less, ne_eqb x y (λ e. omega (arith, e, less))) refl)

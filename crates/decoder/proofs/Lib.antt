@@ -16,3 +16,9 @@ pub mod Promising
 pub mod Solving
 pub mod Unsound
 pub mod Keeping
+pub mod Kept
+pub mod Put
+pub mod Holding
+pub mod GivenSymbols
+pub mod Taken
+pub mod Fed

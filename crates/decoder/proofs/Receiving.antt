@@ -20,7 +20,7 @@ pub record Scanned (ds : List (List ℕ)) (scope : Scope) (at : ℕ → ℕ → 
   pub walked : Walked clash unknown ds place scope
   pub index : IsIndex (came_before ds place) at
 
-empty_index : (at : ℕ → ℕ → Option (List ℕ)) → ((b j : ℕ) → at b j ≡ None) → IsIndex [] at
+pub empty_index : (at : ℕ → ℕ → Option (List ℕ)) → ((b j : ℕ) → at b j ≡ None) → IsIndex [] at
 empty_index at none = record { none = λ b j h. refl; some = λ b j y h. let e = none b j in absurd (cc) }
 
 pub starts : (ds : List (List ℕ)) (at : ℕ → ℕ → Option (List ℕ)) → ((b j : ℕ) → at b j ≡ None) → Scanned ds unknown at 0

@@ -18,7 +18,7 @@ use Rattle.decoder.proofs.Solving.{solvable_from, solvable_gives}
 use Rattle.decoder.proofs.Those.{none_below}
 
 -- the polynomials of the rows' columns explain the block
-rows_explain : (f : Fti) (b : ℕ) (at : ℕ → Option (List ℕ)) (rows : List ℕ) → AreRows f b at rows → (c : ℕ) → c < f.symbol_length → ColumnExplained f b at c
+pub rows_explain : (f : Fti) (b : ℕ) (at : ℕ → Option (List ℕ)) (rows : List ℕ) → AreRows f b at rows → (c : ℕ) → c < f.symbol_length → ColumnExplained f b at c
 rows_explain f b at rows are c hc =
     let w = are.columns c hc in
     record {

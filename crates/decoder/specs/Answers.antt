@@ -21,3 +21,8 @@ answer_value Empty = value.Empty
 answer_value (Fault e) = fault_value e
 answer_value (Missing b have need) = value.Missing b have need
 answer_value (Object object) = value.Object object.items
+
+-- it is no fault
+abbrev pub IsNoFault : Answer → Type 0
+IsNoFault (Fault e) = ⊥
+IsNoFault answer = Unit {0}

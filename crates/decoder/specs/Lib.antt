@@ -9,3 +9,12 @@ pub mod Unsolvable
 pub mod Promised
 pub mod Refusals
 pub mod Recoveries
+pub mod Kept
+pub mod Stored
+pub mod Holds
+pub mod Stands
+pub mod Receiving
+pub mod Fed
+pub mod Giving
+pub mod Putting
+pub mod Taking

@@ -1,9 +1,9 @@
-//! The source symbols of a block of what was received.
+//! The source symbols of a block, made of the symbols that came at its ESIs.
 ghost use Rattle.std.specs.Prelude.{◌≡◌, ◌≢◌, ◌<◌, ◌≤◌, ◌*◌, ℕ, true, false, length, IfOk, IfSome, IsNone};
-ghost use Rattle.partition.specs.Fti.{block_count, source_count, source_place};
+ghost use Rattle.partition.specs.Fti.{block_count, source_count, encoding_count, source_place};
 ghost use Rattle.block_code.specs.Codes.{EachBlockHas};
 ghost use Rattle.block_code.specs.CodesOf.{IsCodeOf};
-ghost use Rattle.decoder.specs.Blocks.{bytes_of_esi};
+ghost use Rattle.decoder.specs.Blocks.{bytes_of_esi, HaveLength};
 ghost use Rattle.decoder.specs.Decoded.{AreWithin, IsEnoughAt, AreRows, IsUnexplained};
 ghost use Rattle.decoder.specs.Received.{bytes_at};
 ghost use Rattle.decoder.specs.Recoveries.{IsKeptOf};
@@ -54,8 +54,49 @@ fn are_padded(fti: &Fti, b: u32, rows: &Rows) -> bool
     is_zero(&rows.bytes[used..])
 }
 
-/// A block's source symbols, if all that came of it are symbols of an object.
+/// A block's source symbols, if all that came of it are symbols of an object. `arrivals` has a place for each of its ESIs.
 pub(crate) fn block_rows(
+    alloc: Global,
+    fti: &Fti,
+    codes: &BlockCodes,
+    b: u32,
+    arrivals: &[Option<&[u8]>],
+    kept: &mut Option<Recovery>,
+) -> Result<Option<Rows>, AllocError>
+    requires number { b < block_count fti.now }
+    requires codes { EachBlockHas (IsCodeOf fti.now) fti.now codes.now }
+    requires count { length arrivals.now ≡ encoding_count fti.now b }
+    requires symbols { HaveLength fti.now.symbol_length (bytes_of_esi arrivals.now) }
+    requires enough { IsEnoughAt fti.now b (bytes_of_esi arrivals.now) }
+    requires kept { IsKeptOf codes.now kept.old }
+    ensures sizes { IfOk result
+        (λ o. IfSome o (HasSizes (source_count fti.now b) fti.now.symbol_length)) }
+    ensures rows { IfOk result (λ o. IfSome o
+        (λ rows. AreRows fti.now b (bytes_of_esi arrivals.now) rows.bytes.items)) }
+    ensures none { IfOk result
+        (λ o. IsNone o → IsUnexplained fti.now b (bytes_of_esi arrivals.now)) }
+    ensures keeps { IsKeptOf codes.now kept.new }
+{
+    let code = codes.of(fti.k(b));
+    prove!(arrivals.len() == code.matrix.cols());
+    let block = Block {
+        received: arrivals,
+        size: usize::from(fti.symbol_length()),
+        code,
+    };
+    let Some(rows) = recover(alloc, &block, kept)? else {
+        return Ok(None);
+    };
+    are_bytes(&rows.bytes);
+    if are_padded(fti, b, &rows) {
+        Ok(Some(rows))
+    } else {
+        Ok(None)
+    }
+}
+
+/// The same for a block of what was received.
+pub(crate) fn received_rows(
     alloc: Global,
     received: &Received<'_>,
     codes: &BlockCodes,
@@ -74,20 +115,6 @@ pub(crate) fn block_rows(
     ensures keeps { IsKeptOf codes.now kept.new }
 {
     let fti = &received.fti;
-    let code = codes.of(fti.k(b));
-    let arrivals = arrivals(alloc, &received.symbols, b, code.matrix.cols())?;
-    let block = Block {
-        received: &arrivals,
-        size: usize::from(fti.symbol_length()),
-        code,
-    };
-    let Some(rows) = recover(alloc, &block, kept)? else {
-        return Ok(None);
-    };
-    are_bytes(&rows.bytes);
-    if are_padded(fti, b, &rows) {
-        Ok(Some(rows))
-    } else {
-        Ok(None)
-    }
+    let arrivals = arrivals(alloc, &received.symbols, b, fti.n(b))?;
+    block_rows(alloc, fti, codes, b, &arrivals, kept)
 }

@@ -10,7 +10,7 @@ ghost use Rattle.decoder.specs.Decoded.{AreWithin, IsEnoughAt, Answers, Stand};
 ghost use Rattle.decoder.specs.Received.{bytes_at};
 
 use crate::answer::{Answer, DecodeFault};
-use crate::blocks::block_rows;
+use crate::blocks::received_rows;
 use crate::counting::first_short;
 use crate::received::{Received, Refusal, receive};
 use crate::unsolvable::first_unsolvable;
@@ -45,7 +45,7 @@ fn decode_all(
     let mut object = Vec::with_capacity(alloc, fti.transfer_length() as usize)?;
     let mut kept = None;
     for b in 0..fti.block_count() {
-        let Some(rows) = block_rows(alloc, received, codes, b, &mut kept)? else {
+        let Some(rows) = received_rows(alloc, received, codes, b, &mut kept)? else {
             return Ok(Answer::Fault(DecodeFault::NotCode(b)));
         };
         let left = fti.transfer_length() as usize - object.len();

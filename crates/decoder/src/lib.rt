@@ -6,7 +6,15 @@
 //! - `recovering`: the source symbols of one block that has enough of them, by `rows`, `block` and `erasure`;
 //! - `blocks`: the same for a block of what was received; `unsolvable`: the blocks whose symbols are those of no object;
 //! - `decoding`: the public call, and `selecting`: the same for a selection of a session's datagrams, with what a check's
-//!   yes promises of it.
+//!   yes promises of it;
+//! - `receiver`: the same for one datagram at a time: `feeding` takes one more, and `taking` gives the answer, or writes the
+//!   object block by block. A receiver stands for the list of the datagrams that it accepted (`specs/Stands`). It accepts
+//!   none with which `decode` would answer a fault to that list, and tells no fault but that answer;
+//! - `store`: what it keeps of an object, and `stored`: of a block. That is, by `pending_block`, copies of the symbols that
+//!   came while these are too few, and by `solved_block` the source symbols from then on, with which ESIs came: never more
+//!   symbols than the block has source symbols. `putting` puts a symbol where it goes, and walks neither over the blocks
+//!   nor over what came, but for its block's symbols when that is solved; `giving` compares one with what source symbols
+//!   give.
 #![tactic(auto)]
 
 mod answer;
@@ -15,13 +23,24 @@ mod blocks;
 mod counting;
 mod decoding;
 mod erasure;
+mod feeding;
+mod giving;
+mod pending_block;
+mod putting;
 mod received;
+mod receiver;
 mod recovering;
 mod recovery;
 mod rows;
 mod selecting;
+mod solved_block;
+mod store;
+mod stored;
+mod taking;
 mod unsolvable;
 
 pub use answer::{Answer, DecodeFault};
 pub use decoding::decode;
+pub use receiver::{FeedFault, Progress, Receiver};
 pub use selecting::{decode_selection, one_answer};
+pub use taking::take_and_decode;

@@ -43,8 +43,8 @@ fn is_clash(symbols: &Symbols<'_>, packet: &Packet<'_>) -> bool
     }
 }
 
-// The fault of the datagram at a place.
-fn fault_at(place: usize, fault: PlaceFault) -> DecodeFault
+/// The fault of the datagram at a place.
+pub(crate) fn fault_at(place: usize, fault: PlaceFault) -> DecodeFault
     ensures { fault_value result ≡ Fault place (Faulty fault) }
 {
     match fault {

@@ -8,7 +8,7 @@ ghost use Rattle.reception.specs.Within.{IsWithin};
 ghost use Rattle.decoder.specs.Decoded.{AreWithin};
 ghost use Rattle.decoder.specs.Received.{bytes_at, IsIndex};
 
-use crate::blocks::block_rows;
+use crate::blocks::received_rows;
 use crate::counting::have;
 use crate::received::{Received, Symbols};
 use block_code::BlockCodes;
@@ -69,7 +69,7 @@ pub(crate) fn first_unsolvable(
         if have(&received.symbols, *b, fti.n(*b)) < fti.k(*b) {
             continue;
         }
-        if block_rows(alloc, received, codes, *b, &mut kept)?.is_none() {
+        if received_rows(alloc, received, codes, *b, &mut kept)?.is_none() {
             least = Some(*b);
         }
     }

@@ -5,5 +5,6 @@ pub mod Headline
 pub mod Step
 pub mod First
 pub mod Order
+pub mod Readings
 pub mod Walks
 pub mod Within

@@ -1,17 +1,13 @@
 -- A walk over datagrams, step by step.
-use Rattle.std.specs.Prelude.{◌≡◌, ℕ, List, [], map, Option, Some, None, if◌then◌else◌}
+use Rattle.std.specs.Prelude.{◌≡◌, ℕ, List, [], Option, Some, None, if◌then◌else◌}
 use Rattle.partition.specs.Fti.{Fti}
 use Rattle.alc.specs.Reading.{Reading}
-use Rattle.alc.specs.Computed.{read_of}
 use Rattle.reception.specs.declared.scope.Identity.{Identity}
 use Rattle.reception.specs.declared.scope.Scope.{Scope}
 use Rattle.reception.specs.Symbols.{Symbol}
 use Rattle.reception.specs.Reception.{Judge, Reception, counts}
 use Rattle.reception.specs.Step.{told}
-
--- the readings of datagrams, computed
-abbrev pub readings_of : List (List ℕ) → List Reading
-readings_of datagrams = map read_of datagrams
+pub use Rattle.reception.specs.Readings.{readings_of}
 
 abbrev pub step : {R : Type 0} → Judge R → ℕ → Reception R → Reading → Reception R
 step judge i c r = if counts r then told judge i c r else c

@@ -22,6 +22,8 @@ mod partition_tests;
 #[cfg(test)]
 mod polynomial_tests;
 #[cfg(test)]
+mod receiver_tests;
+#[cfg(test)]
 mod sending_tests;
 #[cfg(test)]
 mod session_tests;

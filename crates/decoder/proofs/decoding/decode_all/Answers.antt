@@ -30,7 +30,7 @@ loop-b-preserved c = record {
       (let have : c.len.result ≡ length c.loop-b.object.items = omega (arith, c.len.ensures) in
       let more : c.len-in-loop-b.result ≡ length c.in-Some.rows.bytes.items = c.len-in-loop-b.ensures ∙ sym c.deref.ensures.len ∙ ap length c.deref.ensures.value in
       rw (c.deref.ensures.value, c.min.ensures, c.transfer_length-in-loop-b.ensures.value, have, more) refl));
-  kept = c.block_rows.ensures.keeps;
+  kept = c.received_rows.ensures.keeps;
 }
 
 pub returns : goal.returns

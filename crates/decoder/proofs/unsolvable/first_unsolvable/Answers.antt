@@ -20,8 +20,8 @@ k-requires c =
     let h = block_within c.args.received.now.fti (bytes_at c.args.received.now.symbols) (get_or c.in_ok-blocks.blocks.items c.loop-b.b-index 0) w.0 c.requires.within w.1 in
     omega (arith, e, h)
 
-pub block_rows-requires-clause-number : goal.block_rows-requires-clause-number
-block_rows-requires-clause-number c =
+pub received_rows-requires-clause-number : goal.received_rows-requires-clause-number
+received_rows-requires-clause-number c =
     let e = ap (λ (l : List ℕ). get_or l c.loop-b.b-index 0) c.deref-b-items.ensures.value in
     let w = c.in_ok-blocks.ensures.some c.loop-b.b-index (omega (arith, c.loop-b-test.true, ap length c.deref-b-items.ensures.value)) in
     let h = block_within c.args.received.now.fti (bytes_at c.args.received.now.symbols) (get_or c.in_ok-blocks.blocks.items c.loop-b.b-index 0) w.0 c.requires.within w.1 in
@@ -64,13 +64,13 @@ loop-b-preserved c = record {
             (record {
               in_range = omega (arith, e, h);
               enough = enough_counted f at b c.n.result c.have.result c.n.ensures.value c.have.ensures (omega (arith, c.if-have-k.false, c.k.ensures.value));
-              unexplained = c.in_ok-block_rows.ensures.none (c.is_none.ensures ∙ ap not w.if-is_none.true);
+              unexplained = c.in_ok-received_rows.ensures.none (c.is_none.ensures ∙ ap not w.if-is_none.true);
             }))
         | else-is_none w ↦ rw w.least-is
             (least_stays f at c.deref-b-items.result.now c.loop-b.b-index c.loop-b.least c.loop-b.invariant.least
-            (λ before enough. some_explain (λ v. v.bytes.items) f b (at b) c.in_ok-block_rows.field-0 c.in_ok-block_rows.ensures.rows (c.is_none.ensures ∙ ap not w.if-is_none.false)))
+            (λ before enough. some_explain (λ v. v.bytes.items) f b (at b) c.in_ok-received_rows.field-0 c.in_ok-received_rows.ensures.rows (c.is_none.ensures ∙ ap not w.if-is_none.false)))
       ];
-  kept = c.block_rows.ensures.keeps;
+  kept = c.received_rows.ensures.keeps;
 }
 
 pub returns-clause-none : goal.returns-clause-none

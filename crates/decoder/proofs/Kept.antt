@@ -1,0 +1,94 @@
+-- Symbols that are kept at their ESIs: one more, and how many.
+use Rattle.std.specs.Prelude.{option_map, is_some, filter, Vec}
+use Rattle.std.specs.declared.alloc.Global.{Global}
+use Rattle.std.proofs.Common.{◌≡◌, ◌≢◌, ℕ, zero, suc, ◌+◌, ◌<◌, ◌≤◌, Bool, true, false, List, [], ◌∷◌, ◌++◌, Option, Some, None, length, get_or, set, refl, sym, ap, subst, ◌∙◌, inl, inr, arith, get_or-set_other, get_or-set_same}
+use Rattle.std.proofs.lemmas.Bool.{cases_Bool, cases_eq, cases_lt, eq-eqb, ne_eqb}
+use Rattle.std.proofs.lemmas.List.{get_or_past, length-set}
+use Rattle.lists.specs.Below.{below}
+use Rattle.lists.proofs.Below.{all_below}
+use Rattle.lists.proofs.Lists.{at_old, at_end, filter_same}
+use Rattle.decoder.specs.Kept.{kept_at, kept_count, with_esi}
+use Rattle.decoder.proofs.Counts.{one_more_held, none_more_held}
+use Rattle.decoder.proofs.Those.{none_below}
+
+-- what is so of a list's items is so of a list with one more
+pub pushed : {A B : Type 0} (read : A → B) (d : A) (want : ℕ → B) (xs : List A) (y : A) (n : ℕ) → length xs ≡ n
+    → ((i : ℕ) → i < n → read (get_or xs i d) ≡ want i) → read y ≡ want n → (i : ℕ) → i < n + 1 → read (get_or (xs ++ y ∷ []) i d) ≡ want i
+pushed read d want xs y n len before here i li = elim (cases_lt i n) [
+  | inl lt ↦ (ap read (at_old xs y d i (omega (arith, lt, len))) ∙ before i lt)
+  | inr past ↦
+      (let last : i ≡ n = omega (arith, past, li) in
+      ap read (at_end xs y d i (omega (arith, len, last))) ∙ here ∙ ap want (sym last))
+]
+
+-- and so everywhere, where it is so past the list's end
+pub everywhere : {A B : Type 0} (read : A → B) (d : A) (want : ℕ → B) (xs : List A) (n : ℕ) → length xs ≡ n
+    → ((i : ℕ) → i < n → read (get_or xs i d) ≡ want i) → ((i : ℕ) → n ≤ i → read d ≡ want i) → (i : ℕ) → read (get_or xs i d) ≡ want i
+everywhere read d want xs n len before past i = elim (cases_lt i n) [
+  | inl lt ↦ before i lt
+  | inr more ↦ (ap read (get_or_past xs i d (omega (arith, more, len))) ∙ past i more)
+]
+
+-- nothing is kept past the end
+pub kept_past : (xs : List (Option (Vec ℕ Global))) (j : ℕ) → length xs ≤ j → kept_at xs j ≡ None
+kept_past xs j past = ap (option_map (λ (v : Vec ℕ Global). v.items)) (get_or_past xs j None past)
+
+pub with_here : (at : ℕ → Option (List ℕ)) (j i : ℕ) (y : List ℕ) → j ≡ i → with_esi at j y i ≡ Some y
+with_here at j i y e = rw (eq-eqb j i e) refl
+
+pub with_other : (at : ℕ → Option (List ℕ)) (j i : ℕ) (y : List ℕ) → j ≢ i → with_esi at j y i ≡ at i
+with_other at j i y ne = rw (ne_eqb j i ne) refl
+
+-- a symbol that is put in its place is kept there
+pub kept_set : (xs : List (Option (Vec ℕ Global))) (j : ℕ) (v : Vec ℕ Global) (y : List ℕ) → j < length xs → v.items ≡ y
+    → (i : ℕ) → kept_at (set xs j (Some v)) i ≡ with_esi (kept_at xs) j y i
+kept_set xs j v y lj is i = elim (cases_eq j i) [
+  | inl e ↦
+      (subst (λ (x : ℕ). kept_at (set xs j (Some v)) x ≡ Some y) e
+      (ap (option_map (λ (v : Vec ℕ Global). v.items)) (get_or-set_same xs j (Some v) None lj) ∙ ap Some is)
+      ∙ sym (with_here (kept_at xs) j i y e))
+  | inr ne ↦
+      (ap (option_map (λ (v : Vec ℕ Global). v.items)) (get_or-set_other xs j i (Some v) None (λ e. ne (sym e)))
+      ∙ sym (with_other (kept_at xs) j i y ne))
+]
+
+-- none passes
+pub count_none : (t : ℕ → Bool) (n : ℕ) → ((i : ℕ) → t i ≡ false) → length (filter t (below n)) ≡ 0
+count_none t zero none = none_below t
+count_none t (suc n) none = none_more_held t n (none n) ∙ count_none t n none
+
+pub count_same : (t u : ℕ → Bool) (n : ℕ) → ((i : ℕ) → i < n → t i ≡ u i) → length (filter t (below n)) ≡ length (filter u (below n))
+count_same t u n same = ap length (filter_same t u (below n) (all_below (λ i. t i ≡ u i) n same))
+
+-- one passes that didn't
+pub count_more : (t u : ℕ → Bool) (n j : ℕ) → j < n → t j ≡ false → u j ≡ true → ((i : ℕ) → j ≢ i → u i ≡ t i)
+    → length (filter u (below n)) ≡ length (filter t (below n)) + 1
+count_more t u zero j lj before now others = absurd (omega (arith, lj))
+count_more t u (suc n) j lj before now others = elim (cases_eq j n) [
+  | inl e ↦
+      (let b : t n ≡ false = ap t (sym e) ∙ before in
+      let h : u n ≡ true = ap u (sym e) ∙ now in
+      let same = count_same u t n (λ i li. others i (λ x. omega (arith, x, e, li))) in
+      omega (arith, one_more_held u n h, none_more_held t n b, same))
+  | inr ne ↦
+      (let rest = count_more t u n j (omega (arith, lj, ne)) before now others in
+      let here = others n ne in
+      elim (cases_Bool (t n)) [
+        | inl passes ↦ omega (arith, one_more_held u n (here ∙ passes), one_more_held t n passes, rest)
+        | inr other ↦ omega (arith, none_more_held u n (here ∙ other), none_more_held t n other, rest)
+      ])
+]
+
+-- where a symbol is put that wasn't kept, one more is
+pub kept_one_more : (xs : List (Option (Vec ℕ Global))) (j : ℕ) (v : Vec ℕ Global) → j < length xs → kept_at xs j ≡ None
+    → kept_count (set xs j (Some v)) ≡ kept_count xs + 1
+kept_one_more xs j v lj free =
+    let more = set xs j (Some v) in
+    ap (λ (n : ℕ). length (filter (λ i. is_some (kept_at more i)) (below n))) (length-set xs j (Some v))
+    ∙ count_more (λ i. is_some (kept_at xs i)) (λ i. is_some (kept_at more i)) (length xs) j lj (ap is_some free)
+    (ap is_some (kept_set xs j v v.items lj refl j ∙ with_here (kept_at xs) j j v.items refl))
+    (λ i ne. ap is_some (kept_set xs j v v.items lj refl i ∙ with_other (kept_at xs) j i v.items ne))
+
+-- none are kept
+pub kept_none : (xs : List (Option (Vec ℕ Global))) → ((j : ℕ) → kept_at xs j ≡ None) → kept_count xs ≡ 0
+kept_none xs none = count_none (λ j. is_some (kept_at xs j)) (length xs) (λ j. ap is_some (none j))

@@ -1,0 +1,71 @@
+use Rattle.std.proofs.Common.{sym, subst, refl}
+use Rattle.reception.proofs.Walking.{none_passed}
+use Rattle.reception.specs.Answer.{IsAnswer}
+use Rattle.decoder.specs.Receiving.{IsFaultOf, with_datagram}
+use Rattle.decoder.proofs.Fed.{faulty, in_block, in_esis, held, accepted, refused, refusal_told, no_fault_for}
+use Rattle.decoder.proofs.receiver.Receiver.feed.Goals as goal
+
+pub unreachable-requires : goal.unreachable-requires
+unreachable-requires c = none_passed c.args.datagram.now c.scope-scope.result c.look.new.self (rw (c.in-Ok-None.is, c.in-Ok-None.field-0-is) at c.look.ensures)
+
+pub returns-in-Err-clause-fault : goal.returns-in-Err-clause-fault
+returns-in-Err-clause-fault c = λ ds stands.
+    subst (λ v. IsAnswer (with_datagram ds c.args.datagram.now) v) (sym c.fault_at.ensures)
+    (faulty c.args.self.now ds stands c.args.datagram.now c.are_bytes.ensures c.scope-scope.result c.look.new.self (c.scope-scope.ensures ds stands) c.in-Err.fault (rw c.in-Err.is at c.look.ensures))
+
+pub put-requires-clause-number : goal.put-requires-clause-number
+put-requires-clause-number c =
+    let s = c.requires in
+    in_block c.args.self.now s.0 s.1 c.args.datagram.now c.are_bytes.ensures c.scope-scope.result c.look.new.self (c.scope-scope.ensures s.0 s.1) c.in-Ok-Some.packet
+    (rw (c.in-Ok-Some.is, c.in-Ok-Some.field-0-is) at c.look.ensures)
+
+pub put-requires-clause-esi : goal.put-requires-clause-esi
+put-requires-clause-esi c =
+    let s = c.requires in
+    in_esis c.args.self.now s.0 s.1 c.args.datagram.now c.are_bytes.ensures c.scope-scope.result c.look.new.self (c.scope-scope.ensures s.0 s.1) c.in-Ok-Some.packet
+    (rw (c.in-Ok-Some.is, c.in-Ok-Some.field-0-is) at c.look.ensures)
+
+pub put-requires-clause-held : goal.put-requires-clause-held
+put-requires-clause-held c =
+    let s = c.requires in
+    let h = held c.args.self.now s.0 s.1 c.args.datagram.now c.are_bytes.ensures c.scope-scope.result c.look.new.self (c.scope-scope.ensures s.0 s.1) c.in-Ok-Some.packet
+    (rw (c.in-Ok-Some.is, c.in-Ok-Some.field-0-is) at c.look.ensures) in
+    (h.0, h.2)
+
+pub returns-in-Err-put-clause-refused : goal.returns-in-Err-put-clause-refused
+returns-in-Err-put-clause-refused c = λ ds stands.
+    let look = (rw (c.in-Ok-Some.is, c.in-Ok-Some.field-0-is) at c.look.ensures) in
+    let h = held c.args.self.now ds stands c.args.datagram.now c.are_bytes.ensures c.scope-scope.result c.look.new.self (c.scope-scope.ensures ds stands) c.in-Ok-Some.packet look in
+    refused c.args.self.now ds stands c.args.datagram.now c.are_bytes.ensures c.scope-scope.result c.look.new.self (c.scope-scope.ensures ds stands) c.in-Ok-Some.packet look
+    h.0 h.1 c.put.new.store (c.in-Err-put.ensures.stays h.0 h.2) c.in-Err-put.ensures.none
+
+pub returns-in-Err-put-clause-fault : goal.returns-in-Err-put-clause-fault
+returns-in-Err-put-clause-fault c = λ ds stands.
+    let look = (rw (c.in-Ok-Some.is, c.in-Ok-Some.field-0-is) at c.look.ensures) in
+    let h = held c.args.self.now ds stands c.args.datagram.now c.are_bytes.ensures c.scope-scope.result c.look.new.self (c.scope-scope.ensures ds stands) c.in-Ok-Some.packet look in
+    subst (λ v. IsFaultOf (with_datagram ds c.args.datagram.now) v) (sym c.refusal.ensures.value)
+    (refusal_told c.args.self.now ds stands c.args.datagram.now c.are_bytes.ensures c.scope-scope.result c.look.new.self (c.scope-scope.ensures ds stands) c.in-Ok-Some.packet look
+    h.0 h.1 c.is_valid.ensures h.2 c.in-Err-put.fault (c.in-Err-put.ensures.fault h.0 h.2))
+
+pub returns-clause-accepted : goal.returns-clause-accepted
+returns-clause-accepted c = λ ds stands.
+    let look = (rw (c.in-Ok-Some.is, c.in-Ok-Some.field-0-is) at c.look.ensures) in
+    let h = held c.args.self.now ds stands c.args.datagram.now c.are_bytes.ensures c.scope-scope.result c.look.new.self (c.scope-scope.ensures ds stands) c.in-Ok-Some.packet look in
+    accepted c.args.self.now ds stands c.args.datagram.now c.are_bytes.ensures c.scope-scope.result c.look.new.self (c.scope-scope.ensures ds stands) c.in-Ok-Some.packet look
+    h.0 h.1 (c.in_default.ensures.may h.0 h.2) c.put.new.store (c.in_default.ensures.put h.0 h.2) c.in_default.ensures.some
+
+pub returns-clause-progress : goal.returns-clause-progress
+returns-clause-progress c = λ ds stands.
+    let look = (rw (c.in-Ok-Some.is, c.in-Ok-Some.field-0-is) at c.look.ensures) in
+    let h = held c.args.self.now ds stands c.args.datagram.now c.are_bytes.ensures c.scope-scope.result c.look.new.self (c.scope-scope.ensures ds stands) c.in-Ok-Some.packet look in
+    c.progress.ensures (with_datagram ds c.args.datagram.now)
+    (accepted c.args.self.now ds stands c.args.datagram.now c.are_bytes.ensures c.scope-scope.result c.look.new.self (c.scope-scope.ensures ds stands) c.in-Ok-Some.packet look
+    h.0 h.1 (c.in_default.ensures.may h.0 h.2) c.put.new.store (c.in_default.ensures.put h.0 h.2) c.in_default.ensures.some)
+
+pub returns-clause-sound : goal.returns-clause-sound
+returns-clause-sound c = λ ds stands e answer.
+    let look = (rw (c.in-Ok-Some.is, c.in-Ok-Some.field-0-is) at c.look.ensures) in
+    let h = held c.args.self.now ds stands c.args.datagram.now c.are_bytes.ensures c.scope-scope.result c.look.new.self (c.scope-scope.ensures ds stands) c.in-Ok-Some.packet look in
+    let now = accepted c.args.self.now ds stands c.args.datagram.now c.are_bytes.ensures c.scope-scope.result c.look.new.self (c.scope-scope.ensures ds stands) c.in-Ok-Some.packet look
+    h.0 h.1 (c.in_default.ensures.may h.0 h.2) c.put.new.store (c.in_default.ensures.put h.0 h.2) c.in_default.ensures.some in
+    no_fault_for _ (with_datagram ds c.args.datagram.now) c.in-Ok-Some.packet.fti _ c.put.new.store now refl (c.in_default.ensures.put h.0 h.2) c.in_default.ensures.some c.is_valid.ensures e answer

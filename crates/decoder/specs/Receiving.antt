@@ -1,0 +1,43 @@
+-- What a receiver tells of the datagrams that it accepted and one more.
+use Rattle.std.specs.Prelude.{◌≡◌, ℕ, List, [], ◌∷◌, ◌++◌, length, Option, Some}
+use Rattle.std.specs.Io.KnownBytes.{Appends}
+use Rattle.partition.specs.Fti.{Fti}
+use Rattle.reception.specs.Symbols.{AllFull}
+use Rattle.reception.specs.Readings.{readings_of}
+use Rattle.reception.specs.Answer.{Object, IsAnswer, reception_of}
+use Rattle.decoder.specs.Answers.{fault_value}
+use Rattle.decoder.specs.declared.answer.DecodeFault.{DecodeFault}
+use Rattle.decoder.specs.declared.receiver.Progress.{Progress}
+use Rattle.decoder.specs.declared.receiver.Progress.TheVariants.{More, Complete}
+use Rattle.decoder.specs.declared.receiver.FeedFault.{FeedFault}
+use Rattle.decoder.specs.declared.receiver.FeedFault.TheVariants.{Fault, Full, NoMemory}
+
+-- one datagram more
+abbrev pub with_datagram : List (List ℕ) → List ℕ → List (List ℕ)
+with_datagram datagrams d = datagrams ++ d ∷ []
+
+-- the datagrams leave no block short
+pub record LeaveNoneShort (datagrams : List (List ℕ)) : Type 0 where
+  pub fti : Fti
+  pub known : (reception_of (readings_of datagrams)).scope.fti ≡ Some fti
+  pub full : AllFull fti (reception_of (readings_of datagrams)).symbols
+
+-- what is told of the datagrams
+abbrev pub Tells : Progress → List (List ℕ) → Type 0
+Tells Complete datagrams = LeaveNoneShort datagrams
+Tells More datagrams = ¬ LeaveNoneShort datagrams
+
+-- a fault is the decoder's answer to the datagrams
+abbrev pub IsFaultOf : List (List ℕ) → FeedFault → Type 0
+IsFaultOf datagrams (Fault e) = IsAnswer datagrams (fault_value e)
+IsFaultOf datagrams Full = Unit {0}
+IsFaultOf datagrams NoMemory = Unit {0}
+
+-- the answer to the datagrams is no fault
+abbrev pub HasNoFault : List (List ℕ) → Type 0
+HasNoFault datagrams = (e : DecodeFault) → ¬ IsAnswer datagrams (fault_value e)
+
+-- the object that these datagrams give was written; its length in bytes
+abbrev pub IsWrittenOf : List (List ℕ) → Option (List ℕ) → Option (List ℕ) → ℕ → Type 0
+IsWrittenOf datagrams before after count =
+    (object : List ℕ) × IsAnswer datagrams (Object object) × Appends before after object × (count ≡ length object)

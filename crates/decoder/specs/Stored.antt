@@ -1,0 +1,29 @@
+-- What is kept of a source block, for the symbols that stand at its ESIs.
+use Rattle.std.specs.Prelude.{◌≡◌, ℕ, List, length, Option, Some, None, is_some}
+use Rattle.partition.specs.Fti.{Fti, source_count, encoding_count}
+use Rattle.decoder.specs.Decoded.{AreRows}
+use Rattle.decoder.specs.Rows.{HasSizes}
+use Rattle.decoder.specs.Kept.{kept_at, seen_at}
+use Rattle.decoder.specs.declared.stored.Pending.{Pending}
+use Rattle.decoder.specs.declared.stored.Solved.{Solved}
+use Rattle.decoder.specs.declared.stored.Stored.{Stored}
+use Rattle.decoder.specs.declared.stored.Stored.TheVariants as stored
+
+-- the symbols themselves
+pub record IsPending (f : Fti) (b : ℕ) (p : Pending) (at : ℕ → Option (List ℕ)) : Type 0 where
+  pub need : p.need ≡ source_count f b
+  pub esis : length p.symbols.items ≡ encoding_count f b
+  pub symbols : (j : ℕ) → kept_at p.symbols.items j ≡ at j
+
+-- the source symbols that give them, and which ESIs were seen
+pub record IsSolved (f : Fti) (b : ℕ) (s : Solved) (at : ℕ → Option (List ℕ)) : Type 0 where
+  pub sizes : HasSizes (source_count f b) f.symbol_length s.rows
+  pub rows : AreRows f b at s.rows.bytes.items
+  pub esis : length s.seen.items ≡ encoding_count f b
+  pub seen : (j : ℕ) → seen_at s.seen.items j ≡ is_some (at j)
+
+-- what is kept of a block is for these symbols; nothing is kept where there are none
+abbrev pub IsStored : Fti → ℕ → Option Stored → (ℕ → Option (List ℕ)) → Type 0
+IsStored f b None at = (j : ℕ) → at j ≡ None
+IsStored f b (Some (stored.Pending p)) at = IsPending f b p at
+IsStored f b (Some (stored.Solved s)) at = IsSolved f b s at

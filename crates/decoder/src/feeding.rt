@@ -1,0 +1,133 @@
+//! Feeding a receiver with one datagram.
+ghost use Rattle.std.specs.Prelude.{◌≡◌, ◌≢◌, ◌<◌, ◌↔◌, ℕ, List, Option, length, is_some, IfOk, IfSome, IsSome, IfErr, OnOk, OnErr};
+ghost use Rattle.partition.specs.Fti.{block_count, encoding_count};
+ghost use Rattle.reception.specs.Answer.{reception_of};
+ghost use Rattle.reception.specs.Walks.{readings_of};
+ghost use Rattle.decoder.specs.Kept.{with_symbol};
+ghost use Rattle.decoder.specs.Putting.{MayStand, IsPutFault};
+ghost use Rattle.decoder.specs.Stands.{Stands, IsFed};
+ghost use Rattle.decoder.specs.Receiving.{with_datagram, Tells, IsFaultOf, HasNoFault};
+ghost use Rattle.decoder.specs.Fed.{HoldsFor, put_refusal};
+
+use crate::answer::DecodeFault;
+use crate::received::fault_at;
+use crate::receiver::{FeedFault, Progress, Receiver};
+use crate::store::Store;
+use crate::stored::PutFault;
+use alc::Packet;
+use lists::are_bytes;
+use reception::Scope;
+use std::alloc::Global;
+
+// Why the datagram is refused whose symbol isn't put.
+fn refusal(place: usize, b: u32, fault: PutFault) -> FeedFault
+    ensures value { result ≡ put_refusal place b fault }
+    ensures other { result ≢ FeedFault.Full }
+{
+    match fault {
+        PutFault::Clash => FeedFault::Fault(DecodeFault::Clash(place)),
+        PutFault::NotCode => FeedFault::Fault(DecodeFault::NotCode(b)),
+        PutFault::NoMemory => FeedFault::NoMemory,
+    }
+}
+
+// Puts the packet's symbol, into a new store where there is none.
+fn put(alloc: Global, store: &mut Option<Store>, packet: &Packet<'_>) -> Result<(), PutFault>
+    requires number { packet.now.sbn < block_count packet.now.fti }
+    requires esi { packet.now.esi < encoding_count packet.now.fti packet.now.sbn }
+    requires symbol { length packet.now.symbol.now ≡ packet.now.fti.symbol_length }
+    requires held { (at : ℕ → ℕ → Option (List ℕ))
+        × HoldsFor packet.now.fti store.old at }
+    ensures put { (at : ℕ → ℕ → Option (List ℕ)) → HoldsFor packet.now.fti store.old at
+        → OnOk result (HoldsFor packet.now.fti store.new
+        (with_symbol at packet.now.sbn packet.now.esi packet.now.symbol.now)) }
+    ensures may { (at : ℕ → ℕ → Option (List ℕ)) → HoldsFor packet.now.fti store.old at
+        → OnOk result (MayStand (at packet.now.sbn) packet.now.esi packet.now.symbol.now) }
+    ensures fault { (at : ℕ → ℕ → Option (List ℕ))
+        → HoldsFor packet.now.fti store.old at
+        → IfErr result (IsPutFault packet.now.fti packet.now.sbn (at packet.now.sbn)
+        packet.now.esi packet.now.symbol.now) }
+    ensures stays { (at : ℕ → ℕ → Option (List ℕ))
+        → HoldsFor packet.now.fti store.old at
+        → OnErr result (HoldsFor packet.now.fti store.new at) }
+    ensures some { OnOk result (IsSome store.new) }
+    ensures none { OnErr result (is_some store.new ≡ is_some store.old) }
+{
+    if let Some(store) = store {
+        return store.put(alloc, packet);
+    }
+    let Ok(mut new) = Store::new(alloc, packet.fti) else {
+        return Err(PutFault::NoMemory);
+    };
+    new.put(alloc, packet)?;
+    *store = Some(new);
+    Ok(())
+}
+
+impl Receiver {
+    // Whose packets it receives and with which FTI, as far as that is known.
+    fn scope(&self) -> Scope
+        ensures { (ds : List (List ℕ)) → Stands self.now ds
+            → result ≡ (reception_of (readings_of ds)).scope }
+    {
+        let fti = match &self.store {
+            Some(store) => Some(store.fti),
+            None => None,
+        };
+        Scope {
+            identity: self.identity,
+            fti,
+        }
+    }
+
+    // Whether every block has as many symbols as it needs. None is looked at.
+    fn progress(&self) -> Progress
+        ensures { (ds : List (List ℕ)) → Stands self.now ds → Tells result ds }
+    {
+        let Some(store) = &self.store else {
+            return Progress::More;
+        };
+        if store.solved == store.fti.block_count() {
+            Progress::Complete
+        } else {
+            Progress::More
+        }
+    }
+
+    /// Takes one datagram, of any bytes. The receiver stands for the datagrams that it accepted: `Ok` is where `decode`
+    /// would answer no fault to them and this one, and it stands for one more. At an error it stands for those before.
+    pub fn feed(&mut self, alloc: Global, datagram: &[u8]) -> Result<Progress, FeedFault>
+        // It is new, or was fed.
+        requires { IsFed self.old }
+        ensures accepted { (ds : List (List ℕ)) → Stands self.old ds
+            → OnOk result (Stands self.new (with_datagram ds datagram.now)) }
+        ensures refused { (ds : List (List ℕ)) → Stands self.old ds
+            → OnErr result (Stands self.new ds) }
+        ensures progress { (ds : List (List ℕ)) → Stands self.old ds
+            → IfOk result (λ p. Tells p (with_datagram ds datagram.now)) }
+        ensures fault { (ds : List (List ℕ)) → Stands self.old ds
+            → IfErr result (IsFaultOf (with_datagram ds datagram.now)) }
+        ensures sound { (ds : List (List ℕ)) → Stands self.old ds
+            → OnOk result (HasNoFault (with_datagram ds datagram.now)) }
+        ensures full { (ds : List (List ℕ)) → Stands self.old ds
+            → (result ≡ Err FeedFault.Full) ↔ (length ds ≡ usize.MAX) }
+    {
+        if self.accepted == usize::MAX {
+            return Err(FeedFault::Full);
+        }
+        are_bytes(datagram);
+        let mut scope = self.scope();
+        let packet = match scope.look(datagram) {
+            Ok(Some(packet)) => packet,
+            Ok(None) => unreachable!(),
+            Err(fault) => return Err(FeedFault::Fault(fault_at(self.accepted, fault))),
+        };
+        packet.fti.is_valid();
+        if let Err(fault) = put(alloc, &mut self.store, &packet) {
+            return Err(refusal(self.accepted, packet.sbn, fault));
+        }
+        self.identity = scope.identity;
+        self.accepted += 1;
+        Ok(self.progress())
+    }
+}

@@ -1,0 +1,53 @@
+//! A receiver of one datagram at a time.
+ghost use Rattle.std.specs.Prelude.{[]};
+ghost use Rattle.decoder.specs.Stands.{Stands};
+
+use crate::answer::DecodeFault;
+use crate::store::Store;
+use reception::Identity;
+use thiserror::Error;
+
+/// Whether more datagrams are needed.
+#[derive(Debug, Clone, Copy, PartialEq, Eq)]
+pub enum Progress {
+    /// Some block has fewer symbols than it needs, or nothing came.
+    More,
+    /// Every block has as many symbols as it needs.
+    Complete,
+}
+
+/// Why a datagram was refused.
+#[derive(Debug, Clone, Copy, PartialEq, Eq, Error)]
+pub enum FeedFault {
+    /// With it the datagrams would be of no object. A place is how many were accepted before.
+    #[error("{0}")]
+    Fault(DecodeFault),
+    /// As many datagrams were accepted as can be counted.
+    #[error("G1 Full")]
+    Full,
+    /// Memory is wanting.
+    #[error("G2 NoMemory")]
+    NoMemory,
+}
+
+/// A receiver of an object's datagrams, one at a time. It keeps copies of symbols, of each block at most as many as it has
+/// source symbols, and no datagram.
+#[derive(Drop)]
+pub struct Receiver {
+    pub(crate) identity: Option<Identity>,
+    pub(crate) store: Option<Store>,
+    pub(crate) accepted: usize,
+}
+
+impl Receiver {
+    /// A receiver to which nothing came.
+    pub fn new() -> Receiver
+        ensures { Stands result [] }
+    {
+        Receiver {
+            identity: None,
+            store: None,
+            accepted: 0,
+        }
+    }
+}
