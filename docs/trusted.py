@@ -2,7 +2,8 @@
 """Lists the definitions that public contracts speak of: what has to be read to trust what they promise.
 
 A public contract is one of a `pub fn`, of a trait's method or of a public type's model. From the names that it cites the
-list goes through the definitions of `specs/` that these stand on. All other definitions of `specs/` are the vocabulary of
+list goes through the definitions of `specs/` that these stand on, but not into a relation that these calls only hand on
+to one another, as what a receiver stands for. All other definitions of `specs/` are the vocabulary of
 private contracts and of proofs, and need no trust. They stand in files of their own.
 
     docs/trusted.py          fails where docs/THEOREMS.md ends with another list, or a file has definitions of both kinds
@@ -19,6 +20,9 @@ HEAD = re.compile(r"^(?:(?:pub|abbrev|unfoldable) )*(record |data )?([^\s:(){}]+
 USE = re.compile(r"(?:ghost )?use ([\w.]+?)(?:\.\{([^}]*)\}| as (\w+))?;?$")
 NAME = re.compile(r"[^\s(){}\[\],;.`]+")
 HEADING = "## What has to be read"
+
+# Relations that public calls only hand on to one another: what they say inside isn't needed to trust the calls.
+HANDED_ON = {"Rattle.decoder.specs.Stands"}
 
 
 class Module:
@@ -140,7 +144,7 @@ def closure(modules):
     while todo:
         module, name = todo.pop()
         known = modules.get(module)
-        if known is None:
+        if known is None or module in HANDED_ON:
             continue
         name = known.constructors.get(name, name)
         if name not in known.definitions and name in known.uses:

@@ -8,6 +8,8 @@ mod command;
 #[cfg(test)]
 mod decode_tests;
 #[cfg(test)]
+mod follow_tests;
+#[cfg(test)]
 mod line_tests;
 #[cfg(test)]
 mod loss_tests;

@@ -5,15 +5,15 @@ mod host;
 mod words;
 
 use host::{BUFFER_SIZE, HostFolder};
-use session::{Device, Write};
+use session::Device;
 use std::alloc::{AllocError, Global};
 use std::io::BufWriter;
 use std::process::ExitCode;
-use tool::{answer, refuse_memory, status_after};
+use tool::{Console, answer, refuse_memory, status_after};
 use words::{WordFault, read_words, refuse_word};
 
 // The answer to these words; the status.
-fn answer_words<W: Write>(
+fn answer_words<W: Console>(
     rt: &HostRuntime,
     alloc: Global,
     words: &[String],
@@ -29,7 +29,7 @@ fn answer_words<W: Write>(
 }
 
 // The answer to the program's words; the status.
-fn respond<W: Write>(rt: &HostRuntime, alloc: Global, out: &mut W) -> u8 {
+fn respond<W: Console>(rt: &HostRuntime, alloc: Global, out: &mut W) -> u8 {
     let answered = match read_words(rt, alloc) {
         Ok(words) => answer_words(rt, alloc, words.as_slice(), out),
         Err(WordFault::NoText(place)) => return refuse_word(rt, place),

@@ -22,7 +22,7 @@ use Rattle.partition.specs.declared.order.Order.{Order}
 use Rattle.partition.specs.declared.order.Order.TheVariants.{Blocks, Rounds}
 use Rattle.request.specs.Grammar.{IsOrders, grammar_of}
 use Rattle.request.specs.Requests.{AreNumbers, Asked, HasNumber, HasOrder, HasPlaces, HasSizes, HasValues, IsNumber, IsRead, name_of}
-use Rattle.request.specs.Requests.{CertifyAsked, CheckAsked, DecodeAsked, DropAsked, EncodeAsked, ShowAsked, TwinAsked}
+use Rattle.request.specs.Requests.{CertifyAsked, CheckAsked, DecodeAsked, DropAsked, EncodeAsked, FollowAsked, ShowAsked, TwinAsked}
 use Rattle.request.specs.declared.requests.Sizes.{Sizes}
 use Rattle.request.specs.declared.requests.Sending.{Sending}
 use Rattle.request.proofs.Walks.{Each, found_each, both_none, checks_pass, HasValue, IsOwn, IsPassed, option_value, given_row, right_level, text_value}
@@ -175,10 +175,20 @@ fine_decode orders are words none =
     let output = text_value s words _ (codes "OUT") right refl refl refl in
     (DecodeAsked session.value output.value, refl, (session.first, output.first))
 
-fine_twin : (orders : Bor (List (Bor Text))) → IsOrders orders → IsFine (shape_at 5 orders)
+fine_follow : (orders : Bor (List (Bor Text))) → IsOrders orders → IsFine (shape_at 5 orders)
+unfolding clap_on_literals
+fine_follow orders are words none =
+    let s = shape_at 5 orders in
+    let each : Each (IsOwn s.rules) s.rules = (record { first = refl; action = inl refl }, (record { first = refl; action = inl refl }, (record { first = refl; action = inr (inr refl) }, tt))) in
+    let right = right_level s words each none in
+    let session = text_value s words _ (codes "SESSION") right refl refl refl in
+    let output = text_value s words _ (codes "OUT") right refl refl refl in
+    (FollowAsked session.value output.value, refl, (session.first, output.first))
+
+fine_twin : (orders : Bor (List (Bor Text))) → IsOrders orders → IsFine (shape_at 6 orders)
 unfolding clap_on_literals
 fine_twin orders are words none =
-    let s = shape_at 5 orders in
+    let s = shape_at 6 orders in
     let each : Each (IsOwn s.rules) s.rules = (record { first = refl; action = inl refl }, (record { first = refl; action = inl refl }, (record { first = refl; action = inl refl }, (record { first = refl; action = inl refl }, (record { first = refl; action = inr (inr refl) }, tt))))) in
     let right = right_level s words each none in
     let session = text_value s words _ (codes "SESSION") right refl refl refl in
@@ -187,10 +197,10 @@ fine_twin orders are words none =
     let output = text_value s words _ (codes "OUT") right refl refl refl in
     (TwinAsked session.value object.value certificate.value output.value, refl, (session.first, object.first, certificate.first, output.first))
 
-fine_show : (orders : Bor (List (Bor Text))) → IsOrders orders → IsFine (shape_at 6 orders)
+fine_show : (orders : Bor (List (Bor Text))) → IsOrders orders → IsFine (shape_at 7 orders)
 unfolding clap_on_literals
 fine_show orders are words none =
-    let s = shape_at 6 orders in
+    let s = shape_at 7 orders in
     let each : Each (IsOwn s.rules) s.rules = (record { first = refl; action = inl refl }, (record { first = refl; action = inr (inr refl) }, tt)) in
     let right = right_level s words each none in
     let session = text_value s words _ (codes "SESSION") right refl refl refl in
@@ -211,7 +221,10 @@ each_fine orders are = (
       inr (fine_check orders are),
       (
         inr (fine_drop orders are),
-        (inr (fine_decode orders are), (inr (fine_twin orders are), (inr (fine_show orders are), (inl refl, tt)))),
+        (
+          inr (fine_decode orders are),
+          (inr (fine_follow orders are), (inr (fine_twin orders are), (inr (fine_show orders are), (inl refl, tt)))),
+        ),
       ),
     ),
   ),

@@ -9,7 +9,7 @@ use Rattle.clap.specs.Matches.{ReadsOne, values_left}
 use Rattle.clap.specs.declared.parser.matches.ValuesRef.{ValuesRef}
 use Rattle.clap.specs.declared.parser.matches.Found.{Found}
 use Rattle.clap.proofs.WalkLemmas.{first_value-rows, one_text-rows, typed_values-rows}
-use Rattle.request.specs.Requests.{Asked, EncodeAsked, CertifyAsked, CheckAsked, DropAsked, DecodeAsked, TwinAsked, ShowAsked, HasOrder, HasPlaces, HasSending, HasSizes, HasText, HasValues, IsRead, name_of, order_name}
+use Rattle.request.specs.Requests.{Asked, EncodeAsked, CertifyAsked, CheckAsked, DropAsked, DecodeAsked, FollowAsked, TwinAsked, ShowAsked, HasOrder, HasPlaces, HasSending, HasSizes, HasText, HasValues, IsRead, name_of, order_name}
 use Rattle.request.specs.RequestReading.{AnswersRead, Gives, GivesNone, IsNoPlaces, NoneIs}
 use Rattle.request.specs.declared.requests.Request.{Request}
 use Rattle.request.specs.declared.usage.Usage.{Usage}
@@ -80,6 +80,7 @@ no_encode rows none request read = go request (same_command (codes "encode") row
     go (CheckAsked session object certificate) same values = different (codes "encode") (codes "check") refl same
     go (DropAsked session output places) same values = different (codes "encode") (codes "drop") refl same
     go (DecodeAsked session output) same values = different (codes "encode") (codes "decode") refl same
+    go (FollowAsked session output) same values = different (codes "encode") (codes "follow") refl same
     go (TwinAsked session object certificate output) same values = different (codes "encode") (codes "twin") refl same
     go (ShowAsked session) same values = different (codes "encode") (codes "show") refl same
 
@@ -92,6 +93,7 @@ no_certify rows none request read = go request (same_command (codes "certify") r
     go (CheckAsked session object certificate) same values = different (codes "certify") (codes "check") refl same
     go (DropAsked session output places) same values = different (codes "certify") (codes "drop") refl same
     go (DecodeAsked session output) same values = different (codes "certify") (codes "decode") refl same
+    go (FollowAsked session output) same values = different (codes "certify") (codes "follow") refl same
     go (TwinAsked session object certificate output) same values = different (codes "certify") (codes "twin") refl same
     go (ShowAsked session) same values = different (codes "certify") (codes "show") refl same
 
@@ -104,6 +106,7 @@ no_drop rows none request read = go request (same_command (codes "drop") rows re
     go (CheckAsked session object certificate) same values = different (codes "drop") (codes "check") refl same
     go (DropAsked session output places) same values = none places values.2
     go (DecodeAsked session output) same values = different (codes "drop") (codes "decode") refl same
+    go (FollowAsked session output) same values = different (codes "drop") (codes "follow") refl same
     go (TwinAsked session object certificate output) same values = different (codes "drop") (codes "twin") refl same
     go (ShowAsked session) same values = different (codes "drop") (codes "show") refl same
 

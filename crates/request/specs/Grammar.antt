@@ -66,6 +66,9 @@ drop_command = command (codes "drop") (file (codes "SESSION") ∷ file (codes "O
 abbrev pub decode_command : Shape
 decode_command = command (codes "decode") (file (codes "SESSION") ∷ file (codes "OUT") ∷ [])
 
+abbrev pub follow_command : Shape
+follow_command = command (codes "follow") (file (codes "SESSION") ∷ file (codes "OUT") ∷ [])
+
 abbrev pub twin_command : Shape
 twin_command = command (codes "twin")
     (file (codes "SESSION") ∷ file (codes "OBJECT") ∷ file (codes "CERT") ∷ file (codes "OUT") ∷ [])
@@ -77,8 +80,8 @@ show_command = command (codes "show") (file (codes "SESSION") ∷ [])
 abbrev pub grammar_of : Bor (List (Bor Text)) → App
 grammar_of orders = record {
   top = record (new_shape (codes "alcrs")) { is_leaf = false; subcommand_required = true };
-  subs = encode_command orders ∷ certify_command ∷ check_command ∷ drop_command ∷ decode_command ∷ twin_command
-      ∷ show_command ∷ [];
+  subs = encode_command orders ∷ certify_command ∷ check_command ∷ drop_command ∷ decode_command ∷ follow_command
+      ∷ twin_command ∷ show_command ∷ [];
 }
 
 -- the orders' names

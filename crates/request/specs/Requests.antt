@@ -8,7 +8,7 @@ use Rattle.partition.specs.declared.order.Order.TheVariants.{Blocks, Rounds}
 use Rattle.request.specs.declared.requests.Sizes.{Sizes}
 use Rattle.request.specs.declared.requests.Sending.{Sending}
 use Rattle.request.specs.declared.requests.Request.{Request}
-use Rattle.request.specs.declared.requests.Request.TheVariants.{Check, Twin, Show, Encode, Certify, Decode, Drop}
+use Rattle.request.specs.declared.requests.Request.TheVariants.{Check, Twin, Show, Encode, Certify, Decode, Follow, Drop}
 use Rattle.request.specs.declared.usage.Usage.{Usage}
 use Rattle.request.specs.declared.usage.Usage.TheVariants.{Help, Line, Value, NoMemory}
 use Rattle.request.specs.Usages.{IsRefusal}
@@ -76,6 +76,7 @@ pub data Asked : Type 0 where
   CheckAsked : Text → Text → Text → Asked
   DropAsked : Text → Text → List ℕ → Asked
   DecodeAsked : Text → Text → Asked
+  FollowAsked : Text → Text → Asked
   TwinAsked : Text → Text → Text → Text → Asked
   ShowAsked : Text → Asked
 
@@ -85,6 +86,7 @@ asked_of (Certify object output sizes) = CertifyAsked object.now output.now size
 asked_of (Check session object certificate) = CheckAsked session.now object.now certificate.now
 asked_of (Drop session output places) = DropAsked session.now output.now places.items
 asked_of (Decode session output) = DecodeAsked session.now output.now
+asked_of (Follow session output) = FollowAsked session.now output.now
 asked_of (Twin session object certificate output) = TwinAsked session.now object.now certificate.now output.now
 asked_of (Show session) = ShowAsked session.now
 
@@ -94,6 +96,7 @@ name_of (CertifyAsked object output sizes) = codes "certify"
 name_of (CheckAsked session object certificate) = codes "check"
 name_of (DropAsked session output places) = codes "drop"
 name_of (DecodeAsked session output) = codes "decode"
+name_of (FollowAsked session output) = codes "follow"
 name_of (TwinAsked session object certificate output) = codes "twin"
 name_of (ShowAsked session) = codes "show"
 
@@ -108,6 +111,7 @@ HasValues rows (CheckAsked session object certificate) =
 HasValues rows (DropAsked session output places) =
     HasText rows (codes "SESSION") session × HasText rows (codes "OUT") output × HasPlaces rows places
 HasValues rows (DecodeAsked session output) = HasText rows (codes "SESSION") session × HasText rows (codes "OUT") output
+HasValues rows (FollowAsked session output) = HasText rows (codes "SESSION") session × HasText rows (codes "OUT") output
 HasValues rows (TwinAsked session object certificate output) =
     HasText rows (codes "SESSION") session × HasText rows (codes "OBJECT") object × HasText rows (codes "CERT") certificate
     × HasText rows (codes "OUT") output

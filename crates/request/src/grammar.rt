@@ -1,7 +1,7 @@
 //! The grammar: the commands, their arguments and their help.
 ghost use Rattle.std.specs.Prelude.{◌≡◌, map, false, IfOk};
 ghost use Rattle.clap.specs.Words.{rule_of};
-ghost use Rattle.request.specs.Grammar.{file as file_rule, number as number_rule, order as order_rule, places as places_rule, encode_command as encode_shape, certify_command as certify_shape, check_command as check_shape, drop_command as drop_shape, decode_command as decode_shape, twin_command as twin_shape, show_command as show_shape, IsOrders};
+ghost use Rattle.request.specs.Grammar.{file as file_rule, number as number_rule, order as order_rule, places as places_rule, encode_command as encode_shape, certify_command as certify_shape, check_command as check_shape, drop_command as drop_shape, decode_command as decode_shape, follow_command as follow_shape, twin_command as twin_shape, show_command as show_shape, IsOrders};
 ghost use Rattle.request.specs.Building.{HasGrammar, IsShaped, AddsRules, AddsCommand};
 
 use crate::requests::MOST_SYMBOL_BYTES;
@@ -251,6 +251,23 @@ fn decode_command<'a>(alloc: Global) -> Result<Command<'a>, AllocError>
     )
 }
 
+fn follow_command<'a>(alloc: Global) -> Result<Command<'a>, AllocError>
+    ensures { IfOk result (IsShaped follow_shape) }
+{
+    let command = Command::new(alloc, "follow")
+        .about(
+            "Takes the datagrams of a session one by one, as they come, and writes the object as soon as they give it",
+        )
+        .after_help(
+            "Prints `refused`, its place and why for each datagram that is of no object with those before it, and goes on without it; then `complete after` and how many datagrams were read, and `object` and its length in bytes, and reads no further; else, at the session's end, `empty`, or `missing`, the first block that is short and how many symbols it has and needs. SESSION may be a pipe.\nStatuses: 0 the object was written, 1 a fault, 2 the command line is refused, 3 nothing came or a block is short.\n\nExample: alcrs follow bulletin.session received.txt",
+        );
+    with_files(
+        alloc,
+        command,
+        &[SESSION, ("OUT", "The object to write, where there is one")],
+    )
+}
+
 // The places to leave out, one or more.
 fn places<'a>(alloc: Global) -> Arg<'a>
     ensures rule { rule_of result ≡ places_rule }
@@ -286,6 +303,7 @@ pub(crate) fn grammar<'a>(alloc: Global) -> Result<Command<'a>, AllocError>
     let parser = with_command(parser, check_command(alloc))?;
     let parser = with_command(parser, drop_command(alloc))?;
     let parser = with_command(parser, decode_command(alloc))?;
+    let parser = with_command(parser, follow_command(alloc))?;
     let parser = with_command(parser, twin_command(alloc))?;
     with_command(parser, show_command(alloc))
 }

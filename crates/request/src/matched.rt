@@ -149,6 +149,15 @@ fn decode_request<'a>(matches: &ArgMatches<'a>) -> Result<Request<'a>, Usage>
     })
 }
 
+fn follow_request<'a>(matches: &ArgMatches<'a>) -> Result<Request<'a>, Usage>
+    ensures { AnswersRead (Some (codes "follow", rows_in matches.now)) result }
+{
+    Ok(Request::Follow {
+        session: text(matches, "SESSION")?,
+        output: text(matches, "OUT")?,
+    })
+}
+
 fn twin_request<'a>(matches: &ArgMatches<'a>) -> Result<Request<'a>, Usage>
     ensures { AnswersRead (Some (codes "twin", rows_in matches.now)) result }
 {
@@ -182,6 +191,7 @@ fn command_request<'a>(
         "check" => check_request(matches),
         "drop" => drop_request(alloc, matches),
         "decode" => decode_request(matches),
+        "follow" => follow_request(matches),
         "twin" => twin_request(matches),
         "show" => show_request(matches),
         _ => Err(Usage::Value),

@@ -65,6 +65,11 @@ pub enum Request<'a> {
         session: &'a str,
         output: &'a str,
     },
+    /// Write the object as soon as the session's datagrams, read one by one, give it.
+    Follow {
+        session: &'a str,
+        output: &'a str,
+    },
     /// Leave the datagrams at these places out, counted from 0; one place or more.
     Drop {
         session: &'a str,

@@ -1,4 +1,7 @@
 pub mod Told
+pub mod Delivered
+pub mod Ends
+pub mod Followed
 pub mod Found
 pub mod Gains
 pub mod Pieces

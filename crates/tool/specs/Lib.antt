@@ -10,3 +10,5 @@ pub mod Answering
 pub mod GivingUp
 pub mod ShortBlocks
 pub mod Checks
+pub mod Following
+pub mod Listening

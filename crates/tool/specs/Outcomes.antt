@@ -14,13 +14,14 @@ use Rattle.cert.specs.declared.verdict.Reason.TheVariants.{Thin}
 use Rattle.cert.specs.declared.verdict.Verdict.{Verdict}
 use Rattle.cert.specs.declared.verdict.Verdict.TheVariants.{Yes, No}
 use Rattle.request.specs.declared.requests.Request.{Request}
-use Rattle.request.specs.declared.requests.Request.TheVariants.{Check, Twin, Show, Encode, Certify, Decode, Drop}
+use Rattle.request.specs.declared.requests.Request.TheVariants.{Check, Twin, Show, Encode, Certify, Decode, Follow, Drop}
 use Rattle.tool.specs.declared.fault.Fault.{Fault}
 use Rattle.tool.specs.declared.fault.Fault.TheVariants.{Frame}
 use Rattle.tool.specs.Folder.{Files, Replaces}
 use Rattle.tool.specs.Inputs.{HoldsSession, Opens, HoldsBytes, HoldsCertificate, IsNotOpened, IsSessionUnread, IsObjectUnread, IsCertificateUnread}
 use Rattle.tool.specs.Lines.{IsPrintFault, IsSilent, TellsFault, Prints, PrintsTwin, PrintsDatagrams, PrintsSome}
 use Rattle.tool.specs.Decoding.{IsDecoded, IsNotDecoded}
+use Rattle.tool.specs.Following.{IsFollowed, IsNotFollowed}
 use Rattle.tool.specs.Making.{IsEncoded, IsNotEncoded, IsCertified, IsNotCertified, IsDropped, IsNotDropped, IsUnmade, Fails}
 
 abbrev pub status_of : Verdict → ℕ
@@ -136,6 +137,7 @@ IsDone old new (Encode object output sending) before after status =
 IsDone old new (Certify object output sizes) before after status =
     IsCertified old new object.now output.now sizes before after status
 IsDone old new (Decode session output) before after status = IsDecoded old new session.now output.now before after status
+IsDone old new (Follow session output) before after status = IsFollowed old new session.now output.now before after status
 IsDone old new (Drop session output places) before after status =
     IsDropped old new session.now output.now places.items before after status
 
@@ -146,7 +148,7 @@ IsShownInPart files session fault failed before after =
     ⊎ ((datagrams : List (List ℕ)) × HoldsSession files session datagrams × PrintsSome datagrams fault failed before after)
 
 -- Why the request wasn't done; what the files are after it; and what was printed before the fault is told: nothing, but of
--- datagrams that are shown the lines of the first.
+-- datagrams that are shown the lines of the first, and of datagrams that are followed the lines of those that came.
 abbrev pub IsUndone : Option Files → Option Files → Request → Bool → Option (List ℕ) → Option (List ℕ) → Fault → Type 0
 IsUndone old new (Check session object certificate) failed before after fault =
     IsUnchecked old session.now object.now certificate.now failed fault × (new ≡ old) × IsSilent fault failed before after
@@ -160,6 +162,8 @@ IsUndone old new (Certify object output sizes) failed before after fault =
     Fails (IsNotCertified object.now output.now sizes) old new output.now failed before after fault
 IsUndone old new (Decode session output) failed before after fault =
     Fails (IsNotDecoded session.now output.now) old new output.now failed before after fault
+IsUndone old new (Follow session output) failed before after fault =
+    IsNotFollowed old new session.now output.now failed before after fault
 IsUndone old new (Drop session output places) failed before after fault =
     Fails (IsNotDropped session.now output.now places.items) old new output.now failed before after fault
 

@@ -3,6 +3,7 @@ ghost use Rattle.std.specs.Prelude.{◌≡◌, ◌⊎◌, ℕ, List, true, codes
 ghost use Rattle.std.specs.Io.KnownBytes.{Appends};
 ghost use Rattle.tool.specs.Answering.{IsAnswer, Explains};
 
+use crate::console::Console;
 use crate::folder::Folder;
 use crate::running::{run, tell_memory};
 use request::{Usage, request};
@@ -15,7 +16,7 @@ const REFUSED: u8 = 2;
 /// Does what the words of a command line ask for, the first of which is the program's name, and answers the status: that
 /// of `run` where they make a request; 0 after help, which goes to `out`; 2 where the line is refused, with the reason to
 /// `err`, whether that can be written or not; 1 after `fault memory`, or where `out` can't be written.
-pub fn answer<'a, F: Folder, W: Write, E: Write>(
+pub fn answer<'a, F: Folder, W: Console, E: Write>(
     alloc: Global,
     words: &'a [&'a str],
     folder: &mut F,

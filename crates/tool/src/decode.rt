@@ -40,7 +40,7 @@ pub(crate) fn decode<'a, F: Folder, W: Write>(
     Ok(status_of(&answer))
 }
 
-fn status_of(answer: &Answer) -> u8
+pub(crate) fn status_of(answer: &Answer) -> u8
     ensures { result ≡ answer_status answer.now }
 {
     match answer {
@@ -104,7 +104,7 @@ fn fault_line(alloc: Global, fault: DecodeFault) -> Result<Text, AllocError>
     Ok(line)
 }
 
-fn answer_line(alloc: Global, answer: &Answer) -> Result<Text, AllocError>
+pub(crate) fn answer_line(alloc: Global, answer: &Answer) -> Result<Text, AllocError>
     ensures { IfOk result (IsAnswerLine answer.now) }
 {
     match answer {

@@ -4,11 +4,13 @@
 mod answering;
 mod certify;
 mod check;
+mod console;
 mod decode;
 mod dropping;
 mod encode;
 mod fault;
 mod folder;
+mod follow;
 mod input;
 mod memory;
 mod output;
@@ -20,6 +22,7 @@ mod twinning;
 mod wording;
 
 pub use answering::{answer, refuse_memory, status_after};
+pub use console::Console;
 pub use folder::{FileFault, Folder};
 pub use memory::{MemoryFolder, MemoryInput};
 pub use running::run;

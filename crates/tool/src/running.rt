@@ -7,11 +7,13 @@ ghost use Rattle.tool.specs.declared.fault.Fault.TheVariants.{Output};
 
 use crate::certify::certify;
 use crate::check::check;
+use crate::console::Console;
 use crate::decode::decode;
 use crate::dropping::drop_places;
 use crate::encode::encode;
 use crate::fault::Fault;
 use crate::folder::Folder;
+use crate::follow::follow;
 use crate::print::Text;
 use crate::show::show;
 use crate::twinning::twin;
@@ -20,7 +22,7 @@ use request::Request;
 use session::{Write, write_all};
 use std::alloc::{AllocError, Global};
 
-fn perform<'a, F: Folder, W: Write>(
+fn perform<'a, F: Folder, W: Console>(
     alloc: Global,
     request: &Request<'a>,
     folder: &mut F,
@@ -55,6 +57,7 @@ fn perform<'a, F: Folder, W: Write>(
             sizes,
         } => certify(alloc, folder, out, object, output, sizes),
         Request::Decode { session, output } => decode(alloc, folder, out, session, output),
+        Request::Follow { session, output } => follow(alloc, folder, out, session, output),
         Request::Drop {
             session,
             output,
@@ -65,7 +68,7 @@ fn perform<'a, F: Folder, W: Write>(
 
 /// Does the command, prints its lines, and answers the status: 0 done or yes, 1 no or a fault, 3 where decoding has too
 /// little. If the output can't be written it is 1.
-pub fn run<F: Folder, W: Write>(
+pub fn run<F: Folder, W: Console>(
     alloc: Global,
     request: &Request<'_>,
     folder: &mut F,

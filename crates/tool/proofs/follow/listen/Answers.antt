@@ -1,0 +1,89 @@
+use Rattle.std.proofs.Common.{◌∙◌, ◌++◌, Err, ap, arith}
+use Rattle.decoder.specs.Receiving.{with_datagram}
+use Rattle.decoder.specs.declared.receiver.FeedFault.TheVariants.{Fault, Full}
+use Rattle.session.proofs.Writes.{then_appends}
+use Rattle.tool.specs.Following.{refusal_line}
+use Rattle.tool.specs.Lines.{line_of}
+use Rattle.tool.proofs.Followed.{read_last, read_taken, read_refused, many_more}
+use Rattle.tool.proofs.follow.listen.Goals as goal
+use Rattle.tool.proofs.follow.listen.Goals.{in-Ok-More, in-Err-Full+in_ok-tell_refusal-in-Err-Full, in-Err-Fault+in_ok-tell_refusal-in-Err-Fault}
+
+pub returns-in-Ok-Complete-clause-complete : goal.returns-in-Ok-Complete-clause-complete
+returns-in-Ok-Complete-clause-complete g c =
+    let read = c.loop-datagram.invariant.read in
+    let d = c.in-Some.datagram.items in
+    let one = rw c.in-Some.is at c.in_ok-datagram.ensures.some in
+    let stands = rw c.as_slice.ensures.value at (c.in-Ok-Complete.ensures.accepted read.1 read.4) in
+    let full = rw (c.in-Ok-Complete.field-0-is, c.as_slice.ensures.value) at (c.in-Ok-Complete.ensures.progress read.1 read.4) in
+    let next = c.in-Some-checked_add.ensures in (
+      with_datagram read.1 d,
+      read.2,
+      stands,
+      read_last (g.R.Read.remaining c.args.frames.now) (g.R.Read.remaining c.loop-datagram.frames) (g.R.Read.remaining c.next.new.frames) read.0 read.1 read.2 c.loop-datagram.count d read.6
+          read.3 one c.in-Some-checked_add.read (omega (arith, next)) full,
+      read.7,
+    )
+
+pub loop-datagram-preserved : goal.loop-datagram-preserved
+loop-datagram-preserved g c =
+    let read = c.loop-datagram.invariant.read in
+    let d = c.in-Some.datagram.items in
+    let one = rw c.in-Some.is at c.in_ok-datagram.ensures.some in
+    let next = c.in-Some-checked_add.ensures in
+    let opened = g.R.Read.remaining c.args.frames.now in
+    let a = g.R.Read.remaining c.loop-datagram.frames in
+    let b = g.R.Read.remaining c.next.new.frames in
+    let count = c.loop-datagram.count in
+    let many = many_more read.0 d count c.in-Some-checked_add.read read.3 (omega (arith, next)) in
+    let stays = c.next.ensures.stays ∙ c.loop-datagram.invariant.stays in
+    elim c.match-feed.branch [
+      | in-Ok-More w ↦
+          (let stands = rw c.as_slice.ensures.value at (w.in-Ok-More.ensures.accepted read.1 read.4) in
+          let sound = rw c.as_slice.ensures.value at (w.in-Ok-More.ensures.sound read.1 read.4) in
+          let short = rw (w.in-Ok-More.field-0-is, c.as_slice.ensures.value) at (w.in-Ok-More.ensures.progress read.1 read.4) in
+          rw w.out-is record {
+            read = (
+              with_datagram read.0 d,
+              with_datagram read.1 d,
+              read.2,
+              many,
+              stands,
+              short,
+              read_taken opened a b read.0 read.1 read.2 count d read.6 read.3 one sound short,
+              read.7,
+            );
+            stays = stays;
+          })
+      | in-Err-Full+in_ok-tell_refusal-in-Err-Full w ↦
+          (let stands = w.in-Err-Full.ensures.refused read.1 read.4 in
+          let full = (c.feed.ensures.full read.1 read.4).0 (w.in-Err-Full.is ∙ ap Err w.in-Err-Full.field-0-is) in
+          rw w.out-is record {
+            read = (
+              with_datagram read.0 d,
+              read.1,
+              read.2 ++ line_of (refusal_line count Full),
+              many,
+              stands,
+              read.5,
+              read_refused opened a b read.0 read.1 read.2 count d read.6 read.3 one Full full,
+              then_appends _ _ _ read.2 (line_of (refusal_line count Full)) read.7 w.in_ok-tell_refusal-in-Err-Full.ensures.ok,
+            );
+            stays = stays;
+          })
+      | in-Err-Fault+in_ok-tell_refusal-in-Err-Fault w ↦
+          (let stands = w.in-Err-Fault.ensures.refused read.1 read.4 in
+          let fault = rw (w.in-Err-Fault.field-0-is, c.as_slice.ensures.value) at (w.in-Err-Fault.ensures.fault read.1 read.4) in
+          rw w.out-is record {
+            read = (
+              with_datagram read.0 d,
+              read.1,
+              read.2 ++ line_of (refusal_line count (Fault w.in-Err-Fault.fault)),
+              many,
+              stands,
+              read.5,
+              read_refused opened a b read.0 read.1 read.2 count d read.6 read.3 one (Fault w.in-Err-Fault.fault) fault,
+              then_appends _ _ _ read.2 (line_of (refusal_line count (Fault w.in-Err-Fault.fault))) read.7 w.in_ok-tell_refusal-in-Err-Fault.ensures.ok,
+            );
+            stays = stays;
+          })
+    ]
