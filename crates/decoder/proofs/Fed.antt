@@ -32,7 +32,7 @@ use Rattle.reception.specs.declared.scope.PlaceFault.TheVariants as place_fault
 use Rattle.reception.proofs.OneAnswer.{same_readings}
 use Rattle.reception.proofs.Looks.{faultless_look}
 use Rattle.reception.proofs.Stepping.{timely, after_packet}
-use Rattle.reception.proofs.Walking.{Walked, came_before, stops, ends, is_packet}
+use Rattle.reception.proofs.Walking.{Walked, came_before, stops, goes_on, ends, is_packet}
 use Rattle.reception.proofs.Within.{within}
 use Rattle.decoder.specs.Columns.{ColumnExplained}
 use Rattle.decoder.specs.Decoded.{IsEnoughAt}
@@ -53,10 +53,19 @@ use Rattle.decoder.specs.declared.stored.Stored.{Stored}
 use Rattle.decoder.proofs.Counts.{held_is, one_more_held, none_more_held}
 use Rattle.decoder.proofs.Holding.{with_own, with_apart}
 use Rattle.decoder.proofs.Index.{pointwise_same, clash_none, clash_some}
-use Rattle.decoder.proofs.Receiving.{Scanned, empty_index, clashed, receives, received}
+use Rattle.decoder.proofs.Receiving.{Scanned, empty_index, clashed, no_clash as unclashed_judge, receives, received}
 use Rattle.decoder.proofs.Solving.{solvable_from, solvable_gives}
 use Rattle.decoder.proofs.Taken.{full_explained, pending_count, nothing_count, keeps, all_within, arrived_is, none_short, full_solvable}
 use Rattle.decoder.proofs.Those.{few_pass}
+
+-- whether a fault is told that is seen before the symbol
+abbrev is_before : Wrong Clash → Bool
+is_before (Faulty e) = true
+is_before (Judged r) = false
+
+abbrev tells_before : Option (ℕ × Wrong Clash) → Bool
+tells_before None = false
+tells_before (Some x) = is_before x.1
 
 front_of : (ds : List (List ℕ)) (d : List ℕ) → take (length ds) (readings_of (ds ++ d ∷ [])) ≡ readings_of ds
 front_of [] d = refl
@@ -190,6 +199,23 @@ module _ (r : Receiver) (ds : List (List ℕ)) (stands : Stands r ds) (d : List 
         ap (λ (s : Scope). s.fti) look.scope ∙ ap (λ (s : Scope). or_later s.fti (carried look.reading)) is ∙ ap (λ (o : Option Fti). or_later o (carried look.reading)) e in
         let k = known in
         cc
+
+    -- a packet whose symbol is looked at has no fault before that
+    pub none_before : (i : ℕ) (e : PlaceFault) → IsAnswer all (Fault i (Faulty e)) → ⊥
+    none_before i e answer =
+        let told : (reception_of (readings_of all)).wrong ≡ Some (i, Faulty e) =
+        subst (λ (rs : List Reading). (reception_of rs).wrong ≡ Some (i, Faulty e)) (same_readings all answer.readings (readings_of all) answer.read read) answer.answers in
+        elim (cases_Bool (clashes (came_before all (length ds)) (symbol_of (packet_of p)))) [
+          | inl clash_here ↦
+              (let w = stops clash unknown all (length ds) old walked d new (Ok (Some p)) inside here look (Judged Clashes) (clashed (came_before all (length ds)) (symbol_of (packet_of p)) clash_here) in
+              let e = ap tells_before (sym told ∙ w) in
+              absurd (cc))
+          | inr none_here ↦
+              (let on = goes_on clash unknown all (length ds) old walked d new (Ok (Some p)) inside here look (unclashed_judge (came_before all (length ds)) (symbol_of (packet_of p)) none_here) in
+              let w = (ends clash unknown all (length ds + 1) new on (omega (arith, length-append ds (d ∷ [])))).0 in
+              let e = ap tells_before (sym told ∙ w) in
+              absurd (cc))
+        ]
 
     -- what the store holds, if there is one
     pub held : (at : ℕ → ℕ → Option (List ℕ)) × IsIndex (reception_of (readings_of ds)).symbols at × HoldsFor p.fti r.store at

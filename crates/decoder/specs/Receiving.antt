@@ -4,7 +4,10 @@ use Rattle.std.specs.Io.KnownBytes.{Appends}
 use Rattle.partition.specs.Fti.{Fti}
 use Rattle.reception.specs.Symbols.{AllFull}
 use Rattle.reception.specs.Readings.{readings_of}
+use Rattle.reception.specs.declared.scope.PlaceFault.{PlaceFault}
+use Rattle.reception.specs.Reception.{Faulty}
 use Rattle.reception.specs.Answer.{Object, IsAnswer, reception_of}
+use Rattle.reception.specs.Answer as value
 use Rattle.decoder.specs.Answers.{fault_value}
 use Rattle.decoder.specs.declared.answer.DecodeFault.{DecodeFault}
 use Rattle.decoder.specs.declared.receiver.Progress.{Progress}
@@ -36,6 +39,10 @@ IsFaultOf datagrams NoMemory = Unit {0}
 -- the answer to the datagrams is no fault
 abbrev pub HasNoFault : List (List ℕ) → Type 0
 HasNoFault datagrams = (e : DecodeFault) → ¬ IsAnswer datagrams (fault_value e)
+
+-- the answer to the datagrams is no fault of one whose symbol isn't looked at
+abbrev pub HasNoFaultBefore : List (List ℕ) → Type 0
+HasNoFaultBefore datagrams = (i : ℕ) (e : PlaceFault) → ¬ IsAnswer datagrams (value.Fault i (Faulty e))
 
 -- the object that these datagrams give was written; its length in bytes
 abbrev pub IsWrittenOf : List (List ℕ) → Option (List ℕ) → Option (List ℕ) → ℕ → Type 0

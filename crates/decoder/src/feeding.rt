@@ -6,7 +6,7 @@ ghost use Rattle.reception.specs.Walks.{readings_of};
 ghost use Rattle.decoder.specs.Kept.{with_symbol};
 ghost use Rattle.decoder.specs.Putting.{MayStand, IsPutFault};
 ghost use Rattle.decoder.specs.Stands.{Stands, IsFed};
-ghost use Rattle.decoder.specs.Receiving.{with_datagram, Tells, IsFaultOf, HasNoFault};
+ghost use Rattle.decoder.specs.Receiving.{with_datagram, Tells, IsFaultOf, HasNoFault, HasNoFaultBefore};
 ghost use Rattle.decoder.specs.Fed.{HoldsFor, put_refusal};
 
 use crate::answer::DecodeFault;
@@ -95,7 +95,9 @@ impl Receiver {
     }
 
     /// Takes one datagram, of any bytes. The receiver stands for the datagrams that it accepted: `Ok` is where `decode`
-    /// would answer no fault to them and this one, and it stands for one more. At an error it stands for those before.
+    /// would answer no fault to them and this one, and it stands for one more. At an error it stands for those before. Want of
+    /// memory is never told in place of a fault that is seen before the symbol: no packet, another identity or FTI, or out of
+    /// range.
     pub fn feed(&mut self, alloc: Global, datagram: &[u8]) -> Result<Progress, FeedFault>
         // It is new, or was fed.
         requires { IsFed self.old }
@@ -107,6 +109,8 @@ impl Receiver {
             → IfOk result (λ p. Tells p (with_datagram ds datagram.now)) }
         ensures fault { (ds : List (List ℕ)) → Stands self.old ds
             → IfErr result (IsFaultOf (with_datagram ds datagram.now)) }
+        ensures memory { (ds : List (List ℕ)) → Stands self.old ds → result ≡ Err FeedFault.NoMemory
+            → HasNoFaultBefore (with_datagram ds datagram.now) }
         ensures sound { (ds : List (List ℕ)) → Stands self.old ds
             → OnOk result (HasNoFault (with_datagram ds datagram.now)) }
         ensures full { (ds : List (List ℕ)) → Stands self.old ds

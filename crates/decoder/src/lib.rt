@@ -43,4 +43,3 @@ pub use answer::{Answer, DecodeFault};
 pub use decoding::decode;
 pub use receiver::{FeedFault, Progress, Receiver};
 pub use selecting::{decode_selection, one_answer};
-pub use taking::take_and_decode;

@@ -1,5 +1,5 @@
 //! What a receiver gives: the answer to the datagrams that it accepted, and the object block by block.
-ghost use Rattle.std.specs.Prelude.{◌≡◌, ◌<◌, ℕ, List, Option, Ok, None, true, length, map, IfOk, IfSome, IsNone, OnOk, OnErr};
+ghost use Rattle.std.specs.Prelude.{◌≡◌, ◌<◌, ℕ, List, Option, Ok, None, true, length, IfOk, IfSome, IsNone, OnOk, OnErr};
 ghost use Rattle.std.specs.Io.KnownBytes.{Appends};
 ghost use Rattle.session.specs.Frames.{AppendsSome};
 ghost use Rattle.partition.specs.Fti.{block_count};
@@ -14,7 +14,6 @@ ghost use Rattle.decoder.specs.Receiving.{IsWrittenOf};
 
 use crate::answer::Answer;
 use crate::counting::Short;
-use crate::decoding::decode;
 use crate::receiver::Receiver;
 use crate::store::Store;
 use crate::stored::Stored;
@@ -130,14 +129,16 @@ impl Receiver {
     }
 
     /// Writes the object block by block, so that it is never held whole, and answers its length in bytes. `None` is where a
-    /// block is short or nothing came, and nothing is written then. `Failed` comes only where the writer has failed, and
-    /// never where it has room for the object. It has a beginning of it then.
+    /// block is short or nothing came, and nothing is written then. `Failed` comes only where no block is short and the
+    /// writer has failed, and never where it has room for the object. It has a beginning of it then.
     pub fn write_object<W: Write>(&self, writer: &mut W) -> Result<Option<u64>, Failed>
         ensures written { (ds : List (List ℕ)) → Stands self.now ds
             → IfOk result (λ o. IfSome o (IsWrittenOf ds (W.contents writer.old)
             (W.contents writer.new))) }
         ensures short { (ds : List (List ℕ)) → Stands self.now ds
             → IfOk result (λ o. IsNone o → ¬ LeaveNoneShort ds) }
+        ensures late { (ds : List (List ℕ)) → Stands self.now ds
+            → OnErr result (LeaveNoneShort ds) }
         ensures front { (ds : List (List ℕ)) (object : List ℕ) → Stands self.now ds
             → IsAnswer ds (Object object)
             → OnErr result (AppendsSome (W.contents writer.old) (W.contents writer.new) object) }
@@ -156,18 +157,4 @@ impl Receiver {
         store.write(writer)?;
         Ok(Some(store.fti.transfer_length()))
     }
-}
-
-/// What a receiver takes of the datagrams that it accepted is what `decode` answers to them.
-pub fn take_and_decode(
-    alloc: Global,
-    receiver: &Receiver,
-    datagrams: &[&[u8]],
-) -> Result<(Answer, Answer), AllocError>
-    requires { Stands receiver.now (map (λ d. d.now) datagrams.now) }
-    ensures { IfOk result (λ r. answer_value r.0 ≡ answer_value r.1) }
-{
-    let taken = receiver.take(alloc)?;
-    let decoded = decode(alloc, datagrams)?;
-    Ok((taken, decoded))
 }

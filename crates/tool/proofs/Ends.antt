@@ -64,7 +64,7 @@ module _ (files : Option Files) (session output : List ℕ) (opened : Option (Li
     unheard (Frame frame.CutDatagram) h = (cut_off frame.CutDatagram h, refl)
     unheard (Frame frame.TooLong) h = (cut_off frame.TooLong h, refl)
     unheard (Frame frame.NoMemory) h = absurd h
-    unheard (Frame (frame.NoSuchPlace place)) h = (cut_off (frame.NoSuchPlace place) h, refl)
+    unheard (Frame (frame.NoSuchPlace place)) (left, datagrams, taken, text, are, fault, printed) = absurd fault
     unheard Memory (left, datagrams, taken, text, are, printed) = (inr (inl (left, datagrams, taken, text, (opened, sent, are), printed)), refl)
     unheard Output h = (h, inl refl)
     unheard (Open name) h = absurd h

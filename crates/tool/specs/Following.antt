@@ -3,7 +3,7 @@ use Rattle.std.specs.Prelude.{◌≡◌, ◌+◌, ◌-◌, ◌^◌, ◌⊎◌, �
 use Rattle.std.specs.Io.KnownBytes.{Consumes, IsAtEnd, Appends}
 use Rattle.session.specs.Frames.{frames, IsReadFault}
 use Rattle.session.specs.declared.frame.FrameFault.{FrameFault}
-use Rattle.session.specs.declared.frame.FrameFault.TheVariants.{Io as FrameIo}
+use Rattle.session.specs.declared.frame.FrameFault.TheVariants.{Io as FrameIo, NoMemory as NoFrameMemory, NoSuchPlace}
 use Rattle.reception.specs.Answer.{Answer, Empty, Fault as Wrong, NotCode as NoCode, Missing, Object, IsAnswer}
 use Rattle.decoder.specs.Answers.{fault_value}
 use Rattle.decoder.specs.Receiving.{with_datagram, LeaveNoneShort, HasNoFault}
@@ -146,6 +146,8 @@ TellsComplete files session before after =
 abbrev pub IsBrokenOff : Option Files → List ℕ → List ℕ → Bool → Option (List ℕ) → Option (List ℕ) → Fault → Type 0
 IsBrokenOff files session output failed before after (Frame FrameIo) =
     (files ≡ None) × IsCutOff files session FrameIo before after
+IsBrokenOff files session output failed before after (Frame NoFrameMemory) = ⊥
+IsBrokenOff files session output failed before after (Frame (NoSuchPlace place)) = ⊥
 IsBrokenOff files session output failed before after (Frame fault) = IsCutOff files session fault before after
 IsBrokenOff files session output failed before after Memory =
     (after ≡ before) ⊎ TellsHeard files session before after ⊎ TellsComplete files session before after

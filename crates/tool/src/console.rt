@@ -1,5 +1,6 @@
 //! Where a command's lines go.
-ghost use Rattle.std.specs.Prelude.{◌≡◌, true, OnOk, OnErr};
+ghost use Rattle.std.specs.Prelude.{◌≡◌, ℕ, List, Option, None, [], true, IsOk, OnOk, OnErr};
+ghost use Rattle.std.specs.Io.Buffered.{writer_buffer};
 
 use session::{Device, Failed, Sink, Write};
 use std::io::{self, BufWriter};
@@ -13,14 +14,22 @@ pub trait Console: Write {
 }
 
 impl<T: io::Write + Drop> Console for Device<BufWriter<T>> {
-    fn pass_on(&mut self) -> Result<(), Failed> {
+    /// Nothing is left in the buffer.
+    fn pass_on(&mut self) -> Result<(), Failed>
+        ensures passed { OnOk result (writer_buffer self.new.inner ≡ []) }
+        ensures stays { OnOk result (◌≡◌ {A = Option (List ℕ)} None None) }
+        ensures fails { OnErr result (self.new.failed ≡ true) }
+    {
         self.flush()
     }
 }
 
 impl Console for Sink {
     /// Nothing is held back.
-    fn pass_on(&mut self) -> Result<(), Failed> {
+    fn pass_on(&mut self) -> Result<(), Failed>
+        ensures ok { IsOk result }
+        ensures kept { self.new ≡ self.old }
+    {
         Ok(())
     }
 }

@@ -2,7 +2,7 @@ use Rattle.std.proofs.Common.{sym, subst, refl}
 use Rattle.reception.proofs.Walking.{none_passed}
 use Rattle.reception.specs.Answer.{IsAnswer}
 use Rattle.decoder.specs.Receiving.{IsFaultOf, with_datagram}
-use Rattle.decoder.proofs.Fed.{faulty, in_block, in_esis, held, accepted, refused, refusal_told, no_fault_for}
+use Rattle.decoder.proofs.Fed.{faulty, in_block, in_esis, held, accepted, refused, refusal_told, none_before, no_fault_for}
 use Rattle.decoder.proofs.receiver.Receiver.feed.Goals as goal
 
 pub unreachable-requires : goal.unreachable-requires
@@ -46,6 +46,11 @@ returns-in-Err-put-clause-fault c = λ ds stands.
     subst (λ v. IsFaultOf (with_datagram ds c.args.datagram.now) v) (sym c.refusal.ensures.value)
     (refusal_told c.args.self.now ds stands c.args.datagram.now c.are_bytes.ensures c.scope-scope.result c.look.new.self (c.scope-scope.ensures ds stands) c.in-Ok-Some.packet look
     h.0 h.1 c.is_valid.ensures h.2 c.in-Err-put.fault (c.in-Err-put.ensures.fault h.0 h.2))
+
+pub returns-in-Err-put-clause-memory : goal.returns-in-Err-put-clause-memory
+returns-in-Err-put-clause-memory c = λ ds stands is i e answer.
+    none_before c.args.self.now ds stands c.args.datagram.now c.are_bytes.ensures c.scope-scope.result c.look.new.self (c.scope-scope.ensures ds stands) c.in-Ok-Some.packet
+    (rw (c.in-Ok-Some.is, c.in-Ok-Some.field-0-is) at c.look.ensures) i e answer
 
 pub returns-clause-accepted : goal.returns-clause-accepted
 returns-clause-accepted c = λ ds stands.

@@ -3,13 +3,17 @@ use Rattle.reception.specs.Answer.{Empty, Object}
 use Rattle.std.specs.Io.KnownBytes.{Appends}
 use Rattle.session.specs.Frames.{AppendsSome}
 use Rattle.decoder.specs.Taking.{object_in}
-use Rattle.decoder.proofs.Taken.{short_is, some_short, object_same, object_length, object_in_answers, store_taken, on_err}
+use Rattle.decoder.proofs.Taken.{short_is, some_short, object_same, object_length, object_in_answers, store_taken, none_short, on_err}
 use Rattle.decoder.proofs.receiver.Receiver.write_object.Goals as goal
 
 pub returns-then-is_some-clause-short : goal.returns-then-is_some-clause-short
 returns-then-is_some-clause-short g c = λ ds stands _.
     let w = short_is c.in-Some.store c.first_short.result (sym c.is_some.ensures ∙ c.if-is_some.true) c.first_short.ensures.short in
     some_short c.args.self.now ds stands c.in-Some.store c.in-Some.is w.0 w.1
+
+pub returns-in_err-write-clause-late : goal.returns-in_err-write-clause-late
+returns-in_err-write-clause-late g c = λ ds stands.
+    on_err _ _ (none_short c.args.self.now ds stands c.in-Some.store c.in-Some.is c.is_valid.ensures (c.first_short.ensures.none (sym c.is_some.ensures ∙ c.if-is_some.false)))
 
 pub returns-in_err-write-clause-front : goal.returns-in_err-write-clause-front
 returns-in_err-write-clause-front g c = λ ds object stands answer.
