@@ -4,7 +4,7 @@ ghost use Rattle.std.specs.Prelude.{◌≡◌, ◌^◌, ◌-◌, None, false, If
 use session::{Device, Failed, Write};
 use std::alloc::Global;
 use std::fs;
-use std::fs::{File, OpenFile, OpenOptions};
+use std::fs::{File, Metadata, OpenFile, OpenOptions};
 use std::io::{BufReader, BufWriter, ErrorKind};
 use std::rt::Files;
 use tool::{FileFault, Folder};
@@ -31,10 +31,17 @@ impl<'a, R> HostFolder<'a, R> {
     }
 }
 
-/// A file that is written: beside its name until it is kept, or, where a device, a pipe or a link has that, straight.
+/// A file beside the one whose place it takes once it is kept.
+#[derive(Drop)]
+struct Part {
+    name: String,
+    target: String,
+}
+
+/// A file that is written: beside its name until it is kept, or, where a device or a pipe has that, straight.
 pub struct HostOutput<T: std::io::Write + Drop> {
     device: Device<BufWriter<T>>,
-    part: Option<String>,
+    part: Option<Part>,
 }
 
 impl<T: std::io::Write + Drop> Write for HostOutput<T> {
@@ -49,12 +56,15 @@ impl<T: std::io::Write + Drop> Write for HostOutput<T> {
     }
 }
 
-// A new file beside this name, and its own name: one that no other file has.
+// A new file beside this name, under one that no other file has.
 fn create_beside<R: Files>(
     rt: &R,
     alloc: Global,
     name: &str,
-) -> Result<(R::File, String), FileFault> {
+) -> Result<(R::File, Option<Part>), FileFault> {
+    let Ok(target) = name.to_string(alloc) else {
+        return Err(FileFault::NoMemory);
+    };
     for number in 0..MOST_PARTS {
         let part = if number == 0 {
             format!(in alloc; "{name}.part")
@@ -65,7 +75,7 @@ fn create_beside<R: Files>(
             return Err(FileFault::NoMemory);
         };
         match File::create_new(rt, part.as_str()) {
-            Ok(file) => return Ok((file, part)),
+            Ok(file) => return Ok((file, Some(Part { name: part, target }))),
             Err(error) if error.kind() == ErrorKind::AlreadyExists => {}
             Err(_) => return Err(FileFault::Io),
         }
@@ -84,35 +94,66 @@ fn may_write<R: Files>(rt: &R, name: &str) -> Result<(), FileFault> {
     }
 }
 
-// A file to be written, and its name where that is not the one that was asked for.
+// A new file that is to take the place of the one of this name.
+fn create_instead<R: Files>(
+    rt: &R,
+    alloc: Global,
+    name: &str,
+    there: &Metadata,
+) -> Result<(R::File, Option<Part>), FileFault> {
+    may_write(rt, name)?;
+    let (file, part) = create_beside(rt, alloc, name)?;
+    let _ = file.set_permissions(there.permissions());
+    Ok((file, part))
+}
+
+// What has this name, which is no file, to be written straight.
+fn create_straight<R: Files>(rt: &R, name: &str) -> Result<(R::File, Option<Part>), FileFault> {
+    match fs::create(rt, name) {
+        Ok(file) => Ok((file, None)),
+        Err(_) => Err(FileFault::Io),
+    }
+}
+
+// The same of a link: what it leads to, so that a command may read the file that it replaces.
+fn create_behind<R: Files>(
+    rt: &R,
+    alloc: Global,
+    link: &str,
+) -> Result<(R::File, Option<Part>), FileFault> {
+    let name = match rt.canonicalize(alloc, link) {
+        Ok(path) => path.into_string(),
+        // It leads to nothing, so nothing is replaced.
+        Err(error) if error.kind() == ErrorKind::NotFound => return create_straight(rt, link),
+        Err(_) => return Err(FileFault::Io),
+    };
+    match fs::symlink_metadata(rt, name.as_str()) {
+        Ok(there) if there.is_file() => create_instead(rt, alloc, name.as_str(), &there),
+        _ => create_straight(rt, link),
+    }
+}
+
+// A file to be written, and where it goes if not straight to this name.
 fn create<R: Files>(
     rt: &R,
     alloc: Global,
     name: &str,
-) -> Result<(R::File, Option<String>), FileFault> {
+) -> Result<(R::File, Option<Part>), FileFault> {
     match fs::symlink_metadata(rt, name) {
-        Ok(there) if there.is_file() => {
-            may_write(rt, name)?;
-            let (file, part) = create_beside(rt, alloc, name)?;
-            let _ = file.set_permissions(there.permissions());
-            Ok((file, Some(part)))
-        }
-        Ok(_) => match fs::create(rt, name) {
-            Ok(file) => Ok((file, None)),
-            Err(_) => Err(FileFault::Io),
-        },
+        Ok(there) if there.is_file() => create_instead(rt, alloc, name, &there),
+        Ok(there) if there.is_symlink() => create_behind(rt, alloc, name),
+        Ok(_) => create_straight(rt, name),
         Err(error) if error.kind() == ErrorKind::NotFound && !name.is_empty() => {
-            let (file, part) = create_beside(rt, alloc, name)?;
-            Ok((file, Some(part)))
+            create_beside(rt, alloc, name)
         }
         Err(_) => Err(FileFault::Io),
     }
 }
 
 impl<R: Files> HostFolder<'_, R> {
-    fn remove(&self, part: &Option<String>) {
+    fn remove(&self, part: &Option<Part>) {
         if let Some(part) = part {
-            let _ = fs::remove_file(self.rt, part.as_str());
+            let _ = fs::remove_file(self.rt, part.name.as_str());
         }
     }
 }
@@ -148,7 +189,7 @@ impl<R: Files> Folder for HostFolder<'_, R> {
         }
     }
 
-    fn keep_file(&mut self, name: &str, output: HostOutput<R::File>) -> Result<(), FileFault> {
+    fn keep_file(&mut self, _name: &str, output: HostOutput<R::File>) -> Result<(), FileFault> {
         let HostOutput { mut device, part } = output;
         let flushed = device.flush();
         let (file, _) = device.into_inner().into_parts();
@@ -160,13 +201,13 @@ impl<R: Files> Folder for HostFolder<'_, R> {
             };
         };
         let renamed = match flushed {
-            Ok(()) => fs::rename(self.rt, part.as_str(), name).is_ok(),
+            Ok(()) => fs::rename(self.rt, part.name.as_str(), part.target.as_str()).is_ok(),
             Err(Failed) => false,
         };
         if renamed {
             Ok(())
         } else {
-            let _ = fs::remove_file(self.rt, part.as_str());
+            let _ = fs::remove_file(self.rt, part.name.as_str());
             Err(FileFault::Io)
         }
     }

@@ -12,3 +12,4 @@ pub mod ShortBlocks
 pub mod Checks
 pub mod Following
 pub mod Listening
+pub mod Thinning

@@ -1,16 +1,17 @@
 //! The command `drop`.
-ghost use Rattle.std.specs.Prelude.{IfOk, IfErr};
+ghost use Rattle.std.specs.Prelude.{◌≡◌, IfOk, IfErr, OnErr};
 ghost use Rattle.tool.specs.Making.{IsDropped, IsNotDropped, Fails};
+ghost use Rattle.tool.specs.Thinning.{IsThinnedOut, IsNotThinnedOut};
 
 use crate::fault::Fault;
 use crate::folder::Folder;
-use crate::input::read_session;
+use crate::input::open;
 use crate::output::{create, give_up, keep};
 use crate::print::print_count;
-use session::{FrameFault, Write};
+use session::{FrameFault, Write, thin_frames};
 use std::alloc::Global;
 
-/// Writes the session without these places, and answers the status. The output is created once that session is there.
+/// Writes the session without these places, and answers the status. One datagram at a time is held.
 pub(crate) fn drop_places<'a, F: Folder, W: Write>(
     alloc: Global,
     folder: &mut F,
@@ -25,17 +26,37 @@ pub(crate) fn drop_places<'a, F: Folder, W: Write>(
         (F.files folder.old) (F.files folder.new) output.now
         (W.failed out.new) (W.contents out.old) (W.contents out.new)) }
 {
-    let session = read_session(alloc, folder, session)?;
-    let left = match session.without(alloc, places) {
-        Ok(left) => left,
-        Err(FrameFault::NoMemory) => return Err(Fault::Memory),
-        Err(fault) => return Err(Fault::Frame(fault)),
-    };
-    let mut file = create(folder, output)?;
-    match left.write(&mut file) {
-        Ok(()) => keep(folder, output, file)?,
-        Err(fault) => return Err(give_up(folder, file, Fault::Frame(fault))),
-    }
-    print_count(out, "kept", left.len(), " datagrams")?;
+    let kept = thin_out(alloc, folder, session, output, places)?;
+    print_count(out, "kept", kept, " datagrams")?;
     Ok(0)
+}
+
+// Makes the file of the session without these places, and answers how many datagrams it has.
+fn thin_out<'a, F: Folder>(
+    alloc: Global,
+    folder: &mut F,
+    session: &'a str,
+    output: &'a str,
+    places: &[usize],
+) -> Result<usize, Fault<'a>>
+    ensures made { IfOk result (IsThinnedOut (F.files folder.old) (F.files folder.new)
+        session.now output.now places.now) }
+    ensures fault { IfErr result (IsNotThinnedOut (F.files folder.old)
+        session.now output.now places.now) }
+    ensures stays { OnErr result (F.files folder.new ≡ F.files folder.old) }
+{
+    let mut frames = open(folder, session)?;
+    let mut file = create(folder, output)?;
+    match thin_frames(alloc, &mut frames, places, &mut file) {
+        Ok(kept) => {
+            keep(folder, output, file)?;
+            Ok(kept)
+        }
+        Err(FrameFault::NoMemory) => Err(give_up(folder, file, Fault::Memory)),
+        Err(FrameFault::Io) => Err(give_up(folder, file, Fault::Frame(FrameFault::Io))),
+        Err(fault) => {
+            folder.give_up(file);
+            Err(Fault::Frame(fault))
+        }
+    }
 }

@@ -1,0 +1,204 @@
+-- Frames that are copied but for those at some places, one more each.
+use Rattle.std.specs.Prelude.{Bool, true, false, ◌||◌, ◌==◌, cond, Option, Some, None, IfSome, slice_index_or}
+use Rattle.std.proofs.Common.{◌≡◌, ◌<◌, ◌≤◌, ◌+◌, ℕ, zero, suc, List, [], ◌∷◌, ◌++◌, length, length-append, take, get_or, refl, sym, ap, subst, ◌∙◌, inl, inr, arith}
+use Rattle.std.proofs.lemmas.List.{take_more, take_all, append-nil}
+use Rattle.std.proofs.lemmas.List.Folds.{list_any-append}
+use Rattle.std.specs.Io.KnownBytes.{Appends, Consumes, IsAtEnd}
+use Rattle.streams.specs.Pieces.{AppendsSome}
+use Rattle.streams.proofs.Fills.{then_consumes}
+use Rattle.streams.proofs.Writes.{then_appends, then_some}
+use Rattle.std.proofs.lemmas.Bool.{cases_order, eq-eqb, ne_eqb, le-ltb, lt-ltb}
+use Rattle.std.specs.Ordering.{nat_cmp, is_eq}
+use Rattle.std.specs.BTreeSet.{BTreeSet, contains}
+use Rattle.lists.specs.Selection.{rest, rest_from, is_among, first_outside}
+use Rattle.session.specs.Frames.{frame, frames, most_bytes, AreShort, IsNoFrame, StopsAt, IsReadFault}
+use Rattle.session.specs.declared.frame.FrameFault.{FrameFault}
+use Rattle.session.specs.declared.frame.FrameFault.TheVariants as fault
+use Rattle.session.specs.Thinning.{frames_left, IsReadUp, IsThinned, IsReadWithout, WritesSome, HasNoRoom, IsUnthinned}
+use Rattle.session.specs.ThinningSteps.{IsSetOf, HasCopied}
+use Rattle.session.proofs.Sessions.{frames_push}
+
+or_none : (a b : Bool) → (a || (b || false)) ≡ (b || a)
+or_none true true = refl
+or_none true false = refl
+or_none false true = refl
+or_none false false = refl
+
+-- one place more
+pub among_more : (places : List ℕ) (k i : ℕ) → k < length places → is_among (take (k + 1) places) i ≡ ((get_or places k 0 == i) || is_among (take k places) i)
+among_more places k i l =
+    ap (λ (ps : List ℕ). is_among ps i) (take_more places k 0 l)
+    ∙ list_any-append (λ p. p == i) (take k places) (get_or places k 0 ∷ [])
+    ∙ or_none (is_among (take k places) i) (get_or places k 0 == i)
+
+-- two numbers compare as equal where they are
+same_number : (x y : ℕ) → is_eq (nat_cmp x y) ≡ (x == y)
+same_number x y = elim (cases_order x y) [
+  | inl same ↦ (rw (le-ltb x y (omega (arith, same)), eq-eqb x y same) refl)
+  | inr (inl less) ↦ (rw (lt-ltb x y less, ne_eqb x y (λ e. omega (arith, e, less))) refl)
+  | inr (inr more) ↦ (rw (le-ltb x y (omega (arith, more)), ne_eqb x y (λ e. omega (arith, e, more))) refl)
+]
+
+or_is : (a b : Bool) → cond a true b ≡ (a || b)
+or_is true b = refl
+or_is false b = refl
+
+-- a set with one place more has one place more
+pub set_more : (places : List ℕ) (k : ℕ) (old new : BTreeSet ℕ) → k < length places → IsSetOf (take k places) old
+    → ((q : ℕ) → contains nat_cmp new q ≡ cond (is_eq (nat_cmp (get_or places k 0) q)) true (contains nat_cmp old q)) → IsSetOf (take (k + 1) places) new
+set_more places k old new l before adds i =
+    adds i ∙ or_is (is_eq (nat_cmp (get_or places k 0) i)) (contains nat_cmp old i)
+    ∙ rw (same_number (get_or places k 0) i, before i) (sym (among_more places k i l))
+
+left_suc : {X : Type 0} (lost : ℕ → Bool) (j : ℕ) (xs : List X) (x : X) → rest_from j lost (xs ++ x ∷ []) ≡ rest_from j lost xs ++ cond (lost (j + length xs)) [] (x ∷ [])
+left_suc lost j [] x =
+    let e : j ≡ j + 0 = omega arith in
+    ap (λ (n : ℕ). cond (lost n) [] (x ∷ [])) e
+left_suc {X = X} lost j (y ∷ ys) x =
+    let e : (j + 1) + length ys ≡ j + suc (length ys) = omega arith in
+    let more = left_suc lost (j + 1) ys x ∙ ap (λ (n : ℕ). rest_from (j + 1) lost ys ++ cond (lost n) [] (x ∷ [])) e in
+    elim (lost j) as (λ v. cond v (rest_from (j + 1) lost (ys ++ x ∷ [])) (y ∷ rest_from (j + 1) lost (ys ++ x ∷ []))
+    ≡ cond v (rest_from (j + 1) lost ys) (y ∷ rest_from (j + 1) lost ys) ++ cond (lost (j + suc (length ys))) [] (x ∷ [])) [
+      | true ↦ more
+      | false ↦ ap (λ (zs : List X). y ∷ zs) more
+    ]
+
+-- one more member, which is lost or not
+pub rest_push : {X : Type 0} (lost : ℕ → Bool) (xs : List X) (x : X) (n : ℕ) (v : Bool) → length xs ≡ n → lost n ≡ v → rest lost (xs ++ x ∷ []) ≡ rest lost xs ++ cond v [] (x ∷ [])
+rest_push {X = X} lost xs x n v many e =
+    let z : 0 + length xs ≡ n = omega (arith, many) in
+    left_suc lost 0 xs x ∙ ap (λ (k : ℕ). rest lost xs ++ cond {A = List X} (lost k) [] (x ∷ [])) z ∙ ap (λ (w : Bool). rest lost xs ++ cond {A = List X} w [] (x ∷ [])) e
+
+short_push : (ds : List (List ℕ)) (d : List ℕ) → AreShort ds → length d ≤ most_bytes → AreShort (ds ++ d ∷ [])
+short_push [] d each l zero = l
+short_push [] d each l (suc i) = omega arith
+short_push (x ∷ xs) d each l zero = each 0
+short_push (x ∷ xs) d each l (suc i) = short_push xs d (λ j. each (suc j)) l i
+
+stops : (e : FrameFault) (a mid : Option (List ℕ)) (ds : List (List ℕ)) → Consumes a mid (frames ds) → AreShort ds → IfSome mid (IsNoFrame e) → IfSome a (StopsAt e)
+stops e None mid ds c each h = tt
+stops e (Some x) None ds c each h = absurd c
+stops e (Some x) (Some y) ds c each h = record { datagrams = ds; front = frames ds; rest = y; framed = record { whole = refl; each = each }; whole = c; stops = h }
+
+nothing_consumed : (a : Option (List ℕ)) → Consumes a a []
+nothing_consumed None = tt
+nothing_consumed (Some x) = refl
+
+nothing_appended : (b : Option (List ℕ)) → Appends b b []
+nothing_appended None = tt
+nothing_appended (Some x) = sym (append-nil x)
+
+-- before the first
+pub begins : (places : List ℕ) (a b : Option (List ℕ)) (room : ℕ) → HasCopied places a a b b room room 0 0
+begins places a b room = record {
+  datagrams = [];
+  consumed = nothing_consumed a;
+  each = λ i. omega arith;
+  many = refl;
+  gained = nothing_appended b;
+  left = refl;
+  fits = omega arith;
+}
+
+module _ (places : List ℕ) (a mid b m : Option (List ℕ)) (room room_now n k : ℕ) (h : HasCopied places a mid b m room room_now n k) where
+  -- no more was read
+  pub unread : (e : FrameFault) (sound : Bool) (new : Option (List ℕ)) (failed writer_failed : Bool) → IsReadFault e mid new failed → (e ≡ fault.Io → sound ≡ false)
+      → IsUnthinned e places sound a new failed room writer_failed
+  unread fault.CutLength sound new failed writer_failed r io = stops fault.CutLength a mid h.datagrams h.consumed h.each r.0
+  unread fault.CutDatagram sound new failed writer_failed r io = stops fault.CutDatagram a mid h.datagrams h.consumed h.each r.0
+  unread fault.TooLong sound new failed writer_failed r io = stops fault.TooLong a mid h.datagrams h.consumed h.each r.0
+  unread fault.Io sound new failed writer_failed r io = inl (io refl, r)
+  unread fault.NoMemory sound new failed writer_failed r io = tt
+  unread (fault.NoSuchPlace p) sound new failed writer_failed r io = absurd r
+
+  -- what was written until then
+  pub some : WritesSome places a b m
+  some =
+      let left = frames_left places h.datagrams in
+      (h.datagrams, mid, h.consumed, (length left, subst (λ (x : List ℕ). Appends b m x) (sym (take_all (length left) left (omega arith))) h.gained))
+
+  -- the reader has ended
+  read_up : IsAtEnd mid → IsReadUp a mid h.datagrams
+  read_up over = record { consumed = h.consumed; each = h.each; end = over }
+
+  pub thinned : IsAtEnd mid → first_outside n places ≡ None → IsThinned places a mid b m k
+  thinned over inside = record {
+    datagrams = h.datagrams;
+    read = read_up over;
+    inside = ap (λ (l : ℕ). first_outside l places) h.many ∙ inside;
+    written = h.gained;
+    counted = sym h.left;
+  }
+
+  pub without : (place : ℕ) → IsAtEnd mid → first_outside n places ≡ Some place → IsReadWithout places a mid place
+  without place over outside = (h.datagrams, read_up over, ap (λ (l : ℕ). first_outside l places) h.many ∙ outside)
+
+  -- nothing more was there
+  pub at_end : (next : Option (List ℕ)) → Consumes mid next [] → HasCopied places a next b m room room_now n k
+  at_end next none = record {
+    datagrams = h.datagrams;
+    consumed = subst (λ (x : List ℕ). Consumes a next x) (append-nil (frames h.datagrams)) (then_consumes a mid next (frames h.datagrams) [] h.consumed none);
+    each = h.each;
+    many = h.many;
+    gained = h.gained;
+    left = h.left;
+    fits = h.fits;
+  }
+
+  -- one more was read
+  module _ (next : Option (List ℕ)) (d : List ℕ) (one : Consumes mid next (frame d)) where
+    abbrev more : List (List ℕ)
+    more = h.datagrams ++ d ∷ []
+
+    read_on : Consumes a next (frames more)
+    read_on = subst (λ (x : List ℕ). Consumes a next x) (sym (frames_push h.datagrams d)) (then_consumes a mid next (frames h.datagrams) (frame d) h.consumed one)
+
+    counted : length more ≡ n + 1
+    counted = let l = length-append h.datagrams (d ∷ []) in omega (arith, l, h.many)
+
+    -- and passed over
+    module _ (lost : is_among places n ≡ true) where
+      same_left : rest (is_among places) more ≡ rest (is_among places) h.datagrams
+      same_left = rest_push (is_among places) h.datagrams d n true h.many lost ∙ append-nil (rest (is_among places) h.datagrams)
+
+      pub passed_over : (up : ℕ) → n + 1 ≡ up → length d ≤ most_bytes → HasCopied places a next b m room room_now up k
+      passed_over up is short = record {
+        datagrams = more;
+        consumed = read_on;
+        each = short_push h.datagrams d h.each short;
+        many = counted ∙ is;
+        gained = subst (λ (xs : List (List ℕ)). Appends b m (frames xs)) (sym same_left) h.gained;
+        left = ap (λ (xs : List (List ℕ)). length xs) same_left ∙ h.left;
+        fits = subst (λ (xs : List (List ℕ)). room ≤ room_now + length (frames xs)) (sym same_left) h.fits;
+      }
+
+    -- and is to be written
+    module _ (stays : is_among places n ≡ false) where
+      one_left : rest (is_among places) more ≡ rest (is_among places) h.datagrams ++ d ∷ []
+      one_left = rest_push (is_among places) h.datagrams d n false h.many stays
+
+      bytes_left : frames_left places more ≡ frames_left places h.datagrams ++ frame d
+      bytes_left = ap frames one_left ∙ frames_push (rest (is_among places) h.datagrams) d
+
+      size_left : length (frames_left places more) ≡ length (frames_left places h.datagrams) + length (frame d)
+      size_left = ap (λ (x : List ℕ). length x) bytes_left ∙ length-append (frames_left places h.datagrams) (frame d)
+
+      pub written : (m2 : Option (List ℕ)) (room2 up : ℕ) → n + 1 ≡ up → length d ≤ most_bytes → Appends m m2 (frame d) → room_now ≤ room2 + length (frame d)
+          → HasCopied places a next b m2 room room2 up (k + 1)
+      written m2 room2 up is short gains fills = record {
+        datagrams = more;
+        consumed = read_on;
+        each = short_push h.datagrams d h.each short;
+        many = counted ∙ is;
+        gained = subst (λ (x : List ℕ). Appends b m2 x) (sym bytes_left) (then_appends b m m2 (frames_left places h.datagrams) (frame d) h.gained gains);
+        left = ap (λ (xs : List (List ℕ)). length xs) one_left ∙ (let l = length-append (rest (is_among places) h.datagrams) (d ∷ []) in omega (arith, l, h.left));
+        fits = omega (arith, size_left, fills, h.fits);
+      }
+
+      -- a beginning of it was
+      pub unwritten : (m2 : Option (List ℕ)) → AppendsSome m m2 (frame d) → WritesSome places a b m2
+      unwritten m2 begun =
+          (more, next, read_on, subst (λ (x : List ℕ). AppendsSome b m2 x) (sym bytes_left) (then_some b m m2 (frames_left places h.datagrams) (frame d) h.gained begun))
+
+      pub no_room : room_now < length (frame d) → HasNoRoom places a room
+      no_room full = (more, next, read_on, omega (arith, size_left, full, h.fits))
