@@ -10,6 +10,8 @@ mod decode_tests;
 #[cfg(test)]
 mod follow_tests;
 #[cfg(test)]
+mod join_tests;
+#[cfg(test)]
 mod line_tests;
 #[cfg(test)]
 mod loss_tests;

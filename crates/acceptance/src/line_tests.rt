@@ -19,6 +19,10 @@ fn refused_lines(rt: HostRuntime) -> Result<(), Fail> {
         &["alcrs", "show", "s", "t"],
         &["alcrs", "drop", "s", "t"],
         &["alcrs", "drop", "s", "t", "4294967296"],
+        &["alcrs", "join"],
+        &["alcrs", "join", "s", "--turns"],
+        &["alcrs", "join", "s", "t", "--turns=true"],
+        &["alcrs", "join", "s", "t", "--turns", "--turns"],
     ] {
         let refused = answer(alloc, words, &[])?;
         assert_eq!(rt; refused.status, 2);

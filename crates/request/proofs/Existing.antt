@@ -16,16 +16,16 @@ use Rattle.clap.specs.Takes.{is_given, value_passes}
 use Rattle.clap.specs.Values.{read_as, same_text}
 use Rattle.clap.proofs.OnLiterals.{clap_on_literals}
 use Rattle.clap.proofs.ValueTestLemmas.{accepts-Accepts}
-use Rattle.clap.specs.declared.builder.value_parser.ValueParser.TheVariants.{Names, Unsigned}
+use Rattle.clap.specs.declared.builder.value_parser.ValueParser.TheVariants.{Bool as Flag, Names, Unsigned}
 use Rattle.clap.specs.declared.builder.value_parser.Reading.TheVariants.{AsWritten}
 use Rattle.partition.specs.declared.order.Order.{Order}
 use Rattle.partition.specs.declared.order.Order.TheVariants.{Blocks, Rounds}
 use Rattle.request.specs.Grammar.{IsOrders, grammar_of}
-use Rattle.request.specs.Requests.{AreNumbers, Asked, HasNumber, HasOrder, HasPlaces, HasSizes, HasValues, IsNumber, IsRead, name_of}
-use Rattle.request.specs.Requests.{CertifyAsked, CheckAsked, DecodeAsked, DropAsked, EncodeAsked, FollowAsked, ShowAsked, TwinAsked}
+use Rattle.request.specs.Requests.{AreNumbers, Asked, HasNumber, HasOrder, HasPlaces, HasSessions, HasSizes, HasTurns, HasValues, IsNumber, IsRead, name_of}
+use Rattle.request.specs.Requests.{CertifyAsked, CheckAsked, DecodeAsked, DropAsked, EncodeAsked, FollowAsked, JoinAsked, ShowAsked, TwinAsked}
 use Rattle.request.specs.declared.requests.Sizes.{Sizes}
 use Rattle.request.specs.declared.requests.Sending.{Sending}
-use Rattle.request.proofs.Walks.{Each, found_each, both_none, checks_pass, HasValue, IsOwn, IsPassed, option_value, given_row, right_level, text_value}
+use Rattle.request.proofs.Walks.{Each, found_each, both_none, checks_pass, HasValue, IsOwn, IsPassed, flag_value, option_value, given_row, right_level, text_value}
 
 abbrev number : Text → ℕ
 number text = digits_value 10 (without_leading_plus text)
@@ -95,9 +95,32 @@ has_places a low high rows r parser small one found passed = (
     texts = r.values;
     given = rw found (rw (passed.reading, parser) (ap Some (as_written r.values)));
     numbers = are_numbers a low high r.values parser small passed.accepted;
-    some = some_numbers r.values (passed.some (omega (arith, one)));
+    some = some_numbers r.values (passed.some (inl (omega (arith, one))));
   },
 )
+
+-- the texts of an argument that takes one or more
+has_sessions : (a : Rule) (rows : List Row) (r : Row) → (unwrap_or_range a.range).start_inclusive ≡ 1
+    → find (λ r. bytes_eq r.id (codes "SESSION")) rows ≡ Some r → IsPassed a r → (sessions : List Text) × HasSessions rows sessions
+has_sessions a rows r one found passed = (
+  r.values,
+  record { given = rw found refl; some = passed.some (inl (omega (arith, one))) },
+)
+
+-- a value that passes a parser of flags is one of its two words
+has_turns : (a : Rule) (rows : List Row) → a.parser ≡ Some Flag → HasValue a (codes "turns") rows → (turns : Bool) × HasTurns rows turns
+has_turns a rows parser has = first (bytes_eq has.value (codes "true")) refl
+  where
+    among : (bytes_eq has.value (codes "true") || bytes_eq has.value (codes "false")) ≡ true
+    among = rw parser at has.passes
+
+    second : (b : Bool) → bytes_eq has.value (codes "false") ≡ b → bytes_eq has.value (codes "true") ≡ false → (turns : Bool) × HasTurns rows turns
+    second true e unlike = (false, has.first ∙ ap Some ((bytes_eq-Decides has.value (codes "false")).0 e))
+    second false e unlike = let bad : false ≡ true = rw (unlike, e) at among in cc
+
+    first : (b : Bool) → bytes_eq has.value (codes "true") ≡ b → (turns : Bool) × HasTurns rows turns
+    first true e = (true, has.first ∙ ap Some ((bytes_eq-Decides has.value (codes "true")).0 e))
+    first false e = second (bytes_eq has.value (codes "false")) refl e
 
 -- ---- each command's words give its values
 
@@ -112,7 +135,7 @@ fine_encode : (orders : Bor (List (Bor Text))) → IsOrders orders → IsFine (s
 unfolding clap_on_literals
 fine_encode orders are words none =
     let s = shape_at 0 orders in
-    let each : Each (IsOwn s.rules) s.rules = (record { first = refl; action = inl refl }, (record { first = refl; action = inl refl }, (record { first = refl; action = inl refl }, (record { first = refl; action = inl refl }, (record { first = refl; action = inl refl }, (record { first = refl; action = inl refl }, (record { first = refl; action = inl refl }, (record { first = refl; action = inl refl }, (record { first = refl; action = inr (inr refl) }, tt))))))))) in
+    let each : Each (IsOwn s.rules) s.rules = (record { first = refl; action = inl refl }, (record { first = refl; action = inl refl }, (record { first = refl; action = inl refl }, (record { first = refl; action = inl refl }, (record { first = refl; action = inl refl }, (record { first = refl; action = inl refl }, (record { first = refl; action = inl refl }, (record { first = refl; action = inl refl }, (record { first = refl; action = inr (inr (inl refl)) }, tt))))))))) in
     let right = right_level s words each none in
     let object = text_value s words _ (codes "OBJECT") right refl refl refl in
     let output = text_value s words _ (codes "OUT") right refl refl refl in
@@ -131,7 +154,7 @@ fine_certify : (orders : Bor (List (Bor Text))) → IsOrders orders → IsFine (
 unfolding clap_on_literals
 fine_certify orders are words none =
     let s = shape_at 1 orders in
-    let each : Each (IsOwn s.rules) s.rules = (record { first = refl; action = inl refl }, (record { first = refl; action = inl refl }, (record { first = refl; action = inl refl }, (record { first = refl; action = inl refl }, (record { first = refl; action = inl refl }, (record { first = refl; action = inr (inr refl) }, tt)))))) in
+    let each : Each (IsOwn s.rules) s.rules = (record { first = refl; action = inl refl }, (record { first = refl; action = inl refl }, (record { first = refl; action = inl refl }, (record { first = refl; action = inl refl }, (record { first = refl; action = inl refl }, (record { first = refl; action = inr (inr (inl refl)) }, tt)))))) in
     let right = right_level s words each none in
     let object = text_value s words _ (codes "OBJECT") right refl refl refl in
     let output = text_value s words _ (codes "OUT") right refl refl refl in
@@ -146,7 +169,7 @@ fine_check : (orders : Bor (List (Bor Text))) → IsOrders orders → IsFine (sh
 unfolding clap_on_literals
 fine_check orders are words none =
     let s = shape_at 2 orders in
-    let each : Each (IsOwn s.rules) s.rules = (record { first = refl; action = inl refl }, (record { first = refl; action = inl refl }, (record { first = refl; action = inl refl }, (record { first = refl; action = inr (inr refl) }, tt)))) in
+    let each : Each (IsOwn s.rules) s.rules = (record { first = refl; action = inl refl }, (record { first = refl; action = inl refl }, (record { first = refl; action = inl refl }, (record { first = refl; action = inr (inr (inl refl)) }, tt)))) in
     let right = right_level s words each none in
     let session = text_value s words _ (codes "SESSION") right refl refl refl in
     let object = text_value s words _ (codes "OBJECT") right refl refl refl in
@@ -157,7 +180,7 @@ fine_drop : (orders : Bor (List (Bor Text))) → IsOrders orders → IsFine (sha
 unfolding clap_on_literals
 fine_drop orders are words none =
     let s = shape_at 3 orders in
-    let each : Each (IsOwn s.rules) s.rules = (record { first = refl; action = inl refl }, (record { first = refl; action = inl refl }, (record { first = refl; action = inr (inl refl) }, (record { first = refl; action = inr (inr refl) }, tt)))) in
+    let each : Each (IsOwn s.rules) s.rules = (record { first = refl; action = inl refl }, (record { first = refl; action = inl refl }, (record { first = refl; action = inr (inl refl) }, (record { first = refl; action = inr (inr (inl refl)) }, tt)))) in
     let right = right_level s words each none in
     let session = text_value s words _ (codes "SESSION") right refl refl refl in
     let output = text_value s words _ (codes "OUT") right refl refl refl in
@@ -165,31 +188,43 @@ fine_drop orders are words none =
     let places = has_places _ 0 4294967295 (rows_after s.rules [] words) row.0 refl (omega arith) refl row.1 row.2 in
     (DropAsked session.value output.value places.0, refl, (session.first, output.first, places.1))
 
-fine_decode : (orders : Bor (List (Bor Text))) → IsOrders orders → IsFine (shape_at 4 orders)
+fine_join : (orders : Bor (List (Bor Text))) → IsOrders orders → IsFine (shape_at 4 orders)
+unfolding clap_on_literals
+fine_join orders are words none =
+    let s = shape_at 4 orders in
+    let each : Each (IsOwn s.rules) s.rules = (record { first = refl; action = inl refl }, (record { first = refl; action = inr (inl refl) }, (record { first = refl; action = inr (inr (inr refl)) }, (record { first = refl; action = inr (inr (inl refl)) }, tt)))) in
+    let right = right_level s words each none in
+    let output = text_value s words _ (codes "OUT") right refl refl refl in
+    let row = given_row s words _ (codes "SESSION") right refl refl in
+    let sessions = has_sessions _ (rows_after s.rules [] words) row.0 refl row.1 row.2 in
+    let turns = has_turns _ (rows_after s.rules [] words) refl (flag_value s words _ (codes "turns") _ _ right refl refl (omega arith)) in
+    (JoinAsked output.value sessions.0 turns.0, refl, (output.first, sessions.1, turns.1))
+
+fine_decode : (orders : Bor (List (Bor Text))) → IsOrders orders → IsFine (shape_at 5 orders)
 unfolding clap_on_literals
 fine_decode orders are words none =
-    let s = shape_at 4 orders in
-    let each : Each (IsOwn s.rules) s.rules = (record { first = refl; action = inl refl }, (record { first = refl; action = inl refl }, (record { first = refl; action = inr (inr refl) }, tt))) in
+    let s = shape_at 5 orders in
+    let each : Each (IsOwn s.rules) s.rules = (record { first = refl; action = inl refl }, (record { first = refl; action = inl refl }, (record { first = refl; action = inr (inr (inl refl)) }, tt))) in
     let right = right_level s words each none in
     let session = text_value s words _ (codes "SESSION") right refl refl refl in
     let output = text_value s words _ (codes "OUT") right refl refl refl in
     (DecodeAsked session.value output.value, refl, (session.first, output.first))
 
-fine_follow : (orders : Bor (List (Bor Text))) → IsOrders orders → IsFine (shape_at 5 orders)
+fine_follow : (orders : Bor (List (Bor Text))) → IsOrders orders → IsFine (shape_at 6 orders)
 unfolding clap_on_literals
 fine_follow orders are words none =
-    let s = shape_at 5 orders in
-    let each : Each (IsOwn s.rules) s.rules = (record { first = refl; action = inl refl }, (record { first = refl; action = inl refl }, (record { first = refl; action = inr (inr refl) }, tt))) in
+    let s = shape_at 6 orders in
+    let each : Each (IsOwn s.rules) s.rules = (record { first = refl; action = inl refl }, (record { first = refl; action = inl refl }, (record { first = refl; action = inr (inr (inl refl)) }, tt))) in
     let right = right_level s words each none in
     let session = text_value s words _ (codes "SESSION") right refl refl refl in
     let output = text_value s words _ (codes "OUT") right refl refl refl in
     (FollowAsked session.value output.value, refl, (session.first, output.first))
 
-fine_twin : (orders : Bor (List (Bor Text))) → IsOrders orders → IsFine (shape_at 6 orders)
+fine_twin : (orders : Bor (List (Bor Text))) → IsOrders orders → IsFine (shape_at 7 orders)
 unfolding clap_on_literals
 fine_twin orders are words none =
-    let s = shape_at 6 orders in
-    let each : Each (IsOwn s.rules) s.rules = (record { first = refl; action = inl refl }, (record { first = refl; action = inl refl }, (record { first = refl; action = inl refl }, (record { first = refl; action = inl refl }, (record { first = refl; action = inr (inr refl) }, tt))))) in
+    let s = shape_at 7 orders in
+    let each : Each (IsOwn s.rules) s.rules = (record { first = refl; action = inl refl }, (record { first = refl; action = inl refl }, (record { first = refl; action = inl refl }, (record { first = refl; action = inl refl }, (record { first = refl; action = inr (inr (inl refl)) }, tt))))) in
     let right = right_level s words each none in
     let session = text_value s words _ (codes "SESSION") right refl refl refl in
     let object = text_value s words _ (codes "OBJECT") right refl refl refl in
@@ -197,11 +232,11 @@ fine_twin orders are words none =
     let output = text_value s words _ (codes "OUT") right refl refl refl in
     (TwinAsked session.value object.value certificate.value output.value, refl, (session.first, object.first, certificate.first, output.first))
 
-fine_show : (orders : Bor (List (Bor Text))) → IsOrders orders → IsFine (shape_at 7 orders)
+fine_show : (orders : Bor (List (Bor Text))) → IsOrders orders → IsFine (shape_at 8 orders)
 unfolding clap_on_literals
 fine_show orders are words none =
-    let s = shape_at 7 orders in
-    let each : Each (IsOwn s.rules) s.rules = (record { first = refl; action = inl refl }, (record { first = refl; action = inr (inr refl) }, tt)) in
+    let s = shape_at 8 orders in
+    let each : Each (IsOwn s.rules) s.rules = (record { first = refl; action = inl refl }, (record { first = refl; action = inr (inr (inl refl)) }, tt)) in
     let right = right_level s words each none in
     let session = text_value s words _ (codes "SESSION") right refl refl refl in
     (ShowAsked session.value, refl, session.first)
@@ -222,8 +257,11 @@ each_fine orders are = (
       (
         inr (fine_drop orders are),
         (
-          inr (fine_decode orders are),
-          (inr (fine_follow orders are), (inr (fine_twin orders are), (inr (fine_show orders are), (inl refl, tt)))),
+          inr (fine_join orders are),
+          (
+            inr (fine_decode orders are),
+            (inr (fine_follow orders are), (inr (fine_twin orders are), (inr (fine_show orders are), (inl refl, tt)))),
+          ),
         ),
       ),
     ),

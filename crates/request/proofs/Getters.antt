@@ -1,16 +1,17 @@
 -- What the getters of matches give, by rows.
-use Rattle.std.proofs.Common.{List, ◌≡◌, ◌∙◌, Option, Some, None, Result, Ok, Err, IfOk, IfErr, IsErrAnd, option_map, codes, true, false, ap, refl, sym, subst}
+use Rattle.std.proofs.Common.{Bool, List, ◌≡◌, ◌∙◌, ◌<◌, ◌⊎◌, inl, inr, length, map, arith, Option, Some, None, Result, Ok, Err, IfOk, IfErr, IsErrAnd, option_map, codes, true, false, ap, refl, sym, subst}
 use Rattle.std.specs.Borrow.{Bor}
 use Rattle.std.specs.Option.{ok_or, unwrap_or}
 use Rattle.std.specs.Str.{bytes_eq}
+use Rattle.std.proofs.lemmas.List.{length-map}
 use Rattle.std.proofs.lemmas.Slice.Eq.{bytes_eq-Decides}
-use Rattle.clap.specs.Words.{Row, Text, matched_of, typed_values, first_of, first_value, one_of, one_text, rows_of}
-use Rattle.clap.specs.Matches.{ReadsOne, values_left}
+use Rattle.clap.specs.Words.{Row, Text, all_of, matched_of, typed_values, first_of, first_value, one_of, one_text, rows_of}
+use Rattle.clap.specs.Matches.{ReadsOne, raw_values, values_left}
 use Rattle.clap.specs.declared.parser.matches.ValuesRef.{ValuesRef}
 use Rattle.clap.specs.declared.parser.matches.Found.{Found}
-use Rattle.clap.proofs.WalkLemmas.{first_value-rows, one_text-rows, typed_values-rows}
-use Rattle.request.specs.Requests.{Asked, EncodeAsked, CertifyAsked, CheckAsked, DropAsked, DecodeAsked, FollowAsked, TwinAsked, ShowAsked, HasOrder, HasPlaces, HasSending, HasSizes, HasText, HasValues, IsRead, name_of, order_name}
-use Rattle.request.specs.RequestReading.{AnswersRead, Gives, GivesNone, IsNoPlaces, NoneIs}
+use Rattle.clap.proofs.WalkLemmas.{first_value-rows, one_text-rows, raw_values-rows, typed_values-rows}
+use Rattle.request.specs.Requests.{Asked, EncodeAsked, CertifyAsked, CheckAsked, DropAsked, JoinAsked, DecodeAsked, FollowAsked, TwinAsked, ShowAsked, HasOrder, HasPlaces, HasSending, HasSessions, HasSizes, HasText, HasTurns, HasValues, IsRead, flag_word, name_of, order_name}
+use Rattle.request.specs.RequestReading.{AnswersRead, Gives, GivesNone, IsNoPlaces, IsNoSessions, NoneIs}
 use Rattle.request.specs.declared.requests.Request.{Request}
 use Rattle.request.specs.declared.usage.Usage.{Usage}
 use Rattle.request.specs.declared.usage.Usage.TheVariants.{Help, Line, Value, NoMemory}
@@ -56,6 +57,10 @@ module _ {N E : Type 0} (gives : Text → Result N E → Type 0) where
 pub no_order : (rows : List Row) → first_of (codes "order") rows ≡ None → NoneIs (HasOrder rows)
 no_order rows none order has = let bad : None ≡ Some (order_name order) = sym none ∙ has in cc
 
+-- the same of a flag
+pub no_turns : (rows : List Row) → first_of (codes "turns") rows ≡ None → NoneIs (HasTurns rows)
+no_turns rows none turns has = let bad : None ≡ Some (flag_word turns) = sym none ∙ has in cc
+
 -- with no sizes there is nothing to send
 pub no_sending : (rows : List Row) → NoneIs (HasSizes rows) → NoneIs (HasSending rows)
 no_sending rows none sending has = none sending.sizes has.sizes
@@ -79,6 +84,7 @@ no_encode rows none request read = go request (same_command (codes "encode") row
     go (CertifyAsked object output sizes) same values = different (codes "encode") (codes "certify") refl same
     go (CheckAsked session object certificate) same values = different (codes "encode") (codes "check") refl same
     go (DropAsked session output places) same values = different (codes "encode") (codes "drop") refl same
+    go (JoinAsked output sessions turns) same values = different (codes "encode") (codes "join") refl same
     go (DecodeAsked session output) same values = different (codes "encode") (codes "decode") refl same
     go (FollowAsked session output) same values = different (codes "encode") (codes "follow") refl same
     go (TwinAsked session object certificate output) same values = different (codes "encode") (codes "twin") refl same
@@ -92,6 +98,7 @@ no_certify rows none request read = go request (same_command (codes "certify") r
     go (CertifyAsked object output sizes) same values = none sizes values.2
     go (CheckAsked session object certificate) same values = different (codes "certify") (codes "check") refl same
     go (DropAsked session output places) same values = different (codes "certify") (codes "drop") refl same
+    go (JoinAsked output sessions turns) same values = different (codes "certify") (codes "join") refl same
     go (DecodeAsked session output) same values = different (codes "certify") (codes "decode") refl same
     go (FollowAsked session output) same values = different (codes "certify") (codes "follow") refl same
     go (TwinAsked session object certificate output) same values = different (codes "certify") (codes "twin") refl same
@@ -105,10 +112,32 @@ no_drop rows none request read = go request (same_command (codes "drop") rows re
     go (CertifyAsked object output sizes) same values = different (codes "drop") (codes "certify") refl same
     go (CheckAsked session object certificate) same values = different (codes "drop") (codes "check") refl same
     go (DropAsked session output places) same values = none places values.2
+    go (JoinAsked output sessions turns) same values = different (codes "drop") (codes "join") refl same
     go (DecodeAsked session output) same values = different (codes "drop") (codes "decode") refl same
     go (FollowAsked session output) same values = different (codes "drop") (codes "follow") refl same
     go (TwinAsked session object certificate output) same values = different (codes "drop") (codes "twin") refl same
     go (ShowAsked session) same values = different (codes "drop") (codes "show") refl same
+
+module _ (rows : List Row) (none : (NoneIs (HasSessions rows)) ⊎ NoneIs (HasTurns rows)) where
+  pub no_join : NoneIs (IsRead (Some (codes "join", rows)))
+  no_join request read = go request (same_command (codes "join") rows request read).0 (same_command (codes "join") rows request read).1
+    where
+      lacks : (sessions : List Text) (turns : Bool) → HasSessions rows sessions → HasTurns rows turns → ⊥
+      lacks sessions turns has given = elim none [
+        | inl lacking ↦ lacking sessions has
+        | inr lacking ↦ lacking turns given
+      ]
+
+      go : (request : Asked) → codes "join" ≡ name_of request → HasValues rows request → ⊥
+      go (EncodeAsked object output sending) same values = different (codes "join") (codes "encode") refl same
+      go (CertifyAsked object output sizes) same values = different (codes "join") (codes "certify") refl same
+      go (CheckAsked session object certificate) same values = different (codes "join") (codes "check") refl same
+      go (DropAsked session output places) same values = different (codes "join") (codes "drop") refl same
+      go (JoinAsked output sessions turns) same values = lacks sessions turns values.1 values.2
+      go (DecodeAsked session output) same values = different (codes "join") (codes "decode") refl same
+      go (FollowAsked session output) same values = different (codes "join") (codes "follow") refl same
+      go (TwinAsked session object certificate output) same values = different (codes "join") (codes "twin") refl same
+      go (ShowAsked session) same values = different (codes "join") (codes "show") refl same
 
 -- with no values of PLACE there are no places
 pub no_places : {N : Type 0} (f : Found) (given : Option (ValuesRef N)) → given ≡ None
@@ -133,3 +162,39 @@ refuses_drop rows (Err e) usage is none = subst (λ u. AnswersRead (Some (codes 
     go NoMemory none = tt
     go (Help told) none = none
     go (Line told) none = none
+
+pub refuses_join : (rows : List Row) (result : Result Request Usage) (usage : Usage)
+    → IsErrAnd result (λ e. e ≡ usage) → IsNoSessions rows usage → AnswersRead (Some (codes "join", rows)) result
+refuses_join rows (Ok request) usage is none = absurd is
+refuses_join rows (Err e) usage is none = subst (λ u. AnswersRead (Some (codes "join", rows)) (Err u)) (sym is) (go usage none)
+  where
+    go : (u : Usage) → IsNoSessions rows u → AnswersRead (Some (codes "join", rows)) (Err u)
+    go Value none = no_join rows (inl none)
+    go NoMemory none = tt
+    go (Help told) none = none
+    go (Line told) none = none
+
+-- ---- sessions
+
+-- with no values of SESSION, or an empty list of them, there are none
+pub no_sessions : (f : Found) (given : Option (Bor (List (Bor Text)))) → given ≡ None
+    → option_map (λ s. map (λ v. v.now) s.now) given ≡ option_map raw_values (matched_of f (codes "SESSION")) → NoneIs (HasSessions (rows_of f))
+no_sessions f given none is sessions has =
+    let left : None ≡ Some sessions = rw none at is ∙ raw_values-rows f (codes "SESSION") ∙ has.given in cc
+
+module _ (f : Found) (given : Option (Bor (List (Bor Text)))) (texts : Bor (List (Bor Text))) (some : given ≡ Some texts)
+    (is : option_map (λ s. map (λ v. v.now) s.now) given ≡ option_map raw_values (matched_of f (codes "SESSION"))) where
+  all_given : all_of (codes "SESSION") (rows_of f) ≡ Some (map (λ v. v.now) texts.now)
+  all_given = sym (rw some at is ∙ raw_values-rows f (codes "SESSION"))
+
+  pub has_sessions : 0 < length texts.now → HasSessions (rows_of f) (map (λ v. v.now) texts.now)
+  has_sessions lt = record { given = all_given; some = let l = length-map texts.now (λ v. v.now) in omega (arith, l, lt) }
+
+  pub none_given : length texts.now ≡ 0 → NoneIs (HasSessions (rows_of f))
+  none_given empty sessions has =
+      let same : Some (map (λ v. v.now) texts.now) ≡ Some sessions = sym all_given ∙ has.given in
+      let lists : map (λ v. v.now) texts.now ≡ sessions = ap (λ o. unwrap_or o sessions) same in
+      let l = length-map texts.now (λ v. v.now) in
+      let size = ap length lists in
+      let lt = has.some in
+      absurd (omega (arith, l, size, lt, empty))

@@ -18,11 +18,15 @@ use Rattle.clap.specs.declared.parser.matches.ValueSource.TheVariants.{CommandLi
 use Rattle.std.proofs.lemmas.Slice.Eq.{bytes_eq-Decides}
 use Rattle.std.proofs.lemmas.Bool.{ne_eqb}
 use Rattle.std.specs.Option.{option_map_or}
-use Rattle.clap.specs.declared.builder.action.ArgAction.TheVariants.{Set, Append, Help}
+use Rattle.clap.specs.declared.builder.action.ArgAction.TheVariants.{Set, SetTrue, Append, Help}
+
+-- an argument that has a value once it is used: it takes one, or has one that stands for none
+abbrev pub IsValued : Rule → Type 0
+IsValued a = (0 < (unwrap_or_range a.range).start_inclusive) ⊎ (0 < length a.missing)
 
 -- what a use without a fault leaves of an argument
 pub record IsPassed (a : Rule) (row : Row) : Type 0 where
-  pub some : 0 < (unwrap_or_range a.range).start_inclusive → 0 < length row.values
+  pub some : IsValued a → 0 < length row.values
   pub accepted : list_all (value_passes a) row.values ≡ true
   pub reading : row.reading ≡ reading_by a
 
@@ -78,13 +82,13 @@ some_values least most zero none lt =
     let bad = rw yes at none in cc
 some_values least most (suc n) none lt = omega arith
 
--- an argument of the command, the first of its id, which takes values or asks for help
+-- an argument of the command, the first of its id, which takes values, is a flag or asks for help
 pub record IsOwn (c : List Rule) (a : Rule) : Type 0 where
   pub first : arg_by_id c a.id ≡ Some a
-  pub action : (action_of a ≡ Set) ⊎ ((action_of a ≡ Append) ⊎ (action_of a ≡ Help))
+  pub action : (action_of a ≡ Set) ⊎ ((action_of a ≡ Append) ⊎ ((action_of a ≡ Help) ⊎ (action_of a ≡ SetTrue)))
 
 good_values : (c : List Rule) (a : Rule) (values : List Text) (source : ValueSource) (rows : List Row) → IsOwn c a → Good c rows
-    → (0 < (unwrap_or_range a.range).start_inclusive → 0 < length values) → list_all (value_passes a) values ≡ true
+    → (IsValued a → 0 < length values) → list_all (value_passes a) values ≡ true
     → Good c (with_values a.id (reading_by a) source values rows)
 good_values c a values source rows own good some accepted =
     good_at c a.id (more_values source values) _ rows good ((λ b found. passed b (bytes_same found)), tt) (λ row same passes. ((λ b found. more row same (passes b found) found), tt))
@@ -100,7 +104,7 @@ good_values c a values source rows own good some accepted =
     more {b} row same old found =
         let b_is : a ≡ b = bytes_same (subst (λ id. arg_by_id c id ≡ Some b) ((bytes_eq-Decides row.id a.id).0 same) found) in
         record {
-          some = λ lt. simp length-append (omega (arith, old.some lt));
+          some = λ valued. (let old_some = old.some valued in simp length-append (omega (arith, old_some)));
           accepted = all_append (value_passes b) row.values values old.accepted (subst (λ r. list_all (value_passes r) values ≡ true) b_is accepted);
           reading = old.reading;
         }
@@ -109,16 +113,22 @@ or_missing : (a : Rule) (values : List Text) → 0 < length values → 0 < lengt
 or_missing a [] lt = absurd (omega arith)
 or_missing a (v ∷ vs) lt = lt
 
+missing_or : (a : Rule) (values : List Text) → 0 < length a.missing → 0 < length (values_or_missing a values)
+missing_or a [] lt = lt
+missing_or a (v ∷ vs) lt = omega arith
+
 -- a use that gives no fault
 good_used : (c : List Rule) (again : Bool) (a : Rule) (values : List Text) (rows : List Row) → IsOwn c a → Good c rows
     → use_fault again a values rows ≡ [] → Good c (used a values rows)
 good_used c again a values rows own good none =
     let parts = both_none (range_kinds (unwrap_or_range a.range).start_inclusive (most_values a) (length values)) (action_fault (action_of a) again a (values_or_missing a values) rows) none in
-    let some : 0 < (unwrap_or_range a.range).start_inclusive → 0 < length (values_or_missing a values) =
-    λ lt. or_missing a values (some_values (unwrap_or_range a.range).start_inclusive (most_values a) (length values) parts.0 lt) in
+    let some : IsValued a → 0 < length (values_or_missing a values) = λ valued. elim valued [
+      | inl lt ↦ or_missing a values (some_values (unwrap_or_range a.range).start_inclusive (most_values a) (length values) parts.0 lt)
+      | inr lt ↦ missing_or a values lt
+    ] in
     go own.action some parts.1
   where
-    go : (action_of a ≡ Set) ⊎ ((action_of a ≡ Append) ⊎ (action_of a ≡ Help)) → (0 < (unwrap_or_range a.range).start_inclusive → 0 < length (values_or_missing a values))
+    go : (action_of a ≡ Set) ⊎ ((action_of a ≡ Append) ⊎ ((action_of a ≡ Help) ⊎ (action_of a ≡ SetTrue))) → (IsValued a → 0 < length (values_or_missing a values))
         → action_fault (action_of a) again a (values_or_missing a values) rows ≡ [] → Good c (used a values rows)
     go (inl set) some none =
         let clear : set_fault again a (values_or_missing a values) rows ≡ [] = rw set at none in
@@ -126,7 +136,11 @@ good_used c again a values rows own good none =
         rw set (good_values c a (values_or_missing a values) CommandLine (without a.id rows) own (good_without c a.id rows good) some (all_pass a (values_or_missing a values) pass.1))
     go (inr (inl append)) some none =
         rw append (good_values c a (values_or_missing a values) CommandLine rows own good some (all_pass a (values_or_missing a values) (rw append at none)))
-    go (inr (inr help)) some none = let bad = rw help at none in cc
+    go (inr (inr (inl help))) some none = let bad = rw help at none in cc
+    go (inr (inr (inr flag))) some none =
+        let clear : set_fault again a (values_or_missing a values) rows ≡ [] = rw flag at none in
+        let pass = both_none _ _ clear in
+        rw flag (good_values c a (values_or_missing a values) CommandLine (without a.id rows) own (good_without c a.id rows good) some (all_pass a (values_or_missing a values) pass.1))
 
 -- ---- what is held
 
@@ -376,9 +390,9 @@ pub record HasValue (a : Rule) (id : Text) (rows : List Row) : Type 0 where
   pub one : one_of id rows ≡ Some (read_as (reading_by a) value)
   pub passes : value_passes a value ≡ true
 
-first_value_of : (a : Rule) (id : Text) (rows : List Row) (r : Row) → find (λ r. bytes_eq r.id id) rows ≡ Some r → IsPassed a r → 0 < (unwrap_or_range a.range).start_inclusive
+first_value_of : (a : Rule) (id : Text) (rows : List Row) (r : Row) → find (λ r. bytes_eq r.id id) rows ≡ Some r → IsPassed a r → IsValued a
     → HasValue a id rows
-first_value_of a id rows r found passed lt = go r.values refl (passed.some lt) passed.accepted
+first_value_of a id rows r found passed valued = go r.values refl (passed.some valued) passed.accepted
   where
     go : (vs : List Text) → r.values ≡ vs → 0 < length vs → list_all (value_passes a) vs ≡ true → HasValue a id rows
     go [] is lt all = absurd (omega arith)
@@ -394,7 +408,7 @@ first_value_of a id rows r found passed lt = go r.values refl (passed.some lt) p
         first_passes false e = let bad : false ≡ true = rw e at all in cc
 
 given_value : (c : List Rule) (a : Rule) (id : Text) (rows : List Row) → Good c rows → arg_by_id c id ≡ Some a → is_given id rows ≡ true
-    → 0 < (unwrap_or_range a.range).start_inclusive → HasValue a id rows
+    → IsValued a → HasValue a id rows
 given_value c a id rows good known given lt = go (find (λ r. bytes_eq r.id id) rows) refl given
   where
     go : (o : Option Row) → find (λ r. bytes_eq r.id id) rows ≡ o → option_map_or (λ r. explicit_source r.source) o false ≡ true → HasValue a id rows
@@ -496,7 +510,7 @@ row_found id (row ∷ rows) has = go (bytes_eq row.id id) refl (λ rest. row_fou
     go false e rest = let later = rest (rw e at has) in (later.0, rw e later.1)
 
 default_value : (c : List Rule) (a : Rule) (id : Text) (rows : List Row) → Good c rows → arg_by_id c id ≡ Some a → has_row id rows ≡ true
-    → 0 < (unwrap_or_range a.range).start_inclusive → HasValue a id rows
+    → IsValued a → HasValue a id rows
 default_value c a id rows good known has lt =
     let row = row_found id rows has in
     let ok = found_good c id rows row.0 good row.1 in
@@ -508,7 +522,7 @@ pub text_value : (s : Shape) (words : List Text) (a : Rule) (id : Text) → IsRi
     → (unwrap_or_range a.range).start_inclusive ≡ 1 → HasValue a id (rows_after s.rules [] words)
 text_value s words a id right known wanted one =
     given_value s.rules a id (rows_after s.rules [] words) right.good known
-    (required_given s.rules (rows_after s.rules [] words) id a (lacking s.subcommand_negates_reqs (checks_pass _ _ _ right.checked).1) known wanted) (omega (arith, one))
+    (required_given s.rules (rows_after s.rules [] words) id a (lacking s.subcommand_negates_reqs (checks_pass _ _ _ right.checked).1) known wanted) (inl (omega (arith, one)))
   where
     lacking : (b : Bool) → (not (b && false) && list_any (λ a. a.required && not (is_given a.id (rows_after s.rules [] words))) s.rules) ≡ false
         → list_any (λ a. a.required && not (is_given a.id (rows_after s.rules [] words))) s.rules ≡ false
@@ -538,4 +552,11 @@ pub option_value : (s : Shape) (words : List Text) (a : Rule) (id v : Text) (vs 
     → (unwrap_or_range a.range).start_inclusive ≡ 1 → HasValue a id (rows_after s.rules [] words)
 option_value s words a id v vs right known default one =
     default_value s.rules a id (rows_after s.rules [] words) right.good known
-    (default_given s.rules id a v vs (settled s.rules (walk s.rules [] nothing_held words).held).rows known default) (omega (arith, one))
+    (default_given s.rules id a v vs (settled s.rules (walk s.rules [] nothing_held words).held).rows known default) (inl (omega (arith, one)))
+
+-- the value of a flag, given or not
+pub flag_value : (s : Shape) (words : List Text) (a : Rule) (id v : Text) (vs : List Text) → IsRight s words → arg_by_id s.rules id ≡ Some a → a.defaults ≡ v ∷ vs
+    → 0 < length a.missing → HasValue a id (rows_after s.rules [] words)
+flag_value s words a id v vs right known default some =
+    default_value s.rules a id (rows_after s.rules [] words) right.good known
+    (default_given s.rules id a v vs (settled s.rules (walk s.rules [] nothing_held words).held).rows known default) (inr some)

@@ -4,6 +4,7 @@ use Rattle.std.specs.Borrow.{Bor}
 use Rattle.clap.specs.Lexer.{usize_max}
 use Rattle.clap.specs.Words.{App, Rule, Shape, Text, new_rule}
 use Rattle.clap.specs.Simple.{new_shape}
+use Rattle.clap.specs.declared.builder.action.ArgAction.TheVariants.{SetTrue}
 use Rattle.clap.specs.declared.builder.value_parser.ValueParser.TheVariants.{Names, Unsigned}
 
 -- the name of a file, which has to be given
@@ -36,6 +37,17 @@ places = record (new_rule (codes "PLACE")) {
   required = true;
 }
 
+-- one session or more
+abbrev pub sessions : Rule
+sessions = record (new_rule (codes "SESSION")) {
+  range = Some (record { start_inclusive = 1; end_inclusive = usize_max });
+  required = true;
+}
+
+-- `--turns`, which takes no value
+abbrev pub turns : Rule
+turns = record (new_rule (codes "turns")) { long = Some (codes "turns"); action = Some SetTrue }
+
 abbrev pub identity : List Rule
 identity = number (codes "tsi") 0 4294967295 ∷ number (codes "toi") 0 4294967295 ∷ []
 
@@ -63,6 +75,9 @@ check_command = command (codes "check") (file (codes "SESSION") ∷ file (codes 
 abbrev pub drop_command : Shape
 drop_command = command (codes "drop") (file (codes "SESSION") ∷ file (codes "OUT") ∷ places ∷ [])
 
+abbrev pub join_command : Shape
+join_command = command (codes "join") (file (codes "OUT") ∷ sessions ∷ turns ∷ [])
+
 abbrev pub decode_command : Shape
 decode_command = command (codes "decode") (file (codes "SESSION") ∷ file (codes "OUT") ∷ [])
 
@@ -80,8 +95,8 @@ show_command = command (codes "show") (file (codes "SESSION") ∷ [])
 abbrev pub grammar_of : Bor (List (Bor Text)) → App
 grammar_of orders = record {
   top = record (new_shape (codes "alcrs")) { is_leaf = false; subcommand_required = true };
-  subs = encode_command orders ∷ certify_command ∷ check_command ∷ drop_command ∷ decode_command ∷ follow_command
-      ∷ twin_command ∷ show_command ∷ [];
+  subs = encode_command orders ∷ certify_command ∷ check_command ∷ drop_command ∷ join_command ∷ decode_command
+      ∷ follow_command ∷ twin_command ∷ show_command ∷ [];
 }
 
 -- the orders' names

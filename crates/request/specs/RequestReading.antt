@@ -5,7 +5,7 @@ use Rattle.clap.specs.declared.parser.matches.ArgMatches.{ArgMatches}
 use Rattle.request.specs.declared.requests.Request.{Request}
 use Rattle.request.specs.declared.usage.Usage.{Usage}
 use Rattle.request.specs.declared.usage.Usage.TheVariants.{Help, Line, Value, NoMemory}
-use Rattle.request.specs.Requests.{HasPlaces, IsRead, asked_of}
+use Rattle.request.specs.Requests.{HasPlaces, HasSessions, IsRead, asked_of}
 
 abbrev pub rows_in : ArgMatches → List Row
 rows_in matches = rows_of (found_of matches)
@@ -32,6 +32,13 @@ IsNoPlaces rows Value = NoneIs (HasPlaces rows)
 IsNoPlaces rows NoMemory = ⊤
 IsNoPlaces rows (Help told) = ⊥
 IsNoPlaces rows (Line told) = ⊥
+
+-- why there are no sessions
+abbrev pub IsNoSessions : List Row → Usage → Type 0
+IsNoSessions rows Value = NoneIs (HasSessions rows)
+IsNoSessions rows NoMemory = ⊤
+IsNoSessions rows (Help told) = ⊥
+IsNoSessions rows (Line told) = ⊥
 
 -- the answer to what was read: the request that it is, or that it is none
 abbrev pub AnswersRead : Option (Text × List Row) → Result Request Usage → Type 0

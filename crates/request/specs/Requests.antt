@@ -1,14 +1,14 @@
 -- What the words of a command line ask for.
-use Rattle.std.specs.Prelude.{◌≡◌, ◌<◌, ◌≤◌, ◌^◌, ◌∷◌, [], ℕ, List, Option, Some, Result, Ok, Err, length, codes, ⊤}
+use Rattle.std.specs.Prelude.{◌≡◌, ◌<◌, ◌≤◌, ◌^◌, ◌∷◌, [], ℕ, Bool, true, false, List, Option, Some, Result, Ok, Err, length, codes, map, ⊤}
 use Rattle.std.specs.Str.Parse.{IsNumeral, digits_value, without_leading_plus}
-use Rattle.clap.specs.Words.{App, IsAmong, Row, Text, fault_of, first_of, kind_of, many_of, one_of, subcommand_of}
+use Rattle.clap.specs.Words.{App, IsAmong, Row, Text, all_of, fault_of, first_of, kind_of, many_of, one_of, subcommand_of}
 use Rattle.clap.specs.declared.error.kind.ErrorKind.TheVariants.{DisplayHelp}
 use Rattle.partition.specs.declared.order.Order.{Order}
 use Rattle.partition.specs.declared.order.Order.TheVariants.{Blocks, Rounds}
 use Rattle.request.specs.declared.requests.Sizes.{Sizes}
 use Rattle.request.specs.declared.requests.Sending.{Sending}
 use Rattle.request.specs.declared.requests.Request.{Request}
-use Rattle.request.specs.declared.requests.Request.TheVariants.{Check, Twin, Show, Encode, Certify, Decode, Follow, Drop}
+use Rattle.request.specs.declared.requests.Request.TheVariants.{Check, Twin, Show, Encode, Certify, Decode, Follow, Drop, Join}
 use Rattle.request.specs.declared.usage.Usage.{Usage}
 use Rattle.request.specs.declared.usage.Usage.TheVariants.{Help, Line, Value, NoMemory}
 use Rattle.request.specs.Usages.{IsRefusal}
@@ -67,14 +67,28 @@ pub record HasPlaces (rows : List Row) (places : List ℕ) : Type 0 where
   pub numbers : AreNumbers texts places
   pub some : 0 < length places
 
+-- the names of one session or more
+pub record HasSessions (rows : List Row) (sessions : List Text) : Type 0 where
+  pub given : all_of (codes "SESSION") rows ≡ Some sessions
+  pub some : 0 < length sessions
+
+-- the word for whether a flag was given
+abbrev pub flag_word : Bool → Text
+flag_word true = codes "true"
+flag_word false = codes "false"
+
+abbrev pub HasTurns : List Row → Bool → Type 0
+HasTurns rows turns = first_of (codes "turns") rows ≡ Some (flag_word turns)
+
 -- ---- requests
 
--- a request's values: files by their names, what is sent, an FTI's numbers, places
+-- a request's values: files by their names, what is sent, an FTI's numbers, places, whether in turns
 pub data Asked : Type 0 where
   EncodeAsked : Text → Text → Sending → Asked
   CertifyAsked : Text → Text → Sizes → Asked
   CheckAsked : Text → Text → Text → Asked
   DropAsked : Text → Text → List ℕ → Asked
+  JoinAsked : Text → List Text → Bool → Asked
   DecodeAsked : Text → Text → Asked
   FollowAsked : Text → Text → Asked
   TwinAsked : Text → Text → Text → Text → Asked
@@ -85,6 +99,7 @@ asked_of (Encode object output sending) = EncodeAsked object.now output.now send
 asked_of (Certify object output sizes) = CertifyAsked object.now output.now sizes
 asked_of (Check session object certificate) = CheckAsked session.now object.now certificate.now
 asked_of (Drop session output places) = DropAsked session.now output.now places.items
+asked_of (Join output sessions turns) = JoinAsked output.now (map (λ session. session.now) sessions.items) turns
 asked_of (Decode session output) = DecodeAsked session.now output.now
 asked_of (Follow session output) = FollowAsked session.now output.now
 asked_of (Twin session object certificate output) = TwinAsked session.now object.now certificate.now output.now
@@ -95,6 +110,7 @@ name_of (EncodeAsked object output sending) = codes "encode"
 name_of (CertifyAsked object output sizes) = codes "certify"
 name_of (CheckAsked session object certificate) = codes "check"
 name_of (DropAsked session output places) = codes "drop"
+name_of (JoinAsked output sessions turns) = codes "join"
 name_of (DecodeAsked session output) = codes "decode"
 name_of (FollowAsked session output) = codes "follow"
 name_of (TwinAsked session object certificate output) = codes "twin"
@@ -110,6 +126,8 @@ HasValues rows (CheckAsked session object certificate) =
     HasText rows (codes "SESSION") session × HasText rows (codes "OBJECT") object × HasText rows (codes "CERT") certificate
 HasValues rows (DropAsked session output places) =
     HasText rows (codes "SESSION") session × HasText rows (codes "OUT") output × HasPlaces rows places
+HasValues rows (JoinAsked output sessions turns) =
+    HasText rows (codes "OUT") output × HasSessions rows sessions × HasTurns rows turns
 HasValues rows (DecodeAsked session output) = HasText rows (codes "SESSION") session × HasText rows (codes "OUT") output
 HasValues rows (FollowAsked session output) = HasText rows (codes "SESSION") session × HasText rows (codes "OUT") output
 HasValues rows (TwinAsked session object certificate output) =

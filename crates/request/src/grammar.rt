@@ -1,12 +1,12 @@
 //! The grammar: the commands, their arguments and their help.
 ghost use Rattle.std.specs.Prelude.{◌≡◌, map, false, IfOk};
 ghost use Rattle.clap.specs.Words.{rule_of};
-ghost use Rattle.request.specs.Grammar.{file as file_rule, number as number_rule, order as order_rule, places as places_rule, encode_command as encode_shape, certify_command as certify_shape, check_command as check_shape, drop_command as drop_shape, decode_command as decode_shape, follow_command as follow_shape, twin_command as twin_shape, show_command as show_shape, IsOrders};
+ghost use Rattle.request.specs.Grammar.{file as file_rule, number as number_rule, order as order_rule, places as places_rule, sessions as sessions_rule, turns as turns_rule, encode_command as encode_shape, certify_command as certify_shape, check_command as check_shape, drop_command as drop_shape, join_command as join_shape, decode_command as decode_shape, follow_command as follow_shape, twin_command as twin_shape, show_command as show_shape, IsOrders};
 ghost use Rattle.request.specs.Building.{HasGrammar, IsShaped, AddsRules, AddsCommand};
 
 use crate::requests::MOST_SYMBOL_BYTES;
 use clap::builder::ValueParser;
-use clap::{Arg, Command};
+use clap::{Arg, ArgAction, Command};
 use std::alloc::{AllocError, Global};
 
 const ABOUT: &str =
@@ -236,6 +236,18 @@ fn drop_command<'a>(alloc: Global) -> Result<Command<'a>, AllocError>
     with_files(alloc, command, &[SESSION, SESSION_TO_WRITE])?.arg(places(alloc))
 }
 
+fn join_command<'a>(alloc: Global) -> Result<Command<'a>, AllocError>
+    ensures { IfOk result (IsShaped join_shape) }
+{
+    let command = Command::new(alloc, "join")
+        .about("Writes a session file of the datagrams of several")
+        .after_help(
+            "Prints how many datagrams there are: all of the first session, then all of the second, and so on, or, with --turns, one of each in turn, sessions that have ended being passed over.\nStatuses: 0 done, 1 a fault, 2 the command line is refused.\n\nExample: alcrs join both.session first.session second.session --turns",
+        );
+    let command = with_files(alloc, command, &[SESSION_TO_WRITE])?;
+    command.arg(sessions(alloc))?.arg(turns(alloc))
+}
+
 fn decode_command<'a>(alloc: Global) -> Result<Command<'a>, AllocError>
     ensures { IfOk result (IsShaped decode_shape) }
 {
@@ -280,6 +292,28 @@ fn places<'a>(alloc: Global) -> Arg<'a>
         .help("The places of the datagrams to leave out, counted from 0; repeats count once")
 }
 
+// The sessions to join, one or more.
+fn sessions<'a>(alloc: Global) -> Arg<'a>
+    ensures rule { rule_of result ≡ sessions_rule }
+    ensures local { result.global ≡ false }
+{
+    Arg::new(alloc, "SESSION")
+        .required(true)
+        .num_args(1usize..)
+        .help("The session files to join, in this order; one may be named several times")
+}
+
+// Whether one datagram of each session is written in turn.
+fn turns<'a>(alloc: Global) -> Arg<'a>
+    ensures rule { rule_of result ≡ turns_rule }
+    ensures local { result.global ≡ false }
+{
+    Arg::new(alloc, "turns")
+        .long("turns")
+        .action(ArgAction::SetTrue)
+        .help("One datagram of each session in turn, not one session after the other")
+}
+
 // The parser with a command last.
 fn with_command<'a>(
     parser: Command<'a>,
@@ -302,6 +336,7 @@ pub(crate) fn grammar<'a>(alloc: Global) -> Result<Command<'a>, AllocError>
     let parser = with_command(parser, certify_command(alloc))?;
     let parser = with_command(parser, check_command(alloc))?;
     let parser = with_command(parser, drop_command(alloc))?;
+    let parser = with_command(parser, join_command(alloc))?;
     let parser = with_command(parser, decode_command(alloc))?;
     let parser = with_command(parser, follow_command(alloc))?;
     let parser = with_command(parser, twin_command(alloc))?;

@@ -1,8 +1,8 @@
 //! Requests of what the grammar matched.
-ghost use Rattle.std.specs.Prelude.{◌≡◌, ◌∷◌, None, Some, IfOk, IfErr, codes};
+ghost use Rattle.std.specs.Prelude.{◌≡◌, ◌∷◌, None, Some, IfOk, IfErr, codes, map};
 ghost use Rattle.clap.specs.Words.{first_of, one_of, subcommand_rows_of};
-ghost use Rattle.request.specs.Requests.{HasOrder, HasPlaces, HasSending, HasSizes, HasText};
-ghost use Rattle.request.specs.RequestReading.{AnswersRead, Finds, Gives, GivesNone, IsNoPlaces, rows_in};
+ghost use Rattle.request.specs.Requests.{HasOrder, HasPlaces, HasSending, HasSessions, HasSizes, HasText, HasTurns};
+ghost use Rattle.request.specs.RequestReading.{AnswersRead, Finds, Gives, GivesNone, IsNoPlaces, IsNoSessions, rows_in};
 
 use crate::requests::{MOST_SYMBOL_BYTES, Request, Sending, Sizes};
 use crate::usage::Usage;
@@ -97,6 +97,36 @@ fn places(alloc: Global, matches: &ArgMatches<'_>) -> Result<Vec<usize>, Usage>
     Ok(places)
 }
 
+// The values of SESSION.
+fn sessions<'a>(alloc: Global, matches: &ArgMatches<'a>) -> Result<Vec<&'a str>, Usage>
+    ensures ok { IfOk result (λ sessions.
+        HasSessions (rows_in matches.now) (map (λ session. session.now) sessions.items)) }
+    ensures err { IfErr result (IsNoSessions (rows_in matches.now)) }
+{
+    let Some(given) = matches.get_strs("SESSION") else {
+        return Err(Usage::Value);
+    };
+    if given.is_empty() {
+        return Err(Usage::Value);
+    }
+    match given.to_vec(alloc) {
+        Ok(sessions) => Ok(sessions),
+        Err(_) => Err(Usage::NoMemory),
+    }
+}
+
+// Whether `--turns` was given.
+#[tactic(auto, using(crate::proofs::Getters::no_turns))]
+fn turns(matches: &ArgMatches<'_>) -> Result<bool, Usage>
+    ensures { Finds (HasTurns (rows_in matches.now)) result }
+{
+    match text(matches, "turns")? {
+        "true" => Ok(true),
+        "false" => Ok(false),
+        _ => Err(Usage::Value),
+    }
+}
+
 #[tactic(auto, using(crate::proofs::Getters::no_encode))]
 fn encode_request<'a>(matches: &ArgMatches<'a>) -> Result<Request<'a>, Usage>
     ensures { AnswersRead (Some (codes "encode", rows_in matches.now)) result }
@@ -137,6 +167,16 @@ fn drop_request<'a>(alloc: Global, matches: &ArgMatches<'a>) -> Result<Request<'
         session: text(matches, "SESSION")?,
         output: text(matches, "OUT")?,
         places: places(alloc, matches)?,
+    })
+}
+
+fn join_request<'a>(alloc: Global, matches: &ArgMatches<'a>) -> Result<Request<'a>, Usage>
+    ensures { AnswersRead (Some (codes "join", rows_in matches.now)) result }
+{
+    Ok(Request::Join {
+        output: text(matches, "OUT")?,
+        sessions: sessions(alloc, matches)?,
+        turns: turns(matches)?,
     })
 }
 
@@ -190,6 +230,7 @@ fn command_request<'a>(
         "certify" => certify_request(matches),
         "check" => check_request(matches),
         "drop" => drop_request(alloc, matches),
+        "join" => join_request(alloc, matches),
         "decode" => decode_request(matches),
         "follow" => follow_request(matches),
         "twin" => twin_request(matches),

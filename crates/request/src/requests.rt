@@ -76,4 +76,10 @@ pub enum Request<'a> {
         output: &'a str,
         places: Vec<usize>,
     },
+    /// Join the sessions: one after the other, or, with `turns`, one datagram of each in turn; one session or more.
+    Join {
+        output: &'a str,
+        sessions: Vec<&'a str>,
+        turns: bool,
+    },
 }

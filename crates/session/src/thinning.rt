@@ -48,7 +48,10 @@ fn copy_others<R: Read, W: Write>(
         → OnErr result (WritesSome places (R.remaining reader.old)
         (W.contents writer.old) (W.contents writer.new)) }
 {
-    let mut counts = Counts { read: 0, written: 0 };
+    let mut counts = Counts {
+        read: 0,
+        written: 0,
+    };
     loop {
         let Some(datagram) = read_next(alloc, reader)? else {
             return Ok(counts);

@@ -1,4 +1,5 @@
 pub mod Told
+pub mod Joins
 pub mod Delivered
 pub mod Ends
 pub mod Followed

@@ -4,6 +4,8 @@ pub mod Inputs
 pub mod Words
 pub mod Lines
 pub mod Making
+pub mod Joining
+pub mod Opening
 pub mod Decoding
 pub mod Outcomes
 pub mod Answering

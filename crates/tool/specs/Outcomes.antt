@@ -1,5 +1,5 @@
 -- What a command does, by what its files hold.
-use Rattle.std.specs.Prelude.{◌≡◌, ◌<◌, ◌⊎◌, ℕ, Bool, List, [], Option, None, length, slice_index_or}
+use Rattle.std.specs.Prelude.{◌≡◌, ◌<◌, ◌⊎◌, ℕ, Bool, List, [], Option, None, length, map, slice_index_or}
 use Rattle.alc.specs.Packet.{Packet, IsPacket}
 use Rattle.alc.specs.PacketFault.{IsPacketFault}
 use Rattle.alc.specs.declared.fault.PacketFault.{PacketFault}
@@ -14,7 +14,7 @@ use Rattle.cert.specs.declared.verdict.Reason.TheVariants.{Thin}
 use Rattle.cert.specs.declared.verdict.Verdict.{Verdict}
 use Rattle.cert.specs.declared.verdict.Verdict.TheVariants.{Yes, No}
 use Rattle.request.specs.declared.requests.Request.{Request}
-use Rattle.request.specs.declared.requests.Request.TheVariants.{Check, Twin, Show, Encode, Certify, Decode, Follow, Drop}
+use Rattle.request.specs.declared.requests.Request.TheVariants.{Check, Twin, Show, Encode, Certify, Decode, Follow, Drop, Join}
 use Rattle.tool.specs.declared.fault.Fault.{Fault}
 use Rattle.tool.specs.declared.fault.Fault.TheVariants.{Frame}
 use Rattle.tool.specs.Folder.{Files, Replaces}
@@ -22,6 +22,7 @@ use Rattle.tool.specs.Inputs.{HoldsSession, Opens, HoldsBytes, HoldsCertificate,
 use Rattle.tool.specs.Lines.{IsPrintFault, IsSilent, TellsFault, Prints, PrintsTwin, PrintsDatagrams, PrintsSome}
 use Rattle.tool.specs.Decoding.{IsDecoded, IsNotDecoded}
 use Rattle.tool.specs.Following.{IsFollowed, IsNotFollowed}
+use Rattle.tool.specs.Joining.{IsJoined, IsNotJoined}
 use Rattle.tool.specs.Making.{IsEncoded, IsNotEncoded, IsCertified, IsNotCertified, IsDropped, IsNotDropped, IsUnmade, Fails}
 
 abbrev pub status_of : Verdict → ℕ
@@ -140,6 +141,8 @@ IsDone old new (Decode session output) before after status = IsDecoded old new s
 IsDone old new (Follow session output) before after status = IsFollowed old new session.now output.now before after status
 IsDone old new (Drop session output places) before after status =
     IsDropped old new session.now output.now places.items before after status
+IsDone old new (Join output sessions turns) before after status =
+    IsJoined old new output.now (map (λ session. session.now) sessions.items) turns before after status
 
 -- the lines of the first datagrams were printed before a fault, or none
 abbrev pub IsShownInPart : Option Files → List ℕ → Fault → Bool → Option (List ℕ) → Option (List ℕ) → Type 0
@@ -166,6 +169,8 @@ IsUndone old new (Follow session output) failed before after fault =
     IsNotFollowed old new session.now output.now failed before after fault
 IsUndone old new (Drop session output places) failed before after fault =
     Fails (IsNotDropped session.now output.now places.items) old new output.now failed before after fault
+IsUndone old new (Join output sessions turns) failed before after fault =
+    Fails (IsNotJoined output.now (map (λ session. session.now) sessions.items)) old new output.now failed before after fault
 
 -- The request wasn't done. Behind what was printed before, the fault was told, or it is that the output has failed.
 pub record HasFault (old new : Option Files) (request : Request) (failed : Bool) (before after : Option (List ℕ)) (status : ℕ) : Type 0 where

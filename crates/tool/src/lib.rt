@@ -12,6 +12,7 @@ mod fault;
 mod folder;
 mod follow;
 mod input;
+mod joining;
 mod memory;
 mod output;
 mod print;

@@ -14,6 +14,7 @@ use crate::encode::encode;
 use crate::fault::Fault;
 use crate::folder::Folder;
 use crate::follow::follow;
+use crate::joining::join;
 use crate::print::Text;
 use crate::show::show;
 use crate::twinning::twin;
@@ -63,6 +64,11 @@ fn perform<'a, F: Folder, W: Console>(
             output,
             places,
         } => drop_places(alloc, folder, out, session, output, places.as_slice()),
+        Request::Join {
+            output,
+            sessions,
+            turns,
+        } => join(alloc, folder, out, output, sessions.as_slice(), *turns),
     }
 }
 

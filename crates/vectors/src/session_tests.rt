@@ -1,7 +1,7 @@
 //! Sessions and their frames.
 use session::{
-    Device, Failed, FrameFault, Pieces, Read, ReadFault, Session, Sink, Write, fill, read_next,
-    read_to_end, write_all, write_one,
+    Device, Failed, FrameFault, Pieces, Read, ReadFault, Session, Sink, Write, fill, join_frames,
+    read_next, read_to_end, write_all, write_one,
 };
 use std::alloc::Global;
 use std::io::{self, BufWriter, ErrorKind};
@@ -109,7 +109,7 @@ fn devices(rt: HostRuntime) -> Result<(), Fail> {
     Ok(())
 }
 
-/// Gives these bytes, two at a time, and then fails once, with the bytes behind them still to come.
+/// Gives these bytes, one at a time, and then fails once, with the bytes behind them still to come.
 #[derive(Drop)]
 pub(crate) struct Broken<'a> {
     before: &'a [u8],
@@ -128,7 +128,7 @@ impl io::Read for Broken<'_> {
         } else {
             self.before
         };
-        let n = rest.len().min(buf.len()).min(2);
+        let n = rest.len().min(buf.len()).min(1);
         buf[..n].copy_from_slice(&rest[..n]);
         if self.broken {
             self.behind = &rest[n..];
@@ -302,5 +302,85 @@ fn datagrams_left(rt: HostRuntime) -> Result<(), Fail> {
         Ok(_) => assert!(rt; false, "thinned"),
         Err(fault) => assert_eq!(rt; fault, FrameFault::NoSuchPlace(3)),
     }
+    Ok(())
+}
+
+// Sessions joined, and the bytes of the file that both ways give.
+fn expect_joined(
+    alloc: Global,
+    files: &[&[u8]],
+    turns: bool,
+    count: usize,
+    bytes: &[u8],
+) -> Result<(), Fail> {
+    let mut sessions = Vec::new(alloc);
+    let mut readers = Vec::new(alloc);
+    for file in files {
+        sessions.push(Session::read(alloc, &mut Pieces::new(file, 2))?)?;
+        readers.push(Pieces::new(file, 2))?;
+    }
+    let joined = Session::join(alloc, sessions.as_slice(), turns)?;
+    let written = file_of(alloc, &joined)?;
+    let mut copied = Sink::new(alloc);
+    let copies = join_frames(alloc, readers.as_mut_slice(), turns, &mut copied)?;
+    if joined.len() == count
+        && copies == count
+        && written.bytes() == bytes
+        && copied.bytes() == bytes
+    {
+        Ok(())
+    } else {
+        Err(Fail::new("joined otherwise".to_string(alloc)?))
+    }
+}
+
+#[test]
+fn joined_sessions(rt: HostRuntime) -> Result<(), Fail> {
+    let alloc = rt.alloc();
+    let three = [0u8, 1, 10, 0, 1, 11, 0, 1, 12];
+    let four = [0u8, 1, 20, 0, 1, 21, 0, 1, 22, 0, 1, 23];
+    for turns in [false, true] {
+        expect_joined(alloc, &[], turns, 0, &[])?;
+        expect_joined(alloc, &[&[]], turns, 0, &[])?;
+        expect_joined(alloc, &[&three], turns, 3, &three)?;
+        expect_joined(alloc, &[&[], &three, &[]], turns, 3, &three)?;
+    }
+    let whole = [
+        0, 1, 10, 0, 1, 11, 0, 1, 12, 0, 1, 20, 0, 1, 21, 0, 1, 22, 0, 1, 23,
+    ];
+    expect_joined(alloc, &[&three, &four], false, 7, &whole)?;
+    let in_turns = [
+        0, 1, 10, 0, 1, 20, 0, 1, 11, 0, 1, 21, 0, 1, 12, 0, 1, 22, 0, 1, 23,
+    ];
+    expect_joined(alloc, &[&three, &four], true, 7, &in_turns)
+}
+
+// What was written before the fault is a beginning of the frames, joined.
+#[test]
+fn a_reader_cut_in_its_turn(rt: HostRuntime) -> Result<(), Fail> {
+    let alloc = rt.alloc();
+    let mut readers = Vec::new(alloc);
+    readers.push(Pieces::new(&[0, 1, 10, 0, 1, 11], 3))?;
+    readers.push(Pieces::new(&[0, 1, 20, 0], 3))?;
+    let mut writer = Sink::new(alloc);
+    match join_frames(alloc, readers.as_mut_slice(), true, &mut writer) {
+        Ok(_) => assert!(rt; false, "joined"),
+        Err(fault) => assert_eq!(rt; fault, FrameFault::CutLength),
+    }
+    assert_eq!(rt; writer.bytes(), [0, 1, 10, 0, 1, 20, 0, 1, 11].as_slice());
+    Ok(())
+}
+
+#[test]
+fn a_writer_without_room(rt: HostRuntime) -> Result<(), Fail> {
+    let alloc = rt.alloc();
+    let mut readers = Vec::new(alloc);
+    readers.push(Pieces::new(&[0, 1, 10, 0, 1, 11], 3))?;
+    let mut writer = Sink::limited(alloc, 2, 4);
+    match join_frames(alloc, readers.as_mut_slice(), false, &mut writer) {
+        Ok(_) => assert!(rt; false, "joined"),
+        Err(fault) => assert_eq!(rt; fault, FrameFault::Io),
+    }
+    assert_eq!(rt; writer.bytes(), [0, 1, 10, 0].as_slice());
     Ok(())
 }

@@ -1,0 +1,193 @@
+-- Frames that are copied, one more.
+use Rattle.std.proofs.Common.{◌≡◌, ◌<◌, ◌≤◌, ◌+◌, ℕ, zero, suc, Bool, false, List, [], ◌∷◌, ◌++◌, Option, length, get_or, set, refl, sym, ap, ◌∙◌, arith, append_assoc, inl, inr, subst}
+use Rattle.std.specs.Prelude.{Some, None, IfSome}
+use Rattle.std.proofs.lemmas.List.{append-nil, length-append, length-set, length_push, take_all, get_or-set_same, get_or-set_other}
+use Rattle.std.specs.Io.KnownBytes.{Appends, Consumes}
+use Rattle.streams.proofs.Writes.{then_appends, then_some}
+use Rattle.streams.specs.Pieces.{AppendsSome}
+use Rattle.session.specs.Frames.{frame, frames, most_bytes, AreShort, IsNoFrame, IsReadFault, IsSessionFault, StopsAt}
+use Rattle.session.specs.Joined.{joined}
+use Rattle.session.specs.Joining.{IsUnjoined}
+use Rattle.session.specs.Copying.{HasJoined, IsCopied, IsOver, IsUnread, IsUnwritten, IsWritten}
+use Rattle.session.specs.declared.frame.FrameFault.{FrameFault}
+use Rattle.session.specs.declared.frame.FrameFault.TheVariants.{CutLength, CutDatagram, TooLong, Io, NoMemory, NoSuchPlace}
+use Rattle.session.proofs.Joins.{each_set, same_or_not}
+use Rattle.session.proofs.Sessions.{frames_push}
+
+nothing_more : (a : Option (List ℕ)) → Appends a a []
+nothing_more None = tt
+nothing_more (Some xs) = sym (append-nil xs)
+
+nothing_read : (a : Option (List ℕ)) → Consumes a a []
+nothing_read None = tt
+nothing_read (Some xs) = refl
+
+consumes_more : (a b c : Option (List ℕ)) (ds : List (List ℕ)) (d : List ℕ) → Consumes a b (frames ds) → Consumes b c (frame d)
+    → Consumes a c (frames (ds ++ d ∷ []))
+consumes_more None b c ds d p q = tt
+consumes_more (Some a) None c ds d p q = absurd p
+consumes_more (Some a) (Some b) None ds d p q = absurd q
+consumes_more (Some a) (Some b) (Some c) ds d p q =
+    p ∙ ap (λ (l : List ℕ). frames ds ++ l) q ∙ sym (append_assoc (frames ds) (frame d) c) ∙ ap (λ (l : List ℕ). l ++ c) (sym (frames_push ds d))
+
+-- what was read is a beginning
+begins : (a b : Option (List ℕ)) (xs : List ℕ) → Consumes a b xs → IfSome a (λ x. (rest : List ℕ) × (x ≡ xs ++ rest))
+begins None b xs p = tt
+begins (Some a) None xs p = absurd p
+begins (Some a) (Some b) xs p = (b, p)
+
+-- all that was written is a beginning of it
+all_some : (a b : Option (List ℕ)) (xs : List ℕ) → Appends a b xs → AppendsSome a b xs
+all_some a b xs p = (length xs, subst (λ (l : List ℕ). Appends a b l) (sym (take_all (length xs) xs (omega arith))) p)
+
+short_more : (ds : List (List ℕ)) (d : List ℕ) → AreShort ds → length d ≤ most_bytes → AreShort (ds ++ d ∷ [])
+short_more [] d h l zero = l
+short_more [] d h l (suc i) = omega arith
+short_more (x ∷ xs) d h l zero = h 0
+short_more (x ∷ xs) d h l (suc i) = short_more xs d (λ j. h (suc j)) l i
+
+-- a fault of a reader behind the frames that it gave
+stops_at : (fault : FrameFault) (a b : Option (List ℕ)) (ds : List (List ℕ)) → Consumes a b (frames ds) → AreShort ds
+    → IfSome b (IsNoFrame fault) → IfSome a (StopsAt fault)
+stops_at fault None b ds p short why = tt
+stops_at fault (Some a) None ds p short why = absurd p
+stops_at fault (Some a) (Some b) ds p short why = record {
+  datagrams = ds;
+  front = frames ds;
+  rest = b;
+  framed = record { whole = refl; each = short };
+  whole = p;
+  stops = why;
+}
+
+session_fault : (fault : FrameFault) (a b c : Option (List ℕ)) (failed : Bool) (ds : List (List ℕ)) → Consumes a b (frames ds) → AreShort ds
+    → IsReadFault fault b c failed → IsSessionFault fault a failed
+session_fault CutLength a b c failed ds p short why = stops_at CutLength a b ds p short why.0
+session_fault CutDatagram a b c failed ds p short why = stops_at CutDatagram a b ds p short why.0
+session_fault TooLong a b c failed ds p short why = stops_at TooLong a b ds p short why.0
+session_fault Io a b c failed ds p short why = why
+session_fault NoMemory a b c failed ds p short why = tt
+session_fault (NoSuchPlace place) a b c failed ds p short why = why
+
+-- nothing was read or written
+pub none_joined : (turns : Bool) (old : List (Option (List ℕ))) (before : Option (List ℕ)) (room : ℕ) (lists : List (List (List ℕ)))
+    → length lists ≡ length old → ((i : ℕ) → get_or lists i [] ≡ []) → joined turns lists ≡ []
+    → HasJoined turns old old before before room room 0 lists
+none_joined turns old before room lists many empty nothing = record {
+  many = many;
+  consumed = λ i. subst (λ ds. Consumes (get_or old i None) (get_or old i None) (frames ds)) (sym (empty i)) (nothing_read (get_or old i None));
+  each = λ i. subst (λ ds. AreShort ds) (sym (empty i)) (λ j. omega arith);
+  written = subst (λ ds. IsWritten before before room room (frames ds)) (sym nothing) (record { gained = nothing_more before; fits = omega arith });
+  counted = ap length (sym nothing);
+}
+
+module _ (turns : Bool) (old new : List (Option (List ℕ))) (before now : Option (List ℕ)) (room room_now count : ℕ) (lists : List (List (List ℕ)))
+    (has : HasJoined turns old new before now room room_now count lists) where
+  abbrev pub gaining : ℕ → List ℕ → List (List (List ℕ))
+  gaining p d = set lists p (get_or lists p [] ++ d ∷ [])
+
+  -- where another reader's frame is the next of what is joined
+  abbrev pub IsNext : ℕ → Type 0
+  IsNext p = (d : List ℕ) → joined turns (gaining p d) ≡ joined turns lists ++ d ∷ []
+
+  consumed_set : (p : ℕ) (left : Option (List ℕ)) (ds : List (List ℕ)) → p < length lists → p < length new → Consumes (get_or old p None) left (frames ds)
+      → (i : ℕ) → Consumes (get_or old i None) (get_or (set new p left) i None) (frames (get_or (set lists p ds) i []))
+  consumed_set p left ds l m one i = elim (same_or_not i p) [
+    | inl e ↦ subst (λ n. Consumes (get_or old n None) (get_or (set new p left) n None) (frames (get_or (set lists p ds) n []))) (sym e)
+        (rw (get_or-set_same new p left None m, get_or-set_same lists p ds [] l) one)
+    | inr n ↦ rw (get_or-set_other new p i left None n, get_or-set_other lists p i ds [] n) (has.consumed i)
+  ]
+
+  begun : (i : ℕ) → IfSome (get_or old i None) (λ x. (rest : List ℕ) × (x ≡ frames (get_or lists i []) ++ rest))
+  begun i = begins (get_or old i None) (get_or new i None) (frames (get_or lists i [])) (has.consumed i)
+
+  -- one frame more
+  pub copied : (p : ℕ) (left after : Option (List ℕ)) (room_then : ℕ) (one : IsCopied (get_or new p None) left now after room_now room_then)
+      → p < length lists → p < length new → IsNext p
+      → HasJoined turns old (set new p left) before after room room_then (count + 1) (gaining p one.datagram)
+  copied p left after room_then one l m next =
+      let d : List ℕ = one.datagram in
+      let whole : frames (joined turns (gaining p d)) ≡ frames (joined turns lists) ++ frame d = ap frames (next d) ∙ frames_push (joined turns lists) d in
+      let size : length (frames (joined turns lists) ++ frame d) ≡ length (frames (joined turns lists)) + length (frame d) = length-append (frames (joined turns lists)) (frame d) in
+      let fits_before = has.written.fits in
+      let fits_one = one.written.fits in
+      let more : length (joined turns lists ++ d ∷ []) ≡ length (joined turns lists) + 1 = length_push (joined turns lists) d in
+      let counted = has.counted in
+      let counted_then : count + 1 ≡ length (joined turns lists ++ d ∷ []) = omega (arith, more, counted) in
+      record {
+        many = length-set lists p (get_or lists p [] ++ d ∷ []) ∙ has.many;
+        consumed = consumed_set p left (get_or lists p [] ++ d ∷ []) l m
+            (consumes_more (get_or old p None) (get_or new p None) left (get_or lists p []) d (has.consumed p) one.consumed);
+        each = each_set (λ i ds. AreShort ds) lists p (get_or lists p [] ++ d ∷ []) [] l (short_more (get_or lists p []) d (has.each p) one.short) (λ i n. has.each i);
+        written = subst (λ bytes. IsWritten before after room room_then bytes) (sym whole) (record {
+          gained = then_appends before now after (frames (joined turns lists)) (frame d) has.written.gained one.written.gained;
+          fits = omega (arith, size, fits_before, fits_one);
+        });
+        counted = counted_then ∙ ap length (sym (next d));
+      }
+
+  -- a reader that was at its end
+  pub over : (p : ℕ) (left after : Option (List ℕ)) (room_then : ℕ) → IsOver (get_or new p None) left now after room_now room_then
+      → p < length lists → p < length new → HasJoined turns old (set new p left) before after room room_then count lists
+  over p left after room_then one l m = record {
+    many = has.many;
+    consumed = λ i. elim (same_or_not i p) [
+      | inl e ↦ subst (λ n. Consumes (get_or old n None) (get_or (set new p left) n None) (frames (get_or lists n []))) (sym e)
+          (rw (get_or-set_same new p left None m) (still (get_or old p None) (get_or new p None) left (frames (get_or lists p [])) (has.consumed p) one.nothing))
+      | inr n ↦ rw (get_or-set_other new p i left None n) (has.consumed i)
+    ];
+    each = has.each;
+    written = subst (λ (a : Option (List ℕ)). IsWritten before a room room_then (frames (joined turns lists))) (sym one.same)
+        (subst (λ (n : ℕ). IsWritten before now room n (frames (joined turns lists))) (sym one.room) has.written);
+    counted = has.counted;
+  }
+    where
+      still : (a b c : Option (List ℕ)) (xs : List ℕ) → Consumes a b xs → Consumes b c [] → Consumes a c xs
+      still None b c xs q r = tt
+      still (Some a) None c xs q r = absurd q
+      still (Some a) (Some b) None xs q r = absurd r
+      still (Some a) (Some b) (Some c) xs q r = q ∙ ap (λ (l : List ℕ). xs ++ l) r
+
+  -- ---- why not all was joined
+
+  pub no_memory : (sound failed : List Bool) (writer_failed : Bool) → IsUnjoined turns NoMemory old sound failed before now room writer_failed
+  no_memory sound failed writer_failed = record {
+    lists = lists;
+    begins = begun;
+    some = all_some before now (frames (joined turns lists)) has.written.gained;
+    because = inr (inr refl);
+  }
+
+  pub unread : (fault : FrameFault) (p : ℕ) (sound failed : List Bool) (left after : Option (List ℕ)) (writer_failed : Bool)
+      → IsUnread fault (get_or sound p false) (get_or new p None) left (get_or failed p false) now after → p < length old
+      → IsUnjoined turns fault old sound failed before after room writer_failed
+  unread fault p sound failed left after writer_failed why l = record {
+    lists = lists;
+    begins = begun;
+    some = subst (λ (a : Option (List ℕ)). AppendsSome before a (frames (joined turns lists))) (sym why.same) (all_some before now (frames (joined turns lists)) has.written.gained);
+    because = inl (record {
+      place = p;
+      inside = l;
+      because = session_fault fault (get_or old p None) (get_or new p None) left (get_or failed p false) (get_or lists p []) (has.consumed p) (has.each p) why.because;
+      unsound = why.unsound;
+    });
+  }
+
+  pub unwritten : (fault : FrameFault) (p : ℕ) (sound failed : List Bool) (left after : Option (List ℕ)) (writer_failed : Bool)
+      → IsUnwritten fault (get_or new p None) left now after room_now writer_failed → p < length lists → p < length new → IsNext p
+      → IsUnjoined turns fault old sound failed before after room writer_failed
+  unwritten fault p sound failed left after writer_failed why l m next =
+      let d : List ℕ = why.datagram in
+      let ds : List (List ℕ) = get_or lists p [] ++ d ∷ [] in
+      let whole : frames (joined turns (gaining p d)) ≡ frames (joined turns lists) ++ frame d = ap frames (next d) ∙ frames_push (joined turns lists) d in
+      let size : length (frames (joined turns lists) ++ frame d) ≡ length (frames (joined turns lists)) + length (frame d) = length-append (frames (joined turns lists)) (frame d) in
+      let one = consumes_more (get_or old p None) (get_or new p None) left (get_or lists p []) d (has.consumed p) why.consumed in
+      let fits = has.written.fits in
+      let full = why.full in
+      let beyond : room < length (frames (joined turns lists) ++ frame d) = omega (arith, size, fits, full) in
+      record {
+        lists = gaining p d;
+        begins = λ i. begins (get_or old i None) (get_or (set new p left) i None) (frames (get_or (gaining p d) i [])) (consumed_set p left ds l m one i);
+        some = subst (λ bytes. AppendsSome before after bytes) (sym whole) (then_some before now after (frames (joined turns lists)) (frame d) has.written.gained why.some);
+        because = inr (inl (why.io, why.fails, subst (λ bytes. room < length bytes) (sym whole) beyond));
+      }

@@ -1,0 +1,37 @@
+-- Readers of frames that are joined in a writer.
+use Rattle.std.specs.Prelude.{◌≡◌, ◌<◌, ◌⊎◌, ℕ, Bool, true, false, List, [], ◌++◌, Option, None, length, slice_index_or, IfSome}
+use Rattle.std.specs.Io.KnownBytes.{Appends, Consumes, IsAtEnd}
+use Rattle.streams.specs.Pieces.{AppendsSome}
+use Rattle.session.specs.Frames.{frames, AreShort, IsSessionFault}
+use Rattle.session.specs.Joined.{joined}
+use Rattle.session.specs.declared.frame.FrameFault.{FrameFault}
+use Rattle.session.specs.declared.frame.FrameFault.TheVariants.{Io, NoMemory}
+
+-- all that a reader had left was these datagrams' frames
+pub record IsReadWhole (old new : Option (List ℕ)) (datagrams : List (List ℕ)) : Type 0 where
+  pub consumed : Consumes old new (frames datagrams)
+  pub each : AreShort datagrams
+  pub end : IsAtEnd new
+
+-- All that the readers had left was read, a list of datagrams of each, and their frames, joined, were written; their number.
+pub record IsJoined (turns : Bool) (old new : List (Option (List ℕ))) (before after : Option (List ℕ)) (count : ℕ) : Type 0 where
+  pub lists : List (List (List ℕ))
+  pub many : length lists ≡ length old
+  pub read : (i : ℕ) → IsReadWhole (slice_index_or old i None) (slice_index_or new i None) (slice_index_or lists i [])
+  pub written : Appends before after (frames (joined turns lists))
+  pub counted : count ≡ length (joined turns lists)
+
+-- one of the readers gives this fault, which is a failure only where it isn't sound
+pub record BlamesReader (fault : FrameFault) (old : List (Option (List ℕ))) (sound failed : List Bool) : Type 0 where
+  pub place : ℕ
+  pub inside : place < length old
+  pub because : IsSessionFault fault (slice_index_or old place None) (slice_index_or failed place false)
+  pub unsound : fault ≡ Io → slice_index_or sound place false ≡ false
+
+-- Why not all was joined: a reader's fault, or the writer has failed, which has no room for what was read, or no memory. A
+-- beginning of the frames of what was read, joined, was written.
+pub record IsUnjoined (turns : Bool) (fault : FrameFault) (old : List (Option (List ℕ))) (sound failed : List Bool) (before after : Option (List ℕ)) (room : ℕ) (writer_failed : Bool) : Type 0 where
+  pub lists : List (List (List ℕ))
+  pub begins : (i : ℕ) → IfSome (slice_index_or old i None) (λ x. (rest : List ℕ) × (x ≡ frames (slice_index_or lists i []) ++ rest))
+  pub some : AppendsSome before after (frames (joined turns lists))
+  pub because : BlamesReader fault old sound failed ⊎ ((fault ≡ Io) × (writer_failed ≡ true) × (room < length (frames (joined turns lists)))) ⊎ (fault ≡ NoMemory)
