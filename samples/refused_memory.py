@@ -1,31 +1,16 @@
 #!/usr/bin/env python3
 """Refuses the program's allocations one by one, and tells whether each run ends well.
 
-For each command the program runs once with all the memory it asks for, and then once for each allocation, which is
-refused. A run ends well where it prints the same, or `fault memory` as its last line with status 1; before that line a
-run may have printed whole lines of `show`, and nothing else. The samples are the inputs. A C compiler, `cc`, builds the
-library that refuses. By hand, after `./alcrs` has built the program; the whole takes seconds.
+Each command runs once with all the memory it asks for, and then once for each allocation, which is refused. A run ends
+well where it prints the same and writes the same, or `fault memory` as its last line with status 1; before that line a
+run may have printed whole lines of `show` and `follow`, and nothing else, and its output is what it was. A C compiler,
+`cc`, builds the library that refuses. After `./alcrs` has built the program.
 """
 import os
-import subprocess
 import sys
 import tempfile
 
-ROOT = os.path.dirname(os.path.dirname(os.path.abspath(__file__)))
-PROGRAM = os.path.join(ROOT, "crates", "alcrs", "out", "alcrs")
-SAMPLES = os.path.join(ROOT, "samples")
-SIZES = ["--symbol", "512", "--block", "20", "--max", "30"]
-COMMANDS = [
-    ["check", "bulletin.session", "bulletin.txt", "bulletin.rsc"],
-    ["show", "note.session"],
-    ["encode", "bulletin.txt", "out", "--tsi", "1", "--toi", "1", *SIZES],
-    ["certify", "bulletin.txt", "out", *SIZES],
-    ["drop", "bulletin.session", "out", "0", "3", "7"],
-    ["decode", "bulletin.session", "out"],
-    ["twin", "thin.session", "bulletin.txt", "bulletin.rsc", "out"],
-    ["--help"],
-    ["encode", "--max", "300"],
-]
+from trying import BEFORE, COMMANDS, Rooms, build, in_turn, make_inputs
 
 # Counts the calls that allocate and fails the one with the number REFUSED; writes their number to COUNTED.
 REFUSING = r"""
@@ -79,43 +64,43 @@ __attribute__((destructor)) static void tell(void) {
 """
 
 
-def run(words, room, **settings):
-    """Status, output and messages of a run in this room, where the library refuses."""
-    environment = {"LD_PRELOAD": os.path.join(room, "refusing.so"), **settings}
-    ran = subprocess.run([PROGRAM, *words], cwd=room, env=environment, capture_output=True)
-    return ran.returncode, ran.stdout, ran.stderr
-
-
 def ends_well(words, whole, ran):
-    """Whether a run is as the whole one, or tells want of memory."""
-    status, output, messages = ran
+    """Whether a run is as the whole one, or tells want of memory and leaves the output as it was."""
+    status, output, messages, left, parts = ran
     lines = output.splitlines(keepends=True)
-    before = lines[:-1] if words[0] != "show" else []
-    return ran == whole or (status, lines[-1:], before, messages) == (1, [b"fault memory\n"], [], b"")
-
-
-def try_command(words, room):
-    """Whether the command ends well whichever allocation is refused."""
-    counted = os.path.join(room, "counted")
-    whole = run(words, room, COUNTED=counted)
-    with open(counted) as file:
-        count = int(file.read())
-    bad = [n for n in range(1, count + 1) if not ends_well(words, whole, run(words, room, REFUSED=str(n)))]
-    print(f"{words[0]}: {count} allocations, {f'not well at {bad}' if bad else 'each refused in turn: all well'}")
-    return not bad
+    before = b"".join(lines[:-1])
+    may_print = words[:1] in (["show"], ["follow"])
+    told = (status, lines[-1:], messages, left, parts) == (1, [b"fault memory\n"], b"", BEFORE, [])
+    return ran == whole or told and (before == b"" or may_print and whole[1].startswith(before))
 
 
 def main():
-    with tempfile.TemporaryDirectory() as room:
-        library = os.path.join(room, "refusing.so")
-        compiler = ["cc", "-shared", "-fPIC", "-xc", "-", "-o", library, "-ldl"]
-        subprocess.run(compiler, input=REFUSING.encode(), check=True)
-        for name in os.listdir(SAMPLES):
-            if name.startswith(("bulletin.", "note.")):
-                os.symlink(os.path.join(SAMPLES, name), os.path.join(room, name))
-        places = [str(place) for place in range(40)]
-        subprocess.run([PROGRAM, "drop", "bulletin.session", "thin.session", *places], cwd=room, check=True, stdout=subprocess.DEVNULL)
-        return 0 if all([try_command(words, room) for words in COMMANDS]) else 1
+    with tempfile.TemporaryDirectory() as folder:
+        library = os.path.join(folder, "refusing.so")
+        build(REFUSING, library)
+        inputs = os.path.join(folder, "inputs")
+        os.mkdir(inputs)
+        make_inputs(inputs)
+        rooms = Rooms(inputs)
+
+        def run(words, **settings):
+            return rooms.run(words, {"LD_PRELOAD": library, **settings})
+
+        runs, bad = 0, []
+        for number, words in enumerate(COMMANDS):
+            counted = os.path.join(folder, "counted")
+            whole = run(words, COUNTED=counted)
+            with open(counted) as file:
+                count = int(file.read())
+            places = range(1, count + 1)
+            answers = in_turn(lambda place: run(words, REFUSED=str(place)), places)
+            bad += [(words, place) for place, ran in zip(places, answers) if not ends_well(words, whole, ran)]
+            runs += count
+    for words, place in bad:
+        print(f"alcrs {' '.join(words)}: not well where allocation {place} is refused")
+    print(f"{runs} allocations of {len(COMMANDS)} runs refused in turn: {len(bad)} ended otherwise than they may")
+    return 1 if bad else 0
 
 
-sys.exit(main())
+if __name__ == "__main__":
+    sys.exit(main())

@@ -4,21 +4,24 @@ use cert::{Certificate, CheckFault, Reason, Verdict, check_from};
 use session::{FrameFault, Pieces, read_to_end};
 use std::test::Fail;
 
-const OBJECT: [u8; 2] = [1, 2];
+/// With FTI (2, 1, 2, 3).
+pub(crate) const OBJECT: [u8; 2] = [1, 2];
 
-// FTI (2, 1, 2, 3).
-const CERTIFICATE: [u8; 16] = [0x52, 0x53, 0x43, 0x31, 0, 0, 0, 0, 0, 2, 0, 1, 2, 3, 0, 1];
+/// The object's.
+pub(crate) const CERTIFICATE: [u8; 16] = [
+    0x52, 0x53, 0x43, 0x31, 0, 0, 0, 0, 0, 2, 0, 1, 2, 3, 0, 1,
+];
 
-// The object's three datagrams.
-const SESSION: [u8; 105] = [
+/// The object's three datagrams.
+pub(crate) const SESSION: [u8; 105] = [
     0x00, 0x21, 0x10, 0xA0, 0x07, 0x05, 0, 0, 0, 0, 0, 0, 0, 1, 0, 0, 0, 1, 0x40, 3, 0, 0, 0, 0, 0,
     2, 0, 1, 2, 3, 0, 0, 0, 0, 1, 0x00, 0x21, 0x10, 0xA0, 0x07, 0x05, 0, 0, 0, 0, 0, 0, 0, 1, 0, 0,
     0, 1, 0x40, 3, 0, 0, 0, 0, 0, 2, 0, 1, 2, 3, 0, 0, 0, 1, 2, 0x00, 0x21, 0x10, 0xA0, 0x07, 0x05,
     0, 0, 0, 0, 0, 0, 0, 1, 0, 0, 0, 1, 0x40, 3, 0, 0, 0, 0, 0, 2, 0, 1, 2, 3, 0, 0, 0, 2, 4,
 ];
 
-// The bytes of one frame.
-const FRAME: usize = 35;
+/// The bytes of one frame.
+pub(crate) const FRAME: usize = 35;
 
 // The same with another symbol in datagram 1.
 fn changed() -> [u8; 105] {
@@ -27,15 +30,15 @@ fn changed() -> [u8; 105] {
     session
 }
 
-// What a check answers, without the report of a yes.
+/// What a check answers, without the report of a yes.
 #[derive(Clone, Copy, Debug, PartialEq, Eq)]
-enum Told {
+pub(crate) enum Told {
     Yes,
     No(Reason),
     Fault(CheckFault),
 }
 
-fn told_by(answer: Result<Verdict, CheckFault>) -> Told {
+pub(crate) fn told_by(answer: Result<Verdict, CheckFault>) -> Told {
     match answer {
         Ok(Verdict::Yes(_)) => Told::Yes,
         Ok(Verdict::No(reason)) => Told::No(reason),

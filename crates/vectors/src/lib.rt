@@ -10,6 +10,8 @@ mod decoding_tests;
 #[cfg(test)]
 mod field_tests;
 #[cfg(test)]
+mod hostile_tests;
+#[cfg(test)]
 mod kernel_tests;
 #[cfg(test)]
 mod loss_tests;

@@ -1,0 +1,232 @@
+#!/usr/bin/env python3
+"""Gives the program inputs that are cut, changed or claim great sizes, and tells whether each is answered as it may be.
+
+Three kinds, in each command that reads such a file, with room for the inputs and 64 MiB (`ulimit -v`):
+
+- every beginning of the sample's session, certificate and object, with just the answer that it has;
+- heads of packets and certificates that claim the greatest sizes, and greatest numbers on the command line, with just the
+  answer that they have;
+- each of the first 64 bytes of a session, of its last datagram and of a certificate as each of 256 values: the status is
+  0, 1 or 3, and what is printed are lines that the command has for it, none of want of memory; a file is written where
+  the status is 0, and else nothing is changed.
+
+Of the third kind it tries 2,000 by chance, or as many as the first argument says, or all by `all`, which takes minutes.
+After `./alcrs` has built the program.
+"""
+import os
+import random
+import re
+import struct
+import sys
+import tempfile
+
+from trying import BEFORE, PROGRAM, SAMPLES, Rooms, in_turn
+
+ROOM = 64 << 20
+FTI = "F1 LengthZero|F2 LengthTooGreat|F3 SymbolZero|F4 BlockZero|F5 MaxBelowBlock|F6 TooManyBlocks"
+PACKET = (
+    "(?:P1 TooShort|P2 Version|P3 Psi|P4 Codepoint|P5 NoIdentity|P6 HeaderLength|P7 Extension|P8 FtiLength|P9 TwoFti|"
+    f"P10 NoFti|P11 FtiValue (?:{FTI})|P12 PayloadLength)"
+)
+FRAMES = "fault S[12] Cut(?:Length|Datagram)\n|fault S3 TooLong\n"
+FAULTS = f"{FRAMES}|fault Z1 Magic\n|fault Z2 Fti (?:{FTI})\n|fault Z3 Size\n"
+REASONS = (
+    r"no (?:N1 ObjectLength|N2 NotObject block \d+ column \d+ symbol \d+|N3 Empty|N4 Packet place \d+ " + PACKET +
+    r"|N5 OtherIdentity place \d+|N6 OtherFti place \d+|N7 Range place \d+|N8 Symbol place \d+ column \d+"
+    r"|N9 Thin block \d+ have \d+ need \d+)\n"
+)
+LACKS = r"(?:empty|missing block \d+ have \d+ need \d+)\n"
+REFUSALS = (
+    rf"(?:refused \d+ (?:R1 Packet {PACKET}|R2 OtherIdentity|R3 OtherFti|R4 Range|R5 Clash|R6 NotCode block \d+)\n)*"
+)
+SHOWN = r"\d+ tsi \d+ toi \d+ length \d+ symbol \d+ block \d+ max \d+ sbn \d+ esi \d+\n"
+
+# What a command prints, by its status.
+LINES = {
+    "check": {
+        0: r"yes\n(?:block \d+ need \d+ have \d+\n)+margin \d+\nkill(?: \d+)+\nburst \d+\n",
+        1: f"{REASONS}|{FAULTS}",
+    },
+    "decode": {
+        0: r"object \d+ bytes\n",
+        1: rf"fault R1 Packet place \d+ {PACKET}\n|fault R(?:2 OtherIdentity|3 OtherFti|4 Range|5 Clash) place \d+\n"
+        rf"|fault R6 NotCode block \d+\n|{FRAMES}",
+        3: LACKS,
+    },
+    "follow": {
+        0: REFUSALS + r"complete after \d+ datagrams\nobject \d+ bytes\n",
+        1: f"{REFUSALS}(?:{FRAMES})",
+        3: REFUSALS + LACKS,
+    },
+    "show": {0: f"(?:{SHOWN})*", 1: rf"(?:{SHOWN}|\d+ {PACKET}\n)+|{FRAMES}"},
+    "drop": {0: r"kept \d+ datagrams\n", 1: rf"fault S6 NoSuchPlace \d+\n|{FRAMES}"},
+    "twin": {0: r"twin block \d+ have \d+ need \d+\n", 1: f"no twin\n|{REASONS}|{FAULTS}"},
+}
+LINES = {name: {status: re.compile(text) for status, text in told.items()} for name, told in LINES.items()}
+
+# The commands that read a session `s`, an object `o` and a certificate `c`.
+WORDS = {
+    "check": ["check", "s", "o", "c"],
+    "decode": ["decode", "s", "out"],
+    "follow": ["follow", "s", "out"],
+    "show": ["show", "s"],
+    "drop": ["drop", "s", "out", "0"],
+    "twin": ["twin", "s", "o", "c", "out"],
+}
+OF_CERTIFICATE = ["check", "twin"]
+
+
+def sample(name):
+    with open(os.path.join(SAMPLES, name), "rb") as file:
+        return file.read()
+
+
+SESSION, OBJECT, CERTIFICATE = sample("note.session"), sample("note.txt"), sample("note.rsc")
+FRAME = 42
+
+
+class Try:
+    """A command, the bytes of the files that aren't the sample's, and the answer that it has to have, if it is known."""
+
+    def __init__(self, name, words, files, wanted=None):
+        self.name, self.words, self.files, self.wanted = name, words, files, wanted
+
+    def is_answered(self, ran):
+        status, output, messages, left, parts = ran
+        if messages or parts or (left != BEFORE and status != 0):
+            return False
+        if self.wanted is not None:
+            return (status, output.decode()) == self.wanted
+        told = LINES[self.words[0]].get(status)
+        return told is not None and told.fullmatch(output.decode()) is not None
+
+
+def of_beginning(command, size):
+    """The answer to a beginning of the session, if it is no matter of what its datagrams say."""
+    count, rest = divmod(size, FRAME)
+    if command == "follow" and count >= 4:
+        return 0, "complete after 4 datagrams\nobject 29 bytes\n"
+    if rest:
+        return 1, "fault S1 CutLength\n" if rest == 1 else "fault S2 CutDatagram\n"
+    short = f"block 0 have {count} need 4\n"
+    if command in ("decode", "follow") and count < 4:
+        return 3, f"missing {short}" if count else "empty\n"
+    if command in ("check", "twin") and count < 4:
+        thin = (0, f"twin {short}") if command == "twin" else (1, f"no N9 Thin {short}")
+        return thin if count else (1, "no N3 Empty\n")
+    if command == "drop":
+        return (0, f"kept {count - 1} datagrams\n") if count else (1, "fault S6 NoSuchPlace 0\n")
+    return None
+
+
+def beginnings():
+    for command, words in WORDS.items():
+        for size in range(len(SESSION) + 1):
+            wanted = of_beginning(command, size)
+            yield Try(f"session of {size} bytes", words, {"s": SESSION[:size]}, wanted)
+    for command in OF_CERTIFICATE:
+        for size in range(len(CERTIFICATE)):
+            wanted = 1, "fault Z1 Magic\n" if size < 4 else "fault Z3 Size\n"
+            yield Try(f"certificate of {size} bytes", WORDS[command], {"c": CERTIFICATE[:size]}, wanted)
+        for size in range(len(OBJECT)):
+            wanted = 1, "no N1 ObjectLength\n"
+            yield Try(f"object of {size} bytes", WORDS[command], {"o": OBJECT[:size]}, wanted)
+
+
+def fti_bytes(length, symbol, block, most):
+    return struct.pack(">Q", length)[2:] + struct.pack(">HBB", symbol, block, most)
+
+
+def frame_of(fti, block, esi):
+    """The frame of a packet with a symbol of zeros."""
+    head = bytes([0x10, 0xA0, 7, 5]) + bytes(7) + b"\1" + bytes(3) + b"\1\x40\3"
+    datagram = head + fti_bytes(*fti) + struct.pack(">I", block << 8 | esi) + bytes(fti[1])
+    return struct.pack(">H", len(datagram)) + datagram
+
+
+# FTIs that claim much, the last block of each, and how many symbols the first and the last block need.
+GREAT = [
+    ((1 << 40, 65475, 255, 255), 65854, 255, 254),
+    (((1 << 24) * 255 * 65475, 65475, 255, 255), (1 << 24) - 1, 255, 255),
+    ((1 << 24, 1, 1, 1), (1 << 24) - 1, 1, 1),
+    (((1 << 24) * 255, 1, 255, 255), (1 << 24) - 1, 255, 255),
+    ((1 << 24, 1, 1, 255), (1 << 24) - 1, 1, 1),
+]
+
+
+def great_claims():
+    for fti, last, need, _ in GREAT:
+        first = frame_of(fti, 0, 0)
+        far = frame_of(fti, last, 0)
+        for session, text in [
+            (first, "missing block 1 have 0 need 1\n" if need == 1 else f"missing block 0 have 1 need {need}\n"),
+            (far, f"missing block 0 have 0 need {need}\n"),
+            (far * 300, f"missing block 0 have 0 need {need}\n"),
+        ]:
+            for command in ["decode", "follow"]:
+                yield Try(f"packet of {fti}", WORDS[command], {"s": session}, (3, text))
+        shown = "tsi 1 toi 1 length {} symbol {} block {} max {}".format(*fti)
+        yield Try(f"packet of {fti}", WORDS["show"], {"s": far}, (0, f"0 {shown} sbn {last} esi 0\n"))
+        yield Try(f"packet of {fti}", WORDS["drop"], {"s": far}, (0, "kept 0 datagrams\n"))
+        for command in OF_CERTIFICATE:
+            wanted = 1, "no N6 OtherFti place 0\n"
+            yield Try(f"packet of {fti}", WORDS[command], {"s": far}, wanted)
+            head = b"RSC1" + fti_bytes(*fti)
+            for behind in [b"", b"\0", bytes(100_000)]:
+                yield Try(f"certificate of {fti}", WORDS[command], {"c": head + behind}, (1, "fault Z3 Size\n"))
+    for length, text in [(65507, "fault S2 CutDatagram\n"), (65508, "fault S3 TooLong\n"), (65535, "fault S3 TooLong\n")]:
+        for words in WORDS.values():
+            yield Try(f"frame of {length} bytes", words, {"s": struct.pack(">H", length) + bytes(100)}, (1, text))
+    sizes = ["--symbol", "65475", "--block", "1", "--max", "255"]
+    yield Try("great symbols", ["encode", "o", "out", "--tsi", "1", "--toi", "1", *sizes], {}, (0, "encoded 255 datagrams\n"))
+    yield Try("great symbols", ["certify", "o", "out", *sizes], {}, (0, "certified 1 blocks\n"))
+    yield Try("a far place", ["drop", "s", "out", "4294967295"], {}, (1, "fault S6 NoSuchPlace 4294967295\n"))
+
+
+def changes():
+    """Each byte of the beginnings as each value."""
+    last = len(SESSION) - FRAME
+    for command, words in WORDS.items():
+        for at in [*range(64), *range(last, len(SESSION))]:
+            for value in range(256):
+                data = SESSION[:at] + bytes([value]) + SESSION[at + 1 :]
+                yield Try(f"session with byte {at} {value}", words, {"s": data})
+    for command in OF_CERTIFICATE:
+        for at in range(len(CERTIFICATE)):
+            for value in range(256):
+                data = CERTIFICATE[:at] + bytes([value]) + CERTIFICATE[at + 1 :]
+                yield Try(f"certificate with byte {at} {value}", WORDS[command], {"c": data})
+
+
+def chosen(tries, words):
+    tries = list(tries)
+    if words[:1] == ["all"]:
+        return tries
+    return random.Random(5510).sample(tries, int(words[0]) if words else 2000)
+
+
+def main(words):
+    with tempfile.TemporaryDirectory() as folder:
+        for name, data in [("s", SESSION), ("o", OBJECT), ("c", CERTIFICATE)]:
+            with open(os.path.join(folder, name), "wb") as file:
+                file.write(data)
+        rooms = Rooms(folder)
+
+        def is_right(one):
+            size = ROOM + sum(map(len, one.files.values()))
+            shell = f'ulimit -v {size // 1024} && exec "$0" "$@"'
+            return one.is_answered(rooms.run(one.words, {}, files=one.files, shell=shell))
+
+        counts, bad = [], []
+        for kind in [list(beginnings()), list(great_claims()), chosen(changes(), words)]:
+            counts.append(len(kind))
+            bad += [one for one, right in zip(kind, in_turn(is_right, kind)) if not right]
+        for one in bad:
+            print(f"alcrs {' '.join(one.words)}: {one.name}: not answered as it may be")
+        print("{} beginnings, {} great claims, {} changes:".format(*counts), end=" ")
+        print(f"{len(bad)} answered otherwise than they may be")
+        return 1 if bad else 0
+
+
+if __name__ == "__main__":
+    sys.exit(main(sys.argv[1:]))
