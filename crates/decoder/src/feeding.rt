@@ -109,7 +109,8 @@ impl Receiver {
             → IfOk result (λ p. Tells p (with_datagram ds datagram.now)) }
         ensures fault { (ds : List (List ℕ)) → Stands self.old ds
             → IfErr result (IsFaultOf (with_datagram ds datagram.now)) }
-        ensures memory { (ds : List (List ℕ)) → Stands self.old ds → result ≡ Err FeedFault.NoMemory
+        ensures memory { (ds : List (List ℕ)) → Stands self.old ds
+            → result ≡ Err FeedFault.NoMemory
             → HasNoFaultBefore (with_datagram ds datagram.now) }
         ensures sound { (ds : List (List ℕ)) → Stands self.old ds
             → OnOk result (HasNoFault (with_datagram ds datagram.now)) }

@@ -35,8 +35,8 @@ fn copy_others<R: Read, W: Write>(
     lost: &BTreeSet<usize>,
     writer: &mut W,
 ) -> Result<Counts, FrameFault>
-    ensures copied { (places : List ℕ) → IsSetOf places lost.now → IfOk result (λ n. HasCopied places
-        (R.remaining reader.old) (R.remaining reader.new)
+    ensures copied { (places : List ℕ) → IsSetOf places lost.now
+        → IfOk result (λ n. HasCopied places (R.remaining reader.old) (R.remaining reader.new)
         (W.contents writer.old) (W.contents writer.new)
         (W.room writer.old) (W.room writer.new) n.read n.written) }
     ensures end { IfOk result (λ n. IsAtEnd (R.remaining reader.new)) }
