@@ -22,6 +22,7 @@ import time
 ROOT = os.path.dirname(os.path.dirname(os.path.abspath(__file__)))
 PROGRAM = os.path.join(ROOT, "crates", "alcrs", "out", "alcrs")
 COMMANDS = ["encode", "certify", "check", "drop", "decode"]
+IDENTIFIERS = ["--tsi", "1", "--toi", "1"]
 MIB = 1 << 20
 DROPPED = 1000
 
@@ -49,11 +50,11 @@ class Case:
         datagrams = sum(n for _, n in self.blocks())
         dropped = min(DROPPED, datagrams // 4)
         return {
-            "encode": ["object", "session", "--tsi", "1", "--toi", "1", *sizes],
+            "encode": ["object", "session", *IDENTIFIERS, *sizes],
             "certify": ["object", "certificate", *sizes],
-            "check": ["session", "object", "certificate"],
+            "check": ["session", "object", "certificate", *IDENTIFIERS],
             "drop": ["session", "fewer", *(str(i * datagrams // dropped) for i in range(dropped))],
-            "decode": ["thin", "decoded"],
+            "decode": ["thin", "decoded", *IDENTIFIERS],
         }
 
 

@@ -17,11 +17,13 @@ ROOT = os.path.dirname(os.path.dirname(os.path.abspath(__file__)))
 SCRIPT = os.path.abspath(__file__)
 PROGRAM = os.path.join(ROOT, "crates", "alcrs", "out", "alcrs")
 HEADER = bytes([0x10, 0xA0, 7, 5]) + bytes(7) + b"\1" + bytes(3) + b"\1\x40\3"
+# Whose packets: the header has these.
+IDENTIFIERS = ["--tsi", "1", "--toi", "1"]
 WORDS = {
-    "check": ["check", "s", "o", "c"],
-    "decode": ["decode", "s", "out"],
-    "follow": ["follow", "s", "out"],
-    "twin": ["twin", "s", "o", "c", "out"],
+    "check": ["check", "s", "o", "c", *IDENTIFIERS],
+    "decode": ["decode", "s", "out", *IDENTIFIERS],
+    "follow": ["follow", "s", "out", *IDENTIFIERS],
+    "twin": ["twin", "s", "o", "c", "out", *IDENTIFIERS],
     "drop": ["drop", "s", "out", "0"],
     "show": ["show", "s"],
 }
@@ -53,7 +55,7 @@ def send(length, fti, order):
     """An object of random bytes in `o`, its session in `s`, its certificate in `c`."""
     put("o", random.Random(1).randbytes(length))
     sizes = ["--symbol", str(fti[0]), "--block", str(fti[1]), "--max", str(fti[2])]
-    alcrs("encode", "o", "s", "--tsi", "1", "--toi", "1", *sizes, "--order", order)
+    alcrs("encode", "o", "s", *IDENTIFIERS, *sizes, "--order", order)
     alcrs("certify", "o", "c", *sizes)
 
 

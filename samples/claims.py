@@ -20,7 +20,7 @@ import struct
 import sys
 import tempfile
 
-from trying import BEFORE, PROGRAM, SAMPLES, Rooms, in_turn
+from trying import BEFORE, OF_NOTE, PROGRAM, SAMPLES, Rooms, in_turn
 
 ROOM = 64 << 20
 FTI = "F1 LengthZero|F2 LengthTooGreat|F3 SymbolZero|F4 BlockZero|F5 MaxBelowBlock|F6 TooManyBlocks"
@@ -32,12 +32,12 @@ FRAMES = "fault S[12] Cut(?:Length|Datagram)\n|fault S3 TooLong\n"
 FAULTS = f"{FRAMES}|fault Z1 Magic\n|fault Z2 Fti (?:{FTI})\n|fault Z3 Size\n"
 REASONS = (
     r"no (?:N1 ObjectLength|N2 NotObject block \d+ column \d+ symbol \d+|N3 Empty|N4 Packet place \d+ " + PACKET +
-    r"|N5 OtherIdentity place \d+|N6 OtherFti place \d+|N7 Range place \d+|N8 Symbol place \d+ column \d+"
+    r"|N6 OtherFti place \d+|N7 Range place \d+|N8 Symbol place \d+ column \d+"
     r"|N9 Thin block \d+ have \d+ need \d+)\n"
 )
 LACKS = r"(?:empty|missing block \d+ have \d+ need \d+)\n"
 REFUSALS = (
-    rf"(?:refused \d+ (?:R1 Packet {PACKET}|R2 OtherIdentity|R3 OtherFti|R4 Range|R5 Clash|R6 NotCode block \d+)\n)*"
+    rf"(?:refused \d+ (?:R1 Packet {PACKET}|R3 OtherFti|R4 Range|R5 Clash|R6 NotCode block \d+)\n)*"
 )
 SHOWN = r"\d+ tsi \d+ toi \d+ length \d+ symbol \d+ block \d+ max \d+ sbn \d+ esi \d+\n"
 
@@ -49,7 +49,7 @@ LINES = {
     },
     "decode": {
         0: r"object \d+ bytes\n",
-        1: rf"fault R1 Packet place \d+ {PACKET}\n|fault R(?:2 OtherIdentity|3 OtherFti|4 Range|5 Clash) place \d+\n"
+        1: rf"fault R1 Packet place \d+ {PACKET}\n|fault R(?:3 OtherFti|4 Range|5 Clash) place \d+\n"
         rf"|fault R6 NotCode block \d+\n|{FRAMES}",
         3: LACKS,
     },
@@ -66,12 +66,12 @@ LINES = {name: {status: re.compile(text) for status, text in told.items()} for n
 
 # The commands that read a session `s`, an object `o` and a certificate `c`.
 WORDS = {
-    "check": ["check", "s", "o", "c"],
-    "decode": ["decode", "s", "out"],
-    "follow": ["follow", "s", "out"],
+    "check": ["check", "s", "o", "c", *OF_NOTE],
+    "decode": ["decode", "s", "out", *OF_NOTE],
+    "follow": ["follow", "s", "out", *OF_NOTE],
     "show": ["show", "s"],
     "drop": ["drop", "s", "out", "0"],
-    "twin": ["twin", "s", "o", "c", "out"],
+    "twin": ["twin", "s", "o", "c", "out", *OF_NOTE],
 }
 OF_CERTIFICATE = ["check", "twin"]
 
@@ -138,8 +138,8 @@ def fti_bytes(length, symbol, block, most):
 
 
 def frame_of(fti, block, esi):
-    """The frame of a packet with a symbol of zeros."""
-    head = bytes([0x10, 0xA0, 7, 5]) + bytes(7) + b"\1" + bytes(3) + b"\1\x40\3"
+    """The frame of a packet of the note's session with a symbol of zeros."""
+    head = bytes([0x10, 0xA0, 7, 5]) + bytes(7) + b"\7" + bytes(3) + b"\2\x40\3"
     datagram = head + fti_bytes(*fti) + struct.pack(">I", block << 8 | esi) + bytes(fti[1])
     return struct.pack(">H", len(datagram)) + datagram
 
@@ -165,7 +165,7 @@ def great_claims():
         ]:
             for command in ["decode", "follow"]:
                 yield Try(f"packet of {fti}", WORDS[command], {"s": session}, (3, text))
-        shown = "tsi 1 toi 1 length {} symbol {} block {} max {}".format(*fti)
+        shown = "tsi 7 toi 2 length {} symbol {} block {} max {}".format(*fti)
         yield Try(f"packet of {fti}", WORDS["show"], {"s": far}, (0, f"0 {shown} sbn {last} esi 0\n"))
         yield Try(f"packet of {fti}", WORDS["drop"], {"s": far}, (0, "kept 0 datagrams\n"))
         for command in OF_CERTIFICATE:
@@ -178,7 +178,7 @@ def great_claims():
         for words in WORDS.values():
             yield Try(f"frame of {length} bytes", words, {"s": struct.pack(">H", length) + bytes(100)}, (1, text))
     sizes = ["--symbol", "65475", "--block", "1", "--max", "255"]
-    yield Try("great symbols", ["encode", "o", "out", "--tsi", "1", "--toi", "1", *sizes], {}, (0, "encoded 255 datagrams\n"))
+    yield Try("great symbols", ["encode", "o", "out", *OF_NOTE, *sizes], {}, (0, "encoded 255 datagrams\n"))
     yield Try("great symbols", ["certify", "o", "out", *sizes], {}, (0, "certified 1 blocks\n"))
     yield Try("a far place", ["drop", "s", "out", "4294967295"], {}, (1, "fault S6 NoSuchPlace 4294967295\n"))
 

@@ -14,20 +14,20 @@ import subprocess
 import sys
 import tempfile
 
-from trying import BEFORE, COMMANDS, IDENTITY, PROGRAM, Rooms, build, in_turn, make_inputs
+from trying import BEFORE, COMMANDS, OF_BULLETIN, PROGRAM, Rooms, build, in_turn, make_inputs
 
 ERRORS = {"EIO": 5, "EINTR": 4}
 SIZES = ["--symbol", "1000", "--block", "50", "--max", "60"]
 
 # More than what stands between the program and a file.
 GREAT_COMMANDS = [
-    ["encode", "great.txt", "out", *IDENTITY, *SIZES],
+    ["encode", "great.txt", "out", *OF_BULLETIN, *SIZES],
     ["certify", "great.txt", "out", *SIZES],
-    ["check", "great.session", "great.txt", "great.rsc"],
+    ["check", "great.session", "great.txt", "great.rsc", *OF_BULLETIN],
     ["drop", "great.session", "out", "0"],
-    ["decode", "great.session", "out"],
-    ["follow", "great.session", "out"],
-    ["twin", "great_thin.session", "great.txt", "great.rsc", "out"],
+    ["decode", "great.session", "out", *OF_BULLETIN],
+    ["follow", "great.session", "out", *OF_BULLETIN],
+    ["twin", "great_thin.session", "great.txt", "great.rsc", "out", *OF_BULLETIN],
 ]
 
 # Counts calls, lets the one with the number FAILED fail with ERROR, and moves at most PIECE bytes at a time. Tells
@@ -276,7 +276,7 @@ def make_great_inputs(room):
     def alcrs(*words):
         subprocess.run([PROGRAM, *words], cwd=room, check=True, stdout=subprocess.DEVNULL)
 
-    alcrs("encode", "great.txt", "great.session", *IDENTITY, *SIZES)
+    alcrs("encode", "great.txt", "great.session", *OF_BULLETIN, *SIZES)
     alcrs("certify", "great.txt", "great.rsc", *SIZES)
     alcrs("drop", "great.session", "great_thin.session", *map(str, range(30)))
 

@@ -15,7 +15,9 @@ SAMPLES = os.path.join(ROOT, "samples")
 BEFORE = b"what stood here before"
 WORKERS = os.cpu_count() or 1
 
-IDENTITY = ["--tsi", "7", "--toi", "1"]
+# Whose packets the sessions hold: those of the bulletin, and of the note.
+OF_BULLETIN = ["--tsi", "7", "--toi", "1"]
+OF_NOTE = ["--tsi", "7", "--toi", "2"]
 NOTE = ["--symbol", "8", "--block", "8", "--max", "12"]
 ONE_BLOCK = ["--symbol", "500", "--block", "50", "--max", "60"]
 MANY_BLOCKS = ["--symbol", "64", "--block", "20", "--max", "26"]
@@ -23,25 +25,26 @@ ALL_REPAIR = ["--symbol", "200", "--block", "10", "--max", "30"]
 
 # Commands that are done, those that end with a no, with a lack or with a fault, refused lines, and help.
 COMMANDS = [
-    ["encode", "note.txt", "out", *IDENTITY, *NOTE],
-    ["encode", "bulletin.txt", "out", *IDENTITY, *ONE_BLOCK],
-    ["encode", "bulletin.txt", "out", *IDENTITY, *MANY_BLOCKS],
-    ["encode", "bulletin.txt", "out", *IDENTITY, *MANY_BLOCKS, "--order", "rounds"],
-    ["encode", "bulletin.txt", "out", *IDENTITY, "--symbol", "8", "--block", "9", "--max", "8"],
+    ["encode", "note.txt", "out", *OF_NOTE, *NOTE],
+    ["encode", "bulletin.txt", "out", *OF_BULLETIN, *ONE_BLOCK],
+    ["encode", "bulletin.txt", "out", *OF_BULLETIN, *MANY_BLOCKS],
+    ["encode", "bulletin.txt", "out", *OF_BULLETIN, *MANY_BLOCKS, "--order", "rounds"],
+    ["encode", "bulletin.txt", "out", *OF_BULLETIN, "--symbol", "8", "--block", "9", "--max", "8"],
     ["certify", "note.txt", "out", *NOTE],
     ["certify", "bulletin.txt", "out", *ONE_BLOCK],
     ["certify", "bulletin.txt", "out", *MANY_BLOCKS],
-    ["check", "note.session", "note.txt", "note.rsc"],
-    ["check", "bulletin.session", "bulletin.txt", "bulletin.rsc"],
-    ["check", "one.session", "bulletin.txt", "one.rsc"],
-    ["check", "rounds.session", "bulletin.txt", "many.rsc"],
-    ["check", "repair.session", "bulletin.txt", "repair.rsc"],
-    ["check", "thin.session", "bulletin.txt", "bulletin.rsc"],
-    ["check", "wrong.session", "bulletin.txt", "bulletin.rsc"],
-    ["check", "cut.session", "bulletin.txt", "bulletin.rsc"],
-    ["check", "note.session", "bulletin.txt", "note.rsc"],
-    ["check", "note.session", "note.txt", "bulletin.txt"],
-    ["check", "missing", "note.txt", "note.rsc"],
+    ["check", "note.session", "note.txt", "note.rsc", *OF_NOTE],
+    ["check", "bulletin.session", "bulletin.txt", "bulletin.rsc", *OF_BULLETIN],
+    ["check", "one.session", "bulletin.txt", "one.rsc", *OF_BULLETIN],
+    ["check", "rounds.session", "bulletin.txt", "many.rsc", *OF_BULLETIN],
+    ["check", "repair.session", "bulletin.txt", "repair.rsc", *OF_BULLETIN],
+    ["check", "thin.session", "bulletin.txt", "bulletin.rsc", *OF_BULLETIN],
+    ["check", "wrong.session", "bulletin.txt", "bulletin.rsc", *OF_BULLETIN],
+    ["check", "cut.session", "bulletin.txt", "bulletin.rsc", *OF_BULLETIN],
+    ["check", "two.session", "note.txt", "note.rsc", *OF_NOTE],
+    ["check", "note.session", "bulletin.txt", "note.rsc", *OF_NOTE],
+    ["check", "note.session", "note.txt", "bulletin.txt", *OF_NOTE],
+    ["check", "missing", "note.txt", "note.rsc", *OF_NOTE],
     ["drop", "bulletin.session", "out", "0", "3", "7"],
     ["drop", "bulletin.session", "out", "99"],
     ["drop", "cut.session", "out", "0"],
@@ -49,24 +52,27 @@ COMMANDS = [
     ["join", "out", "note.session", "bulletin.session", "note.session", "--turns"],
     ["join", "out", "note.session", "cut.session"],
     ["join", "out", "note.session", "missing"],
-    ["decode", "note.session", "out"],
-    ["decode", "bulletin.session", "out"],
-    ["decode", "one_lossy.session", "out"],
-    ["decode", "rounds_lossy.session", "out"],
-    ["decode", "thin.session", "out"],
-    ["decode", "wrong.session", "out"],
-    ["decode", "empty.session", "out"],
-    ["follow", "note.session", "out"],
-    ["follow", "bulletin.session", "out"],
-    ["follow", "one_lossy.session", "out"],
-    ["follow", "rounds_lossy.session", "out"],
-    ["follow", "spoiled.session", "out"],
-    ["follow", "thin.session", "out"],
-    ["follow", "cut.session", "out"],
-    ["twin", "thin.session", "bulletin.txt", "bulletin.rsc", "out"],
-    ["twin", "one_thin.session", "bulletin.txt", "one.rsc", "out"],
-    ["twin", "note.session", "note.txt", "note.rsc", "out"],
-    ["twin", "wrong.session", "bulletin.txt", "bulletin.rsc", "out"],
+    ["decode", "note.session", "out", *OF_NOTE],
+    ["decode", "bulletin.session", "out", *OF_BULLETIN],
+    ["decode", "one_lossy.session", "out", *OF_BULLETIN],
+    ["decode", "rounds_lossy.session", "out", *OF_BULLETIN],
+    ["decode", "thin.session", "out", *OF_BULLETIN],
+    ["decode", "wrong.session", "out", *OF_BULLETIN],
+    ["decode", "two.session", "out", *OF_BULLETIN],
+    ["decode", "note.session", "out", *OF_BULLETIN],
+    ["decode", "empty.session", "out", *OF_BULLETIN],
+    ["follow", "note.session", "out", *OF_NOTE],
+    ["follow", "bulletin.session", "out", *OF_BULLETIN],
+    ["follow", "one_lossy.session", "out", *OF_BULLETIN],
+    ["follow", "rounds_lossy.session", "out", *OF_BULLETIN],
+    ["follow", "spoiled.session", "out", *OF_BULLETIN],
+    ["follow", "thin.session", "out", *OF_BULLETIN],
+    ["follow", "two.session", "out", *OF_NOTE],
+    ["follow", "cut.session", "out", *OF_BULLETIN],
+    ["twin", "thin.session", "bulletin.txt", "bulletin.rsc", "out", *OF_BULLETIN],
+    ["twin", "one_thin.session", "bulletin.txt", "one.rsc", "out", *OF_BULLETIN],
+    ["twin", "note.session", "note.txt", "note.rsc", "out", *OF_NOTE],
+    ["twin", "wrong.session", "bulletin.txt", "bulletin.rsc", "out", *OF_BULLETIN],
     ["show", "note.session"],
     ["show", "spoiled.session"],
     ["show", "cut.session"],
@@ -102,11 +108,11 @@ def make_inputs(room):
             return file.read()
 
     for name in os.listdir(SAMPLES):
-        if name.startswith(("bulletin.", "note.")):
+        if name.startswith(("bulletin.", "note.", "two.")):
             with open(os.path.join(SAMPLES, name), "rb") as file:
                 put(name, file.read())
     for name, sizes in [("one", ONE_BLOCK), ("many", MANY_BLOCKS), ("repair", ALL_REPAIR)]:
-        alcrs("encode", "bulletin.txt", f"{name}.session", *IDENTITY, *sizes, "--order", "rounds")
+        alcrs("encode", "bulletin.txt", f"{name}.session", *OF_BULLETIN, *sizes, "--order", "rounds")
         alcrs("certify", "bulletin.txt", f"{name}.rsc", *sizes)
     os.rename(os.path.join(room, "many.session"), os.path.join(room, "rounds.session"))
     alcrs("drop", "one.session", "one_lossy.session", *map(str, range(10)))

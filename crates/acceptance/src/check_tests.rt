@@ -8,7 +8,7 @@ use crate::sessions::{
 use std::alloc::Global;
 use std::test::Fail;
 
-// `alcrs check s o c` of these files ends with this status, and prints this.
+// `alcrs check s o c --tsi 1 --toi 1` of these files ends with this status, and prints this.
 fn checks(
     alloc: Global,
     session: &[u8],
@@ -24,7 +24,7 @@ fn checks(
     };
     expect(
         alloc,
-        &["alcrs", "check", "s", "o", "c"],
+        &["alcrs", "check", "s", "o", "c", "--tsi", "1", "--toi", "1"],
         &[("s", session), ("o", object), ("c", certificate)],
         &wanted,
     )
@@ -217,8 +217,6 @@ fn no_to_one_byte_changed(rt: HostRuntime) -> Result<(), Fail> {
     let alloc = rt.alloc();
     for (at, byte, line) in [
         (104, 5, "no N8 Symbol place 2 column 0\n"),
-        (35 + 2 + 15, 2, "no N5 OtherIdentity place 1\n"),
-        (35 + 2 + 11, 2, "no N5 OtherIdentity place 1\n"),
         (35 + 2 + 27, 4, "no N6 OtherFti place 1\n"),
         (70 + 2 + 31, 3, "no N7 Range place 2\n"),
         (70 + 2 + 30, 1, "no N7 Range place 2\n"),
@@ -349,7 +347,7 @@ fn cut_and_wrong_certificates(rt: HostRuntime) -> Result<(), Fail> {
 #[test]
 fn files_that_are_not_there(rt: HostRuntime) -> Result<(), Fail> {
     let alloc = rt.alloc();
-    let words = ["alcrs", "check", "s", "o", "c"];
+    let words = ["alcrs", "check", "s", "o", "c", "--tsi", "1", "--toi", "1"];
     let files = [
         ("s", &PAIR_SESSION[..]),
         ("o", &PAIR),

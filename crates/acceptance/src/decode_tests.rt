@@ -30,7 +30,7 @@ fn decodes_nothing(alloc: Global, session: &[u8], status: u8, text: &str) -> Res
 fn answers(alloc: Global, session: &[u8], wanted: &Wanted<'_>) -> Result<(), Fail> {
     expect(
         alloc,
-        &["alcrs", "decode", "s", "t"],
+        &["alcrs", "decode", "s", "t", "--tsi", "1", "--toi", "1"],
         &[("s", session)],
         wanted,
     )

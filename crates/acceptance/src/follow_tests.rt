@@ -10,13 +10,10 @@ use std::test::Fail;
 /// The object `07 08 09` with E 2, B 2 and max_n 3.
 const PADDED_FTI: [u8; 10] = [0, 0, 0, 0, 0, 3, 0, 2, 2, 3];
 
+const WORDS: [&str; 8] = ["alcrs", "follow", "s", "t", "--tsi", "1", "--toi", "1"];
+
 fn follows(alloc: Global, session: &[u8], wanted: &Wanted<'_>) -> Result<(), Fail> {
-    expect(
-        alloc,
-        &["alcrs", "follow", "s", "t"],
-        &[("s", session)],
-        wanted,
-    )
+    expect(alloc, &WORDS, &[("s", session)], wanted)
 }
 
 // The session gives this object.
@@ -97,7 +94,7 @@ fn each_refusal(rt: HostRuntime) -> Result<(), Fail> {
     let mut session = Vec::new(alloc);
     session.extend_from_slice(&[0, 0])?;
     session.extend_from_slice(pair_frames(alloc, &[0])?.as_slice())?;
-    // Another TOI in the second datagram of the pair.
+    // The second datagram of the pair with another TOI: it is passed over.
     let other = pair_changed(52, 2);
     session.extend_from_slice(&other[35..70])?;
     let sent: [Sent<'_>; 1] = [(0, 1, &[2])];
@@ -109,7 +106,7 @@ fn each_refusal(rt: HostRuntime) -> Result<(), Fail> {
         alloc,
         session.as_slice(),
         3,
-        "refused 0 R1 Packet P1 TooShort\nrefused 2 R2 OtherIdentity\nrefused 3 R3 OtherFti\nrefused 4 R4 Range\nmissing block 0 have 1 need 2\n",
+        "refused 0 R1 Packet P1 TooShort\nrefused 3 R3 OtherFti\nrefused 4 R4 Range\nmissing block 0 have 1 need 2\n",
     )
 }
 
@@ -179,5 +176,5 @@ fn no_session(rt: HostRuntime) -> Result<(), Fail> {
         text: "fault open s\n",
         created: &[],
     };
-    expect(rt.alloc(), &["alcrs", "follow", "s", "t"], &[], &wanted)
+    expect(rt.alloc(), &WORDS, &[], &wanted)
 }

@@ -18,6 +18,8 @@ mod loss_tests;
 #[cfg(test)]
 mod making_tests;
 #[cfg(test)]
+mod object_tests;
+#[cfg(test)]
 mod output_tests;
 #[cfg(test)]
 mod sessions;

@@ -12,9 +12,38 @@ fn refused_lines(rt: HostRuntime) -> Result<(), Fail> {
         &["alcrs"],
         &["alcrs", "chek", "s", "o", "c"],
         &["alcrs", "check"],
-        &["alcrs", "check", "s", "o"],
-        &["alcrs", "check", "s", "o", "c", "d"],
-        &["alcrs", "check", "s", "o", "c", "--fast"],
+        &["alcrs", "check", "s", "o", "--tsi", "1", "--toi", "1"],
+        &["alcrs", "check", "s", "o", "c"],
+        &["alcrs", "check", "s", "o", "c", "--tsi", "1"],
+        &["alcrs", "check", "s", "o", "c", "--toi", "1"],
+        &[
+            "alcrs", "check", "s", "o", "c", "d", "--tsi", "1", "--toi", "1",
+        ],
+        &[
+            "alcrs", "check", "s", "o", "c", "--tsi", "1", "--toi", "1", "--fast",
+        ],
+        &[
+            "alcrs",
+            "check",
+            "s",
+            "o",
+            "c",
+            "--tsi",
+            "1",
+            "--toi",
+            "4294967296",
+        ],
+        &[
+            "alcrs", "check", "s", "o", "c", "--tsi", "1", "--tsi", "1", "--toi", "1",
+        ],
+        &["alcrs", "decode", "s", "t"],
+        &["alcrs", "decode", "s", "t", "--tsi", "1"],
+        &["alcrs", "decode", "s", "t", "--tsi", "-1", "--toi", "1"],
+        &["alcrs", "follow", "s", "t"],
+        &["alcrs", "follow", "s", "t", "--toi", "1"],
+        &["alcrs", "follow", "s", "t", "--tsi", "x", "--toi", "1"],
+        &["alcrs", "twin", "s", "o", "c", "t"],
+        &["alcrs", "twin", "s", "o", "c", "t", "--tsi", "1"],
         &["alcrs", "show"],
         &["alcrs", "show", "s", "t"],
         &["alcrs", "drop", "s", "t"],
@@ -37,7 +66,7 @@ fn a_missing_argument(rt: HostRuntime) -> Result<(), Fail> {
     let refused = answer(rt.alloc(), &["alcrs", "check", "s"], &[])?;
     assert_eq!(rt;
         refused.refusal.as_str(),
-        "error: the following required arguments were not provided:\n  <OBJECT>\n  <CERT>\n\nUsage: alcrs check <SESSION> <OBJECT> <CERT>\n\nFor more information, try '--help'.\n"
+        "error: the following required arguments were not provided:\n  --tsi <N>\n  --toi <N>\n  <OBJECT>\n  <CERT>\n\nUsage: alcrs check --tsi <N> --toi <N> <SESSION> <OBJECT> <CERT>\n\nFor more information, try '--help'.\n"
     );
     Ok(())
 }

@@ -37,7 +37,7 @@ fn an_input_replaced(rt: HostRuntime) -> Result<(), Fail> {
     )?;
     replaces(
         alloc,
-        &["alcrs", "decode", "s", "s"],
+        &["alcrs", "decode", "s", "s", "--tsi", "1", "--toi", "1"],
         ("s", &PAIR_SESSION),
         "object 2 bytes\n",
         &PAIR,
@@ -98,19 +98,36 @@ fn an_older_output_stays(rt: HostRuntime) -> Result<(), Fail> {
             1,
             "fault S2 CutDatagram\n",
         ),
-        (&["alcrs", "decode", "none", "o"], 1, "fault open none\n"),
         (
-            &["alcrs", "decode", "one", "o"],
+            &["alcrs", "decode", "none", "o", "--tsi", "1", "--toi", "1"],
+            1,
+            "fault open none\n",
+        ),
+        (
+            &["alcrs", "decode", "one", "o", "--tsi", "1", "--toi", "1"],
             3,
             "missing block 0 have 1 need 2\n",
         ),
         (
-            &["alcrs", "decode", "changed", "o"],
+            &[
+                "alcrs", "decode", "changed", "o", "--tsi", "1", "--toi", "1",
+            ],
             1,
             "fault R6 NotCode block 0\n",
         ),
         (
-            &["alcrs", "twin", "s", "object", "certificate", "o"],
+            &[
+                "alcrs",
+                "twin",
+                "s",
+                "object",
+                "certificate",
+                "o",
+                "--tsi",
+                "1",
+                "--toi",
+                "1",
+            ],
             1,
             "no twin\n",
         ),

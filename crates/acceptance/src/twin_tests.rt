@@ -6,7 +6,7 @@ use crate::sessions::{
 use std::alloc::Global;
 use std::test::Fail;
 
-// What `alcrs twin s o c t` reads.
+// What `alcrs twin s o c t --tsi 1 --toi 1` reads.
 #[derive(Clone, Copy)]
 struct Given<'a> {
     session: &'a [u8],
@@ -37,7 +37,9 @@ fn twins_nothing(alloc: Global, given: &Given<'_>, text: &str) -> Result<(), Fai
 fn answers(alloc: Global, given: &Given<'_>, wanted: &Wanted<'_>) -> Result<(), Fail> {
     expect(
         alloc,
-        &["alcrs", "twin", "s", "o", "c", "t"],
+        &[
+            "alcrs", "twin", "s", "o", "c", "t", "--tsi", "1", "--toi", "1",
+        ],
         &[
             ("s", given.session),
             ("o", given.object),

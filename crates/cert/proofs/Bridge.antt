@@ -1,5 +1,5 @@
 -- Symbols that came, as groups of places.
-use Rattle.std.proofs.Common.{◌≡◌, ◌≢◌, ℕ, zero, suc, ◌+◌, ◌<◌, ◌≤◌, Bool, true, false, cond, ◌&&◌, ◌||◌, not, List, [], ◌∷◌, ◌++◌, None, Ok, Err, length, map, get_or, set, refl, sym, ap, subst, ◌∙◌, arith, append_assoc}
+use Rattle.std.proofs.Common.{◌≡◌, ◌≢◌, ℕ, zero, suc, ◌+◌, ◌<◌, ◌≤◌, Bool, true, false, cond, ◌&&◌, ◌||◌, List, [], ◌∷◌, ◌++◌, None, Ok, Err, length, map, get_or, set, refl, sym, ap, subst, ◌∙◌, arith, append_assoc}
 use Rattle.std.specs.Prelude.{◌==◌, nat_lt, count_by, if◌then◌else◌}
 use Rattle.std.specs.List.{list_any}
 use Rattle.std.proofs.lemmas.Bool.{le-leb, lt-leb, eqb-true, eqb-false, eq-eqb}
@@ -18,11 +18,12 @@ use Rattle.losses.proofs.Link.{is_left}
 use Rattle.partition.specs.Fti.{Fti, block_count, source_count}
 use Rattle.alc.specs.Reading.{Reading}
 use Rattle.reception.specs.Symbols.{Symbol, has_arrived, arrived_count, IsFirstShort}
-use Rattle.reception.specs.Reception.{Placed, counted_from, counted, symbols, symbols_in, Suffices}
+use Rattle.reception.specs.declared.scope.Identity.{Identity}
+use Rattle.reception.specs.Reception.{Placed, is_of_identity, placed_at, counted_from, counted, symbols, symbols_in, Suffices}
 use Rattle.reception.specs.Walks.{readings_of}
 use Rattle.cert.specs.Certificate.{Certificate}
 use Rattle.cert.specs.declared.verdict.Reason.{Reason}
-use Rattle.cert.specs.declared.verdict.Reason.TheVariants.{ObjectLength, NotObject, Empty, Packet as NoPacket, OtherIdentity, OtherFti, Range, Symbol as Wrong, Thin}
+use Rattle.cert.specs.declared.verdict.Reason.TheVariants.{ObjectLength, NotObject, Empty, Packet as NoPacket, OtherFti, Range, Symbol as Wrong, Thin}
 use Rattle.cert.specs.declared.walk.NoReport.{NoReport}
 use Rattle.cert.specs.declared.walk.NoReport.TheVariants.{Reason as ByReason, NoMemory}
 use Rattle.cert.specs.Verdict.{first_reason, IsAgainst}
@@ -102,63 +103,74 @@ put_is gs place s d g l need members =
 -- ---- what is held
 
 -- what a loss leaves of a block
-pub held_left : (lost : ℕ → Bool) (b j k i : ℕ) (rs : List Reading)
-    → has_arrived (symbols (counted_from k (rest_from i lost rs))) b j ≡ list_any (is_left lost j) (members_of b (counted_from i rs))
-held_left lost b j k i [] = refl
-held_left lost b j k i (Err e ∷ rs) =
-    let gone = held_left lost b j k (i + 1) rs in
-    let later = held_left lost b j (k + 1) (i + 1) rs in
-    elim (lost i) as (λ v. has_arrived (symbols (counted_from k (if v then rest_from (i + 1) lost rs else Err e ∷ rest_from (i + 1) lost rs))) b j ≡ list_any (is_left lost j) (members_of b (counted_from (i + 1) rs))) [
+pub held_left : (who : Identity) (lost : ℕ → Bool) (b j k i : ℕ) (rs : List Reading)
+    → has_arrived (symbols (counted_from who k (rest_from i lost rs))) b j ≡ list_any (is_left lost j) (members_of b (counted_from who i rs))
+held_left who lost b j k i [] = refl
+held_left who lost b j k i (Err e ∷ rs) =
+    let gone = held_left who lost b j k (i + 1) rs in
+    let later = held_left who lost b j (k + 1) (i + 1) rs in
+    elim (lost i) as (λ v. has_arrived (symbols (counted_from who k (if v then rest_from (i + 1) lost rs else Err e ∷ rest_from (i + 1) lost rs))) b j ≡ list_any (is_left lost j) (members_of b (counted_from who (i + 1) rs))) [
       | true ↦ gone
       | false ↦ later
     ]
-held_left lost b j k i (Ok p ∷ rs) =
-    let gone = held_left lost b j k (i + 1) rs in
-    let later = held_left lost b j (k + 1) (i + 1) rs in
-    let ms = members_of b (counted_from (i + 1) rs) in
-    elim (p.block == b) as (λ w. (p.block == b) ≡ w → has_arrived (symbols (counted_from k (rest_from i lost (Ok p ∷ rs)))) b j ≡ list_any (is_left lost j) (cond w (record { place = i; esi = p.esi } ∷ []) [] ++ ms)) [
+held_left who lost b j k i (Ok p ∷ rs) =
+    let gone = held_left who lost b j k (i + 1) rs in
+    let later = held_left who lost b j (k + 1) (i + 1) rs in
+    let kept = rest_from (i + 1) lost rs in
+    let ms = members_of b (counted_from who (i + 1) rs) in
+    let here : Member = record { place = i; esi = p.esi } in
+    elim (lost i) as (λ v. lost i ≡ v → has_arrived (symbols (counted_from who k (if v then kept else Ok p ∷ kept))) b j ≡ list_any (is_left lost j) (members_of b (placed_at who i (Ok p) ++ counted_from who (i + 1) rs))) [
       | true ↦ λ e.
-          elim (lost i) as (λ v. has_arrived (symbols (counted_from k (if v then rest_from (i + 1) lost rs else Ok p ∷ rest_from (i + 1) lost rs))) b j ≡ ((not v && p.esi == j) || list_any (is_left lost j) ms)) [
-            | true ↦ gone
-            | false ↦ rw e (ap (λ (v : Bool). p.esi == j || v) later)
-          ]
+          (elim (is_of_identity who p) as (λ u. has_arrived (symbols (counted_from who k kept)) b j ≡ list_any (is_left lost j) (members_of b (cond u (record { place = i; reading = Ok p } ∷ []) [] ++ counted_from who (i + 1) rs))) [
+            | false ↦ gone
+            | true ↦
+                (elim (p.block == b) as (λ w. has_arrived (symbols (counted_from who k kept)) b j ≡ list_any (is_left lost j) (cond w (here ∷ []) [] ++ ms)) [
+                  | true ↦ rw e gone
+                  | false ↦ gone
+                ])
+          ])
       | false ↦ λ e.
-          elim (lost i) as (λ v. has_arrived (symbols (counted_from k (if v then rest_from (i + 1) lost rs else Ok p ∷ rest_from (i + 1) lost rs))) b j ≡ list_any (is_left lost j) ms) [
-            | true ↦ gone
-            | false ↦ rw e later
-          ]
+          (elim (is_of_identity who p) as (λ u. has_arrived (symbols (cond u (record { place = k; reading = Ok p } ∷ []) [] ++ counted_from who (k + 1) kept)) b j
+          ≡ list_any (is_left lost j) (members_of b (cond u (record { place = i; reading = Ok p } ∷ []) [] ++ counted_from who (i + 1) rs))) [
+            | false ↦ later
+            | true ↦
+                (elim (p.block == b) as (λ w. ((w && p.esi == j) || has_arrived (symbols (counted_from who (k + 1) kept)) b j) ≡ list_any (is_left lost j) (cond w (here ∷ []) [] ++ ms)) [
+                  | true ↦ rw e (ap (λ (v : Bool). p.esi == j || v) later)
+                  | false ↦ later
+                ])
+          ])
     ] refl
 
 pub nothing_lost : {X : Type 0} (i : ℕ) (xs : List X) → rest_from i (λ k. false) xs ≡ xs
 nothing_lost i [] = refl
 nothing_lost i (x ∷ xs) = ap (λ ys. x ∷ ys) (nothing_lost (i + 1) xs)
 
-pub held_has : (b j : ℕ) (rs : List Reading) → has_arrived (symbols (counted rs)) b j ≡ list_any (has_esi j) (members_of b (counted rs))
-held_has b j rs =
-    ap (λ (xs : List Reading). has_arrived (symbols (counted xs)) b j) (sym (nothing_lost 0 rs)) ∙ held_left (λ k. false) b j 0 0 rs
+pub held_has : (who : Identity) (b j : ℕ) (rs : List Reading) → has_arrived (symbols (counted who rs)) b j ≡ list_any (has_esi j) (members_of b (counted who rs))
+held_has who b j rs =
+    ap (λ (xs : List Reading). has_arrived (symbols (counted who xs)) b j) (sym (nothing_lost 0 rs)) ∙ held_left who (λ k. false) b j 0 0 rs
 
 -- how many different symbols a group has
-pub held_different : (b : ℕ) (rs : List Reading) (qs : List Member) → qs ≡ members_of b (counted rs) → different_outside qs 0 0 ≡ arrived_count (symbols (counted rs)) b
+pub held_different : (who : Identity) (b : ℕ) (rs : List Reading) (qs : List Member) → qs ≡ members_of b (counted who rs) → different_outside qs 0 0 ≡ arrived_count (symbols (counted who rs)) b
 unfolding different_outside
-held_different b rs qs is =
-    ap length (filter_same (λ j. nat_lt 0 (outside qs 0 0 j)) (has_arrived (symbols (counted rs)) b) (below 256)
-    (all_below (λ j. nat_lt 0 (outside qs 0 0 j) ≡ has_arrived (symbols (counted rs)) b j) 256
-    (λ j l. sym (held_has b j rs ∙ ap (λ (ms : List Member). list_any (has_esi j) ms) (sym is) ∙ any_is (has_esi j) qs ∙ ap (nat_lt 0) (let e : count_by (has_esi j) qs ≡ outside qs 0 0 j = counted_twice j qs in e)))))
+held_different who b rs qs is =
+    ap length (filter_same (λ j. nat_lt 0 (outside qs 0 0 j)) (has_arrived (symbols (counted who rs)) b) (below 256)
+    (all_below (λ j. nat_lt 0 (outside qs 0 0 j) ≡ has_arrived (symbols (counted who rs)) b j) 256
+    (λ j l. sym (held_has who b j rs ∙ ap (λ (ms : List Member). list_any (has_esi j) ms) (sym is) ∙ any_is (has_esi j) qs ∙ ap (nat_lt 0) (let e : count_by (has_esi j) qs ≡ outside qs 0 0 j = counted_twice j qs in e)))))
   where
     counted_twice : (j : ℕ) (ms : List Member) → count_by (has_esi j) ms ≡ outside ms 0 0 j
     counted_twice j ms = omega arith
 
 -- ---- lines and short blocks
 
-module _ (f : Fti) (rs : List Reading) (groups : List Group) (are : AreGroupsOf f (counted rs) groups) where
-  pub count_is : (b : ℕ) → b < block_count f → different_in groups b ≡ arrived_count (symbols (counted rs)) b
-  count_is b l = held_different b rs (group_at groups b).members (are.members b l)
+module _ (who : Identity) (f : Fti) (rs : List Reading) (groups : List Group) (are : AreGroupsOf f (counted who rs) groups) where
+  pub count_is : (b : ℕ) → b < block_count f → different_in groups b ≡ arrived_count (symbols (counted who rs)) b
+  count_is b l = held_different who b rs (group_at groups b).members (are.members b l)
 
-  pub enough_full : AreEnough groups → Suffices f rs
+  pub enough_full : AreEnough groups → Suffices who f rs
   enough_full h b l = le-leb _ _ (let e = count_is b l in let n = are.need b l in let c = are.count in let g = h b (omega (arith, l, c)) in omega (arith, e, g, n))
 
   pub short_group : (b have need : ℕ) → IsFirstShortGroup groups b have need
-      → IsFirstShort f (symbols (counted rs)) b × (have ≡ arrived_count (symbols (counted rs)) b) × (need ≡ source_count f b)
+      → IsFirstShort f (symbols (counted who rs)) b × (have ≡ arrived_count (symbols (counted who rs)) b) × (need ≡ source_count f b)
   short_group b have need h =
       let c = are.count in
       let l : b < block_count f = (let g = h.block in omega (arith, g, c)) in
@@ -178,34 +190,33 @@ module _ (f : Fti) (rs : List Reading) (groups : List Group) (are : AreGroupsOf 
         h.need_is ∙ n,
       )
 
-  lines_same : (n : ℕ) → n ≤ block_count f → map (line_in groups) (below n) ≡ block_lines f (symbols (counted rs)) n
+  lines_same : (n : ℕ) → n ≤ block_count f → map (line_in groups) (below n) ≡ block_lines f (symbols (counted who rs)) n
   unfolding below
   lines_same zero l = refl
   lines_same (suc n) l =
-      let arrivals = symbols (counted rs) in
+      let arrivals = symbols (counted who rs) in
       map-append (line_in groups) (below n) (n ∷ [])
       ∙ ap (λ ls. ls ++ line_in groups n ∷ []) (lines_same n (omega arith))
-      ∙ ap (λ (c : ℕ). block_lines f (symbols (counted rs)) n ++ ((group_at groups n).need, c) ∷ []) (count_is n (omega arith))
-      ∙ ap (λ (c : ℕ). block_lines f (symbols (counted rs)) n ++ (c, arrived_count (symbols (counted rs)) n) ∷ []) (are.need n (omega arith))
+      ∙ ap (λ (c : ℕ). block_lines f (symbols (counted who rs)) n ++ ((group_at groups n).need, c) ∷ []) (count_is n (omega arith))
+      ∙ ap (λ (c : ℕ). block_lines f (symbols (counted who rs)) n ++ (c, arrived_count (symbols (counted who rs)) n) ∷ []) (are.need n (omega arith))
       ∙ sym (map-append (λ b. (source_count f b, arrived_count arrivals b)) (below n) (n ∷ []))
 
-  pub lines_are : map (line_in groups) (below (length groups)) ≡ block_lines f (symbols (counted rs)) (block_count f)
+  pub lines_are : map (line_in groups) (below (length groups)) ≡ block_lines f (symbols (counted who rs)) (block_count f)
   lines_are = ap (λ (n : ℕ). map (line_in groups) (below n)) are.count ∙ lines_same (block_count f) (omega arith)
 
-module _ (z : Certificate) (ds : List (List ℕ)) (groups : List Group) (are : AreGroupsOf z.fti (counted (readings_of ds)) groups) where
-  refused_reason : (r : Reason) → first_reason z (readings_of ds) ≡ None → counted (readings_of ds) ≢ [] → IsShortGroup groups (ByReason r) → IsAgainst (readings_of ds) z r
-  refused_reason (Thin b have need) none some h = let w = short_group z.fti (readings_of ds) groups are b have need h in (none, some, w.0, w.1, w.2)
+module _ (who : Identity) (z : Certificate) (ds : List (List ℕ)) (groups : List Group) (are : AreGroupsOf z.fti (counted who (readings_of ds)) groups) where
+  refused_reason : (r : Reason) → first_reason who z (readings_of ds) ≡ None → symbols (counted who (readings_of ds)) ≢ [] → IsShortGroup groups (ByReason r) → IsAgainst who (readings_of ds) z r
+  refused_reason (Thin b have need) none some h = let w = short_group who z.fti (readings_of ds) groups are b have need h in (none, some, w.0, w.1, w.2)
   refused_reason ObjectLength none some h = absurd h
   refused_reason (NotObject b c i) none some h = absurd h
   refused_reason Empty none some h = absurd h
   refused_reason (NoPacket i x) none some h = absurd h
-  refused_reason (OtherIdentity i) none some h = absurd h
   refused_reason (OtherFti i) none some h = absurd h
   refused_reason (Range i) none some h = absurd h
   refused_reason (Wrong i c) none some h = absurd h
 
   -- no report, by the counts
-  pub counts_refused : (e : NoReport) → first_reason z (readings_of ds) ≡ None → counted (readings_of ds) ≢ [] → IsShortGroup groups e → IsNoReport ds z e
+  pub counts_refused : (e : NoReport) → first_reason who z (readings_of ds) ≡ None → symbols (counted who (readings_of ds)) ≢ [] → IsShortGroup groups e → IsNoReport who ds z e
   counts_refused NoMemory none some h = tt
   counts_refused (ByReason r) none some h = refused_reason r none some h
 

@@ -1,29 +1,31 @@
 -- Datagrams that come one after the other, and what is told of them.
-use Rattle.std.proofs.Common.{◌≡◌, ℕ, ◌+◌, ◌<◌, true, List, [], ◌∷◌, ◌++◌, Option, Some, None, Result, Ok, Err, length, refl, sym, ap, subst, ◌∙◌, arith}
-use Rattle.std.specs.Prelude.{option_map, OnOk, IfErr, IsErrAnd}
-use Rattle.std.proofs.lemmas.List.{map-append, length-append, length-map}
+use Rattle.std.proofs.Common.{◌≡◌, ℕ, ◌+◌, ◌<◌, Bool, true, false, cond, List, [], ◌∷◌, ◌++◌, Option, Some, None, Result, Ok, Err, length, take, get_or, refl, sym, ap, subst, ◌∙◌, arith, lt-ltb}
+use Rattle.std.specs.Prelude.{option_map, nat_lt, OnOk, IfErr, IsErrAnd}
+use Rattle.std.proofs.lemmas.List.{map-append, length-append, length-map, append-nil}
+use Rattle.std.proofs.Math.Seq.{take-append_seam, get_or-append_seam}
 use Rattle.std.proofs.lemmas.Bool.{ltb-true}
 use Rattle.lists.proofs.Lists.{both}
 use Rattle.partition.specs.Fti.{Fti, block_count}
 use Rattle.losses.specs.Groups.{Group}
-use Rattle.alc.specs.Packet.{Packet}
 use Rattle.alc.specs.Views.{packet_of}
 use Rattle.alc.specs.Reading.{Reading}
 use Rattle.alc.specs.Computed.{read_of}
 use Rattle.alc.proofs.Again.{exact}
 use Rattle.alc.specs.declared.reading.Packet.{Packet as ReadPacket}
+use Rattle.reception.specs.declared.scope.Identity.{Identity}
 use Rattle.reception.specs.declared.scope.Scope.{Scope}
 use Rattle.reception.specs.declared.scope.PlaceFault.{PlaceFault}
 use Rattle.reception.specs.declared.scope.PlaceFault.TheVariants as fault
-use Rattle.reception.specs.Reception.{Judge, Wrong, Faulty, Judged, Found, Placed, Reception, counted, symbols, symbols_in, symbol_of, learned, in_range, with_fti, wrong_by, judged, or_else, at_place, reading_wrong, reception_with}
-use Rattle.reception.specs.Step.{told, looked, IsLook}
+use Rattle.reception.specs.Symbols.{Symbol}
+use Rattle.reception.specs.Reception.{Judge, Wrong, Faulty, Judged, Found, Placed, counts, placed_at, counted, symbols, symbols_in, symbol_of, in_range, with_fti, wrong_by, judged, reception_with}
+use Rattle.reception.specs.Step.{looked, IsLook}
 use Rattle.reception.specs.Walks.{readings_of}
-use Rattle.reception.proofs.Walk.{counted_one_more}
-use Rattle.reception.proofs.Stepping.{one_more, stays_wrong, fti_stays}
-use Rattle.reception.proofs.Walking.{is_packet}
+use Rattle.reception.proofs.Walk.{counted_one_more, symbols_more, identity_stays}
+use Rattle.reception.proofs.Stepping.{stays, stays_wrong}
+use Rattle.reception.proofs.Walking.{Walked, came_before, stops, goes_on, ends, is_packet, same_identity, packet_counts, passed_counts}
 use Rattle.reception.proofs.Looks.{fti_after, faultless_look, length_look}
 use Rattle.cert.specs.declared.verdict.Reason.{Reason}
-use Rattle.cert.specs.declared.verdict.Reason.TheVariants.{ObjectLength, NotObject, Empty, Packet as NoPacket, OtherIdentity, OtherFti, Range, Symbol as NotCertified, Thin}
+use Rattle.cert.specs.declared.verdict.Reason.TheVariants.{ObjectLength, NotObject, Empty, Packet as NoPacket, OtherFti, Range, Symbol as NotCertified, Thin}
 use Rattle.cert.specs.declared.walk.NoReport.{NoReport}
 use Rattle.cert.specs.declared.walk.NoReport.TheVariants.{Reason as ByReason, NoMemory}
 use Rattle.cert.specs.Certificate.{Certificate}
@@ -34,9 +36,9 @@ use Rattle.cert.proofs.Bridge.{group_more}
 
 -- ---- results
 
-pub both_ok : {A E P Q S : Type 0} (r : Result A E) → OnOk r P → OnOk r Q → (P → Q → S) → OnOk r S
-both_ok (Ok a) p q f = f p q
-both_ok (Err e) p q f = tt
+pub three_ok : {A E P Q S T : Type 0} (r : Result A E) → OnOk r P → OnOk r Q → OnOk r S → (P → Q → S → T) → OnOk r T
+three_ok (Ok a) p q s f = f p q s
+three_ok (Err e) p q s f = tt
 
 -- an error that `?` passes on
 pub passed_on : {A E : Type 0} (r : Result A E) (e : E) (P : E → Type 0) → IsErrAnd r (λ x. x ≡ e) → P e → IfErr r P
@@ -51,37 +53,57 @@ module _ {R : Type 0} (judge : Judge R) (known : Scope) (ds : List (List ℕ)) (
   pub readings_more : readings_of (ds ++ d ∷ []) ≡ readings_of ds ++ at.reading ∷ []
   readings_more = map-append read_of ds (d ∷ []) ∙ ap (λ (r : Reading). readings_of ds ++ r ∷ []) (exact d at.reading at.reads)
 
-  -- what is known with this datagram
-  now : reception_with judge known (readings_of (ds ++ d ∷ [])) ≡ told judge (length ds) (reception_with judge known (readings_of ds)) at.reading
-  now =
-      ap (λ (l : List Reading). reception_with judge known l) readings_more ∙ one_more judge known (readings_of ds) at.reading
-      ∙ ap (λ (n : ℕ). told judge n (reception_with judge known (readings_of ds)) at.reading) (length-map ds read_of)
+  -- it stands behind those that were looked at
+  front : take (length ds) (readings_of (ds ++ d ∷ [])) ≡ readings_of ds
+  front =
+      ap (λ (rs : List Reading). take (length ds) rs) readings_more
+      ∙ ap (λ (n : ℕ). take n (readings_of ds ++ at.reading ∷ [])) (sym (length-map ds read_of))
+      ∙ take-append_seam (readings_of ds) (at.reading ∷ [])
 
-  wrong_here : reading_wrong judge (learned (reception_with judge known (readings_of ds)).scope at.reading) (symbols (counted (readings_of ds))) at.reading
-      ≡ wrong_by judge (symbols (counted (readings_of ds))) (looked answer)
-  wrong_here =
-      ap (λ (s : Scope). reading_wrong judge (learned s at.reading) (symbols (counted (readings_of ds))) at.reading) holds
-      ∙ ap (λ (s : Scope). reading_wrong judge s (symbols (counted (readings_of ds))) at.reading) (sym at.scope)
-      ∙ ap (λ (a : Result (Option Packet) PlaceFault). wrong_by judge (symbols (counted (readings_of ds))) a) (sym at.told)
+  walked : Walked judge known (ds ++ d ∷ []) (length ds) old
+  walked = record {
+    clean = subst (λ (rs : List Reading). (reception_with judge known rs).wrong ≡ None) (sym front) clean;
+    holds = subst (λ (rs : List Reading). (reception_with judge known rs).scope ≡ old) (sym front) holds;
+  }
 
-  pub wrong_now : (reception_with judge known (readings_of (ds ++ d ∷ []))).wrong ≡ at_place (length ds) (wrong_by judge (symbols (counted (readings_of ds))) (looked answer))
-  wrong_now =
-      ap (λ (c : Reception R). c.wrong) now
-      ∙ ap (λ (o : Found R). or_else o (at_place (length ds) (reading_wrong judge (learned (reception_with judge known (readings_of ds)).scope at.reading) (symbols (counted (readings_of ds))) at.reading))) clean
-      ∙ ap (λ (o : Option (Wrong R)). at_place (length ds) o) wrong_here
+  inside : length ds < length (ds ++ d ∷ [])
+  inside = omega (arith, length-append ds (d ∷ []))
 
-  pub scope_now : (reception_with judge known (readings_of (ds ++ d ∷ []))).scope ≡ new
-  scope_now = ap (λ (c : Reception R). c.scope) now ∙ ap (λ (s : Scope). learned s at.reading) holds ∙ sym at.scope
+  here : d ≡ get_or (ds ++ d ∷ []) (length ds) []
+  here = sym (get_or-append_seam ds d [] [])
+
+  -- what came before it
+  abbrev pub earlier : List Symbol
+  earlier = came_before known.identity (ds ++ d ∷ []) (length ds)
+
+  pub wrong_now : (w : Wrong R) → wrong_by judge earlier (looked answer) ≡ Some w → (reception_with judge known (readings_of (ds ++ d ∷ []))).wrong ≡ Some (length ds, w)
+  wrong_now w is = stops judge known (ds ++ d ∷ []) (length ds) old walked d new answer inside here at w is
+
+  pub clean_now : wrong_by judge earlier (looked answer) ≡ None
+      → ((reception_with judge known (readings_of (ds ++ d ∷ []))).wrong ≡ None) × ((reception_with judge known (readings_of (ds ++ d ∷ []))).scope ≡ new)
+  clean_now is =
+      ends judge known (ds ++ d ∷ []) (length ds + 1) new (goes_on judge known (ds ++ d ∷ []) (length ds) old walked d new answer inside here at is)
+      (omega (arith, length-append ds (d ∷ [])))
 
 -- ---- to a check
 
-pub begins : (z : Certificate) (scope : Scope) (groups : List Group) → scope ≡ with_fti z.fti → AreGroupsOf z.fti [] groups → AreWalked z scope 0 groups []
-begins z scope groups is are = record { clean = refl; holds = sym is; many = refl; grouped = are }
+-- some symbols came, with one more
+some_more : (xs : List Placed) (x : Placed) (s : Symbol) → symbols_in x.reading ≡ s ∷ [] → nat_lt 0 (length (symbols (xs ++ x ∷ []))) ≡ true
+some_more xs x s is =
+    let all = ap (λ (ss : List Symbol). length ss) (symbols_more xs (x ∷ [])) in
+    let parts = length-append (symbols xs) (symbols_in x.reading ++ []) in
+    let last = length-append (symbols_in x.reading) [] in
+    let one = ap (λ (ss : List Symbol). length ss) is in
+    lt-ltb 0 (length (symbols (xs ++ x ∷ []))) (omega (arith, all, parts, last, one))
 
-module _ (z : Certificate) (scope : Scope) (count : ℕ) (groups : List Group) (ds : List (List ℕ)) (are : AreWalked z scope count groups ds) where
+module _ (who : Identity) (z : Certificate) (scope : Scope) (count : ℕ) (came : Bool) (groups : List Group) (ds : List (List ℕ)) (are : AreWalked who z scope count came groups ds) where
+  -- the identity is that which is asked for
+  same_who : scope.identity ≡ who
+  same_who = sym (ap (λ (s : Scope). s.identity) are.holds) ∙ identity_stays (with_fti who z.fti) (counted who (readings_of ds))
+
   -- the certificate's FTI holds
   pub fti_holds : scope.fti ≡ Some z.fti
-  fti_holds = sym (ap (λ (s : Scope). s.fti) are.holds) ∙ fti_stays None z.fti (counted (readings_of ds))
+  fti_holds = sym (ap (λ (s : Scope). s.fti) are.holds) ∙ ap (λ (s : Scope). s.fti) (stays who z.fti (counted who (readings_of ds)))
 
   module _ (d : List ℕ) (new : Scope) (answer : Result (Option ReadPacket) PlaceFault) (at : IsLook d scope new answer) where
     one_longer : length (ds ++ d ∷ []) ≡ count + 1
@@ -89,29 +111,56 @@ module _ (z : Certificate) (scope : Scope) (count : ℕ) (groups : List Group) (
 
     at_last : (w : Wrong ℕ) → IsAtLast (ds ++ d ∷ []) (reason_at count w)
     at_last (Faulty (fault.NoPacket r)) = one_longer
-    at_last (Faulty fault.OtherIdentity) = one_longer
     at_last (Faulty fault.OtherFti) = one_longer
     at_last (Faulty fault.Range) = one_longer
     at_last (Judged c) = one_longer
 
     -- something is wrong with the next datagram
-    pub refuses : (w : Wrong ℕ) → wrong_by (uncertified z) (symbols (counted (readings_of ds))) (looked answer) ≡ Some w
-        → IsNotPassed (ds ++ d ∷ []) z (ByReason (reason_at count w))
+    pub refuses : (w : Wrong ℕ) → wrong_by (uncertified z) (came_before who (ds ++ d ∷ []) (length ds)) (looked answer) ≡ Some w
+        → IsNotPassed who (ds ++ d ∷ []) z (ByReason (reason_at count w))
     refuses w is = (
       ap (λ (found : Found ℕ). option_map (λ x. reason_at x.0 x.1) found)
-          (wrong_now (uncertified z) (with_fti z.fti) ds scope are.clean are.holds d new answer at
-          ∙ ap (λ (o : Option (Wrong ℕ)). at_place (length ds) o) is ∙ ap (λ (n : ℕ). Some (n, w)) are.many),
+          (wrong_now (uncertified z) (with_fti who z.fti) ds scope are.clean are.holds d new answer at w is ∙ ap (λ (n : ℕ). Some (n, w)) are.many),
       at_last w,
     )
 
+    -- the readings that count, and the next where it does
+    counted_is : counted who (readings_of (ds ++ d ∷ [])) ≡ counted who (readings_of ds) ++ placed_at who count at.reading
+    counted_is =
+        let place : length (readings_of ds) ≡ count = length-map ds read_of ∙ are.many in
+        ap (λ (rs : List Reading). counted who rs) (readings_more (uncertified z) (with_fti who z.fti) ds scope are.clean are.holds d new answer at)
+        ∙ counted_one_more who (readings_of ds) at.reading
+        ∙ ap (λ (n : ℕ). counted who (readings_of ds) ++ placed_at who n at.reading) place
+
+    -- nothing is wrong with it
+    next : (after : List Group) (some : Bool) → wrong_by (uncertified z) (came_before who (ds ++ d ∷ []) (length ds)) (looked answer) ≡ None
+        → nat_lt 0 (length (symbols (counted who (readings_of (ds ++ d ∷ []))))) ≡ some → AreGroupsOf z.fti (counted who (readings_of (ds ++ d ∷ []))) after
+        → AreWalked new.identity z new (count + 1) some after (ds ++ d ∷ [])
+    next after some none is groups =
+        let w = clean_now (uncertified z) (with_fti who z.fti) ds scope are.clean are.holds d new answer at none in
+        subst (λ (i : Identity). AreWalked i z new (count + 1) some after (ds ++ d ∷ [])) (sym (same_identity d scope new answer at ∙ same_who))
+        (record { clean = w.0; holds = w.1; many = one_longer; some = is; grouped = groups })
+
+  -- a packet of another identity is passed over
+  pub passes_over : (d : List ℕ) (new : Scope) → IsLook d scope new (Ok None) → AreWalked new.identity z new (count + 1) came groups (ds ++ d ∷ [])
+  passes_over d new at =
+      let other : counts who at.reading ≡ false = subst (λ (i : Identity). counts i at.reading ≡ false) same_who (passed_counts d scope new at) in
+      let same : counted who (readings_of (ds ++ d ∷ [])) ≡ counted who (readings_of ds) =
+      counted_is d new (Ok None) at
+      ∙ ap (λ (v : Bool). counted who (readings_of ds) ++ cond v (record { place = count; reading = at.reading } ∷ []) []) other
+      ∙ append-nil (counted who (readings_of ds)) in
+      next d new (Ok None) at groups came refl
+      (ap (λ (xs : List Placed). nat_lt 0 (length (symbols xs))) same ∙ are.some)
+      (subst (λ (xs : List Placed). AreGroupsOf z.fti xs groups) (sym same) are.grouped)
+
   module _ (d : List ℕ) (new : Scope) (p : ReadPacket) (at : IsLook d scope new (Ok (Some p))) where
     pub packet_in_range : in_range (packet_of p) z.fti ≡ true
-    packet_in_range = (faultless_look d scope new p at z.fti (fti_after d scope new (Ok (Some p)) at z.fti fti_holds)).1.range
+    packet_in_range = (faultless_look d scope new p at z.fti (fti_after d scope new (Ok (Some p)) at z.fti fti_holds)).range
 
     pub symbol_long : length p.symbol.now ≡ z.fti.symbol_length
     symbol_long =
         length_look d scope new p at
-        ∙ ap (λ (f : Fti). f.symbol_length) (faultless_look d scope new p at z.fti (fti_after d scope new (Ok (Some p)) at z.fti fti_holds)).1.fti
+        ∙ ap (λ (f : Fti). f.symbol_length) (faultless_look d scope new p at z.fti (fti_after d scope new (Ok (Some p)) at z.fti fti_holds)).fti
 
     pub block_there : (packet_of p).block < length groups
     block_there =
@@ -121,26 +170,20 @@ module _ (z : Certificate) (scope : Scope) (count : ℕ) (groups : List Group) (
 
     -- the next datagram has no reason against it
     pub passes : (after : List Group) → uncertified z [] (symbol_of (packet_of p)) ≡ None → IsPut groups count (symbol_of (packet_of p)) after
-        → AreWalked z new (count + 1) after (ds ++ d ∷ [])
+        → AreWalked new.identity z new (count + 1) true after (ds ++ d ∷ [])
     passes after says put =
+        let x : Placed = record { place = count; reading = at.reading } in
         let is : symbols_in at.reading ≡ symbol_of (packet_of p) ∷ [] = ap symbols_in (is_packet d scope new p at) in
-        let more = group_more z.fti (counted (readings_of ds)) count (symbol_of (packet_of p)) at.reading is groups after are.grouped put in
-        let place : length (readings_of ds) ≡ count = length-map ds read_of ∙ are.many in
-        let counted_is : counted (readings_of (ds ++ d ∷ [])) ≡ counted (readings_of ds) ++ record { place = count; reading = at.reading } ∷ [] =
-        ap (λ (xs : List Reading). counted xs) (readings_more (uncertified z) (with_fti z.fti) ds scope are.clean are.holds d new (Ok (Some p)) at)
-        ∙ counted_one_more (readings_of ds) at.reading
-        ∙ ap (λ (n : ℕ). counted (readings_of ds) ++ record { place = n; reading = at.reading } ∷ []) place in
-        record {
-          clean =
-              wrong_now (uncertified z) (with_fti z.fti) ds scope are.clean are.holds d new (Ok (Some p)) at
-              ∙ ap (λ (o : Option ℕ). at_place (length ds) (judged o)) says;
-          holds = scope_now (uncertified z) (with_fti z.fti) ds scope are.clean are.holds d new (Ok (Some p)) at;
-          many = (let l = length-append ds (d ∷ []) in let m = are.many in omega (arith, l, m));
-          grouped = subst (λ (xs : List Placed). AreGroupsOf z.fti xs after) (sym counted_is) more;
-        }
+        let mine : counts who at.reading ≡ true = subst (λ (i : Identity). counts i at.reading ≡ true) same_who (packet_counts d scope new p at) in
+        let more : counted who (readings_of (ds ++ d ∷ [])) ≡ counted who (readings_of ds) ++ x ∷ [] =
+        counted_is d new (Ok (Some p)) at ∙ ap (λ (v : Bool). counted who (readings_of ds) ++ cond v (x ∷ []) []) mine in
+        next d new (Ok (Some p)) at after true (ap (λ (o : Option ℕ). judged o) says)
+        (ap (λ (xs : List Placed). nat_lt 0 (length (symbols xs))) more ∙ some_more (counted who (readings_of ds)) x (symbol_of (packet_of p)) is)
+        (subst (λ (xs : List Placed). AreGroupsOf z.fti xs after) (sym more)
+        (group_more z.fti (counted who (readings_of ds)) count (symbol_of (packet_of p)) at.reading is groups after are.grouped put))
 
     -- it isn't, since its symbol isn't the certified one
-    pub refuses_symbol : (e : NoReport) → IsNotKept z count (packet_of p) e → IsNotPassed (ds ++ d ∷ []) z e
+    pub refuses_symbol : (e : NoReport) → IsNotKept z count (packet_of p) e → IsNotPassed who (ds ++ d ∷ []) z e
     refuses_symbol NoMemory h = tt
     refuses_symbol (ByReason (NotCertified i c)) h =
         rw h.0 (refuses d new (Ok (Some p)) at (Judged c) (ap (λ (o : Option ℕ). judged o) h.1))
@@ -148,7 +191,6 @@ module _ (z : Certificate) (scope : Scope) (count : ℕ) (groups : List Group) (
     refuses_symbol (ByReason (NotObject b c i)) h = absurd h
     refuses_symbol (ByReason Empty) h = absurd h
     refuses_symbol (ByReason (NoPacket i x)) h = absurd h
-    refuses_symbol (ByReason (OtherIdentity i)) h = absurd h
     refuses_symbol (ByReason (OtherFti i)) h = absurd h
     refuses_symbol (ByReason (Range i)) h = absurd h
     refuses_symbol (ByReason (Thin b have need)) h = absurd h
@@ -160,10 +202,10 @@ found_at None r h = absurd (cc)
 found_at (Some x) r h = (x, refl, let e : reason_at x.0 x.1 ≡ r = cc in e)
 
 -- a reason at a place stays, whatever follows
-pub reason_stays : (z : Certificate) (ds rest : List (List ℕ)) (r : Reason) → first_reason z (readings_of ds) ≡ Some r → first_reason z (readings_of (ds ++ rest)) ≡ Some r
-reason_stays z ds rest r h =
-    let w = found_at (reception_to z (readings_of ds)).wrong r h in
-    let still : (reception_to z (readings_of ds ++ readings_of rest)).wrong ≡ Some w.0 =
-    stays_wrong (uncertified z) (with_fti z.fti) (readings_of ds) (readings_of rest) w.0 w.1 in
-    ap (λ (rs : List Reading). first_reason z rs) (map-append read_of ds rest)
+pub reason_stays : (who : Identity) (z : Certificate) (ds rest : List (List ℕ)) (r : Reason) → first_reason who z (readings_of ds) ≡ Some r → first_reason who z (readings_of (ds ++ rest)) ≡ Some r
+reason_stays who z ds rest r h =
+    let w = found_at (reception_to who z (readings_of ds)).wrong r h in
+    let still : (reception_to who z (readings_of ds ++ readings_of rest)).wrong ≡ Some w.0 =
+    stays_wrong (uncertified z) (with_fti who z.fti) (readings_of ds) (readings_of rest) w.0 w.1 in
+    ap (λ (rs : List Reading). first_reason who z rs) (map-append read_of ds rest)
     ∙ ap (λ (found : Found ℕ). option_map (λ x. reason_at x.0 x.1) found) still ∙ ap (λ (s : Reason). Some s) w.2

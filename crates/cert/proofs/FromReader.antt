@@ -5,10 +5,11 @@ use Rattle.session.specs.Frames.{frame, frames, AreDatagrams, IsReadFault}
 use Rattle.session.specs.declared.frame.FrameFault.{FrameFault}
 use Rattle.session.proofs.Sessions.{frames_push}
 use Rattle.alc.specs.Reading.{Reading}
+use Rattle.reception.specs.declared.scope.Identity.{Identity}
 use Rattle.reception.specs.Symbols.{IsObject}
 use Rattle.reception.specs.Walks.{readings_of}
 use Rattle.cert.specs.declared.verdict.Reason.{Reason}
-use Rattle.cert.specs.declared.verdict.Reason.TheVariants.{ObjectLength, NotObject, Empty, Packet as NoPacket, OtherIdentity, OtherFti, Range, Symbol, Thin}
+use Rattle.cert.specs.declared.verdict.Reason.TheVariants.{ObjectLength, NotObject, Empty, Packet as NoPacket, OtherFti, Range, Symbol, Thin}
 use Rattle.cert.specs.declared.verdict.Report.{Report}
 use Rattle.cert.specs.declared.verdict.Verdict.TheVariants.{Yes, No}
 use Rattle.cert.specs.declared.walk.NoReport.{NoReport}
@@ -57,107 +58,103 @@ consumes_one (Some a) (Some b) (Some c) ds d p q =
 -- ---- noes
 
 -- a reason at a place is one against the datagrams
-against_place : (z : Certificate) (rs : List Reading) (r : Reason) → first_reason z rs ≡ Some r → IsAgainst rs z r
-against_place z rs Empty h = absurd (is_at_place (reception_to z rs).wrong Empty h)
-against_place z rs (Thin b have need) h = absurd (is_at_place (reception_to z rs).wrong (Thin b have need) h)
-against_place z rs ObjectLength h = h
-against_place z rs (NotObject b c i) h = h
-against_place z rs (NoPacket i x) h = h
-against_place z rs (OtherIdentity i) h = h
-against_place z rs (OtherFti i) h = h
-against_place z rs (Range i) h = h
-against_place z rs (Symbol i c) h = h
+against_place : (who : Identity) (z : Certificate) (rs : List Reading) (r : Reason) → first_reason who z rs ≡ Some r → IsAgainst who rs z r
+against_place who z rs Empty h = absurd (is_at_place (reception_to who z rs).wrong Empty h)
+against_place who z rs (Thin b have need) h = absurd (is_at_place (reception_to who z rs).wrong (Thin b have need) h)
+against_place who z rs ObjectLength h = h
+against_place who z rs (NotObject b c i) h = h
+against_place who z rs (NoPacket i x) h = h
+against_place who z rs (OtherFti i) h = h
+against_place who z rs (Range i) h = h
+against_place who z rs (Symbol i c) h = h
 
-module _ (z : Certificate) (object : List ℕ) (form : IsObject z.fti object) (gives : GivesObject object z) where
-  verdict_no : (ds : List (List ℕ)) (r : Reason) → AreDatagrams ds → IsAgainst (readings_of ds) z r → IsVerdict ds object z (No r)
-  verdict_no ds r each h = record { readings = readings_of ds; read = read_all ds each; judged = refused (readings_of ds) object z r form gives h }
+module _ (who : Identity) (z : Certificate) (object : List ℕ) (form : IsObject z.fti object) (gives : GivesObject object z) where
+  verdict_no : (ds : List (List ℕ)) (r : Reason) → AreDatagrams ds → IsAgainst who (readings_of ds) z r → IsVerdict who ds object z (No r)
+  verdict_no ds r each h = record { readings = readings_of ds; read = read_all ds each; judged = refused who (readings_of ds) object z r form gives h }
 
   -- the no to a list that begins with datagrams of which the last isn't passed
-  pub step_no : (ds rest : List (List ℕ)) (e : NoReport) → IsNotPassed ds z e → IsNo (ds ++ rest) object z e
+  pub step_no : (ds rest : List (List ℕ)) (e : NoReport) → IsNotPassed who ds z e → IsNo who (ds ++ rest) object z e
   step_no ds rest NoMemory h = tt
   step_no ds rest (ByReason r) h =
-      refused (readings_of (ds ++ rest)) object z r form gives (against_place z (readings_of (ds ++ rest)) r (reason_stays z ds rest r h.0))
+      refused who (readings_of (ds ++ rest)) object z r form gives (against_place who z (readings_of (ds ++ rest)) r (reason_stays who z ds rest r h.0))
 
   -- the no to a list that was walked over
-  pub report_no : (ds : List (List ℕ)) (e : NoReport) → IsNoReport ds z e → IsNo ds object z e
+  pub report_no : (ds : List (List ℕ)) (e : NoReport) → IsNoReport who ds z e → IsNo who ds object z e
   report_no ds NoMemory h = tt
-  report_no ds (ByReason r) h = refused (readings_of ds) object z r form gives h
+  report_no ds (ByReason r) h = refused who (readings_of ds) object z r form gives h
 
   module _ (ds : List (List ℕ)) (each : AreDatagrams ds) (left : Option (List ℕ)) where
-    what_follows : (r : Reason) → first_reason z (readings_of ds) ≡ Some r → IsVerdictWhatFollows ds object z (No r)
+    what_follows : (r : Reason) → first_reason who z (readings_of ds) ≡ Some r → IsVerdictWhatFollows who ds object z (No r)
     what_follows r h = λ rest more.
-        verdict_no (ds ++ rest) r (datagrams_append ds rest each more) (against_place z (readings_of (ds ++ rest)) r (reason_stays z ds rest r h))
+        verdict_no (ds ++ rest) r (datagrams_append ds rest each more) (against_place who z (readings_of (ds ++ rest)) r (reason_stays who z ds rest r h))
 
-    after_place : (r : Reason) → IsNotPassed ds z (ByReason r) → IsVerdictAfter (No r) ds left object z
-    after_place ObjectLength h = absurd (is_at_place (reception_to z (readings_of ds)).wrong ObjectLength h.0)
-    after_place (NotObject b c i) h = absurd (is_at_place (reception_to z (readings_of ds)).wrong (NotObject b c i) h.0)
-    after_place Empty h = absurd (is_at_place (reception_to z (readings_of ds)).wrong Empty h.0)
-    after_place (Thin b have need) h = absurd (is_at_place (reception_to z (readings_of ds)).wrong (Thin b have need) h.0)
+    after_place : (r : Reason) → IsNotPassed who ds z (ByReason r) → IsVerdictAfter who (No r) ds left object z
+    after_place ObjectLength h = absurd (is_at_place (reception_to who z (readings_of ds)).wrong ObjectLength h.0)
+    after_place (NotObject b c i) h = absurd (is_at_place (reception_to who z (readings_of ds)).wrong (NotObject b c i) h.0)
+    after_place Empty h = absurd (is_at_place (reception_to who z (readings_of ds)).wrong Empty h.0)
+    after_place (Thin b have need) h = absurd (is_at_place (reception_to who z (readings_of ds)).wrong (Thin b have need) h.0)
     after_place (NoPacket i x) h = (h.1, what_follows (NoPacket i x) h.0)
-    after_place (OtherIdentity i) h = (h.1, what_follows (OtherIdentity i) h.0)
     after_place (OtherFti i) h = (h.1, what_follows (OtherFti i) h.0)
     after_place (Range i) h = (h.1, what_follows (Range i) h.0)
     after_place (Symbol i c) h = (h.1, what_follows (Symbol i c) h.0)
 
-    module _ (none : first_reason z (readings_of ds) ≡ None) where
-      no_place : (r : Reason) → first_reason z (readings_of ds) ≡ Some r → ⊥
+    module _ (none : first_reason who z (readings_of ds) ≡ None) where
+      no_place : (r : Reason) → first_reason who z (readings_of ds) ≡ Some r → ⊥
       no_place r h = cc
 
-      after_all : (r : Reason) → IsAtEnd left → IsAgainst (readings_of ds) z r → IsVerdictAfter (No r) ds left object z
+      after_all : (r : Reason) → IsAtEnd left → IsAgainst who (readings_of ds) z r → IsVerdictAfter who (No r) ds left object z
       after_all Empty end h = (end, verdict_no ds Empty each h)
       after_all (Thin b have need) end h = (end, verdict_no ds (Thin b have need) each h)
       after_all ObjectLength end h = absurd (no_place ObjectLength h)
       after_all (NotObject b c i) end h = absurd (no_place (NotObject b c i) h)
       after_all (NoPacket i x) end h = absurd (no_place (NoPacket i x) h)
-      after_all (OtherIdentity i) end h = absurd (no_place (OtherIdentity i) h)
       after_all (OtherFti i) end h = absurd (no_place (OtherFti i) h)
       after_all (Range i) end h = absurd (no_place (Range i) h)
       after_all (Symbol i c) end h = absurd (no_place (Symbol i c) h)
 
 -- a reason against the object is the verdict on any list
-before_all : (z : Certificate) (object : List ℕ) (left : Option (List ℕ)) (r : Reason) → IsAgainstObject r object z → IsVerdictAfter (No r) [] left object z
-before_all z object left ObjectLength h = (refl, λ rest each. record { readings = readings_of rest; read = read_all rest each; judged = h })
-before_all z object left (NotObject b c i) h = (refl, λ rest each. record { readings = readings_of rest; read = read_all rest each; judged = h })
-before_all z object left Empty h = absurd h
-before_all z object left (NoPacket i x) h = absurd h
-before_all z object left (OtherIdentity i) h = absurd h
-before_all z object left (OtherFti i) h = absurd h
-before_all z object left (Range i) h = absurd h
-before_all z object left (Symbol i c) h = absurd h
-before_all z object left (Thin b have need) h = absurd h
+before_all : (who : Identity) (z : Certificate) (object : List ℕ) (left : Option (List ℕ)) (r : Reason) → IsAgainstObject r object z → IsVerdictAfter who (No r) [] left object z
+before_all who z object left ObjectLength h = (refl, λ rest each. record { readings = readings_of rest; read = read_all rest each; judged = h })
+before_all who z object left (NotObject b c i) h = (refl, λ rest each. record { readings = readings_of rest; read = read_all rest each; judged = h })
+before_all who z object left Empty h = absurd h
+before_all who z object left (NoPacket i x) h = absurd h
+before_all who z object left (OtherFti i) h = absurd h
+before_all who z object left (Range i) h = absurd h
+before_all who z object left (Symbol i c) h = absurd h
+before_all who z object left (Thin b have need) h = absurd h
 
 -- ---- why there is no report
 
-pub not_begun : (old : Option (List ℕ)) (failed : Bool) (z : Certificate) (object : List ℕ) (e : NoReport) → IsNotBegun object z e → IsEnding old old failed object z (ending_of e)
-not_begun old failed z object NoMemory h = tt
-not_begun old failed z object (ByReason r) h = record {
+pub not_begun : (who : Identity) (old : Option (List ℕ)) (failed : Bool) (z : Certificate) (object : List ℕ) (e : NoReport) → IsNotBegun object z e → IsEnding who old old failed object z (ending_of e)
+not_begun who old failed z object NoMemory h = tt
+not_begun who old failed z object (ByReason r) h = record {
   datagrams = [];
   each = no_datagrams;
   consumed = nothing_consumed old;
-  judged = before_all z object old r h;
+  judged = before_all who z object old r h;
   decodes = tt;
   undecided = tt;
   report = tt;
 }
 
-module _ (z : Certificate) (object : List ℕ) (form : IsObject z.fti object) (gives : GivesObject object z)
+module _ (who : Identity) (z : Certificate) (object : List ℕ) (form : IsObject z.fti object) (gives : GivesObject object z)
     (old new : Option (List ℕ)) (failed : Bool) (ds : List (List ℕ)) (each : AreDatagrams ds) (consumed : Consumes old new (frames ds)) where
-  no_from : (r : Reason) → IsVerdictAfter (No r) ds new object z → IsCheckedFrom old new object z (No r)
+  no_from : (r : Reason) → IsVerdictAfter who (No r) ds new object z → IsCheckedFrom who old new object z (No r)
   no_from r h = record { datagrams = ds; each = each; consumed = consumed; judged = h; decodes = tt; undecided = tt; report = tt }
 
   -- the last of the datagrams isn't passed
-  pub not_passed : (e : NoReport) → IsNotPassed ds z e → IsEnding old new failed object z (ending_of e)
+  pub not_passed : (e : NoReport) → IsNotPassed who ds z e → IsEnding who old new failed object z (ending_of e)
   not_passed NoMemory h = tt
-  not_passed (ByReason r) h = no_from r (after_place z object form gives ds each new r h)
+  not_passed (ByReason r) h = no_from r (after_place who z object form gives ds each new r h)
 
-  module _ (clean : (reception_to z (readings_of ds)).wrong ≡ None) where
+  module _ (clean : (reception_to who z (readings_of ds)).wrong ≡ None) where
     -- they don't suffice
-    pub no_report : (e : NoReport) → IsAtEnd new → IsNoReport ds z e → IsEnding old new failed object z (ending_of e)
+    pub no_report : (e : NoReport) → IsAtEnd new → IsNoReport who ds z e → IsEnding who old new failed object z (ending_of e)
     no_report NoMemory end h = tt
-    no_report (ByReason r) end h = no_from r (after_all z object form gives ds each new (no_reason _ clean) r end h)
+    no_report (ByReason r) end h = no_from r (after_all who z object form gives ds each new (no_reason _ clean) r end h)
 
     -- the next wasn't read
-    pub not_read : (later : Option (List ℕ)) (fault : FrameFault) → IsReadFault fault new later failed → IsRefusedBehind fault old later failed object z
+    pub not_read : (later : Option (List ℕ)) (fault : FrameFault) → IsReadFault fault new later failed → IsRefusedBehind who fault old later failed object z
     not_read later fault h = record {
       datagrams = ds;
       each = each;
@@ -168,15 +165,15 @@ module _ (z : Certificate) (object : List ℕ) (form : IsObject z.fti object) (g
     }
 
   -- all is well
-  pub yes_from : (report : Report) → IsCertificate z → IsAtEnd new → AreEnoughCertified ds z → IsReport ds z.fti report → IsCheckedFrom old new object z (Yes report)
+  pub yes_from : (report : Report) → IsCertificate z → IsAtEnd new → AreEnoughCertified who ds z → IsReport who ds z.fti report → IsCheckedFrom who old new object z (Yes report)
   yes_from report valid end enough is =
-      let judged = yes_all ds object z report form gives enough in
+      let judged = yes_all who ds object z report form gives enough in
       record {
         datagrams = ds;
         each = each;
         consumed = consumed;
         judged = (end, record { readings = readings_of ds; read = read_all ds each; judged = judged });
-        decodes = decodes ds (readings_of ds) object z (read_all ds each) valid judged;
-        undecided = undecided ds (readings_of ds) object z (read_all ds each) valid judged;
+        decodes = decodes who ds (readings_of ds) object z (read_all ds each) valid judged;
+        undecided = undecided who ds (readings_of ds) object z (read_all ds each) valid judged;
         report = is;
       }

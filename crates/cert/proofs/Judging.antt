@@ -1,7 +1,8 @@
 -- What the answers of the parts of a check say of the verdict.
-use Rattle.std.proofs.Common.{◌≡◌, ◌≢◌, ℕ, suc, List, [], ◌∷◌, ◌++◌, Option, Some, None, Ok, Err, length, refl, ap, subst}
-use Rattle.std.specs.Prelude.{option_map}
+use Rattle.std.proofs.Common.{◌≡◌, ◌≢◌, ◌∙◌, ℕ, suc, Bool, true, false, List, [], ◌∷◌, ◌++◌, Option, Some, None, Ok, Err, length, refl, sym, ap, subst, arith}
+use Rattle.std.specs.Prelude.{option_map, nat_lt, if◌then◌else◌}
 use Rattle.std.specs.List.{AllByRecursion}
+use Rattle.std.proofs.lemmas.Bool.{ltb-false}
 use Rattle.alc.specs.Packet.{Packet}
 use Rattle.alc.specs.Reading.{Reading}
 use Rattle.alc.specs.Computed.{read_of}
@@ -12,12 +13,13 @@ use Rattle.reception.specs.declared.scope.Scope.{Scope}
 use Rattle.reception.specs.declared.scope.PlaceFault.{PlaceFault}
 use Rattle.reception.specs.declared.scope.PlaceFault.TheVariants as fault
 use Rattle.reception.specs.Symbols.{Symbol as Received, IsObject}
-use Rattle.reception.specs.Reception.{ReadAll, Placed, Wrong, Faulty, Judged, Found, counted, counted_from, symbol_of, symbols_in, packet_fault, or_packet, wrong_by, judged, reading_wrong, at_place, wrong_after, with_fti, scope_from}
+use Rattle.reception.specs.Reception.{ReadAll, Placed, Wrong, Faulty, Judged, Found, counts, counted, symbols, symbol_of, symbols_in, packet_fault, or_packet, wrong_by, judged, reading_wrong, at_place, wrong_after}
 use Rattle.reception.specs.Walks.{readings_of}
+use Rattle.reception.proofs.Walk.{each_counts}
 use Rattle.reception.proofs.Stepping.{scope, stays}
 use Rattle.reception.proofs.Within.{faultless, none_wrong, neither, nowhere}
 use Rattle.cert.specs.declared.verdict.Reason.{Reason}
-use Rattle.cert.specs.declared.verdict.Reason.TheVariants.{ObjectLength, NotObject, Empty, Packet as NoPacket, OtherIdentity, OtherFti, Range, Symbol, Thin}
+use Rattle.cert.specs.declared.verdict.Reason.TheVariants.{ObjectLength, NotObject, Empty, Packet as NoPacket, OtherFti, Range, Symbol, Thin}
 use Rattle.cert.specs.declared.verdict.Report.{Report}
 use Rattle.cert.specs.declared.verdict.Verdict.TheVariants.{Yes, No}
 use Rattle.cert.specs.Certificate.{Certificate}
@@ -38,44 +40,40 @@ nothing_judged None h = refl
 nothing_judged (Some r) h = absurd (cc)
 
 -- a packet with nothing wrong
-certified : (z : Certificate) (who : Identity) (earlier : List Received) (p : Packet) → wrong_by (uncertified z) earlier (or_packet p (packet_fault who z.fti p)) ≡ None → IsCertifiedPacket z who p
-certified z who earlier p h =
-    let none = none_wrong (uncertified z) earlier p (packet_fault who z.fti p) h in
-    let w = faultless who z.fti p none in
+certified : (z : Certificate) (earlier : List Received) (p : Packet) → wrong_by (uncertified z) earlier (or_packet p (packet_fault z.fti p)) ≡ None → IsCertifiedPacket z p
+certified z earlier p h =
+    let none = none_wrong (uncertified z) earlier p (packet_fault z.fti p) h in
+    let w = faultless z.fti p none in
     let right : wrong_column z (symbol_of p) 0 z.fti.symbol_length ≡ None =
     nothing_judged _ (subst (λ (o : Option PlaceFault). wrong_by (uncertified z) earlier (or_packet p o) ≡ None) none h) in
     record {
-      tsi = w.tsi;
-      toi = w.toi;
       fti = w.fti;
       range = w.range;
       symbol = certified_where_none z (symbol_of p) right;
     }
 
--- readings with nothing wrong
-all_certified : (z : Certificate) (who : Identity) (earlier : List Received) (xs : List Placed) → wrong_after (uncertified z) (scope (Some who) (Some z.fti)) earlier xs ≡ None
-    → AllByRecursion (λ x. IsCertifiedReading z who x.reading) xs
-all_certified z who earlier [] h = tt
-all_certified z who earlier (x ∷ xs) h =
-    let w = neither (at_place x.place (reading_wrong (uncertified z) (scope (Some who) (Some z.fti)) earlier x.reading))
-    (wrong_after (uncertified z) (scope (Some who) (Some z.fti)) (earlier ++ symbols_in x.reading) xs) h in
-    (by x.reading (nowhere x.place _ w.0), all_certified z who (earlier ++ symbols_in x.reading) xs w.1)
+-- readings that count, with nothing wrong
+all_certified : (z : Certificate) (who : Identity) (earlier : List Received) (xs : List Placed) → AllByRecursion (λ x. counts who x.reading ≡ true) xs
+    → wrong_after (uncertified z) (scope who (Some z.fti)) earlier xs ≡ None → AllByRecursion (λ x. IsCertifiedReading z x.reading) xs
+all_certified z who earlier [] mine h = tt
+all_certified z who earlier (x ∷ xs) mine h =
+    let w = neither (at_place x.place (reading_wrong (uncertified z) (scope who (Some z.fti)) earlier x.reading))
+    (wrong_after (uncertified z) (scope who (Some z.fti)) (earlier ++ symbols_in x.reading) xs) h in
+    (by x.reading mine.0 (nowhere x.place _ w.0), all_certified z who (earlier ++ symbols_in x.reading) xs mine.1 w.1)
   where
-    by : (r : Reading) → reading_wrong (uncertified z) (scope (Some who) (Some z.fti)) earlier r ≡ None → IsCertifiedReading z who r
-    by (Err e) k = absurd (cc)
-    by (Ok p) k = certified z who earlier p k
+    by : (r : Reading) → counts who r ≡ true → reading_wrong (uncertified z) (scope who (Some z.fti)) earlier r ≡ None → IsCertifiedReading z r
+    by (Err e) m k = absurd (cc)
+    by (Ok p) m k =
+        certified z earlier p
+        (ap (λ (v : Bool). wrong_by (uncertified z) earlier (if v then or_packet p (packet_fault z.fti p) else Ok None)) (sym m) ∙ k)
 
-pub are_certified : (z : Certificate) (rs : List Reading) → (reception_to z rs).wrong ≡ None → counted rs ≢ [] → AreCertified rs z
-are_certified z [] h some = absurd (some refl)
-are_certified z (Err r ∷ rs) h some = absurd (cc)
-are_certified z (Ok p ∷ rs) h some =
-    let who : Identity = record { tsi = p.tsi; toi = p.toi } in
-    let is : scope_from (with_fti z.fti) (counted (Ok p ∷ rs)) ≡ scope (Some who) (Some z.fti) = stays who z.fti (counted_from 1 rs) in
-    record {
-      who = who;
-      some = ap (λ (s : Scope). s.identity) is;
-      packets = all_certified z who [] (counted (Ok p ∷ rs)) (subst (λ (s : Scope). wrong_after (uncertified z) s [] (counted (Ok p ∷ rs)) ≡ None) is h);
-    }
+pub are_certified : (who : Identity) (z : Certificate) (rs : List Reading) → (reception_to who z rs).wrong ≡ None → symbols (counted who rs) ≢ [] → AreCertified who rs z
+are_certified who z rs h some = record {
+  some = some;
+  packets =
+      all_certified z who [] (counted who rs) (each_counts who 0 rs)
+      (subst (λ (s : Scope). wrong_after (uncertified z) s [] (counted who rs) ≡ None) (stays who z.fti (counted who rs)) h);
+}
 
 -- ---- reasons
 
@@ -99,7 +97,6 @@ IsAtPlace _ = Unit {0}
 
 judged_place : (i : ℕ) (w : Wrong ℕ) → IsAtPlace (reason_at i w)
 judged_place i (Faulty (fault.NoPacket r)) = tt
-judged_place i (Faulty fault.OtherIdentity) = tt
 judged_place i (Faulty fault.OtherFti) = tt
 judged_place i (Faulty fault.Range) = tt
 judged_place i (Judged c) = tt
@@ -112,53 +109,45 @@ is_at_place None r h = absurd (cc)
 is_at_place (Some x) r h = subst IsAtPlace (some_same h) (judged_place x.0 x.1)
 
 -- something wrong at a place
-pub against : (rs : List Reading) (z : Certificate) (i : ℕ) (w : Wrong ℕ) → (reception_to z rs).wrong ≡ Some (i, w) → IsAgainst rs z (reason_at i w)
-against rs z i (Faulty (fault.NoPacket r)) h = ap reason_of h
-against rs z i (Faulty fault.OtherIdentity) h = ap reason_of h
-against rs z i (Faulty fault.OtherFti) h = ap reason_of h
-against rs z i (Faulty fault.Range) h = ap reason_of h
-against rs z i (Judged c) h = ap reason_of h
+pub against : (who : Identity) (rs : List Reading) (z : Certificate) (i : ℕ) (w : Wrong ℕ) → (reception_to who z rs).wrong ≡ Some (i, w) → IsAgainst who rs z (reason_at i w)
+against who rs z i (Faulty (fault.NoPacket r)) h = ap reason_of h
+against who rs z i (Faulty fault.OtherFti) h = ap reason_of h
+against who rs z i (Faulty fault.Range) h = ap reason_of h
+against who rs z i (Judged c) h = ap reason_of h
 
 -- the verdict for what the datagrams say
-pub refused : (rs : List Reading) (object : List ℕ) (z : Certificate) (r : Reason) → IsObject z.fti object → GivesObject object z
-    → IsAgainst rs z r → VerdictOn rs object z (No r)
-refused rs object z ObjectLength form gives h = absurd (is_at_place (reception_to z rs).wrong ObjectLength h)
-refused rs object z (NotObject b c i) form gives h = absurd (is_at_place (reception_to z rs).wrong (NotObject b c i) h)
-refused rs object z Empty form gives h = (form, gives, h)
-refused rs object z (Thin b have need) form gives h = (form, gives, h)
-refused rs object z (NoPacket i x) form gives h = (form, gives, h)
-refused rs object z (OtherIdentity i) form gives h = (form, gives, h)
-refused rs object z (OtherFti i) form gives h = (form, gives, h)
-refused rs object z (Range i) form gives h = (form, gives, h)
-refused rs object z (Symbol i c) form gives h = (form, gives, h)
+pub refused : (who : Identity) (rs : List Reading) (object : List ℕ) (z : Certificate) (r : Reason) → IsObject z.fti object → GivesObject object z
+    → IsAgainst who rs z r → VerdictOn who rs object z (No r)
+refused who rs object z ObjectLength form gives h = absurd (is_at_place (reception_to who z rs).wrong ObjectLength h)
+refused who rs object z (NotObject b c i) form gives h = absurd (is_at_place (reception_to who z rs).wrong (NotObject b c i) h)
+refused who rs object z Empty form gives h = (form, gives, h)
+refused who rs object z (Thin b have need) form gives h = (form, gives, h)
+refused who rs object z (NoPacket i x) form gives h = (form, gives, h)
+refused who rs object z (OtherFti i) form gives h = (form, gives, h)
+refused who rs object z (Range i) form gives h = (form, gives, h)
+refused who rs object z (Symbol i c) form gives h = (form, gives, h)
 
 -- the verdict for an object that isn't given
-pub no_object : (rs : List Reading) (object : List ℕ) (z : Certificate) (r : Reason) → length object ≡ z.fti.transfer_length → IsNotGiven object z r → VerdictOn rs object z (No r)
-no_object rs object z (NotObject b c i) len h = (len, h)
-no_object rs object z ObjectLength len h = absurd h
-no_object rs object z Empty len h = absurd h
-no_object rs object z (NoPacket i x) len h = absurd h
-no_object rs object z (OtherIdentity i) len h = absurd h
-no_object rs object z (OtherFti i) len h = absurd h
-no_object rs object z (Range i) len h = absurd h
-no_object rs object z (Symbol i c) len h = absurd h
-no_object rs object z (Thin b have need) len h = absurd h
+pub no_object : (who : Identity) (rs : List Reading) (object : List ℕ) (z : Certificate) (r : Reason) → length object ≡ z.fti.transfer_length → IsNotGiven object z r → VerdictOn who rs object z (No r)
+no_object who rs object z (NotObject b c i) len h = (len, h)
+no_object who rs object z ObjectLength len h = absurd h
+no_object who rs object z Empty len h = absurd h
+no_object who rs object z (NoPacket i x) len h = absurd h
+no_object who rs object z (OtherFti i) len h = absurd h
+no_object who rs object z (Range i) len h = absurd h
+no_object who rs object z (Symbol i c) len h = absurd h
+no_object who rs object z (Thin b have need) len h = absurd h
 
--- where no identity came to be known, nothing came
-pub none_counted : (z : Certificate) (rs : List Reading) → (reception_to z rs).wrong ≡ None → (reception_to z rs).scope.identity ≡ None → counted rs ≡ []
-none_counted z [] h none = refl
-none_counted z (Err r ∷ rs) h none = absurd (cc)
-none_counted z (Ok p ∷ rs) h none =
-    let who : Identity = record { tsi = p.tsi; toi = p.toi } in
-    let is : (reception_to z (Ok p ∷ rs)).scope.identity ≡ Some who = ap (λ (s : Scope). s.identity) (stays who z.fti (counted_from 1 rs)) in
-    absurd (cc)
+-- where some symbols came, there are some, and where none came, none
+pub some_came : (arrivals : List Received) → nat_lt 0 (length arrivals) ≡ true → arrivals ≢ []
+some_came [] h e = absurd (cc)
+some_came (s ∷ ss) h e = absurd (cc)
 
--- and where one did, something did
-pub some_counted : (z : Certificate) (rs : List Reading) (who : Identity) → (reception_to z rs).scope.identity ≡ Some who → counted rs ≢ []
-some_counted z [] who some e = cc
-some_counted z (r ∷ rs) who some e = cc
+pub none_came : (arrivals : List Received) → nat_lt 0 (length arrivals) ≡ false → arrivals ≡ []
+none_came [] h = refl
+none_came (s ∷ ss) h = let l = ltb-false 0 (length (s ∷ ss)) h in absurd (omega (arith, l))
 
 -- the verdict where all is well
-pub yes_all : (ds : List (List ℕ)) (object : List ℕ) (z : Certificate) (report : Report) → IsObject z.fti object → GivesObject object z → AreEnoughCertified ds z
-    → VerdictOn (readings_of ds) object z (Yes report)
-yes_all ds object z report form gives h = record { form = form; gives = gives; certified = h.all; full = h.full }
+pub yes_all : (who : Identity) (ds : List (List ℕ)) (object : List ℕ) (z : Certificate) (report : Report) → IsObject z.fti object → GivesObject object z → AreEnoughCertified who ds z
+    → VerdictOn who (readings_of ds) object z (Yes report)
+yes_all who ds object z report form gives h = record { form = form; gives = gives; certified = h.all; full = h.full }

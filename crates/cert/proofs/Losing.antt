@@ -14,7 +14,7 @@ use Rattle.partition.proofs.Laws.{some_source}
 use Rattle.alc.specs.Reading.{Reading}
 use Rattle.reception.specs.declared.scope.Identity.{Identity}
 use Rattle.reception.specs.Symbols.{has_arrived}
-use Rattle.reception.specs.Reception.{ReadAll, counted_from, counted, symbols}
+use Rattle.reception.specs.Reception.{ReadAll, is_of_identity, counted_from, counted, symbols}
 use Rattle.reception.specs.Headline.{IsEnough}
 use Rattle.cert.specs.Certificate.{Certificate}
 use Rattle.cert.specs.Verdict.{IsCertifiedReading}
@@ -29,27 +29,32 @@ wider : (i n : ℕ) (qs : List Member) → AreMembers (i + 1) n qs → AreMember
 wider i n [] g = tt
 wider i n (q ∷ qs) g = (let a = g.0 in omega (arith, a), g.1, g.2, g.3)
 
-members_above : (z : Certificate) (who : Identity) (valid : IsValidFti z.fti) (b i n : ℕ) (rs : List Reading)
-    → AllByRecursion (λ x. IsCertifiedReading z who x.reading) (counted_from i rs) → i + length rs ≡ n → AreMembers i n (members_of b (counted_from i rs))
-members_above z who valid b i n [] h e = tt
-members_above z who valid b i n (Err r ∷ rs) h e = absurd h.0
-members_above z who valid b i n (Ok p ∷ rs) h e =
-    let later = members_above z who valid b (i + 1) n rs h.1 (omega (arith, e)) in
-    elim (p.block == b) as (λ v. AreMembers i n (cond v (record { place = i; esi = p.esi } ∷ []) [] ++ members_of b (counted_from (i + 1) rs))) [
-      | true ↦ (omega arith, omega (arith, e), (let s = in_range_small z.fti p valid h.0.range in omega (arith, s)), later)
-      | false ↦ wider i n (members_of b (counted_from (i + 1) rs)) later
-    ]
+members_above : (who : Identity) (z : Certificate) (valid : IsValidFti z.fti) (b i n : ℕ) (rs : List Reading)
+    → AllByRecursion (λ x. IsCertifiedReading z x.reading) (counted_from who i rs) → i + length rs ≡ n → AreMembers i n (members_of b (counted_from who i rs))
+members_above who z valid b i n [] h e = tt
+members_above who z valid b i n (Err r ∷ rs) h e = absurd h.0
+members_above who z valid b i n (Ok p ∷ rs) h e =
+    (elim (is_of_identity who p) as (λ u. AllByRecursion (λ x. IsCertifiedReading z x.reading) (cond u (record { place = i; reading = Ok p } ∷ []) [] ++ counted_from who (i + 1) rs)
+    → AreMembers i n (members_of b (cond u (record { place = i; reading = Ok p } ∷ []) [] ++ counted_from who (i + 1) rs))) [
+      | false ↦ λ k. wider i n (members_of b (counted_from who (i + 1) rs)) (members_above who z valid b (i + 1) n rs k (omega (arith, e)))
+      | true ↦ λ k.
+          (let later = members_above who z valid b (i + 1) n rs k.1 (omega (arith, e)) in
+          elim (p.block == b) as (λ v. AreMembers i n (cond v (record { place = i; esi = p.esi } ∷ []) [] ++ members_of b (counted_from who (i + 1) rs))) [
+            | true ↦ (omega arith, omega (arith, e), (let s = in_range_small z.fti p valid k.0.range in omega (arith, s)), later)
+            | false ↦ wider i n (members_of b (counted_from who (i + 1) rs)) later
+          ])
+    ]) h
 
 places_length : (i m : ℕ) → length (places i m) ≡ m
 places_length i zero = refl
 places_length i (suc m) = let e = places_length (i + 1) m in omega (arith, e)
 
-module _ (z : Certificate) (valid : IsValidFti z.fti) (who : Identity) (rs : List Reading) (packets : AllByRecursion (λ x. IsCertifiedReading z who x.reading) (counted rs))
-    (groups : List Group) (are : AreGroupsOf z.fti (counted rs) groups) where
+module _ (who : Identity) (z : Certificate) (valid : IsValidFti z.fti) (rs : List Reading) (packets : AllByRecursion (λ x. IsCertifiedReading z x.reading) (counted who rs))
+    (groups : List Group) (are : AreGroupsOf z.fti (counted who rs) groups) where
   members_in : (b : ℕ) → b < length groups → AreMembers 0 (length rs) (group_at groups b).members
   members_in b hb =
       let c = are.count in
-      rw (are.members b (omega (arith, hb, c))) (members_above z who valid b 0 (length rs) rs packets (omega arith))
+      rw (are.members b (omega (arith, hb, c))) (members_above who z valid b 0 (length rs) rs packets (omega arith))
 
   -- the groups are as `figures_of` asks
   pub are_groups : AreEnough groups → AreGroups groups (length rs)
@@ -63,30 +68,30 @@ module _ (z : Certificate) (valid : IsValidFti z.fti) (who : Identity) (rs : Lis
     enough = enough;
   }
 
-  left : (lost : ℕ → Bool) (b j : ℕ) → b < length groups → has_arrived (symbols (counted (rest lost rs))) b j ≡ list_any (is_at (rest lost (places 0 (length rs))) j) (group_at groups b).members
+  left : (lost : ℕ → Bool) (b j : ℕ) → b < length groups → has_arrived (symbols (counted who (rest lost rs))) b j ≡ list_any (is_at (rest lost (places 0 (length rs))) j) (group_at groups b).members
   left lost b j hb =
       let c = are.count in
-      held_left lost b j 0 0 rs
+      held_left who lost b j 0 0 rs
       ∙ ap (λ (qs : List Member). list_any (is_left lost j) qs) (sym (are.members b (omega (arith, hb, c))))
       ∙ sym (any_left lost 0 (length rs) (length rs) j (group_at groups b).members (members_in b hb) refl)
 
-  whole : (b j : ℕ) → b < length groups → has_arrived (symbols (counted rs)) b j ≡ list_any (is_at (places 0 (length rs)) j) (group_at groups b).members
+  whole : (b j : ℕ) → b < length groups → has_arrived (symbols (counted who rs)) b j ≡ list_any (is_at (places 0 (length rs)) j) (group_at groups b).members
   whole b j hb =
-      ap (λ (xs : List Reading). has_arrived (symbols (counted xs)) b j) (sym (nothing_lost 0 rs))
+      ap (λ (xs : List Reading). has_arrived (symbols (counted who xs)) b j) (sym (nothing_lost 0 rs))
       ∙ left (λ k. false) b j hb
       ∙ ap (λ (xs : List ℕ). list_any (is_at xs j) (group_at groups b).members) (nothing_lost 0 (places 0 (length rs)))
 
   needed : (b : ℕ) → b < length groups → source_count z.fti b ≡ (group_at groups b).need
   needed b hb = let c = are.count in sym (are.need b (omega (arith, hb, c)))
 
-  pub margin_told : (m : ℕ) → IsMargin (blocks_of_groups groups) (places 0 (length rs)) m → IsMargin (blocks_of z.fti) rs m
-  margin_told = margin_same (blocks_of_groups groups) (blocks_of z.fti) (places 0 (length rs)) rs (sym are.count) needed (sym (places_length 0 (length rs))) whole left
+  pub margin_told : (m : ℕ) → IsMargin (blocks_of_groups groups) (places 0 (length rs)) m → IsMargin (blocks_of who z.fti) rs m
+  margin_told = margin_same (blocks_of_groups groups) (blocks_of who z.fti) (places 0 (length rs)) rs (sym are.count) needed (sym (places_length 0 (length rs))) whole left
 
-  pub kill_told : (n : ℕ) (ps : List ℕ) → IsKill (blocks_of_groups groups) (places 0 (length rs)) n ps → IsKill (blocks_of z.fti) rs n ps
-  kill_told = kill_same (blocks_of_groups groups) (blocks_of z.fti) (places 0 (length rs)) rs (sym are.count) needed (sym (places_length 0 (length rs))) whole left
+  pub kill_told : (n : ℕ) (ps : List ℕ) → IsKill (blocks_of_groups groups) (places 0 (length rs)) n ps → IsKill (blocks_of who z.fti) rs n ps
+  kill_told = kill_same (blocks_of_groups groups) (blocks_of who z.fti) (places 0 (length rs)) rs (sym are.count) needed (sym (places_length 0 (length rs))) whole left
 
-  pub burst_told : (m : ℕ) → IsBurst (blocks_of_groups groups) (places 0 (length rs)) m → IsBurst (blocks_of z.fti) rs m
-  burst_told = burst_same (blocks_of_groups groups) (blocks_of z.fti) (places 0 (length rs)) rs (sym are.count) needed (sym (places_length 0 (length rs))) whole left
+  pub burst_told : (m : ℕ) → IsBurst (blocks_of_groups groups) (places 0 (length rs)) m → IsBurst (blocks_of who z.fti) rs m
+  burst_told = burst_same (blocks_of_groups groups) (blocks_of who z.fti) (places 0 (length rs)) rs (sym are.count) needed (sym (places_length 0 (length rs))) whole left
 
 read_rest : (lost : ℕ → Bool) (i : ℕ) (ds : List (List ℕ)) (rs : List Reading) → ReadAll ds rs → ReadAll (rest_from i lost ds) (rest_from i lost rs)
 read_rest lost i [] [] h = tt
@@ -99,5 +104,5 @@ read_rest lost i (d ∷ ds) (r ∷ rs) h =
     ]
 
 -- after a harmless loss, what is left of the datagrams is enough
-pub harmless_enough : (f : Fti) (lost : ℕ → Bool) (ds : List (List ℕ)) (rs : List Reading) → ReadAll ds rs → IsHarmless (blocks_of f) rs lost → IsEnough f (rest lost ds)
-harmless_enough f lost ds rs read h = record { readings = rest lost rs; read = read_rest lost 0 ds rs read; full = h }
+pub harmless_enough : (who : Identity) (f : Fti) (lost : ℕ → Bool) (ds : List (List ℕ)) (rs : List Reading) → ReadAll ds rs → IsHarmless (blocks_of who f) rs lost → IsEnough who f (rest lost ds)
+harmless_enough who f lost ds rs read h = record { readings = rest lost rs; read = read_rest lost 0 ds rs read; full = h }

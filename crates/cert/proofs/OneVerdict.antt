@@ -1,5 +1,5 @@
 -- There are no two verdicts: each stands behind tests that let through, and at one that doesn't.
-use Rattle.std.specs.Prelude.{◌≡◌, ◌≢◌, ◌<◌, ◌++◌, true, false, ℕ, zero, suc, List, [], ◌∷◌, length, Some, None, Ok, Err, refl, nat_lt}
+use Rattle.std.specs.Prelude.{◌≡◌, ◌≢◌, ◌<◌, ◌++◌, true, false, if◌then◌else◌, ℕ, zero, suc, List, [], ◌∷◌, length, Option, Some, None, Ok, Err, refl, nat_lt}
 use Rattle.std.specs.List.{AllByRecursion}
 use Rattle.std.proofs.Common.{◌∙◌, sym, ap, subst, arith, inl, inr, ltb-true}
 use Rattle.std.proofs.lemmas.Bool.{ltb-false}
@@ -8,12 +8,12 @@ use Rattle.alc.specs.Reading.{Reading}
 use Rattle.reception.specs.declared.scope.Identity.{Identity}
 use Rattle.reception.specs.declared.scope.Scope.{Scope}
 use Rattle.reception.specs.Symbols.{Symbol as Received}
-use Rattle.reception.specs.Reception.{Placed, counted, counted_from, symbols, symbols_in, symbol_of, packet_fault, or_packet, wrong_by, wrong_after, reading_wrong, at_place, or_else, scope_from, with_fti, Suffices}
+use Rattle.reception.specs.Reception.{Placed, Wrong, is_of_identity, counted, symbols, symbols_in, symbol_of, packet_fault, or_packet, wrong_by, wrong_after, reading_wrong, at_place, or_else, Suffices}
 use Rattle.reception.proofs.OneAnswer.{which, one_short, same_readings}
 use Rattle.reception.proofs.Stepping.{scope, stays}
 use Rattle.reception.proofs.Within.{no_fault}
 use Rattle.cert.specs.declared.verdict.Reason.{Reason}
-use Rattle.cert.specs.declared.verdict.Reason.TheVariants.{ObjectLength, NotObject, Empty, Packet as NoPacket, OtherIdentity, OtherFti, Range, Symbol, Thin}
+use Rattle.cert.specs.declared.verdict.Reason.TheVariants.{ObjectLength, NotObject, Empty, Packet as NoPacket, OtherFti, Range, Symbol, Thin}
 use Rattle.cert.specs.declared.verdict.Verdict.{Verdict}
 use Rattle.cert.specs.declared.verdict.Verdict.TheVariants.{Yes, No}
 use Rattle.cert.specs.Certificate.{Certificate}
@@ -23,41 +23,33 @@ use Rattle.cert.proofs.Judging.{no_reason}
 
 -- ---- where all is certified there is no reason
 
-not_wrong : (z : Certificate) (who : Identity) (earlier : List Received) (p : Packet) → IsCertifiedPacket z who p
-    → wrong_by (uncertified z) earlier (or_packet p (packet_fault who z.fti p)) ≡ None
+not_wrong : (z : Certificate) (who : Identity) (earlier : List Received) (p : Packet) → IsCertifiedPacket z p
+    → reading_wrong (uncertified z) (scope who (Some z.fti)) earlier (Ok p) ≡ None
 not_wrong z who earlier p h =
-    let a : packet_fault who z.fti p ≡ None = no_fault who z.fti p (record { tsi = h.tsi; toi = h.toi; fti = h.fti; range = h.range }) in
+    let a : packet_fault z.fti p ≡ None = no_fault z.fti p (record { fti = h.fti; range = h.range }) in
     let b : uncertified z earlier (symbol_of p) ≡ None = none_is z (symbol_of p) h.symbol in
-    rw (a, b) refl
+    elim (is_of_identity who p) as (λ v. wrong_by (uncertified z) earlier (if v then or_packet p (packet_fault z.fti p) else Ok None) ≡ None) [
+      | true ↦ rw (a, b) refl
+      | false ↦ refl
+    ]
 
-none_wrong : (z : Certificate) (who : Identity) (earlier : List Received) (xs : List Placed) → AllByRecursion (λ x. IsCertifiedReading z who x.reading) xs
-    → wrong_after (uncertified z) (scope (Some who) (Some z.fti)) earlier xs ≡ None
+none_wrong : (z : Certificate) (who : Identity) (earlier : List Received) (xs : List Placed) → AllByRecursion (λ x. IsCertifiedReading z x.reading) xs
+    → wrong_after (uncertified z) (scope who (Some z.fti)) earlier xs ≡ None
 none_wrong z who earlier [] h = refl
 none_wrong z who earlier (x ∷ xs) h = by x.reading h.0 (none_wrong z who (earlier ++ symbols_in x.reading) xs h.1)
   where
-    by : (r : Reading) → IsCertifiedReading z who r
-        → wrong_after (uncertified z) (scope (Some who) (Some z.fti)) (earlier ++ symbols_in x.reading) xs ≡ None
-        → or_else (at_place x.place (reading_wrong (uncertified z) (scope (Some who) (Some z.fti)) earlier r)) (wrong_after (uncertified z) (scope (Some who) (Some z.fti)) (earlier ++ symbols_in x.reading) xs) ≡ None
-    by (Ok p) k later = let n = not_wrong z who earlier p k in rw n later
+    by : (r : Reading) → IsCertifiedReading z r
+        → wrong_after (uncertified z) (scope who (Some z.fti)) (earlier ++ symbols_in x.reading) xs ≡ None
+        → or_else (at_place x.place (reading_wrong (uncertified z) (scope who (Some z.fti)) earlier r)) (wrong_after (uncertified z) (scope who (Some z.fti)) (earlier ++ symbols_in x.reading) xs) ≡ None
+    by (Ok p) k later =
+        ap (λ (o : Option (Wrong ℕ)). or_else (at_place x.place o) (wrong_after (uncertified z) (scope who (Some z.fti)) (earlier ++ symbols_in x.reading) xs)) (not_wrong z who earlier p k)
+        ∙ later
     by (Err e) k later = absurd k
 
-abbrev identity : ℕ → ℕ → Identity
-identity t u = record { tsi = t; toi = u }
-
-identity_is : (a b : ℕ) (who : Identity) → a ≡ who.tsi → b ≡ who.toi → ◌≡◌ {A = Identity} (record { tsi = a; toi = b }) who
-identity_is a b who h g =
-    ap (λ (x : ℕ). identity x b) h ∙ ap (λ (y : ℕ). identity who.tsi y) g
-
-yes_no_reason : (z : Certificate) (rs : List Reading) → AreCertified rs z → first_reason z rs ≡ None
-yes_no_reason z [] h = absurd (let s = h.some in (cc))
-yes_no_reason z (Err e ∷ rs) h = absurd h.packets.0
-yes_no_reason z (Ok p ∷ rs) h =
-    let first : Identity = record { tsi = p.tsi; toi = p.toi } in
-    let same : ◌≡◌ {A = Identity} (record { tsi = p.tsi; toi = p.toi }) h.who = identity_is p.tsi p.toi h.who h.packets.0.tsi h.packets.0.toi in
-    let is : scope_from (with_fti z.fti) (counted (Ok p ∷ rs)) ≡ scope (Some h.who) (Some z.fti) =
-    stays first z.fti (counted_from 1 rs) ∙ ap (λ (i : Identity). scope (Some i) (Some z.fti)) same in
-    no_reason (reception_to z (Ok p ∷ rs)).wrong
-    (subst (λ (s : Scope). wrong_after (uncertified z) s [] (counted (Ok p ∷ rs)) ≡ None) (sym is) (none_wrong z h.who [] (counted (Ok p ∷ rs)) h.packets))
+yes_no_reason : (who : Identity) (z : Certificate) (rs : List Reading) → AreCertified who rs z → first_reason who z rs ≡ None
+yes_no_reason who z rs h =
+    no_reason (reception_to who z rs).wrong
+    (subst (λ (s : Scope). wrong_after (uncertified z) s [] (counted who rs) ≡ None) (sym (stays who z.fti (counted who rs))) (none_wrong z who [] (counted who rs) h.packets))
 
 -- ---- the tests in their order
 
@@ -87,13 +79,13 @@ one_place object z b c i x y n h k =
     ]) in
     (e, d, a)
 
-module _ (rs : List Reading) (object : List ℕ) (z : Certificate) where
+module _ (who : Identity) (rs : List Reading) (object : List ℕ) (z : Certificate) where
   abbrev Pass : ℕ → Type 0
   Pass zero = length object ≡ z.fti.transfer_length
   Pass (suc zero) = GivesObject object z
-  Pass (suc (suc zero)) = first_reason z rs ≡ None
-  Pass (suc (suc (suc zero))) = counted rs ≢ []
-  Pass (suc (suc (suc (suc zero)))) = Suffices z.fti rs
+  Pass (suc (suc zero)) = first_reason who z rs ≡ None
+  Pass (suc (suc (suc zero))) = symbols (counted who rs) ≢ []
+  Pass (suc (suc (suc (suc zero)))) = Suffices who z.fti rs
   Pass _ = Unit {0}
 
   abbrev Passed : ℕ → Type 0
@@ -108,33 +100,24 @@ module _ (rs : List Reading) (object : List ℕ) (z : Certificate) where
         | false ↦ λ e. (let m = ltb-false j n e in let is : n ≡ j = omega (arith, m, l) in subst (λ (k : ℕ). Pass k) is h.1)
       ] refl
 
-  some_of : AreCertified rs z → counted rs ≢ []
-  some_of h = by rs h
-    where
-      by : (xs : List Reading) → AreCertified xs z → counted xs ≢ []
-      by [] g e = absurd (let s = g.some in (cc))
-      by (x ∷ xs) g e = absurd (cc)
-
-  passed : (v : Verdict) → VerdictOn rs object z v → Passed (stage v)
+  passed : (v : Verdict) → VerdictOn who rs object z v → Passed (stage v)
   passed (No ObjectLength) h = tt
   passed (No (NotObject b c i)) h = (tt, h.0)
   passed (No (NoPacket i x)) h = ((tt, h.0.count), h.1)
-  passed (No (OtherIdentity i)) h = ((tt, h.0.count), h.1)
   passed (No (OtherFti i)) h = ((tt, h.0.count), h.1)
   passed (No (Range i)) h = ((tt, h.0.count), h.1)
   passed (No (Symbol i c)) h = ((tt, h.0.count), h.1)
   passed (No Empty) h = (((tt, h.0.count), h.1), h.2.0)
   passed (No (Thin b have need)) h = ((((tt, h.0.count), h.1), h.2.0), h.2.1)
-  passed (Yes report) h = (((((tt, h.form.count), h.gives), yes_no_reason z rs h.certified), some_of h.certified), h.full)
+  passed (Yes report) h = (((((tt, h.form.count), h.gives), yes_no_reason who z rs h.certified), h.certified.some), h.full)
 
-  at_place_no : (r : Reason) → first_reason z rs ≡ Some r → ¬ (first_reason z rs ≡ None)
+  at_place_no : (r : Reason) → first_reason who z rs ≡ Some r → ¬ (first_reason who z rs ≡ None)
   at_place_no r e p = absurd (cc)
 
-  stopped : (r : Reason) → VerdictOn rs object z (No r) → ¬ Pass (stage (No r))
+  stopped : (r : Reason) → VerdictOn who rs object z (No r) → ¬ Pass (stage (No r))
   stopped ObjectLength h p = h p
   stopped (NotObject b c i) h p = h.1.first.first.wrong (p b c i h.1.block h.1.first.column h.1.first.first.symbol)
   stopped (NoPacket i x) h p = at_place_no (NoPacket i x) h.2 p
-  stopped (OtherIdentity i) h p = at_place_no (OtherIdentity i) h.2 p
   stopped (OtherFti i) h p = at_place_no (OtherFti i) h.2 p
   stopped (Range i) h p = at_place_no (Range i) h.2 p
   stopped (Symbol i c) h p = at_place_no (Symbol i c) h.2 p
@@ -145,7 +128,6 @@ module _ (rs : List Reading) (object : List ℕ) (z : Certificate) where
   stage_top (No ObjectLength) = omega arith
   stage_top (No (NotObject b c i)) = omega arith
   stage_top (No (NoPacket i x)) = omega arith
-  stage_top (No (OtherIdentity i)) = omega arith
   stage_top (No (OtherFti i)) = omega arith
   stage_top (No (Range i)) = omega arith
   stage_top (No (Symbol i c)) = omega arith
@@ -157,18 +139,17 @@ module _ (rs : List Reading) (object : List ℕ) (z : Certificate) where
   below_yes ObjectLength = omega arith
   below_yes (NotObject b c i) = omega arith
   below_yes (NoPacket i x) = omega arith
-  below_yes (OtherIdentity i) = omega arith
   below_yes (OtherFti i) = omega arith
   below_yes (Range i) = omega arith
   below_yes (Symbol i c) = omega arith
   below_yes Empty = omega arith
   below_yes (Thin b have need) = omega arith
 
-  not_before : (a b : Verdict) → VerdictOn rs object z a → VerdictOn rs object z b → stage a < stage b → ⊥
+  not_before : (a b : Verdict) → VerdictOn who rs object z a → VerdictOn who rs object z b → stage a < stage b → ⊥
   not_before (Yes report) b h k l = let t = stage_top b in absurd (omega (arith, l, t))
   not_before (No r) b h k l = stopped r h (passed_at (stage b) (stage (No r)) (passed b k) l)
 
-  same_stage : (a b : Verdict) → VerdictOn rs object z a → VerdictOn rs object z b → stage a ≡ stage b
+  same_stage : (a b : Verdict) → VerdictOn who rs object z a → VerdictOn who rs object z b → stage a ≡ stage b
   same_stage a b h k = which (stage a) (stage b) (λ s. elim s [
     | inl l ↦ not_before a b h k l
     | inr l ↦ not_before b a k h l
@@ -176,15 +157,14 @@ module _ (rs : List Reading) (object : List ℕ) (z : Certificate) where
 
   -- the reason of a no that stands at a place
   abbrev told : Reason → Type 0
-  told r = first_reason z rs ≡ Some r
+  told r = first_reason who z rs ≡ Some r
 
   abbrev AtPlace : Verdict → Type 0
   AtPlace (Yes report) = ⊥
   AtPlace (No r) = told r
 
-  at_two : (v : Verdict) → VerdictOn rs object z v → stage v ≡ 2 → AtPlace v
+  at_two : (v : Verdict) → VerdictOn who rs object z v → stage v ≡ 2 → AtPlace v
   at_two (No (NoPacket i x)) h e = h.2
-  at_two (No (OtherIdentity i)) h e = h.2
   at_two (No (OtherFti i)) h e = h.2
   at_two (No (Range i)) h e = h.2
   at_two (No (Symbol i c)) h e = h.2
@@ -202,7 +182,7 @@ module _ (rs : List Reading) (object : List ℕ) (z : Certificate) where
       some_same : Some r ≡ Some s → r ≡ s
       some_same e = cc
 
-  one_of : (a b : Verdict) → VerdictOn rs object z a → VerdictOn rs object z b → stage a ≡ stage b → AreOneVerdict a b
+  one_of : (a b : Verdict) → VerdictOn who rs object z a → VerdictOn who rs object z b → stage a ≡ stage b → AreOneVerdict a b
   one_of (No ObjectLength) (No ObjectLength) h k e = refl
   one_of (No (NotObject b c i)) (No (NotObject x y n)) h k e =
       let p = one_place object z b c i x y n h.1 k.1 in
@@ -212,7 +192,7 @@ module _ (rs : List Reading) (object : List ℕ) (z : Certificate) where
       (cc)
   one_of (No Empty) (No Empty) h k e = refl
   one_of (No (Thin b have need)) (No (Thin x y n)) h k e =
-      let f = one_short z.fti (symbols (counted rs)) b x h.2.2 k.2.2 in
+      let f = one_short z.fti (symbols (counted who rs)) b x h.2.2 k.2.2 in
       let p = h.2.3 in
       let q = h.2.4 in
       let r = k.2.3 in
@@ -221,21 +201,20 @@ module _ (rs : List Reading) (object : List ℕ) (z : Certificate) where
   one_of (Yes r) (Yes s) h k e = tt
   one_of (Yes r) (No s) h k e = let l = below_yes s in absurd (omega (arith, e, l))
   one_of (No (NoPacket i x)) b h k e = both_told (No (NoPacket i x)) b h.2 (at_two b k (sym e))
-  one_of (No (OtherIdentity i)) b h k e = both_told (No (OtherIdentity i)) b h.2 (at_two b k (sym e))
   one_of (No (OtherFti i)) b h k e = both_told (No (OtherFti i)) b h.2 (at_two b k (sym e))
   one_of (No (Range i)) b h k e = both_told (No (Range i)) b h.2 (at_two b k (sym e))
   one_of (No (Symbol i c)) b h k e = both_told (No (Symbol i c)) b h.2 (at_two b k (sym e))
   one_of a b h k e = absurd (omega (arith, e))
 
 -- where the certificate is one, the verdict is yes
-pub never_no : (rs : List Reading) (object : List ℕ) (z : Certificate) → IsCertificateOf rs object z → (r : Reason) → VerdictOn rs object z (No r) → ⊥
-never_no rs object z g r h =
-    stopped rs object z r h
-    (passed_at rs object z 5 (stage (No r)) (((((tt, g.form.count), g.gives), yes_no_reason z rs g.certified), some_of rs object z g.certified), g.full) (below_yes rs object z r))
+pub never_no : (who : Identity) (rs : List Reading) (object : List ℕ) (z : Certificate) → IsCertificateOf who rs object z → (r : Reason) → VerdictOn who rs object z (No r) → ⊥
+never_no who rs object z g r h =
+    stopped who rs object z r h
+    (passed_at who rs object z 5 (stage (No r)) (((((tt, g.form.count), g.gives), yes_no_reason who z rs g.certified), g.certified.some), g.full) (below_yes who rs object z r))
 
--- a session, an object and a certificate have one verdict
-pub one_verdict : (ds : List (List ℕ)) (object : List ℕ) (z : Certificate) (a b : Verdict) → IsVerdict ds object z a → IsVerdict ds object z b → AreOneVerdict a b
-one_verdict ds object z a b h k =
+-- an identity's packets in a session, an object and a certificate have one verdict
+pub one_verdict : (who : Identity) (ds : List (List ℕ)) (object : List ℕ) (z : Certificate) (a b : Verdict) → IsVerdict who ds object z a → IsVerdict who ds object z b → AreOneVerdict a b
+one_verdict who ds object z a b h k =
     let e = same_readings ds h.readings k.readings h.read k.read in
-    let g = subst (λ (rs : List Reading). VerdictOn rs object z a) e h.judged in
-    one_of k.readings object z a b g k.judged (same_stage k.readings object z a b g k.judged)
+    let g = subst (λ (rs : List Reading). VerdictOn who rs object z a) e h.judged in
+    one_of who k.readings object z a b g k.judged (same_stage who k.readings object z a b g k.judged)

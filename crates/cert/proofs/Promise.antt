@@ -1,5 +1,5 @@
 -- A yes: every selection that suffices decodes to the object.
-use Rattle.std.specs.Prelude.{◌≡◌, ◌≢◌, ◌<◌, ◌≤◌, ◌+◌, ◌==◌, not, true, false, ◌&&◌, ◌||◌, ℕ, zero, suc, List, [], ◌∷◌, ◌++◌, length, slice_index, slice_get, filter, Some, None, Ok, Err, refl}
+use Rattle.std.specs.Prelude.{◌≡◌, ◌≢◌, ◌<◌, ◌≤◌, ◌+◌, ◌==◌, not, true, false, ◌&&◌, ◌||◌, cond, if◌then◌else◌, ℕ, zero, suc, List, [], ◌∷◌, ◌++◌, length, slice_index, slice_get, filter, Option, Some, None, Ok, Err, refl}
 use Rattle.std.specs.List.{AllByRecursion}
 use Rattle.std.specs.Option.{option_to_list}
 use Rattle.std.proofs.Common.{◌∙◌, sym, ap, subst, arith, leb-true, ltb-true}
@@ -10,21 +10,21 @@ use Rattle.gf256.specs.Arithmetic.{point}
 use Rattle.poly.specs.Polynomial.{value}
 use Rattle.partition.specs.Fti.{Fti, IsValidFti, source_count, encoding_count, block_count}
 use Rattle.lists.specs.Below.{below}
-use Rattle.reception.specs.Symbols.{Symbol, has_arrived, is_full, Agrees, IsObject, FullSolvable}
+use Rattle.reception.specs.Symbols.{Symbol, has_arrived, is_full, AllFull, Agrees, IsObject, FullSolvable}
 use Rattle.alc.specs.Packet.{Packet}
 use Rattle.alc.specs.PacketFault.{same}
-use Rattle.alc.specs.Reading.{Reading}
+use Rattle.alc.specs.Reading.{Reading, Reads}
 use Rattle.reception.specs.declared.scope.Identity.{Identity}
 use Rattle.reception.specs.declared.scope.Scope.{Scope}
-use Rattle.reception.specs.Reception.{ReadAll, counted_from, counted, symbol_of, symbols, in_range, packet_fault, unknown, scope_from, wrong_after, IsClean, Suffices}
-use Rattle.reception.specs.Answer.{Object, IsAnswer, clashes, clash, reception_of}
+use Rattle.reception.specs.Reception.{ReadAll, Placed, Wrong, is_of_identity, counts, counted_from, counted, symbol_of, symbols_in, symbols, in_range, packet_fault, or_packet, wrong_by, or_else, at_place, reading_wrong, learned, asked, scope_from, wrong_after, IsClean, Suffices}
+use Rattle.reception.specs.Answer.{Clash, Object, IsAnswer, clashes, clash, reception_of}
 use Rattle.reception.proofs.Stepping.{scope, stays}
 use Rattle.reception.proofs.Within.{no_fault}
 use Rattle.cert.specs.Certificate.{Certificate, IsCertificate, polynomial, certified_byte}
-use Rattle.cert.specs.Verdict.{GivesObject, IsCertifiedReading, IsCertificateOf}
+use Rattle.cert.specs.Verdict.{GivesObject, IsCertifiedReading, AreCertified, IsCertificateOf}
 use Rattle.lists.specs.Selection.{chosen}
 use Rattle.reception.specs.Headline.{DecodesWhereEnough}
-use Rattle.partition.proofs.Laws.{some_block, counts}
+use Rattle.partition.proofs.Laws.{some_block, counts as counts_of}
 use Rattle.lists.proofs.Lists.{both, all_append}
 use Rattle.cert.proofs.Polynomials.{forms}
 use Rattle.reception.proofs.OneAnswer.{same_readings, one_answer}
@@ -70,55 +70,71 @@ same_refl (x ∷ xs) = let a : (x == x) ≡ true = eq-eqb x x refl in rw a (same
 
 -- ---- certified packets
 
--- of a certified reading: it is a packet, of this identity
-pub record IsSound (z : Certificate) (who : Identity) (p : Packet) : Type 0 where
-  pub tsi : p.tsi ≡ who.tsi
-  pub toi : p.toi ≡ who.toi
+-- of a certified reading: it is a packet, as certified
+pub record IsSound (z : Certificate) (p : Packet) : Type 0 where
   pub fti : p.fti ≡ z.fti
   pub range : in_range p z.fti ≡ true
   pub count : length p.bytes ≡ z.fti.symbol_length
   pub symbol : (c : ℕ) → c < z.fti.symbol_length → slice_index p.bytes c ≡ certified_byte z p.block p.esi c
 
-abbrev pub IsSoundReading : Certificate → Identity → Reading → Type 0
-IsSoundReading z who (Ok p) = IsSound z who p
-IsSoundReading z who (Err r) = ⊥
+abbrev pub IsSoundReading : Certificate → Reading → Type 0
+IsSoundReading z (Ok p) = IsSound z p
+IsSoundReading z (Err r) = ⊥
 
--- what holds of each reading that counts holds of each
-pub unplaced_all : (P : Reading → Type 0) (i : ℕ) (rs : List Reading) → AllByRecursion (λ x. P x.reading) (counted_from i rs) → AllByRecursion P rs
-unplaced_all P i [] h = tt
-unplaced_all P i (r ∷ rs) h = (h.0, unplaced_all P (i + 1) rs h.1)
+abbrev pub AreSound : Certificate → List Placed → Type 0
+AreSound z xs = AllByRecursion (λ x. IsSoundReading z x.reading) xs
 
-pub sound_all : (z : Certificate) (who : Identity) (ds : List (List ℕ)) (rs : List Reading) → ReadAll ds rs
-    → AllByRecursion (IsCertifiedReading z who) rs → AllByRecursion (IsSoundReading z who) rs
-sound_all z who [] [] read h = tt
-sound_all z who [] (r ∷ rs) read h = absurd read
-sound_all z who (d ∷ ds) [] read h = absurd read
-sound_all z who (d ∷ ds) (Err r ∷ rs) read h = absurd h.0
-sound_all z who (d ∷ ds) (Ok p ∷ rs) read h = (
-  record {
-    tsi = h.0.tsi;
-    toi = h.0.toi;
-    fti = h.0.fti;
-    range = h.0.range;
-    count = read.0.valid.symbol ∙ ap (λ (f : Fti). f.symbol_length) h.0.fti;
-    symbol = h.0.symbol;
-  },
-  sound_all z who ds rs read.1 h.1,
-)
+-- what holds of a reading where it counts
+abbrev pub WhereCounted : Identity → (Reading → Type 0) → Reading → Type 0
+WhereCounted who P r = counts who r ≡ true → P r
+
+-- what holds of each reading that counts holds of each where it counts
+pub unplaced_all : (who : Identity) (P : Reading → Type 0) (i : ℕ) (rs : List Reading) → AllByRecursion (λ x. P x.reading) (counted_from who i rs) → AllByRecursion (WhereCounted who P) rs
+unplaced_all who P i [] h = tt
+unplaced_all who P i (r ∷ rs) h =
+    elim (counts who r) as (λ v. counts who r ≡ v → AllByRecursion (λ x. P x.reading) (cond v (record { place = i; reading = r } ∷ []) [] ++ counted_from who (i + 1) rs) → AllByRecursion (WhereCounted who P) (r ∷ rs)) [
+      | true ↦ λ e g. (λ mine. g.0, unplaced_all who P (i + 1) rs g.1)
+      | false ↦ λ e g. (λ mine. absurd (cc), unplaced_all who P (i + 1) rs g)
+    ] refl h
+
+-- and the other way
+pub placed_all : (who : Identity) (P : Reading → Type 0) (i : ℕ) (rs : List Reading) → AllByRecursion (WhereCounted who P) rs → AllByRecursion (λ x. P x.reading) (counted_from who i rs)
+placed_all who P i [] h = tt
+placed_all who P i (r ∷ rs) h =
+    elim (counts who r) as (λ v. counts who r ≡ v → AllByRecursion (λ x. P x.reading) (cond v (record { place = i; reading = r } ∷ []) [] ++ counted_from who (i + 1) rs)) [
+      | true ↦ λ e. (h.0 e, placed_all who P (i + 1) rs h.1)
+      | false ↦ λ e. placed_all who P (i + 1) rs h.1
+    ] refl
+
+sound : (z : Certificate) (d : List ℕ) (r : Reading) → Reads d r → IsCertifiedReading z r → IsSoundReading z r
+sound z d (Err e) read h = h
+sound z d (Ok p) read h = record {
+  fti = h.fti;
+  range = h.range;
+  count = read.valid.symbol ∙ ap (λ (f : Fti). f.symbol_length) h.fti;
+  symbol = h.symbol;
+}
+
+pub sound_all : (who : Identity) (z : Certificate) (ds : List (List ℕ)) (rs : List Reading) → ReadAll ds rs
+    → AllByRecursion (WhereCounted who (IsCertifiedReading z)) rs → AllByRecursion (WhereCounted who (IsSoundReading z)) rs
+sound_all who z [] [] read h = tt
+sound_all who z [] (r ∷ rs) read h = absurd read
+sound_all who z (d ∷ ds) [] read h = absurd read
+sound_all who z (d ∷ ds) (r ∷ rs) read h = (λ mine. sound z d r read.0 (h.0 mine), sound_all who z ds rs read.1 h.1)
 
 -- a symbol as certified
 pub record IsRight (z : Certificate) (s : Symbol) : Type 0 where
   pub count : length s.bytes ≡ z.fti.symbol_length
   pub symbol : (c : ℕ) → c < z.fti.symbol_length → slice_index s.bytes c ≡ certified_byte z s.block s.esi c
 
-pub no_clash : (z : Certificate) (who : Identity) (p : Packet) → IsSound z who p → (earlier : List Symbol) → AllByRecursion (IsRight z) earlier → clashes earlier (symbol_of p) ≡ false
-no_clash z who p sound [] h = refl
-no_clash z who p sound (s ∷ ss) h =
+pub no_clash : (z : Certificate) (p : Packet) → IsSound z p → (earlier : List Symbol) → AllByRecursion (IsRight z) earlier → clashes earlier (symbol_of p) ≡ false
+no_clash z p sound [] h = refl
+no_clash z p sound (s ∷ ss) h =
     elim (s.block == p.block) as (λ v. (s.block == p.block) ≡ v → ((v && s.esi == p.esi) && not (same s.bytes p.bytes) || clashes ss (symbol_of p)) ≡ false) [
-      | false ↦ λ e. no_clash z who p sound ss h.1
+      | false ↦ λ e. no_clash z p sound ss h.1
       | true ↦ λ e.
           (elim (s.esi == p.esi) as (λ w. (s.esi == p.esi) ≡ w → (w && not (same s.bytes p.bytes) || clashes ss (symbol_of p)) ≡ false) [
-            | false ↦ λ g. no_clash z who p sound ss h.1
+            | false ↦ λ g. no_clash z p sound ss h.1
             | true ↦ λ g.
                 (let eb = eqb-true s.block p.block e in
                 let ej = eqb-true s.esi p.esi g in
@@ -127,39 +143,49 @@ no_clash z who p sound (s ∷ ss) h =
                 let lt : c < z.fti.symbol_length = omega (arith, h.0.count) in
                 h.0.symbol c lt ∙ ap (λ (b : ℕ). certified_byte z b s.esi c) eb ∙ ap (λ (j : ℕ). certified_byte z p.block j c) ej ∙ sym (sound.symbol c lt)) in
                 let granted : same s.bytes p.bytes ≡ true = rw one (same_refl p.bytes) in
-                rw granted (no_clash z who p sound ss h.1))
+                rw granted (no_clash z p sound ss h.1))
           ] refl)
     ] refl
 
--- whose packet it is
-abbrev identity_of : Packet → Identity
-identity_of p = record { tsi = p.tsi; toi = p.toi }
+-- a sound packet has nothing wrong
+not_wrong : (z : Certificate) (who : Identity) (p : Packet) → IsSound z p → (earlier : List Symbol) → AllByRecursion (IsRight z) earlier
+    → reading_wrong clash (scope who (Some z.fti)) earlier (Ok p) ≡ None
+not_wrong z who p sound earlier g =
+    let a : packet_fault z.fti p ≡ None = no_fault z.fti p (record { fti = sound.fti; range = sound.range }) in
+    let b : clashes earlier (symbol_of p) ≡ false = no_clash z p sound earlier g in
+    elim (is_of_identity who p) as (λ v. wrong_by clash earlier (if v then or_packet p (packet_fault z.fti p) else Ok None) ≡ None) [
+      | true ↦ rw (a, b) refl
+      | false ↦ refl
+    ]
 
-no_packet_fault : (z : Certificate) (who : Identity) (first p : Packet) → IsSound z who first → IsSound z who p → packet_fault (identity_of first) first.fti p ≡ None
-no_packet_fault z who first p sf sp =
-    no_fault (identity_of first) first.fti p (record { tsi = sp.tsi ∙ sym sf.tsi; toi = sp.toi ∙ sym sf.toi; fti = sp.fti ∙ sym sf.fti; range = rw sf.fti sp.range })
+none_wrong_after : (z : Certificate) (who : Identity) (xs : List Placed) → AreSound z xs → (earlier : List Symbol) → AllByRecursion (IsRight z) earlier
+    → wrong_after clash (scope who (Some z.fti)) earlier xs ≡ None
+none_wrong_after z who [] h earlier g = refl
+none_wrong_after z who (x ∷ xs) h earlier g = by x.reading h.0 (λ more k. none_wrong_after z who xs h.1 (earlier ++ more) k)
+  where
+    by : (r : Reading) → IsSoundReading z r → ((more : List Symbol) → AllByRecursion (IsRight z) (earlier ++ more) → wrong_after clash (scope who (Some z.fti)) (earlier ++ more) xs ≡ None)
+        → or_else (at_place x.place (reading_wrong clash (scope who (Some z.fti)) earlier r)) (wrong_after clash (scope who (Some z.fti)) (earlier ++ symbols_in r) xs) ≡ None
+    by (Err e) s later = absurd s
+    by (Ok p) s later =
+        ap (λ (o : Option (Wrong Clash)). or_else (at_place x.place o) (wrong_after clash (scope who (Some z.fti)) (earlier ++ symbol_of p ∷ []) xs)) (not_wrong z who p s earlier g)
+        ∙ later (symbol_of p ∷ []) (all_append (IsRight z) earlier (symbol_of p ∷ []) g (record { count = s.count; symbol = s.symbol }, tt))
 
-no_fault_after : (z : Certificate) (who : Identity) (first : Packet) → IsSound z who first → (rs : List Reading) → AllByRecursion (IsSoundReading z who) rs
-    → (earlier : List Symbol) → AllByRecursion (IsRight z) earlier → (i : ℕ) → wrong_after clash (scope (Some (identity_of first)) (Some first.fti)) earlier (counted_from i rs) ≡ None
-no_fault_after z who first sf [] h earlier g i = refl
-no_fault_after z who first sf (Err r ∷ rs) h earlier g i = absurd h.0
-no_fault_after z who first sf (Ok p ∷ rs) h earlier g i =
-    let a : packet_fault (identity_of first) first.fti p ≡ None = no_packet_fault z who first p sf h.0 in
-    let b : clashes earlier (symbol_of p) ≡ false = no_clash z who p h.0 earlier g in
-    let c : wrong_after clash (scope (Some (identity_of first)) (Some first.fti)) (earlier ++ symbol_of p ∷ []) (counted_from (i + 1) rs) ≡ None =
-    no_fault_after z who first sf rs h.1 (earlier ++ symbol_of p ∷ [])
-    (all_append (IsRight z) earlier (symbol_of p ∷ []) g (record { count = h.0.count; symbol = h.0.symbol }, tt)) (i + 1) in
-    rw (a, b, c) refl
+-- the FTI of some sound packets holds
+scope_known : (z : Certificate) (who : Identity) (xs : List Placed) → AreSound z xs → symbols xs ≢ [] → scope_from (asked who) xs ≡ scope who (Some z.fti)
+scope_known z who [] h some = absurd (some refl)
+scope_known z who (x ∷ xs) h some = by x.reading h.0
+  where
+    by : (r : Reading) → IsSoundReading z r → scope_from (learned (asked who) r) xs ≡ scope who (Some z.fti)
+    by (Err e) s = absurd s
+    by (Ok p) s = stays who p.fti xs ∙ ap (λ (f : Fti). scope who (Some f)) s.fti
 
--- sound readings, some, are without a fault and of the certificate's FTI
-pub clean : (z : Certificate) (who : Identity) (rs : List Reading) → AllByRecursion (IsSoundReading z who) rs → rs ≢ [] → IsClean (reception_of rs) z.fti
-clean z who [] h some = absurd (some refl)
-clean z who (Err r ∷ rs) h some = absurd h.0
-clean z who (Ok p ∷ rs) h some =
-    let is : scope_from unknown (counted (Ok p ∷ rs)) ≡ scope (Some (identity_of p)) (Some p.fti) = stays (identity_of p) p.fti (counted_from 1 rs) in
+-- where the identity's packets are sound, some, nothing is wrong and the certificate's FTI holds
+pub clean : (who : Identity) (z : Certificate) (rs : List Reading) → AreSound z (counted who rs) → symbols (counted who rs) ≢ [] → IsClean (reception_of who rs) z.fti
+clean who z rs h some =
+    let is = scope_known z who (counted who rs) h some in
     record {
-      clean = subst (λ (s : Scope). wrong_after clash s [] (counted (Ok p ∷ rs)) ≡ None) (sym is) (no_fault_after z who p h.0 (Ok p ∷ rs) h [] tt 0);
-      some = ap (λ (s : Scope). s.fti) is ∙ ap Some h.0.fti;
+      clean = subst (λ (s : Scope). wrong_after clash s [] (counted who rs) ≡ None) (sym is) (none_wrong_after z who (counted who rs) h [] tt);
+      some = ap (λ (s : Scope). s.fti) is;
     }
 
 none_held : (xs : List ℕ) → length (filter (has_arrived [] 0) xs) ≡ 0
@@ -167,8 +193,8 @@ none_held [] = refl
 none_held (x ∷ xs) = none_held xs
 
 -- a sound packet's symbol is one of the object's
-pub agrees_of : (z : Certificate) (who : Identity) (object : List ℕ) → IsCertificate z → GivesObject object z → (p : Packet) → IsSound z who p → Agrees z.fti object (symbol_of p)
-agrees_of z who object good gives p sound =
+pub agrees_of : (z : Certificate) (object : List ℕ) → IsCertificate z → GivesObject object z → (p : Packet) → IsSound z p → Agrees z.fti object (symbol_of p)
+agrees_of z object good gives p sound =
     let w = both _ _ sound.range in
     let hb = ltb-true p.block (block_count z.fti) w.0 in
     record {
@@ -183,16 +209,20 @@ agrees_of z who object good gives p sound =
       };
     }
 
-pub fits_sound : (z : Certificate) (who : Identity) (object : List ℕ) → IsCertificate z → GivesObject object z
-    → (i : ℕ) (rs : List Reading) → AllByRecursion (IsSoundReading z who) rs → AllByRecursion (Agrees z.fti object) (symbols (counted_from i rs))
-fits_sound z who object good gives i [] h = tt
-fits_sound z who object good gives i (Err r ∷ rs) h = absurd h.0
-fits_sound z who object good gives i (Ok p ∷ rs) h = (agrees_of z who object good gives p h.0, fits_sound z who object good gives (i + 1) rs h.1)
+-- what holds of the symbol of each sound packet holds of each symbol
+symbols_all : (z : Certificate) (P : Symbol → Type 0) → ((p : Packet) → IsSound z p → P (symbol_of p)) → (xs : List Placed) → AreSound z xs → AllByRecursion P (symbols xs)
+symbols_all z P each [] h = tt
+symbols_all z P each (x ∷ xs) h = by x.reading h.0 (symbols_all z P each xs h.1)
+  where
+    by : (r : Reading) → IsSoundReading z r → AllByRecursion P (symbols xs) → AllByRecursion P (symbols_in r ++ symbols xs)
+    by (Err e) s later = absurd s
+    by (Ok p) s later = (each p s, later)
 
-pub all_right : (z : Certificate) (who : Identity) (i : ℕ) (rs : List Reading) → AllByRecursion (IsSoundReading z who) rs → AllByRecursion (IsRight z) (symbols (counted_from i rs))
-all_right z who i [] h = tt
-all_right z who i (Err r ∷ rs) h = absurd h.0
-all_right z who i (Ok p ∷ rs) h = (record { count = h.0.count; symbol = h.0.symbol }, all_right z who (i + 1) rs h.1)
+pub fits_sound : (z : Certificate) (object : List ℕ) → IsCertificate z → GivesObject object z → (xs : List Placed) → AreSound z xs → AllByRecursion (Agrees z.fti object) (symbols xs)
+fits_sound z object good gives xs h = symbols_all z (Agrees z.fti object) (λ p s. agrees_of z object good gives p s) xs h
+
+pub all_right : (z : Certificate) (xs : List Placed) → AreSound z xs → AllByRecursion (IsRight z) (symbols xs)
+all_right z xs h = symbols_all z (IsRight z) (λ p s. record { count = s.count; symbol = s.symbol }) xs h
 
 through : (z : Certificate) (b c : ℕ) → c < z.fti.symbol_length → (arrivals : List Symbol) → AllByRecursion (IsRight z) arrivals
     → AllByRecursion (λ s. s.block ≡ b → value (polynomial z b c) (point s.esi) ≡ slice_index s.bytes c) arrivals
@@ -211,34 +241,40 @@ solvable z object good form gives arrivals right b hb full c hc = record {
       gives b c i hb hc hi ∙ get_or-eq_default object 0 (omega (arith, form.count));
 }
 
-some_came : (f : Fti) → IsValidFti f → (rs : List Reading) → Suffices f rs → rs ≢ []
-some_came f valid rs full none =
+some_came : (f : Fti) → IsValidFti f → (arrivals : List Symbol) → AllFull f arrivals → arrivals ≢ []
+some_came f valid arrivals full none =
     let hb = some_block f valid in
-    let a : is_full f (symbols (counted rs)) 0 ≡ true = full 0 hb in
-    let b : is_full f [] 0 ≡ true = subst (λ (x : List Reading). is_full f (symbols (counted x)) 0 ≡ true) none a in
-    let k = (counts f valid 0 hb).0 in
+    let b : is_full f [] 0 ≡ true = subst (λ (x : List Symbol). is_full f x 0 ≡ true) none (full 0 hb) in
+    let k = (counts_of f valid 0 hb).0 in
     let l : source_count f 0 ≤ length (filter (has_arrived [] 0) (below 256)) = leb-true _ _ b in
     let n = none_held (below 256) in
     absurd (omega arith)
 
+-- a selection of sound readings
+pub sound_chosen : (who : Identity) (session : List (List ℕ)) (rs : List Reading) (z : Certificate) → ReadAll session rs → AreCertified who rs z → (q : List ℕ) → AreSound z (counted who (chosen rs q))
+sound_chosen who session rs z read certified q =
+    placed_all who (IsSoundReading z) 0 (chosen rs q)
+    (all_chosen (WhereCounted who (IsSoundReading z)) rs
+    (sound_all who z session rs read (unplaced_all who (IsCertifiedReading z) 0 rs certified.packets)) q)
+
 -- at yes, every selection that suffices decodes to the object
-pub decodes : (session : List (List ℕ)) (rs : List Reading) (object : List ℕ) (z : Certificate) → ReadAll session rs → IsCertificate z
-    → IsCertificateOf rs object z → DecodesWhereEnough z.fti session object
-decodes session rs object z read good granted = λ q enough.
-    let who = granted.certified.who in
-    let sound = all_chosen (IsSoundReading z who) rs (sound_all z who session rs read (unplaced_all (IsCertifiedReading z who) 0 rs granted.certified.packets)) q in
+pub decodes : (who : Identity) (session : List (List ℕ)) (rs : List Reading) (object : List ℕ) (z : Certificate) → ReadAll session rs → IsCertificate z
+    → IsCertificateOf who rs object z → DecodesWhereEnough who z.fti session object
+decodes who session rs object z read good granted = λ q enough.
+    let xs = counted who (chosen rs q) in
+    let sound = sound_chosen who session rs z read granted.certified q in
     let is : enough.readings ≡ chosen rs q = same_readings _ _ _ enough.read (read_chosen session rs read q) in
-    let full : Suffices z.fti (chosen rs q) = subst (λ (x : List Reading). Suffices z.fti x) is enough.full in
-    let answer : IsAnswer (chosen session q) (Object object) = record {
+    let full : AllFull z.fti (symbols (counted who (chosen rs q))) = subst (λ (x : List Reading). Suffices who z.fti x) is enough.full in
+    let answer : IsAnswer who (chosen session q) (Object object) = record {
       readings = chosen rs q;
       read = read_chosen session rs read q;
       answers = (
         z.fti,
-        clean z who (chosen rs q) sound (some_came z.fti good.fti (chosen rs q) full),
-        solvable z object good granted.form granted.gives (symbols (counted (chosen rs q))) (all_right z who 0 (chosen rs q) sound),
+        clean who z (chosen rs q) sound (some_came z.fti good.fti (symbols xs) full),
+        solvable z object good granted.form granted.gives (symbols xs) (all_right z xs sound),
         full,
-        fits_only z.fti (symbols (counted (chosen rs q))) object good.fti full
-            (record { form = granted.form; agrees = fits_sound z who object good granted.gives 0 (chosen rs q) sound }),
+        fits_only z.fti (symbols xs) object good.fti full
+            (record { form = granted.form; agrees = fits_sound z object good granted.gives xs sound }),
       );
     } in
-    record { is = answer; only = λ other h. one_answer (chosen session q) other (Object object) h answer }
+    record { is = answer; only = λ other h. one_answer who (chosen session q) other (Object object) h answer }

@@ -1,12 +1,11 @@
 -- A scan over the datagrams, one by one.
-use Rattle.std.proofs.Common.{◌≡◌, ℕ, ◌<◌, true, List, Some, None, take, sym, ap, ◌∙◌, arith, ltb-true}
+use Rattle.std.proofs.Common.{◌≡◌, ℕ, ◌<◌, true, List, arith, ltb-true}
 use Rattle.lists.proofs.Lists.{both}
 use Rattle.partition.specs.Fti.{Fti, IsValidFti, block_count, encoding_count}
 use Rattle.partition.proofs.Laws.{counts}
 use Rattle.alc.specs.Packet.{Packet}
-use Rattle.reception.specs.Reception.{in_range, with_fti, counted}
-use Rattle.reception.specs.Walks.{readings_of}
-use Rattle.reception.proofs.Stepping.{fti_stays}
+use Rattle.reception.specs.Reception.{in_range, with_fti}
+use Rattle.reception.specs.declared.scope.Identity.{Identity}
 use Rattle.reception.specs.declared.scope.Scope.{Scope}
 use Rattle.reception.proofs.Walking.{Walked}
 use Rattle.cert.specs.Certificate.{Certificate}
@@ -20,10 +19,6 @@ in_range_small f p valid range =
     let e = ltb-true p.esi (encoding_count f p.block) w.1 in
     omega (arith, e, counts f valid p.block b)
 
--- the datagrams before a place are as certified
-abbrev pub Scanned : Certificate → List (List ℕ) → ℕ → Scope → Type 0
-Scanned z ds place scope = Walked (uncertified z) (with_fti z.fti) ds place scope
-
--- the certificate's FTI holds
-pub fti_holds : (z : Certificate) (ds : List (List ℕ)) (place : ℕ) (scope : Scope) → Scanned z ds place scope → scope.fti ≡ Some z.fti
-fti_holds z ds place scope w = sym (ap (λ (s : Scope). s.fti) w.holds) ∙ fti_stays None z.fti (counted (take place (readings_of ds)))
+-- the datagrams before a place have no reason against them
+abbrev pub Scanned : Identity → Certificate → List (List ℕ) → ℕ → Scope → Type 0
+Scanned who z ds place scope = Walked (uncertified z) (with_fti who z.fti) ds place scope

@@ -1,9 +1,9 @@
 -- A twin where a check finds a block short.
-use Rattle.std.proofs.Common.{◌≡◌, ◌≢◌, ◌+◌, ◌<◌, ◌≤◌, ◌++◌, ◌||◌, ◌&&◌, Bool, true, false, cond, ℕ, suc, List, [], ◌∷◌, None, Ok, length, take, get_or, refl, sym, ap, subst, ◌∙◌, arith, length-append}
+use Rattle.std.proofs.Common.{◌≡◌, ◌≢◌, ◌<◌, ◌≤◌, ◌++◌, ◌||◌, ◌&&◌, Bool, true, false, cond, ℕ, suc, List, [], ◌∷◌, None, length, refl, sym, ap, subst, ◌∙◌, arith, length-append}
 use Rattle.std.specs.Prelude.{filter, ◌==◌}
 use Rattle.std.specs.List.{AllByRecursion}
 use Rattle.std.proofs.lemmas.Bool.{leb-false, eqb-true, eq-eqb}
-use Rattle.std.proofs.lemmas.List.{take_more, length-map, append-nil}
+use Rattle.std.proofs.lemmas.List.{append-nil}
 use Rattle.std.proofs.lemmas.Grind.{flat_map-append}
 use Rattle.std.proofs.lemmas.List.Elements.{filter-append}
 use Rattle.session.specs.Frames.{AreDatagrams}
@@ -12,22 +12,19 @@ use Rattle.lists.specs.Below.{below}
 use Rattle.lists.proofs.Lists.{filter_same}
 use Rattle.lists.proofs.Below.{all_below}
 use Rattle.partition.specs.Fti.{Fti, source_count}
-use Rattle.alc.specs.Packet.{Packet}
-use Rattle.alc.specs.Reading.{Reading, Reads}
-use Rattle.alc.specs.Computed.{read_of}
+use Rattle.alc.specs.Reading.{Reading}
+use Rattle.reception.specs.declared.scope.Identity.{Identity}
 use Rattle.reception.specs.Symbols.{Symbol, has_arrived, arrived_count, IsObject, IsFirstShort, Agrees, Fits, AreTwins}
 use Rattle.cert.specs.Certificate.{Certificate, IsCertificate}
-use Rattle.reception.specs.Reception.{ReadAll, Placed, counted, symbols, symbols_in}
+use Rattle.reception.specs.Reception.{ReadAll, counted, symbols}
 use Rattle.reception.specs.Walks.{readings_of}
-use Rattle.reception.proofs.Walk.{counted_one_more, symbols_more}
-use Rattle.reception.proofs.Walking.{came_before, reading_here}
 use Rattle.cert.specs.declared.verdict.Verdict.TheVariants.{No}
 use Rattle.cert.specs.declared.verdict.Reason.TheVariants.{Thin}
 use Rattle.cert.specs.Verdict.{GivesObject, IsCertifiedReading, reception_to, first_reason, VerdictOn}
 use Rattle.cert.specs.Twins.{different_esis, esi_in, esis_of, IsTwin, IsShortIn, IsTwinOfSession}
 use Rattle.cert.proofs.Judging.{read_all, are_certified, nothing_found}
 use Rattle.reception.proofs.OneAnswer.{same_readings}
-use Rattle.cert.proofs.Promise.{sound_all, unplaced_all, fits_sound}
+use Rattle.cert.proofs.Promise.{IsSoundReading, sound_all, unplaced_all, placed_all, fits_sound}
 use Rattle.cert.proofs.Undecided.{held_self}
 
 -- the ESIs of a block that came are those among its ESIs
@@ -59,12 +56,12 @@ few_held f b arrivals short =
     omega (arith, few, most)
 
 -- an object agrees with what came, where nothing is wrong with it
-pub fits_clean : (z : Certificate) (object : List ℕ) (ds : List (List ℕ)) (rs : List Reading) → IsCertificate z → ReadAll ds rs → IsObject z.fti object → GivesObject object z
-    → first_reason z rs ≡ None → counted rs ≢ [] → Fits z.fti (symbols (counted rs)) object
-fits_clean z object ds rs good read form gives clean some =
-    let all = are_certified z rs (nothing_found (reception_to z rs).wrong clean) some in
-    let sound = sound_all z all.who ds rs read (unplaced_all (IsCertifiedReading z all.who) 0 rs all.packets) in
-    record { form = form; agrees = fits_sound z all.who object good gives 0 rs sound }
+pub fits_clean : (who : Identity) (z : Certificate) (object : List ℕ) (ds : List (List ℕ)) (rs : List Reading) → IsCertificate z → ReadAll ds rs → IsObject z.fti object → GivesObject object z
+    → first_reason who z rs ≡ None → symbols (counted who rs) ≢ [] → Fits z.fti (symbols (counted who rs)) object
+fits_clean who z object ds rs good read form gives clean some =
+    let all = are_certified who z rs (nothing_found (reception_to who z rs).wrong clean) some in
+    let sound = placed_all who (IsSoundReading z) 0 rs (sound_all who z ds rs read (unplaced_all who (IsCertifiedReading z) 0 rs all.packets)) in
+    record { form = form; agrees = fits_sound z object good gives (counted who rs) sound }
 
 -- what came of a block has an ESI among those
 among_self : (b : ℕ) (all arrivals : List Symbol) → AllByRecursion (λ s. has_arrived all s.block s.esi ≡ true) arrivals
@@ -92,65 +89,60 @@ twins_all f b object other arrivals fits twin = record {
   };
 }
 
--- the ESIs of one datagram more
-pub esis_more : (b : ℕ) (ds : List (List ℕ)) (place : ℕ) (d : List ℕ) (r : Reading) → place < length ds → d ≡ get_or ds place [] → Reads d r
-    → esis_of b (came_before ds (place + 1)) ≡ esis_of b (came_before ds place) ++ esis_of b (symbols_in r)
-esis_more b ds place d r l here h =
-    let long : place < length (readings_of ds) = omega (arith, l, length-map ds read_of) in
-    let parts : take (place + 1) (readings_of ds) ≡ take place (readings_of ds) ++ r ∷ [] =
-    take_more (readings_of ds) place r long ∙ ap (λ (x : Reading). take place (readings_of ds) ++ x ∷ []) (reading_here ds place d r r l here h) in
-    ap (λ (rs : List Reading). esis_of b (symbols (counted rs))) parts
-    ∙ ap (λ (xs : List Placed). esis_of b (symbols xs)) (counted_one_more (take place (readings_of ds)) r)
-    ∙ ap (esis_of b) (symbols_more (counted (take place (readings_of ds))) (record { place = length (take place (readings_of ds)); reading = r } ∷ []))
-    ∙ flat_map-append (esi_in b) (came_before ds place) (symbols_in r ++ [])
-    ∙ ap (λ (ss : List Symbol). esis_of b (came_before ds place) ++ esis_of b ss) (append-nil (symbols_in r))
+-- the ESIs with one symbol more
+pub esis_more : (b : ℕ) (before more : List Symbol) → esis_of b (before ++ more) ≡ esis_of b before ++ esis_of b more
+esis_more b before more = flat_map-append (esi_in b) before more
 
-module _ (b : ℕ) (ds : List (List ℕ)) (place : ℕ) (d : List ℕ) (l : place < length ds) (here : d ≡ get_or ds place []) (old : List ℕ) (known : old ≡ esis_of b (came_before ds place)) where
-  pub one_here : (p : Packet) → Reads d (Ok p) → p.block ≡ b → old ++ p.esi ∷ [] ≡ esis_of b (came_before ds (place + 1))
-  one_here p h e =
-      let same : (p.block == b) ≡ true = eq-eqb _ _ e in
-      let is : esis_of b (symbols_in (Ok p)) ≡ p.esi ∷ [] = rw same refl in
-      ap (λ (xs : List ℕ). xs ++ p.esi ∷ []) known
-      ∙ sym (esis_more b ds place d (Ok p) l here h ∙ ap (λ (xs : List ℕ). esis_of b (came_before ds place) ++ xs) is)
+module _ (b : ℕ) (old : List ℕ) (before now : List Symbol) (known : old ≡ esis_of b before) where
+  -- a symbol of the block
+  pub one_here : (s : Symbol) → now ≡ before ++ s ∷ [] → s.block ≡ b → old ++ s.esi ∷ [] ≡ esis_of b now
+  one_here s is e =
+      let same : (s.block == b) ≡ true = eq-eqb _ _ e in
+      let one : esis_of b (s ∷ []) ≡ s.esi ∷ [] = rw same refl in
+      ap (λ (xs : List ℕ). xs ++ s.esi ∷ []) known
+      ∙ sym (ap (esis_of b) is ∙ esis_more b before (s ∷ []) ∙ ap (λ (xs : List ℕ). esis_of b before ++ xs) one)
 
-  nothing : (r : Reading) → Reads d r → esis_of b (symbols_in r) ≡ [] → old ≡ esis_of b (came_before ds (place + 1))
-  nothing r h e =
-      known
-      ∙ sym (esis_more b ds place d r l here h ∙ ap (λ (xs : List ℕ). esis_of b (came_before ds place) ++ xs) e ∙ append-nil (esis_of b (came_before ds place)))
-
-  pub none_here : (p : Packet) → Reads d (Ok p) → p.block ≢ b → old ≡ esis_of b (came_before ds (place + 1))
-  none_here p h ne = nothing (Ok p) h (
-      elim (p.block == b) as (λ v. (p.block == b) ≡ v → cond v (p.esi ∷ []) [] ++ [] ≡ []) [
+  -- a symbol of another block
+  pub none_here : (s : Symbol) → now ≡ before ++ s ∷ [] → s.block ≢ b → old ≡ esis_of b now
+  none_here s is ne =
+      let none : esis_of b (s ∷ []) ≡ [] =
+      elim (s.block == b) as (λ v. (s.block == b) ≡ v → cond v (s.esi ∷ []) [] ++ [] ≡ []) [
         | true ↦ λ e. absurd (ne (eqb-true _ _ e))
         | false ↦ λ e. refl
-      ] refl)
+      ] refl in
+      known
+      ∙ sym (ap (esis_of b) is ∙ esis_more b before (s ∷ []) ∙ ap (λ (xs : List ℕ). esis_of b before ++ xs) none ∙ append-nil (esis_of b before))
+
+  -- no symbol
+  pub passed_here : now ≡ before → old ≡ esis_of b now
+  passed_here is = known ∙ ap (esis_of b) (sym is)
 
 -- ---- what a verdict of a short block says
 
-abbrev pub Shortness : List (List ℕ) → List ℕ → Certificate → ℕ → Type 0
-Shortness ds object z b =
-    IsObject z.fti object × GivesObject object z × (first_reason z (readings_of ds) ≡ None) × (counted (readings_of ds) ≢ [])
-    × IsFirstShort z.fti (symbols (counted (readings_of ds))) b
+abbrev pub Shortness : Identity → List (List ℕ) → List ℕ → Certificate → ℕ → Type 0
+Shortness who ds object z b =
+    IsObject z.fti object × GivesObject object z × (first_reason who z (readings_of ds) ≡ None) × (symbols (counted who (readings_of ds)) ≢ [])
+    × IsFirstShort z.fti (symbols (counted who (readings_of ds))) b
 
-pub shortness : (ds : List (List ℕ)) (object : List ℕ) (z : Certificate) (b : ℕ) → AreDatagrams ds → IsShortIn ds object z b → Shortness ds object z b
-shortness ds object z b small h =
+pub shortness : (who : Identity) (ds : List (List ℕ)) (object : List ℕ) (z : Certificate) (b : ℕ) → AreDatagrams ds → IsShortIn who ds object z b → Shortness who ds object z b
+shortness who ds object z b small h =
     let same : h.2.readings ≡ readings_of ds = same_readings ds h.2.readings (readings_of ds) h.2.read (read_all ds small) in
-    let v = subst (λ (rs : List Reading). VerdictOn rs object z (No (Thin b h.0 h.1))) same h.2.judged in
+    let v = subst (λ (rs : List Reading). VerdictOn who rs object z (No (Thin b h.0 h.1))) same h.2.judged in
     (v.0, v.1, v.2.0, v.2.1, v.2.2)
 
-pub few_arrived : (ds : List (List ℕ)) (object : List ℕ) (z : Certificate) (b : ℕ) → AreDatagrams ds → IsShortIn ds object z b
-    → length (different_esis (esis_of b (symbols (counted (readings_of ds))))) < source_count z.fti b
-few_arrived ds object z b small h = few_held z.fti b (symbols (counted (readings_of ds))) (shortness ds object z b small h).4
+pub few_arrived : (who : Identity) (ds : List (List ℕ)) (object : List ℕ) (z : Certificate) (b : ℕ) → AreDatagrams ds → IsShortIn who ds object z b
+    → length (different_esis (esis_of b (symbols (counted who (readings_of ds))))) < source_count z.fti b
+few_arrived who ds object z b small h = few_held z.fti b (symbols (counted who (readings_of ds))) (shortness who ds object z b small h).4
 
-pub twin_of_session : (ds : List (List ℕ)) (object other : List ℕ) (z : Certificate) (b : ℕ) → IsCertificate z → AreDatagrams ds → IsShortIn ds object z b
-    → IsTwin z.fti b (esis_of b (symbols (counted (readings_of ds)))) object other → IsTwinOfSession z.fti b ds object other
-twin_of_session ds object other z b good small h twin =
-    let t = shortness ds object z b small h in
+pub twin_of_session : (who : Identity) (ds : List (List ℕ)) (object other : List ℕ) (z : Certificate) (b : ℕ) → IsCertificate z → AreDatagrams ds → IsShortIn who ds object z b
+    → IsTwin z.fti b (esis_of b (symbols (counted who (readings_of ds)))) object other → IsTwinOfSession who z.fti b ds object other
+twin_of_session who ds object other z b good small h twin =
+    let t = shortness who ds object z b small h in
     let read : ReadAll ds (readings_of ds) = read_all ds small in
-    let fits = fits_clean z object ds (readings_of ds) good read t.0 t.1 t.2 t.3 in
+    let fits = fits_clean who z object ds (readings_of ds) good read t.0 t.1 t.2 t.3 in
     record {
       readings = readings_of ds;
       read = read;
       made = twin;
-      twins = twins_all z.fti b object other (symbols (counted (readings_of ds))) fits twin;
+      twins = twins_all z.fti b object other (symbols (counted who (readings_of ds))) fits twin;
     }

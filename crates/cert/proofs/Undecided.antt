@@ -1,7 +1,7 @@
 -- A yes: every selection that doesn't suffice leaves a twin, and the decoder says what lacks.
-use Rattle.std.specs.Prelude.{◌≡◌, ◌≢◌, ◌<◌, ◌+◌, ◌⊎◌, ◌==◌, true, false, ℕ, zero, suc, List, [], ◌∷◌, length, Ok, Err, refl}
+use Rattle.std.specs.Prelude.{◌≡◌, ◌≢◌, ◌<◌, ◌+◌, ◌⊎◌, ◌==◌, true, false, cond, ℕ, zero, suc, List, [], ◌∷◌, ◌++◌, length, Ok, Err, refl}
 use Rattle.std.specs.List.{AllByRecursion}
-use Rattle.std.proofs.Common.{sym, subst, arith, inl, inr}
+use Rattle.std.proofs.Common.{◌∙◌, sym, ap, subst, arith, inl, inr}
 use Rattle.std.proofs.lemmas.Bool.{eqb-true, eq-eqb, leb-false}
 use Rattle.std.proofs.Math.Bool.{or-true}
 use Rattle.lists.specs.Bytes.{AreBytes}
@@ -9,13 +9,13 @@ use Rattle.gf256.specs.Arithmetic.{point}
 use Rattle.poly.specs.Polynomial.{value}
 use Rattle.partition.specs.Fti.{Fti, IsValidFti, source_count, block_count}
 use Rattle.lists.specs.Below.{below}
-use Rattle.reception.specs.Symbols.{Symbol, is_of, has_arrived, arrived_esis, arrived_count, is_full, IsFirstShort, Agrees, Fits, AreTwins}
+use Rattle.reception.specs.Symbols.{Symbol, is_of, has_arrived, arrived_esis, arrived_count, is_full, IsFirstShort, Agrees, Fits, AreTwins, IsObject}
 use Rattle.alc.specs.Reading.{Reading}
 use Rattle.reception.specs.declared.scope.Identity.{Identity}
-use Rattle.reception.specs.Reception.{ReadAll, counted_from, counted, symbols}
-use Rattle.reception.specs.Answer.{Empty, Missing}
+use Rattle.reception.specs.Reception.{ReadAll, Placed, is_of_identity, counted_from, counted, symbols_in, symbols, asked, scope_from, first_wrong}
+use Rattle.reception.specs.Answer.{Empty, Missing, clash}
 use Rattle.cert.specs.Certificate.{Certificate, IsCertificate}
-use Rattle.cert.specs.Verdict.{GivesObject, IsCertificateOf, IsCertifiedReading}
+use Rattle.cert.specs.Verdict.{GivesObject, IsCertificateOf}
 use Rattle.lists.specs.Selection.{chosen}
 use Rattle.reception.specs.Headline.{IsUndecided, LeavesTwin, UndecidedElse}
 use Rattle.partition.proofs.Laws.{counts}
@@ -23,8 +23,9 @@ use Rattle.alc.proofs.Packets.{packet_bytes}
 use Rattle.poly.proofs.Lists.{all_weaker}
 use Rattle.lists.proofs.Lists.{all_filter}
 use Rattle.lists.proofs.Below.{all_below, one_missing, at_passing}
+use Rattle.reception.proofs.OneAnswer.{same_readings}
 use Rattle.reception.proofs.Full.{found}
-use Rattle.cert.proofs.Promise.{read_chosen, all_chosen, sound_all, unplaced_all, IsSoundReading, clean, fits_sound, solvable, all_right}
+use Rattle.cert.proofs.Promise.{read_chosen, sound_chosen, IsSoundReading, AreSound, clean, fits_sound, solvable, all_right}
 use Rattle.cert.proofs.Twinning.{vanishing, twin_of, agrees, twin_form, differs, roots_held}
 
 -- the first short block below n, or none
@@ -54,12 +55,16 @@ held_self (s ∷ ss) = (
   all_weaker (λ x. has_arrived ss x.block x.esi ≡ true) (λ x. has_arrived (s ∷ ss) x.block x.esi ≡ true) (λ x h. rw h (or-true (is_of x.block x.esi s))) ss (held_self ss),
 )
 
-bytes_came : (i : ℕ) (ds : List (List ℕ)) (rs : List Reading) → ReadAll ds rs → AllByRecursion (λ s. AreBytes s.bytes × (s.esi < 256)) (symbols (counted_from i rs))
-bytes_came i [] [] h = tt
-bytes_came i [] (r ∷ rs) h = absurd h
-bytes_came i (d ∷ ds) [] h = absurd h
-bytes_came i (d ∷ ds) (Ok p ∷ rs) h = (packet_bytes d p h.0, bytes_came (i + 1) ds rs h.1)
-bytes_came i (d ∷ ds) (Err r ∷ rs) h = bytes_came (i + 1) ds rs h.1
+bytes_came : (who : Identity) (i : ℕ) (ds : List (List ℕ)) (rs : List Reading) → ReadAll ds rs → AllByRecursion (λ s. AreBytes s.bytes × (s.esi < 256)) (symbols (counted_from who i rs))
+bytes_came who i [] [] h = tt
+bytes_came who i [] (r ∷ rs) h = absurd h
+bytes_came who i (d ∷ ds) [] h = absurd h
+bytes_came who i (d ∷ ds) (Err r ∷ rs) h = bytes_came who (i + 1) ds rs h.1
+bytes_came who i (d ∷ ds) (Ok p ∷ rs) h =
+    elim (is_of_identity who p) as (λ v. AllByRecursion (λ s. AreBytes s.bytes × (s.esi < 256)) (symbols (cond v (record { place = i; reading = Ok p } ∷ []) [] ++ counted_from who (i + 1) rs))) [
+      | true ↦ (packet_bytes d p h.0, bytes_came who (i + 1) ds rs h.1)
+      | false ↦ bytes_came who (i + 1) ds rs h.1
+    ]
 
 three : (arrivals all : List Symbol) → AllByRecursion (λ s. AreBytes s.bytes × (s.esi < 256)) arrivals → AllByRecursion (λ s. has_arrived all s.block s.esi ≡ true) arrivals
     → AllByRecursion (λ s. AreBytes s.bytes × (s.esi < 256) × (has_arrived all s.block s.esi ≡ true)) arrivals
@@ -96,53 +101,77 @@ twin_at f valid arrivals object fits bytes b hb short =
       },
     )
 
+-- where no symbol came and all that counts is sound, nothing counts
+none_counted : (z : Certificate) (xs : List Placed) → AreSound z xs → symbols xs ≡ [] → xs ≡ []
+none_counted z [] h none = refl
+none_counted z (x ∷ xs) h none = by x.reading h.0 none
+  where
+    by : (r : Reading) → IsSoundReading z r → symbols_in r ++ symbols xs ≡ [] → x ∷ xs ≡ []
+    by (Err e) s k = absurd s
+    by (Ok p) s k = absurd (cc)
+
 -- the answer where block b is the first short one
-told : (z : Certificate) (who : Identity) (object : List ℕ) → IsCertificate z → Fits z.fti [] object → GivesObject object z
-    → (ds : List (List ℕ)) (rs : List Reading) → ReadAll ds rs → AllByRecursion (IsSoundReading z who) rs
-    → (b : ℕ) → IsFirstShort z.fti (symbols (counted rs)) b → LeavesTwin z.fti ds object → IsUndecided z.fti ds object
-told z who object good form gives [] [] read sound b first twin = record {
-  answer = Empty;
-  told = record { readings = []; read = tt; answers = (refl, refl) };
-  lacks = refl;
-  twin = twin;
-}
-told z who object good form gives [] (r ∷ rs) read sound b first twin = absurd read
-told z who object good form gives (d ∷ ds) [] read sound b first twin = absurd read
-told z who object good form gives (d ∷ ds) (r ∷ rs) read sound b first twin = record {
-  answer = Missing b (arrived_count (symbols (counted (r ∷ rs))) b) (source_count z.fti b);
-  told = record {
-    readings = r ∷ rs;
-    read = read;
-    answers = (
-      z.fti,
-      clean z who (r ∷ rs) sound (λ e. absurd (cc)),
-      solvable z object good form.form gives (symbols (counted (r ∷ rs)))
-          (all_right z who 0 (r ∷ rs) sound),
-      first,
-      refl,
-      refl,
-    );
-  };
-  lacks = λ e. absurd (cc);
-  twin = twin;
-}
+module _ (who : Identity) (z : Certificate) (object : List ℕ) (good : IsCertificate z) (form : IsObject z.fti object) (gives : GivesObject object z)
+    (ds : List (List ℕ)) (rs : List Reading) (read : ReadAll ds rs) (sound : AreSound z (counted who rs)) where
+  -- nothing came
+  nothing : symbols (counted who rs) ≡ [] → LeavesTwin who z.fti ds object → IsUndecided who z.fti ds object
+  nothing none twin =
+      let e = none_counted z (counted who rs) sound none in
+      record {
+        answer = Empty;
+        told = record {
+          readings = rs;
+          read = read;
+          answers = (
+            ap (λ (xs : List Placed). first_wrong clash (scope_from (asked who) xs) xs) e,
+            ap (λ (xs : List Placed). (scope_from (asked who) xs).fti) e,
+          );
+        };
+        lacks = λ h. h.some (ap (λ (ss : List Reading). symbols (counted who ss)) (same_readings ds h.readings rs h.read read) ∙ none);
+        twin = twin;
+      }
+
+  -- some came
+  lacking : symbols (counted who rs) ≢ [] → (b : ℕ) → IsFirstShort z.fti (symbols (counted who rs)) b → LeavesTwin who z.fti ds object → IsUndecided who z.fti ds object
+  lacking some b first twin = record {
+    answer = Missing b (arrived_count (symbols (counted who rs)) b) (source_count z.fti b);
+    told = record {
+      readings = rs;
+      read = read;
+      answers = (
+        z.fti,
+        clean who z rs sound some,
+        solvable z object good form gives (symbols (counted who rs))
+            (all_right z (counted who rs) sound),
+        first,
+        refl,
+        refl,
+      );
+    };
+    lacks = record { readings = rs; read = read; some = some };
+    twin = twin;
+  }
+
+  told : (arrivals : List Symbol) → symbols (counted who rs) ≡ arrivals → (b : ℕ) → IsFirstShort z.fti (symbols (counted who rs)) b → LeavesTwin who z.fti ds object
+      → IsUndecided who z.fti ds object
+  told [] is b first twin = nothing is twin
+  told (s ∷ ss) is b first twin = lacking (λ none. let e : s ∷ ss ≡ [] = sym is ∙ none in (cc)) b first twin
 
 -- at yes, every selection that doesn't suffice leaves a twin, and the decoder says what lacks
-pub undecided : (session : List (List ℕ)) (rs : List Reading) (object : List ℕ) (z : Certificate) → ReadAll session rs → IsCertificate z
-    → IsCertificateOf rs object z → UndecidedElse z.fti session object
-undecided session rs object z read good granted = λ q lacking.
-    let who = granted.certified.who in
-    let sound = all_chosen (IsSoundReading z who) rs (sound_all z who session rs read (unplaced_all (IsCertifiedReading z who) 0 rs granted.certified.packets)) q in
+pub undecided : (who : Identity) (session : List (List ℕ)) (rs : List Reading) (object : List ℕ) (z : Certificate) → ReadAll session rs → IsCertificate z
+    → IsCertificateOf who rs object z → UndecidedElse who z.fti session object
+undecided who session rs object z read good granted = λ q short.
+    let sound = sound_chosen who session rs z read granted.certified q in
     let read_q = read_chosen session rs read q in
-    let fits : Fits z.fti (symbols (counted (chosen rs q))) object = record {
+    let fits : Fits z.fti (symbols (counted who (chosen rs q))) object = record {
       form = granted.form;
-      agrees = fits_sound z who object good granted.gives 0 (chosen rs q) sound;
+      agrees = fits_sound z object good granted.gives (counted who (chosen rs q)) sound;
     } in
-    elim (first_short z.fti (symbols (counted (chosen rs q))) (block_count z.fti)) [
-      | inr all ↦ absurd (lacking (record { readings = chosen rs q; read = read_q; full = all }))
+    elim (first_short z.fti (symbols (counted who (chosen rs q))) (block_count z.fti)) [
+      | inr all ↦ absurd (short (record { readings = chosen rs q; read = read_q; full = all }))
       | inl w ↦
-          (let twin = twin_at z.fti good.fti (symbols (counted (chosen rs q))) object fits (bytes_came 0 _ _ read_q) w.0 w.1 w.2 in
-          told z who object good (record { form = granted.form; agrees = tt }) granted.gives (chosen session q) (chosen rs q) read_q sound w.0
+          (let twin = twin_at z.fti good.fti (symbols (counted who (chosen rs q))) object fits (bytes_came who 0 _ _ read_q) w.0 w.1 w.2 in
+          told who z object good granted.form granted.gives (chosen session q) (chosen rs q) read_q sound (symbols (counted who (chosen rs q))) refl w.0
           (record { in_range = w.1; short = w.2; least = w.3 })
           (record { readings = chosen rs q; read = read_q; other = twin.0; twins = twin.1 }))
     ]

@@ -2,6 +2,7 @@
 use Rattle.std.specs.Prelude.{ℕ, List, Result, Ok, Err, IfOk}
 use Rattle.cert.specs.declared.verdict.Verdict.{Verdict}
 use Rattle.cert.specs.declared.verdict.Verdict.TheVariants.{Yes, No}
+use Rattle.reception.specs.declared.scope.Identity.{Identity}
 use Rattle.cert.specs.Certificate.{Certificate, IsCertificate}
 use Rattle.cert.specs.Verdict.{IsVerdict}
 use Rattle.reception.specs.Headline.{DecodesWhereEnough, UndecidedElse}
@@ -10,15 +11,15 @@ use Rattle.cert.proofs.Promise.{decodes}
 use Rattle.cert.proofs.Undecided.{undecided}
 
 -- each selection that suffices decodes to the object
-pub decodes_at_yes : {E : Type 0} (session : List (List ℕ)) (object : List ℕ) (z : Certificate) (r : Result Verdict E) → IsCertificate z
-    → IfOk r (IsVerdict session object z) → IfOk r (λ v. OnYes v (λ _. DecodesWhereEnough z.fti session object))
-decodes_at_yes session object z (Ok (Yes report)) good h = decodes session h.readings object z h.read good h.judged
-decodes_at_yes session object z (Ok (No reason)) good h = tt
-decodes_at_yes session object z (Err e) good h = tt
+pub decodes_at_yes : {E : Type 0} (who : Identity) (session : List (List ℕ)) (object : List ℕ) (z : Certificate) (r : Result Verdict E) → IsCertificate z
+    → IfOk r (IsVerdict who session object z) → IfOk r (λ v. OnYes v (λ _. DecodesWhereEnough who z.fti session object))
+decodes_at_yes who session object z (Ok (Yes report)) good h = decodes who session h.readings object z h.read good h.judged
+decodes_at_yes who session object z (Ok (No reason)) good h = tt
+decodes_at_yes who session object z (Err e) good h = tt
 
 -- each other leaves a twin, and a decoder says what lacks
-pub undecided_at_yes : {E : Type 0} (session : List (List ℕ)) (object : List ℕ) (z : Certificate) (r : Result Verdict E) → IsCertificate z
-    → IfOk r (IsVerdict session object z) → IfOk r (λ v. OnYes v (λ _. UndecidedElse z.fti session object))
-undecided_at_yes session object z (Ok (Yes report)) good h = undecided session h.readings object z h.read good h.judged
-undecided_at_yes session object z (Ok (No reason)) good h = tt
-undecided_at_yes session object z (Err e) good h = tt
+pub undecided_at_yes : {E : Type 0} (who : Identity) (session : List (List ℕ)) (object : List ℕ) (z : Certificate) (r : Result Verdict E) → IsCertificate z
+    → IfOk r (IsVerdict who session object z) → IfOk r (λ v. OnYes v (λ _. UndecidedElse who z.fti session object))
+undecided_at_yes who session object z (Ok (Yes report)) good h = undecided who session h.readings object z h.read good h.judged
+undecided_at_yes who session object z (Ok (No reason)) good h = tt
+undecided_at_yes who session object z (Err e) good h = tt

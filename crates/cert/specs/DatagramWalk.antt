@@ -1,30 +1,32 @@
 -- What is known of datagrams that were looked at one by one.
-use Rattle.std.specs.Prelude.{◌≡◌, ◌≢◌, ℕ, ◌+◌, List, [], length, Option, None, Some, IfSome, ⊤}
+use Rattle.std.specs.Prelude.{◌≡◌, ◌≢◌, ℕ, ◌+◌, Bool, nat_lt, List, [], length, Option, None, Some, IfSome, ⊤}
 use Rattle.losses.specs.Groups.{Group, groups_of}
 use Rattle.alc.specs.Packet.{Packet}
-use Rattle.reception.specs.Reception.{counted, symbol_of}
+use Rattle.reception.specs.Reception.{counted, symbols, symbol_of}
+use Rattle.reception.specs.declared.scope.Identity.{Identity}
 use Rattle.reception.specs.declared.scope.Scope.{Scope}
 use Rattle.reception.specs.Walks.{readings_of}
 use Rattle.cert.specs.declared.walk.Walk.{Walk}
 use Rattle.cert.specs.declared.walk.NoReport.{NoReport}
 use Rattle.cert.specs.declared.walk.NoReport.TheVariants.{Reason as ByReason, NoMemory}
 use Rattle.cert.specs.declared.verdict.Reason.{Reason}
-use Rattle.cert.specs.declared.verdict.Reason.TheVariants.{ObjectLength, NotObject, Packet as NoPacket, OtherIdentity, OtherFti, Range, Symbol}
+use Rattle.cert.specs.declared.verdict.Reason.TheVariants.{ObjectLength, NotObject, Packet as NoPacket, OtherFti, Range, Symbol}
 use Rattle.cert.specs.declared.verdict.Verdict.TheVariants.{No}
 use Rattle.cert.specs.Certificate.{Certificate}
 use Rattle.cert.specs.Scan.{AreGroupsOf}
 use Rattle.cert.specs.Verdict.{IsFirstNotGiven, reception_to, first_reason, VerdictOn, uncertified}
 
 -- these datagrams came to the check of a certificate, none with a reason against it: what is known of them
-pub record AreWalked (z : Certificate) (scope : Scope) (count : ℕ) (groups : List Group) (datagrams : List (List ℕ)) : Type 0 where
-  pub clean : (reception_to z (readings_of datagrams)).wrong ≡ None
-  pub holds : (reception_to z (readings_of datagrams)).scope ≡ scope
+pub record AreWalked (who : Identity) (z : Certificate) (scope : Scope) (count : ℕ) (came : Bool) (groups : List Group) (datagrams : List (List ℕ)) : Type 0 where
+  pub clean : (reception_to who z (readings_of datagrams)).wrong ≡ None
+  pub holds : (reception_to who z (readings_of datagrams)).scope ≡ scope
   pub many : length datagrams ≡ count
-  pub grouped : AreGroupsOf z.fti (counted (readings_of datagrams)) groups
+  pub some : nat_lt 0 (length (symbols (counted who (readings_of datagrams)))) ≡ came
+  pub grouped : AreGroupsOf z.fti (counted who (readings_of datagrams)) groups
 
 abbrev pub HasWalked : Walk → List (List ℕ) → Type 0
 HasWalked walk datagrams =
-    AreWalked walk.symbols walk.scope walk.count (groups_of walk.groups.items) datagrams
+    AreWalked walk.scope.identity walk.symbols walk.scope walk.count walk.came (groups_of walk.groups.items) datagrams
 
 -- a reason against the object, whatever datagrams come
 abbrev pub IsAgainstObject : Reason → List ℕ → Certificate → Type 0
@@ -40,7 +42,6 @@ IsNotBegun object z NoMemory = ⊤
 -- the place that a reason tells
 abbrev pub place_of : Reason → Option ℕ
 place_of (NoPacket i fault) = Some i
-place_of (OtherIdentity i) = Some i
 place_of (OtherFti i) = Some i
 place_of (Range i) = Some i
 place_of (Symbol i c) = Some i
@@ -51,14 +52,14 @@ abbrev pub IsAtLast : List (List ℕ) → Reason → Type 0
 IsAtLast datagrams reason = IfSome (place_of reason) (λ i. length datagrams ≡ i + 1)
 
 -- why the last of these datagrams isn't passed: it has the first reason at a place
-abbrev pub IsNotPassed : List (List ℕ) → Certificate → NoReport → Type 0
-IsNotPassed datagrams z (ByReason r) = (first_reason z (readings_of datagrams) ≡ Some r) × IsAtLast datagrams r
-IsNotPassed datagrams z NoMemory = ⊤
+abbrev pub IsNotPassed : Identity → List (List ℕ) → Certificate → NoReport → Type 0
+IsNotPassed who datagrams z (ByReason r) = (first_reason who z (readings_of datagrams) ≡ Some r) × IsAtLast datagrams r
+IsNotPassed who datagrams z NoMemory = ⊤
 
 -- the no to these datagrams and this object
-abbrev pub IsNo : List (List ℕ) → List ℕ → Certificate → NoReport → Type 0
-IsNo datagrams object z (ByReason r) = VerdictOn (readings_of datagrams) object z (No r)
-IsNo datagrams object z NoMemory = ⊤
+abbrev pub IsNo : Identity → List (List ℕ) → List ℕ → Certificate → NoReport → Type 0
+IsNo who datagrams object z (ByReason r) = VerdictOn who (readings_of datagrams) object z (No r)
+IsNo who datagrams object z NoMemory = ⊤
 
 -- why a packet's symbol isn't kept: it isn't the certified one
 abbrev pub IsNotKept : Certificate → ℕ → Packet → NoReport → Type 0

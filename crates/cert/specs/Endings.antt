@@ -1,5 +1,6 @@
 -- Why there is no report on datagrams that are read.
 use Rattle.std.specs.Prelude.{ℕ, Bool, List, Option}
+use Rattle.reception.specs.declared.scope.Identity.{Identity}
 use Rattle.cert.specs.Certificate.{Certificate}
 use Rattle.cert.specs.FromReader.{IsCheckedFrom, IsCheckFault}
 use Rattle.cert.specs.declared.walk.NoReport.{NoReport}
@@ -14,6 +15,6 @@ ending_of (ByReason reason) = Reason reason
 ending_of NoReportMemory = Fault NoMemory
 
 -- a reason, which is the verdict then, or a fault
-abbrev pub IsEnding : Option (List ℕ) → Option (List ℕ) → Bool → List ℕ → Certificate → Ending → Type 0
-IsEnding old new failed object z (Reason reason) = IsCheckedFrom old new object z (No reason)
-IsEnding old new failed object z (Fault fault) = IsCheckFault fault old new failed object z
+abbrev pub IsEnding : Identity → Option (List ℕ) → Option (List ℕ) → Bool → List ℕ → Certificate → Ending → Type 0
+IsEnding who old new failed object z (Reason reason) = IsCheckedFrom who old new object z (No reason)
+IsEnding who old new failed object z (Fault fault) = IsCheckFault who fault old new failed object z

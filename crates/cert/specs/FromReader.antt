@@ -4,6 +4,7 @@ use Rattle.std.specs.Io.KnownBytes.{Consumes, IsAtEnd}
 use Rattle.session.specs.Frames.{frames, AreDatagrams, IsReadFault}
 use Rattle.session.specs.declared.frame.FrameFault.{FrameFault}
 use Rattle.alc.specs.Reading.{Reading}
+use Rattle.reception.specs.declared.scope.Identity.{Identity}
 use Rattle.reception.specs.Symbols.{IsObject}
 use Rattle.reception.specs.Reception.{ReadAll}
 use Rattle.reception.specs.Headline.{DecodesWhereEnough, UndecidedElse}
@@ -13,65 +14,64 @@ use Rattle.cert.specs.Verdict.{GivesObject, first_reason, IsVerdict}
 use Rattle.cert.specs.declared.verdict.Verdict.{Verdict}
 use Rattle.cert.specs.declared.verdict.Verdict.TheVariants.{Yes, No}
 use Rattle.cert.specs.declared.verdict.Reason.{Reason}
-use Rattle.cert.specs.declared.verdict.Reason.TheVariants.{ObjectLength, NotObject, Empty, Packet as NoPacket, OtherIdentity, OtherFti, Range, Symbol, Thin}
+use Rattle.cert.specs.declared.verdict.Reason.TheVariants.{ObjectLength, NotObject, Empty, Packet as NoPacket, OtherFti, Range, Symbol, Thin}
 use Rattle.cert.specs.declared.from_reader.CheckFault.{CheckFault}
 use Rattle.cert.specs.declared.from_reader.CheckFault.TheVariants.{Frame, NoMemory}
 
 -- the verdict on every list of datagrams that begins with these
-abbrev pub IsVerdictWhatFollows : List (List ℕ) → List ℕ → Certificate → Verdict → Type 0
-IsVerdictWhatFollows datagrams object z verdict =
-    (rest : List (List ℕ)) → AreDatagrams rest → IsVerdict (datagrams ++ rest) object z verdict
+abbrev pub IsVerdictWhatFollows : Identity → List (List ℕ) → List ℕ → Certificate → Verdict → Type 0
+IsVerdictWhatFollows who datagrams object z verdict =
+    (rest : List (List ℕ)) → AreDatagrams rest → IsVerdict who (datagrams ++ rest) object z verdict
 
 -- a reason at the place of the last of these datagrams, whatever follows it
-abbrev pub IsVerdictAtLast : ℕ → List (List ℕ) → List ℕ → Certificate → Reason → Type 0
-IsVerdictAtLast place datagrams object z reason =
-    (length datagrams ≡ place + 1) × IsVerdictWhatFollows datagrams object z (No reason)
+abbrev pub IsVerdictAtLast : Identity → ℕ → List (List ℕ) → List ℕ → Certificate → Reason → Type 0
+IsVerdictAtLast who place datagrams object z reason =
+    (length datagrams ≡ place + 1) × IsVerdictWhatFollows who datagrams object z (No reason)
 
 -- The verdict once these datagrams were read, and that is left of the reader: for a reason against the object none is read,
 -- for one at a place none behind it, and for every other verdict all.
-abbrev pub IsVerdictAfter : Verdict → List (List ℕ) → Option (List ℕ) → List ℕ → Certificate → Type 0
-IsVerdictAfter (Yes report) datagrams left object z = IsAtEnd left × IsVerdict datagrams object z (Yes report)
-IsVerdictAfter (No ObjectLength) datagrams left object z =
-    (datagrams ≡ []) × IsVerdictWhatFollows datagrams object z (No ObjectLength)
-IsVerdictAfter (No (NotObject b c i)) datagrams left object z =
-    (datagrams ≡ []) × IsVerdictWhatFollows datagrams object z (No (NotObject b c i))
-IsVerdictAfter (No Empty) datagrams left object z = IsAtEnd left × IsVerdict datagrams object z (No Empty)
-IsVerdictAfter (No (Thin b have need)) datagrams left object z = IsAtEnd left × IsVerdict datagrams object z (No (Thin b have need))
-IsVerdictAfter (No (NoPacket i fault)) datagrams left object z = IsVerdictAtLast i datagrams object z (NoPacket i fault)
-IsVerdictAfter (No (OtherIdentity i)) datagrams left object z = IsVerdictAtLast i datagrams object z (OtherIdentity i)
-IsVerdictAfter (No (OtherFti i)) datagrams left object z = IsVerdictAtLast i datagrams object z (OtherFti i)
-IsVerdictAfter (No (Range i)) datagrams left object z = IsVerdictAtLast i datagrams object z (Range i)
-IsVerdictAfter (No (Symbol i c)) datagrams left object z = IsVerdictAtLast i datagrams object z (Symbol i c)
+abbrev pub IsVerdictAfter : Identity → Verdict → List (List ℕ) → Option (List ℕ) → List ℕ → Certificate → Type 0
+IsVerdictAfter who (Yes report) datagrams left object z = IsAtEnd left × IsVerdict who datagrams object z (Yes report)
+IsVerdictAfter who (No ObjectLength) datagrams left object z =
+    (datagrams ≡ []) × IsVerdictWhatFollows who datagrams object z (No ObjectLength)
+IsVerdictAfter who (No (NotObject b c i)) datagrams left object z =
+    (datagrams ≡ []) × IsVerdictWhatFollows who datagrams object z (No (NotObject b c i))
+IsVerdictAfter who (No Empty) datagrams left object z = IsAtEnd left × IsVerdict who datagrams object z (No Empty)
+IsVerdictAfter who (No (Thin b have need)) datagrams left object z = IsAtEnd left × IsVerdict who datagrams object z (No (Thin b have need))
+IsVerdictAfter who (No (NoPacket i fault)) datagrams left object z = IsVerdictAtLast who i datagrams object z (NoPacket i fault)
+IsVerdictAfter who (No (OtherFti i)) datagrams left object z = IsVerdictAtLast who i datagrams object z (OtherFti i)
+IsVerdictAfter who (No (Range i)) datagrams left object z = IsVerdictAtLast who i datagrams object z (Range i)
+IsVerdictAfter who (No (Symbol i c)) datagrams left object z = IsVerdictAtLast who i datagrams object z (Symbol i c)
 
 -- Just the frames of some datagrams were read, and the verdict is theirs. At yes it promises of them what a check of a
 -- session does.
-pub record IsCheckedFrom (old new : Option (List ℕ)) (object : List ℕ) (z : Certificate) (verdict : Verdict) : Type 0 where
+pub record IsCheckedFrom (who : Identity) (old new : Option (List ℕ)) (object : List ℕ) (z : Certificate) (verdict : Verdict) : Type 0 where
   pub datagrams : List (List ℕ)
   pub each : AreDatagrams datagrams
   pub consumed : Consumes old new (frames datagrams)
-  pub judged : IsVerdictAfter verdict datagrams new object z
-  pub decodes : OnYes verdict (λ _. DecodesWhereEnough z.fti datagrams object)
-  pub undecided : OnYes verdict (λ _. UndecidedElse z.fti datagrams object)
-  pub report : OnYes verdict (IsReport datagrams z.fti)
+  pub judged : IsVerdictAfter who verdict datagrams new object z
+  pub decodes : OnYes verdict (λ _. DecodesWhereEnough who z.fti datagrams object)
+  pub undecided : OnYes verdict (λ _. UndecidedElse who z.fti datagrams object)
+  pub report : OnYes verdict (IsReport who datagrams z.fti)
 
 -- no reason against the object, and none at the place of one of these datagrams
-pub record HasNoReason (datagrams : List (List ℕ)) (object : List ℕ) (z : Certificate) : Type 0 where
+pub record HasNoReason (who : Identity) (datagrams : List (List ℕ)) (object : List ℕ) (z : Certificate) : Type 0 where
   pub form : IsObject z.fti object
   pub gives : GivesObject object z
   pub readings : List Reading
   pub read : ReadAll datagrams readings
-  pub none : first_reason z readings ≡ None
+  pub none : first_reason who z readings ≡ None
 
 -- The frames of some datagrams that have no reason were read, and then no datagram, for this fault.
-pub record IsRefusedBehind (fault : FrameFault) (old new : Option (List ℕ)) (failed : Bool) (object : List ℕ) (z : Certificate) : Type 0 where
+pub record IsRefusedBehind (who : Identity) (fault : FrameFault) (old new : Option (List ℕ)) (failed : Bool) (object : List ℕ) (z : Certificate) : Type 0 where
   pub datagrams : List (List ℕ)
   pub each : AreDatagrams datagrams
-  pub none : HasNoReason datagrams object z
+  pub none : HasNoReason who datagrams object z
   pub left : Option (List ℕ)
   pub consumed : Consumes old left (frames datagrams)
   pub refused : IsReadFault fault left new failed
 
 -- why there is no verdict, by what the reader held before and after, and whether it has failed
-abbrev pub IsCheckFault : CheckFault → Option (List ℕ) → Option (List ℕ) → Bool → List ℕ → Certificate → Type 0
-IsCheckFault (Frame fault) old new failed object z = IsRefusedBehind fault old new failed object z
-IsCheckFault NoMemory old new failed object z = ⊤
+abbrev pub IsCheckFault : Identity → CheckFault → Option (List ℕ) → Option (List ℕ) → Bool → List ℕ → Certificate → Type 0
+IsCheckFault who (Frame fault) old new failed object z = IsRefusedBehind who fault old new failed object z
+IsCheckFault who NoMemory old new failed object z = ⊤

@@ -7,6 +7,7 @@ use Rattle.alc.specs.Reading.{Reading}
 use Rattle.cert.specs.declared.verdict.Report.{Report}
 use Rattle.cert.specs.declared.verdict.Verdict.{Verdict}
 use Rattle.cert.specs.declared.verdict.Verdict.TheVariants.{Yes, No}
+use Rattle.reception.specs.declared.scope.Identity.{Identity}
 use Rattle.reception.specs.Symbols.{Symbol, has_arrived, arrived_count}
 use Rattle.reception.specs.Reception.{ReadAll, counted, symbols}
 
@@ -14,17 +15,18 @@ use Rattle.reception.specs.Reception.{ReadAll, counted, symbols}
 abbrev pub block_lines : Fti → List Symbol → ℕ → List (ℕ × ℕ)
 block_lines f arrivals n = map (λ b. (source_count f b, arrived_count arrivals b)) (below n)
 
--- the blocks of an FTI, and which of their symbols a list of readings holds
-abbrev pub blocks_of : Fti → Blocks Reading
-blocks_of f = record { count = block_count f; need = source_count f; has_symbol = λ rs b j. has_arrived (symbols (counted rs)) b j }
+-- the blocks of an FTI, and which of their symbols the identity's packets among a list of readings hold
+abbrev pub blocks_of : Identity → Fti → Blocks Reading
+blocks_of who f = record { count = block_count f; need = source_count f; has_symbol = λ rs b j. has_arrived (symbols (counted who rs)) b j }
 
-pub record IsReport (datagrams : List (List ℕ)) (f : Fti) (report : Report) : Type 0 where
+-- a loss is of datagrams, whosever packets they are, and its places are those of all of them
+pub record IsReport (who : Identity) (datagrams : List (List ℕ)) (f : Fti) (report : Report) : Type 0 where
   pub readings : List Reading
   pub read : ReadAll datagrams readings
-  pub blocks : report.blocks.items ≡ block_lines f (symbols (counted readings)) (block_count f)
-  pub margin : IsMargin (blocks_of f) readings report.margin
-  pub kill : IsKill (blocks_of f) readings (report.margin + 1) report.kill.items
-  pub burst : IsBurst (blocks_of f) readings report.burst
+  pub blocks : report.blocks.items ≡ block_lines f (symbols (counted who readings)) (block_count f)
+  pub margin : IsMargin (blocks_of who f) readings report.margin
+  pub kill : IsKill (blocks_of who f) readings (report.margin + 1) report.kill.items
+  pub burst : IsBurst (blocks_of who f) readings report.burst
 
 -- a fact of the report, at yes
 abbrev pub OnYes : Verdict → (Report → Type 0) → Type 0

@@ -4,6 +4,7 @@ use Rattle.losses.specs.declared.groups.Member.{Member}
 use Rattle.losses.specs.Members.{different_outside}
 use Rattle.losses.specs.Groups.{Group, group_at}
 use Rattle.partition.specs.Fti.{Fti, block_count, source_count}
+use Rattle.reception.specs.declared.scope.Identity.{Identity}
 use Rattle.reception.specs.Symbols.{Symbol}
 use Rattle.reception.specs.Reception.{Placed, symbols_in, Suffices}
 use Rattle.reception.specs.Walks.{readings_of}
@@ -37,9 +38,9 @@ pub record IsPut (old : List Group) (place : ℕ) (s : Symbol) (new : List Group
   pub elsewhere : (b : ℕ) → b < length old → b ≢ s.block → (group_at new b).members ≡ (group_at old b).members
 
 -- there is no report for this reason against the datagrams, or for want of memory
-abbrev pub IsNoReport : List (List ℕ) → Certificate → NoReport → Type 0
-IsNoReport datagrams z (ByReason r) = IsAgainst (readings_of datagrams) z r
-IsNoReport datagrams z NoMemory = Unit {0}
+abbrev pub IsNoReport : Identity → List (List ℕ) → Certificate → NoReport → Type 0
+IsNoReport who datagrams z (ByReason r) = IsAgainst who (readings_of datagrams) z r
+IsNoReport who datagrams z NoMemory = Unit {0}
 
 -- how many different symbols a group has
 abbrev pub different_in : List Group → ℕ → ℕ
@@ -67,6 +68,6 @@ IsShortGroup groups (ByReason _) = ⊥
 IsShortGroup groups NoMemory = Unit {0}
 
 -- what a yes says of the datagrams
-pub record AreEnoughCertified (datagrams : List (List ℕ)) (z : Certificate) : Type 0 where
-  pub all : AreCertified (readings_of datagrams) z
-  pub full : Suffices z.fti (readings_of datagrams)
+pub record AreEnoughCertified (who : Identity) (datagrams : List (List ℕ)) (z : Certificate) : Type 0 where
+  pub all : AreCertified who (readings_of datagrams) z
+  pub full : Suffices who z.fti (readings_of datagrams)

@@ -6,6 +6,7 @@ use Rattle.lists.specs.Selection.{is_among}
 use Rattle.lists.specs.Below.{below}
 use Rattle.partition.specs.Fti.{Fti, source_count, block_count, source_byte}
 use Rattle.alc.specs.Reading.{Reading}
+use Rattle.reception.specs.declared.scope.Identity.{Identity}
 use Rattle.cert.specs.declared.verdict.Verdict.TheVariants.{No}
 use Rattle.cert.specs.declared.verdict.Reason.TheVariants.{Thin}
 use Rattle.reception.specs.Symbols.{Symbol, Agrees, AreTwins, IsObject}
@@ -33,8 +34,8 @@ pub record IsTwin (f : Fti) (b : ℕ) (arrived_esis object other : List ℕ) : T
   pub alike : (s : Symbol) → (s.block ≡ b → is_among arrived_esis s.esi ≡ true) → Agrees f object s ↔ Agrees f other s
 
 -- the verdict is that this block is the least that has too few symbols
-abbrev pub IsShortIn : List (List ℕ) → List ℕ → Certificate → ℕ → Type 0
-IsShortIn datagrams object z b = (have : ℕ) × (need : ℕ) × IsVerdict datagrams object z (No (Thin b have need))
+abbrev pub IsShortIn : Identity → List (List ℕ) → List ℕ → Certificate → ℕ → Type 0
+IsShortIn who datagrams object z b = (have : ℕ) × (need : ℕ) × IsVerdict who datagrams object z (No (Thin b have need))
 
 abbrev pub esi_in : ℕ → Symbol → List ℕ
 esi_in b s = if s.block == b then s.esi ∷ [] else []
@@ -43,9 +44,10 @@ esi_in b s = if s.block == b then s.esi ∷ [] else []
 abbrev pub esis_of : ℕ → List Symbol → List ℕ
 esis_of b arrivals = flat_map (esi_in b) arrivals
 
--- the other object is a twin made for the ESIs of this block that came, and agrees with all that came, as the object does
-pub record IsTwinOfSession (f : Fti) (b : ℕ) (datagrams : List (List ℕ)) (object other : List ℕ) : Type 0 where
+-- the other object is a twin made for the ESIs of this block that came, and agrees with all of the identity's symbols that
+-- came, as the object does
+pub record IsTwinOfSession (who : Identity) (f : Fti) (b : ℕ) (datagrams : List (List ℕ)) (object other : List ℕ) : Type 0 where
   pub readings : List Reading
   pub read : ReadAll datagrams readings
-  pub made : IsTwin f b (esis_of b (symbols (counted readings))) object other
-  pub twins : AreTwins f (symbols (counted readings)) object other
+  pub made : IsTwin f b (esis_of b (symbols (counted who readings))) object other
+  pub twins : AreTwins f (symbols (counted who readings)) object other

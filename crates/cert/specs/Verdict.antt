@@ -7,7 +7,7 @@ use Rattle.alc.specs.Reading.{Reading}
 use Rattle.cert.specs.declared.verdict.Verdict.{Verdict}
 use Rattle.cert.specs.declared.verdict.Verdict.TheVariants.{Yes, No}
 use Rattle.cert.specs.declared.verdict.Reason.{Reason}
-use Rattle.cert.specs.declared.verdict.Reason.TheVariants.{ObjectLength, NotObject, Empty, Packet as NoPacket, OtherIdentity, OtherFti, Range, Symbol, Thin}
+use Rattle.cert.specs.declared.verdict.Reason.TheVariants.{ObjectLength, NotObject, Empty, Packet as NoPacket, OtherFti, Range, Symbol, Thin}
 use Rattle.reception.specs.declared.scope.Identity.{Identity}
 use Rattle.reception.specs.declared.scope.PlaceFault.TheVariants as fault
 use Rattle.reception.specs.Symbols.{Symbol as Received, arrived_count, IsFirstShort, IsObject}
@@ -50,67 +50,64 @@ wrong_column z s c (suc n) =
 abbrev pub uncertified : Certificate → Judge ℕ
 uncertified z earlier s = wrong_column z s 0 z.fti.symbol_length
 
--- what came, to a check, which knows the certificate's FTI before
-abbrev pub reception_to : Certificate → List Reading → Reception ℕ
-reception_to z rs = reception_with (uncertified z) (with_fti z.fti) rs
+-- what came, to a check of this identity's packets, which knows the certificate's FTI before
+abbrev pub reception_to : Identity → Certificate → List Reading → Reception ℕ
+reception_to who z rs = reception_with (uncertified z) (with_fti who z.fti) rs
 
 -- the reason that something is wrong at a place
 abbrev pub reason_at : ℕ → Wrong ℕ → Reason
 reason_at i (Faulty (fault.NoPacket r)) = NoPacket i r
-reason_at i (Faulty fault.OtherIdentity) = OtherIdentity i
 reason_at i (Faulty fault.OtherFti) = OtherFti i
 reason_at i (Faulty fault.Range) = Range i
 reason_at i (Judged c) = Symbol i c
 
 -- the reason at the least place that has one, and there the first
-abbrev pub first_reason : Certificate → List Reading → Option Reason
-first_reason z rs = option_map (λ x. reason_at x.0 x.1) (reception_to z rs).wrong
+abbrev pub first_reason : Identity → Certificate → List Reading → Option Reason
+first_reason who z rs = option_map (λ x. reason_at x.0 x.1) (reception_to who z rs).wrong
 
--- the packet is of this identity and of the certificate's FTI, in range, and has the certified symbol
-pub record IsCertifiedPacket (z : Certificate) (who : Identity) (p : Packet) : Type 0 where
-  pub tsi : p.tsi ≡ who.tsi
-  pub toi : p.toi ≡ who.toi
+-- the packet is of the certificate's FTI, in range, and has the certified symbol
+pub record IsCertifiedPacket (z : Certificate) (p : Packet) : Type 0 where
   pub fti : p.fti ≡ z.fti
   pub range : in_range p z.fti ≡ true
   pub symbol : (c : ℕ) → c < z.fti.symbol_length → slice_index p.bytes c ≡ certified_byte z p.block p.esi c
 
-abbrev pub IsCertifiedReading : Certificate → Identity → Reading → Type 0
-IsCertifiedReading z who (Ok p) = IsCertifiedPacket z who p
-IsCertifiedReading z who (Err r) = ⊥
+abbrev pub IsCertifiedReading : Certificate → Reading → Type 0
+IsCertifiedReading z (Ok p) = IsCertifiedPacket z p
+IsCertifiedReading z (Err r) = ⊥
 
--- some packets came, all of one identity and as certified
-pub record AreCertified (rs : List Reading) (z : Certificate) : Type 0 where
-  pub who : Identity
-  pub some : (reception_to z rs).scope.identity ≡ Some who
-  pub packets : AllByRecursion (λ x. IsCertifiedReading z who x.reading) (counted rs)
+-- some of the identity's packets came, and each reading that counts is a packet as certified
+pub record AreCertified (who : Identity) (rs : List Reading) (z : Certificate) : Type 0 where
+  pub some : symbols (counted who rs) ≢ []
+  pub packets : AllByRecursion (λ x. IsCertifiedReading z x.reading) (counted who rs)
 
--- the certificate is one of these readings and this object
-pub record IsCertificateOf (rs : List Reading) (object : List ℕ) (z : Certificate) : Type 0 where
+-- the certificate is one of the identity's packets among these readings, and of this object
+pub record IsCertificateOf (who : Identity) (rs : List Reading) (object : List ℕ) (z : Certificate) : Type 0 where
   pub form : IsObject z.fti object
   pub gives : GivesObject object z
-  pub certified : AreCertified rs z
-  pub full : Suffices z.fti rs
+  pub certified : AreCertified who rs z
+  pub full : Suffices who z.fti rs
 
--- why the readings don't have the certificate, where it gives the object: the first that is wrong at a place; nothing came;
--- a short block
-abbrev pub IsAgainst : List Reading → Certificate → Reason → Type 0
-IsAgainst rs z Empty = (first_reason z rs ≡ None) × (counted rs ≡ [])
-IsAgainst rs z (Thin b have need) =
-    (first_reason z rs ≡ None) × (counted rs ≢ []) × IsFirstShort z.fti (symbols (counted rs)) b
-    × (have ≡ arrived_count (symbols (counted rs)) b) × (need ≡ source_count z.fti b)
-IsAgainst rs z reason = first_reason z rs ≡ Some reason
+-- why the readings don't have the certificate, where it gives the object: the first that is wrong at a place; none of the
+-- identity's packets came; a short block
+abbrev pub IsAgainst : Identity → List Reading → Certificate → Reason → Type 0
+IsAgainst who rs z Empty = (first_reason who z rs ≡ None) × (symbols (counted who rs) ≡ [])
+IsAgainst who rs z (Thin b have need) =
+    (first_reason who z rs ≡ None) × (symbols (counted who rs) ≢ []) × IsFirstShort z.fti (symbols (counted who rs)) b
+    × (have ≡ arrived_count (symbols (counted who rs)) b) × (need ≡ source_count z.fti b)
+IsAgainst who rs z reason = first_reason who z rs ≡ Some reason
 
 -- Yes where the certificate is one, and each no the first reason in this order.
-abbrev pub VerdictOn : List Reading → List ℕ → Certificate → Verdict → Type 0
-VerdictOn rs object z (Yes report) = IsCertificateOf rs object z
-VerdictOn rs object z (No ObjectLength) = length object ≢ z.fti.transfer_length
-VerdictOn rs object z (No (NotObject b c i)) = (length object ≡ z.fti.transfer_length) × IsFirstNotGiven object z b c i
-VerdictOn rs object z (No reason) = IsObject z.fti object × GivesObject object z × IsAgainst rs z reason
+abbrev pub VerdictOn : Identity → List Reading → List ℕ → Certificate → Verdict → Type 0
+VerdictOn who rs object z (Yes report) = IsCertificateOf who rs object z
+VerdictOn who rs object z (No ObjectLength) = length object ≢ z.fti.transfer_length
+VerdictOn who rs object z (No (NotObject b c i)) = (length object ≡ z.fti.transfer_length) × IsFirstNotGiven object z b c i
+VerdictOn who rs object z (No reason) = IsObject z.fti object × GivesObject object z × IsAgainst who rs z reason
 
-pub record IsVerdict (datagrams : List (List ℕ)) (object : List ℕ) (z : Certificate) (verdict : Verdict) : Type 0 where
+-- the verdict on a session, an object and a certificate, where this identity's packets are asked for
+pub record IsVerdict (who : Identity) (datagrams : List (List ℕ)) (object : List ℕ) (z : Certificate) (verdict : Verdict) : Type 0 where
   pub readings : List Reading
   pub read : ReadAll datagrams readings
-  pub judged : VerdictOn readings object z verdict
+  pub judged : VerdictOn who readings object z verdict
 
 -- both yes, or both no for one reason
 abbrev pub AreOneVerdict : Verdict → Verdict → Type 0

@@ -10,6 +10,7 @@ ghost use Rattle.reception.specs.Walks.{readings_of};
 use crate::certificate::Certificate;
 use crate::verdict::{Report, Verdict};
 use crate::walk::{NoReport, Walk};
+use reception::Identity;
 use session::Session;
 use std::alloc::{AllocError, Global};
 
@@ -19,13 +20,14 @@ fn report_of(
     session: &Session,
     object: &[u8],
     certificate: &Certificate,
+    identity: Identity,
 ) -> Result<Report, NoReport>
     ensures yes { OnOk result
-        (IsCertificateOf (readings_of session.now) object.now certificate.now) }
-    ensures report { IfOk result (IsReport session.now certificate.now.fti) }
-    ensures no { IfErr result (IsNo session.now object.now certificate.now) }
+        (IsCertificateOf identity (readings_of session.now) object.now certificate.now) }
+    ensures report { IfOk result (IsReport identity session.now certificate.now.fti) }
+    ensures no { IfErr result (IsNo identity session.now object.now certificate.now) }
 {
-    let mut walk = Walk::new(alloc, object, certificate)?;
+    let mut walk = Walk::new(alloc, object, certificate, identity)?;
     for place in 0..session.len() {
         walk.step(session.get(place))?;
     }
@@ -38,39 +40,45 @@ fn verdict_of(
     session: &Session,
     object: &[u8],
     certificate: &Certificate,
+    identity: Identity,
 ) -> Result<Verdict, AllocError>
-    ensures verdict { IfOk result (IsVerdict session.now object.now certificate.now) }
-    ensures report { IfOk result (λ v. OnYes v (IsReport session.now certificate.now.fti)) }
+    ensures verdict { IfOk result (IsVerdict identity session.now object.now certificate.now) }
+    ensures report { IfOk result (λ v.
+        OnYes v (IsReport identity session.now certificate.now.fti)) }
     ensures certificate { IsCertificate certificate.now }
 {
     session.len();
     certificate.fti();
-    match report_of(alloc, session, object, certificate) {
+    match report_of(alloc, session, object, certificate, identity) {
         Ok(report) => Ok(Verdict::Yes(report)),
         Err(NoReport::Reason(reason)) => Ok(Verdict::No(reason)),
         Err(NoReport::NoMemory) => Err(AllocError),
     }
 }
 
-/// Whether the certificate is one of the session and the object, and at yes what the session can lose. Neither the
-/// session's sender nor the certificate's maker is trusted, so any session, object and certificate will do. `No` has the
-/// first reason, in the order of [`Reason`]. Want of memory is the only error, and says nothing of the three.
+/// Whether the certificate is one of the identity's packets in the session, and of the object, and at yes what the session
+/// can lose. The session may have packets of other identities, which don't count: a check of one identity says nothing of
+/// another. Neither the session's sender nor the certificate's maker is trusted, so any session, object, certificate and
+/// identity will do. `No` has the first reason, in the order of [`Reason`]. Want of memory is the only error, and says
+/// nothing of the four.
 pub fn check(
     alloc: Global,
     session: &Session,
     object: &[u8],
     certificate: &Certificate,
+    identity: Identity,
 ) -> Result<Verdict, AllocError>
     // The verdict: yes exactly where the certificate is one, and else the first reason.
-    ensures verdict { IfOk result (IsVerdict session.now object.now certificate.now) }
-    // At yes, each selection of the datagrams that leaves no block short decodes to the object.
-    ensures decodes { IfOk result (λ v.
-        OnYes v (λ _. DecodesWhereEnough certificate.now.fti session.now object.now)) }
+    ensures verdict { IfOk result (IsVerdict identity session.now object.now certificate.now) }
+    // At yes, each selection of the datagrams whose packets of the identity leave no block short decodes to the object.
+    ensures decodes { IfOk result (λ v. OnYes v
+        (λ _. DecodesWhereEnough identity certificate.now.fti session.now object.now)) }
     // At yes, each other selection leaves another object that agrees with all of it, and a decoder says what lacks.
-    ensures undecided { IfOk result (λ v.
-        OnYes v (λ _. UndecidedElse certificate.now.fti session.now object.now)) }
+    ensures undecided { IfOk result (λ v. OnYes v
+        (λ _. UndecidedElse identity certificate.now.fti session.now object.now)) }
     // At yes, what each block needs and has, and of all losses of datagrams the margin, the kill and the burst.
-    ensures report { IfOk result (λ v. OnYes v (IsReport session.now certificate.now.fti)) }
+    ensures report { IfOk result (λ v.
+        OnYes v (IsReport identity session.now certificate.now.fti)) }
 {
-    verdict_of(alloc, session, object, certificate)
+    verdict_of(alloc, session, object, certificate, identity)
 }

@@ -42,7 +42,6 @@ pub(crate) fn reason_of(place: usize, fault: PlaceFault) -> Reason
 {
     match fault {
         PlaceFault::NoPacket(fault) => Reason::Packet(place, fault),
-        PlaceFault::OtherIdentity => Reason::OtherIdentity(place),
         PlaceFault::OtherFti => Reason::OtherFti(place),
         PlaceFault::Range => Reason::Range(place),
     }

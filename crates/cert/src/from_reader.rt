@@ -7,6 +7,7 @@ use crate::certificate::Certificate;
 use crate::verdict::{Reason, Report, Verdict};
 use crate::walk::{NoReport, Walk};
 use lists::are_bytes;
+use reception::Identity;
 use session::{FrameFault, Read, read_next};
 use std::alloc::Global;
 use thiserror::Error;
@@ -59,16 +60,17 @@ fn report_from<R: Read>(
     reader: &mut R,
     object: &[u8],
     certificate: &Certificate,
+    identity: Identity,
 ) -> Result<Report, Ending>
-    ensures yes { IfOk result (λ report. IsCheckedFrom (R.remaining reader.old)
+    ensures yes { IfOk result (λ report. IsCheckedFrom identity (R.remaining reader.old)
         (R.remaining reader.new) object.now certificate.now (Verdict.Yes report)) }
-    ensures no { IfErr result (IsEnding (R.remaining reader.old) (R.remaining reader.new)
-        (R.failed reader.new) object.now certificate.now) }
+    ensures no { IfErr result (IsEnding identity (R.remaining reader.old)
+        (R.remaining reader.new) (R.failed reader.new) object.now certificate.now) }
     ensures unsound { IfErr result (λ ending.
         ending ≡ Ending.Fault (CheckFault.Frame FrameFault.Io) → R.sound reader.old ≡ false) }
     ensures stays { R.sound reader.new ≡ R.sound reader.old }
 {
-    let mut walk = Walk::new(alloc, object, certificate)?;
+    let mut walk = Walk::new(alloc, object, certificate, identity)?;
     loop {
         let Some(datagram) = read_next(alloc, reader)? else {
             return Ok(walk.report(alloc)?);
@@ -79,27 +81,28 @@ fn report_from<R: Read>(
     }
 }
 
-/// The check of the datagrams that are left of a reader, read one at a time: none before the object is compared with the
-/// certificate, and none behind the first reason at a place. One datagram is held at a time, and of the others the places and
-/// the ESIs of their symbols. What can't be read is told as a fault where no reason stands before it; `Io` that the reader
-/// has failed, which a sound one never does. Want of memory says nothing of the session.
+/// The check of an identity's packets among the datagrams that are left of a reader, read one at a time: none before the
+/// object is compared with the certificate, and none behind the first reason at a place. One datagram is held at a time, and
+/// of the others the places and the ESIs of their symbols. What can't be read is told as a fault where no reason stands
+/// before it; `Io` that the reader has failed, which a sound one never does. Want of memory says nothing of the session.
 pub fn check_from<R: Read>(
     alloc: Global,
     reader: &mut R,
     object: &[u8],
     certificate: &Certificate,
+    identity: Identity,
 ) -> Result<Verdict, CheckFault>
     // The frames of some datagrams were read, and the verdict is theirs, whatever follows, or they are all.
-    ensures verdict { IfOk result (IsCheckedFrom (R.remaining reader.old) (R.remaining reader.new)
-        object.now certificate.now) }
+    ensures verdict { IfOk result (IsCheckedFrom identity (R.remaining reader.old)
+        (R.remaining reader.new) object.now certificate.now) }
     // They have no reason against them, and what follows is no frame.
-    ensures fault { IfErr result (λ fault. IsCheckFault fault (R.remaining reader.old)
+    ensures fault { IfErr result (λ fault. IsCheckFault identity fault (R.remaining reader.old)
         (R.remaining reader.new) (R.failed reader.new) object.now certificate.now) }
     ensures unsound { IfErr result (λ fault.
         fault ≡ CheckFault.Frame FrameFault.Io → R.sound reader.old ≡ false) }
     ensures stays { R.sound reader.new ≡ R.sound reader.old }
 {
-    match report_from(alloc, reader, object, certificate) {
+    match report_from(alloc, reader, object, certificate, identity) {
         Ok(report) => Ok(Verdict::Yes(report)),
         Err(Ending::Reason(reason)) => Ok(Verdict::No(reason)),
         Err(Ending::Fault(fault)) => Err(fault),

@@ -1,5 +1,6 @@
 //! Laws of the definitions, for callers to cite. They do nothing.
 ghost use Rattle.std.specs.Prelude.{ℕ, List};
+ghost use Rattle.reception.specs.declared.scope.Identity.{Identity};
 ghost use Rattle.reception.specs.Symbols.{Symbol};
 ghost use Rattle.reception.specs.Reception.{with_fti};
 ghost use Rattle.reception.specs.First.{TellsTheFirst};
@@ -9,24 +10,25 @@ ghost use Rattle.cert.specs.Certificate.{Certificate as CertificateValue};
 ghost use Rattle.cert.specs.Verdict.{uncertified, IsVerdict, AreOneVerdict};
 ghost use Rattle.cert.specs.Columns.{TellsFirstWrong};
 
-/// A session, an object and a certificate have one verdict: two that meet its definition are both yes, or both no for one
-/// reason. So `check` says yes exactly where the certificate is one.
+/// An identity's packets in a session, an object and a certificate have one verdict: two that meet its definition are both
+/// yes, or both no for one reason. So `check` says yes exactly where the certificate is one.
 pub fn one_verdict()
-    ensures { (datagrams : List (List ℕ)) (object : List ℕ) (z : CertificateValue)
-        (a b : VerdictValue)
-        → IsVerdict datagrams object z a
-        → IsVerdict datagrams object z b
+    ensures { (who : Identity) (datagrams : List (List ℕ)) (object : List ℕ)
+        (z : CertificateValue) (a b : VerdictValue)
+        → IsVerdict who datagrams object z a
+        → IsVerdict who datagrams object z b
         → AreOneVerdict a b }
 {}
 
 /// The reason of a check at a place is the one at the least place that has one, and there the first in the order of the
 /// definition.
 pub fn first_reason()
-    ensures { (z : CertificateValue) → TellsTheFirst (uncertified z) (with_fti z.fti) }
+    ensures { (who : Identity) (z : CertificateValue)
+        → TellsTheFirst (uncertified z) (with_fti who z.fti) }
 {}
 
-/// At one place a check's reasons come in this order: no packet, another identity, another FTI, out of range, a symbol that
-/// isn't certified. Each is told exactly where it holds and none before it does.
+/// At one place a check's reasons come in this order: no packet, another FTI, out of range, a symbol that isn't certified.
+/// Each is told exactly where it holds and none before it does.
 pub fn reason_order()
     ensures { (z : CertificateValue) → TellsInOrder (uncertified z) }
 {}

@@ -13,7 +13,7 @@ use gf256::{Field, Gf, point};
 use lists::are_bytes;
 use partition::Fti;
 use poly::Poly;
-use reception::Scope;
+use reception::{Identity, Scope};
 use session::Session;
 use std::alloc::{AllocError, Global};
 
@@ -76,18 +76,20 @@ pub fn twin(
     Ok(other)
 }
 
-// The ESIs of a block's symbols in the session, as they came, where no datagram has a reason against it.
+// The ESIs of a block's symbols in the identity's packets of the session, as they came, where no datagram has a reason
+// against it.
 fn esis_held(
     alloc: Global,
     session: &Session,
     certificate: &Certificate,
     block: u32,
+    identity: Identity,
 ) -> Result<Vec<u8>, AllocError>
-    requires { (reception_to certificate.now (readings_of session.now)).wrong ≡ None }
+    requires { (reception_to identity certificate.now (readings_of session.now)).wrong ≡ None }
     ensures { IfOk result (λ v.
-        v.items ≡ esis_of block (symbols (counted (readings_of session.now)))) }
+        v.items ≡ esis_of block (symbols (counted identity (readings_of session.now)))) }
 {
-    let mut scope = Scope::with_fti(certificate.fti());
+    let mut scope = Scope::with_fti(identity, certificate.fti());
     let mut arrived_esis = Vec::new(alloc);
     for place in 0..session.len() {
         match scope.look(session.get(place)) {
@@ -103,21 +105,22 @@ fn esis_held(
     Ok(arrived_esis)
 }
 
-/// A twin of the object where the check of the three says `Thin` of this block, as it needs: another object of the
-/// certificate's FTI that agrees with all that the session holds. Want of memory is the only error.
+/// A twin of the object where the check of the identity says `Thin` of this block, as it needs: another object of the
+/// certificate's FTI that agrees with all of the identity's packets in the session. Want of memory is the only error.
 pub fn session_twin(
     alloc: Global,
     session: &Session,
     object: &[u8],
     certificate: &Certificate,
     block: u32,
+    identity: Identity,
 ) -> Result<Vec<u8>, AllocError>
-    requires { IsShortIn session.now object.now certificate.now block }
+    requires { IsShortIn identity session.now object.now certificate.now block }
     ensures { IfOk result (λ other.
-        IsTwinOfSession certificate.now.fti block session.now object.now other.items) }
+        IsTwinOfSession identity certificate.now.fti block session.now object.now other.items) }
 {
     session.len();
-    let arrived_esis = esis_held(alloc, session, certificate, block)?;
+    let arrived_esis = esis_held(alloc, session, certificate, block, identity)?;
     twin(
         alloc,
         object,

@@ -1,12 +1,12 @@
 //! What a check answers.
 use alc::PacketFault;
 
-/// What a check tells of a session that it says yes to.
+/// What a check tells of a session that it says yes to. Losses are of datagrams, whosever packets they are.
 #[derive(Drop, Debug)]
 pub struct Report {
-    /// For each block, rising, how many source symbols it has and how many different ESIs of it the session holds.
+    /// For each block, rising, how many source symbols it has and how many different ESIs of it the identity's packets hold.
     pub blocks: Vec<(usize, usize)>,
-    /// The greatest number of datagrams whose loss, whichever they are, leaves no block short.
+    /// The greatest number of datagrams whose loss, whichever of all they are, leaves no block short.
     pub margin: usize,
     /// The places of one datagram more, rising, whose loss does leave a block short: the least block that a loss of so
     /// many can, and of those losses the one whose lost ESIs, rising, stand first in a dictionary.
@@ -15,7 +15,8 @@ pub struct Report {
     pub burst: usize,
 }
 
-/// Why a certificate isn't one of a session and an object. Places, blocks, columns and symbols count from 0.
+/// Why a certificate isn't one of an identity's packets in a session, and of an object. Places are those of all datagrams,
+/// whosever packets they are; they and blocks, columns and symbols count from 0.
 ///
 /// The first of these is told: `ObjectLength`, `NotObject`, the reason at the least place (`Packet` to `Symbol`, at one
 /// place in this order), `Empty`, `Thin`.
@@ -30,19 +31,18 @@ pub enum Reason {
         column: usize,
         symbol: usize,
     },
-    /// N3: no datagram counts, so there are none.
+    /// N3: none of the identity's packets is there.
     Empty,
-    /// N4: the datagram at a place is no packet.
+    /// N4: the datagram at a place is no packet, whatever identity is asked for.
     Packet(usize, PacketFault),
-    /// N5: its TSI or TOI isn't that of the first packet.
-    OtherIdentity(usize),
-    /// N6: its FTI isn't the certificate's.
+    /// N6: the FTI of a packet of the identity isn't the certificate's.
     OtherFti(usize),
     /// N7: there is no such block, or no such ESI in it.
     Range(usize),
     /// N8: its symbol isn't the polynomials' value at its point; the place and the least column.
     Symbol(usize, usize),
-    /// N9: a block has fewer different ESIs (`have`) than source symbols (`need`); the least block.
+    /// N9: the identity's packets hold fewer different ESIs (`have`) of a block than it has source symbols (`need`); the least
+    /// block.
     Thin {
         block: u32,
         have: usize,
@@ -50,7 +50,7 @@ pub enum Reason {
     },
 }
 
-/// Whether a certificate is one of a session and an object.
+/// Whether a certificate is one of an identity's packets in a session, and of an object.
 #[derive(Drop, Debug)]
 pub enum Verdict {
     /// It is one, and this is what the session can lose.

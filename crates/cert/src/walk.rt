@@ -19,7 +19,7 @@ use crate::verdict::{Reason, Report};
 use alc::Packet;
 use lists::are_bytes;
 use losses::{Figures, Group, figures_of};
-use reception::Scope;
+use reception::{Identity, Scope};
 use std::alloc::{AllocError, Global};
 
 /// Why there is no report: a reason, or want of memory.
@@ -40,7 +40,8 @@ impl From<AllocError> for NoReport {
 }
 
 /// A check on its way over datagrams: the polynomials give the object, and no datagram so far has a reason against it. None
-/// is kept, only the place and the ESI of its symbol, in its block's group.
+/// is kept, only the place and the ESI of its symbol, in its block's group. Packets of another identity are passed over, and
+/// their places are counted.
 #[derive(Drop)]
 pub(crate) struct Walk<'a> {
     symbols: CertifiedSymbols<'a>,
@@ -48,6 +49,8 @@ pub(crate) struct Walk<'a> {
     scope: Scope,
     groups: Vec<Group>,
     count: usize,
+    // Whether some packet of the identity came.
+    came: bool,
     ghost valid: { IsCertificate symbols },
     ghost form: { IsObject symbols.fti object.now },
     ghost gives: { GivesObject object.now symbols },
@@ -61,7 +64,9 @@ impl<'a> Walk<'a> {
         alloc: Global,
         object: &'a [u8],
         certificate: &'a Certificate,
+        identity: Identity,
     ) -> Result<Walk<'a>, NoReport>
+        ensures identity { IfOk result (λ walk. walk.scope.identity ≡ identity) }
         ensures certificate { IfOk result (λ walk. walk.symbols ≡ certificate.now) }
         ensures object { IfOk result (λ walk. walk.object.now ≡ object.now) }
         ensures none { IfOk result (λ walk. HasWalked walk []) }
@@ -80,21 +85,24 @@ impl<'a> Walk<'a> {
         Ok(Walk {
             symbols,
             object,
-            scope: Scope::with_fti(fti),
+            scope: Scope::with_fti(identity, fti),
             groups: empty_groups(alloc, &fti)?,
             count: 0,
+            came: false,
         })
     }
 
     /// One datagram more, or the reason against it.
     pub(crate) fn step(&mut self, datagram: &[u8]) -> Result<(), NoReport>
         requires { (datagrams : List (List ℕ)) × HasWalked self.old datagrams }
+        ensures identity { self.new.scope.identity ≡ self.old.scope.identity }
         ensures certificate { self.new.symbols ≡ self.old.symbols }
         ensures object { self.new.object.now ≡ self.old.object.now }
         ensures passed { (datagrams : List (List ℕ)) → HasWalked self.old datagrams
             → OnOk result (HasWalked self.new (datagrams ++ datagram.now ∷ [])) }
         ensures no_report { (datagrams : List (List ℕ)) → HasWalked self.old datagrams
-            → IfErr result (IsNotPassed (datagrams ++ datagram.now ∷ []) self.old.symbols) }
+            → IfErr result (IsNotPassed self.old.scope.identity (datagrams ++ datagram.now ∷ [])
+            self.old.symbols) }
     {
         let place = self.count;
         let Some(count) = place.checked_add(1) else {
@@ -117,6 +125,7 @@ impl<'a> Walk<'a> {
         ensures object { self.new.object.now ≡ self.old.object.now }
         ensures scope { self.new.scope ≡ self.old.scope }
         ensures count { self.new.count ≡ self.old.count }
+        ensures came { OnOk result (self.new.came ≡ true) }
         ensures certified { OnOk result
             (uncertified self.old.symbols [] (symbol_of (packet_of packet.now)) ≡ None) }
         ensures put { OnOk result (IsPut (groups_of self.old.groups.items) place
@@ -128,6 +137,7 @@ impl<'a> Walk<'a> {
             None => {}
         }
         put(&mut self.groups, place, packet)?;
+        self.came = true;
         Ok(())
     }
 
@@ -136,15 +146,15 @@ impl<'a> Walk<'a> {
         requires { (datagrams : List (List ℕ)) × HasWalked self.now datagrams }
         ensures report { (datagrams : List (List ℕ)) → AreDatagrams datagrams
             → HasWalked self.now datagrams
-            → IfOk result (IsReport datagrams self.now.symbols.fti) }
+            → IfOk result (IsReport self.now.scope.identity datagrams self.now.symbols.fti) }
         ensures certified { (datagrams : List (List ℕ)) → HasWalked self.now datagrams
-            → OnOk result (AreEnoughCertified datagrams self.now.symbols) }
+            → OnOk result (AreEnoughCertified self.now.scope.identity datagrams
+            self.now.symbols) }
         ensures no_report { (datagrams : List (List ℕ)) → HasWalked self.now datagrams
-            → IfErr result (IsNoReport datagrams self.now.symbols) }
+            → IfErr result (IsNoReport self.now.scope.identity datagrams self.now.symbols) }
     {
-        match self.scope.identity {
-            Some(_) => {}
-            None => return Err(NoReport::Reason(Reason::Empty)),
+        if !self.came {
+            return Err(NoReport::Reason(Reason::Empty));
         }
         let blocks = block_lines(alloc, &self.groups)?;
         let Figures {

@@ -1,6 +1,6 @@
 -- The datagrams that are sent of an object are packets, as its certificate says, and leave no block short.
 use Rattle.std.proofs.Common.{◌≡◌, ◌≢◌, ℕ, ◌+◌, ◌^◌, ◌<◌, Bool, true, false, ◌&&◌, ◌||◌, ◌==◌, List, [], ◌∷◌, ◌++◌, get_or, map, Some, Ok, Err, arith, refl, ap, sym, subst, ◌∙◌, inl, inr}
-use Rattle.std.specs.Prelude.{flat_map, nat_le, nat_lt}
+use Rattle.std.specs.Prelude.{cond, flat_map, nat_le, nat_lt}
 use Rattle.std.specs.List.{list_any, AllByRecursion}
 use Rattle.std.proofs.lemmas.Bool.{cases_lt, eq-eqb, lt-ltb, leb-false}
 use Rattle.std.proofs.lemmas.List.{get_or_past}
@@ -19,16 +19,14 @@ use Rattle.alc.specs.Packet.{IsPacket, written}
 use Rattle.alc.specs.Written.{packet_from}
 use Rattle.alc.specs.Reading.{Reading}
 use Rattle.alc.proofs.Writes.{written_packet}
-use Rattle.reception.specs.Symbols.{has_arrived, arrived_count, is_full, IsObject, Agrees}
+use Rattle.reception.specs.Symbols.{Symbol, has_arrived, arrived_count, is_full, IsObject, Agrees}
 use Rattle.reception.specs.declared.scope.Identity.{Identity}
-use Rattle.reception.specs.declared.scope.Scope.{Scope}
-use Rattle.reception.specs.Reception.{ReadAll, counted_from, counted, symbols, Suffices}
-use Rattle.reception.proofs.Stepping.{stays}
+use Rattle.reception.specs.Reception.{ReadAll, counts as reading_counts, counted_from, counted, symbols, Suffices}
 use Rattle.cert.specs.Certificate.{Certificate, IsCertificate, polynomial, certified_byte}
 use Rattle.cert.specs.Verdict.{GivesObject, IsCertifiedReading, AreCertified}
 use Rattle.reception.proofs.Full.{same_source}
 use Rattle.cert.proofs.Polynomials.{forms}
-use Rattle.cert.proofs.Promise.{IsSound, IsSoundReading}
+use Rattle.cert.proofs.Promise.{IsSound, IsSoundReading, WhereCounted, placed_all}
 use Rattle.partition.specs.declared.order.Order.{Order}
 use Rattle.partition.specs.declared.order.Order.TheVariants.{Blocks, Rounds}
 use Rattle.coder.specs.Sending.{pairs_of_block, pair_with, pairs_of_round, pairs, AreSent, IsSessionOf}
@@ -106,25 +104,30 @@ module _ (z : Certificate) (good : IsCertificate z) (object : List ℕ) (gives :
       let most = (counts z.fti good.fti b agrees.block).2 in
       written_packet t u z.fti b j y lt lu good.fti (omega (arith, blocks, hb)) (omega (arith, hj, most)) agrees.count (symbol_bytes b j y agrees)
 
-  sound_sent : (b j : ℕ) (y : List ℕ) → Agrees z.fti object (record { block = b; esi = j; bytes = y }) → IsSound z who (packet_from t u z.fti b j y)
+  sound_sent : (b j : ℕ) (y : List ℕ) → Agrees z.fti object (record { block = b; esi = j; bytes = y }) → IsSound z (packet_from t u z.fti b j y)
   sound_sent b j y agrees =
       let e : nat_lt b (block_count z.fti) ≡ true = lt-ltb _ _ agrees.block in
       let g : nat_lt j (encoding_count z.fti b) ≡ true = lt-ltb _ _ agrees.esi in
       record {
-        tsi = refl;
-        toi = refl;
         fti = refl;
         range = rw (e, g) refl;
         count = agrees.count;
         symbol = symbol_is b j y agrees;
       }
 
+  -- a packet that is sent counts
+  mine_sent : (b j : ℕ) (y : List ℕ) → reading_counts who (Ok (packet_from t u z.fti b j y)) ≡ true
+  mine_sent b j y = let e : (t == t) ≡ true = eq-eqb t t refl in let g : (u == u) ≡ true = eq-eqb u u refl in rw (e, g) refl
+
+  abbrev IsMine : Reading → Type 0
+  IsMine r = IsSoundReading z r × (reading_counts who r ≡ true)
+
   -- what is read of the datagrams of some encoding symbols
   record SentReadings (ps : List (ℕ × ℕ)) (ds : List (List ℕ)) : Type 0 where
     readings : List Reading
     read : ReadAll ds readings
-    sound : AllByRecursion (IsSoundReading z who) readings
-    numbers : (i b j : ℕ) → has_arrived (symbols (counted_from i readings)) b j ≡ list_any (is_pair b j) ps
+    sound : AllByRecursion IsMine readings
+    numbers : (i b j : ℕ) → has_arrived (symbols (counted_from who i readings)) b j ≡ list_any (is_pair b j) ps
 
   read_sent : (ps : List (ℕ × ℕ)) (ds : List (List ℕ)) → AreSent object z.fti t u ps ds → SentReadings ps ds
   read_sent [] [] h = record { readings = []; read = tt; sound = tt; numbers = λ i b j. refl }
@@ -133,39 +136,28 @@ module _ (z : Certificate) (good : IsCertificate z) (object : List ℕ) (gives :
   read_sent (p ∷ ps) (d ∷ ds) h =
       let r = read_sent ps ds h.1 in
       let packet = packet_from t u z.fti p.0 p.1 h.0.symbol in
+      let mine = mine_sent p.0 p.1 h.0.symbol in
       record {
         readings = Ok packet ∷ r.readings;
         read = (subst (λ (x : List ℕ). IsPacket x packet) (sym h.0.spelling) (packet_sent p.0 p.1 h.0.symbol h.0.agrees), r.read);
-        sound = (sound_sent p.0 p.1 h.0.symbol h.0.agrees, r.sound);
-        numbers = λ i b j. ap (λ (v : Bool). is_pair b j p || v) (r.numbers (i + 1) b j);
+        sound = ((sound_sent p.0 p.1 h.0.symbol h.0.agrees, mine), r.sound);
+        numbers = λ i b j.
+            ap (λ (v : Bool). has_arrived (symbols (cond v (record { place = i; reading = Ok packet } ∷ []) [] ++ counted_from who (i + 1) r.readings)) b j) mine
+            ∙ ap (λ (v : Bool). is_pair b j p || v) (r.numbers (i + 1) b j);
       }
 
-  certified_all : (i : ℕ) (rs : List Reading) → AllByRecursion (IsSoundReading z who) rs
-      → AllByRecursion (λ x. IsCertifiedReading z who x.reading) (counted_from i rs)
-  certified_all i [] h = tt
-  certified_all i (Err r ∷ rs) h = absurd h.0
-  certified_all i (Ok p ∷ rs) h = (
-    record { tsi = h.0.tsi; toi = h.0.toi; fti = h.0.fti; range = h.0.range; symbol = h.0.symbol },
-    certified_all (i + 1) rs h.1,
-  )
+  certified_where : (rs : List Reading) → AllByRecursion IsMine rs → AllByRecursion (WhereCounted who (IsCertifiedReading z)) rs
+  certified_where [] h = tt
+  certified_where (Err r ∷ rs) h = absurd h.0.0
+  certified_where (Ok p ∷ rs) h = (λ mine. record { fti = h.0.0.fti; range = h.0.0.range; symbol = h.0.0.symbol }, certified_where rs h.1)
 
-  identity_is : (v w : ℕ) → v ≡ t → w ≡ u → ◌≡◌ {A = Identity} (record { tsi = v; toi = w }) who
-  identity_is v w h g = cc
-
-  all_certified : (rs : List Reading) → AllByRecursion (IsSoundReading z who) rs → rs ≢ [] → AreCertified rs z
-  all_certified [] h some = absurd (some refl)
-  all_certified (Err r ∷ rs) h some = absurd h.0
-  all_certified (Ok p ∷ rs) h some = record {
-    who = who;
-    some = ap (λ (s : Scope). s.identity) (stays (record { tsi = p.tsi; toi = p.toi }) z.fti (counted_from 1 rs))
-        ∙ ap Some (identity_is p.tsi p.toi h.0.tsi h.0.toi);
-    packets = certified_all 0 (Ok p ∷ rs) h;
-  }
+  all_certified : (rs : List Reading) → AllByRecursion IsMine rs → symbols (counted who rs) ≢ [] → AreCertified who rs z
+  all_certified rs h some = record { some = some; packets = placed_all who (IsCertifiedReading z) 0 rs (certified_where rs h) }
 
   -- the session leaves no block short
-  suffices : (order : Order) (ds : List (List ℕ)) → (r : SentReadings (pairs order z.fti) ds) → Suffices z.fti r.readings
+  suffices : (order : Order) (ds : List (List ℕ)) → (r : SentReadings (pairs order z.fti) ds) → Suffices who z.fti r.readings
   suffices order ds r b hb =
-      let arrivals = symbols (counted r.readings) in
+      let arrivals = symbols (counted who r.readings) in
       let few = (counts z.fti good.fti b hb).1 in
       let wide = source_encoding z.fti good.fti b in
       elim (nat_le (source_count z.fti b) (arrived_count arrivals b)) as (λ v. nat_le (source_count z.fti b) (arrived_count arrivals b) ≡ v → is_full z.fti arrivals b ≡ true) [
@@ -177,16 +169,16 @@ module _ (z : Certificate) (good : IsCertificate z) (object : List ℕ) (gives :
             absurd (cc))
       ] refl
 
-  some_read : (order : Order) (ds : List (List ℕ)) → (r : SentReadings (pairs order z.fti) ds) → r.readings ≢ []
+  some_read : (order : Order) (ds : List (List ℕ)) → (r : SentReadings (pairs order z.fti) ds) → symbols (counted who r.readings) ≢ []
   some_read order ds r none =
       let hb = some_block z.fti good.fti in
       let k = (counts z.fti good.fti 0 hb).0 in
       let wide = source_encoding z.fti good.fti 0 in
       let g = r.numbers 0 0 0 ∙ all_pairs z.fti good.fti order 0 0 hb (omega (arith, k, wide)) in
-      let h : has_arrived (symbols (counted [])) 0 0 ≡ true = subst (λ (x : List Reading). has_arrived (symbols (counted x)) 0 0 ≡ true) none g in
+      let h : has_arrived [] 0 0 ≡ true = subst (λ (ss : List Symbol). has_arrived ss 0 0 ≡ true) none g in
       absurd (cc)
 
-  pub certifies : IsObject z.fti object → (order : Order) (ds : List (List ℕ)) → IsSessionOf object z.fti t u order ds → Certifies z object ds
+  pub certifies : IsObject z.fti object → (order : Order) (ds : List (List ℕ)) → IsSessionOf object z.fti t u order ds → Certifies who z object ds
   certifies form order ds sent =
       let r = read_sent (pairs order z.fti) ds sent in
       record {

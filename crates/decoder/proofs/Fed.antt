@@ -1,5 +1,5 @@
 -- A receiver that stands for a list of datagrams, and one datagram more.
-use Rattle.std.specs.Prelude.{not, filter, is_some, IsSome, Ok, Err}
+use Rattle.std.specs.Prelude.{if◌then◌else◌, not, filter, option_map, is_some, IsSome, Ok, Err}
 use Rattle.std.specs.List.{AllByRecursion}
 use Rattle.std.proofs.Common.{◌≡◌, ◌≢◌, ℕ, zero, suc, ◌+◌, ◌<◌, ◌≤◌, Bool, true, false, List, [], ◌∷◌, ◌++◌, Option, Some, None, length, take, get_or, refl, sym, ap, subst, ◌∙◌, inl, inr, arith, length-append, ltb-true, leb-true}
 use Rattle.std.proofs.lemmas.Bool.{cases_Bool, cases_eq, le-leb, eq-eqb}
@@ -23,16 +23,17 @@ use Rattle.reception.specs.Symbols.{Symbol, is_full, arrived_count, Solvable, Is
 use Rattle.decoder.specs.Answers.{fault_value}
 use Rattle.decoder.specs.declared.answer.DecodeFault.{DecodeFault}
 use Rattle.decoder.specs.declared.answer.DecodeFault.TheVariants as fault
-use Rattle.reception.specs.Reception.{Wrong, ReadAll, Faulty, Judged, unknown, learned, or_later, carried, symbol_of, counted, symbols, in_range, reception_with}
-use Rattle.reception.specs.Step.{IsLook}
+use Rattle.reception.specs.Reception.{Wrong, ReadAll, Faulty, Judged, asked, learned, or_later, carried, symbol_of, counted, symbols, in_range, reception_with}
+use Rattle.reception.specs.Step.{IsLook, after}
 use Rattle.reception.specs.Walks.{readings_of, Timely}
 use Rattle.reception.specs.Within.{IsWithin}
 use Rattle.reception.specs.Answer.{Answer, AnswerTo, Clash, Clashes, Fault, NotCode, IsAnswer, clash, clashes, reception_of}
 use Rattle.reception.specs.declared.scope.PlaceFault.TheVariants as place_fault
 use Rattle.reception.proofs.OneAnswer.{same_readings}
 use Rattle.reception.proofs.Looks.{faultless_look}
+use Rattle.reception.proofs.Walk.{identity_stays}
 use Rattle.reception.proofs.Stepping.{timely, after_packet}
-use Rattle.reception.proofs.Walking.{Walked, came_before, stops, goes_on, ends, is_packet}
+use Rattle.reception.proofs.Walking.{Walked, came_before, stops, goes_on, ends, came_all, symbols_passed, is_packet, packet_counts, passed_counts, passed_scope}
 use Rattle.reception.proofs.Within.{within}
 use Rattle.decoder.specs.Columns.{ColumnExplained}
 use Rattle.decoder.specs.Decoded.{IsEnoughAt}
@@ -55,7 +56,7 @@ use Rattle.decoder.proofs.Holding.{with_own, with_apart}
 use Rattle.decoder.proofs.Index.{pointwise_same, clash_none, clash_some}
 use Rattle.decoder.proofs.Receiving.{Scanned, empty_index, clashed, no_clash as unclashed_judge, receives, received}
 use Rattle.decoder.proofs.Solving.{solvable_from, solvable_gives}
-use Rattle.decoder.proofs.Taken.{full_explained, pending_count, nothing_count, keeps, all_within, arrived_is, none_short, full_solvable}
+use Rattle.decoder.proofs.Taken.{full_explained, pending_count, nothing_count, no_fti, keeps, all_within, arrived_is, none_short, full_solvable}
 use Rattle.decoder.proofs.Those.{few_pass}
 
 -- whether a fault is told that is seen before the symbol
@@ -75,10 +76,9 @@ read_more : (ds : List (List ℕ)) (d : List ℕ) → ReadAll ds (readings_of ds
 read_more [] d read bytes = (reads d bytes (read_of d) refl, tt)
 read_more (x ∷ xs) d read bytes = (read.0, read_more xs d read.1 bytes)
 
-timely_none : (w : Option Identity) (g : Option Fti) (ss : List Symbol) → Timely w g ss → g ≡ None → ss ≡ []
-timely_none (Some w) (Some f) ss h e = absurd (cc)
-timely_none (Some w) None ss h e = h
-timely_none None g ss h e = h
+timely_none : (g : Option Fti) (ss : List Symbol) → Timely g ss → g ≡ None → ss ≡ []
+timely_none (Some f) ss h e = absurd (cc)
+timely_none None ss h e = h
 
 -- what a store holds that has this FTI, where the symbols came
 held_by : (f : Fti) (o : Option Store) (g : Option Fti) (arrivals : List Symbol) → Keeps o g arrivals → (g ≡ None → arrivals ≡ []) → ((h : Fti) → g ≡ Some h → h ≡ f)
@@ -141,7 +141,7 @@ module _ (f : Fti) (valid : IsValidFti f) (o : Option Store) (at : ℕ → ℕ �
   first_unsolvable : IsFirstUnsolvable f arrivals b
   first_unsolvable = record { in_range = hb; full = full_here; unsolvable = unsolvable_here; least = solvable_before }
 
-module _ (r : Receiver) (ds : List (List ℕ)) (stands : Stands r ds) (d : List ℕ) (bytes : AreBytes d) (old new : Scope) (is : old ≡ (reception_of (readings_of ds)).scope) where
+module _ (r : Receiver) (ds : List (List ℕ)) (stands : Stands r ds) (d : List ℕ) (bytes : AreBytes d) (old new : Scope) (is : old ≡ (reception_of r.identity (readings_of ds)).scope) where
   abbrev all : List (List ℕ)
   all = with_datagram ds d
 
@@ -151,41 +151,70 @@ module _ (r : Receiver) (ds : List (List ℕ)) (stands : Stands r ds) (d : List 
   here : d ≡ get_or all (length ds) []
   here = sym (at_end ds d [] (length ds) refl)
 
-  walked : Walked clash unknown all (length ds) old
+  walked : Walked clash (asked r.identity) all (length ds) old
   walked = record {
-    clean = ap (λ (rs : List Reading). (reception_with clash unknown rs).wrong) (front_of ds d) ∙ stands.clean;
-    holds = ap (λ (rs : List Reading). (reception_with clash unknown rs).scope) (front_of ds d) ∙ sym is;
+    clean = ap (λ (rs : List Reading). (reception_with clash (asked r.identity) rs).wrong) (front_of ds d) ∙ stands.clean;
+    holds = ap (λ (rs : List Reading). (reception_with clash (asked r.identity) rs).scope) (front_of ds d) ∙ sym is;
   }
 
-  came : came_before all (length ds) ≡ (reception_of (readings_of ds)).symbols
-  came = ap (λ (rs : List Reading). symbols (counted rs)) (front_of ds d)
+  came : came_before r.identity all (length ds) ≡ (reception_of r.identity (readings_of ds)).symbols
+  came = ap (λ (rs : List Reading). symbols (counted r.identity rs)) (front_of ds d)
 
   read : ReadAll all (readings_of all)
   read = read_more ds d stands.read bytes
 
   -- a fault before the symbol is looked at
-  pub faulty : (e : PlaceFault) → IsLook d old new (Err e) → IsAnswer all (Fault r.accepted (Faulty e))
+  pub faulty : (e : PlaceFault) → IsLook d old new (Err e) → IsAnswer r.identity all (Fault r.accepted (Faulty e))
   faulty e look = record {
     readings = readings_of all;
     read = read;
-    answers = stops clash unknown all (length ds) old walked d new (Err e) inside here look (Faulty e) refl ∙ ap (λ (n : ℕ). Some (n, Faulty e)) (sym stands.count);
+    answers = stops clash (asked r.identity) all (length ds) old walked d new (Err e) inside here look (Faulty e) refl ∙ ap (λ (n : ℕ). Some (n, Faulty e)) (sym stands.count);
   }
 
+  -- a datagram that is passed over
+  module _ (look : IsLook d old new (Ok None)) where
+    on : Walked clash (asked r.identity) all (length ds + 1) new
+    on = goes_on clash (asked r.identity) all (length ds) old walked d new (Ok None) inside here look refl
+
+    over : length all ≤ length ds + 1
+    over = omega (arith, length-append ds (d ∷ []))
+
+    same_scope : (reception_of r.identity (readings_of all)).scope ≡ (reception_of r.identity (readings_of ds)).scope
+    same_scope = (ends clash (asked r.identity) all (length ds + 1) new on over).1 ∙ passed_scope d old new look ∙ is
+
+    same_symbols : (reception_of r.identity (readings_of all)).symbols ≡ (reception_of r.identity (readings_of ds)).symbols
+    same_symbols =
+        sym (came_all r.identity all (length ds + 1) over)
+        ∙ symbols_passed clash (asked r.identity) all (length ds) old walked d new (Ok None) inside here look (passed_counts d old new look) ∙ came
+
+    -- raises the count alone
+    pub passed_over : Stands (record { identity = r.identity; store = r.store; accepted = r.accepted + 1 }) all
+    passed_over = record {
+      read = read;
+      clean = (ends clash (asked r.identity) all (length ds + 1) new on over).0;
+      count = (let n = stands.count in let l = length-append ds (d ∷ []) in omega (arith, n, l));
+      symbols = subst (λ (s : Scope). Keeps r.store s.fti (reception_of r.identity (readings_of all)).symbols) (sym same_scope)
+          (subst (λ (ss : List Symbol). Keeps r.store (reception_of r.identity (readings_of ds)).scope.fti ss) (sym same_symbols) stands.symbols);
+    }
+
   module _ (p : ReadPacket) (look : IsLook d old new (Ok (Some p))) where
-    packet_scope : (who : Identity) × (f : Fti) × (new ≡ record { identity = Some who; fti = Some f })
+    learns : new ≡ learned old look.reading
+    learns = look.scope ∙ ap (λ (v : Bool). if v then learned old look.reading else old) (packet_counts d old new p look)
+
+    packet_scope : (f : Fti) × (new ≡ record { identity = old.identity; fti = Some f })
     packet_scope =
         let w = after_packet old (packet_of p) in
-        (w.0, w.1, look.scope ∙ ap (learned old) (is_packet d old new p look) ∙ w.2)
+        (w.0, learns ∙ ap (learned old) (is_packet d old new p look) ∙ w.1)
 
     known : new.fti ≡ Some p.fti
     known =
         let w = packet_scope in
-        let e : new.fti ≡ Some w.1 = ap (λ (s : Scope). s.fti) w.2 in
-        let v = faultless_look d old new p look w.1 e in
-        e ∙ ap Some (sym v.1.fti)
+        let e : new.fti ≡ Some w.0 = ap (λ (s : Scope). s.fti) w.1 in
+        let v = faultless_look d old new p look w.0 e in
+        e ∙ ap Some (sym v.fti)
 
     range : in_range (packet_of p) p.fti ≡ true
-    range = (faultless_look d old new p look p.fti known).1.range
+    range = (faultless_look d old new p look p.fti known).range
 
     pub in_block : p.sbn < block_count p.fti
     in_block = ltb-true _ _ (both _ _ range).0
@@ -193,105 +222,104 @@ module _ (r : Receiver) (ds : List (List ℕ)) (stands : Stands r ds) (d : List 
     pub in_esis : p.esi < encoding_count p.fti p.sbn
     in_esis = ltb-true _ _ (both _ _ range).1
 
-    old_fti : (h : Fti) → (reception_of (readings_of ds)).scope.fti ≡ Some h → h ≡ p.fti
+    old_fti : (h : Fti) → (reception_of r.identity (readings_of ds)).scope.fti ≡ Some h → h ≡ p.fti
     old_fti h e =
         let now : new.fti ≡ Some h =
-        ap (λ (s : Scope). s.fti) look.scope ∙ ap (λ (s : Scope). or_later s.fti (carried look.reading)) is ∙ ap (λ (o : Option Fti). or_later o (carried look.reading)) e in
+        ap (λ (s : Scope). s.fti) learns ∙ ap (λ (s : Scope). or_later s.fti (carried look.reading)) is ∙ ap (λ (o : Option Fti). or_later o (carried look.reading)) e in
         let k = known in
         cc
 
     -- a packet whose symbol is looked at has no fault before that
-    pub none_before : (i : ℕ) (e : PlaceFault) → IsAnswer all (Fault i (Faulty e)) → ⊥
+    pub none_before : (i : ℕ) (e : PlaceFault) → IsAnswer r.identity all (Fault i (Faulty e)) → ⊥
     none_before i e answer =
-        let told : (reception_of (readings_of all)).wrong ≡ Some (i, Faulty e) =
-        subst (λ (rs : List Reading). (reception_of rs).wrong ≡ Some (i, Faulty e)) (same_readings all answer.readings (readings_of all) answer.read read) answer.answers in
-        elim (cases_Bool (clashes (came_before all (length ds)) (symbol_of (packet_of p)))) [
+        let told : (reception_of r.identity (readings_of all)).wrong ≡ Some (i, Faulty e) =
+        subst (λ (rs : List Reading). (reception_of r.identity rs).wrong ≡ Some (i, Faulty e)) (same_readings all answer.readings (readings_of all) answer.read read) answer.answers in
+        elim (cases_Bool (clashes (came_before r.identity all (length ds)) (symbol_of (packet_of p)))) [
           | inl clash_here ↦
-              (let w = stops clash unknown all (length ds) old walked d new (Ok (Some p)) inside here look (Judged Clashes) (clashed (came_before all (length ds)) (symbol_of (packet_of p)) clash_here) in
+              (let w = stops clash (asked r.identity) all (length ds) old walked d new (Ok (Some p)) inside here look (Judged Clashes) (clashed (came_before r.identity all (length ds)) (symbol_of (packet_of p)) clash_here) in
               let e = ap tells_before (sym told ∙ w) in
               absurd (cc))
           | inr none_here ↦
-              (let on = goes_on clash unknown all (length ds) old walked d new (Ok (Some p)) inside here look (unclashed_judge (came_before all (length ds)) (symbol_of (packet_of p)) none_here) in
-              let w = (ends clash unknown all (length ds + 1) new on (omega (arith, length-append ds (d ∷ [])))).0 in
+              (let on = goes_on clash (asked r.identity) all (length ds) old walked d new (Ok (Some p)) inside here look (unclashed_judge (came_before r.identity all (length ds)) (symbol_of (packet_of p)) none_here) in
+              let w = (ends clash (asked r.identity) all (length ds + 1) new on (omega (arith, length-append ds (d ∷ [])))).0 in
               let e = ap tells_before (sym told ∙ w) in
               absurd (cc))
         ]
 
     -- what the store holds, if there is one
-    pub held : (at : ℕ → ℕ → Option (List ℕ)) × IsIndex (reception_of (readings_of ds)).symbols at × HoldsFor p.fti r.store at
+    pub held : (at : ℕ → ℕ → Option (List ℕ)) × IsIndex (reception_of r.identity (readings_of ds)).symbols at × HoldsFor p.fti r.store at
     held =
-        held_by p.fti r.store (reception_of (readings_of ds)).scope.fti (reception_of (readings_of ds)).symbols stands.symbols
-        (timely_none (reception_of (readings_of ds)).scope.identity (reception_of (readings_of ds)).scope.fti (reception_of (readings_of ds)).symbols (timely unknown (counted (readings_of ds))))
+        held_by p.fti r.store (reception_of r.identity (readings_of ds)).scope.fti (reception_of r.identity (readings_of ds)).symbols stands.symbols
+        (timely_none (reception_of r.identity (readings_of ds)).scope.fti (reception_of r.identity (readings_of ds)).symbols (timely (asked r.identity) (counted r.identity (readings_of ds))))
         old_fti
 
-    module _ (at : ℕ → ℕ → Option (List ℕ)) (index : IsIndex (reception_of (readings_of ds)).symbols at) where
-      earlier : IsIndex (came_before all (length ds)) at
+    module _ (at : ℕ → ℕ → Option (List ℕ)) (index : IsIndex (reception_of r.identity (readings_of ds)).symbols at) where
+      earlier : IsIndex (came_before r.identity all (length ds)) at
       earlier = subst (λ (ss : List Symbol). IsIndex ss at) (sym came) index
 
       -- another symbol came
-      pub clash_told : IsClash (at p.sbn) p.esi p.symbol.now → IsAnswer all (Fault r.accepted (Judged Clashes))
+      pub clash_told : IsClash (at p.sbn) p.esi p.symbol.now → IsAnswer r.identity all (Fault r.accepted (Judged Clashes))
       clash_told other =
           let s = symbol_of (packet_of p) in
           let differ : same other.other p.symbol.now ≡ false = elim (cases_Bool (same other.other p.symbol.now)) [
             | inl yes_same ↦ absurd (other.differs (same_is other.other p.symbol.now yes_same))
             | inr no_same ↦ no_same
           ] in
-          let says : clashes (came_before all (length ds)) s ≡ true =
-          sym (clash_some s (came_before all (length ds)) at other.other earlier other.stands) ∙ ap not (pointwise_same other.other p.symbol.now ∙ differ) in
+          let says : clashes (came_before r.identity all (length ds)) s ≡ true =
+          sym (clash_some s (came_before r.identity all (length ds)) at other.other earlier other.stands) ∙ ap not (pointwise_same other.other p.symbol.now ∙ differ) in
           record {
             readings = readings_of all;
             read = read;
-            answers = stops clash unknown all (length ds) old walked d new (Ok (Some p)) inside here look (Judged Clashes) (clashed (came_before all (length ds)) s says)
+            answers = stops clash (asked r.identity) all (length ds) old walked d new (Ok (Some p)) inside here look (Judged Clashes) (clashed (came_before r.identity all (length ds)) s says)
                 ∙ ap (λ (n : ℕ). Some (n, Judged Clashes)) (sym stands.count);
           }
 
       -- none did, or the same
-      no_clash : MayStand (at p.sbn) p.esi p.symbol.now → clashes (came_before all (length ds)) (symbol_of (packet_of p)) ≡ false
-      no_clash (inl free) = sym (clash_none (symbol_of (packet_of p)) (came_before all (length ds)) at earlier free)
+      no_clash : MayStand (at p.sbn) p.esi p.symbol.now → clashes (came_before r.identity all (length ds)) (symbol_of (packet_of p)) ≡ false
+      no_clash (inl free) = sym (clash_none (symbol_of (packet_of p)) (came_before r.identity all (length ds)) at earlier free)
       no_clash (inr there) =
-          sym (clash_some (symbol_of (packet_of p)) (came_before all (length ds)) at p.symbol.now earlier there)
+          sym (clash_some (symbol_of (packet_of p)) (came_before r.identity all (length ds)) at p.symbol.now earlier there)
           ∙ ap not (pointwise_same p.symbol.now p.symbol.now ∙ same_self p.symbol.now)
 
       module _ (may : MayStand (at p.sbn) p.esi p.symbol.now) where
-        scanned : Scanned all new (with_symbol at p.sbn p.esi p.symbol.now) (length ds + 1)
+        scanned : Scanned r.identity all new (with_symbol at p.sbn p.esi p.symbol.now) (length ds + 1)
         scanned =
-            receives all old at (length ds) record { walked = walked; index = earlier } d new p inside here look (with_symbol at p.sbn p.esi p.symbol.now) (no_clash may)
+            receives r.identity all old at (length ds) record { walked = walked; index = earlier } d new p inside here look (with_symbol at p.sbn p.esi p.symbol.now) (no_clash may)
             (rw (eq-eqb p.sbn p.sbn refl, eq-eqb p.esi p.esi refl) refl) (λ b j other. rw other refl)
 
         whole : length all ≤ length ds + 1
         whole = omega (arith, length-append ds (d ∷ []))
 
-        got : AreReceived all p.fti (with_symbol at p.sbn p.esi p.symbol.now)
-        got = received all new (with_symbol at p.sbn p.esi p.symbol.now) (length ds + 1) scanned whole p.fti known
+        got : AreReceived r.identity all p.fti (with_symbol at p.sbn p.esi p.symbol.now)
+        got = received r.identity all new (with_symbol at p.sbn p.esi p.symbol.now) (length ds + 1) scanned whole p.fti known
 
         -- the receiver stands for the datagram too
         pub accepted : (store : Option Store) → HoldsFor p.fti store (with_symbol at p.sbn p.esi p.symbol.now) → IsSome store
-            → Stands (record { identity = new.identity; store = store; accepted = r.accepted + 1 }) all
+            → Stands (record { identity = r.identity; store = store; accepted = r.accepted + 1 }) all
         accepted store holds some = record {
           read = read;
           clean = got.clean.clean;
           count = (let n = stands.count in let l = length-append ds (d ∷ []) in omega (arith, n, l));
-          identity = ap (λ (s : Scope). s.identity) (sym (ends clash unknown all (length ds + 1) new scanned.walked whole).1);
-          symbols = subst (λ (g : Option Fti). Keeps store g (reception_of (readings_of all)).symbols) (sym got.clean.some)
-              (keeps_now p.fti (with_symbol at p.sbn p.esi p.symbol.now) store (reception_of (readings_of all)).symbols holds some got.index);
+          symbols = subst (λ (g : Option Fti). Keeps store g (reception_of r.identity (readings_of all)).symbols) (sym got.clean.some)
+              (keeps_now p.fti (with_symbol at p.sbn p.esi p.symbol.now) store (reception_of r.identity (readings_of all)).symbols holds some got.index);
         }
 
         -- with the symbol its block is no object's
-        pub no_code_told : IsValidFti p.fti → HoldsFor p.fti r.store at → IsNoCode p.fti p.sbn (at p.sbn) p.esi p.symbol.now → IsAnswer all (NotCode p.sbn)
+        pub no_code_told : IsValidFti p.fti → HoldsFor p.fti r.store at → IsNoCode p.fti p.sbn (at p.sbn) p.esi p.symbol.now → IsAnswer r.identity all (NotCode p.sbn)
         no_code_told valid holds none = record {
           readings = readings_of all;
           read = read;
           answers = (
             p.fti,
             got.clean,
-            first_unsolvable p.fti valid r.store at holds p.sbn p.esi p.symbol.now in_block none (reception_of (readings_of all)).symbols got.index
-                (within clash unknown all (readings_of all) p.fti read got.clean),
+            first_unsolvable p.fti valid r.store at holds p.sbn p.esi p.symbol.now in_block none (reception_of r.identity (readings_of all)).symbols got.index
+                (within clash (asked r.identity) all (readings_of all) p.fti read got.clean),
           );
         }
 
       -- why the symbol isn't put is the answer
       pub refusal_told : IsValidFti p.fti → HoldsFor p.fti r.store at → (v : PutFault) → IsPutFault p.fti p.sbn (at p.sbn) p.esi p.symbol.now v
-          → IsFaultOf all (put_refusal r.accepted p.sbn v)
+          → IsFaultOf r.identity all (put_refusal r.accepted p.sbn v)
       refusal_told valid holds put_fault.Clash h = clash_told h
       refusal_told valid holds put_fault.NotCode h = no_code_told (inl h.free) valid holds h
       refusal_told valid holds put_fault.NoMemory h = tt
@@ -302,8 +330,7 @@ module _ (r : Receiver) (ds : List (List ℕ)) (stands : Stands r ds) (d : List 
         read = stands.read;
         clean = stands.clean;
         count = stands.count;
-        identity = stands.identity;
-        symbols = keeps_still p.fti at r.store store (reception_of (readings_of ds)).scope.fti (reception_of (readings_of ds)).symbols stands.symbols old_fti holds index kind;
+        symbols = keeps_still p.fti at r.store store (reception_of r.identity (readings_of ds)).scope.fti (reception_of r.identity (readings_of ds)).symbols stands.symbols old_fti holds index kind;
       }
 
 -- ---- whether each block is solved
@@ -329,11 +356,11 @@ module _ (r : Receiver) (ds : List (List ℕ)) (stands : Stands r ds) (store : S
   counted_solved = (keeps r ds stands store is).1.holds.solved
 
   -- where as many blocks are solved as there are, none is short
-  pub all_solved : store.solved ≡ block_count store.fti → LeaveNoneShort ds
+  pub all_solved : store.solved ≡ block_count store.fti → LeaveNoneShort r.identity ds
   all_solved all = none_short r ds stands store is valid (all_pass (λ b. is_solved (kept_of store b)) (block_count store.fti) (sym counted_solved ∙ all))
 
   -- else one is
-  pub some_unsolved : store.solved ≢ block_count store.fti → LeaveNoneShort ds → ⊥
+  pub some_unsolved : store.solved ≢ block_count store.fti → LeaveNoneShort r.identity ds → ⊥
   some_unsolved other none =
       let k = keeps r ds stands store is in
       let n = block_count store.fti in
@@ -343,41 +370,71 @@ module _ (r : Receiver) (ds : List (List ℕ)) (stands : Stands r ds) (store : S
       let known = none.known in
       let there = k.0 in
       let same_fti : none.fti ≡ store.fti = cc in
-      let full : is_full store.fti (reception_of (readings_of ds)).symbols w.0 ≡ true =
-      subst (λ (f : Fti). (b : ℕ) → b < block_count f → is_full f (reception_of (readings_of ds)).symbols b ≡ true) same_fti none.full w.0 w.1 in
-      let arrived_at = arrived_is store valid k.1.at k.1.holds (reception_of (readings_of ds)).symbols k.1.index (all_within r ds stands store is) w.0 w.1 in
+      let full : is_full store.fti (reception_of r.identity (readings_of ds)).symbols w.0 ≡ true =
+      subst (λ (f : Fti). (b : ℕ) → b < block_count f → is_full f (reception_of r.identity (readings_of ds)).symbols b ≡ true) same_fti none.full w.0 w.1 in
+      let arrived_at = arrived_is store valid k.1.at k.1.holds (reception_of r.identity (readings_of ds)).symbols k.1.index (all_within r ds stands store is) w.0 w.1 in
       unsolved_short store.fti w.0 (kept_of store w.0) (k.1.at w.0) (counts store.fti valid w.0 w.1).0 (k.1.holds.blocks w.0) w.2
-      (omega (arith, leb-true (source_count store.fti w.0) (arrived_count (reception_of (readings_of ds)).symbols w.0) full, arrived_at))
+      (omega (arith, leb-true (source_count store.fti w.0) (arrived_count (reception_of r.identity (readings_of ds)).symbols w.0) full, arrived_at))
 
 -- the answer to them is no fault
 module _ (r : Receiver) (ds : List (List ℕ)) (stands : Stands r ds) (store : Store) (is : r.store ≡ Some store) (valid : IsValidFti store.fti) where
-  answers_here : (v : Answer) → IsAnswer ds v → AnswerTo (reception_of (readings_of ds)) v
-  answers_here v answer = subst (λ (rs : List Reading). AnswerTo (reception_of rs) v) (same_readings ds answer.readings (readings_of ds) answer.read stands.read) answer.answers
+  answers_here : (v : Answer) → IsAnswer r.identity ds v → AnswerTo (reception_of r.identity (readings_of ds)) v
+  answers_here v answer = subst (λ (rs : List Reading). AnswerTo (reception_of r.identity rs) v) (same_readings ds answer.readings (readings_of ds) answer.read stands.read) answer.answers
 
-  no_place : (i : ℕ) (w : Wrong Clash) → IsAnswer ds (Fault i w) → ⊥
+  no_place : (i : ℕ) (w : Wrong Clash) → IsAnswer r.identity ds (Fault i w) → ⊥
   no_place i w answer = let told = answers_here (Fault i w) answer in let clean = stands.clean in absurd (cc)
 
-  no_code : (b : ℕ) → IsAnswer ds (NotCode b) → ⊥
+  no_code : (b : ℕ) → IsAnswer r.identity ds (NotCode b) → ⊥
   no_code b answer =
       let told = answers_here (NotCode b) answer in
       let k = keeps r ds stands store is in
       let some = told.1.some in
       let there = k.0 in
       let same_fti : told.0 ≡ store.fti = cc in
-      let first = subst (λ (f : Fti). IsFirstUnsolvable f (reception_of (readings_of ds)).symbols b) same_fti told.2 in
+      let first = subst (λ (f : Fti). IsFirstUnsolvable f (reception_of r.identity (readings_of ds)).symbols b) same_fti told.2 in
       first.unsolvable
-      (full_solvable store valid k.1.at k.1.holds (reception_of (readings_of ds)).symbols k.1.index (all_within r ds stands store is) b first.in_range first.full)
+      (full_solvable store valid k.1.at k.1.holds (reception_of r.identity (readings_of ds)).symbols k.1.index (all_within r ds stands store is) b first.in_range first.full)
 
-  pub no_fault : (e : DecodeFault) → IsAnswer ds (fault_value e) → ⊥
+  pub no_fault : (e : DecodeFault) → IsAnswer r.identity ds (fault_value e) → ⊥
   no_fault (fault.Packet i e) answer = no_place i (Faulty (place_fault.NoPacket e)) answer
-  no_fault (fault.OtherIdentity i) answer = no_place i (Faulty place_fault.OtherIdentity) answer
   no_fault (fault.OtherFti i) answer = no_place i (Faulty place_fault.OtherFti) answer
   no_fault (fault.Range i) answer = no_place i (Faulty place_fault.Range) answer
   no_fault (fault.Clash i) answer = no_place i (Judged Clashes) answer
   no_fault (fault.NotCode b) answer = no_code b answer
 
--- a store that is there and has this FTI
-pub no_fault_for : (r : Receiver) (ds : List (List ℕ)) (f : Fti) (at : ℕ → ℕ → Option (List ℕ)) (o : Option Store) → Stands r ds → r.store ≡ o → HoldsFor f o at → IsSome o → IsValidFti f
-    → (e : DecodeFault) → IsAnswer ds (fault_value e) → ⊥
-no_fault_for r ds f at None stands is holds some valid e answer = absurd (cc)
-no_fault_for r ds f at (Some store) stands is holds some valid e answer = no_fault r ds stands store is (subst IsValidFti (sym holds.0) valid) e answer
+-- where there is no store nothing came, and that is no fault
+pub no_fault_none : (r : Receiver) (ds : List (List ℕ)) → Stands r ds → r.store ≡ None → (e : DecodeFault) → IsAnswer r.identity ds (fault_value e) → ⊥
+no_fault_none r ds stands is e answer = by e answer
+  where
+    here : (v : Answer) → IsAnswer r.identity ds v → AnswerTo (reception_of r.identity (readings_of ds)) v
+    here v given = subst (λ (rs : List Reading). AnswerTo (reception_of r.identity rs) v) (same_readings ds given.readings (readings_of ds) given.read stands.read) given.answers
+
+    place : (i : ℕ) (w : Wrong Clash) → IsAnswer r.identity ds (Fault i w) → ⊥
+    place i w given = let told = here (Fault i w) given in let clean = stands.clean in absurd (cc)
+
+    by : (f : DecodeFault) → IsAnswer r.identity ds (fault_value f) → ⊥
+    by (fault.Packet i x) given = place i (Faulty (place_fault.NoPacket x)) given
+    by (fault.OtherFti i) given = place i (Faulty place_fault.OtherFti) given
+    by (fault.Range i) given = place i (Faulty place_fault.Range) given
+    by (fault.Clash i) given = place i (Judged Clashes) given
+    by (fault.NotCode b) given =
+        let told = here (NotCode b) given in
+        let some = told.1.some in
+        let none = no_fti r ds stands is in
+        absurd (cc)
+
+-- the scope that a receiver has is that of its datagrams
+kept_fti : (o : Option Store) (g : Option Fti) (arrivals : List Symbol) → Keeps o g arrivals → option_map (λ s. s.fti) o ≡ g
+kept_fti None None arrivals h = refl
+kept_fti (Some s) (Some g) arrivals h = ap Some h.0
+kept_fti None (Some g) arrivals h = absurd h
+kept_fti (Some s) None arrivals h = absurd h
+
+pub scope_stands : (r : Receiver) (ds : List (List ℕ)) (f : Option Fti) → Stands r ds → option_map (λ s. s.fti) r.store ≡ f
+    → ◌≡◌ {A = Scope} (record { identity = r.identity; fti = f }) (reception_of r.identity (readings_of ds)).scope
+scope_stands r ds f stands is =
+    let s = (reception_of r.identity (readings_of ds)).scope in
+    let who : s.identity ≡ r.identity = identity_stays (asked r.identity) (counted r.identity (readings_of ds)) in
+    ap (λ (g : Option Fti). record { identity = r.identity; fti = g })
+    (sym is ∙ kept_fti r.store s.fti (reception_of r.identity (readings_of ds)).symbols stands.symbols)
+    ∙ ap (λ (w : Identity). record { identity = w; fti = (reception_of r.identity (readings_of ds)).scope.fti }) (sym who)

@@ -2,17 +2,18 @@
 use Rattle.std.proofs.Common.{ℕ, List, subst}
 use Rattle.partition.specs.Fti.{Fti}
 use Rattle.lists.specs.Selection.{chosen}
+use Rattle.reception.specs.declared.scope.Identity.{Identity}
 use Rattle.reception.specs.Answer.{Answer, Object, IsAnswer}
 use Rattle.reception.specs.Headline.{TellsWhatLacks, DecodesWhereEnough, UndecidedElse}
 use Rattle.reception.proofs.OneAnswer.{one_answer}
 use Rattle.decoder.specs.Promised.{IsPromised}
 
-pub promised : (session : List (List ℕ)) (places : List ℕ) (a : Answer) → IsAnswer (chosen session places) a → (f : Fti) (object : List ℕ) → DecodesWhereEnough f session object
-    → UndecidedElse f session object → IsPromised f (chosen session places) object a
-promised session places a is f object decodes undecided = record {
-  enough = λ enough. one_answer (chosen session places) a (Object object) is (decodes places enough).is;
+pub promised : (who : Identity) (session : List (List ℕ)) (places : List ℕ) (a : Answer) → IsAnswer who (chosen session places) a → (f : Fti) (object : List ℕ)
+    → DecodesWhereEnough who f session object → UndecidedElse who f session object → IsPromised who f (chosen session places) object a
+promised who session places a is f object decodes undecided = record {
+  enough = λ enough. one_answer who (chosen session places) a (Object object) is (decodes places enough).is;
   lacks = λ few.
       let u = undecided places few in
-      subst (λ (x : Answer). TellsWhatLacks x (chosen session places)) (one_answer (chosen session places) u.answer a u.told is) u.lacks;
+      subst (λ (x : Answer). TellsWhatLacks who x (chosen session places)) (one_answer who (chosen session places) u.answer a u.told is) u.lacks;
   twin = λ few. (undecided places few).twin;
 }

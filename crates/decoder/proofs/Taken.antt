@@ -12,7 +12,7 @@ use Rattle.session.proofs.Writes.{then_appends, then_some, front_some}
 use Rattle.partition.specs.Fti.{Fti, IsValidFti, block_count, source_count, encoding_count, start_of}
 use Rattle.partition.proofs.Laws.{counts, some_block}
 use Rattle.reception.specs.Symbols.{Symbol, is_full, arrived_count, AllFull, FullSolvable, IsFirstShort}
-use Rattle.reception.specs.Reception.{unknown}
+use Rattle.reception.specs.Reception.{asked}
 use Rattle.reception.specs.Walks.{readings_of}
 use Rattle.reception.specs.Within.{IsWithin}
 use Rattle.reception.specs.Answer.{Empty, Missing, Object, IsAnswer, clash, reception_of}
@@ -217,68 +217,68 @@ keeps_some store None arrivals h = absurd h
 keeps_some store (Some f) arrivals h = (ap Some (sym h.0), h.1)
 
 module _ (r : Receiver) (ds : List (List ℕ)) (stands : Stands r ds) where
-  pub no_fti : r.store ≡ None → (reception_of (readings_of ds)).scope.fti ≡ None
-  no_fti e = keeps_none _ _ (subst (λ (o : Option Store). Keeps o (reception_of (readings_of ds)).scope.fti (reception_of (readings_of ds)).symbols) e stands.symbols)
+  pub no_fti : r.store ≡ None → (reception_of r.identity (readings_of ds)).scope.fti ≡ None
+  no_fti e = keeps_none _ _ (subst (λ (o : Option Store). Keeps o (reception_of r.identity (readings_of ds)).scope.fti (reception_of r.identity (readings_of ds)).symbols) e stands.symbols)
 
   -- nothing came where there is no store
-  pub empty_taken : r.store ≡ None → IsAnswer ds Empty
+  pub empty_taken : r.store ≡ None → IsAnswer r.identity ds Empty
   empty_taken e = record { readings = readings_of ds; read = stands.read; answers = (stands.clean, no_fti e) }
 
-  pub short_none : r.store ≡ None → ¬ LeaveNoneShort ds
+  pub short_none : r.store ≡ None → ¬ LeaveNoneShort r.identity ds
   short_none e none_short = let none = no_fti e in let known = none_short.known in absurd (cc)
 
   module _ (store : Store) (is : r.store ≡ Some store) where
-    pub keeps : ((reception_of (readings_of ds)).scope.fti ≡ Some store.fti) × HoldsSymbols store (reception_of (readings_of ds)).symbols
-    keeps = keeps_some store _ _ (subst (λ (o : Option Store). Keeps o (reception_of (readings_of ds)).scope.fti (reception_of (readings_of ds)).symbols) is stands.symbols)
+    pub keeps : ((reception_of r.identity (readings_of ds)).scope.fti ≡ Some store.fti) × HoldsSymbols store (reception_of r.identity (readings_of ds)).symbols
+    keeps = keeps_some store _ _ (subst (λ (o : Option Store). Keeps o (reception_of r.identity (readings_of ds)).scope.fti (reception_of r.identity (readings_of ds)).symbols) is stands.symbols)
 
-    pub received : AreReceived ds store.fti keeps.1.at
+    pub received : AreReceived r.identity ds store.fti keeps.1.at
     received = record { clean = record { clean = stands.clean; some = keeps.0 }; index = keeps.1.index }
 
     -- an answer to what the store holds answers the datagrams
-    pub store_taken : (v : value.Answer) → ((at : ℕ → ℕ → Option (List ℕ)) → Holds store at → Answers store.fti at v) → IsAnswer ds v
+    pub store_taken : (v : value.Answer) → ((at : ℕ → ℕ → Option (List ℕ)) → Holds store at → Answers store.fti at v) → IsAnswer r.identity ds v
     store_taken v h = record {
       readings = readings_of ds;
       read = stands.read;
-      answers = answered ds store.fti keeps.1.at v stands.read received (h keeps.1.at keeps.1.holds);
+      answers = answered r.identity ds store.fti keeps.1.at v stands.read received (h keeps.1.at keeps.1.holds);
     }
 
-    pub all_within : AllByRecursion (IsWithin store.fti) (reception_of (readings_of ds)).symbols
-    all_within = within clash unknown ds (readings_of ds) store.fti stands.read received.clean
+    pub all_within : AllByRecursion (IsWithin store.fti) (reception_of r.identity (readings_of ds)).symbols
+    all_within = within clash (asked r.identity) ds (readings_of ds) store.fti stands.read received.clean
 
     -- the object of the solved blocks has the FTI's length
     pub object_length : IsValidFti store.fti → AllSolved store → length (object_in store) ≡ store.fti.transfer_length
     object_length valid all =
-        let answers = object_in_answers store valid keeps.1.at keeps.1.holds all (reception_of (readings_of ds)).symbols keeps.1.index all_within in
+        let answers = object_in_answers store valid keeps.1.at keeps.1.holds all (reception_of r.identity (readings_of ds)).symbols keeps.1.index all_within in
         answers.2.fits.form.count
 
-    pub none_short : IsValidFti store.fti → AllSolved store → LeaveNoneShort ds
+    pub none_short : IsValidFti store.fti → AllSolved store → LeaveNoneShort r.identity ds
     none_short valid all = record {
       fti = store.fti;
       known = keeps.0;
-      full = all_full store valid keeps.1.at keeps.1.holds (reception_of (readings_of ds)).symbols keeps.1.index all_within all;
+      full = all_full store valid keeps.1.at keeps.1.holds (reception_of r.identity (readings_of ds)).symbols keeps.1.index all_within all;
     }
 
-    pub some_short : (s : Short) → ((at : ℕ → ℕ → Option (List ℕ)) → Holds store at → IsShort store.fti at s) → ¬ LeaveNoneShort ds
+    pub some_short : (s : Short) → ((at : ℕ → ℕ → Option (List ℕ)) → Holds store at → IsShort store.fti at s) → ¬ LeaveNoneShort r.identity ds
     some_short s short none =
-        let first = (short keeps.1.at keeps.1.holds (reception_of (readings_of ds)).symbols keeps.1.index all_within).0 in
+        let first = (short keeps.1.at keeps.1.holds (reception_of r.identity (readings_of ds)).symbols keeps.1.index all_within).0 in
         let other = none.known in
         let known = keeps.0 in
         let same : none.fti ≡ store.fti = cc in
-        let full : AllFull store.fti (reception_of (readings_of ds)).symbols = subst (λ (f : Fti). AllFull f (reception_of (readings_of ds)).symbols) same none.full in
+        let full : AllFull store.fti (reception_of r.identity (readings_of ds)).symbols = subst (λ (f : Fti). AllFull f (reception_of r.identity (readings_of ds)).symbols) same none.full in
         let x = full s.block first.in_range in
         let y = first.short in
         absurd (cc)
 
     -- nor is there an object where a block is short
-    pub short_no_object : IsValidFti store.fti → (s : Short) → ((at : ℕ → ℕ → Option (List ℕ)) → Holds store at → IsShort store.fti at s) → (object : List ℕ) → IsAnswer ds (Object object) → ⊥
+    pub short_no_object : IsValidFti store.fti → (s : Short) → ((at : ℕ → ℕ → Option (List ℕ)) → Holds store at → IsShort store.fti at s) → (object : List ℕ) → IsAnswer r.identity ds (Object object) → ⊥
     short_no_object valid s short object answer =
-        let e = one_answer ds (Missing s.block s.have s.need) (Object object) (store_taken (Missing s.block s.have s.need) (λ at holds. missing_answers store valid at holds s (short at holds))) answer in
+        let e = one_answer r.identity ds (Missing s.block s.have s.need) (Object object) (store_taken (Missing s.block s.have s.need) (λ at holds. missing_answers store valid at holds s (short at holds))) answer in
         absurd (cc)
 
     -- the object is that of the solved blocks
-    pub object_same : IsValidFti store.fti → AllSolved store → (object : List ℕ) → IsAnswer ds (Object object) → object_in store ≡ object
+    pub object_same : IsValidFti store.fti → AllSolved store → (object : List ℕ) → IsAnswer r.identity ds (Object object) → object_in store ≡ object
     object_same valid all object answer =
-        let e = one_answer ds (Object (object_in store)) (Object object) (store_taken (Object (object_in store)) (λ at holds. object_in_answers store valid at holds all)) answer in
+        let e = one_answer r.identity ds (Object (object_in store)) (Object object) (store_taken (Object (object_in store)) (λ at holds. object_in_answers store valid at holds all)) answer in
         cc
 
 -- a block that is short, of all that the store may hold

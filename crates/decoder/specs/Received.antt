@@ -6,6 +6,7 @@ use Rattle.std.specs.declared.cmp.Ordering.{Ordering}
 use Rattle.std.specs.Ordering.{nat_cmp, ordering_then}
 use Rattle.std.specs.BTreeMap.{BTreeMap, get}
 use Rattle.partition.specs.Fti.{Fti}
+use Rattle.reception.specs.declared.scope.Identity.{Identity}
 use Rattle.reception.specs.Symbols.{Symbol, is_of, has_arrived}
 use Rattle.reception.specs.Reception.{counted, symbols, IsClean}
 use Rattle.reception.specs.Walks.{readings_of}
@@ -30,10 +31,10 @@ pub record IsIndex (arrivals : List Symbol) (at : ℕ → ℕ → Option (List �
   pub some : (b j : ℕ) (bytes : List ℕ) → at b j ≡ Some bytes → HasBytes arrivals b j bytes
 
 -- the datagrams have no fault at any place and this FTI, and their symbols stand at their blocks and ESIs
-pub record AreReceived (datagrams : List (List ℕ)) (f : Fti) (at : ℕ → ℕ → Option (List ℕ)) : Type 0 where
-  pub clean : IsClean (reception_of (readings_of datagrams)) f
-  pub index : IsIndex (symbols (counted (readings_of datagrams))) at
+pub record AreReceived (who : Identity) (datagrams : List (List ℕ)) (f : Fti) (at : ℕ → ℕ → Option (List ℕ)) : Type 0 where
+  pub clean : IsClean (reception_of who (readings_of datagrams)) f
+  pub index : IsIndex (symbols (counted who (readings_of datagrams))) at
 
 -- nothing came
-abbrev pub IsNothing : List (List ℕ) → Type 0
-IsNothing datagrams = AnswerTo (reception_of (readings_of datagrams)) Empty
+abbrev pub IsNothing : Identity → List (List ℕ) → Type 0
+IsNothing who datagrams = AnswerTo (reception_of who (readings_of datagrams)) Empty

@@ -2,6 +2,7 @@
 use Rattle.std.specs.Prelude.{◌≡◌, ℕ, List, [], ◌∷◌, ◌++◌, length, Option, Some}
 use Rattle.std.specs.Io.KnownBytes.{Appends}
 use Rattle.partition.specs.Fti.{Fti}
+use Rattle.reception.specs.declared.scope.Identity.{Identity}
 use Rattle.reception.specs.Symbols.{AllFull}
 use Rattle.reception.specs.Readings.{readings_of}
 use Rattle.reception.specs.declared.scope.PlaceFault.{PlaceFault}
@@ -20,31 +21,31 @@ abbrev pub with_datagram : List (List ℕ) → List ℕ → List (List ℕ)
 with_datagram datagrams d = datagrams ++ d ∷ []
 
 -- the datagrams leave no block short
-pub record LeaveNoneShort (datagrams : List (List ℕ)) : Type 0 where
+pub record LeaveNoneShort (who : Identity) (datagrams : List (List ℕ)) : Type 0 where
   pub fti : Fti
-  pub known : (reception_of (readings_of datagrams)).scope.fti ≡ Some fti
-  pub full : AllFull fti (reception_of (readings_of datagrams)).symbols
+  pub known : (reception_of who (readings_of datagrams)).scope.fti ≡ Some fti
+  pub full : AllFull fti (reception_of who (readings_of datagrams)).symbols
 
 -- what is told of the datagrams
-abbrev pub Tells : Progress → List (List ℕ) → Type 0
-Tells Complete datagrams = LeaveNoneShort datagrams
-Tells More datagrams = ¬ LeaveNoneShort datagrams
+abbrev pub Tells : Progress → Identity → List (List ℕ) → Type 0
+Tells Complete who datagrams = LeaveNoneShort who datagrams
+Tells More who datagrams = ¬ LeaveNoneShort who datagrams
 
 -- a fault is the decoder's answer to the datagrams
-abbrev pub IsFaultOf : List (List ℕ) → FeedFault → Type 0
-IsFaultOf datagrams (Fault e) = IsAnswer datagrams (fault_value e)
-IsFaultOf datagrams Full = Unit {0}
-IsFaultOf datagrams NoMemory = Unit {0}
+abbrev pub IsFaultOf : Identity → List (List ℕ) → FeedFault → Type 0
+IsFaultOf who datagrams (Fault e) = IsAnswer who datagrams (fault_value e)
+IsFaultOf who datagrams Full = Unit {0}
+IsFaultOf who datagrams NoMemory = Unit {0}
 
 -- the answer to the datagrams is no fault
-abbrev pub HasNoFault : List (List ℕ) → Type 0
-HasNoFault datagrams = (e : DecodeFault) → ¬ IsAnswer datagrams (fault_value e)
+abbrev pub HasNoFault : Identity → List (List ℕ) → Type 0
+HasNoFault who datagrams = (e : DecodeFault) → ¬ IsAnswer who datagrams (fault_value e)
 
 -- the answer to the datagrams is no fault of one whose symbol isn't looked at
-abbrev pub HasNoFaultBefore : List (List ℕ) → Type 0
-HasNoFaultBefore datagrams = (i : ℕ) (e : PlaceFault) → ¬ IsAnswer datagrams (value.Fault i (Faulty e))
+abbrev pub HasNoFaultBefore : Identity → List (List ℕ) → Type 0
+HasNoFaultBefore who datagrams = (i : ℕ) (e : PlaceFault) → ¬ IsAnswer who datagrams (value.Fault i (Faulty e))
 
 -- the object that these datagrams give was written; its length in bytes
-abbrev pub IsWrittenOf : List (List ℕ) → Option (List ℕ) → Option (List ℕ) → ℕ → Type 0
-IsWrittenOf datagrams before after count =
-    (object : List ℕ) × IsAnswer datagrams (Object object) × Appends before after object × (count ≡ length object)
+abbrev pub IsWrittenOf : Identity → List (List ℕ) → Option (List ℕ) → Option (List ℕ) → ℕ → Type 0
+IsWrittenOf who datagrams before after count =
+    (object : List ℕ) × IsAnswer who datagrams (Object object) × Appends before after object × (count ≡ length object)

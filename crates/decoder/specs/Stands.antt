@@ -23,13 +23,13 @@ Keeps (Some store) (Some f) arrivals = (store.fti ≡ f) × HoldsSymbols store a
 Keeps None (Some f) arrivals = ⊥
 Keeps (Some store) None arrivals = ⊥
 
--- the datagrams are read and have no fault at any place, and the receiver has their count, identity, FTI and symbols
+-- the datagrams are read and have no fault at any place, and the receiver has their count, and of its identity's packets the
+-- FTI and the symbols
 pub record Stands (r : Receiver) (datagrams : List (List ℕ)) : Type 0 where
   pub read : ReadAll datagrams (readings_of datagrams)
-  pub clean : (reception_of (readings_of datagrams)).wrong ≡ None
+  pub clean : (reception_of r.identity (readings_of datagrams)).wrong ≡ None
   pub count : r.accepted ≡ length datagrams
-  pub identity : r.identity ≡ (reception_of (readings_of datagrams)).scope.identity
-  pub symbols : Keeps r.store (reception_of (readings_of datagrams)).scope.fti (reception_of (readings_of datagrams)).symbols
+  pub symbols : Keeps r.store (reception_of r.identity (readings_of datagrams)).scope.fti (reception_of r.identity (readings_of datagrams)).symbols
 
 -- it stands for some list: it is new, or was fed
 abbrev pub IsFed : Receiver → Type 0

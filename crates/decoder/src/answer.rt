@@ -9,9 +9,6 @@ pub enum DecodeFault {
     /// The datagram is no packet.
     #[error("R1 Packet place {0} {1}")]
     Packet(usize, PacketFault),
-    /// TSI or TOI isn't that of the first packet.
-    #[error("R2 OtherIdentity place {0}")]
-    OtherIdentity(usize),
     /// The FTI isn't that of the first packet.
     #[error("R3 OtherFti place {0}")]
     OtherFti(usize),

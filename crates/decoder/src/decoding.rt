@@ -16,6 +16,7 @@ use crate::received::{Received, Refusal, receive};
 use crate::unsolvable::first_unsolvable;
 use block_code::{BlockCodes, Kind};
 use lists::are_bytes;
+use reception::Identity;
 use std::alloc::{AllocError, Global};
 
 // What the type says of each datagram.
@@ -75,15 +76,16 @@ fn answer(alloc: Global, received: &Received<'_>) -> Result<Answer, AllocError>
     }
 }
 
-/// What the datagrams say of the object that was sent (RFC 5510, section 8): the object, or why they give none. The
-/// first packet's identity and FTI hold. No datagram and no sender is trusted: the answer is exact for every list of
-/// datagrams. Memory for the object is asked for only where no block is short, and for a block only where it has enough
-/// symbols.
-pub fn decode(alloc: Global, datagrams: &[&[u8]]) -> Result<Answer, AllocError>
-    ensures { IfOk result (λ a. IsAnswer (map (λ d. d.now) datagrams.now) (answer_value a)) }
+/// What the datagrams say of the object that was sent under an identity (RFC 5510, section 8): the object, or why they give
+/// none. Packets of other identities are passed over, and the FTI of the first packet of this one holds. No datagram and no
+/// sender is trusted: the answer is exact for every list of datagrams. Memory for the object is asked for only where no block
+/// is short, and for a block only where it has enough symbols.
+pub fn decode(alloc: Global, datagrams: &[&[u8]], identity: Identity) -> Result<Answer, AllocError>
+    ensures { IfOk result
+        (λ a. IsAnswer identity (map (λ d. d.now) datagrams.now) (answer_value a)) }
 {
     all_are_bytes(datagrams);
-    match receive(alloc, datagrams) {
+    match receive(alloc, datagrams, identity) {
         Ok(Some(received)) => answer(alloc, &received),
         Ok(None) => Ok(Answer::Empty),
         Err(Refusal::Fault(fault)) => Ok(Answer::Fault(fault)),

@@ -1,5 +1,5 @@
 //! Feeding a receiver with one datagram.
-ghost use Rattle.std.specs.Prelude.{◌≡◌, ◌≢◌, ◌<◌, ◌↔◌, ℕ, List, Option, length, is_some, IfOk, IfSome, IsSome, IfErr, OnOk, OnErr};
+ghost use Rattle.std.specs.Prelude.{◌≡◌, ◌≢◌, ◌<◌, ◌+◌, ◌↔◌, ℕ, List, Option, length, is_some, IfOk, IfSome, IsSome, IfErr, OnOk, OnErr};
 ghost use Rattle.partition.specs.Fti.{block_count, encoding_count};
 ghost use Rattle.reception.specs.Answer.{reception_of};
 ghost use Rattle.reception.specs.Walks.{readings_of};
@@ -68,7 +68,7 @@ impl Receiver {
     // Whose packets it receives and with which FTI, as far as that is known.
     fn scope(&self) -> Scope
         ensures { (ds : List (List ℕ)) → Stands self.now ds
-            → result ≡ (reception_of (readings_of ds)).scope }
+            → result ≡ (reception_of self.now.identity (readings_of ds)).scope }
     {
         let fti = match &self.store {
             Some(store) => Some(store.fti),
@@ -82,7 +82,10 @@ impl Receiver {
 
     // Whether every block has as many symbols as it needs. None is looked at.
     fn progress(&self) -> Progress
-        ensures { (ds : List (List ℕ)) → Stands self.now ds → Tells result ds }
+        ensures tells { (ds : List (List ℕ)) → Stands self.now ds
+            → Tells result self.now.identity ds }
+        ensures sound { (ds : List (List ℕ)) → Stands self.now ds
+            → HasNoFault self.now.identity ds }
     {
         let Some(store) = &self.store else {
             return Progress::More;
@@ -94,26 +97,43 @@ impl Receiver {
         }
     }
 
+    // Counts a datagram that is accepted, and tells whether more are needed.
+    fn accept(&mut self) -> Progress
+        requires { self.old.accepted < usize.MAX }
+        ensures accepted { self.new ≡ record {
+          identity = self.old.identity;
+          store = self.old.store;
+          accepted = self.old.accepted + 1;
+        } }
+        ensures progress { (ds : List (List ℕ)) → Stands self.new ds
+            → Tells result self.new.identity ds }
+        ensures sound { (ds : List (List ℕ)) → Stands self.new ds
+            → HasNoFault self.new.identity ds }
+    {
+        self.accepted += 1;
+        self.progress()
+    }
+
     /// Takes one datagram, of any bytes. The receiver stands for the datagrams that it accepted: `Ok` is where `decode`
     /// would answer no fault to them and this one, and it stands for one more. At an error it stands for those before. Want of
-    /// memory is never told in place of a fault that is seen before the symbol: no packet, another identity or FTI, or out of
-    /// range.
+    /// memory is never told in place of a fault that is seen before the symbol: no packet, another FTI, or out of range. A
+    /// packet of another identity is accepted and left aside.
     pub fn feed(&mut self, alloc: Global, datagram: &[u8]) -> Result<Progress, FeedFault>
         // It is new, or was fed.
         requires { IsFed self.old }
+        ensures identity { self.new.identity ≡ self.old.identity }
         ensures accepted { (ds : List (List ℕ)) → Stands self.old ds
             → OnOk result (Stands self.new (with_datagram ds datagram.now)) }
         ensures refused { (ds : List (List ℕ)) → Stands self.old ds
             → OnErr result (Stands self.new ds) }
         ensures progress { (ds : List (List ℕ)) → Stands self.old ds
-            → IfOk result (λ p. Tells p (with_datagram ds datagram.now)) }
+            → IfOk result (λ p. Tells p self.old.identity (with_datagram ds datagram.now)) }
         ensures fault { (ds : List (List ℕ)) → Stands self.old ds
-            → IfErr result (IsFaultOf (with_datagram ds datagram.now)) }
-        ensures memory { (ds : List (List ℕ)) → Stands self.old ds
-            → result ≡ Err FeedFault.NoMemory
-            → HasNoFaultBefore (with_datagram ds datagram.now) }
+            → IfErr result (IsFaultOf self.old.identity (with_datagram ds datagram.now)) }
+        ensures memory { (ds : List (List ℕ)) → Stands self.old ds → result ≡ Err FeedFault.NoMemory
+            → HasNoFaultBefore self.old.identity (with_datagram ds datagram.now) }
         ensures sound { (ds : List (List ℕ)) → Stands self.old ds
-            → OnOk result (HasNoFault (with_datagram ds datagram.now)) }
+            → OnOk result (HasNoFault self.old.identity (with_datagram ds datagram.now)) }
         ensures full { (ds : List (List ℕ)) → Stands self.old ds
             → (result ≡ Err FeedFault.Full) ↔ (length ds ≡ usize.MAX) }
     {
@@ -124,15 +144,13 @@ impl Receiver {
         let mut scope = self.scope();
         let packet = match scope.look(datagram) {
             Ok(Some(packet)) => packet,
-            Ok(None) => unreachable!(),
+            Ok(None) => return Ok(self.accept()),
             Err(fault) => return Err(FeedFault::Fault(fault_at(self.accepted, fault))),
         };
         packet.fti.is_valid();
         if let Err(fault) = put(alloc, &mut self.store, &packet) {
             return Err(refusal(self.accepted, packet.sbn, fault));
         }
-        self.identity = scope.identity;
-        self.accepted += 1;
-        Ok(self.progress())
+        Ok(self.accept())
     }
 }

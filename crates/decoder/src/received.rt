@@ -11,7 +11,7 @@ ghost use Rattle.decoder.specs.Received.{bytes_at, IsIndex, AreReceived, IsNothi
 use crate::answer::DecodeFault;
 use alc::Packet;
 use partition::Fti;
-use reception::{PlaceFault, Scope};
+use reception::{Identity, PlaceFault, Scope};
 use std::alloc::{AllocError, Global};
 use std::collections::BTreeMap;
 
@@ -49,7 +49,6 @@ pub(crate) fn fault_at(place: usize, fault: PlaceFault) -> DecodeFault
 {
     match fault {
         PlaceFault::NoPacket(fault) => DecodeFault::Packet(place, fault),
-        PlaceFault::OtherIdentity => DecodeFault::OtherIdentity(place),
         PlaceFault::OtherFti => DecodeFault::OtherFti(place),
         PlaceFault::Range => DecodeFault::Range(place),
     }
@@ -67,17 +66,19 @@ fn keep<'a>(symbols: &mut Symbols<'a>, packet: &Packet<'a>) -> Result<(), AllocE
     Ok(())
 }
 
-/// The symbols of the datagrams, if some came, or the first fault at the least place that has one.
+/// The symbols of the identity's packets, if some came, or the first fault at the least place that has one.
 pub(crate) fn receive<'a>(
     alloc: Global,
     datagrams: &[&'a [u8]],
+    identity: Identity,
 ) -> Result<Option<Received<'a>>, Refusal>
     ensures received { IfOk result (λ o. IfSome o (λ r.
-        AreReceived (map (λ d. d.now) datagrams.now) r.fti (bytes_at r.symbols))) }
-    ensures nothing { IfOk result (λ o. IsNone o → IsNothing (map (λ d. d.now) datagrams.now)) }
-    ensures refusal { IfErr result (IsRefusal (map (λ d. d.now) datagrams.now)) }
+        AreReceived identity (map (λ d. d.now) datagrams.now) r.fti (bytes_at r.symbols))) }
+    ensures nothing { IfOk result (λ o. IsNone o
+        → IsNothing identity (map (λ d. d.now) datagrams.now)) }
+    ensures refusal { IfErr result (IsRefusal identity (map (λ d. d.now) datagrams.now)) }
 {
-    let mut scope = Scope::unknown();
+    let mut scope = Scope::new(identity);
     let mut symbols = BTreeMap::new(alloc);
     for place in 0..datagrams.len() {
         let packet = match scope.look(datagrams[place]) {

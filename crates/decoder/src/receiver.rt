@@ -1,5 +1,5 @@
 //! A receiver of one datagram at a time.
-ghost use Rattle.std.specs.Prelude.{[]};
+ghost use Rattle.std.specs.Prelude.{◌≡◌, []};
 ghost use Rattle.decoder.specs.Stands.{Stands};
 
 use crate::answer::DecodeFault;
@@ -30,22 +30,23 @@ pub enum FeedFault {
     NoMemory,
 }
 
-/// A receiver of an object's datagrams, one at a time. It keeps copies of symbols, of each block at most as many as it has
-/// source symbols, and no datagram.
+/// A receiver of an object's datagrams, one at a time. Packets of other identities are accepted and passed over. It keeps
+/// copies of symbols, of each block at most as many as it has source symbols, and no datagram.
 #[derive(Drop)]
 pub struct Receiver {
-    pub(crate) identity: Option<Identity>,
+    pub(crate) identity: Identity,
     pub(crate) store: Option<Store>,
     pub(crate) accepted: usize,
 }
 
 impl Receiver {
-    /// A receiver to which nothing came.
-    pub fn new() -> Receiver
-        ensures { Stands result [] }
+    /// A receiver of this identity's packets, to which nothing came.
+    pub fn new(identity: Identity) -> Receiver
+        ensures stands { Stands result [] }
+        ensures identity { result.identity ≡ identity }
     {
         Receiver {
-            identity: None,
+            identity,
             store: None,
             accepted: 0,
         }

@@ -109,10 +109,10 @@ impl Receiver {
     /// asked for only where no block is short. The receiver may be fed further, and asked again.
     pub fn take(&self, alloc: Global) -> Result<Answer, AllocError>
         ensures answer { (ds : List (List ℕ)) → Stands self.now ds
-            → IfOk result (λ a. IsAnswer ds (answer_value a)) }
+            → IfOk result (λ a. IsAnswer self.now.identity ds (answer_value a)) }
         ensures no_fault { IfOk result IsNoFault }
         ensures memory { (ds : List (List ℕ)) → Stands self.now ds
-            → OnErr result (LeaveNoneShort ds) }
+            → OnErr result (LeaveNoneShort self.now.identity ds) }
     {
         let Some(store) = &self.store else {
             return Ok(Answer::Empty);
@@ -133,19 +133,20 @@ impl Receiver {
     /// writer has failed, and never where it has room for the object. It has a beginning of it then.
     pub fn write_object<W: Write>(&self, writer: &mut W) -> Result<Option<u64>, Failed>
         ensures written { (ds : List (List ℕ)) → Stands self.now ds
-            → IfOk result (λ o. IfSome o (IsWrittenOf ds (W.contents writer.old)
+            → IfOk result (λ o. IfSome o (IsWrittenOf self.now.identity ds (W.contents writer.old)
             (W.contents writer.new))) }
         ensures short { (ds : List (List ℕ)) → Stands self.now ds
-            → IfOk result (λ o. IsNone o → ¬ LeaveNoneShort ds) }
+            → IfOk result (λ o. IsNone o → ¬ LeaveNoneShort self.now.identity ds) }
         ensures late { (ds : List (List ℕ)) → Stands self.now ds
-            → OnErr result (LeaveNoneShort ds) }
+            → OnErr result (LeaveNoneShort self.now.identity ds) }
         ensures front { (ds : List (List ℕ)) (object : List ℕ) → Stands self.now ds
-            → IsAnswer ds (Object object)
+            → IsAnswer self.now.identity ds (Object object)
             → OnErr result (AppendsSome (W.contents writer.old) (W.contents writer.new) object) }
         ensures nothing { result ≡ Ok None → writer.new ≡ writer.old }
         ensures fails { OnErr result (W.failed writer.new ≡ true) }
         ensures full { (ds : List (List ℕ)) (object : List ℕ) → Stands self.now ds
-            → IsAnswer ds (Object object) → OnErr result (W.room writer.old < length object) }
+            → IsAnswer self.now.identity ds (Object object)
+            → OnErr result (W.room writer.old < length object) }
     {
         let Some(store) = &self.store else {
             return Ok(None);

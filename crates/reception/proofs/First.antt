@@ -61,6 +61,6 @@ module _ {R : Type 0} (judge : Judge R) (f : Scope) where
 
 pub tells_the_first : {R : Type 0} (judge : Judge R) (known : Scope) → TellsTheFirst judge known
 tells_the_first judge known rs i r = (
-  λ h. some_from judge (reception_with judge known rs).scope [] (counted rs) i r refl h,
-  λ h. told judge (reception_with judge known rs).scope (counted rs) i r h,
+  λ h. some_from judge (reception_with judge known rs).scope [] (counted known.identity rs) i r refl h,
+  λ h. told judge (reception_with judge known rs).scope (counted known.identity rs) i r h,
 )

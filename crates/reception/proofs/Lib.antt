@@ -8,3 +8,4 @@ pub mod Different
 pub mod Full
 pub mod First
 pub mod Order
+pub mod PutBack

@@ -2,6 +2,7 @@
 use Rattle.std.specs.Prelude.{◌≡◌, ◌<◌, ◌⊎◌, ℕ, List, [], ◌∷◌, Option, Some, None, refl}
 use Rattle.std.proofs.Common.{◌∙◌, sym, ap, subst, arith, inl, inr}
 use Rattle.partition.specs.Fti.{Fti}
+use Rattle.reception.specs.declared.scope.Identity.{Identity}
 use Rattle.reception.specs.Symbols.{Symbol, IsFirstShort, IsFirstUnsolvable, FitsOnly}
 use Rattle.alc.specs.Reading.{Reading}
 use Rattle.alc.proofs.Again.{one_reading}
@@ -104,8 +105,8 @@ same_readings (d ∷ ds) (r ∷ rs) (s ∷ ss) h g =
     let b = same_readings ds rs ss h.1 g.1 in
     (cc)
 
--- no list of datagrams has two answers
-pub one_answer : (ds : List (List ℕ)) (a b : Answer) → IsAnswer ds a → IsAnswer ds b → a ≡ b
-one_answer ds a b h k =
+-- no list of datagrams has two answers to one who asks for an identity's packets
+pub one_answer : (who : Identity) (ds : List (List ℕ)) (a b : Answer) → IsAnswer who ds a → IsAnswer who ds b → a ≡ b
+one_answer who ds a b h k =
     let e = same_readings ds h.readings k.readings h.read k.read in
-    one_answer_to (reception_of k.readings) a b (subst (λ (rs : List Reading). AnswerTo (reception_of rs) a) e h.answers) k.answers
+    one_answer_to (reception_of who k.readings) a b (subst (λ (rs : List Reading). AnswerTo (reception_of who rs) a) e h.answers) k.answers

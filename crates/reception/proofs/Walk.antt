@@ -1,25 +1,37 @@
 -- The walk over a list of readings, one more at its end.
-use Rattle.std.specs.Prelude.{◌≡◌, ℕ, ◌+◌, List, [], ◌∷◌, ◌++◌, length, Option, Some, None, refl}
+use Rattle.std.specs.Prelude.{◌≡◌, ℕ, ◌+◌, true, false, cond, List, [], ◌∷◌, ◌++◌, length, Option, Some, None, refl}
+use Rattle.std.specs.List.{AllByRecursion}
 use Rattle.std.proofs.Common.{◌∙◌, sym, ap, arith}
 use Rattle.std.proofs.lemmas.List.{append_assoc, append-nil}
 use Rattle.alc.specs.Reading.{Reading}
 use Rattle.reception.specs.declared.scope.Scope.{Scope}
+use Rattle.reception.specs.declared.scope.Identity.{Identity}
 use Rattle.reception.specs.Symbols.{Symbol}
-use Rattle.reception.specs.Reception.{Judge, Found, Placed, placed_at, counted_from, counted, symbols, symbols_in, learned, scope_from, or_else, at_place, reading_wrong, wrong_after}
+use Rattle.reception.specs.Reception.{Judge, Found, Placed, counts, placed_at, counted_from, counted, symbols, symbols_in, learned, scope_from, or_else, at_place, reading_wrong, wrong_after}
 
-pub counted_more : (i : ℕ) (rs ss : List Reading) → counted_from i (rs ++ ss) ≡ counted_from i rs ++ counted_from (i + length rs) ss
-counted_more i [] ss = let e : i + 0 ≡ i = omega arith in ap (λ (n : ℕ). counted_from n ss) (sym e)
-counted_more i (r ∷ rs) ss =
+pub counted_more : (who : Identity) (i : ℕ) (rs ss : List Reading) → counted_from who i (rs ++ ss) ≡ counted_from who i rs ++ counted_from who (i + length rs) ss
+counted_more who i [] ss = let e : i + 0 ≡ i = omega arith in ap (λ (n : ℕ). counted_from who n ss) (sym e)
+counted_more who i (r ∷ rs) ss =
     let n : (i + 1) + length rs ≡ i + length (r ∷ rs) = omega arith in
-    ap (λ (xs : List Placed). placed_at i r ++ xs)
-    (counted_more (i + 1) rs ss ∙ ap (λ (k : ℕ). counted_from (i + 1) rs ++ counted_from k ss) n)
-    ∙ sym (append_assoc (placed_at i r) (counted_from (i + 1) rs) (counted_from (i + length (r ∷ rs)) ss))
+    ap (λ (xs : List Placed). placed_at who i r ++ xs)
+    (counted_more who (i + 1) rs ss ∙ ap (λ (k : ℕ). counted_from who (i + 1) rs ++ counted_from who k ss) n)
+    ∙ sym (append_assoc (placed_at who i r) (counted_from who (i + 1) rs) (counted_from who (i + length (r ∷ rs)) ss))
 
-pub counted_one_more : (rs : List Reading) (r : Reading) → counted (rs ++ r ∷ []) ≡ counted rs ++ placed_at (length rs) r
-counted_one_more rs r =
+pub counted_one_more : (who : Identity) (rs : List Reading) (r : Reading) → counted who (rs ++ r ∷ []) ≡ counted who rs ++ placed_at who (length rs) r
+counted_one_more who rs r =
     let n : 0 + length rs ≡ length rs = omega arith in
-    counted_more 0 rs (r ∷ []) ∙ ap (λ (k : ℕ). counted rs ++ counted_from k (r ∷ [])) n
-    ∙ ap (λ (xs : List Placed). counted rs ++ xs) (append-nil (placed_at (length rs) r))
+    counted_more who 0 rs (r ∷ []) ∙ ap (λ (k : ℕ). counted who rs ++ counted_from who k (r ∷ [])) n
+    ∙ ap (λ (xs : List Placed). counted who rs ++ xs) (append-nil (placed_at who (length rs) r))
+
+-- all that is counted counts
+pub each_counts : (who : Identity) (i : ℕ) (rs : List Reading) → AllByRecursion (λ x. counts who x.reading ≡ true) (counted_from who i rs)
+each_counts who i [] = tt
+each_counts who i (r ∷ rs) =
+    let later = each_counts who (i + 1) rs in
+    elim (counts who r) as (λ v. counts who r ≡ v → AllByRecursion (λ x. counts who x.reading ≡ true) (cond v (record { place = i; reading = r } ∷ []) [] ++ counted_from who (i + 1) rs)) [
+      | true ↦ λ e. (e, later)
+      | false ↦ λ e. later
+    ] refl
 
 pub symbols_more : (xs ys : List Placed) → symbols (xs ++ ys) ≡ symbols xs ++ symbols ys
 symbols_more [] ys = refl
@@ -30,6 +42,11 @@ symbols_more (x ∷ xs) ys =
 pub scope_more : (known : Scope) (xs ys : List Placed) → scope_from known (xs ++ ys) ≡ scope_from (scope_from known xs) ys
 scope_more known [] ys = refl
 scope_more known (x ∷ xs) ys = scope_more (learned known x.reading) xs ys
+
+-- the identity that is asked for stays
+pub identity_stays : (known : Scope) (xs : List Placed) → (scope_from known xs).identity ≡ known.identity
+identity_stays known [] = refl
+identity_stays known (x ∷ xs) = identity_stays (learned known x.reading) xs
 
 or_else_assoc : {X : Type 0} (a b c : Option X) → or_else (or_else a b) c ≡ or_else a (or_else b c)
 or_else_assoc None b c = refl

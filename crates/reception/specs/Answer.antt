@@ -4,8 +4,9 @@ use Rattle.std.specs.List.{list_any}
 use Rattle.partition.specs.Fti.{Fti, source_count}
 use Rattle.alc.specs.PacketFault.{same}
 use Rattle.alc.specs.Reading.{Reading}
+use Rattle.reception.specs.declared.scope.Identity.{Identity}
 use Rattle.reception.specs.Symbols.{Symbol, arrived_count, AllFull, FullSolvable, FitsOnly, IsFirstShort, IsFirstUnsolvable}
-use Rattle.reception.specs.Reception.{ReadAll, Judge, Wrong, Reception, reception_with, unknown, IsClean}
+use Rattle.reception.specs.Reception.{ReadAll, Judge, Wrong, Reception, reception_with, asked, IsClean}
 
 -- what a decoder says against a symbol in range
 pub data Clash : Type 0 where
@@ -25,9 +26,9 @@ pub data Answer : Type 0 where
   Missing : ℕ → ℕ → ℕ → Answer
   Object : List ℕ → Answer
 
--- what came, to a decoder, who knows nothing before
-abbrev pub reception_of : List Reading → Reception Clash
-reception_of rs = reception_with clash unknown rs
+-- what came, to a decoder who asks for this identity's packets
+abbrev pub reception_of : Identity → List Reading → Reception Clash
+reception_of who rs = reception_with clash (asked who) rs
 
 -- The answer, by cases in this order: the first that is wrong at a place; nothing came; a full block that no object
 -- explains; a short block; the object.
@@ -41,13 +42,13 @@ AnswerTo reception (Missing b have need) =
 AnswerTo reception (Object object) =
     (f : Fti) × IsClean reception f × FullSolvable f reception.symbols × AllFull f reception.symbols × FitsOnly f reception.symbols object
 
--- the answer to these datagrams
-pub record IsAnswer (datagrams : List (List ℕ)) (answer : Answer) : Type 0 where
+-- the answer to these datagrams, where this identity's packets are asked for
+pub record IsAnswer (who : Identity) (datagrams : List (List ℕ)) (answer : Answer) : Type 0 where
   pub readings : List Reading
   pub read : ReadAll datagrams readings
-  pub answers : AnswerTo (reception_of readings) answer
+  pub answers : AnswerTo (reception_of who readings) answer
 
 -- it is the answer, and there is no other
-pub record IsOnlyAnswer (datagrams : List (List ℕ)) (answer : Answer) : Type 0 where
-  pub is : IsAnswer datagrams answer
-  pub only : (other : Answer) → IsAnswer datagrams other → other ≡ answer
+pub record IsOnlyAnswer (who : Identity) (datagrams : List (List ℕ)) (answer : Answer) : Type 0 where
+  pub is : IsAnswer who datagrams answer
+  pub only : (other : Answer) → IsAnswer who datagrams other → other ≡ answer

@@ -18,4 +18,4 @@ pub record IsFirstAt {R : Type 0} (judge : Judge R) (scope : Scope) (xs : List P
 abbrev pub TellsTheFirst : {R : Type 0} → Judge R → Scope → Type 0
 TellsTheFirst {R} judge known =
     (rs : List Reading) (i : ℕ) (r : Wrong R)
-    → ((reception_with judge known rs).wrong ≡ Some (i, r)) ↔ IsFirstAt judge (reception_with judge known rs).scope (counted rs) i r
+    → ((reception_with judge known rs).wrong ≡ Some (i, r)) ↔ IsFirstAt judge (reception_with judge known rs).scope (counted known.identity rs) i r

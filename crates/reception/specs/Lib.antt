@@ -2,6 +2,7 @@ pub mod Symbols
 pub mod Reception
 pub mod Answer
 pub mod Headline
+pub mod Isolation
 pub mod Step
 pub mod First
 pub mod Order

@@ -1,5 +1,5 @@
--- What a list of datagrams says: which of them count, whose packets and whose FTI hold, which symbols came, and what is
--- wrong at a place. All that stands above sees the datagrams through this file alone.
+-- What a list of datagrams says to one who asks for an identity's packets: which of them count, whose FTI holds, which
+-- symbols came, and what is wrong at a place. All that stands above sees the datagrams through this file alone.
 use Rattle.std.specs.Prelude.{◌≡◌, ℕ, ◌+◌, Bool, true, ◌&&◌, ◌==◌, not, cond, if◌then◌else◌, List, [], ◌∷◌, ◌++◌, Option, Some, None, Result, Ok, Err}
 use Rattle.partition.specs.Fti.{Fti, has_symbol}
 use Rattle.alc.specs.Packet.{Packet}
@@ -7,7 +7,7 @@ use Rattle.alc.specs.Reading.{Reading, Reads}
 use Rattle.reception.specs.declared.scope.Identity.{Identity}
 use Rattle.reception.specs.declared.scope.Scope.{Scope}
 use Rattle.reception.specs.declared.scope.PlaceFault.{PlaceFault}
-use Rattle.reception.specs.declared.scope.PlaceFault.TheVariants.{NoPacket, OtherIdentity, OtherFti, Range}
+use Rattle.reception.specs.declared.scope.PlaceFault.TheVariants.{NoPacket, OtherFti, Range}
 use Rattle.reception.specs.Symbols.{Symbol, AllFull}
 
 -- each datagram is read
@@ -19,32 +19,32 @@ ReadAll (d ∷ ds) [] = ⊥
 
 -- ---- which readings count
 
--- every one
-abbrev pub counts : Reading → Bool
-counts r = true
+-- whether a packet is of this identity
+abbrev pub is_of_identity : Identity → Packet → Bool
+is_of_identity who p = p.tsi == who.tsi && p.toi == who.toi
 
--- a reading and its place in the list
+-- the identity's packets count, and what is no packet
+abbrev pub counts : Identity → Reading → Bool
+counts who (Ok p) = is_of_identity who p
+counts who (Err r) = true
+
+-- a reading and its place in the whole list
 pub record Placed : Type 0 where
   pub place : ℕ
   pub reading : Reading
 
-abbrev pub placed_at : ℕ → Reading → List Placed
-placed_at i r = cond (counts r) (record { place = i; reading = r } ∷ []) []
+abbrev pub placed_at : Identity → ℕ → Reading → List Placed
+placed_at who i r = cond (counts who r) (record { place = i; reading = r } ∷ []) []
 
-abbrev pub counted_from : ℕ → List Reading → List Placed
-counted_from i [] = []
-counted_from i (r ∷ rs) = placed_at i r ++ counted_from (i + 1) rs
+abbrev pub counted_from : Identity → ℕ → List Reading → List Placed
+counted_from who i [] = []
+counted_from who i (r ∷ rs) = placed_at who i r ++ counted_from who (i + 1) rs
 
--- the readings that count, with their places
-abbrev pub counted : List Reading → List Placed
-counted rs = counted_from 0 rs
+-- the readings that count, with their places in the whole list
+abbrev pub counted : Identity → List Reading → List Placed
+counted who rs = counted_from who 0 rs
 
--- ---- whose packets and whose FTI hold
-
--- whose packet a reading is
-abbrev pub identity_in : Reading → Option Identity
-identity_in (Ok p) = Some (record { tsi = p.tsi; toi = p.toi })
-identity_in (Err r) = None
+-- ---- whose FTI holds
 
 -- the FTI that a reading carries
 abbrev pub carried : Reading → Option Fti
@@ -55,22 +55,22 @@ abbrev pub or_later : {X : Type 0} → Option X → Option X → Option X
 or_later (Some x) later = Some x
 or_later None later = later
 
--- what isn't known yet is taken from the reading
+-- what isn't known yet is taken from a reading that counts
 abbrev pub learned : Scope → Reading → Scope
-learned known r = record { identity = or_later known.identity (identity_in r); fti = or_later known.fti (carried r) }
+learned known r = record { identity = known.identity; fti = or_later known.fti (carried r) }
 
--- what holds: what is known before, else the first packet's identity and the first FTI
+-- what holds: the FTI that is known before, else the first packet's
 abbrev pub scope_from : Scope → List Placed → Scope
 scope_from known [] = known
 scope_from known (x ∷ xs) = scope_from (learned known x.reading) xs
 
--- nothing is known before
-abbrev pub unknown : Scope
-unknown = record { identity = None; fti = None }
+-- this identity's packets are asked for, and nothing is known before
+abbrev pub asked : Identity → Scope
+asked who = record { identity = who; fti = None }
 
 -- the FTI is known before
-abbrev pub with_fti : Fti → Scope
-with_fti f = record { identity = None; fti = Some f }
+abbrev pub with_fti : Identity → Fti → Scope
+with_fti who f = record { identity = who; fti = Some f }
 
 -- ---- symbols
 
@@ -87,13 +87,10 @@ symbols [] = []
 symbols (x ∷ xs) = symbols_in x.reading ++ symbols xs
 
 -- what a decoder needs
-abbrev pub Suffices : Fti → List Reading → Type 0
-Suffices f rs = AllFull f (symbols (counted rs))
+abbrev pub Suffices : Identity → Fti → List Reading → Type 0
+Suffices who f rs = AllFull f (symbols (counted who rs))
 
 -- ---- one look at a reading
-
-abbrev pub is_of_identity : Identity → Packet → Bool
-is_of_identity who p = p.tsi == who.tsi && p.toi == who.toi
 
 abbrev pub same_fti : Fti → Fti → Bool
 same_fti a b = a.transfer_length == b.transfer_length && a.symbol_length == b.symbol_length
@@ -104,10 +101,9 @@ abbrev pub in_range : Packet → Fti → Bool
 in_range p f = has_symbol f p.block p.esi
 
 -- the first fault of a packet before its symbol is looked at
-abbrev pub packet_fault : Identity → Fti → Packet → Option PlaceFault
-packet_fault who f p =
-    if not (is_of_identity who p) then Some OtherIdentity
-    else if not (same_fti p.fti f) then Some OtherFti
+abbrev pub packet_fault : Fti → Packet → Option PlaceFault
+packet_fault f p =
+    if not (same_fti p.fti f) then Some OtherFti
     else if not (in_range p f) then Some Range
     else None
 
@@ -116,15 +112,14 @@ or_packet p (Some e) = Err e
 or_packet p None = Ok (Some p)
 
 -- a packet that can't be compared is passed over
-abbrev pub look_by : Option Identity → Option Fti → Packet → Result (Option Packet) PlaceFault
-look_by (Some who) (Some f) p = or_packet p (packet_fault who f p)
-look_by (Some who) None p = Ok None
-look_by None f p = Ok None
+abbrev pub look_by : Option Fti → Packet → Result (Option Packet) PlaceFault
+look_by (Some f) p = or_packet p (packet_fault f p)
+look_by None p = Ok None
 
--- what is asked of a reading before its symbol: its first fault, or a packet in range, or nothing
+-- what is asked of a reading before its symbol: its first fault, or a packet of the identity in range, or nothing
 abbrev pub look : Scope → Reading → Result (Option Packet) PlaceFault
 look scope (Err r) = Err (NoPacket r)
-look scope (Ok p) = look_by scope.identity scope.fti p
+look scope (Ok p) = if is_of_identity scope.identity p then look_by scope.fti p else Ok None
 
 -- ---- what is wrong at a place
 
@@ -181,9 +176,9 @@ pub record Reception (R : Type 0) : Type 0 where
 
 abbrev pub reception_with : {R : Type 0} → Judge R → Scope → List Reading → Reception R
 reception_with judge known rs = record {
-  wrong = first_wrong judge (scope_from known (counted rs)) (counted rs);
-  scope = scope_from known (counted rs);
-  symbols = symbols (counted rs);
+  wrong = first_wrong judge (scope_from known (counted known.identity rs)) (counted known.identity rs);
+  scope = scope_from known (counted known.identity rs);
+  symbols = symbols (counted known.identity rs);
 }
 
 -- nothing wrong at any place, and this FTI

@@ -1,16 +1,25 @@
 //! Laws of the definitions, for callers to cite. They do nothing.
-ghost use Rattle.reception.specs.Reception.{unknown};
+ghost use Rattle.reception.specs.Reception.{asked};
+ghost use Rattle.reception.specs.declared.scope.Identity.{Identity};
 ghost use Rattle.reception.specs.Answer.{clash};
 ghost use Rattle.reception.specs.First.{TellsTheFirst};
 ghost use Rattle.reception.specs.Order.{TellsInOrder};
+ghost use Rattle.reception.specs.Isolation.{IsIsolated};
+ghost use Rattle.std.specs.Prelude.{ℕ, List};
 
 /// A decoder's fault is the one at the least place that has one, and there the first in the order of the definition.
 pub fn first_fault()
-    ensures { TellsTheFirst clash unknown }
+    ensures { (who : Identity) → TellsTheFirst clash (asked who) }
 {}
 
-/// At one place a decoder's faults come in this order: no packet, another identity, another FTI, out of range, a clash. Each
+/// At one place a decoder's faults come in this order: no packet, another FTI, out of range, a clash. Each
 /// is told exactly where it holds and none before it does.
 pub fn fault_order()
     ensures { TellsInOrder clash }
+{}
+
+/// A receiver of one object isn't disturbed by packets of others: the answer to the packets of an identity, in a list of
+/// packets, is the answer to the list, with the places that they have there.
+pub fn isolation()
+    ensures { (who : Identity) (datagrams : List (List ℕ)) → IsIsolated who datagrams }
 {}

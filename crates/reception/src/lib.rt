@@ -1,14 +1,15 @@
 //! What a list of datagrams says to one who receives them.
 //!
-//! `specs/Symbols` speaks of encoding symbols that came, and of no packets. `specs/Reception` says which datagrams count,
-//! whose identity and FTI hold, and what is wrong at a place; `specs/Answer` what a decoder answers, `specs/Headline` what a
-//! check's yes promises of every selection. The code is one step: [`Scope::look`] at one datagram. A check and a decoder are
-//! loops over it, each with its own question about the symbol; `proofs/Walking` has the laws of such a loop. Two laws say of
-//! these definitions which fault is told: `specs/First` at which place, `specs/Order` which one of those at that place.
+//! `specs/Symbols` speaks of encoding symbols that came, and of no packets. `specs/Reception` says which datagrams count
+//! where an identity is asked for, whose FTI holds, and what is wrong at a place; `specs/Answer` what a decoder answers,
+//! `specs/Headline` what a check's yes promises of every selection. The code is one step: [`Scope::look`] at one datagram. A
+//! check and a decoder are loops over it, each with its own question about the symbol; `proofs/Walking` has the laws of such
+//! a loop. Two laws say of these definitions which fault is told: `specs/First` at which place, `specs/Order` which one of
+//! those at that place; a third (`specs/Isolation`) that packets of other identities change nothing of an answer.
 #![tactic(auto)]
 
 mod laws;
 mod scope;
 
-pub use laws::{fault_order, first_fault};
+pub use laws::{fault_order, first_fault, isolation};
 pub use scope::{Identity, PlaceFault, Scope};

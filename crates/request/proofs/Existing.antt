@@ -21,8 +21,9 @@ use Rattle.clap.specs.declared.builder.value_parser.Reading.TheVariants.{AsWritt
 use Rattle.partition.specs.declared.order.Order.{Order}
 use Rattle.partition.specs.declared.order.Order.TheVariants.{Blocks, Rounds}
 use Rattle.request.specs.Grammar.{IsOrders, grammar_of}
-use Rattle.request.specs.Requests.{AreNumbers, Asked, HasNumber, HasOrder, HasPlaces, HasSessions, HasSizes, HasTurns, HasValues, IsNumber, IsRead, name_of}
+use Rattle.request.specs.Requests.{AreNumbers, Asked, HasIdentifiers, HasNumber, HasOrder, HasPlaces, HasSessions, HasSizes, HasTurns, HasValues, IsNumber, IsRead, name_of}
 use Rattle.request.specs.Requests.{CertifyAsked, CheckAsked, DecodeAsked, DropAsked, EncodeAsked, FollowAsked, JoinAsked, ShowAsked, TwinAsked}
+use Rattle.request.specs.declared.requests.Identifiers.{Identifiers}
 use Rattle.request.specs.declared.requests.Sizes.{Sizes}
 use Rattle.request.specs.declared.requests.Sending.{Sending}
 use Rattle.request.proofs.Walks.{Each, found_each, both_none, checks_pass, HasValue, IsOwn, IsPassed, flag_value, option_value, given_row, right_level, text_value}
@@ -141,14 +142,16 @@ fine_encode orders are words none =
     let output = text_value s words _ (codes "OUT") right refl refl refl in
     let tsi = has_number _ 0 4294967295 32 (codes "tsi") (rows_after s.rules [] words) refl (omega arith) (text_value s words _ (codes "tsi") right refl refl refl) in
     let toi = has_number _ 0 4294967295 32 (codes "toi") (rows_after s.rules [] words) refl (omega arith) (text_value s words _ (codes "toi") right refl refl refl) in
+    let identifiers : Identifiers = record { tsi = tsi.0; toi = toi.0 } in
+    let whose : HasIdentifiers (rows_after s.rules [] words) identifiers = record { tsi = tsi.1; toi = toi.1 } in
     let symbol = has_number _ 1 65475 16 (codes "symbol") (rows_after s.rules [] words) refl (omega arith) (text_value s words _ (codes "symbol") right refl refl refl) in
     let block = has_number _ 1 255 8 (codes "block") (rows_after s.rules [] words) refl (omega arith) (text_value s words _ (codes "block") right refl refl refl) in
     let max_n = has_number _ 1 255 8 (codes "max") (rows_after s.rules [] words) refl (omega arith) (text_value s words _ (codes "max") right refl refl refl) in
     let sizes : Sizes = record { symbol = symbol.0; block = block.0; max_n = max_n.0 } in
     let has : HasSizes (rows_after s.rules [] words) sizes = record { symbol = symbol.1; block = block.1; max_n = max_n.1; some_symbol = symbol.2; sendable = symbol.3; some_block = block.2; some_max = max_n.2 } in
     let order = has_order _ orders (rows_after s.rules [] words) refl refl are (option_value s words _ (codes "order") _ _ right refl refl refl) in
-    let sending : Sending = record { tsi = tsi.0; toi = toi.0; sizes = sizes; order = order.0 } in
-    (EncodeAsked object.value output.value sending, refl, (object.first, output.first, record { tsi = tsi.1; toi = toi.1; sizes = has; order = order.1 }))
+    let sending : Sending = record { identifiers = identifiers; sizes = sizes; order = order.0 } in
+    (EncodeAsked object.value output.value sending, refl, (object.first, output.first, record { identifiers = whose; sizes = has; order = order.1 }))
 
 fine_certify : (orders : Bor (List (Bor Text))) → IsOrders orders → IsFine (shape_at 1 orders)
 unfolding clap_on_literals
@@ -169,12 +172,16 @@ fine_check : (orders : Bor (List (Bor Text))) → IsOrders orders → IsFine (sh
 unfolding clap_on_literals
 fine_check orders are words none =
     let s = shape_at 2 orders in
-    let each : Each (IsOwn s.rules) s.rules = (record { first = refl; action = inl refl }, (record { first = refl; action = inl refl }, (record { first = refl; action = inl refl }, (record { first = refl; action = inr (inr (inl refl)) }, tt)))) in
+    let each : Each (IsOwn s.rules) s.rules = (record { first = refl; action = inl refl }, (record { first = refl; action = inl refl }, (record { first = refl; action = inl refl }, (record { first = refl; action = inl refl }, (record { first = refl; action = inl refl }, (record { first = refl; action = inr (inr (inl refl)) }, tt)))))) in
     let right = right_level s words each none in
     let session = text_value s words _ (codes "SESSION") right refl refl refl in
     let object = text_value s words _ (codes "OBJECT") right refl refl refl in
     let certificate = text_value s words _ (codes "CERT") right refl refl refl in
-    (CheckAsked session.value object.value certificate.value, refl, (session.first, object.first, certificate.first))
+    let tsi = has_number _ 0 4294967295 32 (codes "tsi") (rows_after s.rules [] words) refl (omega arith) (text_value s words _ (codes "tsi") right refl refl refl) in
+    let toi = has_number _ 0 4294967295 32 (codes "toi") (rows_after s.rules [] words) refl (omega arith) (text_value s words _ (codes "toi") right refl refl refl) in
+    let identifiers : Identifiers = record { tsi = tsi.0; toi = toi.0 } in
+    let whose : HasIdentifiers (rows_after s.rules [] words) identifiers = record { tsi = tsi.1; toi = toi.1 } in
+    (CheckAsked session.value object.value certificate.value identifiers, refl, (session.first, object.first, certificate.first, whose))
 
 fine_drop : (orders : Bor (List (Bor Text))) → IsOrders orders → IsFine (shape_at 3 orders)
 unfolding clap_on_literals
@@ -204,33 +211,45 @@ fine_decode : (orders : Bor (List (Bor Text))) → IsOrders orders → IsFine (s
 unfolding clap_on_literals
 fine_decode orders are words none =
     let s = shape_at 5 orders in
-    let each : Each (IsOwn s.rules) s.rules = (record { first = refl; action = inl refl }, (record { first = refl; action = inl refl }, (record { first = refl; action = inr (inr (inl refl)) }, tt))) in
+    let each : Each (IsOwn s.rules) s.rules = (record { first = refl; action = inl refl }, (record { first = refl; action = inl refl }, (record { first = refl; action = inl refl }, (record { first = refl; action = inl refl }, (record { first = refl; action = inr (inr (inl refl)) }, tt))))) in
     let right = right_level s words each none in
     let session = text_value s words _ (codes "SESSION") right refl refl refl in
     let output = text_value s words _ (codes "OUT") right refl refl refl in
-    (DecodeAsked session.value output.value, refl, (session.first, output.first))
+    let tsi = has_number _ 0 4294967295 32 (codes "tsi") (rows_after s.rules [] words) refl (omega arith) (text_value s words _ (codes "tsi") right refl refl refl) in
+    let toi = has_number _ 0 4294967295 32 (codes "toi") (rows_after s.rules [] words) refl (omega arith) (text_value s words _ (codes "toi") right refl refl refl) in
+    let identifiers : Identifiers = record { tsi = tsi.0; toi = toi.0 } in
+    let whose : HasIdentifiers (rows_after s.rules [] words) identifiers = record { tsi = tsi.1; toi = toi.1 } in
+    (DecodeAsked session.value output.value identifiers, refl, (session.first, output.first, whose))
 
 fine_follow : (orders : Bor (List (Bor Text))) → IsOrders orders → IsFine (shape_at 6 orders)
 unfolding clap_on_literals
 fine_follow orders are words none =
     let s = shape_at 6 orders in
-    let each : Each (IsOwn s.rules) s.rules = (record { first = refl; action = inl refl }, (record { first = refl; action = inl refl }, (record { first = refl; action = inr (inr (inl refl)) }, tt))) in
+    let each : Each (IsOwn s.rules) s.rules = (record { first = refl; action = inl refl }, (record { first = refl; action = inl refl }, (record { first = refl; action = inl refl }, (record { first = refl; action = inl refl }, (record { first = refl; action = inr (inr (inl refl)) }, tt))))) in
     let right = right_level s words each none in
     let session = text_value s words _ (codes "SESSION") right refl refl refl in
     let output = text_value s words _ (codes "OUT") right refl refl refl in
-    (FollowAsked session.value output.value, refl, (session.first, output.first))
+    let tsi = has_number _ 0 4294967295 32 (codes "tsi") (rows_after s.rules [] words) refl (omega arith) (text_value s words _ (codes "tsi") right refl refl refl) in
+    let toi = has_number _ 0 4294967295 32 (codes "toi") (rows_after s.rules [] words) refl (omega arith) (text_value s words _ (codes "toi") right refl refl refl) in
+    let identifiers : Identifiers = record { tsi = tsi.0; toi = toi.0 } in
+    let whose : HasIdentifiers (rows_after s.rules [] words) identifiers = record { tsi = tsi.1; toi = toi.1 } in
+    (FollowAsked session.value output.value identifiers, refl, (session.first, output.first, whose))
 
 fine_twin : (orders : Bor (List (Bor Text))) → IsOrders orders → IsFine (shape_at 7 orders)
 unfolding clap_on_literals
 fine_twin orders are words none =
     let s = shape_at 7 orders in
-    let each : Each (IsOwn s.rules) s.rules = (record { first = refl; action = inl refl }, (record { first = refl; action = inl refl }, (record { first = refl; action = inl refl }, (record { first = refl; action = inl refl }, (record { first = refl; action = inr (inr (inl refl)) }, tt))))) in
+    let each : Each (IsOwn s.rules) s.rules = (record { first = refl; action = inl refl }, (record { first = refl; action = inl refl }, (record { first = refl; action = inl refl }, (record { first = refl; action = inl refl }, (record { first = refl; action = inl refl }, (record { first = refl; action = inl refl }, (record { first = refl; action = inr (inr (inl refl)) }, tt))))))) in
     let right = right_level s words each none in
     let session = text_value s words _ (codes "SESSION") right refl refl refl in
     let object = text_value s words _ (codes "OBJECT") right refl refl refl in
     let certificate = text_value s words _ (codes "CERT") right refl refl refl in
     let output = text_value s words _ (codes "OUT") right refl refl refl in
-    (TwinAsked session.value object.value certificate.value output.value, refl, (session.first, object.first, certificate.first, output.first))
+    let tsi = has_number _ 0 4294967295 32 (codes "tsi") (rows_after s.rules [] words) refl (omega arith) (text_value s words _ (codes "tsi") right refl refl refl) in
+    let toi = has_number _ 0 4294967295 32 (codes "toi") (rows_after s.rules [] words) refl (omega arith) (text_value s words _ (codes "toi") right refl refl refl) in
+    let identifiers : Identifiers = record { tsi = tsi.0; toi = toi.0 } in
+    let whose : HasIdentifiers (rows_after s.rules [] words) identifiers = record { tsi = tsi.1; toi = toi.1 } in
+    (TwinAsked session.value object.value certificate.value output.value identifiers, refl, (session.first, object.first, certificate.first, output.first, whose))
 
 fine_show : (orders : Bor (List (Bor Text))) → IsOrders orders → IsFine (shape_at 8 orders)
 unfolding clap_on_literals

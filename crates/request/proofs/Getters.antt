@@ -1,5 +1,5 @@
 -- What the getters of matches give, by rows.
-use Rattle.std.proofs.Common.{Bool, List, ◌≡◌, ◌∙◌, ◌<◌, ◌⊎◌, inl, inr, length, map, arith, Option, Some, None, Result, Ok, Err, IfOk, IfErr, IsErrAnd, option_map, codes, true, false, ap, refl, sym, subst}
+use Rattle.std.proofs.Common.{Bool, List, ◌≡◌, ◌∙◌, ◌<◌, ◌⊎◌, ◌||◌, inl, inr, length, map, arith, Option, Some, None, Result, Ok, Err, IfOk, IfErr, IsErrAnd, option_map, codes, true, false, ap, refl, sym, subst}
 use Rattle.std.specs.Borrow.{Bor}
 use Rattle.std.specs.Option.{ok_or, unwrap_or}
 use Rattle.std.specs.Str.{bytes_eq}
@@ -10,7 +10,7 @@ use Rattle.clap.specs.Matches.{ReadsOne, raw_values, values_left}
 use Rattle.clap.specs.declared.parser.matches.ValuesRef.{ValuesRef}
 use Rattle.clap.specs.declared.parser.matches.Found.{Found}
 use Rattle.clap.proofs.WalkLemmas.{first_value-rows, one_text-rows, raw_values-rows, typed_values-rows}
-use Rattle.request.specs.Requests.{Asked, EncodeAsked, CertifyAsked, CheckAsked, DropAsked, JoinAsked, DecodeAsked, FollowAsked, TwinAsked, ShowAsked, HasOrder, HasPlaces, HasSending, HasSessions, HasSizes, HasText, HasTurns, HasValues, IsRead, flag_word, name_of, order_name}
+use Rattle.request.specs.Requests.{Asked, EncodeAsked, CertifyAsked, CheckAsked, DropAsked, JoinAsked, DecodeAsked, FollowAsked, TwinAsked, ShowAsked, HasIdentifiers, HasOrder, HasPlaces, HasSending, HasSessions, HasSizes, HasText, HasTurns, HasValues, IsRead, flag_word, name_of, order_name}
 use Rattle.request.specs.RequestReading.{AnswersRead, Gives, GivesNone, IsNoPlaces, IsNoSessions, NoneIs}
 use Rattle.request.specs.declared.requests.Request.{Request}
 use Rattle.request.specs.declared.usage.Usage.{Usage}
@@ -65,6 +65,10 @@ no_turns rows none turns has = let bad : None ≡ Some (flag_word turns) = sym n
 pub no_sending : (rows : List Row) → NoneIs (HasSizes rows) → NoneIs (HasSending rows)
 no_sending rows none sending has = none sending.sizes has.sizes
 
+-- and with no identifiers
+pub no_one_to_send : (rows : List Row) → NoneIs (HasIdentifiers rows) → NoneIs (HasSending rows)
+no_one_to_send rows none sending has = none sending.identifiers has.identifiers
+
 -- ---- what was read is no request, where a value of it is none
 
 pub different : (a b : Text) → bytes_eq a b ≡ false → a ≡ b → ⊥
@@ -82,12 +86,12 @@ no_encode rows none request read = go request (same_command (codes "encode") row
     go : (request : Asked) → codes "encode" ≡ name_of request → HasValues rows request → ⊥
     go (EncodeAsked object output sending) same values = none sending values.2
     go (CertifyAsked object output sizes) same values = different (codes "encode") (codes "certify") refl same
-    go (CheckAsked session object certificate) same values = different (codes "encode") (codes "check") refl same
+    go (CheckAsked session object certificate identifiers) same values = different (codes "encode") (codes "check") refl same
     go (DropAsked session output places) same values = different (codes "encode") (codes "drop") refl same
     go (JoinAsked output sessions turns) same values = different (codes "encode") (codes "join") refl same
-    go (DecodeAsked session output) same values = different (codes "encode") (codes "decode") refl same
-    go (FollowAsked session output) same values = different (codes "encode") (codes "follow") refl same
-    go (TwinAsked session object certificate output) same values = different (codes "encode") (codes "twin") refl same
+    go (DecodeAsked session output identifiers) same values = different (codes "encode") (codes "decode") refl same
+    go (FollowAsked session output identifiers) same values = different (codes "encode") (codes "follow") refl same
+    go (TwinAsked session object certificate output identifiers) same values = different (codes "encode") (codes "twin") refl same
     go (ShowAsked session) same values = different (codes "encode") (codes "show") refl same
 
 pub no_certify : (rows : List Row) → NoneIs (HasSizes rows) → NoneIs (IsRead (Some (codes "certify", rows)))
@@ -96,12 +100,12 @@ no_certify rows none request read = go request (same_command (codes "certify") r
     go : (request : Asked) → codes "certify" ≡ name_of request → HasValues rows request → ⊥
     go (EncodeAsked object output sending) same values = different (codes "certify") (codes "encode") refl same
     go (CertifyAsked object output sizes) same values = none sizes values.2
-    go (CheckAsked session object certificate) same values = different (codes "certify") (codes "check") refl same
+    go (CheckAsked session object certificate identifiers) same values = different (codes "certify") (codes "check") refl same
     go (DropAsked session output places) same values = different (codes "certify") (codes "drop") refl same
     go (JoinAsked output sessions turns) same values = different (codes "certify") (codes "join") refl same
-    go (DecodeAsked session output) same values = different (codes "certify") (codes "decode") refl same
-    go (FollowAsked session output) same values = different (codes "certify") (codes "follow") refl same
-    go (TwinAsked session object certificate output) same values = different (codes "certify") (codes "twin") refl same
+    go (DecodeAsked session output identifiers) same values = different (codes "certify") (codes "decode") refl same
+    go (FollowAsked session output identifiers) same values = different (codes "certify") (codes "follow") refl same
+    go (TwinAsked session object certificate output identifiers) same values = different (codes "certify") (codes "twin") refl same
     go (ShowAsked session) same values = different (codes "certify") (codes "show") refl same
 
 pub no_drop : (rows : List Row) → NoneIs (HasPlaces rows) → NoneIs (IsRead (Some (codes "drop", rows)))
@@ -110,12 +114,12 @@ no_drop rows none request read = go request (same_command (codes "drop") rows re
     go : (request : Asked) → codes "drop" ≡ name_of request → HasValues rows request → ⊥
     go (EncodeAsked object output sending) same values = different (codes "drop") (codes "encode") refl same
     go (CertifyAsked object output sizes) same values = different (codes "drop") (codes "certify") refl same
-    go (CheckAsked session object certificate) same values = different (codes "drop") (codes "check") refl same
+    go (CheckAsked session object certificate identifiers) same values = different (codes "drop") (codes "check") refl same
     go (DropAsked session output places) same values = none places values.2
     go (JoinAsked output sessions turns) same values = different (codes "drop") (codes "join") refl same
-    go (DecodeAsked session output) same values = different (codes "drop") (codes "decode") refl same
-    go (FollowAsked session output) same values = different (codes "drop") (codes "follow") refl same
-    go (TwinAsked session object certificate output) same values = different (codes "drop") (codes "twin") refl same
+    go (DecodeAsked session output identifiers) same values = different (codes "drop") (codes "decode") refl same
+    go (FollowAsked session output identifiers) same values = different (codes "drop") (codes "follow") refl same
+    go (TwinAsked session object certificate output identifiers) same values = different (codes "drop") (codes "twin") refl same
     go (ShowAsked session) same values = different (codes "drop") (codes "show") refl same
 
 module _ (rows : List Row) (none : (NoneIs (HasSessions rows)) ⊎ NoneIs (HasTurns rows)) where
@@ -131,13 +135,46 @@ module _ (rows : List Row) (none : (NoneIs (HasSessions rows)) ⊎ NoneIs (HasTu
       go : (request : Asked) → codes "join" ≡ name_of request → HasValues rows request → ⊥
       go (EncodeAsked object output sending) same values = different (codes "join") (codes "encode") refl same
       go (CertifyAsked object output sizes) same values = different (codes "join") (codes "certify") refl same
-      go (CheckAsked session object certificate) same values = different (codes "join") (codes "check") refl same
+      go (CheckAsked session object certificate identifiers) same values = different (codes "join") (codes "check") refl same
       go (DropAsked session output places) same values = different (codes "join") (codes "drop") refl same
       go (JoinAsked output sessions turns) same values = lacks sessions turns values.1 values.2
-      go (DecodeAsked session output) same values = different (codes "join") (codes "decode") refl same
-      go (FollowAsked session output) same values = different (codes "join") (codes "follow") refl same
-      go (TwinAsked session object certificate output) same values = different (codes "join") (codes "twin") refl same
+      go (DecodeAsked session output identifiers) same values = different (codes "join") (codes "decode") refl same
+      go (FollowAsked session output identifiers) same values = different (codes "join") (codes "follow") refl same
+      go (TwinAsked session object certificate output identifiers) same values = different (codes "join") (codes "twin") refl same
       go (ShowAsked session) same values = different (codes "join") (codes "show") refl same
+
+-- the commands that ask for an object's packets
+abbrev asks_packets : Text → Bool
+asks_packets name = bytes_eq name (codes "check") || bytes_eq name (codes "decode") || bytes_eq name (codes "follow") || bytes_eq name (codes "twin")
+
+module _ (rows : List Row) (none : NoneIs (HasIdentifiers rows)) where
+  no_packets : (name : Text) → asks_packets name ≡ true → NoneIs (IsRead (Some (name, rows)))
+  no_packets name asks request read =
+      let same = same_command name rows request read in
+      go request (subst (λ n. asks_packets n ≡ true) same.0 asks) same.1
+    where
+      go : (request : Asked) → asks_packets (name_of request) ≡ true → HasValues rows request → ⊥
+      go (EncodeAsked object output sending) asks values = let bad : false ≡ true = asks in cc
+      go (CertifyAsked object output sizes) asks values = let bad : false ≡ true = asks in cc
+      go (CheckAsked session object certificate identifiers) asks values = none identifiers values.3
+      go (DropAsked session output places) asks values = let bad : false ≡ true = asks in cc
+      go (JoinAsked output sessions turns) asks values = let bad : false ≡ true = asks in cc
+      go (DecodeAsked session output identifiers) asks values = none identifiers values.2
+      go (FollowAsked session output identifiers) asks values = none identifiers values.2
+      go (TwinAsked session object certificate output identifiers) asks values = none identifiers values.4
+      go (ShowAsked session) asks values = let bad : false ≡ true = asks in cc
+
+  pub no_check : NoneIs (IsRead (Some (codes "check", rows)))
+  no_check = no_packets (codes "check") refl
+
+  pub no_decode : NoneIs (IsRead (Some (codes "decode", rows)))
+  no_decode = no_packets (codes "decode") refl
+
+  pub no_follow : NoneIs (IsRead (Some (codes "follow", rows)))
+  no_follow = no_packets (codes "follow") refl
+
+  pub no_twin : NoneIs (IsRead (Some (codes "twin", rows)))
+  no_twin = no_packets (codes "twin") refl
 
 -- with no values of PLACE there are no places
 pub no_places : {N : Type 0} (f : Found) (given : Option (ValuesRef N)) → given ≡ None

@@ -13,16 +13,28 @@ grammar = grammar_of some_orders
 abbrev read : Text → List Text → Option (Text × Option Text)
 read name words = option_map (λ found. (found.0, one_of name found.1)) (subcommand_of grammar words)
 
-abbrev check : List Text
-check = codes "alcrs" ∷ codes "check" ∷ codes "a" ∷ codes "b" ∷ codes "c" ∷ []
+abbrev check : List Text → List Text
+check last = codes "alcrs" ∷ codes "check" ∷ codes "a" ∷ codes "b" ∷ codes "c" ∷ codes "--tsi" ∷ codes "7" ∷ last
 
-check_taken : fault_of grammar check ≡ []
+check_taken : fault_of grammar (check (codes "--toi=1" ∷ [])) ≡ []
 unfolding clap_on_literals
 check_taken = refl
 
-check_read : read (codes "CERT") check ≡ Some (codes "check", Some (codes "c"))
+check_read : read (codes "CERT") (check (codes "--toi=1" ∷ [])) ≡ Some (codes "check", Some (codes "c"))
 unfolding clap_on_literals
 check_read = refl
+
+check_toi : read (codes "toi") (check (codes "--toi=1" ∷ [])) ≡ Some (codes "check", Some (codes "1"))
+unfolding clap_on_literals
+check_toi = refl
+
+toi_missing : fault_of grammar (check []) ≡ kind.MissingRequiredArgument ∷ []
+unfolding clap_on_literals
+toi_missing = refl
+
+toi_too_great : fault_of grammar (check (codes "--toi=4294967296" ∷ [])) ≡ kind.ValueValidation ∷ []
+unfolding clap_on_literals
+toi_too_great = refl
 
 abbrev drop : List Text
 drop = codes "alcrs" ∷ codes "drop" ∷ codes "a" ∷ codes "b" ∷ codes "3" ∷ codes "0" ∷ []

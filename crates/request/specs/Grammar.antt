@@ -48,8 +48,9 @@ sessions = record (new_rule (codes "SESSION")) {
 abbrev pub turns : Rule
 turns = record (new_rule (codes "turns")) { long = Some (codes "turns"); action = Some SetTrue }
 
-abbrev pub identity : List Rule
-identity = number (codes "tsi") 0 4294967295 ∷ number (codes "toi") 0 4294967295 ∷ []
+-- whose packets
+abbrev pub identifiers : List Rule
+identifiers = number (codes "tsi") 0 4294967295 ∷ number (codes "toi") 0 4294967295 ∷ []
 
 -- the most bytes of an encoding symbol that can be sent
 abbrev pub most_symbol_bytes : ℕ
@@ -64,13 +65,14 @@ command name rules = record (new_shape name) { rules = rules }
 
 abbrev pub encode_command : Bor (List (Bor Text)) → Shape
 encode_command orders = command (codes "encode")
-    (file (codes "OBJECT") ∷ file (codes "OUT") ∷ identity ++ sizes ++ order orders ∷ [])
+    (file (codes "OBJECT") ∷ file (codes "OUT") ∷ identifiers ++ sizes ++ order orders ∷ [])
 
 abbrev pub certify_command : Shape
 certify_command = command (codes "certify") (file (codes "OBJECT") ∷ file (codes "OUT") ∷ sizes)
 
 abbrev pub check_command : Shape
-check_command = command (codes "check") (file (codes "SESSION") ∷ file (codes "OBJECT") ∷ file (codes "CERT") ∷ [])
+check_command = command (codes "check")
+    (file (codes "SESSION") ∷ file (codes "OBJECT") ∷ file (codes "CERT") ∷ identifiers)
 
 abbrev pub drop_command : Shape
 drop_command = command (codes "drop") (file (codes "SESSION") ∷ file (codes "OUT") ∷ places ∷ [])
@@ -79,14 +81,14 @@ abbrev pub join_command : Shape
 join_command = command (codes "join") (file (codes "OUT") ∷ sessions ∷ turns ∷ [])
 
 abbrev pub decode_command : Shape
-decode_command = command (codes "decode") (file (codes "SESSION") ∷ file (codes "OUT") ∷ [])
+decode_command = command (codes "decode") (file (codes "SESSION") ∷ file (codes "OUT") ∷ identifiers)
 
 abbrev pub follow_command : Shape
-follow_command = command (codes "follow") (file (codes "SESSION") ∷ file (codes "OUT") ∷ [])
+follow_command = command (codes "follow") (file (codes "SESSION") ∷ file (codes "OUT") ∷ identifiers)
 
 abbrev pub twin_command : Shape
 twin_command = command (codes "twin")
-    (file (codes "SESSION") ∷ file (codes "OBJECT") ∷ file (codes "CERT") ∷ file (codes "OUT") ∷ [])
+    (file (codes "SESSION") ∷ file (codes "OBJECT") ∷ file (codes "CERT") ∷ file (codes "OUT") ∷ identifiers)
 
 abbrev pub show_command : Shape
 show_command = command (codes "show") (file (codes "SESSION") ∷ [])

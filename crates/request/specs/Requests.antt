@@ -6,6 +6,7 @@ use Rattle.clap.specs.declared.error.kind.ErrorKind.TheVariants.{DisplayHelp}
 use Rattle.partition.specs.declared.order.Order.{Order}
 use Rattle.partition.specs.declared.order.Order.TheVariants.{Blocks, Rounds}
 use Rattle.request.specs.declared.requests.Sizes.{Sizes}
+use Rattle.request.specs.declared.requests.Identifiers.{Identifiers}
 use Rattle.request.specs.declared.requests.Sending.{Sending}
 use Rattle.request.specs.declared.requests.Request.{Request}
 use Rattle.request.specs.declared.requests.Request.TheVariants.{Check, Twin, Show, Encode, Certify, Decode, Follow, Drop, Join}
@@ -46,10 +47,14 @@ order_name Rounds = codes "rounds"
 abbrev pub HasOrder : List Row → Order → Type 0
 HasOrder rows order = first_of (codes "order") rows ≡ Some (order_name order)
 
+-- whose packets
+pub record HasIdentifiers (rows : List Row) (identifiers : Identifiers) : Type 0 where
+  pub tsi : HasNumber 32 rows (codes "tsi") identifiers.tsi
+  pub toi : HasNumber 32 rows (codes "toi") identifiers.toi
+
 -- what is sent, and how
 pub record HasSending (rows : List Row) (sending : Sending) : Type 0 where
-  pub tsi : HasNumber 32 rows (codes "tsi") sending.tsi
-  pub toi : HasNumber 32 rows (codes "toi") sending.toi
+  pub identifiers : HasIdentifiers rows sending.identifiers
   pub sizes : HasSizes rows sending.sizes
   pub order : HasOrder rows sending.order
 
@@ -82,38 +87,39 @@ HasTurns rows turns = first_of (codes "turns") rows ≡ Some (flag_word turns)
 
 -- ---- requests
 
--- a request's values: files by their names, what is sent, an FTI's numbers, places, whether in turns
+-- a request's values: files by their names, what is sent, an FTI's numbers, whose packets, places, whether in turns
 pub data Asked : Type 0 where
   EncodeAsked : Text → Text → Sending → Asked
   CertifyAsked : Text → Text → Sizes → Asked
-  CheckAsked : Text → Text → Text → Asked
+  CheckAsked : Text → Text → Text → Identifiers → Asked
   DropAsked : Text → Text → List ℕ → Asked
   JoinAsked : Text → List Text → Bool → Asked
-  DecodeAsked : Text → Text → Asked
-  FollowAsked : Text → Text → Asked
-  TwinAsked : Text → Text → Text → Text → Asked
+  DecodeAsked : Text → Text → Identifiers → Asked
+  FollowAsked : Text → Text → Identifiers → Asked
+  TwinAsked : Text → Text → Text → Text → Identifiers → Asked
   ShowAsked : Text → Asked
 
 abbrev pub asked_of : Request → Asked
 asked_of (Encode object output sending) = EncodeAsked object.now output.now sending
 asked_of (Certify object output sizes) = CertifyAsked object.now output.now sizes
-asked_of (Check session object certificate) = CheckAsked session.now object.now certificate.now
+asked_of (Check session object certificate identifiers) = CheckAsked session.now object.now certificate.now identifiers
 asked_of (Drop session output places) = DropAsked session.now output.now places.items
 asked_of (Join output sessions turns) = JoinAsked output.now (map (λ session. session.now) sessions.items) turns
-asked_of (Decode session output) = DecodeAsked session.now output.now
-asked_of (Follow session output) = FollowAsked session.now output.now
-asked_of (Twin session object certificate output) = TwinAsked session.now object.now certificate.now output.now
+asked_of (Decode session output identifiers) = DecodeAsked session.now output.now identifiers
+asked_of (Follow session output identifiers) = FollowAsked session.now output.now identifiers
+asked_of (Twin session object certificate output identifiers) =
+    TwinAsked session.now object.now certificate.now output.now identifiers
 asked_of (Show session) = ShowAsked session.now
 
 abbrev pub name_of : Asked → Text
 name_of (EncodeAsked object output sending) = codes "encode"
 name_of (CertifyAsked object output sizes) = codes "certify"
-name_of (CheckAsked session object certificate) = codes "check"
+name_of (CheckAsked session object certificate identifiers) = codes "check"
 name_of (DropAsked session output places) = codes "drop"
 name_of (JoinAsked output sessions turns) = codes "join"
-name_of (DecodeAsked session output) = codes "decode"
-name_of (FollowAsked session output) = codes "follow"
-name_of (TwinAsked session object certificate output) = codes "twin"
+name_of (DecodeAsked session output identifiers) = codes "decode"
+name_of (FollowAsked session output identifiers) = codes "follow"
+name_of (TwinAsked session object certificate output identifiers) = codes "twin"
 name_of (ShowAsked session) = codes "show"
 
 -- each value is that of its argument
@@ -122,17 +128,20 @@ HasValues rows (EncodeAsked object output sending) =
     HasText rows (codes "OBJECT") object × HasText rows (codes "OUT") output × HasSending rows sending
 HasValues rows (CertifyAsked object output sizes) =
     HasText rows (codes "OBJECT") object × HasText rows (codes "OUT") output × HasSizes rows sizes
-HasValues rows (CheckAsked session object certificate) =
+HasValues rows (CheckAsked session object certificate identifiers) =
     HasText rows (codes "SESSION") session × HasText rows (codes "OBJECT") object × HasText rows (codes "CERT") certificate
+    × HasIdentifiers rows identifiers
 HasValues rows (DropAsked session output places) =
     HasText rows (codes "SESSION") session × HasText rows (codes "OUT") output × HasPlaces rows places
 HasValues rows (JoinAsked output sessions turns) =
     HasText rows (codes "OUT") output × HasSessions rows sessions × HasTurns rows turns
-HasValues rows (DecodeAsked session output) = HasText rows (codes "SESSION") session × HasText rows (codes "OUT") output
-HasValues rows (FollowAsked session output) = HasText rows (codes "SESSION") session × HasText rows (codes "OUT") output
-HasValues rows (TwinAsked session object certificate output) =
+HasValues rows (DecodeAsked session output identifiers) =
+    HasText rows (codes "SESSION") session × HasText rows (codes "OUT") output × HasIdentifiers rows identifiers
+HasValues rows (FollowAsked session output identifiers) =
+    HasText rows (codes "SESSION") session × HasText rows (codes "OUT") output × HasIdentifiers rows identifiers
+HasValues rows (TwinAsked session object certificate output identifiers) =
     HasText rows (codes "SESSION") session × HasText rows (codes "OBJECT") object × HasText rows (codes "CERT") certificate
-    × HasText rows (codes "OUT") output
+    × HasText rows (codes "OUT") output × HasIdentifiers rows identifiers
 HasValues rows (ShowAsked session) = HasText rows (codes "SESSION") session
 
 -- what was read, a command's name and rows, asks for this

@@ -15,7 +15,7 @@ const ABOUT: &str =
 const ORDERS: [&str; 2] = ["blocks", "rounds"];
 
 const STATUSES: &str =
-    "Statuses: 0 done or yes, 1 no or a fault, 2 the command line is refused, 3 decode has too little.\n\nExample: alcrs check bulletin.session bulletin.txt bulletin.rsc";
+    "Statuses: 0 done or yes, 1 no or a fault, 2 the command line is refused, 3 decode has too little.\n\nExample: alcrs check bulletin.session bulletin.txt bulletin.rsc --tsi 7 --toi 1";
 
 /// An argument that names a file: its name and its help.
 type FileArgument<'a> = (&'a str, &'a str);
@@ -33,6 +33,8 @@ const CERTIFICATE: FileArgument<'static> = (
 );
 
 const SESSION_TO_WRITE: FileArgument<'static> = ("OUT", "The session file to write");
+
+const OBJECT_TO_WRITE: FileArgument<'static> = ("OUT", "The object to write, where there is one");
 
 // The command with these arguments last, in this order, each of which has to be given.
 #[tactic(auto, using(crate::proofs::Rules::no_rules))]
@@ -56,12 +58,13 @@ fn check_command<'a>(alloc: Global) -> Result<Command<'a>, AllocError>
 {
     let command = Command::new(alloc, "check")
         .about(
-            "Says whether a certificate proves that a session carries an object, and how many datagrams may be missed",
+            "Says whether a certificate proves that a session carries an object under a TSI and TOI, and how many datagrams may be missed",
         )
         .after_help(
-            "Prints `yes`, for each block how many symbols it needs and has, and how many datagrams may be missed: any (margin), and neighbouring ones (burst); and the places of the first loss that is too great (kill). Else `no` and the first reason.\nStatuses: 0 yes, 1 no or a fault, 2 the command line is refused.\n\nExample: alcrs check bulletin.session bulletin.txt bulletin.rsc",
+            "Prints `yes`, for each block how many symbols it needs and has, and how many datagrams may be missed: any (margin), and neighbouring ones (burst); and the places of the first loss that is too great (kill). Else `no` and the first reason. Packets of another TSI or TOI are passed over; places are those of the whole session.\nStatuses: 0 yes, 1 no or a fault, 2 the command line is refused.\n\nExample: alcrs check bulletin.session bulletin.txt bulletin.rsc --tsi 7 --toi 1",
         );
-    with_files(alloc, command, &[SESSION, CARRIED_OBJECT, CERTIFICATE])
+    let command = with_files(alloc, command, &[SESSION, CARRIED_OBJECT, CERTIFICATE])?;
+    with_numbers(alloc, command, &IDENTIFIERS)
 }
 
 fn twin_command<'a>(alloc: Global) -> Result<Command<'a>, AllocError>
@@ -69,12 +72,12 @@ fn twin_command<'a>(alloc: Global) -> Result<Command<'a>, AllocError>
 {
     let command = Command::new(alloc, "twin")
         .about(
-            "Writes another object that agrees with all datagrams of a session, where a block of it is short",
+            "Writes another object that agrees with all packets of a TSI and TOI in a session, where a block of it is short",
         )
         .after_help(
-            "Prints the first block that is short and how many symbols it has and needs; `no twin` if none is, or `no` and the first reason against the session.\nStatuses: 0 a twin was written, 1 none was or a fault, 2 the command line is refused.\n\nExample: alcrs twin thinned.session bulletin.txt bulletin.rsc other.txt",
+            "Prints the first block that is short and how many symbols it has and needs; `no twin` if none is, or `no` and the first reason against the session. Packets of another TSI or TOI are passed over.\nStatuses: 0 a twin was written, 1 none was or a fault, 2 the command line is refused.\n\nExample: alcrs twin thinned.session bulletin.txt bulletin.rsc other.txt --tsi 7 --toi 1",
         );
-    with_files(
+    let command = with_files(
         alloc,
         command,
         &[
@@ -83,7 +86,8 @@ fn twin_command<'a>(alloc: Global) -> Result<Command<'a>, AllocError>
             CERTIFICATE,
             ("OUT", "The other object to write"),
         ],
-    )
+    )?;
+    with_numbers(alloc, command, &IDENTIFIERS)
 }
 
 fn show_command<'a>(alloc: Global) -> Result<Command<'a>, AllocError>
@@ -105,8 +109,8 @@ struct NumberOption<'a> {
     most: u64,
 }
 
-// The identity of an object's datagrams.
-const IDENTITY: [NumberOption<'static>; 2] = [
+// Whose packets.
+const IDENTIFIERS: [NumberOption<'static>; 2] = [
     NumberOption {
         name: "tsi",
         help: "The transport session identifier, 0 to 4294967295",
@@ -180,14 +184,14 @@ fn encode_command<'a>(alloc: Global) -> Result<Command<'a>, AllocError>
     let command = Command::new(alloc, "encode")
         .about("Writes the session file of an object: all encoding symbols of all its blocks")
         .after_help(
-            "Prints how many datagrams there are.\nStatuses: 0 done, 1 a fault, 2 the command line is refused.\n\nExample: alcrs encode bulletin.txt bulletin.session --tsi 1 --toi 1 --symbol 64 --block 20 --max 30",
+            "Prints how many datagrams there are.\nStatuses: 0 done, 1 a fault, 2 the command line is refused.\n\nExample: alcrs encode bulletin.txt bulletin.session --tsi 7 --toi 1 --symbol 64 --block 20 --max 30",
         );
     let command = with_files(
         alloc,
         command,
         &[("OBJECT", "The file to send"), SESSION_TO_WRITE],
     )?;
-    let command = with_numbers(alloc, command, &IDENTITY)?;
+    let command = with_numbers(alloc, command, &IDENTIFIERS)?;
     with_numbers(alloc, command, &SIZES)?.arg(order(alloc))
 }
 
@@ -252,15 +256,12 @@ fn decode_command<'a>(alloc: Global) -> Result<Command<'a>, AllocError>
     ensures { IfOk result (IsShaped decode_shape) }
 {
     let command = Command::new(alloc, "decode")
-        .about("Writes the object that the datagrams of a session give")
+        .about("Writes the object that the packets of a TSI and TOI in a session give")
         .after_help(
-            "Prints `object` and its length in bytes, and writes it; else `empty`, or `missing`, the first block that is short and how many symbols it has and needs, or `fault` and why the datagrams are of no object.\nStatuses: 0 the object was written, 1 a fault, 2 the command line is refused, 3 nothing came or a block is short.\n\nExample: alcrs decode bulletin.session received.txt",
+            "Prints `object` and its length in bytes, and writes it; else `empty`, or `missing`, the first block that is short and how many symbols it has and needs, or `fault` and why the packets are of no object. Packets of another TSI or TOI are passed over.\nStatuses: 0 the object was written, 1 a fault, 2 the command line is refused, 3 nothing came or a block is short.\n\nExample: alcrs decode bulletin.session received.txt --tsi 7 --toi 1",
         );
-    with_files(
-        alloc,
-        command,
-        &[SESSION, ("OUT", "The object to write, where there is one")],
-    )
+    let command = with_files(alloc, command, &[SESSION, OBJECT_TO_WRITE])?;
+    with_numbers(alloc, command, &IDENTIFIERS)
 }
 
 fn follow_command<'a>(alloc: Global) -> Result<Command<'a>, AllocError>
@@ -268,16 +269,13 @@ fn follow_command<'a>(alloc: Global) -> Result<Command<'a>, AllocError>
 {
     let command = Command::new(alloc, "follow")
         .about(
-            "Takes the datagrams of a session one by one, as they come, and writes the object as soon as they give it",
+            "Takes the datagrams of a session one by one, as they come, and writes the object of a TSI and TOI as soon as they give it",
         )
         .after_help(
-            "Prints `refused`, its place and why for each datagram that is of no object with those before it, and goes on without it; then `complete after` and how many datagrams were read, and `object` and its length in bytes, and reads no further; else, at the session's end, `empty`, or `missing`, the first block that is short and how many symbols it has and needs. SESSION may be a pipe.\nStatuses: 0 the object was written, 1 a fault, 2 the command line is refused, 3 nothing came or a block is short.\n\nExample: alcrs follow bulletin.session received.txt",
+            "Prints `refused`, its place and why for each datagram that is of no object with those before it, and goes on without it; then `complete after` and how many datagrams were read, and `object` and its length in bytes, and reads no further; else, at the session's end, `empty`, or `missing`, the first block that is short and how many symbols it has and needs. Packets of another TSI or TOI are passed over. SESSION may be a pipe.\nStatuses: 0 the object was written, 1 a fault, 2 the command line is refused, 3 nothing came or a block is short.\n\nExample: alcrs follow bulletin.session received.txt --tsi 7 --toi 1",
         );
-    with_files(
-        alloc,
-        command,
-        &[SESSION, ("OUT", "The object to write, where there is one")],
-    )
+    let command = with_files(alloc, command, &[SESSION, OBJECT_TO_WRITE])?;
+    with_numbers(alloc, command, &IDENTIFIERS)
 }
 
 // The places to leave out, one or more.

@@ -14,5 +14,5 @@ mod requests;
 mod usage;
 
 pub use line::request;
-pub use requests::{Request, Sending, Sizes};
+pub use requests::{Identifiers, Request, Sending, Sizes};
 pub use usage::Usage;

@@ -1,10 +1,10 @@
 //! Requests of what the grammar matched.
 ghost use Rattle.std.specs.Prelude.{◌≡◌, ◌∷◌, None, Some, IfOk, IfErr, codes, map};
 ghost use Rattle.clap.specs.Words.{first_of, one_of, subcommand_rows_of};
-ghost use Rattle.request.specs.Requests.{HasOrder, HasPlaces, HasSending, HasSessions, HasSizes, HasText, HasTurns};
+ghost use Rattle.request.specs.Requests.{HasIdentifiers, HasOrder, HasPlaces, HasSending, HasSessions, HasSizes, HasText, HasTurns};
 ghost use Rattle.request.specs.RequestReading.{AnswersRead, Finds, Gives, GivesNone, IsNoPlaces, IsNoSessions, rows_in};
 
-use crate::requests::{MOST_SYMBOL_BYTES, Request, Sending, Sizes};
+use crate::requests::{Identifiers, MOST_SYMBOL_BYTES, Request, Sending, Sizes};
 use crate::usage::Usage;
 use clap::ArgMatches;
 use partition::Order;
@@ -60,14 +60,23 @@ fn order(matches: &ArgMatches<'_>) -> Result<Order, Usage>
     }
 }
 
+// Whose packets are asked for, or are sent.
+fn identifiers(matches: &ArgMatches<'_>) -> Result<Identifiers, Usage>
+    ensures { Finds (HasIdentifiers (rows_in matches.now)) result }
+{
+    Ok(Identifiers {
+        tsi: number::<u32>(matches, "tsi")?,
+        toi: number::<u32>(matches, "toi")?,
+    })
+}
+
 // What is sent, and how.
-#[tactic(auto, using(crate::proofs::Getters::no_sending))]
+#[tactic(auto, using(crate::proofs::Getters::no_sending, crate::proofs::Getters::no_one_to_send))]
 fn sending(matches: &ArgMatches<'_>) -> Result<Sending, Usage>
     ensures { Finds (HasSending (rows_in matches.now)) result }
 {
     Ok(Sending {
-        tsi: number::<u32>(matches, "tsi")?,
-        toi: number::<u32>(matches, "toi")?,
+        identifiers: identifiers(matches)?,
         sizes: sizes(matches)?,
         order: order(matches)?,
     })
@@ -156,6 +165,7 @@ fn check_request<'a>(matches: &ArgMatches<'a>) -> Result<Request<'a>, Usage>
         session: text(matches, "SESSION")?,
         object: text(matches, "OBJECT")?,
         certificate: text(matches, "CERT")?,
+        identifiers: identifiers(matches)?,
     })
 }
 
@@ -186,6 +196,7 @@ fn decode_request<'a>(matches: &ArgMatches<'a>) -> Result<Request<'a>, Usage>
     Ok(Request::Decode {
         session: text(matches, "SESSION")?,
         output: text(matches, "OUT")?,
+        identifiers: identifiers(matches)?,
     })
 }
 
@@ -195,6 +206,7 @@ fn follow_request<'a>(matches: &ArgMatches<'a>) -> Result<Request<'a>, Usage>
     Ok(Request::Follow {
         session: text(matches, "SESSION")?,
         output: text(matches, "OUT")?,
+        identifiers: identifiers(matches)?,
     })
 }
 
@@ -206,6 +218,7 @@ fn twin_request<'a>(matches: &ArgMatches<'a>) -> Result<Request<'a>, Usage>
         object: text(matches, "OBJECT")?,
         certificate: text(matches, "CERT")?,
         output: text(matches, "OUT")?,
+        identifiers: identifiers(matches)?,
     })
 }
 

@@ -15,13 +15,20 @@ pub struct Sizes {
     pub max_n: u8,
 }
 
+/// Whose packets: those of one object of one session (RFC 5651, section 5.1). Packets with other identifiers are none of it.
+#[derive(Clone, Copy, Debug, PartialEq, Eq)]
+pub struct Identifiers {
+    /// The transport session identifier, 0 to 4,294,967,295.
+    pub tsi: u32,
+    /// The transport object identifier, 0 to 4,294,967,295.
+    pub toi: u32,
+}
+
 /// What is sent, and how.
 #[derive(Clone, Copy, Debug, PartialEq, Eq)]
 pub struct Sending {
-    /// The transport session identifier.
-    pub tsi: u32,
-    /// The transport object identifier.
-    pub toi: u32,
+    /// Whose packets are sent.
+    pub identifiers: Identifiers,
     /// The FTI, but for the object's length.
     pub sizes: Sizes,
     /// In which order the encoding symbols follow one another.
@@ -31,18 +38,20 @@ pub struct Sending {
 /// A command with its values. Texts are paths as the command line has them.
 #[derive(Drop)]
 pub enum Request<'a> {
-    /// Is the certificate one of the session and the object?
+    /// Is the certificate one of the object and of the session's packets with these identifiers?
     Check {
         session: &'a str,
         object: &'a str,
         certificate: &'a str,
+        identifiers: Identifiers,
     },
-    /// Write another object that agrees with all datagrams of the session, if a block of it is short.
+    /// Write another object that agrees with all packets of the session with these identifiers, if a block of it is short.
     Twin {
         session: &'a str,
         object: &'a str,
         certificate: &'a str,
         output: &'a str,
+        identifiers: Identifiers,
     },
     /// What are the datagrams of the session?
     Show {
@@ -60,15 +69,17 @@ pub enum Request<'a> {
         output: &'a str,
         sizes: Sizes,
     },
-    /// Write the object that the session's datagrams give.
+    /// Write the object that the session's packets with these identifiers give.
     Decode {
         session: &'a str,
         output: &'a str,
+        identifiers: Identifiers,
     },
-    /// Write the object as soon as the session's datagrams, read one by one, give it.
+    /// Write the object as soon as the session's packets with these identifiers, read one by one, give it.
     Follow {
         session: &'a str,
         output: &'a str,
+        identifiers: Identifiers,
     },
     /// Leave the datagrams at these places out, counted from 0; one place or more.
     Drop {

@@ -1,20 +1,17 @@
 -- An object that was told and written.
-use Rattle.std.proofs.Common.{◌≡◌, ◌⊎◌, ◌∙◌, ◌++◌, ℕ, Bool, true, List, Option, length, inl, inr, refl, sym, ap, subst, Ok, Err}
-use Rattle.std.specs.Prelude.{Result, IfOk, IfErr}
+use Rattle.std.proofs.Common.{◌≡◌, ℕ, List, Option, length, refl, subst}
 use Rattle.std.specs.Io.KnownBytes.{Appends}
 use Rattle.session.proofs.Writes.{then_appends}
-use Rattle.reception.specs.Answer.{IsAnswer, Object}
-use Rattle.tool.specs.declared.fault.Fault.{Fault}
-use Rattle.tool.specs.declared.fault.Fault.TheVariants.{Output}
-use Rattle.tool.specs.Folder.{Files, Replaces}
+use Rattle.reception.specs.declared.scope.Identity.{Identity}
+use Rattle.tool.specs.Folder.{Files}
 use Rattle.tool.specs.Lines.{line_of}
 use Rattle.tool.specs.Decoding.{object_text}
 use Rattle.tool.specs.Following.{complete_line}
-use Rattle.tool.specs.Listening.{IsWritten, IsDelivered, IsUndelivered}
+use Rattle.tool.specs.Listening.{IsWritten, IsDelivered}
 
-module _ (old new : Option Files) (output : List ℕ) (taken : List (List ℕ)) (count length_told : ℕ) (w : IsWritten old new output taken length_told) where
+module _ (who : Identity) (old new : Option Files) (output : List ℕ) (taken : List (List ℕ)) (count length_told : ℕ) (w : IsWritten who old new output taken length_told) where
   pub delivered : (a b c d : Option (List ℕ)) → Appends a b (line_of (complete_line count)) → c ≡ b → Appends c d (line_of (object_text length_told))
-      → IsDelivered old new output taken count a d 0
+      → IsDelivered who old new output taken count a d 0
   delivered a b c d first same second =
       let (object, is, there, long) = w in
       let next = subst (λ (n : ℕ). Appends b d (line_of (object_text n))) long (subst (λ (x : Option (List ℕ)). Appends x d (line_of (object_text length_told))) same second) in

@@ -1,46 +1,40 @@
 -- How following a session ends, by its parts.
-use Rattle.std.proofs.Common.{◌≡◌, ◌⊎◌, ◌∙◌, ◌++◌, ℕ, Bool, true, false, List, [], Option, Some, None, length, inl, inr, refl, sym, ap, subst, append_assoc}
+use Rattle.std.proofs.Common.{◌≡◌, ◌++◌, ℕ, Bool, false, List, Option, Some, None, length, inl, inr, refl, sym, ap, subst, append_assoc}
 use Rattle.std.specs.Prelude.{Result, Ok, Err, IfErr, IsErrAnd}
-use Rattle.std.specs.Io.KnownBytes.{Appends, IsAtEnd}
+use Rattle.std.specs.Io.KnownBytes.{Appends}
 use Rattle.session.proofs.Writes.{then_appends}
 use Rattle.session.specs.declared.frame.FrameFault.{FrameFault}
 use Rattle.session.specs.declared.frame.FrameFault.TheVariants as frame
+use Rattle.reception.specs.declared.scope.Identity.{Identity}
 use Rattle.reception.specs.Answer as value
 use Rattle.reception.specs.Answer.{IsAnswer, reception_of}
-use Rattle.reception.specs.Reception.{Reception, IsClean}
 use Rattle.reception.specs.Symbols.{AllFull}
 use Rattle.reception.specs.Walks.{readings_of}
 use Rattle.reception.proofs.OneAnswer.{same_readings}
-use Rattle.decoder.specs.Answers.{answer_value}
-use Rattle.decoder.specs.Stands.{Stands}
-use Rattle.decoder.specs.Receiving.{LeaveNoneShort}
-use Rattle.decoder.specs.declared.answer.Answer.{Answer}
 use Rattle.decoder.specs.declared.answer.Answer.TheVariants.{Empty, Fault as NoObject, Missing, Object}
-use Rattle.decoder.specs.declared.answer.DecodeFault.{DecodeFault}
 use Rattle.decoder.specs.declared.receiver.Receiver.{Receiver}
 use Rattle.tool.specs.declared.fault.Fault.{Fault}
 use Rattle.tool.specs.declared.fault.Fault.TheVariants.{Open, File, Memory, Frame, Certificate, Fti, Send, Output}
 use Rattle.tool.specs.Folder.{Files, HoldsInput}
 use Rattle.tool.specs.Inputs.{Opens, IsNotOpened}
 use Rattle.tool.specs.Lines.{line_of}
-use Rattle.tool.specs.Decoding.{IsAnswerLine, answer_status, missing_text, object_text}
-use Rattle.tool.specs.Making.{IsUnmade}
-use Rattle.tool.specs.Following.{complete_line, AreRead, MakeUp, IsCompleted, TellsComplete, IsCutOff, IsFollowed, IsNotFollowed}
+use Rattle.tool.specs.Decoding.{object_text}
+use Rattle.tool.specs.Following.{complete_line, IsCompleted, TellsComplete, IsCutOff, IsFollowed, IsNotFollowed}
 use Rattle.tool.specs.Listening.{HasMadeUp, HasHeardAll, IsCutBehind, IsUnheard, IsDelivered, IsUndelivered, IsUntold, TellsAnswer}
 
 -- the session didn't open
-pub not_opened : (files : Option Files) (session output : List ℕ) (failed : Bool) (before : Option (List ℕ)) (fault : Fault) → IsNotOpened files session fault
-    → IsNotFollowed files files session output failed before before fault
-not_opened files session output failed before (Open name) h = (inl (h, refl), refl)
-not_opened files session output failed before (File name) h = absurd h
-not_opened files session output failed before Memory h = (inl refl, refl)
-not_opened files session output failed before (Frame e) h = absurd h
-not_opened files session output failed before (Certificate e) h = absurd h
-not_opened files session output failed before (Fti e) h = absurd h
-not_opened files session output failed before (Send e) h = absurd h
-not_opened files session output failed before Output h = absurd h
+pub not_opened : (who : Identity) (files : Option Files) (session output : List ℕ) (failed : Bool) (before : Option (List ℕ)) (fault : Fault) → IsNotOpened files session fault
+    → IsNotFollowed who files files session output failed before before fault
+not_opened who files session output failed before (Open name) h = (inl (h, refl), refl)
+not_opened who files session output failed before (File name) h = absurd h
+not_opened who files session output failed before Memory h = (inl refl, refl)
+not_opened who files session output failed before (Frame e) h = absurd h
+not_opened who files session output failed before (Certificate e) h = absurd h
+not_opened who files session output failed before (Fti e) h = absurd h
+not_opened who files session output failed before (Send e) h = absurd h
+not_opened who files session output failed before Output h = absurd h
 
-module _ (files : Option Files) (session output : List ℕ) (opened : Option (List ℕ)) (sound : Bool) (input : HoldsInput files session opened sound) where
+module _ (who : Identity) (files : Option Files) (session output : List ℕ) (opened : Option (List ℕ)) (sound : Bool) (input : HoldsInput files session opened sound) where
   opens : (fs : Option Files) → HoldsInput fs session opened sound → Opens fs session opened
   opens None h = tt
   opens (Some held) h = (h.0, h.1, h.2.0)
@@ -54,11 +48,11 @@ module _ (files : Option Files) (session output : List ℕ) (opened : Option (Li
   untold (Some held) h e = let s = h.2.1 in absurd (cc)
 
   module _ (new : Option (List ℕ)) (cut failed : Bool) (before after : Option (List ℕ)) where
-    cut_off : (e : FrameFault) → IsCutBehind e opened new cut before after → IsCutOff files session e before after
+    cut_off : (e : FrameFault) → IsCutBehind who e opened new cut before after → IsCutOff who files session e before after
     cut_off e (left, datagrams, taken, text, are, fault, printed) = (left, new, cut, datagrams, taken, text, (opened, sent, are), fault, printed)
 
     -- no more was read
-    pub unheard : (fault : Fault) → IsUnheard sound opened new cut failed before after fault → IsNotFollowed files files session output failed before after fault
+    pub unheard : (fault : Fault) → IsUnheard who sound opened new cut failed before after fault → IsNotFollowed who files files session output failed before after fault
     unheard (Frame frame.Io) h = ((untold files input h.0, cut_off frame.Io h.1), refl)
     unheard (Frame frame.CutLength) h = (cut_off frame.CutLength h, refl)
     unheard (Frame frame.CutDatagram) h = (cut_off frame.CutDatagram h, refl)
@@ -75,15 +69,15 @@ module _ (files : Option Files) (session output : List ℕ) (opened : Option (Li
 
   -- ---- the object
 
-  module _ (receiver : Receiver) (left a b : Option (List ℕ)) (count : ℕ) (made : HasMadeUp receiver opened left a b count) where
+  module _ (receiver : Receiver) (left a b : Option (List ℕ)) (count : ℕ) (made : HasMadeUp who receiver opened left a b count) where
     pub taken_are : List (List ℕ)
     taken_are = made.0
 
-    completed : IsCompleted files session count made.0 made.1
+    completed : IsCompleted who files session count made.0 made.1
     completed = (opened, left, sent, made.3)
 
-    pub is_delivered : (new : Option Files) (d : Option (List ℕ)) (status : ℕ) → IsDelivered files new output made.0 count b d status
-        → IsFollowed files new session output a d status
+    pub is_delivered : (new : Option Files) (d : Option (List ℕ)) (status : ℕ) → IsDelivered who files new output made.0 count b d status
+        → IsFollowed who files new session output a d status
     is_delivered new d status (object, is, there, printed, done) = record {
       taken = made.0;
       answer = value.Object object;
@@ -94,11 +88,11 @@ module _ (files : Option Files) (session output : List ℕ) (opened : Option (Li
           (then_appends a b d made.1 (line_of (complete_line count) ++ line_of (object_text (length object))) made.4 printed);
     }
 
-    told : (d : Option (List ℕ)) → Appends b d (line_of (complete_line count)) → TellsComplete files session a d
+    told : (d : Option (List ℕ)) → Appends b d (line_of (complete_line count)) → TellsComplete who files session a d
     told d printed = (count, made.0, made.1, completed, then_appends a b d made.1 (line_of (complete_line count)) made.4 printed)
 
     pub is_undelivered : (new : Option Files) (failed : Bool) (d : Option (List ℕ)) (fault : Fault) → IsUndelivered files new output count failed b d fault
-        → IsNotFollowed files new session output failed a d fault
+        → IsNotFollowed who files new session output failed a d fault
     is_undelivered new failed d Output h = h
     is_undelivered new failed d Memory h = (inr (inr (told d h.1)), h.0.1)
     is_undelivered new failed d (Open name) h = (inr (h.0.0, told d h.1), h.0.1)
@@ -110,18 +104,18 @@ module _ (files : Option Files) (session output : List ℕ) (opened : Option (Li
 
   -- ---- what lacks
 
-  module _ (receiver : Receiver) (left a b : Option (List ℕ)) (heard : HasHeardAll receiver opened left a b) where
-    no_object : (object : List ℕ) → IsAnswer heard.1 (value.Object object) → ⊥
+  module _ (receiver : Receiver) (left a b : Option (List ℕ)) (heard : HasHeardAll who receiver opened left a b) where
+    no_object : (object : List ℕ) → IsAnswer who heard.1 (value.Object object) → ⊥
     no_object object h =
         let same = same_readings heard.1 h.readings (readings_of heard.1) h.read heard.3.read in
         let (f, clean, solvable, full, fits) = h.answers in
         heard.4 record {
           fti = f;
-          known = subst (λ rs. (reception_of rs).scope.fti ≡ Some f) same clean.some;
-          full = subst (λ rs. AllFull f (reception_of rs).symbols) same full;
+          known = subst (λ rs. (reception_of who rs).scope.fti ≡ Some f) same clean.some;
+          full = subst (λ rs. AllFull f (reception_of who rs).symbols) same full;
         }
 
-    pub is_lack : (d : Option (List ℕ)) (status : ℕ) → TellsAnswer heard.1 b d status → IsFollowed files files session output a d status
+    pub is_lack : (d : Option (List ℕ)) (status : ℕ) → TellsAnswer who heard.1 b d status → IsFollowed who files files session output a d status
     is_lack d status (Empty, line, is, sound, spelled, printed, done) = record {
       taken = heard.1;
       answer = value.Empty;
@@ -142,7 +136,7 @@ module _ (files : Option Files) (session output : List ℕ) (opened : Option (Li
     is_lack d status (NoObject e, line, is, sound, spelled, printed, done) = absurd sound
 
     pub is_unsaid : (failed : Bool) (d : Option (List ℕ)) (fault : Fault) → IsUntold failed b d fault
-        → IsNotFollowed files files session output failed a d fault
+        → IsNotFollowed who files files session output failed a d fault
     is_unsaid failed d Memory (h, silent) =
         (inr (inl (left, heard.0, heard.1, heard.2, (opened, sent, heard.5), subst (λ (x : Option (List ℕ)). Appends a x heard.2) (sym silent) heard.7)), refl)
     is_unsaid failed d Output (h, silent) = (h, inl refl)

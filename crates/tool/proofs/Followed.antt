@@ -1,61 +1,61 @@
 -- Datagrams that come one by one, and one more.
-use Rattle.std.proofs.Common.{◌≡◌, ◌≢◌, ◌+◌, ◌⊎◌, ◌∙◌, ℕ, suc, List, [], ◌∷◌, ◌++◌, length, Option, Some, None, inl, inr, refl, sym, ap, subst, arith, append_assoc}
+use Rattle.std.proofs.Common.{◌≡◌, ◌+◌, ◌∙◌, ℕ, suc, List, [], ◌∷◌, ◌++◌, length, Option, Some, None, inl, inr, refl, sym, ap, subst, arith, append_assoc}
 use Rattle.std.proofs.lemmas.List.{append-nil, length-append}
 use Rattle.std.specs.Io.KnownBytes.{Consumes, Appends}
-use Rattle.session.specs.Frames.{frame, frames}
-use Rattle.session.proofs.Writes.{then_appends}
+use Rattle.session.specs.Frames.{frame}
 use Rattle.cert.proofs.FromReader.{consumes_one}
-use Rattle.decoder.specs.Receiving.{with_datagram, LeaveNoneShort, HasNoFault, Tells, IsFaultOf}
+use Rattle.reception.specs.declared.scope.Identity.{Identity}
+use Rattle.decoder.specs.Receiving.{with_datagram, LeaveNoneShort, HasNoFault}
 use Rattle.decoder.specs.declared.receiver.FeedFault.{FeedFault}
 use Rattle.tool.specs.Lines.{line_of}
-use Rattle.tool.specs.Following.{refusal_line, IsRefused, IsTaken, Comes, Come, AreRead, MakeUp}
+use Rattle.tool.specs.Following.{refusal_line, IsRefused, Comes, Come, AreRead, MakeUp}
 
 nothing_more : (a : Option (List ℕ)) → Appends a a []
 nothing_more None = tt
 nothing_more (Some xs) = sym (append-nil xs)
 
-pub none_read : (opened out : Option (List ℕ)) → Consumes opened opened [] → AreRead opened opened [] [] [] × Appends out out []
-none_read opened out nothing = (record { consumed = nothing; come = (refl, refl) }, nothing_more out)
+pub none_read : (who : Identity) (opened out : Option (List ℕ)) → Consumes opened opened [] → AreRead who opened opened [] [] [] × Appends out out []
+none_read who opened out nothing = (record { consumed = nothing; come = (refl, refl) }, nothing_more out)
 
 pub nothing_consumed : (a : Option (List ℕ)) → Consumes a a []
 nothing_consumed None = tt
 nothing_consumed (Some xs) = refl
 
 -- no datagrams leave a block short, as no FTI is known
-pub none_leave_short : ¬ LeaveNoneShort []
-none_leave_short full = let known = full.known in cc
+pub none_leave_short : (who : Identity) → ¬ LeaveNoneShort who []
+none_leave_short who full = let known = full.known in cc
 
-come_more : (place : ℕ) (before ds taken : List (List ℕ)) (text d : List ℕ) (after : List (List ℕ)) (line : List ℕ) → Come place before ds taken text
-    → Comes (place + length ds) taken d after line → Come place before (ds ++ d ∷ []) after (text ++ line)
-come_more place before [] taken text d after line come comes =
+come_more : (who : Identity) (place : ℕ) (before ds taken : List (List ℕ)) (text d : List ℕ) (after : List (List ℕ)) (line : List ℕ) → Come who place before ds taken text
+    → Comes who (place + length ds) taken d after line → Come who place before (ds ++ d ∷ []) after (text ++ line)
+come_more who place before [] taken text d after line come comes =
     let at : place + 0 ≡ place = omega arith in
-    let one : Comes place before d after line = subst (λ (b : List (List ℕ)). Comes place b d after line) come.0 (subst (λ (n : ℕ). Comes n taken d after line) at comes) in
+    let one : Comes who place before d after line = subst (λ (b : List (List ℕ)). Comes who place b d after line) come.0 (subst (λ (n : ℕ). Comes who n taken d after line) at comes) in
     (after, line, [], one, (refl, refl), ap (λ (t : List ℕ). t ++ line) come.1 ∙ sym (append-nil line))
-come_more place before (x ∷ ds) taken text d after line (middle, front, rest, here, come, whole) comes =
+come_more who place before (x ∷ ds) taken text d after line (middle, front, rest, here, come, whole) comes =
     let at : place + suc (length ds) ≡ (place + 1) + length ds = omega arith in
-    let more = come_more (place + 1) middle ds taken rest d after line come (subst (λ (n : ℕ). Comes n taken d after line) at comes) in
+    let more = come_more who (place + 1) middle ds taken rest d after line come (subst (λ (n : ℕ). Comes who n taken d after line) at comes) in
     (middle, front, rest ++ line, here, more, ap (λ (t : List ℕ). t ++ line) whole ∙ append_assoc front rest line)
 
-module _ (opened a b : Option (List ℕ)) (ds taken : List (List ℕ)) (text : List ℕ) (count : ℕ) (d : List ℕ) (are : AreRead opened a ds taken text)
+module _ (who : Identity) (opened a b : Option (List ℕ)) (ds taken : List (List ℕ)) (text : List ℕ) (count : ℕ) (d : List ℕ) (are : AreRead who opened a ds taken text)
     (many : count ≡ length ds) (one : Consumes a b (frame d)) where
-  pub read_more : (after : List (List ℕ)) (line : List ℕ) → Comes count taken d after line → AreRead opened b (with_datagram ds d) after (text ++ line)
+  pub read_more : (after : List (List ℕ)) (line : List ℕ) → Comes who count taken d after line → AreRead who opened b (with_datagram ds d) after (text ++ line)
   read_more after line comes = record {
     consumed = consumes_one opened a b ds d are.consumed one;
-    come = come_more 0 [] ds taken text d after line are.come (let at : count ≡ 0 + length ds = omega (arith, many) in subst (λ (n : ℕ). Comes n taken d after line) at comes);
+    come = come_more who 0 [] ds taken text d after line are.come (let at : count ≡ 0 + length ds = omega (arith, many) in subst (λ (n : ℕ). Comes who n taken d after line) at comes);
   }
 
   -- one more that was taken
-  pub read_taken : HasNoFault (with_datagram taken d) → ¬ LeaveNoneShort (with_datagram taken d) → AreRead opened b (with_datagram ds d) (with_datagram taken d) text
+  pub read_taken : HasNoFault who (with_datagram taken d) → ¬ LeaveNoneShort who (with_datagram taken d) → AreRead who opened b (with_datagram ds d) (with_datagram taken d) text
   read_taken sound short =
-      subst (λ (t : List ℕ). AreRead opened b (with_datagram ds d) (with_datagram taken d) t) (append-nil text)
+      subst (λ (t : List ℕ). AreRead who opened b (with_datagram ds d) (with_datagram taken d) t) (append-nil text)
       (read_more (with_datagram taken d) [] (inl (refl, sound, short, refl)))
 
   -- one more that was refused
-  pub read_refused : (fault : FeedFault) → IsRefused taken d fault → AreRead opened b (with_datagram ds d) taken (text ++ line_of (refusal_line count fault))
+  pub read_refused : (fault : FeedFault) → IsRefused who taken d fault → AreRead who opened b (with_datagram ds d) taken (text ++ line_of (refusal_line count fault))
   read_refused fault refused = read_more taken (line_of (refusal_line count fault)) (inr (refl, (fault, refused, refl)))
 
   -- the one that makes up the object
-  pub read_last : (n : ℕ) → n ≡ count + 1 → LeaveNoneShort (with_datagram taken d) → MakeUp opened b n (with_datagram taken d) text
+  pub read_last : (n : ℕ) → n ≡ count + 1 → LeaveNoneShort who (with_datagram taken d) → MakeUp who opened b n (with_datagram taken d) text
   read_last n next full = record {
     datagrams = ds;
     before = taken;

@@ -1,11 +1,10 @@
 -- Sessions of several files, joined.
-use Rattle.std.proofs.Common.{◌≡◌, ◌≢◌, ◌<◌, ◌+◌, ◌⊎◌, ◌∙◌, ◌++◌, ◌∷◌, [], ℕ, zero, suc, Bool, List, Option, length, map, take, get_or, inl, inr, refl, sym, ap, arith, subst}
+use Rattle.std.proofs.Common.{◌≡◌, ◌≢◌, ◌<◌, ◌+◌, ◌∙◌, ◌++◌, ◌∷◌, [], ℕ, zero, suc, Bool, List, Option, length, map, take, get_or, inl, inr, refl, sym, ap, arith, subst}
 use Rattle.std.specs.Prelude.{Some, None, IfSome}
 use Rattle.std.specs.Io.KnownBytes.{Appends}
 use Rattle.std.specs.Borrow.{Bor}
 use Rattle.std.proofs.lemmas.List.{append-nil, get_or-map, length-map, map-append, take_more}
 use Rattle.session.specs.Frames.{frames, IsSessionFault}
-use Rattle.session.specs.Joined.{joined}
 use Rattle.session.specs.Joining.{IsReadWhole, IsUnjoined}
 use Rattle.session.specs.declared.frame.FrameFault.{FrameFault}
 use Rattle.session.specs.declared.frame.FrameFault.TheVariants.{CutLength, CutDatagram, TooLong, Io, NoMemory, NoSuchPlace}

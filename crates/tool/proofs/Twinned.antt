@@ -1,7 +1,8 @@
 -- What is printed where a twin was asked for, by the verdict's reason.
 use Rattle.std.proofs.Common.{◌≡◌, ℕ, List, Option, Some, None, refl, ap}
+use Rattle.reception.specs.declared.scope.Identity.{Identity}
 use Rattle.cert.specs.declared.verdict.Reason.{Reason}
-use Rattle.cert.specs.declared.verdict.Reason.TheVariants.{ObjectLength, NotObject, Empty, Packet, OtherIdentity, OtherFti, Range, Symbol, Thin}
+use Rattle.cert.specs.declared.verdict.Reason.TheVariants.{ObjectLength, NotObject, Empty, Packet, OtherFti, Range, Symbol, Thin}
 use Rattle.cert.specs.declared.verdict.Verdict.TheVariants.{No}
 use Rattle.tool.specs.Lines.{Prints, PrintsTwin}
 use Rattle.partition.specs.Fti.{Fti}
@@ -19,25 +20,23 @@ short_reason ObjectLength t e = absurd (cc)
 short_reason (NotObject b c i) t e = absurd (cc)
 short_reason Empty t e = absurd (cc)
 short_reason (Packet i x) t e = absurd (cc)
-short_reason (OtherIdentity i) t e = absurd (cc)
 short_reason (OtherFti i) t e = absurd (cc)
 short_reason (Range i) t e = absurd (cc)
 short_reason (Symbol i c) t e = absurd (cc)
 
 -- any other reason
-pub record IsOther (reason : Reason) (before after : Option (List ℕ)) (f : Fti) (datagrams : List (List ℕ)) (object output : List ℕ) (old new : Option Files) : Type 0 where
+pub record IsOther (who : Identity) (reason : Reason) (before after : Option (List ℕ)) (f : Fti) (datagrams : List (List ℕ)) (object output : List ℕ) (old new : Option Files) : Type 0 where
   pub told : 1 ≡ twin_status_of (No reason)
   pub printed : PrintsTwin (No reason) before after
-  pub made : MakesTwin (No reason) f datagrams object output old new
+  pub made : MakesTwin who (No reason) f datagrams object output old new
 
-pub other_reason : (reason : Reason) (before after : Option (List ℕ)) (f : Fti) (datagrams : List (List ℕ)) (object output : List ℕ) (old new : Option Files)
-    → short_of reason ≡ None → new ≡ old → Prints (No reason) before after → IsOther reason before after f datagrams object output old new
-other_reason (Thin block have need) before after f datagrams object output old new e s h = absurd (cc)
-other_reason ObjectLength before after f datagrams object output old new e s h = record { told = refl; printed = h; made = s }
-other_reason (NotObject b c i) before after f datagrams object output old new e s h = record { told = refl; printed = h; made = s }
-other_reason Empty before after f datagrams object output old new e s h = record { told = refl; printed = h; made = s }
-other_reason (Packet i x) before after f datagrams object output old new e s h = record { told = refl; printed = h; made = s }
-other_reason (OtherIdentity i) before after f datagrams object output old new e s h = record { told = refl; printed = h; made = s }
-other_reason (OtherFti i) before after f datagrams object output old new e s h = record { told = refl; printed = h; made = s }
-other_reason (Range i) before after f datagrams object output old new e s h = record { told = refl; printed = h; made = s }
-other_reason (Symbol i c) before after f datagrams object output old new e s h = record { told = refl; printed = h; made = s }
+pub other_reason : (who : Identity) (reason : Reason) (before after : Option (List ℕ)) (f : Fti) (datagrams : List (List ℕ)) (object output : List ℕ) (old new : Option Files)
+    → short_of reason ≡ None → new ≡ old → Prints (No reason) before after → IsOther who reason before after f datagrams object output old new
+other_reason who (Thin block have need) before after f datagrams object output old new e s h = absurd (cc)
+other_reason who ObjectLength before after f datagrams object output old new e s h = record { told = refl; printed = h; made = s }
+other_reason who (NotObject b c i) before after f datagrams object output old new e s h = record { told = refl; printed = h; made = s }
+other_reason who Empty before after f datagrams object output old new e s h = record { told = refl; printed = h; made = s }
+other_reason who (Packet i x) before after f datagrams object output old new e s h = record { told = refl; printed = h; made = s }
+other_reason who (OtherFti i) before after f datagrams object output old new e s h = record { told = refl; printed = h; made = s }
+other_reason who (Range i) before after f datagrams object output old new e s h = record { told = refl; printed = h; made = s }
+other_reason who (Symbol i c) before after f datagrams object output old new e s h = record { told = refl; printed = h; made = s }

@@ -1,12 +1,13 @@
 -- What decoding a session file prints.
 use Rattle.std.specs.Prelude.{◌≡◌, ◌⊎◌, ℕ, Bool, List, [], ◌∷◌, ◌++◌, Option, length, codes, decimal}
 use Rattle.std.specs.Io.KnownBytes.{Appends}
+use Rattle.reception.specs.declared.scope.Identity.{Identity}
 use Rattle.reception.specs.Answer.{IsAnswer}
 use Rattle.decoder.specs.Answers.{answer_value}
 use Rattle.decoder.specs.declared.answer.Answer.{Answer}
 use Rattle.decoder.specs.declared.answer.Answer.TheVariants.{Empty, Fault as NoObject, Missing, Object}
 use Rattle.decoder.specs.declared.answer.DecodeFault.{DecodeFault}
-use Rattle.decoder.specs.declared.answer.DecodeFault.TheVariants.{Packet, OtherIdentity, OtherFti, Range, Clash, NotCode}
+use Rattle.decoder.specs.declared.answer.DecodeFault.TheVariants.{Packet, OtherFti, Range, Clash, NotCode}
 use Rattle.tool.specs.declared.fault.Fault.{Fault}
 use Rattle.tool.specs.Folder.{Files, Replaces}
 use Rattle.tool.specs.Inputs.{HoldsSession, IsSessionUnread}
@@ -18,7 +19,6 @@ use Rattle.tool.specs.Making.{IsUnmade}
 abbrev pub GainsFault : DecodeFault → List ℕ → List ℕ → Type 0
 GainsFault (Packet place fault) old new =
     new ≡ old ++ named (codes "R1 Packet place") (decimal place) ++ 32 ∷ [] ++ packet_words fault
-GainsFault (OtherIdentity place) old new = new ≡ old ++ named (codes "R2 OtherIdentity place") (decimal place)
 GainsFault (OtherFti place) old new = new ≡ old ++ named (codes "R3 OtherFti place") (decimal place)
 GainsFault (Range place) old new = new ≡ old ++ named (codes "R4 Range place") (decimal place)
 GainsFault (Clash place) old new = new ≡ old ++ named (codes "R5 Clash place") (decimal place)
@@ -51,11 +51,11 @@ MakesObject (Object object) output old new = Replaces old new output object.item
 MakesObject _ output old new = new ≡ old
 
 -- The answer to the session in this file was printed, and the object written; its status.
-pub record IsDecoded (old new : Option Files) (session output : List ℕ) (before after : Option (List ℕ)) (status : ℕ) : Type 0 where
+pub record IsDecoded (who : Identity) (old new : Option Files) (session output : List ℕ) (before after : Option (List ℕ)) (status : ℕ) : Type 0 where
   pub datagrams : List (List ℕ)
   pub answer : Answer
   pub sent : HoldsSession old session datagrams
-  pub right : IsAnswer datagrams (answer_value answer)
+  pub right : IsAnswer who datagrams (answer_value answer)
   pub made : MakesObject answer output old new
   pub told : status ≡ answer_status answer
   pub line : List ℕ

@@ -4,7 +4,7 @@ use Rattle.session.specs.Frames.{frames}
 use Rattle.session.specs.Joined.{joined}
 use Rattle.tool.specs.declared.fault.Fault.{Fault}
 use Rattle.tool.specs.Folder.{Files, Replaces}
-use Rattle.tool.specs.Inputs.{HoldsSession, Opens, IsSessionUnread}
+use Rattle.tool.specs.Inputs.{HoldsSession, IsSessionUnread}
 use Rattle.tool.specs.Lines.{IsPrintFault}
 use Rattle.tool.specs.Making.{PrintsCount, IsUnmade, IsUnwritten}
 

@@ -5,7 +5,7 @@ use Rattle.alc.specs.Packet.{Packet as Sent}
 use Rattle.alc.specs.Reading.{Reading, Reads}
 use Rattle.cert.specs.declared.verdict.Report.{Report}
 use Rattle.cert.specs.declared.verdict.Reason.{Reason}
-use Rattle.cert.specs.declared.verdict.Reason.TheVariants.{ObjectLength, NotObject, Empty, Packet, OtherIdentity, OtherFti, Range, Symbol, Thin}
+use Rattle.cert.specs.declared.verdict.Reason.TheVariants.{ObjectLength, NotObject, Empty, Packet, OtherFti, Range, Symbol, Thin}
 use Rattle.cert.specs.declared.verdict.Verdict.{Verdict}
 use Rattle.cert.specs.declared.verdict.Verdict.TheVariants.{Yes, No}
 use Rattle.tool.specs.declared.fault.Fault.{Fault}
@@ -80,7 +80,6 @@ GainsReason (NotObject block column symbol) old new =
 GainsReason Empty old new = new ≡ old ++ codes "N3 Empty"
 GainsReason (Packet place fault) old new =
     new ≡ old ++ named (codes "N4 Packet place") (decimal place) ++ 32 ∷ [] ++ packet_words fault
-GainsReason (OtherIdentity place) old new = new ≡ old ++ named (codes "N5 OtherIdentity place") (decimal place)
 GainsReason (OtherFti place) old new = new ≡ old ++ named (codes "N6 OtherFti place") (decimal place)
 GainsReason (Range place) old new = new ≡ old ++ named (codes "N7 Range place") (decimal place)
 GainsReason (Symbol place column) old new =

@@ -3,6 +3,7 @@ use Rattle.std.specs.Prelude.{◌≡◌, ◌<◌, ◌⊎◌, ℕ, Bool, List, []
 use Rattle.alc.specs.Packet.{Packet, IsPacket}
 use Rattle.alc.specs.PacketFault.{IsPacketFault}
 use Rattle.alc.specs.declared.fault.PacketFault.{PacketFault}
+use Rattle.reception.specs.declared.scope.Identity.{Identity}
 use Rattle.partition.specs.Fti.{Fti}
 use Rattle.cert.specs.Certificate.{Certificate}
 use Rattle.session.specs.declared.frame.FrameFault.{FrameFault}
@@ -13,6 +14,7 @@ use Rattle.cert.specs.Verdict.{IsVerdict}
 use Rattle.cert.specs.declared.verdict.Reason.TheVariants.{Thin}
 use Rattle.cert.specs.declared.verdict.Verdict.{Verdict}
 use Rattle.cert.specs.declared.verdict.Verdict.TheVariants.{Yes, No}
+use Rattle.request.specs.declared.requests.Identifiers.{Identifiers}
 use Rattle.request.specs.declared.requests.Request.{Request}
 use Rattle.request.specs.declared.requests.Request.TheVariants.{Check, Twin, Show, Encode, Certify, Decode, Follow, Drop, Join}
 use Rattle.tool.specs.declared.fault.Fault.{Fault}
@@ -31,7 +33,7 @@ status_of (No reason) = 1
 
 -- The verdict on the object and the certificate in these files, and on the frames that were read of the session's, was
 -- printed; its status.
-pub record IsChecked (files : Option Files) (session object certificate : List ℕ) (before after : Option (List ℕ)) (status : ℕ) : Type 0 where
+pub record IsChecked (who : Identity) (files : Option Files) (session object certificate : List ℕ) (before after : Option (List ℕ)) (status : ℕ) : Type 0 where
   pub bytes : List ℕ
   pub polynomials : Certificate
   pub verdict : Verdict
@@ -40,13 +42,13 @@ pub record IsChecked (files : Option Files) (session object certificate : List �
   pub sent : Opens files session opened
   pub whole : HoldsBytes files object bytes
   pub certified : HoldsCertificate files certificate polynomials
-  pub judged : IsCheckedFrom opened left bytes polynomials verdict
+  pub judged : IsCheckedFrom who opened left bytes polynomials verdict
   pub told : status ≡ status_of verdict
   pub printed : Prints verdict before after
 
 -- The object and the certificate were read, and of the session the frames of some datagrams that have no reason against
 -- them, but then no frame, for this fault.
-pub record IsCut (files : Option Files) (session object certificate : List ℕ) (fault : FrameFault) : Type 0 where
+pub record IsCut (who : Identity) (files : Option Files) (session object certificate : List ℕ) (fault : FrameFault) : Type 0 where
   pub bytes : List ℕ
   pub polynomials : Certificate
   pub opened : Option (List ℕ)
@@ -55,20 +57,20 @@ pub record IsCut (files : Option Files) (session object certificate : List ℕ) 
   pub sent : Opens files session opened
   pub whole : HoldsBytes files object bytes
   pub certified : HoldsCertificate files certificate polynomials
-  pub refused : IsRefusedBehind fault opened left failed bytes polynomials
+  pub refused : IsRefusedBehind who fault opened left failed bytes polynomials
 
-abbrev pub IsFrameUnread : Option Files → List ℕ → List ℕ → List ℕ → Fault → Type 0
-IsFrameUnread files session object certificate (Frame FrameIo) = (files ≡ None) × IsCut files session object certificate FrameIo
-IsFrameUnread files session object certificate (Frame NoFrameMemory) = ⊥
-IsFrameUnread files session object certificate (Frame fault) = IsCut files session object certificate fault
-IsFrameUnread files session object certificate fault = ⊥
+abbrev pub IsFrameUnread : Identity → Option Files → List ℕ → List ℕ → List ℕ → Fault → Type 0
+IsFrameUnread who files session object certificate (Frame FrameIo) = (files ≡ None) × IsCut who files session object certificate FrameIo
+IsFrameUnread who files session object certificate (Frame NoFrameMemory) = ⊥
+IsFrameUnread who files session object certificate (Frame fault) = IsCut who files session object certificate fault
+IsFrameUnread who files session object certificate fault = ⊥
 
 -- Why there is none: the session didn't open, the object or the certificate wasn't read, then a frame of the session wasn't,
 -- or there was no memory, or the output has failed.
-abbrev pub IsUnchecked : Option Files → List ℕ → List ℕ → List ℕ → Bool → Fault → Type 0
-IsUnchecked files session object certificate failed fault =
+abbrev pub IsUnchecked : Identity → Option Files → List ℕ → List ℕ → List ℕ → Bool → Fault → Type 0
+IsUnchecked who files session object certificate failed fault =
     IsNotOpened files session fault ⊎ IsObjectUnread files object fault ⊎ IsCertificateUnread files certificate fault
-    ⊎ IsFrameUnread files session object certificate fault ⊎ IsPrintFault failed fault
+    ⊎ IsFrameUnread who files session object certificate fault ⊎ IsPrintFault failed fault
 
 -- 0 where there is a twin to be written
 abbrev pub twin_status_of : Verdict → ℕ
@@ -78,14 +80,14 @@ twin_status_of (No reason) = 1
 
 -- Where a verdict finds a block short, the twin for it stands under the output's name, and all other files are as before;
 -- else all are.
-abbrev pub MakesTwin : Verdict → Fti → List (List ℕ) → List ℕ → List ℕ → Option Files → Option Files → Type 0
-MakesTwin (Yes report) f datagrams object output old new = new ≡ old
-MakesTwin (No (Thin block have need)) f datagrams object output old new =
-    (other : List ℕ) × IsTwinOfSession f block datagrams object other × Replaces old new output other
-MakesTwin (No reason) f datagrams object output old new = new ≡ old
+abbrev pub MakesTwin : Identity → Verdict → Fti → List (List ℕ) → List ℕ → List ℕ → Option Files → Option Files → Type 0
+MakesTwin who (Yes report) f datagrams object output old new = new ≡ old
+MakesTwin who (No (Thin block have need)) f datagrams object output old new =
+    (other : List ℕ) × IsTwinOfSession who f block datagrams object other × Replaces old new output other
+MakesTwin who (No reason) f datagrams object output old new = new ≡ old
 
 -- What was printed where a twin was asked for; its status; and the twin that was written, where there is one.
-pub record IsTwinned (old new : Option Files) (session object certificate output : List ℕ) (before after : Option (List ℕ)) (status : ℕ) : Type 0 where
+pub record IsTwinned (who : Identity) (old new : Option Files) (session object certificate output : List ℕ) (before after : Option (List ℕ)) (status : ℕ) : Type 0 where
   pub datagrams : List (List ℕ)
   pub bytes : List ℕ
   pub polynomials : Certificate
@@ -93,10 +95,10 @@ pub record IsTwinned (old new : Option Files) (session object certificate output
   pub sent : HoldsSession old session datagrams
   pub whole : HoldsBytes old object bytes
   pub certified : HoldsCertificate old certificate polynomials
-  pub judged : IsVerdict datagrams bytes polynomials verdict
+  pub judged : IsVerdict who datagrams bytes polynomials verdict
   pub told : status ≡ twin_status_of verdict
   pub printed : PrintsTwin verdict before after
-  pub made : MakesTwin verdict polynomials.fti datagrams bytes output old new
+  pub made : MakesTwin who verdict polynomials.fti datagrams bytes output old new
 
 -- Why not: a file wasn't read, or the output isn't there, or there was no memory, or the output has failed.
 abbrev pub IsUntwinned : List ℕ → List ℕ → List ℕ → List ℕ → Option Files → Bool → Fault → Type 0
@@ -126,19 +128,25 @@ pub record IsShown (files : Option Files) (session : List ℕ) (before after : O
 abbrev pub IsUnshown : Option Files → List ℕ → Bool → Fault → Type 0
 IsUnshown files session failed fault = IsSessionUnread files session fault ⊎ IsPrintFault failed fault
 
+-- whose packets a command asks for
+abbrev pub identity_of : Identifiers → Identity
+identity_of asked = record { tsi = asked.tsi; toi = asked.toi }
+
 -- The request was done: what its files held before, and all files after.
 abbrev pub IsDone : Option Files → Option Files → Request → Option (List ℕ) → Option (List ℕ) → ℕ → Type 0
-IsDone old new (Check session object certificate) before after status =
-    IsChecked old session.now object.now certificate.now before after status × (new ≡ old)
-IsDone old new (Twin session object certificate output) before after status =
-    IsTwinned old new session.now object.now certificate.now output.now before after status
+IsDone old new (Check session object certificate asked) before after status =
+    IsChecked (identity_of asked) old session.now object.now certificate.now before after status × (new ≡ old)
+IsDone old new (Twin session object certificate output asked) before after status =
+    IsTwinned (identity_of asked) old new session.now object.now certificate.now output.now before after status
 IsDone old new (Show session) before after status = IsShown old session.now before after status × (new ≡ old)
 IsDone old new (Encode object output sending) before after status =
     IsEncoded old new object.now output.now sending before after status
 IsDone old new (Certify object output sizes) before after status =
     IsCertified old new object.now output.now sizes before after status
-IsDone old new (Decode session output) before after status = IsDecoded old new session.now output.now before after status
-IsDone old new (Follow session output) before after status = IsFollowed old new session.now output.now before after status
+IsDone old new (Decode session output asked) before after status =
+    IsDecoded (identity_of asked) old new session.now output.now before after status
+IsDone old new (Follow session output asked) before after status =
+    IsFollowed (identity_of asked) old new session.now output.now before after status
 IsDone old new (Drop session output places) before after status =
     IsDropped old new session.now output.now places.items before after status
 IsDone old new (Join output sessions turns) before after status =
@@ -153,9 +161,9 @@ IsShownInPart files session fault failed before after =
 -- Why the request wasn't done; what the files are after it; and what was printed before the fault is told: nothing, but of
 -- datagrams that are shown the lines of the first, and of datagrams that are followed the lines of those that came.
 abbrev pub IsUndone : Option Files → Option Files → Request → Bool → Option (List ℕ) → Option (List ℕ) → Fault → Type 0
-IsUndone old new (Check session object certificate) failed before after fault =
-    IsUnchecked old session.now object.now certificate.now failed fault × (new ≡ old) × IsSilent fault failed before after
-IsUndone old new (Twin session object certificate output) failed before after fault =
+IsUndone old new (Check session object certificate asked) failed before after fault =
+    IsUnchecked (identity_of asked) old session.now object.now certificate.now failed fault × (new ≡ old) × IsSilent fault failed before after
+IsUndone old new (Twin session object certificate output asked) failed before after fault =
     Fails (IsUntwinned session.now object.now certificate.now output.now) old new output.now failed before after fault
 IsUndone old new (Show session) failed before after fault =
     IsUnshown old session.now failed fault × (new ≡ old) × IsShownInPart old session.now fault failed before after
@@ -163,10 +171,10 @@ IsUndone old new (Encode object output sending) failed before after fault =
     Fails (IsNotEncoded object.now output.now sending) old new output.now failed before after fault
 IsUndone old new (Certify object output sizes) failed before after fault =
     Fails (IsNotCertified object.now output.now sizes) old new output.now failed before after fault
-IsUndone old new (Decode session output) failed before after fault =
+IsUndone old new (Decode session output asked) failed before after fault =
     Fails (IsNotDecoded session.now output.now) old new output.now failed before after fault
-IsUndone old new (Follow session output) failed before after fault =
-    IsNotFollowed old new session.now output.now failed before after fault
+IsUndone old new (Follow session output asked) failed before after fault =
+    IsNotFollowed (identity_of asked) old new session.now output.now failed before after fault
 IsUndone old new (Drop session output places) failed before after fault =
     Fails (IsNotDropped session.now output.now places.items) old new output.now failed before after fault
 IsUndone old new (Join output sessions turns) failed before after fault =

@@ -11,6 +11,7 @@ use crate::input::{open, read_certificate, read_object};
 use crate::print::Text;
 use crate::wording::put_packet_fault;
 use cert::{Certificate, CheckFault, Reason, Report, Verdict, check_from};
+use reception::Identity;
 use session::{FrameFault, Read, Write};
 use std::alloc::{AllocError, Global};
 
@@ -23,19 +24,26 @@ pub(crate) fn check<'a, F: Folder, W: Write>(
     session: &'a str,
     object: &'a str,
     certificate: &'a str,
+    identity: Identity,
 ) -> Result<u8, Fault<'a>>
     // The verdict is on what the object's and the certificate's files hold and the frames that were read of the session's.
-    ensures ok { IfOk result (IsChecked (F.files folder.now) session.now object.now certificate.now
-        (W.contents out.old) (W.contents out.new)) }
-    ensures fault { IfErr result (IsUnchecked (F.files folder.now) session.now object.now
-        certificate.now (W.failed out.new)) }
+    ensures ok { IfOk result (IsChecked identity (F.files folder.now) session.now object.now
+        certificate.now (W.contents out.old) (W.contents out.new)) }
+    ensures fault { IfErr result (IsUnchecked identity (F.files folder.now) session.now
+        object.now certificate.now (W.failed out.new)) }
     ensures silent { IfErr result (λ fault.
         IsSilent fault (W.failed out.new) (W.contents out.old) (W.contents out.new)) }
 {
     let mut frames = open(folder, session)?;
     let object = read_object(alloc, folder, object)?;
     let certificate = read_certificate(alloc, folder, certificate)?;
-    match verdict_of(alloc, &mut frames, object.as_slice(), &certificate)? {
+    match verdict_of(
+        alloc,
+        &mut frames,
+        object.as_slice(),
+        &certificate,
+        identity,
+    )? {
         Verdict::Yes(report) => {
             report_lines(alloc, &report)?.print(out)?;
             Ok(0)
@@ -53,13 +61,15 @@ fn verdict_of<'a, R: Read>(
     frames: &mut R,
     object: &[u8],
     certificate: &Certificate,
+    identity: Identity,
 ) -> Result<Verdict, Fault<'a>>
-    ensures ok { IfOk result (IsCheckedFrom (R.remaining frames.old) (R.remaining frames.new)
+    ensures ok { IfOk result (IsCheckedFrom identity (R.remaining frames.old)
+        (R.remaining frames.new) object.now certificate.now) }
+    ensures fault { IfErr result (IsNotChecked identity (R.sound frames.old)
+        (R.remaining frames.old) (R.remaining frames.new) (R.failed frames.new)
         object.now certificate.now) }
-    ensures fault { IfErr result (IsNotChecked (R.sound frames.old) (R.remaining frames.old)
-        (R.remaining frames.new) (R.failed frames.new) object.now certificate.now) }
 {
-    match check_from(alloc, frames, object, certificate) {
+    match check_from(alloc, frames, object, certificate, identity) {
         Ok(verdict) => Ok(verdict),
         Err(CheckFault::NoMemory | CheckFault::Frame(FrameFault::NoMemory)) => Err(Fault::Memory),
         Err(CheckFault::Frame(fault)) => Err(Fault::Frame(fault)),
@@ -139,7 +149,6 @@ fn put_reason(line: &mut Text, reason: Reason) -> Result<(), AllocError>
             line.text(" ")?;
             put_packet_fault(line, fault)
         }
-        Reason::OtherIdentity(place) => line.named("N5 OtherIdentity place", place),
         Reason::OtherFti(place) => line.named("N6 OtherFti place", place),
         Reason::Range(place) => line.named("N7 Range place", place),
         Reason::Symbol(place, column) => {

@@ -10,19 +10,21 @@ use crate::output::write_output;
 use crate::print::Text;
 use crate::wording::put_packet_fault;
 use coder::{Answer, DecodeFault};
+use reception::Identity;
 use session::Write;
 use std::alloc::{AllocError, Global};
 
-/// Writes the object that the session's datagrams give, prints what they give, and answers the status. The output is
-/// created only where there is an object, once its line is made.
+/// Writes the object that the identity's packets in the session give, prints what they give, and answers the status. The
+/// output is created only where there is an object, once its line is made.
 pub(crate) fn decode<'a, F: Folder, W: Write>(
     alloc: Global,
     folder: &mut F,
     out: &mut W,
     session: &'a str,
     output: &'a str,
+    identity: Identity,
 ) -> Result<u8, Fault<'a>>
-    ensures ok { IfOk result (IsDecoded (F.files folder.old) (F.files folder.new)
+    ensures ok { IfOk result (IsDecoded identity (F.files folder.old) (F.files folder.new)
         session.now output.now (W.contents out.old) (W.contents out.new)) }
     ensures fault { IfErr result (Fails (IsNotDecoded session.now output.now)
         (F.files folder.old) (F.files folder.new) output.now
@@ -30,7 +32,7 @@ pub(crate) fn decode<'a, F: Folder, W: Write>(
 {
     let session = read_session(alloc, folder, session)?;
     let datagrams = session.views(alloc)?;
-    let answer = coder::decode(alloc, &datagrams)?;
+    let answer = coder::decode(alloc, &datagrams, identity)?;
     let line = answer_line(alloc, &answer)?;
     match &answer {
         Answer::Object(object) => write_output(folder, output, object.as_slice())?,
@@ -60,7 +62,6 @@ fn put_fault(line: &mut Text, fault: DecodeFault) -> Result<(), AllocError>
             line.text(" ")?;
             put_packet_fault(line, fault)
         }
-        DecodeFault::OtherIdentity(place) => line.named("R2 OtherIdentity place", place),
         DecodeFault::OtherFti(place) => line.named("R3 OtherFti place", place),
         DecodeFault::Range(place) => line.named("R4 Range place", place),
         DecodeFault::Clash(place) => line.named("R5 Clash place", place),

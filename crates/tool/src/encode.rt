@@ -34,8 +34,8 @@ pub(crate) fn encode<'a, F: Folder, W: Write>(
     let sent = coder::encode(
         alloc,
         object.as_slice(),
-        sending.tsi,
-        sending.toi,
+        sending.identifiers.tsi,
+        sending.identifiers.toi,
         &fti,
         sending.order,
         &mut file,

@@ -17,6 +17,7 @@ use crate::output::{create, give_up, keep};
 use crate::print::{Text, print_count};
 use crate::wording::put_packet_fault;
 use coder::{DecodeFault, FeedFault, Progress, Receiver};
+use reception::Identity;
 use session::{FrameFault, Read, Write, read_next};
 use std::alloc::{AllocError, Global};
 
@@ -29,14 +30,15 @@ pub(crate) fn follow<'a, F: Folder, W: Console>(
     out: &mut W,
     session: &'a str,
     output: &'a str,
+    identity: Identity,
 ) -> Result<u8, Fault<'a>>
-    ensures ok { IfOk result (IsFollowed (F.files folder.old) (F.files folder.new)
+    ensures ok { IfOk result (IsFollowed identity (F.files folder.old) (F.files folder.new)
         session.now output.now (W.contents out.old) (W.contents out.new)) }
-    ensures fault { IfErr result (IsNotFollowed (F.files folder.old) (F.files folder.new)
+    ensures fault { IfErr result (IsNotFollowed identity (F.files folder.old) (F.files folder.new)
         session.now output.now (W.failed out.new) (W.contents out.old) (W.contents out.new)) }
 {
     let mut frames = open(folder, session)?;
-    let mut receiver = Receiver::new();
+    let mut receiver = Receiver::new(identity);
     match listen(alloc, &mut frames, out, &mut receiver)? {
         Some(count) => deliver(folder, out, output, &receiver, count),
         None => tell_lack(alloc, out, &receiver),
@@ -51,14 +53,15 @@ fn listen<'a, R: Read, W: Console>(
     receiver: &mut Receiver,
 ) -> Result<Option<usize>, Fault<'a>>
     requires { Stands receiver.old [] }
-    ensures complete { IfOk result (λ o. IfSome o (HasMadeUp receiver.new
+    ensures identity { receiver.new.identity ≡ receiver.old.identity }
+    ensures complete { IfOk result (λ o. IfSome o (HasMadeUp receiver.old.identity receiver.new
         (R.remaining frames.old) (R.remaining frames.new)
         (W.contents out.old) (W.contents out.new))) }
-    ensures end { IfOk result (λ o. IfNone o (HasHeardAll receiver.new
+    ensures end { IfOk result (λ o. IfNone o (HasHeardAll receiver.old.identity receiver.new
         (R.remaining frames.old) (R.remaining frames.new)
         (W.contents out.old) (W.contents out.new))) }
-    ensures fault { IfErr result (IsUnheard (R.sound frames.old) (R.remaining frames.old)
-        (R.remaining frames.new) (R.failed frames.new)
+    ensures fault { IfErr result (IsUnheard receiver.old.identity (R.sound frames.old)
+        (R.remaining frames.old) (R.remaining frames.new) (R.failed frames.new)
         (W.failed out.new) (W.contents out.old) (W.contents out.new)) }
 {
     let mut count = 0usize;
@@ -138,7 +141,6 @@ fn put_refusal(line: &mut Text, fault: FeedFault) -> Result<(), AllocError>
             line.text("R1 Packet ")?;
             put_packet_fault(line, fault)
         }
-        FeedFault::Fault(DecodeFault::OtherIdentity(_)) => line.text("R2 OtherIdentity"),
         FeedFault::Fault(DecodeFault::OtherFti(_)) => line.text("R3 OtherFti"),
         FeedFault::Fault(DecodeFault::Range(_)) => line.text("R4 Range"),
         FeedFault::Fault(DecodeFault::Clash(_)) => line.text("R5 Clash"),
@@ -156,10 +158,12 @@ fn deliver<'a, F: Folder, W: Console>(
     receiver: &Receiver,
     count: usize,
 ) -> Result<u8, Fault<'a>>
-    ensures ok { (taken : List (List ℕ)) → Stands receiver.now taken → LeaveNoneShort taken
-        → IfOk result (IsDelivered (F.files folder.old) (F.files folder.new) output.now
-        taken count (W.contents out.old) (W.contents out.new)) }
-    ensures fault { (taken : List (List ℕ)) → Stands receiver.now taken → LeaveNoneShort taken
+    ensures ok { (taken : List (List ℕ)) → Stands receiver.now taken
+        → LeaveNoneShort receiver.now.identity taken
+        → IfOk result (IsDelivered receiver.now.identity (F.files folder.old)
+        (F.files folder.new) output.now taken count (W.contents out.old) (W.contents out.new)) }
+    ensures fault { (taken : List (List ℕ)) → Stands receiver.now taken
+        → LeaveNoneShort receiver.now.identity taken
         → IfErr result (IsUndelivered (F.files folder.old) (F.files folder.new) output.now
         count (W.failed out.new) (W.contents out.old) (W.contents out.new)) }
 {
@@ -176,9 +180,10 @@ fn write_object<'a, F: Folder>(
     output: &'a str,
     receiver: &Receiver,
 ) -> Result<u64, Fault<'a>>
-    ensures made { (taken : List (List ℕ)) → Stands receiver.now taken → LeaveNoneShort taken
-        → IfOk result (λ length. IsWritten (F.files folder.old) (F.files folder.new) output.now
-        taken length) }
+    ensures made { (taken : List (List ℕ)) → Stands receiver.now taken
+        → LeaveNoneShort receiver.now.identity taken
+        → IfOk result (λ length. IsWritten receiver.now.identity (F.files folder.old)
+        (F.files folder.new) output.now taken length) }
     ensures fault { IfErr result (IsUnwritten (F.files folder.old) (F.files folder.new)
         output.now) }
 {
@@ -200,7 +205,8 @@ fn tell_lack<'a, W: Console>(
     receiver: &Receiver,
 ) -> Result<u8, Fault<'a>>
     ensures ok { (taken : List (List ℕ)) → Stands receiver.now taken
-        → IfOk result (TellsAnswer taken (W.contents out.old) (W.contents out.new)) }
+        → IfOk result (TellsAnswer receiver.now.identity taken (W.contents out.old)
+        (W.contents out.new)) }
     ensures fault { IfErr result (IsUntold (W.failed out.new)
         (W.contents out.old) (W.contents out.new)) }
 {

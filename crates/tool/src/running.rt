@@ -2,7 +2,7 @@
 ghost use Rattle.std.specs.Prelude.{◌≡◌, ◌⊎◌, ◌≤◌, ◌++◌, ℕ, List, true, codes, IfOk, IfErr, OnOk};
 ghost use Rattle.std.specs.Io.KnownBytes.{Appends};
 ghost use Rattle.tool.specs.Lines.{line_of, IsFaultText, IsPrintFault, IsSilent, TellsFault};
-ghost use Rattle.tool.specs.Outcomes.{IsRun, IsDone, IsUndone};
+ghost use Rattle.tool.specs.Outcomes.{identity_of as asked_identity, IsRun, IsDone, IsUndone};
 ghost use Rattle.tool.specs.declared.fault.Fault.TheVariants.{Output};
 
 use crate::certify::certify;
@@ -19,9 +19,20 @@ use crate::print::Text;
 use crate::show::show;
 use crate::twinning::twin;
 use crate::wording::{put_certificate_fault, put_frame_fault, put_fti_fault, put_send_fault};
-use request::Request;
+use reception::Identity;
+use request::{Identifiers, Request};
 use session::{Write, write_all};
 use std::alloc::{AllocError, Global};
+
+// Whose packets a command asks for.
+fn identity_of(identifiers: &Identifiers) -> Identity
+    ensures { result ≡ asked_identity identifiers.now }
+{
+    Identity {
+        tsi: u64::from(identifiers.tsi),
+        toi: u128::from(identifiers.toi),
+    }
+}
 
 fn perform<'a, F: Folder, W: Console>(
     alloc: Global,
@@ -39,13 +50,35 @@ fn perform<'a, F: Folder, W: Console>(
             session,
             object,
             certificate,
-        } => check(alloc, folder, out, session, object, certificate),
+            identifiers,
+        } => check(
+            alloc,
+            folder,
+            out,
+            session,
+            object,
+            certificate,
+            identity_of(identifiers),
+        ),
         Request::Twin {
             session,
             object,
             certificate,
             output,
-        } => twin(alloc, folder, out, session, object, certificate, output),
+            identifiers,
+        } => {
+            let identity = identity_of(identifiers);
+            twin(
+                alloc,
+                folder,
+                out,
+                session,
+                object,
+                certificate,
+                output,
+                identity,
+            )
+        }
         Request::Show { session } => show(alloc, folder, out, session),
         Request::Encode {
             object,
@@ -57,8 +90,30 @@ fn perform<'a, F: Folder, W: Console>(
             output,
             sizes,
         } => certify(alloc, folder, out, object, output, sizes),
-        Request::Decode { session, output } => decode(alloc, folder, out, session, output),
-        Request::Follow { session, output } => follow(alloc, folder, out, session, output),
+        Request::Decode {
+            session,
+            output,
+            identifiers,
+        } => decode(
+            alloc,
+            folder,
+            out,
+            session,
+            output,
+            identity_of(identifiers),
+        ),
+        Request::Follow {
+            session,
+            output,
+            identifiers,
+        } => follow(
+            alloc,
+            folder,
+            out,
+            session,
+            output,
+            identity_of(identifiers),
+        ),
         Request::Drop {
             session,
             output,

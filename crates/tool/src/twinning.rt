@@ -12,6 +12,7 @@ use crate::input::{read_certificate, read_object, read_session};
 use crate::output::write_output;
 use crate::print::Text;
 use cert::{Reason, Verdict, session_twin};
+use reception::Identity;
 use session::Write;
 use std::alloc::{AllocError, Global};
 
@@ -25,9 +26,10 @@ pub(crate) fn twin<'a, F: Folder, W: Write>(
     object: &'a str,
     certificate: &'a str,
     output: &'a str,
+    identity: Identity,
 ) -> Result<u8, Fault<'a>>
-    ensures ok { IfOk result (IsTwinned (F.files folder.old) (F.files folder.new) session.now
-        object.now certificate.now output.now (W.contents out.old) (W.contents out.new)) }
+    ensures ok { IfOk result (IsTwinned identity (F.files folder.old) (F.files folder.new)
+        session.now object.now certificate.now output.now (W.contents out.old) (W.contents out.new)) }
     ensures fault { IfErr result (Fails (IsUntwinned session.now object.now certificate.now
         output.now) (F.files folder.old) (F.files folder.new) output.now (W.failed out.new)
         (W.contents out.old) (W.contents out.new)) }
@@ -35,14 +37,21 @@ pub(crate) fn twin<'a, F: Folder, W: Write>(
     let session = read_session(alloc, folder, session)?;
     let object = read_object(alloc, folder, object)?;
     let certificate = read_certificate(alloc, folder, certificate)?;
-    match cert::check(alloc, &session, object.as_slice(), &certificate)? {
+    match cert::check(alloc, &session, object.as_slice(), &certificate, identity)? {
         Verdict::Yes(_) => {
             no_twin_line(alloc)?.print(out)?;
             Ok(1)
         }
         Verdict::No(reason) => match short_block(reason) {
             Some((block, have, need)) => {
-                let other = session_twin(alloc, &session, object.as_slice(), &certificate, block)?;
+                let other = session_twin(
+                    alloc,
+                    &session,
+                    object.as_slice(),
+                    &certificate,
+                    block,
+                    identity,
+                )?;
                 let line = twin_line_of(alloc, block, have, need)?;
                 write_output(folder, output, other.as_slice())?;
                 line.print(out)?;
@@ -66,7 +75,6 @@ fn short_block(reason: Reason) -> Option<(u32, usize, usize)>
         | Reason::NotObject { .. }
         | Reason::Empty
         | Reason::Packet(..)
-        | Reason::OtherIdentity(_)
         | Reason::OtherFti(_)
         | Reason::Range(_)
         | Reason::Symbol(..) => None,

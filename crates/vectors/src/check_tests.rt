@@ -1,4 +1,5 @@
 //! Checks of sessions as they are read.
+use crate::ONE;
 use crate::session_tests::breaking_between;
 use cert::{Certificate, CheckFault, Reason, Verdict, check_from};
 use session::{FrameFault, Pieces, read_to_end};
@@ -69,7 +70,7 @@ fn every_cut_in_every_piece(rt: HostRuntime) -> Result<(), Fail> {
         for size in 0..=105usize {
             let beginning = SESSION.get(..size).unwrap_or(&[]);
             let mut reader = Pieces::new(beginning, most);
-            let answer = told_by(check_from(alloc, &mut reader, &OBJECT, &certificate));
+            let answer = told_by(check_from(alloc, &mut reader, &OBJECT, &certificate, ONE));
             assert_eq!(rt;
                 answer,
                 of_beginning(size),
@@ -90,7 +91,7 @@ fn a_reason_before_a_cut(rt: HostRuntime) -> Result<(), Fail> {
         for size in 0..=105usize {
             let beginning = session.get(..size).unwrap_or(&[]);
             let mut reader = Pieces::new(beginning, most);
-            let answer = told_by(check_from(alloc, &mut reader, &OBJECT, &certificate));
+            let answer = told_by(check_from(alloc, &mut reader, &OBJECT, &certificate, ONE));
             let left = read_to_end(alloc, &mut reader)?;
             let (wanted, unread) = if size < 2 * FRAME {
                 (of_beginning(size), &[][..])
@@ -122,7 +123,7 @@ fn another_object(rt: HostRuntime) -> Result<(), Fail> {
         for size in 0..=105usize {
             let beginning = SESSION.get(..size).unwrap_or(&[]);
             let mut reader = Pieces::new(beginning, 8);
-            let answer = told_by(check_from(alloc, &mut reader, object, &certificate));
+            let answer = told_by(check_from(alloc, &mut reader, object, &certificate, ONE));
             assert_eq!(rt; answer, Told::No(reason), "{size} bytes");
             let left = read_to_end(alloc, &mut reader)?;
             assert_eq!(rt; left.as_slice(), beginning);
@@ -140,10 +141,10 @@ fn a_reader_that_fails_under_a_check(rt: HostRuntime) -> Result<(), Fail> {
     let wrong = changed();
     for size in 0..=105usize {
         let mut reader = breaking_between(SESSION.get(..size).unwrap_or(&[]), &[]);
-        let answer = told_by(check_from(alloc, &mut reader, &OBJECT, &certificate));
+        let answer = told_by(check_from(alloc, &mut reader, &OBJECT, &certificate, ONE));
         assert_eq!(rt; answer, failed, "broken at {size}");
         let mut reader = breaking_between(wrong.get(..size).unwrap_or(&[]), &[]);
-        let answer = told_by(check_from(alloc, &mut reader, &OBJECT, &certificate));
+        let answer = told_by(check_from(alloc, &mut reader, &OBJECT, &certificate, ONE));
         let wanted = if size < 2 * FRAME {
             failed
         } else {

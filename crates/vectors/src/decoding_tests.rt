@@ -1,7 +1,9 @@
 //! What datagrams give.
+use crate::ONE;
 use alc::PacketFault;
 use coder::{Answer, DecodeFault, decode, decode_selection, encode, one_answer};
 use partition::{Fti, Order};
+use reception::{Identity, isolation};
 use session::{FrameFault, Pieces, Session, Sink};
 use std::alloc::{AllocError, Global};
 use std::test::Fail;
@@ -18,7 +20,7 @@ fn sent(alloc: Global, object: &[u8], fti: &Fti) -> Result<Session, Fail> {
 fn of_places(alloc: Global, session: &Session, places: &[usize]) -> Result<Answer, Fail> {
     let chosen = session.keep(alloc, places)?;
     let datagrams = chosen.views(alloc)?;
-    Ok(decode(alloc, &datagrams)?)
+    Ok(decode(alloc, &datagrams, ONE)?)
 }
 
 // What these datagrams say.
@@ -27,7 +29,7 @@ fn of_datagrams(alloc: Global, datagrams: &[Vec<u8>]) -> Result<Answer, Fail> {
     for datagram in datagrams {
         views.push(datagram.as_slice())?;
     }
-    Ok(decode(alloc, &views)?)
+    Ok(decode(alloc, &views, ONE)?)
 }
 
 // The FTI of a packet: bytes of the transfer length, E, B and max_n.
@@ -109,7 +111,7 @@ fn any_two_of_three(rt: HostRuntime) -> Result<(), Fail> {
         let answer = of_places(rt.alloc(), &session, &[place, place])?;
         assert!(rt; is_missing(&answer, 0, 1, 2), "place {place}");
     }
-    assert!(rt; is_empty(&decode(rt.alloc(), &[])?));
+    assert!(rt; is_empty(&decode(rt.alloc(), &[], ONE)?));
     Ok(())
 }
 
@@ -118,11 +120,11 @@ fn selections(rt: HostRuntime) -> Result<(), Fail> {
     let object = [1, 2];
     let session = sent(rt.alloc(), &object, &Fti::new(2, 1, 2, 3)?)?;
     one_answer();
-    let answer = decode_selection(rt.alloc(), &session, &[2, 0, 2])?;
+    let answer = decode_selection(rt.alloc(), &session, &[2, 0, 2], ONE)?;
     assert!(rt; is_object(&answer, &object));
-    let answer = decode_selection(rt.alloc(), &session, &[1])?;
+    let answer = decode_selection(rt.alloc(), &session, &[1], ONE)?;
     assert!(rt; is_missing(&answer, 0, 1, 2));
-    match decode_selection(rt.alloc(), &session, &[0, 4, 3]) {
+    match decode_selection(rt.alloc(), &session, &[0, 4, 3], ONE) {
         Ok(_) => assert!(rt; false, "decoded"),
         Err(fault) => assert_eq!(rt; fault, FrameFault::NoSuchPlace(4)),
     }
@@ -195,7 +197,7 @@ fn padding(rt: HostRuntime) -> Result<(), Fail> {
     let fti = [0, 0, 0, 0, 0, 3, 0, 2, 2, 3];
     let first = datagram(rt.alloc(), 1, fti, [0, 0, 0, 0], &[7, 8])?;
     let second = datagram(rt.alloc(), 1, fti, [0, 0, 0, 1], &[9, 1])?;
-    let answer = decode(rt.alloc(), &[first.as_slice(), second.as_slice()])?;
+    let answer = decode(rt.alloc(), &[first.as_slice(), second.as_slice()], ONE)?;
     assert!(rt; is_fault(&answer, DecodeFault::NotCode(0)));
     Ok(())
 }
@@ -207,10 +209,10 @@ fn another_repair_symbol(rt: HostRuntime) -> Result<(), Fail> {
     let second = of_two(rt.alloc(), 1, 2)?;
     let repair = of_two(rt.alloc(), 2, 5)?;
     let (first, second, repair) = (first.as_slice(), second.as_slice(), repair.as_slice());
-    let answer = decode(rt.alloc(), &[first, second, repair])?;
+    let answer = decode(rt.alloc(), &[first, second, repair], ONE)?;
     assert!(rt; is_fault(&answer, DecodeFault::NotCode(0)));
-    assert!(rt; is_object(&decode(rt.alloc(), &[first, second])?, &[1, 2]));
-    assert!(rt; is_object(&decode(rt.alloc(), &[first, repair])?, &[1, 0xF6]));
+    assert!(rt; is_object(&decode(rt.alloc(), &[first, second], ONE)?, &[1, 2]));
+    assert!(rt; is_object(&decode(rt.alloc(), &[first, repair], ONE)?, &[1, 0xF6]));
     Ok(())
 }
 
@@ -235,29 +237,48 @@ fn no_object_before_missing(rt: HostRuntime) -> Result<(), Fail> {
 fn faults_of_the_second(rt: HostRuntime) -> Result<(), Fail> {
     let first = of_two(rt.alloc(), 0, 1)?;
     let other_fti = [0, 0, 0, 0, 0, 2, 0, 1, 2, 4];
-    for (toi, fti, payload_id, fault) in [
-        (1, TWO_OF_THREE, [0, 0, 0, 0], DecodeFault::Clash(1)),
-        (1, TWO_OF_THREE, [0, 0, 0, 3], DecodeFault::Range(1)),
-        (1, TWO_OF_THREE, [0, 0, 1, 0], DecodeFault::Range(1)),
-        (1, other_fti, [0, 0, 0, 1], DecodeFault::OtherFti(1)),
-        (2, other_fti, [0, 0, 0, 1], DecodeFault::OtherIdentity(1)),
+    for (fti, payload_id, fault) in [
+        (TWO_OF_THREE, [0, 0, 0, 0], DecodeFault::Clash(1)),
+        (TWO_OF_THREE, [0, 0, 0, 3], DecodeFault::Range(1)),
+        (TWO_OF_THREE, [0, 0, 1, 0], DecodeFault::Range(1)),
+        (other_fti, [0, 0, 0, 1], DecodeFault::OtherFti(1)),
     ] {
-        let second = datagram(rt.alloc(), toi, fti, payload_id, &[2])?;
-        let answer = decode(rt.alloc(), &[first.as_slice(), second.as_slice()])?;
+        let second = datagram(rt.alloc(), 1, fti, payload_id, &[2])?;
+        let answer = decode(rt.alloc(), &[first.as_slice(), second.as_slice()], ONE)?;
         assert!(rt; is_fault(&answer, fault), "{fault}");
     }
     let no_packet = DecodeFault::Packet(1, PacketFault::TooShort);
-    let answer = decode(rt.alloc(), &[first.as_slice(), &[]])?;
+    let answer = decode(rt.alloc(), &[first.as_slice(), &[]], ONE)?;
     assert!(rt; is_fault(&answer, no_packet));
+    Ok(())
+}
+
+// Packets of another object are passed over, and places are those of the whole list.
+#[test]
+fn another_object_passed_over(rt: HostRuntime) -> Result<(), Fail> {
+    let first = of_two(rt.alloc(), 0, 1)?;
+    let second = of_two(rt.alloc(), 1, 2)?;
+    let changed = of_two(rt.alloc(), 0, 9)?;
+    let other_fti = [0, 0, 0, 0, 0, 9, 0, 1, 9, 9];
+    let other = datagram(rt.alloc(), 2, other_fti, [0, 0, 7, 7], &[5])?;
+    let (first, second, other) = (first.as_slice(), second.as_slice(), other.as_slice());
+    let answer = decode(rt.alloc(), &[other, first, other, second], ONE)?;
+    assert!(rt; is_object(&answer, &[1, 2]));
+    let answer = decode(rt.alloc(), &[other, first, other, changed.as_slice()], ONE)?;
+    assert!(rt; is_fault(&answer, DecodeFault::Clash(3)));
+    assert!(rt; is_empty(&decode(rt.alloc(), &[other, other], ONE)?));
+    let answer = decode(rt.alloc(), &[first, other], Identity { tsi: 1, toi: 2 })?;
+    assert!(rt; is_fault(&answer, DecodeFault::Range(1)));
+    isolation();
     Ok(())
 }
 
 #[test]
 fn faults_of_the_first(rt: HostRuntime) -> Result<(), Fail> {
     let past = of_two(rt.alloc(), 3, 1)?;
-    let answer = decode(rt.alloc(), &[past.as_slice()])?;
+    let answer = decode(rt.alloc(), &[past.as_slice()], ONE)?;
     assert!(rt; is_fault(&answer, DecodeFault::Range(0)));
-    let answer = decode(rt.alloc(), &[&[], past.as_slice()])?;
+    let answer = decode(rt.alloc(), &[&[], past.as_slice()], ONE)?;
     assert!(rt; is_fault(&answer, DecodeFault::Packet(0, PacketFault::TooShort)));
     Ok(())
 }
@@ -269,13 +290,13 @@ fn a_great_object_claimed(rt: HostRuntime) -> Result<(), Fail> {
     let symbol = Vec::from_elem(rt.alloc(), 7u8, 65475)?;
     let first = datagram(rt.alloc(), 1, fti, [0, 0, 0, 0], &symbol)?;
     assert_eq!(rt; first.len(), 65507);
-    let answer = decode(rt.alloc(), &[first.as_slice()])?;
+    let answer = decode(rt.alloc(), &[first.as_slice()], ONE)?;
     assert!(rt; is_missing(&answer, 0, 1, 255));
     let last = datagram(rt.alloc(), 1, fti, [1, 1, 0x3E, 0], &symbol)?;
-    let answer = decode(rt.alloc(), &[last.as_slice()])?;
+    let answer = decode(rt.alloc(), &[last.as_slice()], ONE)?;
     assert!(rt; is_missing(&answer, 0, 0, 255));
     let past = datagram(rt.alloc(), 1, fti, [1, 1, 0x3F, 0], &symbol)?;
-    let answer = decode(rt.alloc(), &[past.as_slice()])?;
+    let answer = decode(rt.alloc(), &[past.as_slice()], ONE)?;
     assert!(rt; is_fault(&answer, DecodeFault::Range(0)));
     Ok(())
 }
@@ -285,7 +306,6 @@ fn texts_of_faults(rt: HostRuntime) -> Result<(), Fail> {
     let no_packet = DecodeFault::Packet(0, PacketFault::TooShort);
     for (fault, text) in [
         (no_packet, "R1 Packet place 0 P1 TooShort"),
-        (DecodeFault::OtherIdentity(3), "R2 OtherIdentity place 3"),
         (DecodeFault::OtherFti(4), "R3 OtherFti place 4"),
         (DecodeFault::Range(5), "R4 Range place 5"),
         (DecodeFault::Clash(1), "R5 Clash place 1"),

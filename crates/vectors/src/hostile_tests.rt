@@ -1,4 +1,5 @@
 //! Every cut, great claims, each byte of a datagram changed, and readers and writers that fail at any place.
+use crate::ONE;
 use crate::check_tests::{CERTIFICATE, FRAME, OBJECT, SESSION, Told, told_by};
 use crate::session_tests::breaking_between;
 use alc::{PacketFault, read};
@@ -87,7 +88,7 @@ fn a_reason_before_a_failure(rt: HostRuntime) -> Result<(), Fail> {
     let session = last_changed();
     for size in 0..=105usize {
         let mut reader = breaking_between(session.get(..size).unwrap_or(&[]), &[]);
-        let answer = told_by(check_from(alloc, &mut reader, &OBJECT, &certificate));
+        let answer = told_by(check_from(alloc, &mut reader, &OBJECT, &certificate, ONE));
         let wanted = if size < 105 {
             Told::Fault(CheckFault::Frame(FrameFault::Io))
         } else {
@@ -150,10 +151,10 @@ fn far_blocks(rt: HostRuntime) -> Result<(), Fail> {
         let datagram = datagram_of(alloc, fti, payload_id, size)?;
         let datagram = datagram.as_slice();
         assert!(rt;
-            lacks_all(&decode(alloc, &[datagram])?, need),
+            lacks_all(&decode(alloc, &[datagram], ONE)?, need),
             "decoded, {size}"
         );
-        let mut receiver = Receiver::new();
+        let mut receiver = Receiver::new(ONE);
         assert!(rt; receiver.feed(alloc, datagram).is_ok(), "fed, {size}");
         assert!(rt; lacks_all(&receiver.take(alloc)?, need), "taken, {size}");
     }
@@ -162,7 +163,7 @@ fn far_blocks(rt: HostRuntime) -> Result<(), Fail> {
 
 // Why a datagram isn't decoded, if it isn't.
 fn decoding_fault(alloc: Global, datagram: &[u8]) -> Result<Option<DecodeFault>, AllocError> {
-    match decode(alloc, &[datagram])? {
+    match decode(alloc, &[datagram], ONE)? {
         Answer::Fault(fault) => Ok(Some(fault)),
         _ => Ok(None),
     }
@@ -170,7 +171,7 @@ fn decoding_fault(alloc: Global, datagram: &[u8]) -> Result<Option<DecodeFault>,
 
 // Why a receiver refuses a datagram, if it does.
 fn feeding_fault(alloc: Global, datagram: &[u8]) -> Result<Option<DecodeFault>, AllocError> {
-    let mut receiver = Receiver::new();
+    let mut receiver = Receiver::new(ONE);
     match receiver.feed(alloc, datagram) {
         Err(FeedFault::Fault(fault)) => Ok(Some(fault)),
         Err(FeedFault::NoMemory) => Err(AllocError),
@@ -197,7 +198,7 @@ fn every_byte_as_every_byte(rt: HostRuntime) -> Result<(), Fail> {
                 decoding,
                 "byte {at} is {byte}"
             );
-            let checked = told_by(Ok(check(alloc, &session, &OBJECT, &certificate)?));
+            let checked = told_by(Ok(check(alloc, &session, &OBJECT, &certificate, ONE)?));
             match fault {
                 Some(fault) => {
                     assert_eq!(rt; decoding, Some(DecodeFault::Packet(0, fault)));

@@ -29,3 +29,7 @@ mod receiver_tests;
 mod sending_tests;
 #[cfg(test)]
 mod session_tests;
+
+// Whose packets most vectors are.
+#[cfg(test)]
+pub(crate) const ONE: reception::Identity = reception::Identity { tsi: 1, toi: 1 };

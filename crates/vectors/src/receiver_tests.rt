@@ -1,4 +1,5 @@
 //! A receiver beside the decoder, at each datagram of sessions that lose, repeat and spoil some, in any order.
+use crate::ONE;
 use coder::{Answer, FeedFault, Progress, Receiver, decode, encode};
 use partition::{Fti, Order};
 use rand::seq::SliceRandom;
@@ -89,12 +90,12 @@ fn agrees(fed: &Result<Progress, FeedFault>, taken: &Answer, decoded: &Answer) -
 
 // Whether they agree at each of these datagrams, and whether the object was there at the end.
 fn compare(alloc: Global, datagrams: &[Vec<u8>]) -> Result<(bool, bool), Fail> {
-    let mut receiver = Receiver::new();
+    let mut receiver = Receiver::new(ONE);
     let mut accepted = Vec::new(alloc);
     for datagram in datagrams {
         let fed = receiver.feed(alloc, datagram.as_slice());
         accepted.push(datagram.as_slice())?;
-        let decoded = decode(alloc, &accepted)?;
+        let decoded = decode(alloc, &accepted, ONE)?;
         let taken = receiver.take(alloc)?;
         if !agrees(&fed, &taken, &decoded) {
             return Ok((false, false));

@@ -2,6 +2,7 @@
 use cert::{Certificate, Verdict, check};
 use coder::{CertifyFault, SendFault, certify, encode};
 use partition::{Fti, Order};
+use reception::Identity;
 use session::{Pieces, Session, Sink};
 use std::alloc::Global;
 use std::test::Fail;
@@ -9,6 +10,8 @@ use std::test::Fail;
 const TSI: u32 = 1;
 
 const TOI: u32 = 1;
+
+const IDENTITY: Identity = Identity { tsi: 1, toi: 1 };
 
 // The session's file.
 fn sent(
@@ -34,7 +37,7 @@ fn is_certified(alloc: Global, object: &[u8], fti: &Fti, count: u64) -> Result<b
         let sink = sent(alloc, object, fti, order, count)?;
         let mut reader = Pieces::new(sink.bytes(), 100);
         let session = Session::read(alloc, &mut reader)?;
-        match check(alloc, &session, object, &certificate)? {
+        match check(alloc, &session, object, &certificate, IDENTITY)? {
             Verdict::Yes(_) => {}
             Verdict::No(_) => return Ok(false),
         }

@@ -6,6 +6,7 @@ use Rattle.cert.proofs.from_reader.report_from.Given as goal
 
 abbrev pub invariant-loop-walk : goal.invariant-loop-walk
 invariant-loop-walk g l = record {
+  identity : l.walk.scope.identity ≡ l.fn.identity;
   certificate : l.walk.symbols ≡ l.certificate;
   object : l.walk.object.now ≡ l.object;
   read :

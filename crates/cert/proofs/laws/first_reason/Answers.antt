@@ -4,4 +4,4 @@ use Rattle.cert.specs.Verdict.{uncertified}
 use Rattle.cert.proofs.laws.first_reason.Goals as goal
 
 pub returns : goal.returns
-returns c = λ z. tells_the_first (uncertified z) (with_fti z.fti)
+returns c = λ who z. tells_the_first (uncertified z) (with_fti who z.fti)

@@ -1,19 +1,21 @@
 use Rattle.std.proofs.Common.{ℕ, List, subst}
 use Rattle.alc.specs.Reading.{Reading}
+use Rattle.reception.specs.declared.scope.Identity.{Identity}
 use Rattle.reception.proofs.OneAnswer.{same_readings}
 use Rattle.cert.specs.declared.verdict.Verdict.{Verdict}
 use Rattle.cert.specs.declared.verdict.Verdict.TheVariants.{Yes, No}
 use Rattle.cert.specs.Certificate.{Certificate}
 use Rattle.cert.specs.Verdict.{VerdictOn, IsVerdict, IsYes}
 use Rattle.cert.proofs.OneVerdict.{never_no}
-use Rattle.coder.specs.Certified.{Certifies}
+use Rattle.coder.specs.Certified.{Certifies, identity_of}
 use Rattle.coder.proofs.laws.sent_checks_yes.Goals as goal
 
-yes : (object : List ℕ) (z : Certificate) (session : List (List ℕ)) (v : Verdict) → Certifies z object session → IsVerdict session object z v → IsYes v
-yes object z session (Yes report) g h = tt
-yes object z session (No reason) g h =
+yes : (who : Identity) (object : List ℕ) (z : Certificate) (session : List (List ℕ)) (v : Verdict) → Certifies who z object session → IsVerdict who session object z v → IsYes v
+yes who object z session (Yes report) g h = tt
+yes who object z session (No reason) g h =
     let e = same_readings session h.readings g.readings h.read g.read in
-    absurd (never_no g.readings object z g.granted reason (subst (λ (rs : List Reading). VerdictOn rs object z (No reason)) e h.judged))
+    absurd (never_no who g.readings object z g.granted reason (subst (λ (rs : List Reading). VerdictOn who rs object z (No reason)) e h.judged))
 
 pub returns : goal.returns
-returns c = λ object z all tsi toi order session verdict lt lu sent is. yes object z session verdict (all tsi toi order session lt lu sent) is
+returns c = λ object z all tsi toi order session verdict lt lu sent is.
+    yes (identity_of tsi toi) object z session verdict (all tsi toi order session lt lu sent) is

@@ -16,18 +16,18 @@ bytes_of xs P h i l = h i (omega (arith, l, length-map xs (λ (d : Bor (List ℕ
 pub answer-requires : goal.answer-requires
 answer-requires c =
     let ds = map (λ (d : Bor (List ℕ)). d.now) c.args.datagrams.now in
-    stand_of ds c.in-Ok-Some.received.fti (bytes_at c.in-Ok-Some.received.symbols) (read_all ds (bytes_of c.args.datagrams.now _ c.all_are_bytes.ensures))
+    stand_of c.args.identity ds c.in-Ok-Some.received.fti (bytes_at c.in-Ok-Some.received.symbols) (read_all ds (bytes_of c.args.datagrams.now _ c.all_are_bytes.ensures))
     (rw c.in-Ok-Some.field-0-is at c.in-Ok-Some.ensures.received)
 
 pub returns-in-Ok-Some : goal.returns-in-Ok-Some
 returns-in-Ok-Some c =
     let ds = map (λ (d : Bor (List ℕ)). d.now) c.args.datagrams.now in
     let read = read_all ds (bytes_of c.args.datagrams.now _ c.all_are_bytes.ensures) in
-    if_ok (λ (a : Answer). Answers c.in-Ok-Some.received.fti (bytes_at c.in-Ok-Some.received.symbols) (answer_value a)) (λ (a : Answer). IsAnswer (map (λ (d : Bor (List ℕ)). d.now) c.args.datagrams.now) (answer_value a)) _
+    if_ok (λ (a : Answer). Answers c.in-Ok-Some.received.fti (bytes_at c.in-Ok-Some.received.symbols) (answer_value a)) (λ (a : Answer). IsAnswer c.args.identity (map (λ (d : Bor (List ℕ)). d.now) c.args.datagrams.now) (answer_value a)) _
     (λ a h. record {
       readings = readings_of ds;
       read = read;
-      answers = answered ds c.in-Ok-Some.received.fti (bytes_at c.in-Ok-Some.received.symbols) (answer_value a) read
+      answers = answered c.args.identity ds c.in-Ok-Some.received.fti (bytes_at c.in-Ok-Some.received.symbols) (answer_value a) read
           (rw c.in-Ok-Some.field-0-is at c.in-Ok-Some.ensures.received) h;
     })
     c.answer.ensures

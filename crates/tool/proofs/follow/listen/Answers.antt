@@ -14,12 +14,14 @@ returns-in-Ok-Complete-clause-complete g c =
     let d = c.in-Some.datagram.items in
     let one = rw c.in-Some.is at c.in_ok-datagram.ensures.some in
     let stands = rw c.as_slice.ensures.value at (c.in-Ok-Complete.ensures.accepted read.1 read.4) in
-    let full = rw (c.in-Ok-Complete.field-0-is, c.as_slice.ensures.value) at (c.in-Ok-Complete.ensures.progress read.1 read.4) in
+    let who = c.args.receiver.now.identity in
+    let same = c.loop-datagram.invariant.identity in
+    let full = rw (c.in-Ok-Complete.field-0-is, c.as_slice.ensures.value, same) at (c.in-Ok-Complete.ensures.progress read.1 read.4) in
     let next = c.in-Some-checked_add.ensures in (
       with_datagram read.1 d,
       read.2,
       stands,
-      read_last (g.R.Read.remaining c.args.frames.now) (g.R.Read.remaining c.loop-datagram.frames) (g.R.Read.remaining c.next.new.frames) read.0 read.1 read.2 c.loop-datagram.count d read.6
+      read_last who (g.R.Read.remaining c.args.frames.now) (g.R.Read.remaining c.loop-datagram.frames) (g.R.Read.remaining c.next.new.frames) read.0 read.1 read.2 c.loop-datagram.count d read.6
           read.3 one c.in-Some-checked_add.read (omega (arith, next)) full,
       read.7,
     )
@@ -35,12 +37,14 @@ loop-datagram-preserved g c =
     let b = g.R.Read.remaining c.next.new.frames in
     let count = c.loop-datagram.count in
     let many = many_more read.0 d count c.in-Some-checked_add.read read.3 (omega (arith, next)) in
+    let who = c.args.receiver.now.identity in
+    let same = c.loop-datagram.invariant.identity in
     let stays = c.next.ensures.stays ∙ c.loop-datagram.invariant.stays in
     elim c.match-feed.branch [
       | in-Ok-More w ↦
           (let stands = rw c.as_slice.ensures.value at (w.in-Ok-More.ensures.accepted read.1 read.4) in
-          let sound = rw c.as_slice.ensures.value at (w.in-Ok-More.ensures.sound read.1 read.4) in
-          let short = rw (w.in-Ok-More.field-0-is, c.as_slice.ensures.value) at (w.in-Ok-More.ensures.progress read.1 read.4) in
+          let sound = rw (c.as_slice.ensures.value, same) at (w.in-Ok-More.ensures.sound read.1 read.4) in
+          let short = rw (w.in-Ok-More.field-0-is, c.as_slice.ensures.value, same) at (w.in-Ok-More.ensures.progress read.1 read.4) in
           rw w.out-is record {
             read = (
               with_datagram read.0 d,
@@ -49,9 +53,10 @@ loop-datagram-preserved g c =
               many,
               stands,
               short,
-              read_taken opened a b read.0 read.1 read.2 count d read.6 read.3 one sound short,
+              read_taken who opened a b read.0 read.1 read.2 count d read.6 read.3 one sound short,
               read.7,
             );
+            identity = c.feed.ensures.identity ∙ same;
             stays = stays;
           })
       | in-Err-Full+in_ok-tell_refusal-in-Err-Full w ↦
@@ -65,14 +70,15 @@ loop-datagram-preserved g c =
               many,
               stands,
               read.5,
-              read_refused opened a b read.0 read.1 read.2 count d read.6 read.3 one Full full,
+              read_refused who opened a b read.0 read.1 read.2 count d read.6 read.3 one Full full,
               then_appends _ _ _ read.2 (line_of (refusal_line count Full)) read.7 w.in_ok-tell_refusal-in-Err-Full.ensures.ok,
             );
+            identity = c.feed.ensures.identity ∙ same;
             stays = stays;
           })
       | in-Err-Fault+in_ok-tell_refusal-in-Err-Fault w ↦
           (let stands = w.in-Err-Fault.ensures.refused read.1 read.4 in
-          let fault = rw (w.in-Err-Fault.field-0-is, c.as_slice.ensures.value) at (w.in-Err-Fault.ensures.fault read.1 read.4) in
+          let fault = rw (w.in-Err-Fault.field-0-is, c.as_slice.ensures.value, same) at (w.in-Err-Fault.ensures.fault read.1 read.4) in
           rw w.out-is record {
             read = (
               with_datagram read.0 d,
@@ -81,9 +87,10 @@ loop-datagram-preserved g c =
               many,
               stands,
               read.5,
-              read_refused opened a b read.0 read.1 read.2 count d read.6 read.3 one (Fault w.in-Err-Fault.fault) fault,
+              read_refused who opened a b read.0 read.1 read.2 count d read.6 read.3 one (Fault w.in-Err-Fault.fault) fault,
               then_appends _ _ _ read.2 (line_of (refusal_line count (Fault w.in-Err-Fault.fault))) read.7 w.in_ok-tell_refusal-in-Err-Fault.ensures.ok,
             );
+            identity = c.feed.ensures.identity ∙ same;
             stays = stays;
           })
     ]

@@ -9,8 +9,9 @@ abbrev pub invariant-loop-datagram : goal.invariant-loop-datagram
 invariant-loop-datagram g l = record {
   read :
       (datagrams : List (List ℕ)) × (taken : List (List ℕ)) × (text : List ℕ) × (l.count ≡ length datagrams) × Stands l.receiver taken
-      × ¬ LeaveNoneShort taken × AreRead (g.R.Read.remaining l.initial.frames) (g.R.Read.remaining l.frames) datagrams taken text
+      × ¬ LeaveNoneShort l.initial.receiver.identity taken × AreRead l.initial.receiver.identity (g.R.Read.remaining l.initial.frames) (g.R.Read.remaining l.frames) datagrams taken text
       × Appends (g.W.Write.contents l.initial.out) (g.W.Write.contents l.out) text;
+  identity : l.receiver.identity ≡ l.initial.receiver.identity;
   stays : g.R.Read.sound l.frames ≡ g.R.Read.sound l.initial.frames;
 }
 

@@ -1,4 +1,4 @@
-use Rattle.std.proofs.Common.{◌≡◌, ◌≢◌, ◌∙◌, ◌++◌, List, ℕ, length, map, inl, refl, rules, sym, subst, codes}
+use Rattle.std.proofs.Common.{◌≢◌, ◌∙◌, map, inl, refl, rules, sym, subst, codes}
 use Rattle.session.specs.declared.frame.FrameFault.TheVariants.{Io, NoMemory}
 use Rattle.tool.specs.Making.{PrintsCount}
 use Rattle.tool.specs.Opening.{AreOpen}

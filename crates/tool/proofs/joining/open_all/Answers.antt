@@ -1,4 +1,4 @@
-use Rattle.std.proofs.Common.{◌≡◌, ◌<◌, ◌++◌, ◌∷◌, [], List, length, map, take, arith, rules, sym, subst}
+use Rattle.std.proofs.Common.{[]}
 use Rattle.tool.proofs.Ends.{passed_on}
 use Rattle.tool.proofs.Joins.{name_unopened, name_opened}
 use Rattle.tool.proofs.joining.open_all.Goals as goal

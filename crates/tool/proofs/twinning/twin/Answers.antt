@@ -24,7 +24,7 @@ returns-in-Some-clause-ok g c =
 
 pub returns-clause-ok : goal.returns-clause-ok
 returns-clause-ok g c =
-    let other = other_reason c.in-No.reason _ _ _ _ _ _ _ _ (sym c.short_block.ensures ∙ c.in-None.is) refl (c.in_ok-reason_line-in-None.field-0, c.in_ok-reason_line-in-None.ensures, c.in_ok-print-in-None.ensures.ok) in
+    let other = other_reason c.args.identity c.in-No.reason _ _ _ _ _ _ _ _ (sym c.short_block.ensures ∙ c.in-None.is) refl (c.in_ok-reason_line-in-None.field-0, c.in_ok-reason_line-in-None.ensures, c.in_ok-print-in-None.ensures.ok) in
     record {
       datagrams = c.in_ok-session.session;
       bytes = c.in_ok-object.object.items;

@@ -1,16 +1,12 @@
-use Rattle.std.proofs.Common.{sym, subst, refl}
-use Rattle.reception.proofs.Walking.{none_passed}
+use Rattle.std.proofs.Common.{sym, subst, refl, arith}
 use Rattle.reception.specs.Answer.{IsAnswer}
 use Rattle.decoder.specs.Receiving.{IsFaultOf, with_datagram}
-use Rattle.decoder.proofs.Fed.{faulty, in_block, in_esis, held, accepted, refused, refusal_told, none_before, no_fault_for}
+use Rattle.decoder.proofs.Fed.{faulty, in_block, in_esis, held, accepted, passed_over, refused, refusal_told, none_before}
 use Rattle.decoder.proofs.receiver.Receiver.feed.Goals as goal
-
-pub unreachable-requires : goal.unreachable-requires
-unreachable-requires c = none_passed c.args.datagram.now c.scope-scope.result c.look.new.self (rw (c.in-Ok-None.is, c.in-Ok-None.field-0-is) at c.look.ensures)
 
 pub returns-in-Err-clause-fault : goal.returns-in-Err-clause-fault
 returns-in-Err-clause-fault c = λ ds stands.
-    subst (λ v. IsAnswer (with_datagram ds c.args.datagram.now) v) (sym c.fault_at.ensures)
+    subst (λ v. IsAnswer c.args.self.now.identity (with_datagram ds c.args.datagram.now) v) (sym c.fault_at.ensures)
     (faulty c.args.self.now ds stands c.args.datagram.now c.are_bytes.ensures c.scope-scope.result c.look.new.self (c.scope-scope.ensures ds stands) c.in-Err.fault (rw c.in-Err.is at c.look.ensures))
 
 pub put-requires-clause-number : goal.put-requires-clause-number
@@ -43,7 +39,7 @@ pub returns-in-Err-put-clause-fault : goal.returns-in-Err-put-clause-fault
 returns-in-Err-put-clause-fault c = λ ds stands.
     let look = (rw (c.in-Ok-Some.is, c.in-Ok-Some.field-0-is) at c.look.ensures) in
     let h = held c.args.self.now ds stands c.args.datagram.now c.are_bytes.ensures c.scope-scope.result c.look.new.self (c.scope-scope.ensures ds stands) c.in-Ok-Some.packet look in
-    subst (λ v. IsFaultOf (with_datagram ds c.args.datagram.now) v) (sym c.refusal.ensures.value)
+    subst (λ v. IsFaultOf c.args.self.now.identity (with_datagram ds c.args.datagram.now) v) (sym c.refusal.ensures.value)
     (refusal_told c.args.self.now ds stands c.args.datagram.now c.are_bytes.ensures c.scope-scope.result c.look.new.self (c.scope-scope.ensures ds stands) c.in-Ok-Some.packet look
     h.0 h.1 c.is_valid.ensures h.2 c.in-Err-put.fault (c.in-Err-put.ensures.fault h.0 h.2))
 
@@ -52,25 +48,50 @@ returns-in-Err-put-clause-memory c = λ ds stands is i e answer.
     none_before c.args.self.now ds stands c.args.datagram.now c.are_bytes.ensures c.scope-scope.result c.look.new.self (c.scope-scope.ensures ds stands) c.in-Ok-Some.packet
     (rw (c.in-Ok-Some.is, c.in-Ok-Some.field-0-is) at c.look.ensures) i e answer
 
+pub accept-requires-2 : goal.accept-requires-2
+accept-requires-2 c = omega (arith, c.if-self.false)
+
 pub returns-clause-accepted : goal.returns-clause-accepted
 returns-clause-accepted c = λ ds stands.
     let look = (rw (c.in-Ok-Some.is, c.in-Ok-Some.field-0-is) at c.look.ensures) in
     let h = held c.args.self.now ds stands c.args.datagram.now c.are_bytes.ensures c.scope-scope.result c.look.new.self (c.scope-scope.ensures ds stands) c.in-Ok-Some.packet look in
-    accepted c.args.self.now ds stands c.args.datagram.now c.are_bytes.ensures c.scope-scope.result c.look.new.self (c.scope-scope.ensures ds stands) c.in-Ok-Some.packet look
-    h.0 h.1 (c.in_default.ensures.may h.0 h.2) c.put.new.store (c.in_default.ensures.put h.0 h.2) c.in_default.ensures.some
+    rw c.accept-2.ensures.accepted
+    (accepted c.args.self.now ds stands c.args.datagram.now c.are_bytes.ensures c.scope-scope.result c.look.new.self (c.scope-scope.ensures ds stands) c.in-Ok-Some.packet look
+    h.0 h.1 (c.in_default.ensures.may h.0 h.2) c.put.new.store (c.in_default.ensures.put h.0 h.2) c.in_default.ensures.some)
 
 pub returns-clause-progress : goal.returns-clause-progress
 returns-clause-progress c = λ ds stands.
     let look = (rw (c.in-Ok-Some.is, c.in-Ok-Some.field-0-is) at c.look.ensures) in
     let h = held c.args.self.now ds stands c.args.datagram.now c.are_bytes.ensures c.scope-scope.result c.look.new.self (c.scope-scope.ensures ds stands) c.in-Ok-Some.packet look in
-    c.progress.ensures (with_datagram ds c.args.datagram.now)
+    (rw c.accept-2.ensures.accepted at c.accept-2.ensures.progress) (with_datagram ds c.args.datagram.now)
     (accepted c.args.self.now ds stands c.args.datagram.now c.are_bytes.ensures c.scope-scope.result c.look.new.self (c.scope-scope.ensures ds stands) c.in-Ok-Some.packet look
     h.0 h.1 (c.in_default.ensures.may h.0 h.2) c.put.new.store (c.in_default.ensures.put h.0 h.2) c.in_default.ensures.some)
 
 pub returns-clause-sound : goal.returns-clause-sound
-returns-clause-sound c = λ ds stands e answer.
+returns-clause-sound c = λ ds stands.
     let look = (rw (c.in-Ok-Some.is, c.in-Ok-Some.field-0-is) at c.look.ensures) in
     let h = held c.args.self.now ds stands c.args.datagram.now c.are_bytes.ensures c.scope-scope.result c.look.new.self (c.scope-scope.ensures ds stands) c.in-Ok-Some.packet look in
-    let now = accepted c.args.self.now ds stands c.args.datagram.now c.are_bytes.ensures c.scope-scope.result c.look.new.self (c.scope-scope.ensures ds stands) c.in-Ok-Some.packet look
-    h.0 h.1 (c.in_default.ensures.may h.0 h.2) c.put.new.store (c.in_default.ensures.put h.0 h.2) c.in_default.ensures.some in
-    no_fault_for _ (with_datagram ds c.args.datagram.now) c.in-Ok-Some.packet.fti _ c.put.new.store now refl (c.in_default.ensures.put h.0 h.2) c.in_default.ensures.some c.is_valid.ensures e answer
+    (rw c.accept-2.ensures.accepted at c.accept-2.ensures.sound) (with_datagram ds c.args.datagram.now)
+    (accepted c.args.self.now ds stands c.args.datagram.now c.are_bytes.ensures c.scope-scope.result c.look.new.self (c.scope-scope.ensures ds stands) c.in-Ok-Some.packet look
+    h.0 h.1 (c.in_default.ensures.may h.0 h.2) c.put.new.store (c.in_default.ensures.put h.0 h.2) c.in_default.ensures.some)
+
+pub accept-requires : goal.accept-requires
+accept-requires c = omega (arith, c.if-self.false)
+
+pub returns-in-Ok-None-clause-accepted : goal.returns-in-Ok-None-clause-accepted
+returns-in-Ok-None-clause-accepted c = λ ds stands.
+    rw c.accept.ensures.accepted
+    (passed_over c.args.self.now ds stands c.args.datagram.now c.are_bytes.ensures c.scope-scope.result c.look.new.self (c.scope-scope.ensures ds stands)
+    (rw (c.in-Ok-None.is, c.in-Ok-None.field-0-is) at c.look.ensures))
+
+pub returns-in-Ok-None-clause-progress : goal.returns-in-Ok-None-clause-progress
+returns-in-Ok-None-clause-progress c = λ ds stands.
+    let now = passed_over c.args.self.now ds stands c.args.datagram.now c.are_bytes.ensures c.scope-scope.result c.look.new.self (c.scope-scope.ensures ds stands)
+    (rw (c.in-Ok-None.is, c.in-Ok-None.field-0-is) at c.look.ensures) in
+    (rw c.accept.ensures.accepted at c.accept.ensures.progress) (with_datagram ds c.args.datagram.now) now
+
+pub returns-in-Ok-None-clause-sound : goal.returns-in-Ok-None-clause-sound
+returns-in-Ok-None-clause-sound c = λ ds stands.
+    let now = passed_over c.args.self.now ds stands c.args.datagram.now c.are_bytes.ensures c.scope-scope.result c.look.new.self (c.scope-scope.ensures ds stands)
+    (rw (c.in-Ok-None.is, c.in-Ok-None.field-0-is) at c.look.ensures) in
+    (rw c.accept.ensures.accepted at c.accept.ensures.sound) (with_datagram ds c.args.datagram.now) now

@@ -13,7 +13,7 @@ returns-in-Some-first_short-clause-answer c = λ ds stands.
 pub returns-in_ok-object-in-None-clause-answer : goal.returns-in_ok-object-in-None-clause-answer
 returns-in_ok-object-in-None-clause-answer c = λ ds stands.
     let store = c.in-Some.store in
-    subst (λ (l : List ℕ). IsAnswer ds (Object l)) (sym c.in_ok-object-in-None.ensures)
+    subst (λ (l : List ℕ). IsAnswer c.args.self.now.identity ds (Object l)) (sym c.in_ok-object-in-None.ensures)
     (store_taken c.args.self.now ds stands c.in-Some.store c.in-Some.is (Object (object_in store))
     (λ at holds. object_in_answers store c.is_valid.ensures at holds (c.first_short.ensures.none (rw c.in-None.is refl))))
 
