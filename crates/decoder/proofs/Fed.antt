@@ -24,7 +24,7 @@ use Rattle.decoder.specs.Answers.{fault_value}
 use Rattle.decoder.specs.declared.answer.DecodeFault.{DecodeFault}
 use Rattle.decoder.specs.declared.answer.DecodeFault.TheVariants as fault
 use Rattle.reception.specs.Reception.{Wrong, ReadAll, Faulty, Judged, asked, learned, or_later, carried, symbol_of, counted, symbols, in_range, reception_with}
-use Rattle.reception.specs.Step.{IsLook, after}
+use Rattle.reception.specs.Step.{IsLook}
 use Rattle.reception.specs.Walks.{readings_of, Timely}
 use Rattle.reception.specs.Within.{IsWithin}
 use Rattle.reception.specs.Answer.{Answer, AnswerTo, Clash, Clashes, Fault, NotCode, IsAnswer, clash, clashes, reception_of}
@@ -56,7 +56,7 @@ use Rattle.decoder.proofs.Holding.{with_own, with_apart}
 use Rattle.decoder.proofs.Index.{pointwise_same, clash_none, clash_some}
 use Rattle.decoder.proofs.Receiving.{Scanned, empty_index, clashed, no_clash as unclashed_judge, receives, received}
 use Rattle.decoder.proofs.Solving.{solvable_from, solvable_gives}
-use Rattle.decoder.proofs.Taken.{full_explained, pending_count, nothing_count, no_fti, keeps, all_within, arrived_is, none_short, full_solvable}
+use Rattle.decoder.proofs.Taken.{full_explained, nothing_count, no_fti, keeps, all_within, arrived_is, none_short, full_solvable}
 use Rattle.decoder.proofs.Those.{few_pass}
 
 -- whether a fault is told that is seen before the symbol
@@ -348,7 +348,7 @@ all_pass t (suc n) all j lj = elim (cases_Bool (t n)) [
 -- a block that isn't solved has too few symbols
 unsolved_short : (f : Fti) (b : ℕ) (o : Option Stored) (at : ℕ → Option (List ℕ)) → 1 ≤ source_count f b → IsStored f b o at → is_solved o ≡ false → IsEnoughAt f b at → ⊥
 unsolved_short f b None at some h unsolved enough = omega (arith, some, enough, nothing_count f b at h)
-unsolved_short f b (Some (stored.Pending p)) at some h unsolved enough = omega (arith, enough, pending_count f b p at h, p.few, h.need)
+unsolved_short f b (Some (stored.Pending p)) at some h unsolved enough = omega (arith, enough, h.once, p.few, h.need)
 unsolved_short f b (Some (stored.Solved s)) at some h unsolved enough = absurd (cc)
 
 module _ (r : Receiver) (ds : List (List ℕ)) (stands : Stands r ds) (store : Store) (is : r.store ≡ Some store) (valid : IsValidFti store.fti) where

@@ -1,13 +1,14 @@
--- Symbols that are kept at their ESIs: one more, and how many.
-use Rattle.std.specs.Prelude.{option_map, is_some, filter, Vec}
-use Rattle.std.specs.declared.alloc.Global.{Global}
-use Rattle.std.proofs.Common.{◌≡◌, ◌≢◌, ℕ, zero, suc, ◌+◌, ◌<◌, ◌≤◌, Bool, true, false, List, [], ◌∷◌, ◌++◌, Option, Some, None, length, get_or, set, refl, sym, ap, subst, ◌∙◌, inl, inr, arith, get_or-set_other, get_or-set_same}
+-- Symbols that are kept at their ESIs: one more, and how many stand.
+use Rattle.std.specs.Prelude.{filter}
+use Rattle.std.proofs.Math.Path.{fun_ext}
+use Rattle.std.proofs.Common.{◌≡◌, ◌≢◌, ℕ, zero, suc, ◌+◌, ◌<◌, ◌≤◌, Bool, true, false, List, [], ◌∷◌, ◌++◌, Option, Some, None, length, get_or, take, refl, sym, ap, ◌∙◌, inl, inr, arith}
 use Rattle.std.proofs.lemmas.Bool.{cases_Bool, cases_eq, cases_lt, eq-eqb, ne_eqb}
-use Rattle.std.proofs.lemmas.List.{get_or_past, length-set}
+use Rattle.std.proofs.lemmas.List.{get_or_past, take_more}
 use Rattle.lists.specs.Below.{below}
 use Rattle.lists.proofs.Below.{all_below}
 use Rattle.lists.proofs.Lists.{at_old, at_end, filter_same}
-use Rattle.decoder.specs.Kept.{kept_at, kept_count, with_esi}
+use Rattle.decoder.specs.declared.stored.KeptSymbol.{KeptSymbol}
+use Rattle.decoder.specs.Kept.{kept_at, with_kept, with_esi}
 use Rattle.decoder.proofs.Counts.{one_more_held, none_more_held}
 use Rattle.decoder.proofs.Those.{none_below}
 
@@ -29,28 +30,31 @@ everywhere read d want xs n len before past i = elim (cases_lt i n) [
   | inr more ↦ (ap read (get_or_past xs i d (omega (arith, more, len))) ∙ past i more)
 ]
 
--- nothing is kept past the end
-pub kept_past : (xs : List (Option (Vec ℕ Global))) (j : ℕ) → length xs ≤ j → kept_at xs j ≡ None
-kept_past xs j past = ap (option_map (λ (v : Vec ℕ Global). v.items)) (get_or_past xs j None past)
-
 pub with_here : (at : ℕ → Option (List ℕ)) (j i : ℕ) (y : List ℕ) → j ≡ i → with_esi at j y i ≡ Some y
 with_here at j i y e = rw (eq-eqb j i e) refl
 
 pub with_other : (at : ℕ → Option (List ℕ)) (j i : ℕ) (y : List ℕ) → j ≢ i → with_esi at j y i ≡ at i
 with_other at j i y ne = rw (ne_eqb j i ne) refl
 
--- a symbol that is put in its place is kept there
-pub kept_set : (xs : List (Option (Vec ℕ Global))) (j : ℕ) (v : Vec ℕ Global) (y : List ℕ) → j < length xs → v.items ≡ y
-    → (i : ℕ) → kept_at (set xs j (Some v)) i ≡ with_esi (kept_at xs) j y i
-kept_set xs j v y lj is i = elim (cases_eq j i) [
-  | inl e ↦
-      (subst (λ (x : ℕ). kept_at (set xs j (Some v)) x ≡ Some y) e
-      (ap (option_map (λ (v : Vec ℕ Global). v.items)) (get_or-set_same xs j (Some v) None lj) ∙ ap Some is)
-      ∙ sym (with_here (kept_at xs) j i y e))
-  | inr ne ↦
-      (ap (option_map (λ (v : Vec ℕ Global). v.items)) (get_or-set_other xs j i (Some v) None (λ e. ne (sym e)))
-      ∙ sym (with_other (kept_at xs) j i y ne))
-]
+-- the symbol that stands at an ESI changes nothing there
+pub with_same : (at : ℕ → Option (List ℕ)) (j : ℕ) (y : List ℕ) → at j ≡ Some y → with_esi at j y ≡ at
+with_same at j y stands = fun_ext (λ i. elim (cases_eq j i) [
+  | inl e ↦ (with_here at j i y e ∙ sym (ap at (sym e) ∙ stands))
+  | inr ne ↦ with_other at j i y ne
+])
+
+with_kept_more : (at : ℕ → Option (List ℕ)) (xs : List KeptSymbol) (s : KeptSymbol) → with_kept at (xs ++ s ∷ []) ≡ with_esi (with_kept at xs) s.esi s.symbol.items
+with_kept_more at [] s = refl
+with_kept_more at (x ∷ xs) s = with_kept_more (with_esi at x.esi x.symbol.items) xs s
+
+-- one symbol more is kept at its ESI
+pub kept_more : (xs : List KeptSymbol) (s : KeptSymbol) → kept_at (xs ++ s ∷ []) ≡ with_esi (kept_at xs) s.esi s.symbol.items
+kept_more xs s = with_kept_more (λ j. None) xs s
+
+-- and so of those that were looked at
+pub kept_front : (xs : List KeptSymbol) (i : ℕ) (s : KeptSymbol) → i < length xs → s ≡ get_or xs i s → kept_at (take (i + 1) xs) ≡ with_esi (kept_at (take i xs)) s.esi s.symbol.items
+kept_front xs i s li is =
+    ap kept_at (take_more xs i s li) ∙ ap (λ (x : KeptSymbol). kept_at (take i xs ++ x ∷ [])) (sym is) ∙ kept_more (take i xs) s
 
 -- none passes
 pub count_none : (t : ℕ → Bool) (n : ℕ) → ((i : ℕ) → t i ≡ false) → length (filter t (below n)) ≡ 0
@@ -78,17 +82,3 @@ count_more t u (suc n) j lj before now others = elim (cases_eq j n) [
         | inr other ↦ omega (arith, none_more_held u n (here ∙ other), none_more_held t n other, rest)
       ])
 ]
-
--- where a symbol is put that wasn't kept, one more is
-pub kept_one_more : (xs : List (Option (Vec ℕ Global))) (j : ℕ) (v : Vec ℕ Global) → j < length xs → kept_at xs j ≡ None
-    → kept_count (set xs j (Some v)) ≡ kept_count xs + 1
-kept_one_more xs j v lj free =
-    let more = set xs j (Some v) in
-    ap (λ (n : ℕ). length (filter (λ i. is_some (kept_at more i)) (below n))) (length-set xs j (Some v))
-    ∙ count_more (λ i. is_some (kept_at xs i)) (λ i. is_some (kept_at more i)) (length xs) j lj (ap is_some free)
-    (ap is_some (kept_set xs j v v.items lj refl j ∙ with_here (kept_at xs) j j v.items refl))
-    (λ i ne. ap is_some (kept_set xs j v v.items lj refl i ∙ with_other (kept_at xs) j i v.items ne))
-
--- none are kept
-pub kept_none : (xs : List (Option (Vec ℕ Global))) → ((j : ℕ) → kept_at xs j ≡ None) → kept_count xs ≡ 0
-kept_none xs none = count_none (λ j. is_some (kept_at xs j)) (length xs) (λ j. ap is_some (none j))

@@ -1,17 +1,20 @@
 -- A symbol put to those that stand at a block's ESIs.
-use Rattle.std.specs.Prelude.{is_some, filter, Vec}
-use Rattle.std.specs.declared.alloc.Global.{Global}
+use Rattle.std.specs.Prelude.{is_some, option_map, filter}
 use Rattle.std.specs.Borrow.{Bor}
 use Rattle.std.proofs.Math.Path.{fun_ext}
-use Rattle.std.proofs.Common.{◌≡◌, ◌≢◌, ℕ, ◌+◌, ◌<◌, ◌≤◌, Bool, true, false, List, Option, None, length, set, refl, sym, ap, subst, ◌∙◌, inl, inr, arith, get_or-set_other, get_or-set_same}
+use Rattle.std.proofs.Common.{◌≡◌, ◌≢◌, ℕ, ◌+◌, ◌<◌, ◌≤◌, Bool, true, false, List, [], ◌∷◌, ◌++◌, Option, Some, None, length, set, refl, sym, ap, subst, ◌∙◌, inl, inr, arith, length-append, get_or-set_other, get_or-set_same}
 use Rattle.std.proofs.lemmas.Bool.{cases_Bool, cases_eq}
 use Rattle.std.proofs.lemmas.List.{length-set}
+use Rattle.std.proofs.lemmas.List.Elements.{All-append}
 use Rattle.lists.specs.Below.{below}
 use Rattle.partition.specs.Fti.{Fti, source_count, encoding_count}
 use Rattle.decoder.specs.Blocks.{bytes_of_esi}
 use Rattle.decoder.specs.Decoded.{IsEnoughAt}
-use Rattle.decoder.specs.Kept.{kept_at, kept_count, seen_at, seen_count, with_esi}
-use Rattle.decoder.proofs.Kept.{with_here, with_other, count_more, count_same}
+use Rattle.decoder.specs.Kept.{kept_at, seen_at, seen_count, with_esi}
+use Rattle.decoder.specs.Stored.{IsPending}
+use Rattle.decoder.specs.declared.stored.KeptSymbol.{KeptSymbol}
+use Rattle.decoder.specs.declared.stored.Pending.{Pending}
+use Rattle.decoder.proofs.Kept.{with_here, with_other, with_same, kept_more, count_none, count_more, count_same}
 
 -- with a symbol at a free ESI, one more stands
 pub one_more_stands : (at : ℕ → Option (List ℕ)) (n j : ℕ) (y : List ℕ) → j < n → at j ≡ None
@@ -21,12 +24,42 @@ one_more_stands at n j y lj free =
     (λ i ne. ap is_some (with_other at j i y ne))
 
 -- with the last symbol that is needed, enough stand
-pub enough_with : (f : Fti) (b : ℕ) (xs : List (Option (Vec ℕ Global))) (j : ℕ) (y : List ℕ) → length xs ≡ encoding_count f b → j < encoding_count f b
-    → kept_at xs j ≡ None → source_count f b ≤ kept_count xs + 1 → IsEnoughAt f b (with_esi (kept_at xs) j y)
-enough_with f b xs j y len lj free last =
-    let same : kept_count xs ≡ length (filter (λ i. is_some (kept_at xs i)) (below (encoding_count f b))) =
-    ap (λ (n : ℕ). length (filter (λ i. is_some (kept_at xs i)) (below n))) len in
-    omega (arith, last, same, one_more_stands (kept_at xs) (encoding_count f b) j y lj free)
+pub enough_with : (f : Fti) (b : ℕ) (p : Pending) (at : ℕ → Option (List ℕ)) (j : ℕ) (y : List ℕ) → IsPending f b p at → j < encoding_count f b
+    → at j ≡ None → p.need ≤ length p.symbols.items + 1 → IsEnoughAt f b (with_esi at j y)
+enough_with f b p at j y h lj free last = omega (arith, last, h.need, h.once, one_more_stands at (encoding_count f b) j y lj free)
+
+-- where nothing came, nothing is kept
+pub pending_none : (f : Fti) (b : ℕ) (p : Pending) (at : ℕ → Option (List ℕ)) → p.need ≡ source_count f b → p.symbols.items ≡ [] → ((j : ℕ) → at j ≡ None) → IsPending f b p at
+pending_none f b p at need is none = record {
+  need = need;
+  esis = rw is (λ k d lk. absurd (omega (arith, lk)));
+  once = ap length is ∙ sym (count_none (λ j. is_some (at j)) (encoding_count f b) (λ j. ap is_some (none j)));
+  symbols = λ j. ap (λ (l : List KeptSymbol). kept_at l j) is ∙ sym (none j);
+}
+
+-- what is kept of the same symbols
+pub pending_stays : (f : Fti) (b : ℕ) (p q : Pending) (at : ℕ → Option (List ℕ)) → q.need ≡ p.need → q.symbols.items ≡ p.symbols.items → IsPending f b p at → IsPending f b q at
+pending_stays f b p q at need is h = record {
+  need = need ∙ h.need;
+  esis = rw is h.esis;
+  once = ap length is ∙ h.once;
+  symbols = λ j. ap (λ (l : List KeptSymbol). kept_at l j) is ∙ h.symbols j;
+}
+
+-- the same where the symbol stands already
+pub pending_same : (f : Fti) (b : ℕ) (p : Pending) (at : ℕ → Option (List ℕ)) (j : ℕ) (y : List ℕ) → at j ≡ Some y → IsPending f b p at → IsPending f b p (with_esi at j y)
+pending_same f b p at j y stands h = subst (IsPending f b p) (sym (with_same at j y stands)) h
+
+-- with one symbol more at a free ESI
+pub pending_more : (f : Fti) (b : ℕ) (p q : Pending) (at : ℕ → Option (List ℕ)) (j : ℕ) (y : List ℕ) (s : KeptSymbol) → j < encoding_count f b → at j ≡ None → s.esi ≡ j → s.symbol.items ≡ y
+    → q.need ≡ p.need → q.symbols.items ≡ p.symbols.items ++ s ∷ [] → IsPending f b p at → IsPending f b q (with_esi at j y)
+pending_more f b p q at j y s lj free esi bytes need is h = record {
+  need = need ∙ h.need;
+  esis = rw is (All-append (λ (s : KeptSymbol). s.esi < encoding_count f b) p.symbols.items (s ∷ []) h.esis (λ k d lk. let z : k ≡ 0 = omega (arith, lk) in rw z (omega (arith, esi, lj))));
+  once = ap length is ∙ length-append p.symbols.items (s ∷ []) ∙ ap (λ (n : ℕ). n + 1) h.once ∙ sym (one_more_stands at (encoding_count f b) j y lj free);
+  symbols = λ i. ap (λ (l : List KeptSymbol). kept_at l i) is ∙ ap (λ (g : ℕ → Option (List ℕ)). g i) (kept_more p.symbols.items s ∙ ap (λ (n : ℕ). with_esi (kept_at p.symbols.items) n s.symbol.items) esi
+      ∙ ap (λ (v : List ℕ). with_esi (kept_at p.symbols.items) j v) bytes ∙ ap (λ (g : ℕ → Option (List ℕ)). with_esi g j y) (fun_ext h.symbols));
+}
 
 -- where enough stand, they still do with one more
 pub enough_more : (f : Fti) (b : ℕ) (at : ℕ → Option (List ℕ)) (j : ℕ) (y : List ℕ) → j < encoding_count f b → at j ≡ None → IsEnoughAt f b at → IsEnoughAt f b (with_esi at j y)
@@ -77,8 +110,20 @@ seen_no_fewer seen j n lj few =
           omega (arith, few, len, one))
     ]
 
+-- a symbol that is put in its place among the arrivals
+pub arrivals_set : (arr : List (Option (Bor (List ℕ)))) (at : ℕ → Option (List ℕ)) (n j : ℕ) (s : Bor (List ℕ)) (y : List ℕ) → n < length arr → ((i : ℕ) → bytes_of_esi arr i ≡ at i)
+    → n ≡ j → s.now ≡ y → (i : ℕ) → bytes_of_esi (set arr n (Some s)) i ≡ with_esi at j y i
+arrivals_set arr at n j s y ln before e is i = elim (cases_eq n i) [
+  | inl here ↦
+      (subst (λ (x : ℕ). bytes_of_esi (set arr n (Some s)) x ≡ Some s.now) here
+      (ap (option_map (λ (s : Bor (List ℕ)). s.now)) (get_or-set_same arr n (Some s) None ln))
+      ∙ ap Some is ∙ sym (with_here at j i y (sym e ∙ here)))
+  | inr ne ↦
+      (ap (option_map (λ (s : Bor (List ℕ)). s.now)) (get_or-set_other arr n i (Some s) None (λ x. ne (sym x)))
+      ∙ before i ∙ sym (with_other at j i y (λ x. ne (e ∙ x))))
+]
+
 -- the arrivals stand where the symbols that are kept do, and one more
-pub arrivals_are : (arr items : List (Option (Bor (List ℕ)))) (xs kept : List (Option (Vec ℕ Global))) (n j : ℕ) (y : List ℕ) → arr ≡ items → xs ≡ kept → n ≡ j
-    → ((i : ℕ) → bytes_of_esi items i ≡ with_esi (kept_at xs) n y i) → bytes_of_esi arr ≡ with_esi (kept_at kept) j y
-arrivals_are arr items xs kept n j y e1 e2 e3 at =
-    ap bytes_of_esi e1 ∙ fun_ext at ∙ ap (λ (l : List (Option (Vec ℕ Global))). with_esi (kept_at l) n y) e2 ∙ ap (λ (x : ℕ). with_esi (kept_at kept) x y) e3
+pub arrivals_are : (arr items : List (Option (Bor (List ℕ)))) (xs kept : List KeptSymbol) (j : ℕ) (y : List ℕ) → arr ≡ items → xs ≡ kept
+    → ((i : ℕ) → bytes_of_esi items i ≡ with_esi (kept_at xs) j y i) → bytes_of_esi arr ≡ with_esi (kept_at kept) j y
+arrivals_are arr items xs kept j y e1 e2 at = ap bytes_of_esi e1 ∙ fun_ext at ∙ ap (λ (l : List KeptSymbol). with_esi (kept_at l) j y) e2

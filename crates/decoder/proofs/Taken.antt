@@ -22,8 +22,8 @@ use Rattle.reception.proofs.Within.{within}
 use Rattle.decoder.specs.Columns.{ColumnExplained}
 use Rattle.decoder.specs.Decoded.{IsEnoughAt, AreRows, Answers, IsShort}
 use Rattle.decoder.specs.Received.{IsIndex, AreReceived}
-use Rattle.decoder.specs.Kept.{kept_at, seen_at}
-use Rattle.decoder.specs.Stored.{IsStored, IsPending}
+use Rattle.decoder.specs.Kept.{seen_at}
+use Rattle.decoder.specs.Stored.{IsStored}
 use Rattle.decoder.specs.Holds.{Holds, kept_of, is_solved}
 use Rattle.decoder.specs.Stands.{Stands, Keeps, HoldsSymbols}
 use Rattle.decoder.specs.Receiving.{LeaveNoneShort}
@@ -31,7 +31,6 @@ use Rattle.decoder.specs.Taking.{IsShortBlock, part_in, part_of, object_below, o
 use Rattle.decoder.specs.declared.counting.Short.{Short}
 use Rattle.decoder.specs.declared.receiver.Receiver.{Receiver}
 use Rattle.decoder.specs.declared.store.Store.{Store}
-use Rattle.decoder.specs.declared.stored.Pending.{Pending}
 use Rattle.decoder.specs.declared.stored.Stored.{Stored}
 use Rattle.decoder.specs.declared.stored.Stored.TheVariants as stored
 use Rattle.decoder.proofs.Answering.{answered}
@@ -46,12 +45,6 @@ if_some P Q (Some a) f h = f a h
 if_some P Q None f h = tt
 
 -- ---- one block
-
--- how many symbols stand at the ESIs of a block that has fewer than it needs
-pub pending_count : (f : Fti) (b : ℕ) (p : Pending) (at : ℕ → Option (List ℕ)) → IsPending f b p at → p.count ≡ length (filter (λ j. is_some (at j)) (below (encoding_count f b)))
-pending_count f b p at h =
-    p.counted ∙ ap (λ (n : ℕ). length (filter (λ j. is_some (kept_at p.symbols.items j)) (below n))) h.esis
-    ∙ count_same (λ j. is_some (kept_at p.symbols.items j)) (λ j. is_some (at j)) (encoding_count f b) (λ j lj. ap is_some (h.symbols j))
 
 -- nothing stands at the ESIs of a block that isn't kept
 pub nothing_count : (f : Fti) (b : ℕ) (at : ℕ → Option (List ℕ)) → IsStored f b None at → length (filter (λ j. is_some (at j)) (below (encoding_count f b))) ≡ 0
@@ -75,7 +68,7 @@ solved_rows f b (Some (stored.Solved s)) at h solved = (s.rows.bytes.items, h.ro
 pub full_explained : (f : Fti) (b : ℕ) (o : Option Stored) (at : ℕ → Option (List ℕ)) → 1 ≤ source_count f b → IsStored f b o at → IsEnoughAt f b at
     → (c : ℕ) → c < f.symbol_length → ColumnExplained f b at c
 full_explained f b None at some h enough = absurd (omega (arith, some, enough, nothing_count f b at h))
-full_explained f b (Some (stored.Pending p)) at some h enough = absurd (omega (arith, enough, pending_count f b p at h, p.few, h.need))
+full_explained f b (Some (stored.Pending p)) at some h enough = absurd (omega (arith, enough, h.once, p.few, h.need))
 full_explained f b (Some (stored.Solved s)) at some h enough = rows_explain f b at s.rows.bytes.items h.rows
 
 -- ---- the parts of the object

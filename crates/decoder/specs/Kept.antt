@@ -1,15 +1,20 @@
--- Symbols that are kept at their ESIs, and how many.
-use Rattle.std.specs.Prelude.{◌==◌, ◌&&◌, ℕ, Bool, false, if◌then◌else◌, List, length, filter, slice_index_or, Option, Some, None, option_map, is_some, Vec}
-use Rattle.std.specs.declared.alloc.Global.{Global}
+-- Symbols that are kept of a block, and where they stand.
+use Rattle.std.specs.Prelude.{◌==◌, ◌&&◌, ℕ, Bool, false, if◌then◌else◌, List, [], ◌∷◌, length, filter, slice_index_or, Option, Some, None}
 use Rattle.lists.specs.Below.{below}
+use Rattle.decoder.specs.declared.stored.KeptSymbol.{KeptSymbol}
+
+-- with one symbol more of a block
+abbrev pub with_esi : (ℕ → Option (List ℕ)) → ℕ → List ℕ → ℕ → Option (List ℕ)
+with_esi at j y i = if j == i then Some y else at i
+
+-- with these symbols more, one after the other
+abbrev pub with_kept : (ℕ → Option (List ℕ)) → List KeptSymbol → ℕ → Option (List ℕ)
+with_kept at [] = at
+with_kept at (s ∷ symbols) = with_kept (with_esi at s.esi s.symbol.items) symbols
 
 -- the bytes of the symbol that is kept at an ESI, if one is
-abbrev pub kept_at : List (Option (Vec ℕ Global)) → ℕ → Option (List ℕ)
-kept_at symbols j = option_map (λ v. v.items) (slice_index_or symbols j None)
-
--- at how many ESIs a symbol is kept
-abbrev pub kept_count : List (Option (Vec ℕ Global)) → ℕ
-kept_count symbols = length (filter (λ j. is_some (kept_at symbols j)) (below (length symbols)))
+abbrev pub kept_at : List KeptSymbol → ℕ → Option (List ℕ)
+kept_at symbols = with_kept (λ j. None) symbols
 
 -- whether the symbol at an ESI was seen
 abbrev pub seen_at : List Bool → ℕ → Bool
@@ -18,10 +23,6 @@ seen_at seen j = slice_index_or seen j false
 -- how many ESIs were seen
 abbrev pub seen_count : List Bool → ℕ
 seen_count seen = length (filter (seen_at seen) (below (length seen)))
-
--- with one symbol more of a block
-abbrev pub with_esi : (ℕ → Option (List ℕ)) → ℕ → List ℕ → ℕ → Option (List ℕ)
-with_esi at j y i = if j == i then Some y else at i
 
 -- with one symbol more
 abbrev pub with_symbol : (ℕ → ℕ → Option (List ℕ)) → ℕ → ℕ → List ℕ → ℕ → ℕ → Option (List ℕ)

@@ -1,5 +1,7 @@
 -- What is kept of a source block, for the symbols that stand at its ESIs.
-use Rattle.std.specs.Prelude.{◌≡◌, ℕ, List, length, Option, Some, None, is_some}
+use Rattle.std.specs.Prelude.{◌≡◌, ◌<◌, ℕ, List, length, filter, Option, Some, None, is_some}
+use Rattle.std.specs.List.{All}
+use Rattle.lists.specs.Below.{below}
 use Rattle.partition.specs.Fti.{Fti, source_count, encoding_count}
 use Rattle.decoder.specs.Decoded.{AreRows}
 use Rattle.decoder.specs.Rows.{HasSizes}
@@ -9,10 +11,11 @@ use Rattle.decoder.specs.declared.stored.Solved.{Solved}
 use Rattle.decoder.specs.declared.stored.Stored.{Stored}
 use Rattle.decoder.specs.declared.stored.Stored.TheVariants as stored
 
--- the symbols themselves
+-- the symbols themselves, each once, at ESIs that the block has
 pub record IsPending (f : Fti) (b : ℕ) (p : Pending) (at : ℕ → Option (List ℕ)) : Type 0 where
   pub need : p.need ≡ source_count f b
-  pub esis : length p.symbols.items ≡ encoding_count f b
+  pub esis : All (λ s. s.esi < encoding_count f b) p.symbols.items
+  pub once : length p.symbols.items ≡ length (filter (λ j. is_some (at j)) (below (encoding_count f b)))
   pub symbols : (j : ℕ) → kept_at p.symbols.items j ≡ at j
 
 -- the source symbols that give them, and which ESIs were seen

@@ -1,5 +1,5 @@
 //! The source symbols of a block, made of the symbols that came at its ESIs.
-ghost use Rattle.std.specs.Prelude.{◌≡◌, ◌≢◌, ◌<◌, ◌≤◌, ◌*◌, ℕ, true, false, length, IfOk, IfSome, IsNone};
+ghost use Rattle.std.specs.Prelude.{◌≡◌, ◌≢◌, ◌<◌, ◌≤◌, ◌*◌, ℕ, None, true, false, length, IfOk, IfSome, IsNone};
 ghost use Rattle.partition.specs.Fti.{block_count, source_count, encoding_count, source_place};
 ghost use Rattle.block_code.specs.Codes.{EachBlockHas};
 ghost use Rattle.block_code.specs.CodesOf.{IsCodeOf};
@@ -18,6 +18,18 @@ use block_code::BlockCodes;
 use lists::are_bytes;
 use partition::Fti;
 use std::alloc::{AllocError, Global};
+
+/// Nothing at `n` ESIs.
+pub(crate) fn no_arrivals<'a>(alloc: Global, n: usize) -> Result<Vec<Option<&'a [u8]>>, AllocError>
+    ensures len { IfOk result (λ v. length v.items ≡ n) }
+    ensures none { IfOk result (λ v. (j : ℕ) → bytes_of_esi v.items j ≡ None) }
+{
+    let mut arrivals = Vec::with_capacity(alloc, n)?;
+    for _esi in 0..n {
+        arrivals.push(None)?;
+    }
+    Ok(arrivals)
+}
 
 // The symbols of a block at its ESIs, those that came.
 fn arrivals<'a>(

@@ -89,11 +89,7 @@ impl Store {
         ensures others { (a : ℕ) → packet.now.sbn ≢ a
             → kept_of self.new a ≡ kept_of self.old a }
     {
-        let need = self.fti.k(packet.sbn);
-        let Ok(pending) = Pending::new(alloc, need, self.fti.n(packet.sbn)) else {
-            return Err(PutFault::NoMemory);
-        };
-        let mut stored = Stored::Pending(pending);
+        let mut stored = Stored::Pending(Pending::new(alloc, self.fti.k(packet.sbn)));
         let solved = stored.put(alloc, &self.fti, &self.codes, packet, &mut self.kept)?;
         let Ok(_) = self.blocks.insert(packet.sbn, stored) else {
             return Err(PutFault::NoMemory);

@@ -1,20 +1,24 @@
 //! What is kept of a source block.
-ghost use Rattle.std.specs.Prelude.{◌≡◌, ◌<◌, ◌≤◌};
-ghost use Rattle.decoder.specs.Kept.{kept_count, seen_count};
+ghost use Rattle.std.specs.Prelude.{◌<◌, ◌≤◌, length};
+ghost use Rattle.decoder.specs.Kept.{seen_count};
 
 use crate::rows::Rows;
+
+/// A symbol that came, and its ESI.
+#[derive(Drop)]
+pub(crate) struct KeptSymbol {
+    pub(crate) esi: u8,
+    pub(crate) symbol: Vec<u8>,
+}
 
 /// The symbols that came of a block that has fewer than it needs.
 #[derive(Drop)]
 pub(crate) struct Pending {
-    /// At each ESI that the block has, if its symbol came.
-    pub(crate) symbols: Vec<Option<Vec<u8>>>,
-    /// How many came.
-    pub(crate) count: usize,
+    /// In the order in which they came.
+    pub(crate) symbols: Vec<KeptSymbol>,
     /// How many source symbols the block has.
     pub(crate) need: usize,
-    ghost counted: { count ≡ kept_count symbols.items },
-    ghost few: { count < need },
+    ghost few: { length symbols.items < need },
 }
 
 /// The source symbols of a block of which as many symbols came as it needs, or more.

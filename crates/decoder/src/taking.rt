@@ -36,7 +36,7 @@ impl Store {
             }),
             Some(Stored::Pending(pending)) => Some(Short {
                 block: b,
-                have: pending.count,
+                have: pending.symbols.len(),
                 need: pending.need,
             }),
             Some(Stored::Solved(_)) => None,

@@ -1,4 +1,4 @@
-use Rattle.std.proofs.Common.{sym, subst, refl, arith}
+use Rattle.std.proofs.Common.{sym, subst, arith}
 use Rattle.reception.specs.Answer.{IsAnswer}
 use Rattle.decoder.specs.Receiving.{IsFaultOf, with_datagram}
 use Rattle.decoder.proofs.Fed.{faulty, in_block, in_esis, held, accepted, passed_over, refused, refusal_told, none_before}

@@ -1,4 +1,4 @@
-use Rattle.std.proofs.Common.{◌∙◌, sym, refl}
+use Rattle.std.proofs.Common.{refl}
 use Rattle.decoder.proofs.Fed.{scope_stands}
 use Rattle.decoder.proofs.receiver.Receiver.scope.Goals as goal
 use Rattle.decoder.proofs.receiver.Receiver.scope.Goals.{in-Some, in-None}

@@ -1,6 +1,5 @@
 use Rattle.std.proofs.Common.{◌∙◌, ◌<◌, ℕ, List, length, sym, subst}
-use Rattle.reception.specs.Answer.{Empty, Object}
-use Rattle.std.specs.Io.KnownBytes.{Appends}
+use Rattle.reception.specs.Answer.{Object}
 use Rattle.session.specs.Frames.{AppendsSome}
 use Rattle.decoder.specs.Taking.{object_in}
 use Rattle.decoder.proofs.Taken.{short_is, some_short, object_same, object_length, object_in_answers, store_taken, none_short, on_err}

@@ -2,29 +2,26 @@ use Rattle.std.proofs.Common.{◌≡◌, ◌∙◌, ℕ, None, refl, sym, rules}
 use Rattle.std.specs.BTreeMap.{get}
 use Rattle.std.specs.Ordering.{nat_cmp}
 use Rattle.std.proofs.lemmas.Bool.{ne_eqb}
-use Rattle.decoder.specs.Kept.{kept_at}
 use Rattle.decoder.specs.Putting.{IsPutFault}
 use Rattle.decoder.specs.Stored.{IsPending}
 use Rattle.decoder.proofs.Holding.{blocks_more, within_more}
+use Rattle.decoder.proofs.Put.{pending_none}
 use Rattle.decoder.proofs.Index.{number_eq}
 use Rattle.decoder.proofs.store.Store.begin.Goals as goal
 
 pub put-requires-clause-stored : goal.put-requires-clause-stored
 put-requires-clause-stored c = (
-  kept_at c.in-Ok.pending.symbols.items,
-  record { need = c.in-Ok.ensures.need ∙ c.k-need.ensures.value; esis = c.in-Ok.ensures.esis ∙ c.n.ensures.value; symbols = λ j. refl },
-  λ j y some. (let none = c.in-Ok.ensures.none j in absurd (cc)),
+  λ j. None,
+  pending_none c.args.self.now.fti c.args.packet.now.sbn c.new.result (λ j. None) (c.new.ensures.need ∙ c.k.ensures.value) c.new.ensures.none (λ j. refl),
+  λ j y some. absurd (cc),
 )
 
 pub returns-in_err-solved-clause-fault : goal.returns-in_err-solved-clause-fault
 returns-in_err-solved-clause-fault c = λ at held.
     let b = c.args.packet.now.sbn in
     let none : (j : ℕ) → at b j ≡ None = (rw c.requires.new at (held.blocks b)) in
-    let own : IsPending c.args.self.now.fti b c.in-Ok.pending (at b) = record {
-      need = c.in-Ok.ensures.need ∙ c.k-need.ensures.value;
-      esis = c.in-Ok.ensures.esis ∙ c.n.ensures.value;
-      symbols = λ j. c.in-Ok.ensures.none j ∙ sym (none j);
-    } in
+    let own : IsPending c.args.self.now.fti b c.new.result (at b) =
+    pending_none c.args.self.now.fti b c.new.result (at b) (c.new.ensures.need ∙ c.k.ensures.value) c.new.ensures.none none in
     let d : IsPutFault c.args.self.now.fti b (at b) c.args.packet.now.esi c.args.packet.now.symbol.now c.in_err-solved.field-0.0 = c.in_err-solved.ensures.fault (at b) own in
     search rules
 
@@ -33,12 +30,8 @@ returns-clause-put c = λ at held.
     let k = c.args.packet.now in
     let f = c.args.self.now.fti in
     let none : (j : ℕ) → at k.sbn j ≡ None = (rw c.requires.new at (held.blocks k.sbn)) in
-    let own : IsPending f k.sbn c.in-Ok.pending (at k.sbn) = record {
-      need = c.in-Ok.ensures.need ∙ c.k-need.ensures.value;
-      esis = c.in-Ok.ensures.esis ∙ c.n.ensures.value;
-      symbols = λ j. c.in-Ok.ensures.none j ∙ sym (none j);
-    } in
-    let updates = c.in-Ok-insert.ensures.updates in
+    let own : IsPending f k.sbn c.new.result (at k.sbn) = pending_none f k.sbn c.new.result (at k.sbn) (c.new.ensures.need ∙ c.k.ensures.value) c.new.ensures.none none in
+    let updates = c.in-Ok.ensures.updates in
     record {
       codes = held.codes;
       recovery = c.put.ensures.keeps.recovery;

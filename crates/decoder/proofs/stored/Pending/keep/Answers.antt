@@ -1,7 +1,5 @@
-use Rattle.std.proofs.Common.{◌∙◌, ◌+◌, ℕ, sym, ap}
-use Rattle.decoder.proofs.Kept.{kept_one_more}
+use Rattle.std.proofs.Common.{refl}
 use Rattle.decoder.proofs.stored.Pending.keep.Goals as goal
 
-pub invariant_of-self-clause-counted : goal.invariant_of-self-clause-counted
-invariant_of-self-clause-counted c =
-    ap (λ (n : ℕ). n + 1) c.args.self.now.counted ∙ sym (kept_one_more c.args.self.now.symbols.items c.args.esi c.in_ok-copy.copy c.requires.inside c.requires.free)
+pub returns-clause-kept : goal.returns-clause-kept
+returns-clause-kept c = (record { esi = c.args.esi; symbol = c.in_ok-copy.copy }, refl, c.in_ok-copy.ensures.items_if_clones_equal (λ x y e. e), c.in_ok-push.ensures.items)
