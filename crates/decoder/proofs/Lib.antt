@@ -22,3 +22,5 @@ pub mod Holding
 pub mod GivenSymbols
 pub mod Taken
 pub mod Fed
+pub mod Differences
+pub mod Padded

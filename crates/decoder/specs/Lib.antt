@@ -18,3 +18,4 @@ pub mod Fed
 pub mod Giving
 pub mod Putting
 pub mod Taking
+pub mod Differences

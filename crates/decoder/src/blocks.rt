@@ -10,6 +10,7 @@ ghost use Rattle.decoder.specs.Recoveries.{IsKeptOf};
 ghost use Rattle.decoder.specs.Rows.{byte_in, HasSizes};
 
 use crate::block::Block;
+use crate::padding::may_be_padded;
 use crate::received::{Received, Symbols};
 use crate::recovering::recover;
 use crate::recovery::Recovery;
@@ -89,6 +90,9 @@ pub(crate) fn block_rows(
         (λ o. IsNone o → IsUnexplained fti.now b (bytes_of_esi arrivals.now)) }
     ensures keeps { IsKeptOf codes.now kept.new }
 {
+    if !may_be_padded(alloc, fti, b, arrivals)? {
+        return Ok(None);
+    }
     let code = codes.of(fti.k(b));
     prove!(arrivals.len() == code.matrix.cols());
     let block = Block {

@@ -4,7 +4,8 @@
 //! - `received`: the symbols of a list of datagrams, by block and ESI, or the first fault at a place; `counting`: how many
 //!   of them each block has;
 //! - `recovering`: the source symbols of one block that has enough of them, by `rows`, `block` and `erasure`;
-//! - `blocks`: the same for a block of what was received; `unsolvable`: the blocks whose symbols are those of no object;
+//! - `blocks`: the same for a block of what was received; `padding`: whether its symbols can have the object's padding, told
+//!   before they are solved; `unsolvable`: the blocks whose symbols are those of no object;
 //! - `decoding`: the public call, and `selecting`: the same for a selection of a session's datagrams, with what a check's
 //!   yes promises of it;
 //! - `receiver`: the same for one datagram at a time: `feeding` takes one more, and `taking` gives the answer, or writes the
@@ -25,6 +26,7 @@ mod decoding;
 mod erasure;
 mod feeding;
 mod giving;
+mod padding;
 mod pending_block;
 mod putting;
 mod received;

@@ -20,4 +20,4 @@ returns-in-Some-Pending-clause-short c = λ at holds.
     let p = c.in-Some-Pending.pending in
     let is : kept_of c.args.self.now c.args.b ≡ Some (stored.Pending c.in-Some-Pending.pending) = sym c.get.ensures.value ∙ ap option_copied c.in-Some-Pending.is ∙ ap Some c.in-Some-Pending.field-0-is in
     let h : IsPending c.args.self.now.fti c.args.b c.in-Some-Pending.pending (at c.args.b) = subst (λ (o : Option Stored). IsStored c.args.self.now.fti c.args.b o (at c.args.b)) is (holds.blocks c.args.b) in
-    record { block = refl; have = omega (arith, c.len.ensures, h.once); need = h.need; few = omega (arith, c.len.ensures, p.few) }
+    record { block = refl; have = omega (arith, h.once); need = h.need; few = omega (arith, p.few) }
