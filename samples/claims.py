@@ -3,11 +3,12 @@
 
 Three kinds, in each command that reads such a file, with room for the inputs and 64 MiB (`ulimit -v`):
 
-- every beginning of the sample's session, certificate and object, with just the answer that it has;
+- every beginning of the note's session, with the FTI in each datagram and in every fourth, of its certificate and of the
+  object, with just the answer that it has;
 - heads of packets and certificates that claim the greatest sizes, and greatest numbers on the command line, with just the
   answer that they have;
-- each of the first 64 bytes of a session, of its last datagram and of a certificate as each of 256 values: the status is
-  0, 1 or 3, and what is printed are lines that the command has for it, none of want of memory; a file is written where
+- each of the first 64 bytes of a session, of its last datagram, of one without FTI and of a certificate as each of 256
+  values: the status is 0, 1 or 3, and what is printed are lines that the command has for it, none of want of memory; a file is written where
   the status is 0, and else nothing is changed.
 
 Of the third kind it tries 2,000 by chance, or as many as the first argument says, or all by `all`, which takes minutes.
@@ -26,30 +27,33 @@ ROOM = 64 << 20
 FTI = "F1 LengthZero|F2 LengthTooGreat|F3 SymbolZero|F4 BlockZero|F5 MaxBelowBlock|F6 TooManyBlocks"
 PACKET = (
     "(?:P1 TooShort|P2 Version|P3 Psi|P4 Codepoint|P5 NoIdentity|P6 HeaderLength|P7 Extension|P8 FtiLength|P9 TwoFti|"
-    f"P10 NoFti|P11 FtiValue (?:{FTI})|P12 PayloadLength)"
+    f"P11 FtiValue (?:{FTI})|P12 PayloadLength)"
 )
 FRAMES = "fault S[12] Cut(?:Length|Datagram)\n|fault S3 TooLong\n"
 FAULTS = f"{FRAMES}|fault Z1 Magic\n|fault Z2 Fti (?:{FTI})\n|fault Z3 Size\n"
 REASONS = (
     r"no (?:N1 ObjectLength|N2 NotObject block \d+ column \d+ symbol \d+|N3 Empty|N4 Packet place \d+ " + PACKET +
     r"|N6 OtherFti place \d+|N7 Range place \d+|N8 Symbol place \d+ column \d+"
-    r"|N9 Thin block \d+ have \d+ need \d+)\n"
+    r"|N9 Thin block \d+ have \d+ need \d+|N10 SymbolLength place \d+|N11 NoCarrier)\n"
 )
 LACKS = r"(?:empty|missing block \d+ have \d+ need \d+)\n"
 REFUSALS = (
-    rf"(?:refused \d+ (?:R1 Packet {PACKET}|R3 OtherFti|R4 Range|R5 Clash|R6 NotCode block \d+)\n)*"
+    rf"(?:refused \d+ (?:R1 Packet {PACKET}|R3 OtherFti|R4 Range|R5 Clash|R6 NotCode block \d+|R7 SymbolLength|"
+    r"G2 Early)\n)*"
 )
-SHOWN = r"\d+ tsi \d+ toi \d+ length \d+ symbol \d+ block \d+ max \d+ sbn \d+ esi \d+\n"
+SHOWN = (
+    r"\d+ tsi \d+ toi \d+ (?:length \d+ symbol \d+ block \d+ max \d+|no fti symbol \d+) sbn \d+ esi \d+\n"
+)
 
 # What a command prints, by its status.
 LINES = {
     "check": {
-        0: r"yes\n(?:block \d+ need \d+ have \d+\n)+margin \d+\nkill(?: \d+)+\nburst \d+\n",
+        0: r"yes\n(?:block \d+ need \d+ have \d+\n)+carriers \d+\nmargin \d+\nkill(?: \d+)+\nburst \d+\n",
         1: f"{REASONS}|{FAULTS}",
     },
     "decode": {
         0: r"object \d+ bytes\n",
-        1: rf"fault R1 Packet place \d+ {PACKET}\n|fault R(?:3 OtherFti|4 Range|5 Clash) place \d+\n"
+        1: rf"fault R1 Packet place \d+ {PACKET}\n|fault R(?:3 OtherFti|4 Range|5 Clash|7 SymbolLength) place \d+\n"
         rf"|fault R6 NotCode block \d+\n|{FRAMES}",
         3: LACKS,
     },
@@ -82,7 +86,9 @@ def sample(name):
 
 
 SESSION, OBJECT, CERTIFICATE = sample("note.session"), sample("note.txt"), sample("note.rsc")
-FRAME = 42
+# The bytes of a frame, and of one whose packet carries no FTI; the datagrams at the places 0 and 4 of SPARSE carry it.
+FRAME, PLAIN_FRAME = 42, 30
+SPARSE = sample("sparse.session")
 
 
 class Try:
@@ -101,9 +107,17 @@ class Try:
         return told is not None and told.fullmatch(output.decode()) is not None
 
 
-def of_beginning(command, size):
-    """The answer to a beginning of the session, if it is no matter of what its datagrams say."""
-    count, rest = divmod(size, FRAME)
+def frames_in(session):
+    """How many whole frames there are, and the bytes behind them."""
+    count = at = 0
+    while at + 2 <= len(session) and at + 2 + int.from_bytes(session[at : at + 2], "big") <= len(session):
+        count, at = count + 1, at + 2 + int.from_bytes(session[at : at + 2], "big")
+    return count, len(session) - at
+
+
+def of_beginning(command, session):
+    """The answer to a beginning of a session, if it is no matter of what its datagrams say."""
+    count, rest = frames_in(session)
     if command == "follow" and count >= 4:
         return 0, "complete after 4 datagrams\nobject 29 bytes\n"
     if rest:
@@ -121,9 +135,10 @@ def of_beginning(command, size):
 
 def beginnings():
     for command, words in WORDS.items():
-        for size in range(len(SESSION) + 1):
-            wanted = of_beginning(command, size)
-            yield Try(f"session of {size} bytes", words, {"s": SESSION[:size]}, wanted)
+        for whole in [SESSION, SPARSE]:
+            for size in range(len(whole) + 1):
+                wanted = of_beginning(command, whole[:size])
+                yield Try(f"session of {size} bytes", words, {"s": whole[:size]}, wanted)
     for command in OF_CERTIFICATE:
         for size in range(len(CERTIFICATE)):
             wanted = 1, "fault Z1 Magic\n" if size < 4 else "fault Z3 Size\n"
@@ -141,6 +156,13 @@ def frame_of(fti, block, esi):
     """The frame of a packet of the note's session with a symbol of zeros."""
     head = bytes([0x10, 0xA0, 7, 5]) + bytes(7) + b"\7" + bytes(3) + b"\2\x40\3"
     datagram = head + fti_bytes(*fti) + struct.pack(">I", block << 8 | esi) + bytes(fti[1])
+    return struct.pack(">H", len(datagram)) + datagram
+
+
+def plain_frame_of(block, esi, size):
+    """The frame of a packet without FTI of the note's session, with a symbol of so many zeros."""
+    head = bytes([0x10, 0xA0, 4, 5]) + bytes(7) + b"\7" + bytes(3) + b"\2"
+    datagram = head + struct.pack(">I", block << 8 | esi) + bytes(size)
     return struct.pack(">H", len(datagram)) + datagram
 
 
@@ -174,6 +196,22 @@ def great_claims():
             head = b"RSC1" + fti_bytes(*fti)
             for behind in [b"", b"\0", bytes(100_000)]:
                 yield Try(f"certificate of {fti}", WORDS[command], {"c": head + behind}, (1, "fault Z3 Size\n"))
+    # Of a packet without FTI alone nothing is known but its place in the object that it claims.
+    for size in [1, 8, 65487]:
+        far = plain_frame_of((1 << 24) - 1, 255, size)
+        reason = "N7 Range" if size == 8 else "N10 SymbolLength"
+        for command, wanted in [
+            ("decode", (3, "empty\n")),
+            ("follow", (3, "refused 0 G2 Early\nempty\n")),
+            ("show", (0, f"0 tsi 7 toi 2 no fti symbol {size} sbn {(1 << 24) - 1} esi 255\n")),
+            ("check", (1, f"no {reason} place 0\n")),
+            ("twin", (1, f"no {reason} place 0\n")),
+        ]:
+            yield Try(f"packet without FTI, of {size} bytes", WORDS[command], {"s": far}, wanted)
+        behind = SESSION[:FRAME] + far
+        reason = reason.replace("N7", "R4").replace("N10", "R7")
+        wanted = 1, f"fault {reason} place 1\n"
+        yield Try(f"packet without FTI, of {size} bytes", WORDS["decode"], {"s": behind}, wanted)
     for length, text in [(65507, "fault S2 CutDatagram\n"), (65508, "fault S3 TooLong\n"), (65535, "fault S3 TooLong\n")]:
         for words in WORDS.values():
             yield Try(f"frame of {length} bytes", words, {"s": struct.pack(">H", length) + bytes(100)}, (1, text))
@@ -184,13 +222,15 @@ def great_claims():
 
 
 def changes():
-    """Each byte of the beginnings as each value."""
+    """Each byte of the beginnings, of a session's last datagram and of one without FTI as each value."""
     last = len(SESSION) - FRAME
+    changed = [(SESSION, [*range(64), *range(last, len(SESSION))]), (SPARSE, range(FRAME, FRAME + PLAIN_FRAME))]
     for command, words in WORDS.items():
-        for at in [*range(64), *range(last, len(SESSION))]:
-            for value in range(256):
-                data = SESSION[:at] + bytes([value]) + SESSION[at + 1 :]
-                yield Try(f"session with byte {at} {value}", words, {"s": data})
+        for session, places in changed:
+            for at in places:
+                for value in range(256):
+                    data = session[:at] + bytes([value]) + session[at + 1 :]
+                    yield Try(f"session with byte {at} {value}", words, {"s": data})
     for command in OF_CERTIFICATE:
         for at in range(len(CERTIFICATE)):
             for value in range(256):

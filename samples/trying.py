@@ -30,6 +30,8 @@ COMMANDS = [
     ["encode", "bulletin.txt", "out", *OF_BULLETIN, *MANY_BLOCKS],
     ["encode", "bulletin.txt", "out", *OF_BULLETIN, *MANY_BLOCKS, "--order", "rounds"],
     ["encode", "bulletin.txt", "out", *OF_BULLETIN, "--symbol", "8", "--block", "9", "--max", "8"],
+    ["encode", "note.txt", "out", *OF_NOTE, *NOTE, "--fti-every", "4"],
+    ["encode", "bulletin.txt", "out", *OF_BULLETIN, *MANY_BLOCKS, "--order", "rounds", "--fti-every", "7"],
     ["certify", "note.txt", "out", *NOTE],
     ["certify", "bulletin.txt", "out", *ONE_BLOCK],
     ["certify", "bulletin.txt", "out", *MANY_BLOCKS],
@@ -42,6 +44,8 @@ COMMANDS = [
     ["check", "wrong.session", "bulletin.txt", "bulletin.rsc", *OF_BULLETIN],
     ["check", "cut.session", "bulletin.txt", "bulletin.rsc", *OF_BULLETIN],
     ["check", "two.session", "note.txt", "note.rsc", *OF_NOTE],
+    ["check", "sparse.session", "note.txt", "note.rsc", *OF_NOTE],
+    ["check", "bare.session", "note.txt", "note.rsc", *OF_NOTE],
     ["check", "note.session", "bulletin.txt", "note.rsc", *OF_NOTE],
     ["check", "note.session", "note.txt", "bulletin.txt", *OF_NOTE],
     ["check", "missing", "note.txt", "note.rsc", *OF_NOTE],
@@ -59,6 +63,8 @@ COMMANDS = [
     ["decode", "thin.session", "out", *OF_BULLETIN],
     ["decode", "wrong.session", "out", *OF_BULLETIN],
     ["decode", "two.session", "out", *OF_BULLETIN],
+    ["decode", "late.session", "out", *OF_NOTE],
+    ["decode", "bare.session", "out", *OF_NOTE],
     ["decode", "note.session", "out", *OF_BULLETIN],
     ["decode", "empty.session", "out", *OF_BULLETIN],
     ["follow", "note.session", "out", *OF_NOTE],
@@ -68,12 +74,15 @@ COMMANDS = [
     ["follow", "spoiled.session", "out", *OF_BULLETIN],
     ["follow", "thin.session", "out", *OF_BULLETIN],
     ["follow", "two.session", "out", *OF_NOTE],
+    ["follow", "sparse.session", "out", *OF_NOTE],
+    ["follow", "late.session", "out", *OF_NOTE],
     ["follow", "cut.session", "out", *OF_BULLETIN],
     ["twin", "thin.session", "bulletin.txt", "bulletin.rsc", "out", *OF_BULLETIN],
     ["twin", "one_thin.session", "bulletin.txt", "one.rsc", "out", *OF_BULLETIN],
     ["twin", "note.session", "note.txt", "note.rsc", "out", *OF_NOTE],
     ["twin", "wrong.session", "bulletin.txt", "bulletin.rsc", "out", *OF_BULLETIN],
     ["show", "note.session"],
+    ["show", "sparse.session"],
     ["show", "spoiled.session"],
     ["show", "cut.session"],
     ["--help"],
@@ -108,7 +117,7 @@ def make_inputs(room):
             return file.read()
 
     for name in os.listdir(SAMPLES):
-        if name.startswith(("bulletin.", "note.", "two.")):
+        if name.startswith(("bulletin.", "note.", "two.", "sparse.")):
             with open(os.path.join(SAMPLES, name), "rb") as file:
                 put(name, file.read())
     for name, sizes in [("one", ONE_BLOCK), ("many", MANY_BLOCKS), ("repair", ALL_REPAIR)]:
@@ -120,6 +129,9 @@ def make_inputs(room):
     # Other losses in each block.
     alcrs("drop", "rounds.session", "rounds_lossy.session", *map(str, range(0, 80)))
     alcrs("drop", "bulletin.session", "thin.session", *map(str, range(40)))
+    # The carriers last, and none.
+    alcrs("drop", "sparse.session", "bare.session", "0", "4")
+    put("late.session", get("bare.session") + get("sparse.session"))
     session = get("bulletin.session")
     put("wrong.session", changed(session, -1))
     put("cut.session", session[:-1])

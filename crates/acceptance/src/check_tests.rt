@@ -64,7 +64,7 @@ fn yes_to_a_pair(rt: HostRuntime) -> Result<(), Fail> {
         &PAIR,
         &PAIR_CERTIFICATE,
         0,
-        "yes\nblock 0 need 2 have 3\nmargin 1\nkill 0 1\nburst 1\n",
+        "yes\nblock 0 need 2 have 3\ncarriers 3\nmargin 1\nkill 0 1\nburst 1\n",
     )
 }
 
@@ -77,7 +77,7 @@ fn yes_to_one_block(rt: HostRuntime) -> Result<(), Fail> {
         &[(0, 0, &[0x41]), (0, 1, &[0x42]), (0, 2, &[0x44])],
         &[0x41, 0x42],
         &[0x40, 0x01],
-        "yes\nblock 0 need 2 have 3\nmargin 1\nkill 0 1\nburst 1\n",
+        "yes\nblock 0 need 2 have 3\ncarriers 3\nmargin 1\nkill 0 1\nburst 1\n",
     )?;
     says_yes(
         alloc,
@@ -91,7 +91,7 @@ fn yes_to_one_block(rt: HostRuntime) -> Result<(), Fail> {
         ],
         &[1, 4, 0x10],
         &[0, 0, 1],
-        "yes\nblock 0 need 3 have 5\nmargin 2\nkill 0 1 2\nburst 2\n",
+        "yes\nblock 0 need 3 have 5\ncarriers 5\nmargin 2\nkill 0 1 2\nburst 2\n",
     )
 }
 
@@ -103,7 +103,7 @@ fn yes_to_a_padded_symbol(rt: HostRuntime) -> Result<(), Fail> {
         &[(0, 0, &[7, 8]), (0, 1, &[9, 0]), (0, 2, &[0x15, 0x10])],
         &[7, 8, 9],
         &[0xF6, 0xF1, 0xFB, 0xF3],
-        "yes\nblock 0 need 2 have 3\nmargin 1\nkill 0 1\nburst 1\n",
+        "yes\nblock 0 need 2 have 3\ncarriers 3\nmargin 1\nkill 0 1\nburst 1\n",
     )
 }
 
@@ -115,7 +115,7 @@ fn yes_to_three_blocks_in_turn(rt: HostRuntime) -> Result<(), Fail> {
         &THREE_BLOCKS_IN_TURN,
         &THREE_BLOCKS,
         &THREE_BLOCKS_COEFFICIENTS,
-        "yes\nblock 0 need 4 have 6\nblock 1 need 3 have 4\nblock 2 need 3 have 4\nmargin 1\nkill 6 7\nburst 1\n",
+        "yes\nblock 0 need 4 have 6\nblock 1 need 3 have 4\nblock 2 need 3 have 4\ncarriers 14\nmargin 1\nkill 6 7\nburst 1\n",
     )
 }
 
@@ -131,7 +131,7 @@ fn yes_to_a_datagram_sent_again(rt: HostRuntime) -> Result<(), Fail> {
         sent.as_slice(),
         &THREE_BLOCKS,
         &THREE_BLOCKS_COEFFICIENTS,
-        "yes\nblock 0 need 4 have 6\nblock 1 need 3 have 4\nblock 2 need 3 have 4\nmargin 1\nkill 7 8\nburst 1\n",
+        "yes\nblock 0 need 4 have 6\nblock 1 need 3 have 4\nblock 2 need 3 have 4\ncarriers 15\nmargin 1\nkill 7 8\nburst 1\n",
     )
 }
 
@@ -143,7 +143,7 @@ fn yes_to_three_blocks_in_rounds(rt: HostRuntime) -> Result<(), Fail> {
         &THREE_BLOCKS_IN_ROUNDS,
         &THREE_BLOCKS,
         &THREE_BLOCKS_COEFFICIENTS,
-        "yes\nblock 0 need 4 have 6\nblock 1 need 3 have 4\nblock 2 need 3 have 4\nmargin 1\nkill 1 4\nburst 3\n",
+        "yes\nblock 0 need 4 have 6\nblock 1 need 3 have 4\nblock 2 need 3 have 4\ncarriers 14\nmargin 1\nkill 1 4\nburst 3\n",
     )
 }
 
@@ -160,7 +160,7 @@ fn yes_to_the_greatest_block(rt: HostRuntime) -> Result<(), Fail> {
         sent.as_slice(),
         &[0; 255],
         &[0; 255],
-        "yes\nblock 0 need 255 have 255\nmargin 0\nkill 0\nburst 0\n",
+        "yes\nblock 0 need 255 have 255\ncarriers 255\nmargin 0\nkill 0\nburst 0\n",
     )
 }
 
@@ -177,7 +177,7 @@ fn yes_to_one_symbol_four_times(rt: HostRuntime) -> Result<(), Fail> {
         ],
         &[0xAA],
         &[0xAA],
-        "yes\nblock 0 need 1 have 4\nmargin 3\nkill 0 1 2 3\nburst 3\n",
+        "yes\nblock 0 need 1 have 4\ncarriers 4\nmargin 3\nkill 0 1 2 3\nburst 3\n",
     )
 }
 
@@ -308,7 +308,10 @@ fn every_beginning_of_a_session(rt: HostRuntime) -> Result<(), Fail> {
         let (status, line) = match (size / 35, size % 35) {
             (0, 0) => (1, "no N3 Empty\n"),
             (1, 0) => (1, "no N9 Thin block 0 have 1 need 2\n"),
-            (_, 0) => (0, "yes\nblock 0 need 2 have 2\nmargin 0\nkill 0\nburst 0\n"),
+            (_, 0) => (
+                0,
+                "yes\nblock 0 need 2 have 2\ncarriers 2\nmargin 0\nkill 0\nburst 0\n",
+            ),
             (_, 1) => (1, "fault S1 CutLength\n"),
             _ => (1, "fault S2 CutDatagram\n"),
         };

@@ -36,6 +36,19 @@ fn refused_lines(rt: HostRuntime) -> Result<(), Fail> {
         &[
             "alcrs", "check", "s", "o", "c", "--tsi", "1", "--tsi", "1", "--toi", "1",
         ],
+        &[
+            "alcrs",
+            "check",
+            "s",
+            "o",
+            "c",
+            "--tsi",
+            "1",
+            "--toi",
+            "1",
+            "--fti-every",
+            "2",
+        ],
         &["alcrs", "decode", "s", "t"],
         &["alcrs", "decode", "s", "t", "--tsi", "1"],
         &["alcrs", "decode", "s", "t", "--tsi", "-1", "--toi", "1"],
@@ -122,6 +135,35 @@ fn numbers_out_of_range(rt: HostRuntime) -> Result<(), Fail> {
         let refused = answer(alloc, &words, &[])?;
         assert_eq!(rt; refused.status, 2);
         assert!(rt; refused.refusal.as_str().contains(name), "{name}");
+    }
+    Ok(())
+}
+
+#[test]
+fn carriers_out_of_range(rt: HostRuntime) -> Result<(), Fail> {
+    let alloc = rt.alloc();
+    for every in ["0", "256", "all", ""] {
+        let words = [
+            "alcrs",
+            "encode",
+            "o",
+            "s",
+            "--tsi",
+            "1",
+            "--toi",
+            "1",
+            "--symbol",
+            "1",
+            "--block",
+            "2",
+            "--max",
+            "3",
+            "--fti-every",
+            every,
+        ];
+        let refused = answer(alloc, &words, &[])?;
+        assert_eq!(rt; refused.status, 2);
+        assert!(rt; refused.refusal.as_str().contains("--fti-every"), "{every}");
     }
     Ok(())
 }

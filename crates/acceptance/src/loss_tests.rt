@@ -1,6 +1,6 @@
 //! The losses that a report tells, against worked sessions and a plain program that tries every loss.
 use crate::command::check;
-use crate::sessions::{Sent, certificate_of, session_of};
+use crate::sessions::{Packet, certificate_of, session_of_packets};
 use std::alloc::Global;
 use std::process::Abort;
 use std::test::Fail;
@@ -20,6 +20,13 @@ struct Plan<'a> {
     /// How many different ESIs each block needs.
     needs: &'a [usize],
     kinds: &'a [Kind],
+}
+
+/// What stands at a place: which of the kinds, and whether its packet carries the FTI.
+#[derive(Clone, Copy)]
+struct Place {
+    kind: usize,
+    carries: bool,
 }
 
 // One block of two source symbols and three encoding symbols.
@@ -78,18 +85,31 @@ const TWO_BLOCKS: Plan<'static> = Plan {
 };
 
 // Which kinds are left where the places whose binary digit is 1 in `lost` are lost.
-fn kinds_left(places: &[usize], lost: usize) -> [bool; 4] {
+fn kinds_left(places: &[Place], lost: usize) -> [bool; 4] {
     let mut left = [false; 4];
     let mut digits = lost;
-    for kind in places {
+    for place in places {
         if digits % 2 == 0 {
-            if let Some(is_left) = left.get_mut(*kind) {
+            if let Some(is_left) = left.get_mut(place.kind) {
                 *is_left = true;
             }
         }
         digits /= 2;
     }
     left
+}
+
+// How many carriers are left.
+fn carriers_left(places: &[Place], lost: usize) -> usize {
+    let mut count = 0usize;
+    let mut digits = lost;
+    for place in places {
+        if place.carries && digits % 2 == 0 {
+            count = count.saturating_add(1);
+        }
+        digits /= 2;
+    }
+    count
 }
 
 // How many different ESIs of a block are left.
@@ -104,7 +124,7 @@ fn esis_left(plan: &Plan<'_>, left: &[bool; 4], block: usize) -> usize {
 }
 
 // The least block that a loss leaves short.
-fn short_block(plan: &Plan<'_>, places: &[usize], lost: usize) -> Option<usize> {
+fn short_block(plan: &Plan<'_>, places: &[Place], lost: usize) -> Option<usize> {
     let left = kinds_left(places, lost);
     for (block, need) in plan.needs.iter().enumerate() {
         if esis_left(plan, &left, block) < *need {
@@ -114,8 +134,13 @@ fn short_block(plan: &Plan<'_>, places: &[usize], lost: usize) -> Option<usize> 
     None
 }
 
+// Whether a loss leaves a block short, or no carrier.
+fn is_too_much(plan: &Plan<'_>, places: &[Place], lost: usize) -> bool {
+    short_block(plan, places, lost).is_some() || carriers_left(places, lost) == 0
+}
+
 // The ESIs of a block that a loss takes away wholly, as a number: such numbers stand in the order of a dictionary.
-fn taken_esis(plan: &Plan<'_>, places: &[usize], lost: usize, block: usize) -> usize {
+fn taken_esis(plan: &Plan<'_>, places: &[Place], lost: usize, block: usize) -> usize {
     let all = kinds_left(places, 0);
     let left = kinds_left(places, lost);
     let mut digits = 0usize;
@@ -140,17 +165,24 @@ fn size_of(lost: usize) -> usize {
 // What a report says of the losses, found by trying all of them.
 #[derive(Drop)]
 struct Losses {
-    /// How many places the least loss that leaves a block short takes, that block, the ESIs taken, and the loss.
+    carriers: usize,
+    /// How many places the least loss that is too much takes, the block that it leaves short, the ESIs taken, and the loss.
     least: (usize, usize, usize, usize),
     burst: usize,
 }
 
-fn least_loss(plan: &Plan<'_>, places: &[usize], losses: usize) -> (usize, usize, usize, usize) {
+// A loss of all carriers that leaves no block short stands behind those as small that do.
+fn least_loss(plan: &Plan<'_>, places: &[Place], losses: usize) -> (usize, usize, usize, usize) {
     let mut least = (usize::MAX, 0, 0, 0);
     for lost in 0..losses {
-        if let Some(block) = short_block(plan, places, lost) {
-            let taken = taken_esis(plan, places, lost, block);
-            let found = (size_of(lost), block, taken, lost);
+        if is_too_much(plan, places, lost) {
+            let found = match short_block(plan, places, lost) {
+                Some(block) => {
+                    let taken = taken_esis(plan, places, lost, block);
+                    (size_of(lost), block, taken, lost)
+                }
+                None => (size_of(lost), usize::MAX, 0, lost),
+            };
             if found < least {
                 least = found;
             }
@@ -159,11 +191,11 @@ fn least_loss(plan: &Plan<'_>, places: &[usize], losses: usize) -> (usize, usize
     least
 }
 
-// Whether every loss of `size` neighbours leaves no block short. `one_each` is 2^size - 1.
-fn bears_runs(plan: &Plan<'_>, places: &[usize], size: usize, one_each: usize) -> bool {
+// Whether no loss of `size` neighbours is too much. `one_each` is 2^size - 1.
+fn bears_runs(plan: &Plan<'_>, places: &[Place], size: usize, one_each: usize) -> bool {
     let mut run = one_each;
     for _start in size..=places.len() {
-        if short_block(plan, places, run).is_some() {
+        if is_too_much(plan, places, run) {
             return false;
         }
         run = run.saturating_mul(2);
@@ -171,7 +203,7 @@ fn bears_runs(plan: &Plan<'_>, places: &[usize], size: usize, one_each: usize) -
     true
 }
 
-fn all_losses(plan: &Plan<'_>, places: &[usize], losses: usize) -> Losses {
+fn all_losses(plan: &Plan<'_>, places: &[Place], losses: usize) -> Losses {
     let mut burst = 0;
     let mut one_each = 0usize;
     for size in 0..=places.len() {
@@ -181,6 +213,7 @@ fn all_losses(plan: &Plan<'_>, places: &[usize], losses: usize) -> Losses {
         one_each = one_each.saturating_mul(2).saturating_add(1);
     }
     Losses {
+        carriers: carriers_left(places, 0),
         least: least_loss(plan, places, losses),
         burst,
     }
@@ -189,7 +222,9 @@ fn all_losses(plan: &Plan<'_>, places: &[usize], losses: usize) -> Losses {
 // The lines of these losses.
 fn lines_of(alloc: Global, losses: &Losses) -> Result<String, Fail> {
     let (size, _block, _taken, lost) = losses.least;
-    let mut text = format!(in alloc; "margin {}\nkill", size.saturating_sub(1))?;
+    let carriers = losses.carriers;
+    let margin = size.saturating_sub(1);
+    let mut text = format!(in alloc; "carriers {carriers}\nmargin {margin}\nkill")?;
     let mut digits = lost;
     for place in 0..16usize {
         if digits % 2 == 1 {
@@ -204,14 +239,19 @@ fn lines_of(alloc: Global, losses: &Losses) -> Result<String, Fail> {
 }
 
 // What `check` prints of the session with symbols of these kinds.
-fn printed(alloc: Global, plan: &Plan<'_>, places: &[usize]) -> Result<String, Fail> {
-    let mut sent: Vec<Sent<'_>> = Vec::new(alloc);
+fn printed(alloc: Global, plan: &Plan<'_>, places: &[Place]) -> Result<String, Fail> {
+    let mut packets: Vec<Packet<'_>> = Vec::new(alloc);
     for place in places {
-        if let Some(kind) = plan.kinds.get(*place) {
-            sent.push((kind.block, kind.esi, &kind.symbol))?;
+        if let Some(kind) = plan.kinds.get(place.kind) {
+            let sent = (kind.block, kind.esi, &kind.symbol[..]);
+            packets.push(if place.carries {
+                Packet::Carrier(sent)
+            } else {
+                Packet::Plain(sent)
+            })?;
         }
     }
-    let session = session_of(alloc, &plan.fti, sent.as_slice())?;
+    let session = session_of_packets(alloc, &plan.fti, packets.as_slice())?;
     let certificate = certificate_of(alloc, &plan.fti, plan.coefficients)?;
     let told = check(
         alloc,
@@ -222,23 +262,42 @@ fn printed(alloc: Global, plan: &Plan<'_>, places: &[usize]) -> Result<String, F
     Ok(told.text)
 }
 
-// The session whose number is `code` among those of `len` symbols.
-fn session_at(alloc: Global, plan: &Plan<'_>, len: usize, code: usize) -> Result<Vec<usize>, Fail> {
+// How many different packets a place may hold, at least one: each kind of symbol in so many forms, with the FTI, and
+// without it where there are two.
+fn choices(plan: &Plan<'_>, forms: usize) -> usize {
+    plan.kinds.len().saturating_mul(forms).max(1)
+}
+
+// The session whose number is `code` among those of `len` packets.
+fn session_at(
+    alloc: Global,
+    plan: &Plan<'_>,
+    forms: usize,
+    len: usize,
+    code: usize,
+) -> Result<Vec<Place>, Fail> {
     let mut places = Vec::new(alloc);
     let mut digits = code;
-    let kinds = plan.kinds.len().max(1);
+    let choices = choices(plan, forms).max(1);
+    let forms = forms.max(1);
     for _place in 0..len {
-        places.push(digits % kinds)?;
-        digits /= kinds;
+        let choice = digits % choices;
+        places.push(Place {
+            kind: choice / forms,
+            carries: choice % forms == 0,
+        })?;
+        digits /= choices;
     }
     Ok(places)
 }
 
-// Every session of up to `most` symbols: the report's lines are those of all losses, where no block is short.
+// Every session of up to `most` packets: the report's lines are those of all losses, where no block is short and there is a
+// carrier.
 fn try_sessions(
     rt: &impl Abort,
     alloc: Global,
     plan: &Plan<'_>,
+    forms: usize,
     most: usize,
 ) -> Result<usize, Fail> {
     let mut yes = 0usize;
@@ -246,15 +305,15 @@ fn try_sessions(
     let mut losses = 1usize;
     for len in 0..=most {
         for code in 0..sessions {
-            let places = session_at(alloc, plan, len, code)?;
-            if short_block(plan, places.as_slice(), 0).is_none() {
+            let places = session_at(alloc, plan, forms, len, code)?;
+            if !is_too_much(plan, places.as_slice(), 0) {
                 let told = printed(alloc, plan, places.as_slice())?;
                 let tried = lines_of(alloc, &all_losses(plan, places.as_slice(), losses))?;
                 assert!(rt; told.as_str().ends_with(tried.as_str()), "{code} of {len}");
                 yes = yes.saturating_add(1);
             }
         }
-        sessions = sessions.saturating_mul(plan.kinds.len());
+        sessions = sessions.saturating_mul(choices(plan, forms));
         losses = losses.saturating_mul(2);
     }
     Ok(yes)
@@ -262,14 +321,23 @@ fn try_sessions(
 
 #[test]
 fn every_loss_of_one_block(rt: HostRuntime) -> Result<(), Fail> {
-    let yes = try_sessions(&rt, rt.alloc(), &ONE_BLOCK, 10)?;
+    let yes = try_sessions(&rt, rt.alloc(), &ONE_BLOCK, 1, 10)?;
     assert!(rt; yes > 1000);
     Ok(())
 }
 
 #[test]
 fn every_loss_of_two_blocks(rt: HostRuntime) -> Result<(), Fail> {
-    let yes = try_sessions(&rt, rt.alloc(), &TWO_BLOCKS, 8)?;
+    let yes = try_sessions(&rt, rt.alloc(), &TWO_BLOCKS, 1, 8)?;
+    assert!(rt; yes > 1000);
+    Ok(())
+}
+
+#[test]
+fn every_loss_of_some_carriers(rt: HostRuntime) -> Result<(), Fail> {
+    let yes = try_sessions(&rt, rt.alloc(), &ONE_BLOCK, 2, 6)?;
+    assert!(rt; yes > 1000);
+    let yes = try_sessions(&rt, rt.alloc(), &TWO_BLOCKS, 2, 5)?;
     assert!(rt; yes > 1000);
     Ok(())
 }
@@ -277,15 +345,25 @@ fn every_loss_of_two_blocks(rt: HostRuntime) -> Result<(), Fail> {
 #[test]
 fn copies(rt: HostRuntime) -> Result<(), Fail> {
     let alloc = rt.alloc();
-    for (places, lines) in [
+    for (kinds, lines) in [
         (
             &[0usize, 0, 1, 1, 2, 2][..],
-            "margin 3\nkill 0 1 2 3\nburst 3\n",
+            "carriers 6\nmargin 3\nkill 0 1 2 3\nburst 3\n",
         ),
-        (&[0, 1, 2, 0, 1, 2], "margin 3\nkill 0 1 3 4\nburst 4\n"),
-        (&[0, 1, 2], "margin 1\nkill 0 1\nburst 1\n"),
+        (
+            &[0, 1, 2, 0, 1, 2],
+            "carriers 6\nmargin 3\nkill 0 1 3 4\nburst 4\n",
+        ),
+        (&[0, 1, 2], "carriers 3\nmargin 1\nkill 0 1\nburst 1\n"),
     ] {
-        let told = printed(alloc, &ONE_BLOCK, places)?;
+        let mut places = Vec::new(alloc);
+        for kind in kinds {
+            places.push(Place {
+                kind: *kind,
+                carries: true,
+            })?;
+        }
+        let told = printed(alloc, &ONE_BLOCK, places.as_slice())?;
         assert!(rt; told.as_str().ends_with(lines), "{told}");
     }
     Ok(())

@@ -1,8 +1,9 @@
 //! `encode`, `certify` and `drop`.
 use crate::command::{Wanted, expect};
 use crate::sessions::{
-    PAIR, PAIR_CERTIFICATE, PAIR_SESSION, THREE_BLOCKS, THREE_BLOCKS_FTI, THREE_BLOCKS_IN_ROUNDS,
-    THREE_BLOCKS_IN_TURN, pair_frames, session_of,
+    PAIR, PAIR_CERTIFICATE, PAIR_EVERY_SECOND, PAIR_FIRST_ALONE, PAIR_SESSION, THREE_BLOCKS,
+    THREE_BLOCKS_FTI, THREE_BLOCKS_IN_ROUNDS, THREE_BLOCKS_IN_TURN, pair_frames, session_every,
+    session_of,
 };
 use std::alloc::Global;
 use std::test::Fail;
@@ -86,6 +87,87 @@ fn encoded_in_blocks(rt: HostRuntime) -> Result<(), Fail> {
         "encoded 14 datagrams\n",
         session.as_slice(),
     )
+}
+
+// The FTI in chosen datagrams: 0 always, and each that the number divides.
+#[test]
+fn encoded_with_some_carriers(rt: HostRuntime) -> Result<(), Fail> {
+    let alloc = rt.alloc();
+    for (every, session) in [
+        ("1", &PAIR_SESSION[..]),
+        ("2", &PAIR_EVERY_SECOND),
+        ("3", &PAIR_FIRST_ALONE),
+        ("255", &PAIR_FIRST_ALONE),
+    ] {
+        let words = [
+            "alcrs",
+            "encode",
+            "o",
+            "out",
+            "--tsi",
+            "1",
+            "--toi",
+            "1",
+            "--symbol",
+            "1",
+            "--block",
+            "2",
+            "--max",
+            "3",
+            "--fti-every",
+            every,
+        ];
+        makes(
+            alloc,
+            &words,
+            &[("o", &PAIR)],
+            "encoded 3 datagrams\n",
+            session,
+        )?;
+    }
+    Ok(())
+}
+
+// Places are counted over the whole session, whatever the order: neither blocks nor rounds begin anew.
+#[test]
+fn some_carriers_in_each_order(rt: HostRuntime) -> Result<(), Fail> {
+    let alloc = rt.alloc();
+    for (order, sent) in [
+        ("blocks", &THREE_BLOCKS_IN_TURN),
+        ("rounds", &THREE_BLOCKS_IN_ROUNDS),
+    ] {
+        for (word, every) in [("2", 2), ("3", 3), ("4", 4), ("5", 5)] {
+            let words = [
+                "alcrs",
+                "encode",
+                "o",
+                "out",
+                "--tsi",
+                "1",
+                "--toi",
+                "1",
+                "--symbol",
+                "1",
+                "--block",
+                "4",
+                "--max",
+                "6",
+                "--fti-every",
+                word,
+                "--order",
+                order,
+            ];
+            let session = session_every(alloc, every, &THREE_BLOCKS_FTI, sent)?;
+            makes(
+                alloc,
+                &words,
+                &[("o", &THREE_BLOCKS)],
+                "encoded 14 datagrams\n",
+                session.as_slice(),
+            )?;
+        }
+    }
+    Ok(())
 }
 
 #[test]

@@ -169,12 +169,12 @@ fn yes_to_each_object(rt: HostRuntime) -> Result<(), Fail> {
         (
             "1",
             THE_PAIR,
-            "yes\nblock 0 need 2 have 3\nmargin 1\nkill 0 1\nburst 1\n",
+            "yes\nblock 0 need 2 have 3\ncarriers 3\nmargin 1\nkill 0 1\nburst 1\n",
         ),
         (
             "2",
             THE_TRIPLE,
-            "yes\nblock 0 need 3 have 4\nmargin 1\nkill 3 4\nburst 1\n",
+            "yes\nblock 0 need 3 have 4\ncarriers 4\nmargin 1\nkill 3 4\nburst 1\n",
         ),
     ] {
         checks(alloc, &of_toi(session.as_slice(), toi), &carried, 0, text)?;
@@ -191,12 +191,12 @@ fn yes_to_each_object_in_turns(rt: HostRuntime) -> Result<(), Fail> {
         (
             "1",
             THE_PAIR,
-            "yes\nblock 0 need 2 have 3\nmargin 1\nkill 0 2\nburst 2\n",
+            "yes\nblock 0 need 2 have 3\ncarriers 3\nmargin 1\nkill 0 2\nburst 2\n",
         ),
         (
             "2",
             THE_TRIPLE,
-            "yes\nblock 0 need 3 have 4\nmargin 1\nkill 1 3\nburst 1\n",
+            "yes\nblock 0 need 3 have 4\ncarriers 4\nmargin 1\nkill 1 3\nburst 1\n",
         ),
     ] {
         checks(alloc, &of_toi(session.as_slice(), toi), &carried, 0, text)?;
@@ -273,7 +273,7 @@ fn one_datagram_of_another_object(rt: HostRuntime) -> Result<(), Fail> {
             &pair,
             &THE_PAIR,
             0,
-            "yes\nblock 0 need 2 have 2\nmargin 0\nkill 0\nburst 0\n",
+            "yes\nblock 0 need 2 have 2\ncarriers 2\nmargin 0\nkill 0\nburst 0\n",
         )?;
     }
     Ok(())
@@ -292,7 +292,7 @@ fn out_of_range_in_one_object(rt: HostRuntime) -> Result<(), Fail> {
         &pair,
         &THE_PAIR,
         0,
-        "yes\nblock 0 need 2 have 3\nmargin 1\nkill 0 1\nburst 1\n",
+        "yes\nblock 0 need 2 have 3\ncarriers 3\nmargin 1\nkill 0 1\nburst 1\n",
     )?;
     let other = of_toi(session.as_slice(), "2");
     gives_none(alloc, "decode", &other, 1, "fault R4 Range place 3\n")?;

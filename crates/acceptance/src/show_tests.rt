@@ -1,6 +1,6 @@
 //! Lines of datagrams.
 use crate::command::{Wanted, expect};
-use crate::sessions::{PAIR_SESSION, pair_changed};
+use crate::sessions::{PAIR_FIRST_ALONE, PAIR_SESSION, pair_changed};
 use std::alloc::Global;
 use std::test::Fail;
 
@@ -45,7 +45,6 @@ fn no_packets(rt: HostRuntime) -> Result<(), Fail> {
         (2, 9, "P6 HeaderLength"),
         (2, 6, "P7 Extension"),
         (2, 8, "P7 Extension"),
-        (2, 4, "P10 NoFti"),
         (17, 0, "P7 Extension"),
         (17, 2, "P8 FtiLength"),
         (17, 4, "P7 Extension"),
@@ -64,6 +63,45 @@ fn no_packets(rt: HostRuntime) -> Result<(), Fail> {
         shows(alloc, &session, 1, text.as_str())?;
     }
     Ok(())
+}
+
+#[test]
+fn packets_without_fti(rt: HostRuntime) -> Result<(), Fail> {
+    shows(
+        rt.alloc(),
+        &PAIR_FIRST_ALONE,
+        0,
+        "0 tsi 1 toi 1 length 2 symbol 1 block 2 max 3 sbn 0 esi 0\n\
+         1 tsi 1 toi 1 no fti symbol 1 sbn 0 esi 1\n\
+         2 tsi 1 toi 1 no fti symbol 1 sbn 0 esi 2\n",
+    )
+}
+
+// Without its length of three words EXT_FTI is payload ID and symbol; of another type it is an extension that is passed
+// over.
+#[test]
+fn an_extension_that_is_no_fti(rt: HostRuntime) -> Result<(), Fail> {
+    let alloc = rt.alloc();
+    for (at, byte, told) in [
+        (2, 4, "symbol 13 sbn 4195072 esi 0"),
+        (16, 0x41, "symbol 1 sbn 0 esi 0"),
+    ] {
+        let session = pair_changed(2 + at, byte);
+        let text = format!(in alloc; "0 tsi 1 toi 1 no fti {told}\n")?;
+        let first = session.get(..35).unwrap_or(&[]);
+        shows(alloc, first, 0, text.as_str())?;
+    }
+    Ok(())
+}
+
+// Four bytes of payload ID, and no byte of symbol.
+#[test]
+fn no_symbol(rt: HostRuntime) -> Result<(), Fail> {
+    let alloc = rt.alloc();
+    let session = [
+        0, 20, 0x10, 0xA0, 4, 5, 0, 0, 0, 0, 0, 0, 0, 1, 0, 0, 0, 1, 0, 0, 0, 0,
+    ];
+    shows(alloc, &session, 1, "0 P12 PayloadLength\n")
 }
 
 #[test]

@@ -1,28 +1,31 @@
 -- A packet is read, and so a datagram has one reading.
-use Rattle.std.proofs.Common.{◌≡◌, ℕ, ◌+◌, ◌-◌, ◌*◌, ◌/◌, ◌%◌, ◌<◌, inl, inr, true, cond, leb, eqb, List, [], ◌∷◌, ◌++◌, length, drop, get_or, arith, refl, ap, sym, subst, ◌∙◌, append_assoc, Some, None, Ok, Err}
+use Rattle.std.proofs.Common.{◌≡◌, ℕ, ◌+◌, ◌-◌, ◌*◌, ◌/◌, ◌%◌, ◌<◌, inl, inr, true, cond, leb, List, [], ◌∷◌, ◌++◌, length, drop, get_or, arith, refl, ap, sym, subst, ◌∙◌, append_assoc, Option, Some, None, Ok, Err}
+use Rattle.std.specs.Prelude.{IfSome}
 use Rattle.std.specs.List.{list_all}
-use Rattle.std.proofs.lemmas.Bool.{and_parts, eq-eqb}
+use Rattle.std.proofs.lemmas.Bool.{and_parts, and_from}
 use Rattle.std.proofs.lemmas.Bool.Decides.{nat_tests}
-use Rattle.std.proofs.lemmas.List.{length-append, get_or_at, drop_at}
+use Rattle.std.proofs.lemmas.List.{append-nil, length-append, get_or_at, drop_at}
+use Rattle.std.proofs.lemmas.List.Folds.{list_all-append}
 use Rattle.lists.specs.Bytes.{AreBytes}
-use Rattle.partition.specs.Fti.{Fti}
+use Rattle.partition.specs.Fti.{Fti, IsValidFti}
 use Rattle.byteorder.specs.Endian.{big_bytes}
-use Rattle.alc.specs.Packet.{Packet, IsPacket, IsForm, Form, is_extension, is_other, joined, extensions, header_length, fti_extension}
-use Rattle.alc.specs.PacketFault.{IsPacketFault, rank, is_sound, c_of, s_of, o_of, h_of, fixed_words, header_end, extension_bytes, WalkEnds}
+use Rattle.alc.specs.Packet.{Packet, IsPacket, IsSymbolLength, IsForm, Form, is_extension, is_other, joined, extensions, header_length, fti_extension}
+use Rattle.alc.specs.PacketFault.{IsPacketFault, HasPayload, rank, is_sound, c_of, s_of, o_of, h_of, fixed_words, header_end, extension_bytes, WalkEnds}
 use Rattle.alc.specs.declared.fault.PacketFault.{PacketFault}
-use Rattle.alc.specs.Computed.{read_of, part, packet_with, with_extensions, number_of}
+use Rattle.alc.specs.Computed.{read_of, walk, part, packet_with, with_extensions, with_payload, has_payload, number_of}
 use Rattle.alc.specs.Reading.{Reading, Reads}
 use Rattle.byteorder.specs.Numbers.{length-bytes_high_first}
 use Rattle.alc.proofs.Digits.{number_again}
 use Rattle.alc.proofs.Bytes.{part_at}
 use Rattle.alc.proofs.Walks.{walked_is}
-use Rattle.alc.proofs.Chosen.{sees}
+use Rattle.alc.proofs.Chosen.{sees, others_are, seen_none}
+use Rattle.alc.proofs.Payloads.{payload_is}
 use Rattle.partition.proofs.Faults.{valid_no_fault}
 use Rattle.alc.proofs.FtiFields.{fields_of}
 use Rattle.alc.specs.Layout.{Passed}
 use Rattle.alc.proofs.Stages.{passed_value}
 use Rattle.alc.proofs.Built.{control_size, tsi_size, toi_size}
-use Rattle.alc.proofs.OneReading.{Says, says, Hits, hits, walked_end, value_of, joined_around, extension_bytes_few}
+use Rattle.alc.proofs.OneReading.{Says, says, Hits, hits, walked_end, value_of, joined_around, joined_both, extension_bytes_few}
 
 -- the parts of a datagram that is laid out so
 pub record Parts (d : List ℕ) (n1 n2 n3 n4 : ℕ) (t u x b : List ℕ) (j : ℕ) (y : List ℕ) : Type 0 where
@@ -82,30 +85,46 @@ fti_twelve f = refl
 fti_sound : (f : Fti) → is_sound (fti_extension f) ≡ true
 fti_sound f = refl
 
-extensions_words : (form : Form) (f : Fti) → list_all is_other form.before ≡ true → list_all is_other form.after ≡ true → (q : ℕ) × (length (extensions form f) ≡ 4 * q)
-extensions_words form f hb ha =
+extensions_words : (form : Form) (fti : Option Fti) → list_all is_other form.before ≡ true → list_all is_other form.after ≡ true → (q : ℕ) × (length (extensions form fti) ≡ 4 * q)
+extensions_words form None hb ha =
+    let a = joined_words form.before hb in
+    let b = joined_words form.after ha in
+    (a.0 + b.0, omega (arith, a.1, b.1, length-append (joined form.before ++ []) (joined form.after), length-append (joined form.before) []))
+extensions_words form (Some f) hb ha =
     let a = joined_words form.before hb in
     let b = joined_words form.after ha in
     (a.0 + 3 + b.0, omega (arith, a.1, b.1, fti_twelve f, length-append (joined form.before ++ fti_extension f) (joined form.after), length-append (joined form.before) (fti_extension f)))
 
-pub packet_made : (a b : ℕ) (f : Fti) (c e : ℕ) (y : List ℕ) (a' b' : ℕ) (f' : Fti) (c' e' : ℕ) (y' : List ℕ) → a ≡ a' → b ≡ b' → f ≡ f' → c ≡ c' → e ≡ e' → y ≡ y'
+pub packet_made : (a b : ℕ) (f : Option Fti) (c e : ℕ) (y : List ℕ) (a' b' : ℕ) (f' : Option Fti) (c' e' : ℕ) (y' : List ℕ) → a ≡ a' → b ≡ b' → f ≡ f' → c ≡ c' → e ≡ e' → y ≡ y'
     → ◌≡◌ {A = Packet} (record { tsi = a; toi = b; fti = f; block = c; esi = e; bytes = y }) (record { tsi = a'; toi = b'; fti = f'; block = c'; esi = e'; bytes = y' })
 packet_made a b f c e y a' b' f' c' e' y' h0 h1 h2 h3 h4 h5 = cc
 
--- the value, from the parts
-value_again : (d : List ℕ) (p : Packet) (form : Form) → IsForm form p → Passed d → extension_bytes d ≡ extensions form p.fti → length d ≡ header_end d + 4 + p.fti.symbol_length → packet_with d p.fti ≡ p → read_of d ≡ Ok p
-value_again d p form v passed exts len made =
-    let f : Fti = p.fti in
+-- what extensions that carry this lead to
+extensions_value : (d : List ℕ) (form : Form) (fti : Option Fti) → IfSome fti IsValidFti → list_all is_other form.before ≡ true → list_all is_other form.after ≡ true → extension_bytes d ≡ extensions form fti
+    → with_extensions d (walk (length d) (extension_bytes d) None) ≡ with_payload d fti
+extensions_value d form None valid hb ha exts =
+    let es : List (List ℕ) = form.before ++ form.after in
+    let others : list_all is_other es ≡ true = list_all-append is_other form.before form.after ∙ and_from _ _ hb ha in
+    let o = others_are es others in
+    let ends : WalkEnds d es = (exts ∙ ap (λ (x : List ℕ). x ++ joined form.after) (append-nil (joined form.before)) ∙ sym (joined_both form.before form.after), record { each = o.0; one = omega (arith, o.1) }) in
+    let walked = walked_end d es None ends (sym (seen_none es None o.1)) in
+    ap (with_extensions d) (walked_is (length d) (extension_bytes d) None (Ok None) (extension_bytes_few d) walked)
+extensions_value d form (Some f) valid hb ha exts =
     let fe : List ℕ = fti_extension f in
     let es : List (List ℕ) = form.before ++ fe ∷ form.after in
-    let seen = sees form.before form.after fe v.before v.after (fti_sound f) refl in
+    let seen = sees form.before form.after fe hb ha (fti_sound f) refl in
     let all : extension_bytes d ≡ joined es = exts ∙ append_assoc (joined form.before) fe (joined form.after) ∙ sym (joined_around form.before fe form.after) in
     let ends : WalkEnds d es = (all, record { each = seen.each; one = omega (arith, seen.one) }) in
     let walked = walked_end d es (Some (part 2 10 fe)) ends (sym seen.seen) in
-    let t : eqb (length d) (header_end d + 4 + f.symbol_length) ≡ true = eq-eqb _ _ len in
+    ap (with_extensions d) (walked_is (length d) (extension_bytes d) None (Ok (Some (part 2 10 fe))) (extension_bytes_few d) walked)
+    ∙ value_of d f None (fields_of f valid) (valid_no_fault f valid)
+
+-- the value, from the parts
+value_again : (d : List ℕ) (p : Packet) (form : Form) → IsForm form p → Passed d → extension_bytes d ≡ extensions form p.fti → HasPayload d p.fti → packet_with d p.fti ≡ p → read_of d ≡ Ok p
+value_again d p form v passed exts payload made =
+    let t : has_payload d p.fti ≡ true = payload_is d p.fti payload in
     passed_value d passed
-    ∙ ap (with_extensions d) (walked_is (length d) (extension_bytes d) None (Ok (Some (part 2 10 fe))) (extension_bytes_few d) walked)
-    ∙ value_of d f None (fields_of f v.fti) (valid_no_fault f v.fti)
+    ∙ extensions_value d form p.fti v.fti v.before v.after exts
     ∙ (rw t (ap (λ (x : Packet). Ok x) made))
 
 c_is : (a c : ℕ) → a ≡ 16 + 4 * c → c < 4 → (a / 16 ≡ 1) × (a % 4 ≡ 0) × (a / 4 % 4 ≡ c)
@@ -135,7 +154,7 @@ pub again : (d : List ℕ) (p : Packet) → IsPacket d p → read_of d ≡ Ok p
 again d p x =
     let form : Form = x.form in
     let v : IsForm form p = x.valid in
-    let f : Fti = p.fti in
+    let f : Option Fti = p.fti in
     let n : ℕ = header_length form f in
     let g0 : get_or d 0 0 ≡ 16 + 4 * form.c = ap (λ (l : List ℕ). get_or l 0 0) x.spelling in
     let g1 : get_or d 1 0 ≡ 128 * form.s + 32 * form.o + 16 * form.h + form.low = ap (λ (l : List ℕ). get_or l 1 0) x.spelling in
@@ -179,7 +198,9 @@ again d p x =
     (ap number_of block ∙ number_again 3 p.block v.block)
     esi
     bytes in
-    value_again d p form v passed exts (omega (arith, he, s.size, v.symbol)) made
+    let size : length p.bytes ≡ length d - (header_end d + 4) = omega (arith, he, s.size) in
+    let payload : HasPayload d f = record { payload_id = omega (arith, he, s.size); symbol = subst (λ (k : ℕ). IsSymbolLength f k) size v.symbol } in
+    value_again d p form v passed exts payload made
 
 -- what the computing reader answers is the reading
 pub reads : (d : List ℕ) → AreBytes d → (r : Reading) → read_of d ≡ r → Reads d r

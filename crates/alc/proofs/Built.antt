@@ -1,12 +1,13 @@
 -- A datagram without a fault is a packet.
-use Rattle.std.proofs.Common.{◌≡◌, ℕ, ◌+◌, ◌-◌, ◌*◌, ◌/◌, ◌%◌, ◌^◌, ◌<◌, ◌≤◌, true, List, [], ◌∷◌, ◌++◌, length, drop, get_or, arith, refl, ap, sym, ◌∙◌, append_assoc}
+use Rattle.std.proofs.Common.{◌≡◌, ℕ, ◌+◌, ◌-◌, ◌*◌, ◌/◌, ◌%◌, ◌^◌, ◌<◌, ◌≤◌, true, List, [], ◌∷◌, ◌++◌, length, drop, get_or, arith, refl, ap, sym, subst, ◌∙◌, append_assoc, Option}
 use Rattle.std.specs.List.{list_all}
 use Rattle.std.proofs.lemmas.List.{length-drop, drop_more}
 use Rattle.lists.specs.Bytes.{AreBytes}
 use Rattle.partition.specs.Fti.{Fti, IsValidFti}
 use Rattle.byteorder.specs.Endian.{big_bytes}
-use Rattle.alc.specs.Packet.{IsPacket, Form, is_other, extensions, header_length}
-use Rattle.alc.specs.PacketFault.{c_of, s_of, o_of, h_of, fixed_words, header_end, extension_bytes}
+use Rattle.std.specs.Prelude.{IfSome}
+use Rattle.alc.specs.Packet.{IsPacket, IsSymbolLength, Form, is_other, extensions, header_length}
+use Rattle.alc.specs.PacketFault.{HasPayload, c_of, s_of, o_of, h_of, fixed_words, header_end, extension_bytes}
 use Rattle.alc.specs.Computed.{part, packet_with, number_of}
 use Rattle.alc.proofs.Digits.{number_below}
 use Rattle.alc.proofs.Bytes.{AreBytes-part, length-part, cut, four}
@@ -42,9 +43,9 @@ tsi_size d = 4 * s_of d + 2 * h_of d
 abbrev pub toi_size : List ℕ → ℕ
 toi_size d = 4 * o_of d + 2 * h_of d
 
-pub built : (d : List ℕ) (f : Fti) (before behind : List (List ℕ)) → AreBytes d → Passed d → extension_bytes d ≡ extensions (form_of d before behind) f → list_all is_other before ≡ true → list_all is_other behind ≡ true
-    → IsValidFti f → length d ≡ header_end d + 4 + f.symbol_length → IsPacket d (packet_with d f)
-built d f before behind bytes passed exts hb ha valid len =
+pub built : (d : List ℕ) (f : Option Fti) (before behind : List (List ℕ)) → AreBytes d → Passed d → extension_bytes d ≡ extensions (form_of d before behind) f → list_all is_other before ≡ true → list_all is_other behind ≡ true
+    → IfSome f IsValidFti → HasPayload d f → IsPacket d (packet_with d f)
+built d f before behind bytes passed exts hb ha valid payload =
     let form : Form = form_of d before behind in
     let n1 : ℕ = control_size d in
     let n2 : ℕ = tsi_size d in
@@ -55,7 +56,7 @@ built d f before behind bytes passed exts hb ha valid len =
     let b1 : get_or d 1 0 < 256 = bytes 1 in
     let b2 : get_or d 2 0 < 256 = bytes 2 in
     let words : fw ≤ get_or d 2 0 = passed.words in
-    let within : he ≤ length d = passed.within in
+    let within : he + 4 ≤ length d = payload.payload_id in
     let ends : 4 + n1 + n2 + n3 ≡ 4 * fw = omega arith in
     let size : length (extension_bytes d) ≡ he - 4 * fw = length-part (4 * fw) (he - 4 * fw) d (omega arith) in
     let whole : header_length form f ≡ he = omega (arith, ap length exts, size) in
@@ -103,7 +104,7 @@ built d f before behind bytes passed exts hb ha valid len =
         block = below_block;
         esi = bytes (he + 3);
         fti = valid;
-        symbol = omega (arith, length-drop (he + 4) d);
+        symbol = subst (λ (n : ℕ). IsSymbolLength f n) (sym (length-drop (he + 4) d)) payload.symbol;
       };
       spelling = e6;
       bytes = bytes;

@@ -5,6 +5,7 @@ pub mod Chosen
 pub mod Bytes
 pub mod FtiFields
 pub mod Stages
+pub mod Payloads
 pub mod Built
 pub mod OneReading
 pub mod Again

@@ -1,26 +1,27 @@
 -- One reading.
-use Rattle.std.proofs.Common.{◌≡◌, ℕ, ◌+◌, ◌<◌, ◌≤◌, ◌⊎◌, inl, inr, true, false, eqb, List, [], ◌∷◌, ◌++◌, length, take, drop, arith, refl, ap, sym, subst, ◌∙◌, Option, Some, None, Result, Ok, Err, append_assoc}
-use Rattle.std.specs.Prelude.{count_by}
+use Rattle.std.proofs.Common.{◌≡◌, ℕ, ◌+◌, ◌<◌, ◌≤◌, ◌⊎◌, inl, inr, false, true, List, [], ◌∷◌, ◌++◌, length, take, drop, arith, refl, ap, sym, subst, ◌∙◌, Option, Some, None, Result, Ok, Err, append_assoc}
+use Rattle.std.specs.Prelude.{count_by, IfSome}
 use Rattle.std.specs.List.{list_all, list_any}
-use Rattle.std.proofs.lemmas.Bool.{cases_eq, eq-eqb, ne_eqb, or_right, or_left}
+use Rattle.std.proofs.lemmas.Bool.{cases_Bool, or_right, or_left}
 use Rattle.std.proofs.lemmas.List.{append-nil, length-take, length-drop}
 use Rattle.lists.specs.Bytes.{AreBytes}
-use Rattle.partition.specs.Fti.{Fti}
+use Rattle.partition.specs.Fti.{Fti, IsValidFti}
 use Rattle.alc.specs.Packet.{IsPacket, is_other, joined, extensions, fti_extension}
 use Rattle.partition.specs.FtiFault.{fti_fault}
 use Rattle.partition.specs.declared.FtiError.{FtiError}
-use Rattle.alc.specs.PacketFault.{FaultHolds, StopsAt, AreSound, WalkEnds, Carries, HasFields, same, is_fti, rank, header_end, extension_bytes}
+use Rattle.alc.specs.PacketFault.{FaultHolds, StopsAt, AreSound, WalkEnds, Carries, CarriesValid, HasFields, same, is_fti, rank, extension_bytes}
 use Rattle.alc.specs.declared.fault.PacketFault.{PacketFault}
-use Rattle.alc.specs.declared.fault.PacketFault.TheVariants.{TooShort, Version, Psi, Codepoint, NoIdentity, HeaderLength, Extension, FtiLength, TwoFti, NoFti, FtiValue, PayloadLength}
-use Rattle.alc.specs.Computed.{read_of, walk, with_extensions, with_fti, fti_in, part}
+use Rattle.alc.specs.declared.fault.PacketFault.TheVariants.{TooShort, Version, Psi, Codepoint, NoIdentity, HeaderLength, Extension, FtiLength, TwoFti, FtiValue, PayloadLength}
+use Rattle.alc.specs.Computed.{read_of, walk, with_extensions, with_fti, with_payload, has_payload, fti_in, part}
 use Rattle.alc.specs.Reading.{Reading}
 use Rattle.alc.proofs.Walks.{Walked, walk_says, walked_is, seen_after, Stops}
-use Rattle.alc.proofs.Chosen.{Chosen, find, seen_nothing, seen_none, seen_one, same_self}
+use Rattle.alc.proofs.Chosen.{Chosen, find, all_others, seen_nothing, seen_none, seen_one, same_self}
 use Rattle.alc.proofs.Bytes.{AreBytes-part, AreBytes-inside, length-part}
 use Rattle.partition.proofs.Faults.{no_fault_valid}
 use Rattle.alc.proofs.FtiFields.{fti_again, extension_again, has_fields}
 use Rattle.alc.specs.Layout.{Passed}
 use Rattle.alc.proofs.Stages.{Stop, past_short, past_version, past_psi, past_codepoint, past_identity, past_all, passed_value}
+use Rattle.alc.proofs.Payloads.{is_payload, not_payload, payload_isnt}
 use Rattle.alc.proofs.Built.{built, form_of}
 
 abbrev pub Says : List ℕ → Reading → Type 0
@@ -40,18 +41,28 @@ pub joined_around : (before : List (List ℕ)) (e : List ℕ) (behind : List (Li
 joined_around [] e behind = refl
 joined_around (x ∷ before) e behind = ap (λ (y : List ℕ). x ++ y) (joined_around before e behind) ∙ sym (append_assoc x (joined before) (e ++ joined behind))
 
+pub joined_both : (before behind : List (List ℕ)) → joined (before ++ behind) ≡ joined before ++ joined behind
+joined_both [] behind = refl
+joined_both (x ∷ before) behind = ap (λ (y : List ℕ). x ++ y) (joined_both before behind) ∙ sym (append_assoc x (joined before) (joined behind))
+
 pub any_around : (x : List ℕ) (before : List (List ℕ)) (e : List ℕ) (behind : List (List ℕ)) → x ≡ e → list_any (same x) (before ++ e ∷ behind) ≡ true
 any_around x [] e behind h = or_left _ _ (subst (λ (y : List ℕ). same x y ≡ true) h (same_self x))
 any_around x (y ∷ before) e behind h = or_right _ _ (any_around x before e behind h)
 
-with_fault : (d : List ℕ) (es : List (List ℕ)) (f : Fti) (before behind : List (List ℕ)) → AreBytes d → Passed d → WalkEnds d es → Carries es f → extension_bytes d ≡ extensions (form_of d before behind) f → list_all is_other before ≡ true → list_all is_other behind ≡ true
+-- the extensions carry this, and nothing is wrong with it
+with_valid : (d : List ℕ) (es : List (List ℕ)) (fti : Option Fti) (before behind : List (List ℕ)) → AreBytes d → Passed d → WalkEnds d es → CarriesValid es fti → IfSome fti IsValidFti → extension_bytes d ≡ extensions (form_of d before behind) fti → list_all is_other before ≡ true → list_all is_other behind ≡ true
+    → Says d (with_payload d fti)
+with_valid d es fti before behind bytes passed ends carries valid exts hb ha =
+    elim (cases_Bool (has_payload d fti)) [
+      | inl t ↦ rw t (built d fti before behind bytes passed exts hb ha valid (is_payload d fti t))
+      | inr f ↦ rw f (es, fti, ends, carries, not_payload d fti f)
+    ]
+
+with_fault : (d : List ℕ) (es : List (List ℕ)) (f : Fti) (before behind : List (List ℕ)) → AreBytes d → Passed d → WalkEnds d es → Carries es f → extension_bytes d ≡ extensions (form_of d before behind) (Some f) → list_all is_other before ≡ true → list_all is_other behind ≡ true
     → (o : Option FtiError) → fti_fault f ≡ o → Says d (with_fti d f o)
 with_fault d es f before behind bytes passed ends carries exts hb ha (Some x) e = (es, f, ends, carries, e)
 with_fault d es f before behind bytes passed ends carries exts hb ha None e =
-    elim (cases_eq (length d) (header_end d + 4 + f.symbol_length)) [
-      | inl len ↦ let t : eqb (length d) (header_end d + 4 + f.symbol_length) ≡ true = eq-eqb _ _ len in rw t (built d f before behind bytes passed exts hb ha (no_fault_valid f carries.0.symbol_below carries.0.max_below e) len)
-      | inr wrong ↦ let t : eqb (length d) (header_end d + 4 + f.symbol_length) ≡ false = ne_eqb _ _ wrong in rw t (es, f, ends, carries, e, wrong)
-    ]
+    with_valid d es (Some f) before behind bytes passed ends (carries, e) (no_fault_valid f carries.0.symbol_below carries.0.max_below e) exts hb ha
 
 after_chosen : (d : List ℕ) (es : List (List ℕ)) (content : List ℕ) → AreBytes d → Passed d → WalkEnds d es → Chosen es content → Says d (with_fti d (fti_in content) (fti_fault (fti_in content)))
 after_chosen d es content bytes passed ends c =
@@ -62,8 +73,13 @@ after_chosen d es content bytes passed ends c =
     let fields : HasFields (fti_in content) = has_fields content ten bytes_c in
     let spelled_e : fti_extension (fti_in content) ≡ c.e = ap (λ (x : List ℕ). fti_extension (fti_in x)) (sym c.is) ∙ extension_again c.e c.extension c.fti c.twelve bytes_e in
     let carries : Carries es (fti_in content) = (fields, subst (λ (x : List (List ℕ)). list_any (same (fti_extension (fti_in content))) x ≡ true) (sym c.split) (any_around (fti_extension (fti_in content)) c.before c.e c.behind spelled_e)) in
-    let exts : extension_bytes d ≡ extensions (form_of d c.before c.behind) (fti_in content) = around ∙ sym (append_assoc (joined c.before) c.e (joined c.behind)) ∙ ap (λ (x : List ℕ). joined c.before ++ x ++ joined c.behind) (sym spelled_e) in
+    let exts : extension_bytes d ≡ extensions (form_of d c.before c.behind) (Some (fti_in content)) = around ∙ sym (append_assoc (joined c.before) c.e (joined c.behind)) ∙ ap (λ (x : List ℕ). joined c.before ++ x ++ joined c.behind) (sym spelled_e) in
     with_fault d es (fti_in content) c.before c.behind bytes passed ends carries exts c.others_before c.others_behind (fti_fault (fti_in content)) refl
+
+-- they carry no FTI
+after_none : (d : List ℕ) (es : List (List ℕ)) → AreBytes d → Passed d → WalkEnds d es → count_by is_fti es ≡ 0 → Says d (with_payload d None)
+after_none d es bytes passed ends none =
+    with_valid d es None es [] bytes passed ends none tt (ends.0 ∙ sym (append-nil (joined es)) ∙ sym (append-nil (joined es ++ []))) (all_others es ends.1.each none) refl
 
 after_walk : (d : List ℕ) → AreBytes d → Passed d → (r : Result (Option (List ℕ)) PacketFault) → Walked (extension_bytes d) None r → Says d (with_extensions d r)
 after_walk d bytes passed (Err Extension) w = (w.es, w.left, stops_at d Extension w, w.ends.1)
@@ -71,7 +87,7 @@ after_walk d bytes passed (Err FtiLength) w = (w.es, w.left, stops_at d FtiLengt
 after_walk d bytes passed (Err TwoFti) w =
     (w.es, w.left, stops_at d TwoFti w, (w.ends.1.0, w.ends.1.1, w.ends.1.2, omega (arith, w.ends.1.3), w.ends.1.4))
 after_walk d bytes passed (Err q) w = absurd w.ends.1
-after_walk d bytes passed (Ok None) w = (w.es, walk_ends d None w, seen_nothing w.es w.each (sym w.ends.1))
+after_walk d bytes passed (Ok None) w = after_none d w.es bytes passed (walk_ends d None w) (seen_nothing w.es w.each (sym w.ends.1))
 after_walk d bytes passed (Ok (Some content)) w =
     after_chosen d w.es content bytes passed (walk_ends d (Some content) w) (find w.es content w.each (omega (arith, w.few)) (sym w.ends.1))
 
@@ -138,8 +154,10 @@ hits d HeaderLength (inr h) = past_all d (Hits d HeaderLength) (found d HeaderLe
 hits d Extension (es, rest, s, stops) = hits_walk d Extension (Err Extension) (omega arith) (es, rest, s, stops) (walked_stop d Extension es rest s stops) refl
 hits d FtiLength (es, rest, s, stops) = hits_walk d FtiLength (Err FtiLength) (omega arith) (es, rest, s, stops) (walked_stop d FtiLength es rest s stops) refl
 hits d TwoFti (es, rest, s, stops) = hits_walk d TwoFti (Err TwoFti) (omega arith) (es, rest, s, stops) (walked_stop d TwoFti es rest s (stops.0, stops.1, stops.2, omega (arith, stops.3), stops.4)) refl
-hits d NoFti (es, ends, none) = hits_walk d NoFti (Ok None) (omega arith) (es, ends, none) (walked_end d es None ends (sym (seen_none es None none))) refl
 hits d (FtiValue x) (es, f, ends, carries, e) = hits_walk d (FtiValue x) (Ok (Some (part 2 10 (fti_extension f)))) (omega arith) (es, f, ends, carries, e) (carried d es f ends carries) (value_of d f (Some x) carries.0 e)
-hits d PayloadLength (es, f, ends, carries, e, wrong) =
-    let t : eqb (length d) (header_end d + 4 + f.symbol_length) ≡ false = ne_eqb _ _ wrong in
-    hits_walk d PayloadLength (Ok (Some (part 2 10 (fti_extension f)))) (omega arith) (es, f, ends, carries, e, wrong) (carried d es f ends carries) (value_of d f None carries.0 e ∙ (rw t refl))
+hits d PayloadLength (es, None, ends, none, wrong) =
+    let t : has_payload d None ≡ false = payload_isnt d None wrong in
+    hits_walk d PayloadLength (Ok None) (omega arith) (es, None, ends, none, wrong) (walked_end d es None ends (sym (seen_none es None none))) (rw t refl)
+hits d PayloadLength (es, Some f, ends, carries, wrong) =
+    let t : has_payload d (Some f) ≡ false = payload_isnt d (Some f) wrong in
+    hits_walk d PayloadLength (Ok (Some (part 2 10 (fti_extension f)))) (omega arith) (es, Some f, ends, carries, wrong) (carried d es f ends carries.0) (value_of d f None carries.0.0 carries.1 ∙ (rw t refl))

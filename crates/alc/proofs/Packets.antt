@@ -1,11 +1,11 @@
 -- What holds of each packet.
-use Rattle.std.specs.Prelude.{◌≡◌, ◌<◌, ◌≤◌, ◌+◌, ◌*◌, ◌^◌, ℕ, List, length, Result, Ok, Err, IfOk}
+use Rattle.std.specs.Prelude.{◌<◌, ◌≤◌, ◌+◌, ◌*◌, ◌^◌, ℕ, List, length, Result, Ok, Err, IfOk, IfSome}
 use Rattle.std.proofs.Common.{arith, subst, refl}
 use Rattle.std.proofs.Math.Nat.{pow-le-pow_right}
 use Rattle.std.proofs.lemmas.List.{drop_at}
 use Rattle.lists.specs.Bytes.{AreBytes}
 use Rattle.partition.specs.Fti.{IsValidFti}
-use Rattle.alc.specs.Packet.{Packet, IsPacket, head_of, spelled}
+use Rattle.alc.specs.Packet.{Packet, IsPacket, IsSymbolLength, head_of, spelled}
 use Rattle.alc.specs.Reading.{Reads}
 use Rattle.alc.specs.Views.{packet_of, reading_of}
 use Rattle.alc.specs.declared.reading.Packet.{Packet as CodePacket}
@@ -20,10 +20,10 @@ module _ (d : List ℕ) (p : Packet) (is : IsPacket d p) where
       let rest = drop_at (head_of is.form p) p.bytes size refl in
       (subst (λ (x : List ℕ). AreBytes x) rest (AreBytes-drop size (spelled is.form p) (subst (λ (x : List ℕ). AreBytes x) is.spelling is.bytes)), is.valid.esi)
 
-  pub packet_valid : IsValidFti p.fti
+  pub packet_valid : IfSome p.fti IsValidFti
   packet_valid = is.valid.fti
 
-  pub packet_symbol : length p.bytes ≡ p.fti.symbol_length
+  pub packet_symbol : IsSymbolLength p.fti (length p.bytes)
   packet_symbol = is.valid.symbol
 
   pub packet_block : p.block < 2 ^ 24

@@ -1,20 +1,20 @@
 -- What the reader of the code answers, part by part.
-use Rattle.std.proofs.Common.{◌≡◌, ℕ, ◌+◌, ◌-◌, ◌*◌, ◌≤◌, true, false, eqb, List, length, take, drop, get_or, arith, refl, ap, sym, ◌∙◌, Option, Some, None, Result, Ok, Err}
+use Rattle.std.proofs.Common.{◌≡◌, ℕ, ◌+◌, ◌-◌, ◌*◌, ◌≤◌, true, false, List, length, take, drop, get_or, arith, refl, ap, sym, ◌∙◌, Option, Some, None, Result, Ok, Err}
 use Rattle.std.specs.Prelude.{option_map}
-use Rattle.std.proofs.lemmas.Bool.{eq-eqb, ne_eqb}
 use Rattle.partition.specs.Fti.{Fti}
 use Rattle.partition.specs.FtiFault.{fti_fault}
 use Rattle.partition.specs.declared.FtiError.{FtiError}
-use Rattle.alc.specs.PacketFault.{header_end, extension_bytes, s_of, o_of, h_of}
+use Rattle.alc.specs.PacketFault.{HasPayload, header_end, extension_bytes, s_of, o_of, h_of}
 use Rattle.alc.specs.declared.fault.PacketFault.{PacketFault}
 use Rattle.alc.specs.declared.fault.PacketFault.TheVariants.{FtiValue, PayloadLength}
-use Rattle.alc.specs.Computed.{read_of, walk, with_extensions, with_fti, fti_in, packet_with, number_of, part}
+use Rattle.alc.specs.Computed.{read_of, walk, with_extensions, with_fti, with_payload, has_payload, fti_in, packet_with, number_of, part}
 use Rattle.byteorder.specs.Endian.{big_from}
 use Rattle.std.proofs.lemmas.List.{length-drop, drop-drop, get_or-drop}
 use Rattle.alc.specs.Packet.{Packet}
 use Rattle.alc.specs.declared.header.Header.{Header}
 use Rattle.alc.specs.Layout.{Passed, Lies}
 use Rattle.alc.proofs.Digits.{number_is}
+use Rattle.alc.proofs.Payloads.{payload_is, payload_isnt}
 use Rattle.alc.proofs.Again.{packet_made}
 use Rattle.alc.proofs.Walks.{walk_any}
 use Rattle.alc.proofs.Stages.{passed_value}
@@ -34,18 +34,28 @@ with_fault d f (Some x) r e = cc
 pub read_invalid : (d ext content : List ℕ) (r : PacketFault) → Passed d → ext ≡ extension_bytes d → walk (length ext) ext None ≡ Ok (Some content) → option_map FtiValue (fti_fault (fti_in content)) ≡ Some r → read_of d ≡ Err r
 read_invalid d ext content r passed is w bad = read_walked d ext (Ok (Some content)) passed is w ∙ with_fault d (fti_in content) (fti_fault (fti_in content)) r bad
 
-pub read_short : (d ext content : List ℕ) → Passed d → ext ≡ extension_bytes d → walk (length ext) ext None ≡ Ok (Some content) → fti_fault (fti_in content) ≡ None → (length d ≡ header_end d + 4 + (fti_in content).symbol_length → ⊥) → read_of d ≡ Err PayloadLength
-read_short d ext content passed is w good wrong =
-    let t : eqb (length d) (header_end d + 4 + (fti_in content).symbol_length) ≡ false = ne_eqb _ _ wrong in
-    read_walked d ext (Ok (Some content)) passed is w ∙ ap (with_fti d (fti_in content)) good ∙ (rw t refl)
+-- the extensions carry this FTI, or none, and nothing is wrong with it
+abbrev pub Finds : List ℕ → Option Fti → Type 0
+Finds ext None = walk (length ext) ext None ≡ Ok None
+Finds ext (Some f) = (content : List ℕ) × (walk (length ext) ext None ≡ Ok (Some content)) × (fti_in content ≡ f) × (fti_fault f ≡ None)
 
-pub read_whole : (d ext content : List ℕ) → Passed d → ext ≡ extension_bytes d → walk (length ext) ext None ≡ Ok (Some content) → fti_fault (fti_in content) ≡ None → length d ≡ header_end d + 4 + (fti_in content).symbol_length → read_of d ≡ Ok (packet_with d (fti_in content))
-read_whole d ext content passed is w good len =
-    let t : eqb (length d) (header_end d + 4 + (fti_in content).symbol_length) ≡ true = eq-eqb _ _ len in
-    read_walked d ext (Ok (Some content)) passed is w ∙ ap (with_fti d (fti_in content)) good ∙ (rw t refl)
+read_found : (d ext : List ℕ) (fti : Option Fti) → Passed d → ext ≡ extension_bytes d → Finds ext fti → read_of d ≡ with_payload d fti
+read_found d ext None passed is w = read_walked d ext (Ok None) passed is w
+read_found d ext (Some f) passed is (content, w, here, good) =
+    read_walked d ext (Ok (Some content)) passed is w ∙ ap (λ (x : Fti). with_fti d x (fti_fault x)) here ∙ ap (with_fti d f) good
+
+pub read_short : (d ext : List ℕ) (fti : Option Fti) → Passed d → ext ≡ extension_bytes d → Finds ext fti → ¬ HasPayload d fti → read_of d ≡ Err PayloadLength
+read_short d ext fti passed is finds wrong =
+    let t : has_payload d fti ≡ false = payload_isnt d fti wrong in
+    read_found d ext fti passed is finds ∙ (rw t refl)
+
+pub read_whole : (d ext : List ℕ) (fti : Option Fti) → Passed d → ext ≡ extension_bytes d → Finds ext fti → HasPayload d fti → read_of d ≡ Ok (packet_with d fti)
+read_whole d ext fti passed is finds payload =
+    let t : has_payload d fti ≡ true = payload_is d fti payload in
+    read_found d ext fti passed is finds ∙ (rw t refl)
 
 -- the fields as the code reads them
-pub fields_are : (d : List ℕ) (h : Header) (f : Fti) (tsi toi sbn esi : ℕ) (symbol : List ℕ) → Lies h d → length d ≡ h.end + 4 + f.symbol_length
+pub fields_are : (d : List ℕ) (h : Header) (f : Option Fti) (tsi toi sbn esi : ℕ) (symbol : List ℕ) → Lies h d → h.end + 4 ≤ length d
     → tsi ≡ big_from 0 (h.toi - h.tsi) (drop h.tsi d) → toi ≡ big_from 0 (h.extensions - h.toi) (drop h.toi d) → sbn ≡ big_from 0 3 (drop h.end d) → esi ≡ get_or (drop h.end d) 3 0 → symbol ≡ drop 4 (drop h.end d)
     → ◌≡◌ {A = Packet} (record { tsi = tsi; toi = toi; fti = f; block = sbn; esi = esi; bytes = symbol }) (packet_with d f)
 fields_are d h f tsi toi sbn esi symbol lies size ts to sb es sy =

@@ -1,5 +1,5 @@
 -- Reading as a function that computes: the packet of a datagram, or the first fault.
-use Rattle.std.specs.Prelude.{ℕ, zero, suc, ◌+◌, ◌*◌, ◌/◌, ◌%◌, true, false, ◌||◌, ◌==◌, nat_le, nat_lt, is_some, if◌then◌else◌, not, List, [], ◌∷◌, length, take, drop, slice_index, Option, Some, None, Result, Ok, Err}
+use Rattle.std.specs.Prelude.{ℕ, zero, suc, ◌+◌, ◌*◌, ◌/◌, ◌%◌, Bool, true, false, ◌||◌, ◌==◌, nat_le, nat_lt, is_some, if◌then◌else◌, not, List, [], ◌∷◌, length, take, drop, slice_index, Option, Some, None, Result, Ok, Err}
 use Rattle.byteorder.specs.Endian.{big_number}
 use Rattle.partition.specs.Fti.{Fti}
 use Rattle.alc.specs.Packet.{Packet, type_of}
@@ -7,7 +7,7 @@ use Rattle.partition.specs.FtiFault.{fti_fault}
 use Rattle.partition.specs.declared.FtiError.{FtiError}
 use Rattle.alc.specs.PacketFault.{c_of, s_of, o_of, h_of, fixed_words, header_end, extension_bytes}
 use Rattle.alc.specs.declared.fault.PacketFault.{PacketFault}
-use Rattle.alc.specs.declared.fault.PacketFault.TheVariants.{TooShort, Version, Psi, Codepoint, NoIdentity, HeaderLength, Extension, FtiLength, TwoFti, NoFti, FtiValue, PayloadLength}
+use Rattle.alc.specs.declared.fault.PacketFault.TheVariants.{TooShort, Version, Psi, Codepoint, NoIdentity, HeaderLength, Extension, FtiLength, TwoFti, FtiValue, PayloadLength}
 
 -- the number that bytes stand for, the highest first
 unfoldable pub number_of : List ℕ → ℕ
@@ -47,23 +47,31 @@ walk (suc n) rest seen =
 abbrev pub fti_in : List ℕ → Fti
 fti_in e = record { transfer_length = number_of (part 0 6 e); symbol_length = number_of (part 6 2 e); block_length = slice_index e 8; max_symbols = slice_index e 9 }
 
-abbrev pub packet_with : List ℕ → Fti → Packet
-packet_with d f = record {
+abbrev pub packet_with : List ℕ → Option Fti → Packet
+packet_with d fti = record {
   tsi = number_of (part (4 + 4 * (c_of d + 1)) (4 * s_of d + 2 * h_of d) d);
   toi = number_of (part (4 + 4 * (c_of d + 1) + (4 * s_of d + 2 * h_of d)) (4 * o_of d + 2 * h_of d) d);
-  fti = f;
+  fti = fti;
   block = number_of (part (header_end d) 3 d);
   esi = slice_index d (header_end d + 3);
   bytes = drop (header_end d + 4) d;
 }
 
+-- whether what follows the header is a payload ID and a symbol
+abbrev pub has_payload : List ℕ → Option Fti → Bool
+has_payload d None = nat_lt (header_end d + 4) (length d)
+has_payload d (Some f) = length d == header_end d + 4 + f.symbol_length
+
+abbrev pub with_payload : List ℕ → Option Fti → Result Packet PacketFault
+with_payload d fti = if has_payload d fti then Ok (packet_with d fti) else Err PayloadLength
+
 abbrev pub with_fti : List ℕ → Fti → Option FtiError → Result Packet PacketFault
 with_fti d f (Some x) = Err (FtiValue x)
-with_fti d f None = if length d == header_end d + 4 + f.symbol_length then Ok (packet_with d f) else Err PayloadLength
+with_fti d f None = with_payload d (Some f)
 
 abbrev pub with_extensions : List ℕ → Result (Option (List ℕ)) PacketFault → Result Packet PacketFault
 with_extensions d (Err r) = Err r
-with_extensions d (Ok None) = Err NoFti
+with_extensions d (Ok None) = with_payload d None
 with_extensions d (Ok (Some e)) = with_fti d (fti_in e) (fti_fault (fti_in e))
 
 unfoldable pub read_of : List ℕ → Result Packet PacketFault

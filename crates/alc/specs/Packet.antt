@@ -1,16 +1,16 @@
 -- The ALC packet (RFC 5775): LCT header (RFC 5651, section 5.1), header extensions (RFC 5651, section 5.2), EXT_FTI and
 -- FEC payload ID for FEC Encoding ID 5 (RFC 5510, section 5), encoding symbol.
-use Rattle.std.specs.Prelude.{◌≡◌, ℕ, ◌+◌, ◌*◌, ◌/◌, ◌^◌, ◌<◌, ◌≤◌, Bool, true, false, ◌&&◌, ◌==◌, nat_le, if◌then◌else◌, not, List, [], ◌∷◌, ◌++◌, length, flat_map}
+use Rattle.std.specs.Prelude.{◌≡◌, ℕ, ◌+◌, ◌*◌, ◌/◌, ◌^◌, ◌<◌, ◌≤◌, Bool, true, false, ◌&&◌, ◌==◌, nat_le, if◌then◌else◌, not, List, [], ◌∷◌, ◌++◌, length, flat_map, Option, Some, None, IfSome}
 use Rattle.std.specs.List.{list_all}
 use Rattle.byteorder.specs.Endian.{big_bytes}
 use Rattle.lists.specs.Bytes.{AreBytes}
 use Rattle.partition.specs.Fti.{Fti, IsValidFti}
 
--- TSI, TOI, FTI, source block number, encoding symbol ID, and the symbol's bytes
+-- TSI, TOI, the FTI where the packet carries one, source block number, encoding symbol ID, and the symbol's bytes
 pub record Packet : Type 0 where
   pub tsi : ℕ
   pub toi : ℕ
-  pub fti : Fti
+  pub fti : Option Fti
   pub block : ℕ
   pub esi : ℕ
   pub bytes : List ℕ
@@ -37,6 +37,16 @@ abbrev pub fti_extension : Fti → List ℕ
 fti_extension f =
     64 ∷ 3 ∷ big_bytes 6 f.transfer_length ++ big_bytes 2 f.symbol_length ++ f.block_length ∷ f.max_symbols ∷ []
 
+-- where there is no FTI, there is no extension for it
+abbrev pub fti_bytes : Option Fti → List ℕ
+fti_bytes None = []
+fti_bytes (Some f) = fti_extension f
+
+-- a symbol has the length that its packet's FTI tells; without one it has any, but isn't empty
+abbrev pub IsSymbolLength : Option Fti → ℕ → Type 0
+IsSymbolLength None size = 1 ≤ size
+IsSymbolLength (Some f) size = size ≡ f.symbol_length
+
 -- what a header may choose: its flags (low: Res, A and B), its congestion control bytes and its other extensions
 pub record Form : Type 0 where
   pub c : ℕ
@@ -51,12 +61,12 @@ pub record Form : Type 0 where
 abbrev pub joined : List (List ℕ) → List ℕ
 joined es = flat_map (λ e. e) es
 
-abbrev pub extensions : Form → Fti → List ℕ
-extensions form f = joined form.before ++ fti_extension f ++ joined form.after
+abbrev pub extensions : Form → Option Fti → List ℕ
+extensions form fti = joined form.before ++ fti_bytes fti ++ joined form.after
 
-abbrev pub header_length : Form → Fti → ℕ
-header_length form f =
-    4 + 4 * (form.c + 1) + (4 * form.s + 2 * form.h) + (4 * form.o + 2 * form.h) + length (extensions form f)
+abbrev pub header_length : Form → Option Fti → ℕ
+header_length form fti =
+    4 + 4 * (form.c + 1) + (4 * form.s + 2 * form.h) + (4 * form.o + 2 * form.h) + length (extensions form fti)
 
 -- all but the symbol, in this form
 abbrev pub head_of : Form → Packet → List ℕ
@@ -89,8 +99,8 @@ pub record IsForm (form : Form) (p : Packet) : Type 0 where
   pub words : header_length form p.fti < 1024
   pub block : p.block < 2 ^ 24
   pub esi : p.esi < 256
-  pub fti : IsValidFti p.fti
-  pub symbol : length p.bytes ≡ p.fti.symbol_length
+  pub fti : IfSome p.fti IsValidFti
+  pub symbol : IsSymbolLength p.fti (length p.bytes)
 
 -- the bytes are this packet, in some form
 pub record IsPacket (d : List ℕ) (p : Packet) : Type 0 where

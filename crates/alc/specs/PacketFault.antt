@@ -1,12 +1,12 @@
 -- Why a datagram is no packet: the first fault, in the order of the variants of PacketFault; those of the header extensions
 -- go by the extension at which reading stops.
-use Rattle.std.specs.Prelude.{◌≡◌, ℕ, ◌+◌, ◌-◌, ◌*◌, ◌/◌, ◌%◌, ◌<◌, ◌≤◌, ◌⊎◌, Bool, true, false, ◌&&◌, ◌||◌, ◌==◌, not, List, [], ◌∷◌, ◌++◌, length, take, drop, slice_index, count_by, ◌^◌, Some, None}
+use Rattle.std.specs.Prelude.{◌≡◌, ℕ, ◌+◌, ◌-◌, ◌*◌, ◌/◌, ◌%◌, ◌<◌, ◌≤◌, ◌⊎◌, Bool, true, false, ◌&&◌, ◌||◌, ◌==◌, not, List, [], ◌∷◌, ◌++◌, length, take, drop, slice_index, count_by, ◌^◌, Option, Some, None}
 use Rattle.std.specs.List.{list_all, list_any}
 use Rattle.partition.specs.Fti.{Fti}
 use Rattle.partition.specs.FtiFault.{fti_fault}
-use Rattle.alc.specs.Packet.{Packet, IsPacket, is_extension, type_of, joined, fti_extension}
+use Rattle.alc.specs.Packet.{Packet, IsPacket, IsSymbolLength, is_extension, type_of, joined, fti_extension}
 use Rattle.alc.specs.declared.fault.PacketFault.{PacketFault}
-use Rattle.alc.specs.declared.fault.PacketFault.TheVariants.{TooShort, Version, Psi, Codepoint, NoIdentity, HeaderLength, Extension, FtiLength, TwoFti, NoFti, FtiValue, PayloadLength}
+use Rattle.alc.specs.declared.fault.PacketFault.TheVariants.{TooShort, Version, Psi, Codepoint, NoIdentity, HeaderLength, Extension, FtiLength, TwoFti, FtiValue, PayloadLength}
 
 -- whether two lists of bytes are one
 abbrev pub same : List ℕ → List ℕ → Bool
@@ -80,6 +80,16 @@ pub record HasFields (f : Fti) : Type 0 where
 abbrev pub Carries : List (List ℕ) → Fti → Type 0
 Carries es f = HasFields f × (list_any (same (fti_extension f)) es ≡ true)
 
+-- the valid FTI that the extensions carry, or that they have none
+abbrev pub CarriesValid : List (List ℕ) → Option Fti → Type 0
+CarriesValid es None = count_by is_fti es ≡ 0
+CarriesValid es (Some f) = Carries es f × (fti_fault f ≡ None)
+
+-- what follows the header is a payload ID and a symbol
+pub record HasPayload (d : List ℕ) (fti : Option Fti) : Type 0 where
+  pub payload_id : header_end d + 4 ≤ length d
+  pub symbol : IsSymbolLength fti (length d - (header_end d + 4))
+
 -- what each fault says, the ones before it apart
 abbrev pub FaultHolds : List ℕ → PacketFault → Type 0
 FaultHolds d TooShort = length d < 4
@@ -91,9 +101,9 @@ FaultHolds d HeaderLength = (slice_index d 2 < fixed_words d) ⊎ (length d < he
 FaultHolds d Extension = (es : List (List ℕ)) × (rest : List ℕ) × StopsAt d es rest × StopsBy Extension es rest
 FaultHolds d FtiLength = (es : List (List ℕ)) × (rest : List ℕ) × StopsAt d es rest × StopsBy FtiLength es rest
 FaultHolds d TwoFti = (es : List (List ℕ)) × (rest : List ℕ) × StopsAt d es rest × StopsBy TwoFti es rest
-FaultHolds d NoFti = (es : List (List ℕ)) × WalkEnds d es × (count_by is_fti es ≡ 0)
 FaultHolds d (FtiValue x) = (es : List (List ℕ)) × (f : Fti) × WalkEnds d es × Carries es f × (fti_fault f ≡ Some x)
-FaultHolds d PayloadLength = (es : List (List ℕ)) × (f : Fti) × WalkEnds d es × Carries es f × (fti_fault f ≡ None) × (¬ (length d ≡ header_end d + 4 + f.symbol_length))
+FaultHolds d PayloadLength =
+    (es : List (List ℕ)) × (fti : Option Fti) × WalkEnds d es × CarriesValid es fti × (¬ HasPayload d fti)
 
 -- the place of a fault in the table; the three of one extension go by the extension
 abbrev pub rank : PacketFault → ℕ
@@ -106,9 +116,8 @@ rank HeaderLength = 6
 rank Extension = 7
 rank FtiLength = 7
 rank TwoFti = 7
-rank NoFti = 8
-rank (FtiValue x) = 9
-rank PayloadLength = 10
+rank (FtiValue x) = 8
+rank PayloadLength = 9
 
 -- the datagram is no packet, and this is the first fault
 pub record IsPacketFault (d : List ℕ) (r : PacketFault) : Type 0 where

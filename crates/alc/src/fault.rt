@@ -33,13 +33,11 @@ pub enum PacketFault {
     /// A second EXT_FTI.
     #[error("P9 TwoFti")]
     TwoFti,
-    /// There is no EXT_FTI.
-    #[error("P10 NoFti")]
-    NoFti,
     /// The numbers in EXT_FTI are no valid FTI.
     #[error("P11 FtiValue {0}")]
     FtiValue(FtiError),
-    /// What follows the header isn't a payload ID of 4 bytes and a symbol of the length that the FTI tells.
+    /// What follows the header isn't a payload ID of 4 bytes and a symbol of the length that the FTI tells, or, where
+    /// there is no EXT_FTI, of at least one byte.
     #[error("P12 PayloadLength")]
     PayloadLength,
 }

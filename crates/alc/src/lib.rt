@@ -19,4 +19,4 @@ mod writing;
 
 pub use fault::PacketFault;
 pub use reading::{Packet, one_reading, read};
-pub use writing::{HEADER_SIZE, write};
+pub use writing::{HEADER_SIZE, HEADER_SIZE_WITHOUT_FTI, write};

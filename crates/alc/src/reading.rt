@@ -1,7 +1,8 @@
 //! Reading a datagram.
-ghost use Rattle.std.specs.Prelude.{◌≡◌, ◌+◌, ◌<◌, ◌^◌, ℕ, List, length, IfOk};
+ghost use Rattle.std.specs.Prelude.{◌≡◌, ◌+◌, ◌<◌, ◌≤◌, ◌^◌, ℕ, List, length, IfOk, IfSome};
 ghost use Rattle.lists.specs.Bytes.{AreBytes};
 ghost use Rattle.partition.specs.Fti.{IsValidFti};
+ghost use Rattle.alc.specs.Packet.{IsSymbolLength};
 ghost use Rattle.alc.specs.Computed.{read_of, packet_with};
 ghost use Rattle.alc.specs.Layout.{Lies};
 ghost use Rattle.alc.specs.Reading.{Reading, Reads};
@@ -20,20 +21,20 @@ pub struct Packet<'a> {
     pub tsi: u64,
     /// The transport object identifier, below 2^112.
     pub toi: u128,
-    /// The FTI in EXT_FTI.
-    pub fti: Fti,
+    /// The FTI in EXT_FTI, where the packet has one. Such a packet is a carrier.
+    pub fti: Option<Fti>,
     /// The source block number, below 2^24. It may be past the blocks of the FTI.
     pub sbn: u32,
     /// The encoding symbol ID. It may be past the encoding symbols of the block.
     pub esi: u8,
-    /// The encoding symbol, of the length that the FTI tells; the bytes are the datagram's.
+    /// The encoding symbol, of the length that the FTI tells, else of at least one byte; the bytes are the datagram's.
     pub symbol: &'a [u8],
 }
 
-// The packet of this FTI.
-fn packet_with_fti(datagram: &[u8], header: Header, fti: Fti) -> Packet<'_>
+// The packet with this FTI, or without one.
+fn packet_with_fti(datagram: &[u8], header: Header, fti: Option<Fti>) -> Packet<'_>
     requires lies { Lies header datagram.now }
-    requires size { length datagram.now ≡ header.end + 4 + fti.symbol_length }
+    requires size { header.end + 4 ≤ length datagram.now }
     ensures { packet_of result ≡ packet_with datagram.now fti }
 {
     let payload = &datagram[header.end..];
@@ -53,13 +54,16 @@ fn parse(datagram: &[u8]) -> Result<Packet<'_>, PacketFault>
 {
     let header = header_of(datagram)?;
     let Some(content) = fti_content(&datagram[header.extensions..header.end])? else {
-        return Err(PacketFault::NoFti);
+        if datagram.len() < header.end + 5 {
+            return Err(PacketFault::PayloadLength);
+        }
+        return Ok(packet_with_fti(datagram, header, None));
     };
     let fti = fti_of(content)?;
     if datagram.len() != header.end + 4 + usize::from(fti.symbol_length()) {
         return Err(PacketFault::PayloadLength);
     }
-    Ok(packet_with_fti(datagram, header, fti))
+    Ok(packet_with_fti(datagram, header, Some(fti)))
 }
 
 /// The packet that the datagram is, or the first fault for which it is none, in the order of `PacketFault`'s variants.
@@ -69,8 +73,8 @@ pub fn read(datagram: &[u8]) -> Result<Packet<'_>, PacketFault>
     ensures reads { Reads datagram.now (reading_of result) }
     // It is no other packet, and has no other first fault.
     ensures only { (r : Reading) → Reads datagram.now r → r ≡ reading_of result }
-    ensures valid { IfOk result (λ p. IsValidFti p.fti) }
-    ensures symbol { IfOk result (λ p. length p.symbol.now ≡ p.fti.symbol_length) }
+    ensures valid { IfOk result (λ p. IfSome p.fti IsValidFti) }
+    ensures symbol { IfOk result (λ p. IsSymbolLength p.fti (length p.symbol.now)) }
     ensures block { IfOk result (λ p. p.sbn < 2 ^ 24) }
     ensures tsi { IfOk result (λ p. p.tsi < 2 ^ 48) }
     ensures toi { IfOk result (λ p. p.toi < 2 ^ 112) }

@@ -23,7 +23,7 @@ use Rattle.reception.specs.Reception.{Placed, is_of_identity, placed_at, counted
 use Rattle.reception.specs.Walks.{readings_of}
 use Rattle.cert.specs.Certificate.{Certificate}
 use Rattle.cert.specs.declared.verdict.Reason.{Reason}
-use Rattle.cert.specs.declared.verdict.Reason.TheVariants.{ObjectLength, NotObject, Empty, Packet as NoPacket, OtherFti, Range, Symbol as Wrong, Thin}
+use Rattle.cert.specs.declared.verdict.Reason.TheVariants.{ObjectLength, NotObject, Empty, Packet as NoPacket, OtherFti, SymbolLength, Range, Symbol as Wrong, Thin, NoCarrier}
 use Rattle.cert.specs.declared.walk.NoReport.{NoReport}
 use Rattle.cert.specs.declared.walk.NoReport.TheVariants.{Reason as ByReason, NoMemory}
 use Rattle.cert.specs.Verdict.{first_reason, IsAgainst}
@@ -212,8 +212,10 @@ module _ (who : Identity) (z : Certificate) (ds : List (List ℕ)) (groups : Lis
   refused_reason Empty none some h = absurd h
   refused_reason (NoPacket i x) none some h = absurd h
   refused_reason (OtherFti i) none some h = absurd h
+  refused_reason (SymbolLength i) none some h = absurd h
   refused_reason (Range i) none some h = absurd h
   refused_reason (Wrong i c) none some h = absurd h
+  refused_reason NoCarrier none some h = absurd h
 
   -- no report, by the counts
   pub counts_refused : (e : NoReport) → first_reason who z (readings_of ds) ≡ None → symbols (counted who (readings_of ds)) ≢ [] → IsShortGroup groups e → IsNoReport who ds z e

@@ -1,12 +1,13 @@
 -- Datagrams that come one after the other, and what is told of them.
-use Rattle.std.proofs.Common.{◌≡◌, ℕ, ◌+◌, ◌<◌, Bool, true, false, cond, List, [], ◌∷◌, ◌++◌, Option, Some, None, Result, Ok, Err, length, take, get_or, refl, sym, ap, subst, ◌∙◌, arith, lt-ltb}
+use Rattle.std.proofs.Common.{◌≡◌, ℕ, ◌+◌, ◌<◌, Bool, true, false, cond, List, [], ◌∷◌, ◌++◌, Option, Some, None, Result, Ok, Err, length, get_or, refl, sym, ap, subst, ◌∙◌, arith, lt-ltb}
 use Rattle.std.specs.Prelude.{option_map, nat_lt, OnOk, IfErr, IsErrAnd}
 use Rattle.std.proofs.lemmas.List.{map-append, length-append, length-map, append-nil}
-use Rattle.std.proofs.Math.Seq.{take-append_seam, get_or-append_seam}
+use Rattle.std.proofs.Math.Seq.{get_or-append_seam}
 use Rattle.std.proofs.lemmas.Bool.{ltb-true}
 use Rattle.lists.proofs.Lists.{both}
 use Rattle.partition.specs.Fti.{Fti, block_count}
 use Rattle.losses.specs.Groups.{Group}
+use Rattle.losses.specs.Losses.{places_from}
 use Rattle.alc.specs.Views.{packet_of}
 use Rattle.alc.specs.Reading.{Reading}
 use Rattle.alc.specs.Computed.{read_of}
@@ -16,55 +17,52 @@ use Rattle.reception.specs.declared.scope.Identity.{Identity}
 use Rattle.reception.specs.declared.scope.Scope.{Scope}
 use Rattle.reception.specs.declared.scope.PlaceFault.{PlaceFault}
 use Rattle.reception.specs.declared.scope.PlaceFault.TheVariants as fault
+use Rattle.reception.specs.declared.scope.Look.{Look}
+use Rattle.reception.specs.declared.scope.Look.TheVariants as look_at
 use Rattle.reception.specs.Symbols.{Symbol}
-use Rattle.reception.specs.Reception.{Judge, Wrong, Faulty, Judged, Found, Placed, counts, placed_at, counted, symbols, symbols_in, symbol_of, in_range, with_fti, wrong_by, judged, reception_with}
+use Rattle.reception.specs.Reception.{Judge, Wrong, Faulty, Judged, Found, Placed, counts, placed_at, counted, symbols, symbols_in, symbol_of, in_range, is_carrier, with_fti, wrong_by, judged, reception_with}
 use Rattle.reception.specs.Step.{looked, IsLook}
-use Rattle.reception.specs.Walks.{readings_of}
+use Rattle.reception.specs.Walks.{readings_of, Timely}
 use Rattle.reception.proofs.Walk.{counted_one_more, symbols_more, identity_stays}
 use Rattle.reception.proofs.Stepping.{stays, stays_wrong}
-use Rattle.reception.proofs.Walking.{Walked, came_before, stops, goes_on, ends, is_packet, same_identity, packet_counts, passed_counts}
-use Rattle.reception.proofs.Looks.{fti_after, faultless_look, length_look}
+use Rattle.reception.proofs.Walking.{Walked, last, came_before, stops, goes_on, ends, one_behind, is_packet, same_identity, packet_counts, passed_counts}
+use Rattle.reception.proofs.Looks.{fti_after, never_early, may_pass, faultless_look, length_look}
 use Rattle.cert.specs.declared.verdict.Reason.{Reason}
-use Rattle.cert.specs.declared.verdict.Reason.TheVariants.{ObjectLength, NotObject, Empty, Packet as NoPacket, OtherFti, Range, Symbol as NotCertified, Thin}
+use Rattle.cert.specs.declared.verdict.Reason.TheVariants.{ObjectLength, NotObject, Empty, Packet as NoPacket, OtherFti, SymbolLength, Range, Symbol as NotCertified, Thin, NoCarrier}
 use Rattle.cert.specs.declared.walk.NoReport.{NoReport}
 use Rattle.cert.specs.declared.walk.NoReport.TheVariants.{Reason as ByReason, NoMemory}
 use Rattle.cert.specs.Certificate.{Certificate}
 use Rattle.cert.specs.DatagramWalk.{AreWalked, IsAtLast, IsNotKept, IsNotPassed}
-use Rattle.cert.specs.Scan.{AreGroupsOf, IsPut}
+use Rattle.cert.specs.Scan.{AreGroupsOf, IsPut, with_carrier}
 use Rattle.cert.specs.Verdict.{uncertified, reception_to, reason_at, first_reason}
 use Rattle.cert.proofs.Bridge.{group_more}
+use Rattle.cert.proofs.CarrierPlaces.{places_passed, places_with}
 
 -- ---- results
 
-pub three_ok : {A E P Q S T : Type 0} (r : Result A E) → OnOk r P → OnOk r Q → OnOk r S → (P → Q → S → T) → OnOk r T
-three_ok (Ok a) p q s f = f p q s
-three_ok (Err e) p q s f = tt
+pub four_ok : {A E P Q S T U : Type 0} (r : Result A E) → OnOk r P → OnOk r Q → OnOk r S → OnOk r T → (P → Q → S → T → U) → OnOk r U
+four_ok (Ok a) p q s t f = f p q s t
+four_ok (Err e) p q s t f = tt
 
 -- an error that `?` passes on
 pub passed_on : {A E : Type 0} (r : Result A E) (e : E) (P : E → Type 0) → IsErrAnd r (λ x. x ≡ e) → P e → IfErr r P
 passed_on (Ok a) e P h p = tt
 passed_on (Err x) e P h p = subst P (sym h) p
 
--- ---- one datagram more, to any judge
+-- ---- one datagram more, to any judge who knows the FTI
 
-module _ {R : Type 0} (judge : Judge R) (known : Scope) (ds : List (List ℕ)) (old : Scope)
+module _ {R : Type 0} (judge : Judge R) (known : Scope) (f : Fti) (ds : List (List ℕ)) (old : Scope) (fti_known : old.fti ≡ Some f)
     (clean : (reception_with judge known (readings_of ds)).wrong ≡ None) (holds : (reception_with judge known (readings_of ds)).scope ≡ old)
-    (d : List ℕ) (new : Scope) (answer : Result (Option ReadPacket) PlaceFault) (at : IsLook d old new answer) where
+    (d : List ℕ) (new : Scope) (answer : Result Look PlaceFault) (at : IsLook d old new answer) where
   pub readings_more : readings_of (ds ++ d ∷ []) ≡ readings_of ds ++ at.reading ∷ []
   readings_more = map-append read_of ds (d ∷ []) ∙ ap (λ (r : Reading). readings_of ds ++ r ∷ []) (exact d at.reading at.reads)
 
   -- it stands behind those that were looked at
-  front : take (length ds) (readings_of (ds ++ d ∷ [])) ≡ readings_of ds
-  front =
-      ap (λ (rs : List Reading). take (length ds) rs) readings_more
-      ∙ ap (λ (n : ℕ). take n (readings_of ds ++ at.reading ∷ [])) (sym (length-map ds read_of))
-      ∙ take-append_seam (readings_of ds) (at.reading ∷ [])
-
   walked : Walked judge known (ds ++ d ∷ []) (length ds) old
-  walked = record {
-    clean = subst (λ (rs : List Reading). (reception_with judge known rs).wrong ≡ None) (sym front) clean;
-    holds = subst (λ (rs : List Reading). (reception_with judge known rs).scope ≡ old) (sym front) holds;
-  }
+  walked =
+      let is : (reception_with judge known (readings_of ds)).scope.fti ≡ Some f = ap (λ (s : Scope). s.fti) holds ∙ fti_known in
+      subst (λ (s : Scope). Walked judge known (ds ++ d ∷ []) (length ds) s) holds
+      (one_behind judge known ds d clean (subst (λ (o : Option Fti). Timely o (symbols (counted known.identity (readings_of ds)))) (sym is) tt))
 
   inside : length ds < length (ds ++ d ∷ [])
   inside = omega (arith, length-append ds (d ∷ []))
@@ -82,7 +80,8 @@ module _ {R : Type 0} (judge : Judge R) (known : Scope) (ds : List (List ℕ)) (
   pub clean_now : wrong_by judge earlier (looked answer) ≡ None
       → ((reception_with judge known (readings_of (ds ++ d ∷ []))).wrong ≡ None) × ((reception_with judge known (readings_of (ds ++ d ∷ []))).scope ≡ new)
   clean_now is =
-      ends judge known (ds ++ d ∷ []) (length ds + 1) new (goes_on judge known (ds ++ d ∷ []) (length ds) old walked d new answer inside here at is)
+      let may = may_pass d old new (last known (ds ++ d ∷ [])) answer at f fti_known in
+      ends judge known (ds ++ d ∷ []) (length ds + 1) new (goes_on judge known (ds ++ d ∷ []) (length ds) old walked d new answer inside here at may is)
       (omega (arith, length-append ds (d ∷ [])))
 
 -- ---- to a check
@@ -96,7 +95,8 @@ some_more xs x s is =
     let one = ap (λ (ss : List Symbol). length ss) is in
     lt-ltb 0 (length (symbols (xs ++ x ∷ []))) (omega (arith, all, parts, last, one))
 
-module _ (who : Identity) (z : Certificate) (scope : Scope) (count : ℕ) (came : Bool) (groups : List Group) (ds : List (List ℕ)) (are : AreWalked who z scope count came groups ds) where
+module _ (who : Identity) (z : Certificate) (scope : Scope) (count : ℕ) (came : Bool) (groups : List Group) (carriers : List ℕ) (ds : List (List ℕ))
+    (are : AreWalked who z scope count came groups carriers ds) where
   -- the identity is that which is asked for
   same_who : scope.identity ≡ who
   same_who = sym (ap (λ (s : Scope). s.identity) are.holds) ∙ identity_stays (with_fti who z.fti) (counted who (readings_of ds))
@@ -105,13 +105,14 @@ module _ (who : Identity) (z : Certificate) (scope : Scope) (count : ℕ) (came 
   pub fti_holds : scope.fti ≡ Some z.fti
   fti_holds = sym (ap (λ (s : Scope). s.fti) are.holds) ∙ ap (λ (s : Scope). s.fti) (stays who z.fti (counted who (readings_of ds)))
 
-  module _ (d : List ℕ) (new : Scope) (answer : Result (Option ReadPacket) PlaceFault) (at : IsLook d scope new answer) where
+  module _ (d : List ℕ) (new : Scope) (answer : Result Look PlaceFault) (at : IsLook d scope new answer) where
     one_longer : length (ds ++ d ∷ []) ≡ count + 1
     one_longer = let l = length-append ds (d ∷ []) in let m = are.many in omega (arith, l, m)
 
     at_last : (w : Wrong ℕ) → IsAtLast (ds ++ d ∷ []) (reason_at count w)
     at_last (Faulty (fault.NoPacket r)) = one_longer
     at_last (Faulty fault.OtherFti) = one_longer
+    at_last (Faulty fault.SymbolLength) = one_longer
     at_last (Faulty fault.Range) = one_longer
     at_last (Judged c) = one_longer
 
@@ -120,47 +121,57 @@ module _ (who : Identity) (z : Certificate) (scope : Scope) (count : ℕ) (came 
         → IsNotPassed who (ds ++ d ∷ []) z (ByReason (reason_at count w))
     refuses w is = (
       ap (λ (found : Found ℕ). option_map (λ x. reason_at x.0 x.1) found)
-          (wrong_now (uncertified z) (with_fti who z.fti) ds scope are.clean are.holds d new answer at w is ∙ ap (λ (n : ℕ). Some (n, w)) are.many),
+          (wrong_now (uncertified z) (with_fti who z.fti) z.fti ds scope fti_holds are.clean are.holds d new answer at w is ∙ ap (λ (n : ℕ). Some (n, w)) are.many),
       at_last w,
     )
+
+    -- the readings, and the next behind them
+    one_reading : readings_of (ds ++ d ∷ []) ≡ readings_of ds ++ at.reading ∷ []
+    one_reading = readings_more (uncertified z) (with_fti who z.fti) z.fti ds scope fti_holds are.clean are.holds d new answer at
+
+    place : length (readings_of ds) ≡ count
+    place = length-map ds read_of ∙ are.many
 
     -- the readings that count, and the next where it does
     counted_is : counted who (readings_of (ds ++ d ∷ [])) ≡ counted who (readings_of ds) ++ placed_at who count at.reading
     counted_is =
-        let place : length (readings_of ds) ≡ count = length-map ds read_of ∙ are.many in
-        ap (λ (rs : List Reading). counted who rs) (readings_more (uncertified z) (with_fti who z.fti) ds scope are.clean are.holds d new answer at)
+        ap (λ (rs : List Reading). counted who rs) one_reading
         ∙ counted_one_more who (readings_of ds) at.reading
         ∙ ap (λ (n : ℕ). counted who (readings_of ds) ++ placed_at who n at.reading) place
 
     -- nothing is wrong with it
-    next : (after : List Group) (some : Bool) → wrong_by (uncertified z) (came_before who (ds ++ d ∷ []) (length ds)) (looked answer) ≡ None
+    next : (after : List Group) (with : List ℕ) (some : Bool) → wrong_by (uncertified z) (came_before who (ds ++ d ∷ []) (length ds)) (looked answer) ≡ None
         → nat_lt 0 (length (symbols (counted who (readings_of (ds ++ d ∷ []))))) ≡ some → AreGroupsOf z.fti (counted who (readings_of (ds ++ d ∷ []))) after
-        → AreWalked new.identity z new (count + 1) some after (ds ++ d ∷ [])
-    next after some none is groups =
-        let w = clean_now (uncertified z) (with_fti who z.fti) ds scope are.clean are.holds d new answer at none in
-        subst (λ (i : Identity). AreWalked i z new (count + 1) some after (ds ++ d ∷ [])) (sym (same_identity d scope new answer at ∙ same_who))
-        (record { clean = w.0; holds = w.1; many = one_longer; some = is; grouped = groups })
+        → with ≡ places_from (is_carrier who) 0 (readings_of (ds ++ d ∷ [])) → AreWalked new.identity z new (count + 1) some after with (ds ++ d ∷ [])
+    next after with some none is groups placed =
+        let w = clean_now (uncertified z) (with_fti who z.fti) z.fti ds scope fti_holds are.clean are.holds d new answer at none in
+        subst (λ (i : Identity). AreWalked i z new (count + 1) some after with (ds ++ d ∷ [])) (sym (same_identity d scope new answer at ∙ same_who))
+        (record { clean = w.0; holds = w.1; many = one_longer; some = is; grouped = groups; placed = placed })
 
   -- a packet of another identity is passed over
-  pub passes_over : (d : List ℕ) (new : Scope) → IsLook d scope new (Ok None) → AreWalked new.identity z new (count + 1) came groups (ds ++ d ∷ [])
+  pub passes_over : (d : List ℕ) (new : Scope) → IsLook d scope new (Ok look_at.Other) → AreWalked new.identity z new (count + 1) came groups carriers (ds ++ d ∷ [])
   passes_over d new at =
       let other : counts who at.reading ≡ false = subst (λ (i : Identity). counts i at.reading ≡ false) same_who (passed_counts d scope new at) in
       let same : counted who (readings_of (ds ++ d ∷ [])) ≡ counted who (readings_of ds) =
-      counted_is d new (Ok None) at
+      counted_is d new (Ok look_at.Other) at
       ∙ ap (λ (v : Bool). counted who (readings_of ds) ++ cond v (record { place = count; reading = at.reading } ∷ []) []) other
       ∙ append-nil (counted who (readings_of ds)) in
-      next d new (Ok None) at groups came refl
+      next d new (Ok look_at.Other) at groups carriers came refl
       (ap (λ (xs : List Placed). nat_lt 0 (length (symbols xs))) same ∙ are.some)
       (subst (λ (xs : List Placed). AreGroupsOf z.fti xs groups) (sym same) are.grouped)
+      (are.placed
+      ∙ sym (ap (λ (rs : List Reading). places_from (is_carrier who) 0 rs) (one_reading d new (Ok look_at.Other) at) ∙ places_passed who (readings_of ds) at.reading other))
 
-  module _ (d : List ℕ) (new : Scope) (p : ReadPacket) (at : IsLook d scope new (Ok (Some p))) where
+  -- none comes before the FTI is known
+  pub not_early : (d : List ℕ) (new : Scope) → IsLook d scope new (Ok look_at.Early) → ⊥
+  not_early d new at = never_early d scope new at z.fti fti_holds
+
+  module _ (d : List ℕ) (new : Scope) (p : ReadPacket) (at : IsLook d scope new (Ok (look_at.InRange p))) where
     pub packet_in_range : in_range (packet_of p) z.fti ≡ true
-    packet_in_range = (faultless_look d scope new p at z.fti (fti_after d scope new (Ok (Some p)) at z.fti fti_holds)).range
+    packet_in_range = (faultless_look d scope new p at z.fti (fti_after d scope new (Ok (look_at.InRange p)) at z.fti fti_holds)).range
 
     pub symbol_long : length p.symbol.now ≡ z.fti.symbol_length
-    symbol_long =
-        length_look d scope new p at
-        ∙ ap (λ (f : Fti). f.symbol_length) (faultless_look d scope new p at z.fti (fti_after d scope new (Ok (Some p)) at z.fti fti_holds)).fti
+    symbol_long = length_look d scope new p at z.fti (fti_after d scope new (Ok (look_at.InRange p)) at z.fti fti_holds)
 
     pub block_there : (packet_of p).block < length groups
     block_there =
@@ -168,32 +179,47 @@ module _ (who : Identity) (z : Certificate) (scope : Scope) (count : ℕ) (came 
         let g = are.grouped.count in
         omega (arith, l, g)
 
+    mine : counts who at.reading ≡ true
+    mine = subst (λ (i : Identity). counts i at.reading ≡ true) same_who (packet_counts d scope new p at)
+
+    -- its place is a carrier's where it carries an FTI
+    carriers_more : places_from (is_carrier who) 0 (readings_of (ds ++ d ∷ [])) ≡ with_carrier carriers count (packet_of p).fti
+    carriers_more =
+        let is : at.reading ≡ Ok (packet_of p) = is_packet d scope new p at in
+        ap (λ (rs : List Reading). places_from (is_carrier who) 0 rs) (one_reading d new (Ok (look_at.InRange p)) at)
+        ∙ ap (λ (r : Reading). places_from (is_carrier who) 0 (readings_of ds ++ r ∷ [])) is
+        ∙ places_with who (readings_of ds) (packet_of p) (subst (λ (r : Reading). counts who r ≡ true) is mine)
+        ∙ ap (λ (n : ℕ). with_carrier (places_from (is_carrier who) 0 (readings_of ds)) n (packet_of p).fti) (place d new (Ok (look_at.InRange p)) at)
+        ∙ ap (λ (ps : List ℕ). with_carrier ps count (packet_of p).fti) (sym are.placed)
+
     -- the next datagram has no reason against it
-    pub passes : (after : List Group) → uncertified z [] (symbol_of (packet_of p)) ≡ None → IsPut groups count (symbol_of (packet_of p)) after
-        → AreWalked new.identity z new (count + 1) true after (ds ++ d ∷ [])
-    passes after says put =
+    pub passes : (after : List Group) (with : List ℕ) → uncertified z [] (symbol_of (packet_of p)) ≡ None → IsPut groups count (symbol_of (packet_of p)) after
+        → with ≡ with_carrier carriers count (packet_of p).fti → AreWalked new.identity z new (count + 1) true after with (ds ++ d ∷ [])
+    passes after with says put placed =
         let x : Placed = record { place = count; reading = at.reading } in
         let is : symbols_in at.reading ≡ symbol_of (packet_of p) ∷ [] = ap symbols_in (is_packet d scope new p at) in
-        let mine : counts who at.reading ≡ true = subst (λ (i : Identity). counts i at.reading ≡ true) same_who (packet_counts d scope new p at) in
         let more : counted who (readings_of (ds ++ d ∷ [])) ≡ counted who (readings_of ds) ++ x ∷ [] =
-        counted_is d new (Ok (Some p)) at ∙ ap (λ (v : Bool). counted who (readings_of ds) ++ cond v (x ∷ []) []) mine in
-        next d new (Ok (Some p)) at after true (ap (λ (o : Option ℕ). judged o) says)
+        counted_is d new (Ok (look_at.InRange p)) at ∙ ap (λ (v : Bool). counted who (readings_of ds) ++ cond v (x ∷ []) []) mine in
+        next d new (Ok (look_at.InRange p)) at after with true (ap (λ (o : Option ℕ). judged o) says)
         (ap (λ (xs : List Placed). nat_lt 0 (length (symbols xs))) more ∙ some_more (counted who (readings_of ds)) x (symbol_of (packet_of p)) is)
         (subst (λ (xs : List Placed). AreGroupsOf z.fti xs after) (sym more)
         (group_more z.fti (counted who (readings_of ds)) count (symbol_of (packet_of p)) at.reading is groups after are.grouped put))
+        (placed ∙ sym carriers_more)
 
     -- it isn't, since its symbol isn't the certified one
     pub refuses_symbol : (e : NoReport) → IsNotKept z count (packet_of p) e → IsNotPassed who (ds ++ d ∷ []) z e
     refuses_symbol NoMemory h = tt
     refuses_symbol (ByReason (NotCertified i c)) h =
-        rw h.0 (refuses d new (Ok (Some p)) at (Judged c) (ap (λ (o : Option ℕ). judged o) h.1))
+        rw h.0 (refuses d new (Ok (look_at.InRange p)) at (Judged c) (ap (λ (o : Option ℕ). judged o) h.1))
     refuses_symbol (ByReason ObjectLength) h = absurd h
     refuses_symbol (ByReason (NotObject b c i)) h = absurd h
     refuses_symbol (ByReason Empty) h = absurd h
     refuses_symbol (ByReason (NoPacket i x)) h = absurd h
     refuses_symbol (ByReason (OtherFti i)) h = absurd h
+    refuses_symbol (ByReason (SymbolLength i)) h = absurd h
     refuses_symbol (ByReason (Range i)) h = absurd h
     refuses_symbol (ByReason (Thin b have need)) h = absurd h
+    refuses_symbol (ByReason NoCarrier) h = absurd h
 
 -- ---- what is told of a beginning
 
@@ -206,6 +232,6 @@ pub reason_stays : (who : Identity) (z : Certificate) (ds rest : List (List ℕ)
 reason_stays who z ds rest r h =
     let w = found_at (reception_to who z (readings_of ds)).wrong r h in
     let still : (reception_to who z (readings_of ds ++ readings_of rest)).wrong ≡ Some w.0 =
-    stays_wrong (uncertified z) (with_fti who z.fti) (readings_of ds) (readings_of rest) w.0 w.1 in
+    stays_wrong (uncertified z) who z.fti (readings_of ds) (readings_of rest) w.0 w.1 in
     ap (λ (rs : List Reading). first_reason who z rs) (map-append read_of ds rest)
     ∙ ap (λ (found : Found ℕ). option_map (λ x. reason_at x.0 x.1) found) still ∙ ap (λ (s : Reason). Some s) w.2

@@ -9,7 +9,7 @@ use Rattle.reception.specs.declared.scope.Identity.{Identity}
 use Rattle.reception.specs.Symbols.{IsObject}
 use Rattle.reception.specs.Walks.{readings_of}
 use Rattle.cert.specs.declared.verdict.Reason.{Reason}
-use Rattle.cert.specs.declared.verdict.Reason.TheVariants.{ObjectLength, NotObject, Empty, Packet as NoPacket, OtherFti, Range, Symbol, Thin}
+use Rattle.cert.specs.declared.verdict.Reason.TheVariants.{ObjectLength, NotObject, Empty, Packet as NoPacket, OtherFti, SymbolLength, Range, Symbol, Thin, NoCarrier}
 use Rattle.cert.specs.declared.verdict.Report.{Report}
 use Rattle.cert.specs.declared.verdict.Verdict.TheVariants.{Yes, No}
 use Rattle.cert.specs.declared.walk.NoReport.{NoReport}
@@ -24,7 +24,7 @@ use Rattle.cert.specs.Verdict.{GivesObject, reception_to, first_reason, IsAgains
 use Rattle.cert.proofs.DatagramSteps.{reason_stays}
 use Rattle.cert.proofs.Judging.{read_all, is_at_place, no_reason, refused, yes_all}
 use Rattle.cert.proofs.Promise.{decodes}
-use Rattle.cert.proofs.Undecided.{undecided}
+use Rattle.cert.proofs.Undecided.{undecided, tells}
 
 -- ---- lists of datagrams
 
@@ -61,10 +61,12 @@ consumes_one (Some a) (Some b) (Some c) ds d p q =
 against_place : (who : Identity) (z : Certificate) (rs : List Reading) (r : Reason) → first_reason who z rs ≡ Some r → IsAgainst who rs z r
 against_place who z rs Empty h = absurd (is_at_place (reception_to who z rs).wrong Empty h)
 against_place who z rs (Thin b have need) h = absurd (is_at_place (reception_to who z rs).wrong (Thin b have need) h)
+against_place who z rs NoCarrier h = absurd (is_at_place (reception_to who z rs).wrong NoCarrier h)
 against_place who z rs ObjectLength h = h
 against_place who z rs (NotObject b c i) h = h
 against_place who z rs (NoPacket i x) h = h
 against_place who z rs (OtherFti i) h = h
+against_place who z rs (SymbolLength i) h = h
 against_place who z rs (Range i) h = h
 against_place who z rs (Symbol i c) h = h
 
@@ -93,8 +95,10 @@ module _ (who : Identity) (z : Certificate) (object : List ℕ) (form : IsObject
     after_place (NotObject b c i) h = absurd (is_at_place (reception_to who z (readings_of ds)).wrong (NotObject b c i) h.0)
     after_place Empty h = absurd (is_at_place (reception_to who z (readings_of ds)).wrong Empty h.0)
     after_place (Thin b have need) h = absurd (is_at_place (reception_to who z (readings_of ds)).wrong (Thin b have need) h.0)
+    after_place NoCarrier h = absurd (is_at_place (reception_to who z (readings_of ds)).wrong NoCarrier h.0)
     after_place (NoPacket i x) h = (h.1, what_follows (NoPacket i x) h.0)
     after_place (OtherFti i) h = (h.1, what_follows (OtherFti i) h.0)
+    after_place (SymbolLength i) h = (h.1, what_follows (SymbolLength i) h.0)
     after_place (Range i) h = (h.1, what_follows (Range i) h.0)
     after_place (Symbol i c) h = (h.1, what_follows (Symbol i c) h.0)
 
@@ -105,10 +109,12 @@ module _ (who : Identity) (z : Certificate) (object : List ℕ) (form : IsObject
       after_all : (r : Reason) → IsAtEnd left → IsAgainst who (readings_of ds) z r → IsVerdictAfter who (No r) ds left object z
       after_all Empty end h = (end, verdict_no ds Empty each h)
       after_all (Thin b have need) end h = (end, verdict_no ds (Thin b have need) each h)
+      after_all NoCarrier end h = (end, verdict_no ds NoCarrier each h)
       after_all ObjectLength end h = absurd (no_place ObjectLength h)
       after_all (NotObject b c i) end h = absurd (no_place (NotObject b c i) h)
       after_all (NoPacket i x) end h = absurd (no_place (NoPacket i x) h)
       after_all (OtherFti i) end h = absurd (no_place (OtherFti i) h)
+      after_all (SymbolLength i) end h = absurd (no_place (SymbolLength i) h)
       after_all (Range i) end h = absurd (no_place (Range i) h)
       after_all (Symbol i c) end h = absurd (no_place (Symbol i c) h)
 
@@ -119,9 +125,11 @@ before_all who z object left (NotObject b c i) h = (refl, λ rest each. record {
 before_all who z object left Empty h = absurd h
 before_all who z object left (NoPacket i x) h = absurd h
 before_all who z object left (OtherFti i) h = absurd h
+before_all who z object left (SymbolLength i) h = absurd h
 before_all who z object left (Range i) h = absurd h
 before_all who z object left (Symbol i c) h = absurd h
 before_all who z object left (Thin b have need) h = absurd h
+before_all who z object left NoCarrier h = absurd h
 
 -- ---- why there is no report
 
@@ -134,13 +142,14 @@ not_begun who old failed z object (ByReason r) h = record {
   judged = before_all who z object old r h;
   decodes = tt;
   undecided = tt;
+  tells = tt;
   report = tt;
 }
 
 module _ (who : Identity) (z : Certificate) (object : List ℕ) (form : IsObject z.fti object) (gives : GivesObject object z)
     (old new : Option (List ℕ)) (failed : Bool) (ds : List (List ℕ)) (each : AreDatagrams ds) (consumed : Consumes old new (frames ds)) where
   no_from : (r : Reason) → IsVerdictAfter who (No r) ds new object z → IsCheckedFrom who old new object z (No r)
-  no_from r h = record { datagrams = ds; each = each; consumed = consumed; judged = h; decodes = tt; undecided = tt; report = tt }
+  no_from r h = record { datagrams = ds; each = each; consumed = consumed; judged = h; decodes = tt; undecided = tt; tells = tt; report = tt }
 
   -- the last of the datagrams isn't passed
   pub not_passed : (e : NoReport) → IsNotPassed who ds z e → IsEnding who old new failed object z (ending_of e)
@@ -175,5 +184,6 @@ module _ (who : Identity) (z : Certificate) (object : List ℕ) (form : IsObject
         judged = (end, record { readings = readings_of ds; read = read_all ds each; judged = judged });
         decodes = decodes who ds (readings_of ds) object z (read_all ds each) valid judged;
         undecided = undecided who ds (readings_of ds) object z (read_all ds each) valid judged;
+        tells = tells who ds (readings_of ds) object z (read_all ds each) valid judged;
         report = is;
       }

@@ -13,13 +13,13 @@ use Rattle.reception.specs.declared.scope.Scope.{Scope}
 use Rattle.reception.specs.declared.scope.PlaceFault.{PlaceFault}
 use Rattle.reception.specs.declared.scope.PlaceFault.TheVariants as fault
 use Rattle.reception.specs.Symbols.{Symbol as Received, IsObject}
-use Rattle.reception.specs.Reception.{ReadAll, Placed, Wrong, Faulty, Judged, Found, counts, counted, symbols, symbol_of, symbols_in, packet_fault, or_packet, wrong_by, judged, reading_wrong, at_place, wrong_after}
+use Rattle.reception.specs.Reception.{ReadAll, Placed, Wrong, Faulty, Judged, Found, Other, counts, counted, symbols, symbol_of, symbols_in, packet_fault, or_packet, wrong_by, judged, reading_wrong, at_place, wrong_after}
 use Rattle.reception.specs.Walks.{readings_of}
 use Rattle.reception.proofs.Walk.{each_counts}
 use Rattle.reception.proofs.Stepping.{scope, stays}
 use Rattle.reception.proofs.Within.{faultless, none_wrong, neither, nowhere}
 use Rattle.cert.specs.declared.verdict.Reason.{Reason}
-use Rattle.cert.specs.declared.verdict.Reason.TheVariants.{ObjectLength, NotObject, Empty, Packet as NoPacket, OtherFti, Range, Symbol, Thin}
+use Rattle.cert.specs.declared.verdict.Reason.TheVariants.{ObjectLength, NotObject, Empty, Packet as NoPacket, OtherFti, SymbolLength, Range, Symbol, Thin, NoCarrier}
 use Rattle.cert.specs.declared.verdict.Report.{Report}
 use Rattle.cert.specs.declared.verdict.Verdict.TheVariants.{Yes, No}
 use Rattle.cert.specs.Certificate.{Certificate}
@@ -48,6 +48,7 @@ certified z earlier p h =
     nothing_judged _ (subst (λ (o : Option PlaceFault). wrong_by (uncertified z) earlier (or_packet p o) ≡ None) none h) in
     record {
       fti = w.fti;
+      size = w.size;
       range = w.range;
       symbol = certified_where_none z (symbol_of p) right;
     }
@@ -65,7 +66,7 @@ all_certified z who earlier (x ∷ xs) mine h =
     by (Err e) m k = absurd (cc)
     by (Ok p) m k =
         certified z earlier p
-        (ap (λ (v : Bool). wrong_by (uncertified z) earlier (if v then or_packet p (packet_fault z.fti p) else Ok None)) (sym m) ∙ k)
+        (ap (λ (v : Bool). wrong_by (uncertified z) earlier (if v then or_packet p (packet_fault z.fti p) else Ok Other)) (sym m) ∙ k)
 
 pub are_certified : (who : Identity) (z : Certificate) (rs : List Reading) → (reception_to who z rs).wrong ≡ None → symbols (counted who rs) ≢ [] → AreCertified who rs z
 are_certified who z rs h some = record {
@@ -93,11 +94,13 @@ IsAtPlace ObjectLength = ⊥
 IsAtPlace (NotObject b c i) = ⊥
 IsAtPlace Empty = ⊥
 IsAtPlace (Thin b have need) = ⊥
+IsAtPlace NoCarrier = ⊥
 IsAtPlace _ = Unit {0}
 
 judged_place : (i : ℕ) (w : Wrong ℕ) → IsAtPlace (reason_at i w)
 judged_place i (Faulty (fault.NoPacket r)) = tt
 judged_place i (Faulty fault.OtherFti) = tt
+judged_place i (Faulty fault.SymbolLength) = tt
 judged_place i (Faulty fault.Range) = tt
 judged_place i (Judged c) = tt
 
@@ -108,13 +111,6 @@ pub is_at_place : (found : Found ℕ) (r : Reason) → reason_of found ≡ Some 
 is_at_place None r h = absurd (cc)
 is_at_place (Some x) r h = subst IsAtPlace (some_same h) (judged_place x.0 x.1)
 
--- something wrong at a place
-pub against : (who : Identity) (rs : List Reading) (z : Certificate) (i : ℕ) (w : Wrong ℕ) → (reception_to who z rs).wrong ≡ Some (i, w) → IsAgainst who rs z (reason_at i w)
-against who rs z i (Faulty (fault.NoPacket r)) h = ap reason_of h
-against who rs z i (Faulty fault.OtherFti) h = ap reason_of h
-against who rs z i (Faulty fault.Range) h = ap reason_of h
-against who rs z i (Judged c) h = ap reason_of h
-
 -- the verdict for what the datagrams say
 pub refused : (who : Identity) (rs : List Reading) (object : List ℕ) (z : Certificate) (r : Reason) → IsObject z.fti object → GivesObject object z
     → IsAgainst who rs z r → VerdictOn who rs object z (No r)
@@ -122,8 +118,10 @@ refused who rs object z ObjectLength form gives h = absurd (is_at_place (recepti
 refused who rs object z (NotObject b c i) form gives h = absurd (is_at_place (reception_to who z rs).wrong (NotObject b c i) h)
 refused who rs object z Empty form gives h = (form, gives, h)
 refused who rs object z (Thin b have need) form gives h = (form, gives, h)
+refused who rs object z NoCarrier form gives h = (form, gives, h)
 refused who rs object z (NoPacket i x) form gives h = (form, gives, h)
 refused who rs object z (OtherFti i) form gives h = (form, gives, h)
+refused who rs object z (SymbolLength i) form gives h = (form, gives, h)
 refused who rs object z (Range i) form gives h = (form, gives, h)
 refused who rs object z (Symbol i c) form gives h = (form, gives, h)
 
@@ -134,9 +132,11 @@ no_object who rs object z ObjectLength len h = absurd h
 no_object who rs object z Empty len h = absurd h
 no_object who rs object z (NoPacket i x) len h = absurd h
 no_object who rs object z (OtherFti i) len h = absurd h
+no_object who rs object z (SymbolLength i) len h = absurd h
 no_object who rs object z (Range i) len h = absurd h
 no_object who rs object z (Symbol i c) len h = absurd h
 no_object who rs object z (Thin b have need) len h = absurd h
+no_object who rs object z NoCarrier len h = absurd h
 
 -- where some symbols came, there are some, and where none came, none
 pub some_came : (arrivals : List Received) → nat_lt 0 (length arrivals) ≡ true → arrivals ≢ []
@@ -150,4 +150,4 @@ none_came (s ∷ ss) h = let l = ltb-false 0 (length (s ∷ ss)) h in absurd (om
 -- the verdict where all is well
 pub yes_all : (who : Identity) (ds : List (List ℕ)) (object : List ℕ) (z : Certificate) (report : Report) → IsObject z.fti object → GivesObject object z → AreEnoughCertified who ds z
     → VerdictOn who (readings_of ds) object z (Yes report)
-yes_all who ds object z report form gives h = record { form = form; gives = gives; certified = h.all; full = h.full }
+yes_all who ds object z report form gives h = record { form = form; gives = gives; certified = h.all; full = h.full; carrier = h.carrier }

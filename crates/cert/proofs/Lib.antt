@@ -9,6 +9,8 @@ pub mod Scanning
 pub mod Judging
 pub mod Bridge
 pub mod Vectors
+pub mod CheckVectors
+pub mod CarrierPlaces
 pub mod Losing
 pub mod Adding
 pub mod TwinObject

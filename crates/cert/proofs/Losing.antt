@@ -4,17 +4,18 @@ use Rattle.std.specs.Prelude.{◌==◌, if◌then◌else◌}
 use Rattle.std.specs.List.{list_any, AllByRecursion}
 use Rattle.lists.specs.Selection.{rest_from, rest}
 use Rattle.losses.specs.declared.groups.Member.{Member}
-use Rattle.losses.specs.Losses.{IsMargin, IsKill, IsBurst, IsHarmless}
+use Rattle.losses.specs.Losses.{Blocks, places_from, IsMargin, IsKill, IsBurst, IsHarmless}
 use Rattle.losses.specs.Groups.{Group, group_at, places, is_at, blocks_of_groups, AreMembers, AreGroups}
 use Rattle.losses.proofs.Lines.{any_left}
 use Rattle.losses.proofs.Link.{is_left}
 use Rattle.losses.proofs.Transfer.{margin_same, kill_same, burst_same}
+use Rattle.losses.proofs.CarrierPlaces.{carriers_left, carriers_same}
 use Rattle.partition.specs.Fti.{Fti, IsValidFti, source_count}
 use Rattle.partition.proofs.Laws.{some_source}
 use Rattle.alc.specs.Reading.{Reading}
 use Rattle.reception.specs.declared.scope.Identity.{Identity}
 use Rattle.reception.specs.Symbols.{has_arrived}
-use Rattle.reception.specs.Reception.{ReadAll, is_of_identity, counted_from, counted, symbols}
+use Rattle.reception.specs.Reception.{ReadAll, is_of_identity, is_carrier, counted_from, counted, symbols}
 use Rattle.reception.specs.Headline.{IsEnough}
 use Rattle.cert.specs.Certificate.{Certificate}
 use Rattle.cert.specs.Verdict.{IsCertifiedReading}
@@ -84,14 +85,24 @@ module _ (who : Identity) (z : Certificate) (valid : IsValidFti z.fti) (rs : Lis
   needed : (b : ℕ) → b < length groups → source_count z.fti b ≡ (group_at groups b).need
   needed b hb = let c = are.count in sym (are.need b (omega (arith, hb, c)))
 
-  pub margin_told : (m : ℕ) → IsMargin (blocks_of_groups groups) (places 0 (length rs)) m → IsMargin (blocks_of who z.fti) rs m
-  margin_told = margin_same (blocks_of_groups groups) (blocks_of who z.fti) (places 0 (length rs)) rs (sym are.count) needed (sym (places_length 0 (length rs))) whole left
+  -- of the groups and the carriers' places
+  abbrev pub grouped : Blocks ℕ
+  grouped = blocks_of_groups groups (places_from (is_carrier who) 0 rs)
 
-  pub kill_told : (n : ℕ) (ps : List ℕ) → IsKill (blocks_of_groups groups) (places 0 (length rs)) n ps → IsKill (blocks_of who z.fti) rs n ps
-  kill_told = kill_same (blocks_of_groups groups) (blocks_of who z.fti) (places 0 (length rs)) rs (sym are.count) needed (sym (places_length 0 (length rs))) whole left
+  pub margin_told : (m : ℕ) → IsMargin grouped (places 0 (length rs)) m → IsMargin (blocks_of who z.fti) rs m
+  margin_told =
+      margin_same grouped (blocks_of who z.fti) (places 0 (length rs)) rs (sym are.count) needed (sym (places_length 0 (length rs))) whole left
+      (λ lost. sym (carriers_left (is_carrier who) rs lost)) (sym (carriers_same (is_carrier who) rs))
 
-  pub burst_told : (m : ℕ) → IsBurst (blocks_of_groups groups) (places 0 (length rs)) m → IsBurst (blocks_of who z.fti) rs m
-  burst_told = burst_same (blocks_of_groups groups) (blocks_of who z.fti) (places 0 (length rs)) rs (sym are.count) needed (sym (places_length 0 (length rs))) whole left
+  pub kill_told : (n : ℕ) (ps : List ℕ) → IsKill grouped (places 0 (length rs)) n ps → IsKill (blocks_of who z.fti) rs n ps
+  kill_told =
+      kill_same grouped (blocks_of who z.fti) (places 0 (length rs)) rs (sym are.count) needed (sym (places_length 0 (length rs))) whole left
+      (λ lost. sym (carriers_left (is_carrier who) rs lost)) (sym (carriers_same (is_carrier who) rs))
+
+  pub burst_told : (m : ℕ) → IsBurst grouped (places 0 (length rs)) m → IsBurst (blocks_of who z.fti) rs m
+  burst_told =
+      burst_same grouped (blocks_of who z.fti) (places 0 (length rs)) rs (sym are.count) needed (sym (places_length 0 (length rs))) whole left
+      (λ lost. sym (carriers_left (is_carrier who) rs lost)) (sym (carriers_same (is_carrier who) rs))
 
 read_rest : (lost : ℕ → Bool) (i : ℕ) (ds : List (List ℕ)) (rs : List Reading) → ReadAll ds rs → ReadAll (rest_from i lost ds) (rest_from i lost rs)
 read_rest lost i [] [] h = tt
@@ -105,4 +116,7 @@ read_rest lost i (d ∷ ds) (r ∷ rs) h =
 
 -- after a harmless loss, what is left of the datagrams is enough
 pub harmless_enough : (who : Identity) (f : Fti) (lost : ℕ → Bool) (ds : List (List ℕ)) (rs : List Reading) → ReadAll ds rs → IsHarmless (blocks_of who f) rs lost → IsEnough who f (rest lost ds)
-harmless_enough who f lost ds rs read h = record { readings = rest lost rs; read = read_rest lost 0 ds rs read; full = h }
+harmless_enough who f lost ds rs read h = record {
+  full = record { readings = rest lost rs; read = read_rest lost 0 ds rs read; full = h.full };
+  carrier = record { readings = rest lost rs; read = read_rest lost 0 ds rs read; carrier = h.carrier };
+}

@@ -1,6 +1,6 @@
 -- There are no two verdicts: each stands behind tests that let through, and at one that doesn't.
 use Rattle.std.specs.Prelude.{◌≡◌, ◌≢◌, ◌<◌, ◌++◌, true, false, if◌then◌else◌, ℕ, zero, suc, List, [], ◌∷◌, length, Option, Some, None, Ok, Err, refl, nat_lt}
-use Rattle.std.specs.List.{AllByRecursion}
+use Rattle.std.specs.List.{list_any, AllByRecursion}
 use Rattle.std.proofs.Common.{◌∙◌, sym, ap, subst, arith, inl, inr, ltb-true}
 use Rattle.std.proofs.lemmas.Bool.{ltb-false}
 use Rattle.alc.specs.Packet.{Packet}
@@ -8,12 +8,12 @@ use Rattle.alc.specs.Reading.{Reading}
 use Rattle.reception.specs.declared.scope.Identity.{Identity}
 use Rattle.reception.specs.declared.scope.Scope.{Scope}
 use Rattle.reception.specs.Symbols.{Symbol as Received}
-use Rattle.reception.specs.Reception.{Placed, Wrong, is_of_identity, counted, symbols, symbols_in, symbol_of, packet_fault, or_packet, wrong_by, wrong_after, reading_wrong, at_place, or_else, Suffices}
+use Rattle.reception.specs.Reception.{Placed, Wrong, Other, is_of_identity, is_carrier, counted, symbols, symbols_in, symbol_of, packet_fault, or_packet, wrong_by, wrong_after, reading_wrong, at_place, or_else, Suffices}
 use Rattle.reception.proofs.OneAnswer.{which, one_short, same_readings}
 use Rattle.reception.proofs.Stepping.{scope, stays}
 use Rattle.reception.proofs.Within.{no_fault}
 use Rattle.cert.specs.declared.verdict.Reason.{Reason}
-use Rattle.cert.specs.declared.verdict.Reason.TheVariants.{ObjectLength, NotObject, Empty, Packet as NoPacket, OtherFti, Range, Symbol, Thin}
+use Rattle.cert.specs.declared.verdict.Reason.TheVariants.{ObjectLength, NotObject, Empty, Packet as NoPacket, OtherFti, SymbolLength, Range, Symbol, Thin, NoCarrier}
 use Rattle.cert.specs.declared.verdict.Verdict.{Verdict}
 use Rattle.cert.specs.declared.verdict.Verdict.TheVariants.{Yes, No}
 use Rattle.cert.specs.Certificate.{Certificate}
@@ -26,9 +26,9 @@ use Rattle.cert.proofs.Judging.{no_reason}
 not_wrong : (z : Certificate) (who : Identity) (earlier : List Received) (p : Packet) → IsCertifiedPacket z p
     → reading_wrong (uncertified z) (scope who (Some z.fti)) earlier (Ok p) ≡ None
 not_wrong z who earlier p h =
-    let a : packet_fault z.fti p ≡ None = no_fault z.fti p (record { fti = h.fti; range = h.range }) in
+    let a : packet_fault z.fti p ≡ None = no_fault z.fti p (record { fti = h.fti; size = h.size; range = h.range }) in
     let b : uncertified z earlier (symbol_of p) ≡ None = none_is z (symbol_of p) h.symbol in
-    elim (is_of_identity who p) as (λ v. wrong_by (uncertified z) earlier (if v then or_packet p (packet_fault z.fti p) else Ok None) ≡ None) [
+    elim (is_of_identity who p) as (λ v. wrong_by (uncertified z) earlier (if v then or_packet p (packet_fault z.fti p) else Ok Other) ≡ None) [
       | true ↦ rw (a, b) refl
       | false ↦ refl
     ]
@@ -58,8 +58,9 @@ stage (No ObjectLength) = 0
 stage (No (NotObject b c i)) = 1
 stage (No Empty) = 3
 stage (No (Thin b have need)) = 4
+stage (No NoCarrier) = 5
 stage (No _) = 2
-stage (Yes report) = 5
+stage (Yes report) = 6
 
 one_place : (object : List ℕ) (z : Certificate) (b c i x y n : ℕ) → IsFirstNotGiven object z b c i → IsFirstNotGiven object z x y n → (b ≡ x) × (c ≡ y) × (i ≡ n)
 one_place object z b c i x y n h k =
@@ -86,6 +87,7 @@ module _ (who : Identity) (rs : List Reading) (object : List ℕ) (z : Certifica
   Pass (suc (suc zero)) = first_reason who z rs ≡ None
   Pass (suc (suc (suc zero))) = symbols (counted who rs) ≢ []
   Pass (suc (suc (suc (suc zero)))) = Suffices who z.fti rs
+  Pass (suc (suc (suc (suc (suc zero))))) = list_any (is_carrier who) rs ≡ true
   Pass _ = Unit {0}
 
   abbrev Passed : ℕ → Type 0
@@ -105,11 +107,13 @@ module _ (who : Identity) (rs : List Reading) (object : List ℕ) (z : Certifica
   passed (No (NotObject b c i)) h = (tt, h.0)
   passed (No (NoPacket i x)) h = ((tt, h.0.count), h.1)
   passed (No (OtherFti i)) h = ((tt, h.0.count), h.1)
+  passed (No (SymbolLength i)) h = ((tt, h.0.count), h.1)
   passed (No (Range i)) h = ((tt, h.0.count), h.1)
   passed (No (Symbol i c)) h = ((tt, h.0.count), h.1)
   passed (No Empty) h = (((tt, h.0.count), h.1), h.2.0)
   passed (No (Thin b have need)) h = ((((tt, h.0.count), h.1), h.2.0), h.2.1)
-  passed (Yes report) h = (((((tt, h.form.count), h.gives), yes_no_reason who z rs h.certified), h.certified.some), h.full)
+  passed (No NoCarrier) h = (((((tt, h.0.count), h.1), h.2.0), h.2.1), h.2.2)
+  passed (Yes report) h = ((((((tt, h.form.count), h.gives), yes_no_reason who z rs h.certified), h.certified.some), h.full), h.carrier)
 
   at_place_no : (r : Reason) → first_reason who z rs ≡ Some r → ¬ (first_reason who z rs ≡ None)
   at_place_no r e p = absurd (cc)
@@ -119,31 +123,37 @@ module _ (who : Identity) (rs : List Reading) (object : List ℕ) (z : Certifica
   stopped (NotObject b c i) h p = h.1.first.first.wrong (p b c i h.1.block h.1.first.column h.1.first.first.symbol)
   stopped (NoPacket i x) h p = at_place_no (NoPacket i x) h.2 p
   stopped (OtherFti i) h p = at_place_no (OtherFti i) h.2 p
+  stopped (SymbolLength i) h p = at_place_no (SymbolLength i) h.2 p
   stopped (Range i) h p = at_place_no (Range i) h.2 p
   stopped (Symbol i c) h p = at_place_no (Symbol i c) h.2 p
   stopped Empty h p = p h.2.1
   stopped (Thin b have need) h p = let f = p b h.2.2.in_range in let s = h.2.2.short in absurd (cc)
+  stopped NoCarrier h p = let none = h.2.3 in absurd (cc)
 
-  stage_top : (v : Verdict) → stage v < 6
+  stage_top : (v : Verdict) → stage v < 7
   stage_top (No ObjectLength) = omega arith
   stage_top (No (NotObject b c i)) = omega arith
   stage_top (No (NoPacket i x)) = omega arith
   stage_top (No (OtherFti i)) = omega arith
+  stage_top (No (SymbolLength i)) = omega arith
   stage_top (No (Range i)) = omega arith
   stage_top (No (Symbol i c)) = omega arith
   stage_top (No Empty) = omega arith
   stage_top (No (Thin b have need)) = omega arith
+  stage_top (No NoCarrier) = omega arith
   stage_top (Yes report) = omega arith
 
-  below_yes : (r : Reason) → stage (No r) < 5
+  below_yes : (r : Reason) → stage (No r) < 6
   below_yes ObjectLength = omega arith
   below_yes (NotObject b c i) = omega arith
   below_yes (NoPacket i x) = omega arith
   below_yes (OtherFti i) = omega arith
+  below_yes (SymbolLength i) = omega arith
   below_yes (Range i) = omega arith
   below_yes (Symbol i c) = omega arith
   below_yes Empty = omega arith
   below_yes (Thin b have need) = omega arith
+  below_yes NoCarrier = omega arith
 
   not_before : (a b : Verdict) → VerdictOn who rs object z a → VerdictOn who rs object z b → stage a < stage b → ⊥
   not_before (Yes report) b h k l = let t = stage_top b in absurd (omega (arith, l, t))
@@ -166,12 +176,14 @@ module _ (who : Identity) (rs : List Reading) (object : List ℕ) (z : Certifica
   at_two : (v : Verdict) → VerdictOn who rs object z v → stage v ≡ 2 → AtPlace v
   at_two (No (NoPacket i x)) h e = h.2
   at_two (No (OtherFti i)) h e = h.2
+  at_two (No (SymbolLength i)) h e = h.2
   at_two (No (Range i)) h e = h.2
   at_two (No (Symbol i c)) h e = h.2
   at_two (No ObjectLength) h e = absurd (omega (arith, e))
   at_two (No (NotObject b c i)) h e = absurd (omega (arith, e))
   at_two (No Empty) h e = absurd (omega (arith, e))
   at_two (No (Thin b have need)) h e = absurd (omega (arith, e))
+  at_two (No NoCarrier) h e = absurd (omega (arith, e))
   at_two (Yes report) h e = absurd (omega (arith, e))
 
   both_told : (a b : Verdict) → AtPlace a → AtPlace b → AreOneVerdict a b
@@ -198,10 +210,12 @@ module _ (who : Identity) (rs : List Reading) (object : List ℕ) (z : Certifica
       let r = k.2.3 in
       let s = k.2.4 in
       (cc)
+  one_of (No NoCarrier) (No NoCarrier) h k e = refl
   one_of (Yes r) (Yes s) h k e = tt
   one_of (Yes r) (No s) h k e = let l = below_yes s in absurd (omega (arith, e, l))
   one_of (No (NoPacket i x)) b h k e = both_told (No (NoPacket i x)) b h.2 (at_two b k (sym e))
   one_of (No (OtherFti i)) b h k e = both_told (No (OtherFti i)) b h.2 (at_two b k (sym e))
+  one_of (No (SymbolLength i)) b h k e = both_told (No (SymbolLength i)) b h.2 (at_two b k (sym e))
   one_of (No (Range i)) b h k e = both_told (No (Range i)) b h.2 (at_two b k (sym e))
   one_of (No (Symbol i c)) b h k e = both_told (No (Symbol i c)) b h.2 (at_two b k (sym e))
   one_of a b h k e = absurd (omega (arith, e))
@@ -210,7 +224,7 @@ module _ (who : Identity) (rs : List Reading) (object : List ℕ) (z : Certifica
 pub never_no : (who : Identity) (rs : List Reading) (object : List ℕ) (z : Certificate) → IsCertificateOf who rs object z → (r : Reason) → VerdictOn who rs object z (No r) → ⊥
 never_no who rs object z g r h =
     stopped who rs object z r h
-    (passed_at who rs object z 5 (stage (No r)) (((((tt, g.form.count), g.gives), yes_no_reason who z rs g.certified), g.certified.some), g.full) (below_yes who rs object z r))
+    (passed_at who rs object z 6 (stage (No r)) ((((((tt, g.form.count), g.gives), yes_no_reason who z rs g.certified), g.certified.some), g.full), g.carrier) (below_yes who rs object z r))
 
 -- an identity's packets in a session, an object and a certificate have one verdict
 pub one_verdict : (who : Identity) (ds : List (List ℕ)) (object : List ℕ) (z : Certificate) (a b : Verdict) → IsVerdict who ds object z a → IsVerdict who ds object z b → AreOneVerdict a b

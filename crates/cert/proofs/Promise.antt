@@ -1,30 +1,30 @@
--- A yes: every selection that suffices decodes to the object.
-use Rattle.std.specs.Prelude.{◌≡◌, ◌≢◌, ◌<◌, ◌≤◌, ◌+◌, ◌==◌, not, true, false, ◌&&◌, ◌||◌, cond, if◌then◌else◌, ℕ, zero, suc, List, [], ◌∷◌, ◌++◌, length, slice_index, slice_get, filter, Option, Some, None, Ok, Err, refl}
-use Rattle.std.specs.List.{AllByRecursion}
+-- A yes: every selection that leaves no block short, and has a carrier, decodes to the object.
+use Rattle.std.specs.Prelude.{◌≡◌, ◌<◌, ◌+◌, ◌==◌, not, true, false, ◌&&◌, ◌||◌, cond, if◌then◌else◌, ℕ, zero, suc, List, [], ◌∷◌, ◌++◌, length, slice_index, slice_get, Option, Some, None, Ok, Err, refl}
+use Rattle.std.specs.List.{list_any, AllByRecursion}
 use Rattle.std.specs.Option.{option_to_list}
-use Rattle.std.proofs.Common.{◌∙◌, sym, ap, subst, arith, leb-true, ltb-true}
+use Rattle.std.proofs.Common.{◌∙◌, sym, ap, subst, arith, ltb-true}
 use Rattle.std.proofs.lemmas.Bool.{eqb-true, eq-eqb}
 use Rattle.std.proofs.lemmas.Grind.{same_number_lists}
 use Rattle.std.proofs.Math.ListN.{get_or-eq_default}
 use Rattle.gf256.specs.Arithmetic.{point}
 use Rattle.poly.specs.Polynomial.{value}
-use Rattle.partition.specs.Fti.{Fti, IsValidFti, source_count, encoding_count, block_count}
-use Rattle.lists.specs.Below.{below}
-use Rattle.reception.specs.Symbols.{Symbol, has_arrived, is_full, AllFull, Agrees, IsObject, FullSolvable}
+use Rattle.partition.specs.Fti.{Fti, encoding_count, block_count}
+use Rattle.reception.specs.Symbols.{Symbol, AllFull, Agrees, IsObject, FullSolvable}
 use Rattle.alc.specs.Packet.{Packet}
 use Rattle.alc.specs.PacketFault.{same}
-use Rattle.alc.specs.Reading.{Reading, Reads}
+use Rattle.alc.specs.Reading.{Reading}
 use Rattle.reception.specs.declared.scope.Identity.{Identity}
 use Rattle.reception.specs.declared.scope.Scope.{Scope}
-use Rattle.reception.specs.Reception.{ReadAll, Placed, Wrong, is_of_identity, counts, counted_from, counted, symbol_of, symbols_in, symbols, in_range, packet_fault, or_packet, wrong_by, or_else, at_place, reading_wrong, learned, asked, scope_from, wrong_after, IsClean, Suffices}
+use Rattle.reception.specs.Reception.{ReadAll, Placed, Wrong, Other, is_of_identity, is_carrier, counts, counted_from, counted, carried, or_later, symbol_of, symbols_in, symbols, packet_fault, or_packet, look_by, wrong_by, or_else, at_place, reading_wrong, asked, scope_from, wrong_after, IsClean, Suffices}
 use Rattle.reception.specs.Answer.{Clash, Object, IsAnswer, clashes, clash, reception_of}
-use Rattle.reception.proofs.Stepping.{scope, stays}
+use Rattle.reception.proofs.Walk.{identity_stays}
+use Rattle.reception.proofs.Stepping.{scope}
+use Rattle.reception.proofs.Carriers.{carrier_known}
 use Rattle.reception.proofs.Within.{no_fault}
 use Rattle.cert.specs.Certificate.{Certificate, IsCertificate, polynomial, certified_byte}
-use Rattle.cert.specs.Verdict.{GivesObject, IsCertifiedReading, AreCertified, IsCertificateOf}
+use Rattle.cert.specs.Verdict.{GivesObject, IsCertifiedPacket, IsCertifiedReading, AreCertified, IsCertificateOf}
 use Rattle.lists.specs.Selection.{chosen}
 use Rattle.reception.specs.Headline.{DecodesWhereEnough}
-use Rattle.partition.proofs.Laws.{some_block, counts as counts_of}
 use Rattle.lists.proofs.Lists.{both, all_append}
 use Rattle.cert.proofs.Polynomials.{forms}
 use Rattle.reception.proofs.OneAnswer.{same_readings, one_answer}
@@ -70,19 +70,9 @@ same_refl (x ∷ xs) = let a : (x == x) ≡ true = eq-eqb x x refl in rw a (same
 
 -- ---- certified packets
 
--- of a certified reading: it is a packet, as certified
-pub record IsSound (z : Certificate) (p : Packet) : Type 0 where
-  pub fti : p.fti ≡ z.fti
-  pub range : in_range p z.fti ≡ true
-  pub count : length p.bytes ≡ z.fti.symbol_length
-  pub symbol : (c : ℕ) → c < z.fti.symbol_length → slice_index p.bytes c ≡ certified_byte z p.block p.esi c
-
-abbrev pub IsSoundReading : Certificate → Reading → Type 0
-IsSoundReading z (Ok p) = IsSound z p
-IsSoundReading z (Err r) = ⊥
-
+-- readings that count, each as certified
 abbrev pub AreSound : Certificate → List Placed → Type 0
-AreSound z xs = AllByRecursion (λ x. IsSoundReading z x.reading) xs
+AreSound z xs = AllByRecursion (λ x. IsCertifiedReading z x.reading) xs
 
 -- what holds of a reading where it counts
 abbrev pub WhereCounted : Identity → (Reading → Type 0) → Reading → Type 0
@@ -106,28 +96,12 @@ placed_all who P i (r ∷ rs) h =
       | false ↦ λ e. placed_all who P (i + 1) rs h.1
     ] refl
 
-sound : (z : Certificate) (d : List ℕ) (r : Reading) → Reads d r → IsCertifiedReading z r → IsSoundReading z r
-sound z d (Err e) read h = h
-sound z d (Ok p) read h = record {
-  fti = h.fti;
-  range = h.range;
-  count = read.valid.symbol ∙ ap (λ (f : Fti). f.symbol_length) h.fti;
-  symbol = h.symbol;
-}
-
-pub sound_all : (who : Identity) (z : Certificate) (ds : List (List ℕ)) (rs : List Reading) → ReadAll ds rs
-    → AllByRecursion (WhereCounted who (IsCertifiedReading z)) rs → AllByRecursion (WhereCounted who (IsSoundReading z)) rs
-sound_all who z [] [] read h = tt
-sound_all who z [] (r ∷ rs) read h = absurd read
-sound_all who z (d ∷ ds) [] read h = absurd read
-sound_all who z (d ∷ ds) (r ∷ rs) read h = (λ mine. sound z d r read.0 (h.0 mine), sound_all who z ds rs read.1 h.1)
-
 -- a symbol as certified
 pub record IsRight (z : Certificate) (s : Symbol) : Type 0 where
   pub count : length s.bytes ≡ z.fti.symbol_length
   pub symbol : (c : ℕ) → c < z.fti.symbol_length → slice_index s.bytes c ≡ certified_byte z s.block s.esi c
 
-pub no_clash : (z : Certificate) (p : Packet) → IsSound z p → (earlier : List Symbol) → AllByRecursion (IsRight z) earlier → clashes earlier (symbol_of p) ≡ false
+pub no_clash : (z : Certificate) (p : Packet) → IsCertifiedPacket z p → (earlier : List Symbol) → AllByRecursion (IsRight z) earlier → clashes earlier (symbol_of p) ≡ false
 no_clash z p sound [] h = refl
 no_clash z p sound (s ∷ ss) h =
     elim (s.block == p.block) as (λ v. (s.block == p.block) ≡ v → ((v && s.esi == p.esi) && not (same s.bytes p.bytes) || clashes ss (symbol_of p)) ≡ false) [
@@ -138,7 +112,7 @@ no_clash z p sound (s ∷ ss) h =
             | true ↦ λ g.
                 (let eb = eqb-true s.block p.block e in
                 let ej = eqb-true s.esi p.esi g in
-                let one : s.bytes ≡ p.bytes = same_number_lists s.bytes p.bytes (h.0.count ∙ sym sound.count)
+                let one : s.bytes ≡ p.bytes = same_number_lists s.bytes p.bytes (h.0.count ∙ sym sound.size)
                 (λ c hc.
                 let lt : c < z.fti.symbol_length = omega (arith, h.0.count) in
                 h.0.symbol c lt ∙ ap (λ (b : ℕ). certified_byte z b s.esi c) eb ∙ ap (λ (j : ℕ). certified_byte z p.block j c) ej ∙ sym (sound.symbol c lt)) in
@@ -147,60 +121,80 @@ no_clash z p sound (s ∷ ss) h =
           ] refl)
     ] refl
 
--- a sound packet has nothing wrong
-not_wrong : (z : Certificate) (who : Identity) (p : Packet) → IsSound z p → (earlier : List Symbol) → AllByRecursion (IsRight z) earlier
-    → reading_wrong clash (scope who (Some z.fti)) earlier (Ok p) ≡ None
-not_wrong z who p sound earlier g =
-    let a : packet_fault z.fti p ≡ None = no_fault z.fti p (record { fti = sound.fti; range = sound.range }) in
-    let b : clashes earlier (symbol_of p) ≡ false = no_clash z p sound earlier g in
-    elim (is_of_identity who p) as (λ v. wrong_by clash earlier (if v then or_packet p (packet_fault z.fti p) else Ok None) ≡ None) [
-      | true ↦ rw (a, b) refl
+-- an FTI that is this one, where it is known
+abbrev pub IsOnly : Fti → Option Fti → Type 0
+IsOnly f known = (g : Fti) → known ≡ Some g → g ≡ f
+
+-- a sound packet has nothing wrong, where no other FTI is known
+not_wrong : (z : Certificate) (who : Identity) (known : Option Fti) → IsOnly z.fti known → (p : Packet) → IsCertifiedPacket z p → (earlier : List Symbol) → AllByRecursion (IsRight z) earlier
+    → reading_wrong clash (scope who known) earlier (Ok p) ≡ None
+not_wrong z who known only p sound earlier g =
+    elim (is_of_identity who p) as (λ v. wrong_by clash earlier (if v then look_by known p else Ok Other) ≡ None) [
+      | true ↦ by known only
       | false ↦ refl
     ]
-
-none_wrong_after : (z : Certificate) (who : Identity) (xs : List Placed) → AreSound z xs → (earlier : List Symbol) → AllByRecursion (IsRight z) earlier
-    → wrong_after clash (scope who (Some z.fti)) earlier xs ≡ None
-none_wrong_after z who [] h earlier g = refl
-none_wrong_after z who (x ∷ xs) h earlier g = by x.reading h.0 (λ more k. none_wrong_after z who xs h.1 (earlier ++ more) k)
   where
-    by : (r : Reading) → IsSoundReading z r → ((more : List Symbol) → AllByRecursion (IsRight z) (earlier ++ more) → wrong_after clash (scope who (Some z.fti)) (earlier ++ more) xs ≡ None)
-        → or_else (at_place x.place (reading_wrong clash (scope who (Some z.fti)) earlier r)) (wrong_after clash (scope who (Some z.fti)) (earlier ++ symbols_in r) xs) ≡ None
+    by : (o : Option Fti) → IsOnly z.fti o → wrong_by clash earlier (look_by o p) ≡ None
+    by None h = refl
+    by (Some f) h =
+        let a : packet_fault z.fti p ≡ None = no_fault z.fti p (record { fti = sound.fti; size = sound.size; range = sound.range }) in
+        let b : clashes earlier (symbol_of p) ≡ false = no_clash z p sound earlier g in
+        ap (λ (x : Fti). wrong_by clash earlier (or_packet p (packet_fault x p))) (h f refl) ∙ rw (a, b) refl
+
+none_wrong_after : (z : Certificate) (who : Identity) (known : Option Fti) → IsOnly z.fti known → (xs : List Placed) → AreSound z xs → (earlier : List Symbol) → AllByRecursion (IsRight z) earlier
+    → wrong_after clash (scope who known) earlier xs ≡ None
+none_wrong_after z who known only [] h earlier g = refl
+none_wrong_after z who known only (x ∷ xs) h earlier g = by x.reading h.0 (λ more k. none_wrong_after z who known only xs h.1 (earlier ++ more) k)
+  where
+    by : (r : Reading) → IsCertifiedReading z r → ((more : List Symbol) → AllByRecursion (IsRight z) (earlier ++ more) → wrong_after clash (scope who known) (earlier ++ more) xs ≡ None)
+        → or_else (at_place x.place (reading_wrong clash (scope who known) earlier r)) (wrong_after clash (scope who known) (earlier ++ symbols_in r) xs) ≡ None
     by (Err e) s later = absurd s
     by (Ok p) s later =
-        ap (λ (o : Option (Wrong Clash)). or_else (at_place x.place o) (wrong_after clash (scope who (Some z.fti)) (earlier ++ symbol_of p ∷ []) xs)) (not_wrong z who p s earlier g)
-        ∙ later (symbol_of p ∷ []) (all_append (IsRight z) earlier (symbol_of p ∷ []) g (record { count = s.count; symbol = s.symbol }, tt))
+        ap (λ (o : Option (Wrong Clash)). or_else (at_place x.place o) (wrong_after clash (scope who known) (earlier ++ symbol_of p ∷ []) xs)) (not_wrong z who known only p s earlier g)
+        ∙ later (symbol_of p ∷ []) (all_append (IsRight z) earlier (symbol_of p ∷ []) g (record { count = s.size; symbol = s.symbol }, tt))
 
--- the FTI of some sound packets holds
-scope_known : (z : Certificate) (who : Identity) (xs : List Placed) → AreSound z xs → symbols xs ≢ [] → scope_from (asked who) xs ≡ scope who (Some z.fti)
-scope_known z who [] h some = absurd (some refl)
-scope_known z who (x ∷ xs) h some = by x.reading h.0
+-- sound packets carry no other FTI, so no other comes to be known
+only_known : (z : Certificate) (who : Identity) (known : Option Fti) → IsOnly z.fti known → (xs : List Placed) → AreSound z xs → IsOnly z.fti (scope_from (scope who known) xs).fti
+only_known z who known only [] h = only
+only_known z who known only (x ∷ xs) h = only_known z who (or_later known (carried x.reading)) (by known only x.reading h.0) xs h.1
   where
-    by : (r : Reading) → IsSoundReading z r → scope_from (learned (asked who) r) xs ≡ scope who (Some z.fti)
-    by (Err e) s = absurd s
-    by (Ok p) s = stays who p.fti xs ∙ ap (λ (f : Fti). scope who (Some f)) s.fti
+    by : (o : Option Fti) → IsOnly z.fti o → (r : Reading) → IsCertifiedReading z r → IsOnly z.fti (or_later o (carried r))
+    by (Some f) t r s = t
+    by None t (Ok p) s = s.fti
+    by None t (Err e) s = absurd s
 
--- where the identity's packets are sound, some, nothing is wrong and the certificate's FTI holds
-pub clean : (who : Identity) (z : Certificate) (rs : List Reading) → AreSound z (counted who rs) → symbols (counted who rs) ≢ [] → IsClean (reception_of who rs) z.fti
-clean who z rs h some =
-    let is = scope_known z who (counted who rs) h some in
+none_only : (f : Fti) → IsOnly f None
+none_only f g h = absurd (cc)
+
+-- the FTI that a decoder comes to know from sound packets
+fti_only : (who : Identity) (z : Certificate) (rs : List Reading) → AreSound z (counted who rs) → IsOnly z.fti (scope_from (asked who) (counted who rs)).fti
+fti_only who z rs h = only_known z who None (none_only z.fti) (counted who rs) h
+
+-- where the identity's packets are sound, nothing is wrong
+pub nothing_wrong : (who : Identity) (z : Certificate) (rs : List Reading) → AreSound z (counted who rs) → (reception_of who rs).wrong ≡ None
+nothing_wrong who z rs h =
+    let xs = counted who rs in
+    let is : scope_from (asked who) xs ≡ scope who (scope_from (asked who) xs).fti = ap (λ (i : Identity). scope i (scope_from (asked who) xs).fti) (identity_stays (asked who) xs) in
+    ap (λ (s : Scope). wrong_after clash s [] (counted who rs)) is ∙ none_wrong_after z who (scope_from (asked who) xs).fti (fti_only who z rs h) xs h [] tt
+
+-- and where one is a carrier, the certificate's FTI holds
+pub clean : (who : Identity) (z : Certificate) (rs : List Reading) → AreSound z (counted who rs) → list_any (is_carrier who) rs ≡ true → IsClean (reception_of who rs) z.fti
+clean who z rs h carrier =
+    let known = carrier_known who rs carrier in
     record {
-      clean = subst (λ (s : Scope). wrong_after clash s [] (counted who rs) ≡ None) (sym is) (none_wrong_after z who (counted who rs) h [] tt);
-      some = ap (λ (s : Scope). s.fti) is;
+      clean = nothing_wrong who z rs h;
+      some = known.1 ∙ ap (λ (f : Fti). Some f) (fti_only who z rs h known.0 known.1);
     }
 
-none_held : (xs : List ℕ) → length (filter (has_arrived [] 0) xs) ≡ 0
-none_held [] = refl
-none_held (x ∷ xs) = none_held xs
-
 -- a sound packet's symbol is one of the object's
-pub agrees_of : (z : Certificate) (object : List ℕ) → IsCertificate z → GivesObject object z → (p : Packet) → IsSound z p → Agrees z.fti object (symbol_of p)
+pub agrees_of : (z : Certificate) (object : List ℕ) → IsCertificate z → GivesObject object z → (p : Packet) → IsCertifiedPacket z p → Agrees z.fti object (symbol_of p)
 agrees_of z object good gives p sound =
     let w = both _ _ sound.range in
     let hb = ltb-true p.block (block_count z.fti) w.0 in
     record {
       block = hb;
       esi = ltb-true p.esi (encoding_count z.fti p.block) w.1;
-      count = sound.count;
+      count = sound.size;
       columns = λ c hc. record {
         polynomial = polynomial z p.block c;
         form = forms z good p.block c hb hc;
@@ -210,11 +204,11 @@ agrees_of z object good gives p sound =
     }
 
 -- what holds of the symbol of each sound packet holds of each symbol
-symbols_all : (z : Certificate) (P : Symbol → Type 0) → ((p : Packet) → IsSound z p → P (symbol_of p)) → (xs : List Placed) → AreSound z xs → AllByRecursion P (symbols xs)
+symbols_all : (z : Certificate) (P : Symbol → Type 0) → ((p : Packet) → IsCertifiedPacket z p → P (symbol_of p)) → (xs : List Placed) → AreSound z xs → AllByRecursion P (symbols xs)
 symbols_all z P each [] h = tt
 symbols_all z P each (x ∷ xs) h = by x.reading h.0 (symbols_all z P each xs h.1)
   where
-    by : (r : Reading) → IsSoundReading z r → AllByRecursion P (symbols xs) → AllByRecursion P (symbols_in r ++ symbols xs)
+    by : (r : Reading) → IsCertifiedReading z r → AllByRecursion P (symbols xs) → AllByRecursion P (symbols_in r ++ symbols xs)
     by (Err e) s later = absurd s
     by (Ok p) s later = (each p s, later)
 
@@ -222,7 +216,7 @@ pub fits_sound : (z : Certificate) (object : List ℕ) → IsCertificate z → G
 fits_sound z object good gives xs h = symbols_all z (Agrees z.fti object) (λ p s. agrees_of z object good gives p s) xs h
 
 pub all_right : (z : Certificate) (xs : List Placed) → AreSound z xs → AllByRecursion (IsRight z) (symbols xs)
-all_right z xs h = symbols_all z (IsRight z) (λ p s. record { count = s.count; symbol = s.symbol }) xs h
+all_right z xs h = symbols_all z (IsRight z) (λ p s. record { count = s.size; symbol = s.symbol }) xs h
 
 through : (z : Certificate) (b c : ℕ) → c < z.fti.symbol_length → (arrivals : List Symbol) → AllByRecursion (IsRight z) arrivals
     → AllByRecursion (λ s. s.block ≡ b → value (polynomial z b c) (point s.esi) ≡ slice_index s.bytes c) arrivals
@@ -241,36 +235,29 @@ solvable z object good form gives arrivals right b hb full c hc = record {
       gives b c i hb hc hi ∙ get_or-eq_default object 0 (omega (arith, form.count));
 }
 
-some_came : (f : Fti) → IsValidFti f → (arrivals : List Symbol) → AllFull f arrivals → arrivals ≢ []
-some_came f valid arrivals full none =
-    let hb = some_block f valid in
-    let b : is_full f [] 0 ≡ true = subst (λ (x : List Symbol). is_full f x 0 ≡ true) none (full 0 hb) in
-    let k = (counts_of f valid 0 hb).0 in
-    let l : source_count f 0 ≤ length (filter (has_arrived [] 0) (below 256)) = leb-true _ _ b in
-    let n = none_held (below 256) in
-    absurd (omega arith)
-
 -- a selection of sound readings
-pub sound_chosen : (who : Identity) (session : List (List ℕ)) (rs : List Reading) (z : Certificate) → ReadAll session rs → AreCertified who rs z → (q : List ℕ) → AreSound z (counted who (chosen rs q))
-sound_chosen who session rs z read certified q =
-    placed_all who (IsSoundReading z) 0 (chosen rs q)
-    (all_chosen (WhereCounted who (IsSoundReading z)) rs
-    (sound_all who z session rs read (unplaced_all who (IsCertifiedReading z) 0 rs certified.packets)) q)
+pub sound_chosen : (who : Identity) (rs : List Reading) (z : Certificate) → AreCertified who rs z → (q : List ℕ) → AreSound z (counted who (chosen rs q))
+sound_chosen who rs z certified q =
+    placed_all who (IsCertifiedReading z) 0 (chosen rs q)
+    (all_chosen (WhereCounted who (IsCertifiedReading z)) rs (unplaced_all who (IsCertifiedReading z) 0 rs certified.packets) q)
 
--- at yes, every selection that suffices decodes to the object
+-- at yes, every selection that is enough decodes to the object
 pub decodes : (who : Identity) (session : List (List ℕ)) (rs : List Reading) (object : List ℕ) (z : Certificate) → ReadAll session rs → IsCertificate z
     → IsCertificateOf who rs object z → DecodesWhereEnough who z.fti session object
 decodes who session rs object z read good granted = λ q enough.
     let xs = counted who (chosen rs q) in
-    let sound = sound_chosen who session rs z read granted.certified q in
-    let is : enough.readings ≡ chosen rs q = same_readings _ _ _ enough.read (read_chosen session rs read q) in
-    let full : AllFull z.fti (symbols (counted who (chosen rs q))) = subst (λ (x : List Reading). Suffices who z.fti x) is enough.full in
+    let sound = sound_chosen who rs z granted.certified q in
+    let read_q = read_chosen session rs read q in
+    let full : AllFull z.fti (symbols (counted who (chosen rs q))) =
+    subst (λ (x : List Reading). Suffices who z.fti x) (same_readings _ _ _ enough.full.read read_q) enough.full.full in
+    let carrier : list_any (is_carrier who) (chosen rs q) ≡ true =
+    subst (λ (x : List Reading). list_any (is_carrier who) x ≡ true) (same_readings _ _ _ enough.carrier.read read_q) enough.carrier.carrier in
     let answer : IsAnswer who (chosen session q) (Object object) = record {
       readings = chosen rs q;
-      read = read_chosen session rs read q;
+      read = read_q;
       answers = (
         z.fti,
-        clean who z (chosen rs q) sound (some_came z.fti good.fti (symbols xs) full),
+        clean who z (chosen rs q) sound carrier,
         solvable z object good granted.form granted.gives (symbols xs) (all_right z xs sound),
         full,
         fits_only z.fti (symbols xs) object good.fti full

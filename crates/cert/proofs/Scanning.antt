@@ -1,12 +1,14 @@
 -- A scan over the datagrams, one by one.
-use Rattle.std.proofs.Common.{◌≡◌, ℕ, ◌<◌, true, List, arith, ltb-true}
+use Rattle.std.proofs.Common.{◌≡◌, ◌∙◌, ℕ, ◌<◌, true, List, Some, take, sym, ap, arith, ltb-true}
 use Rattle.lists.proofs.Lists.{both}
 use Rattle.partition.specs.Fti.{Fti, IsValidFti, block_count, encoding_count}
 use Rattle.partition.proofs.Laws.{counts}
 use Rattle.alc.specs.Packet.{Packet}
-use Rattle.reception.specs.Reception.{in_range, with_fti}
+use Rattle.reception.specs.Reception.{in_range, counted, with_fti}
 use Rattle.reception.specs.declared.scope.Identity.{Identity}
 use Rattle.reception.specs.declared.scope.Scope.{Scope}
+use Rattle.reception.specs.Walks.{readings_of}
+use Rattle.reception.proofs.Stepping.{stays}
 use Rattle.reception.proofs.Walking.{Walked}
 use Rattle.cert.specs.Certificate.{Certificate}
 use Rattle.cert.specs.Verdict.{uncertified}
@@ -22,3 +24,8 @@ in_range_small f p valid range =
 -- the datagrams before a place have no reason against them
 abbrev pub Scanned : Identity → Certificate → List (List ℕ) → ℕ → Scope → Type 0
 Scanned who z ds place scope = Walked (uncertified z) (with_fti who z.fti) ds place scope
+
+-- the certificate's FTI holds
+pub scanned_fti : (who : Identity) (z : Certificate) (ds : List (List ℕ)) (place : ℕ) (scope : Scope) → Scanned who z ds place scope → scope.fti ≡ Some z.fti
+scanned_fti who z ds place scope h =
+    sym (ap (λ (s : Scope). s.fti) h.holds) ∙ ap (λ (s : Scope). s.fti) (stays who z.fti (counted who (take place (readings_of ds))))

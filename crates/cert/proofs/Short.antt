@@ -20,11 +20,11 @@ use Rattle.reception.specs.Reception.{ReadAll, counted, symbols}
 use Rattle.reception.specs.Walks.{readings_of}
 use Rattle.cert.specs.declared.verdict.Verdict.TheVariants.{No}
 use Rattle.cert.specs.declared.verdict.Reason.TheVariants.{Thin}
-use Rattle.cert.specs.Verdict.{GivesObject, IsCertifiedReading, reception_to, first_reason, VerdictOn}
+use Rattle.cert.specs.Verdict.{GivesObject, reception_to, first_reason, VerdictOn}
 use Rattle.cert.specs.Twins.{different_esis, esi_in, esis_of, IsTwin, IsShortIn, IsTwinOfSession}
 use Rattle.cert.proofs.Judging.{read_all, are_certified, nothing_found}
 use Rattle.reception.proofs.OneAnswer.{same_readings}
-use Rattle.cert.proofs.Promise.{IsSoundReading, sound_all, unplaced_all, placed_all, fits_sound}
+use Rattle.cert.proofs.Promise.{fits_sound}
 use Rattle.cert.proofs.Undecided.{held_self}
 
 -- the ESIs of a block that came are those among its ESIs
@@ -56,12 +56,11 @@ few_held f b arrivals short =
     omega (arith, few, most)
 
 -- an object agrees with what came, where nothing is wrong with it
-pub fits_clean : (who : Identity) (z : Certificate) (object : List ℕ) (ds : List (List ℕ)) (rs : List Reading) → IsCertificate z → ReadAll ds rs → IsObject z.fti object → GivesObject object z
+pub fits_clean : (who : Identity) (z : Certificate) (object : List ℕ) (rs : List Reading) → IsCertificate z → IsObject z.fti object → GivesObject object z
     → first_reason who z rs ≡ None → symbols (counted who rs) ≢ [] → Fits z.fti (symbols (counted who rs)) object
-fits_clean who z object ds rs good read form gives clean some =
+fits_clean who z object rs good form gives clean some =
     let all = are_certified who z rs (nothing_found (reception_to who z rs).wrong clean) some in
-    let sound = placed_all who (IsSoundReading z) 0 rs (sound_all who z ds rs read (unplaced_all who (IsCertifiedReading z) 0 rs all.packets)) in
-    record { form = form; agrees = fits_sound z object good gives (counted who rs) sound }
+    record { form = form; agrees = fits_sound z object good gives (counted who rs) all.packets }
 
 -- what came of a block has an ESI among those
 among_self : (b : ℕ) (all arrivals : List Symbol) → AllByRecursion (λ s. has_arrived all s.block s.esi ≡ true) arrivals
@@ -139,7 +138,7 @@ pub twin_of_session : (who : Identity) (ds : List (List ℕ)) (object other : Li
 twin_of_session who ds object other z b good small h twin =
     let t = shortness who ds object z b small h in
     let read : ReadAll ds (readings_of ds) = read_all ds small in
-    let fits = fits_clean who z object ds (readings_of ds) good read t.0 t.1 t.2 t.3 in
+    let fits = fits_clean who z object (readings_of ds) good t.0 t.1 t.2 t.3 in
     record {
       readings = readings_of ds;
       read = read;

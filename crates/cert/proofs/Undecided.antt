@@ -1,7 +1,8 @@
--- A yes: every selection that doesn't suffice leaves a twin, and the decoder says what lacks.
-use Rattle.std.specs.Prelude.{◌≡◌, ◌≢◌, ◌<◌, ◌+◌, ◌⊎◌, ◌==◌, true, false, cond, ℕ, zero, suc, List, [], ◌∷◌, ◌++◌, length, Ok, Err, refl}
-use Rattle.std.specs.List.{AllByRecursion}
-use Rattle.std.proofs.Common.{◌∙◌, sym, ap, subst, arith, inl, inr}
+-- A yes: every selection that leaves a block short leaves a twin, and of every one that isn't enough the decoder says what
+-- lacks.
+use Rattle.std.specs.Prelude.{◌≡◌, ◌≢◌, ◌<◌, ◌+◌, ◌⊎◌, ◌==◌, Bool, true, false, cond, ℕ, zero, suc, List, [], ◌∷◌, ◌++◌, length, Ok, Err, refl}
+use Rattle.std.specs.List.{list_any, AllByRecursion}
+use Rattle.std.proofs.Common.{sym, subst, arith, inl, inr}
 use Rattle.std.proofs.lemmas.Bool.{eqb-true, eq-eqb, leb-false}
 use Rattle.std.proofs.Math.Bool.{or-true}
 use Rattle.lists.specs.Bytes.{AreBytes}
@@ -9,15 +10,15 @@ use Rattle.gf256.specs.Arithmetic.{point}
 use Rattle.poly.specs.Polynomial.{value}
 use Rattle.partition.specs.Fti.{Fti, IsValidFti, source_count, block_count}
 use Rattle.lists.specs.Below.{below}
-use Rattle.reception.specs.Symbols.{Symbol, is_of, has_arrived, arrived_esis, arrived_count, is_full, IsFirstShort, Agrees, Fits, AreTwins, IsObject}
+use Rattle.reception.specs.Symbols.{Symbol, is_of, has_arrived, arrived_esis, arrived_count, is_full, IsFirstShort, Agrees, Fits, AreTwins}
 use Rattle.alc.specs.Reading.{Reading}
 use Rattle.reception.specs.declared.scope.Identity.{Identity}
-use Rattle.reception.specs.Reception.{ReadAll, Placed, is_of_identity, counted_from, counted, symbols_in, symbols, asked, scope_from, first_wrong}
-use Rattle.reception.specs.Answer.{Empty, Missing, clash}
+use Rattle.reception.specs.Reception.{ReadAll, is_of_identity, is_carrier, counted_from, counted, symbols}
+use Rattle.reception.specs.Answer.{Empty, Missing}
 use Rattle.cert.specs.Certificate.{Certificate, IsCertificate}
-use Rattle.cert.specs.Verdict.{GivesObject, IsCertificateOf}
+use Rattle.cert.specs.Verdict.{IsCertificateOf}
 use Rattle.lists.specs.Selection.{chosen}
-use Rattle.reception.specs.Headline.{IsUndecided, LeavesTwin, UndecidedElse}
+use Rattle.reception.specs.Headline.{IsEnough, TwinWhereShort, IsToldShort, TellsElse}
 use Rattle.partition.proofs.Laws.{counts}
 use Rattle.alc.proofs.Packets.{packet_bytes}
 use Rattle.poly.proofs.Lists.{all_weaker}
@@ -25,7 +26,8 @@ use Rattle.lists.proofs.Lists.{all_filter}
 use Rattle.lists.proofs.Below.{all_below, one_missing, at_passing}
 use Rattle.reception.proofs.OneAnswer.{same_readings}
 use Rattle.reception.proofs.Full.{found}
-use Rattle.cert.proofs.Promise.{read_chosen, sound_chosen, IsSoundReading, AreSound, clean, fits_sound, solvable, all_right}
+use Rattle.reception.proofs.Carriers.{no_carrier}
+use Rattle.cert.proofs.Promise.{read_chosen, sound_chosen, AreSound, nothing_wrong, clean, fits_sound, solvable, all_right}
 use Rattle.cert.proofs.Twinning.{vanishing, twin_of, agrees, twin_form, differs, roots_held}
 
 -- the first short block below n, or none
@@ -101,77 +103,75 @@ twin_at f valid arrivals object fits bytes b hb short =
       },
     )
 
--- where no symbol came and all that counts is sound, nothing counts
-none_counted : (z : Certificate) (xs : List Placed) → AreSound z xs → symbols xs ≡ [] → xs ≡ []
-none_counted z [] h none = refl
-none_counted z (x ∷ xs) h none = by x.reading h.0 none
-  where
-    by : (r : Reading) → IsSoundReading z r → symbols_in r ++ symbols xs ≡ [] → x ∷ xs ≡ []
-    by (Err e) s k = absurd s
-    by (Ok p) s k = absurd (cc)
+module _ (who : Identity) (session : List (List ℕ)) (rs : List Reading) (object : List ℕ) (z : Certificate) (read : ReadAll session rs) (good : IsCertificate z)
+    (granted : IsCertificateOf who rs object z) where
+  sound_at : (q : List ℕ) → AreSound z (counted who (chosen rs q))
+  sound_at q = sound_chosen who rs z granted.certified q
 
--- the answer where block b is the first short one
-module _ (who : Identity) (z : Certificate) (object : List ℕ) (good : IsCertificate z) (form : IsObject z.fti object) (gives : GivesObject object z)
-    (ds : List (List ℕ)) (rs : List Reading) (read : ReadAll ds rs) (sound : AreSound z (counted who rs)) where
-  -- nothing came
-  nothing : symbols (counted who rs) ≡ [] → LeavesTwin who z.fti ds object → IsUndecided who z.fti ds object
-  nothing none twin =
-      let e = none_counted z (counted who rs) sound none in
-      record {
-        answer = Empty;
-        told = record {
-          readings = rs;
-          read = read;
-          answers = (
-            ap (λ (xs : List Placed). first_wrong clash (scope_from (asked who) xs) xs) e,
-            ap (λ (xs : List Placed). (scope_from (asked who) xs).fti) e,
-          );
-        };
-        lacks = λ h. h.some (ap (λ (ss : List Reading). symbols (counted who ss)) (same_readings ds h.readings rs h.read read) ∙ none);
-        twin = twin;
-      }
+  read_at : (q : List ℕ) → ReadAll (chosen session q) (chosen rs q)
+  read_at q = read_chosen session rs read q
 
-  -- some came
-  lacking : symbols (counted who rs) ≢ [] → (b : ℕ) → IsFirstShort z.fti (symbols (counted who rs)) b → LeavesTwin who z.fti ds object → IsUndecided who z.fti ds object
-  lacking some b first twin = record {
-    answer = Missing b (arrived_count (symbols (counted who rs)) b) (source_count z.fti b);
+  -- at yes, every selection that leaves a block short leaves a twin
+  pub undecided : TwinWhereShort who z.fti session object
+  undecided = λ q short.
+      let fits : Fits z.fti (symbols (counted who (chosen rs q))) object = record {
+        form = granted.form;
+        agrees = fits_sound z object good granted.gives (counted who (chosen rs q)) (sound_at q);
+      } in
+      elim (first_short z.fti (symbols (counted who (chosen rs q))) (block_count z.fti)) [
+        | inr all ↦ absurd (short (record { readings = chosen rs q; read = read_at q; full = all }))
+        | inl w ↦
+            (let twin = twin_at z.fti good.fti (symbols (counted who (chosen rs q))) object fits (bytes_came who 0 _ _ (read_at q)) w.0 w.1 w.2 in
+            record { readings = chosen rs q; read = read_at q; other = twin.0; twins = twin.1 })
+      ]
+
+  -- where no carrier came, the decoder says just that
+  without_carrier : (q : List ℕ) → list_any (is_carrier who) (chosen rs q) ≡ false → IsToldShort who (chosen session q)
+  without_carrier q none = record {
+    answer = Empty;
     told = record {
-      readings = rs;
-      read = read;
-      answers = (
-        z.fti,
-        clean who z rs sound some,
-        solvable z object good form gives (symbols (counted who rs))
-            (all_right z (counted who rs) sound),
-        first,
-        refl,
-        refl,
-      );
+      readings = chosen rs q;
+      read = read_at q;
+      answers = (nothing_wrong who z (chosen rs q) (sound_at q), no_carrier who (chosen rs q) none);
     };
-    lacks = record { readings = rs; read = read; some = some };
-    twin = twin;
+    lacks = λ h.
+        let is : list_any (is_carrier who) (chosen rs q) ≡ true =
+        subst (λ (x : List Reading). list_any (is_carrier who) x ≡ true) (same_readings _ _ _ h.read (read_at q)) h.carrier in
+        (cc);
   }
 
-  told : (arrivals : List Symbol) → symbols (counted who rs) ≡ arrivals → (b : ℕ) → IsFirstShort z.fti (symbols (counted who rs)) b → LeavesTwin who z.fti ds object
-      → IsUndecided who z.fti ds object
-  told [] is b first twin = nothing is twin
-  told (s ∷ ss) is b first twin = lacking (λ none. let e : s ∷ ss ≡ [] = sym is ∙ none in (cc)) b first twin
+  -- where one came, which block is short
+  with_carrier : (q : List ℕ) → list_any (is_carrier who) (chosen rs q) ≡ true → (b : ℕ) → IsFirstShort z.fti (symbols (counted who (chosen rs q))) b → IsToldShort who (chosen session q)
+  with_carrier q carrier b first =
+      let arrivals = symbols (counted who (chosen rs q)) in
+      record {
+        answer = Missing b (arrived_count arrivals b) (source_count z.fti b);
+        told = record {
+          readings = chosen rs q;
+          read = read_at q;
+          answers = (
+            z.fti,
+            clean who z (chosen rs q) (sound_at q) carrier,
+            solvable z object good granted.form granted.gives arrivals (all_right z (counted who (chosen rs q)) (sound_at q)),
+            first,
+            refl,
+            refl,
+          );
+        };
+        lacks = record { readings = chosen rs q; read = read_at q; carrier = carrier };
+      }
 
--- at yes, every selection that doesn't suffice leaves a twin, and the decoder says what lacks
-pub undecided : (who : Identity) (session : List (List ℕ)) (rs : List Reading) (object : List ℕ) (z : Certificate) → ReadAll session rs → IsCertificate z
-    → IsCertificateOf who rs object z → UndecidedElse who z.fti session object
-undecided who session rs object z read good granted = λ q short.
-    let sound = sound_chosen who session rs z read granted.certified q in
-    let read_q = read_chosen session rs read q in
-    let fits : Fits z.fti (symbols (counted who (chosen rs q))) object = record {
-      form = granted.form;
-      agrees = fits_sound z object good granted.gives (counted who (chosen rs q)) sound;
-    } in
-    elim (first_short z.fti (symbols (counted who (chosen rs q))) (block_count z.fti)) [
-      | inr all ↦ absurd (short (record { readings = chosen rs q; read = read_q; full = all }))
-      | inl w ↦
-          (let twin = twin_at z.fti good.fti (symbols (counted who (chosen rs q))) object fits (bytes_came who 0 _ _ read_q) w.0 w.1 w.2 in
-          told who z object good granted.form granted.gives (chosen session q) (chosen rs q) read_q sound (symbols (counted who (chosen rs q))) refl w.0
-          (record { in_range = w.1; short = w.2; least = w.3 })
-          (record { readings = chosen rs q; read = read_q; other = twin.0; twins = twin.1 }))
-    ]
+  -- at yes, of every selection that isn't enough the decoder says what lacks
+  pub tells : TellsElse who z.fti session
+  tells = λ q lacking. by q lacking (list_any (is_carrier who) (chosen rs q)) refl
+    where
+      by : (q : List ℕ) → ¬ IsEnough who z.fti (chosen session q) → (v : Bool) → list_any (is_carrier who) (chosen rs q) ≡ v → IsToldShort who (chosen session q)
+      by q lacking false none = without_carrier q none
+      by q lacking true carrier =
+          elim (first_short z.fti (symbols (counted who (chosen rs q))) (block_count z.fti)) [
+            | inl w ↦ with_carrier q carrier w.0 (record { in_range = w.1; short = w.2; least = w.3 })
+            | inr all ↦ absurd (lacking (record {
+              full = record { readings = chosen rs q; read = read_at q; full = all };
+              carrier = record { readings = chosen rs q; read = read_at q; carrier = carrier };
+            }))
+          ]

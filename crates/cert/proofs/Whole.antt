@@ -5,21 +5,28 @@ use Rattle.cert.specs.declared.verdict.Verdict.TheVariants.{Yes, No}
 use Rattle.reception.specs.declared.scope.Identity.{Identity}
 use Rattle.cert.specs.Certificate.{Certificate, IsCertificate}
 use Rattle.cert.specs.Verdict.{IsVerdict}
-use Rattle.reception.specs.Headline.{DecodesWhereEnough, UndecidedElse}
+use Rattle.reception.specs.Headline.{DecodesWhereEnough, TwinWhereShort, TellsElse}
 use Rattle.cert.specs.Report.{OnYes}
 use Rattle.cert.proofs.Promise.{decodes}
-use Rattle.cert.proofs.Undecided.{undecided}
+use Rattle.cert.proofs.Undecided.{undecided, tells}
 
--- each selection that suffices decodes to the object
+-- each selection that is enough decodes to the object
 pub decodes_at_yes : {E : Type 0} (who : Identity) (session : List (List ℕ)) (object : List ℕ) (z : Certificate) (r : Result Verdict E) → IsCertificate z
     → IfOk r (IsVerdict who session object z) → IfOk r (λ v. OnYes v (λ _. DecodesWhereEnough who z.fti session object))
 decodes_at_yes who session object z (Ok (Yes report)) good h = decodes who session h.readings object z h.read good h.judged
 decodes_at_yes who session object z (Ok (No reason)) good h = tt
 decodes_at_yes who session object z (Err e) good h = tt
 
--- each other leaves a twin, and a decoder says what lacks
+-- each that leaves a block short leaves a twin
 pub undecided_at_yes : {E : Type 0} (who : Identity) (session : List (List ℕ)) (object : List ℕ) (z : Certificate) (r : Result Verdict E) → IsCertificate z
-    → IfOk r (IsVerdict who session object z) → IfOk r (λ v. OnYes v (λ _. UndecidedElse who z.fti session object))
+    → IfOk r (IsVerdict who session object z) → IfOk r (λ v. OnYes v (λ _. TwinWhereShort who z.fti session object))
 undecided_at_yes who session object z (Ok (Yes report)) good h = undecided who session h.readings object z h.read good h.judged
 undecided_at_yes who session object z (Ok (No reason)) good h = tt
 undecided_at_yes who session object z (Err e) good h = tt
+
+-- of each that isn't enough a decoder says what lacks
+pub tells_at_yes : {E : Type 0} (who : Identity) (session : List (List ℕ)) (object : List ℕ) (z : Certificate) (r : Result Verdict E) → IsCertificate z
+    → IfOk r (IsVerdict who session object z) → IfOk r (λ v. OnYes v (λ _. TellsElse who z.fti session))
+tells_at_yes who session object z (Ok (Yes report)) good h = tells who session h.readings object z h.read good h.judged
+tells_at_yes who session object z (Ok (No reason)) good h = tt
+tells_at_yes who session object z (Err e) good h = tt

@@ -1,8 +1,9 @@
 -- What is known of datagrams that were looked at one by one.
 use Rattle.std.specs.Prelude.{◌≡◌, ◌≢◌, ℕ, ◌+◌, Bool, nat_lt, List, [], length, Option, None, Some, IfSome, ⊤}
 use Rattle.losses.specs.Groups.{Group, groups_of}
+use Rattle.losses.specs.Losses.{places_from}
 use Rattle.alc.specs.Packet.{Packet}
-use Rattle.reception.specs.Reception.{counted, symbols, symbol_of}
+use Rattle.reception.specs.Reception.{counted, symbols, symbol_of, is_carrier}
 use Rattle.reception.specs.declared.scope.Identity.{Identity}
 use Rattle.reception.specs.declared.scope.Scope.{Scope}
 use Rattle.reception.specs.Walks.{readings_of}
@@ -10,23 +11,25 @@ use Rattle.cert.specs.declared.walk.Walk.{Walk}
 use Rattle.cert.specs.declared.walk.NoReport.{NoReport}
 use Rattle.cert.specs.declared.walk.NoReport.TheVariants.{Reason as ByReason, NoMemory}
 use Rattle.cert.specs.declared.verdict.Reason.{Reason}
-use Rattle.cert.specs.declared.verdict.Reason.TheVariants.{ObjectLength, NotObject, Packet as NoPacket, OtherFti, Range, Symbol}
+use Rattle.cert.specs.declared.verdict.Reason.TheVariants.{ObjectLength, NotObject, Packet as NoPacket, OtherFti, SymbolLength, Range, Symbol}
 use Rattle.cert.specs.declared.verdict.Verdict.TheVariants.{No}
 use Rattle.cert.specs.Certificate.{Certificate}
 use Rattle.cert.specs.Scan.{AreGroupsOf}
 use Rattle.cert.specs.Verdict.{IsFirstNotGiven, reception_to, first_reason, VerdictOn, uncertified}
 
 -- these datagrams came to the check of a certificate, none with a reason against it: what is known of them
-pub record AreWalked (who : Identity) (z : Certificate) (scope : Scope) (count : ℕ) (came : Bool) (groups : List Group) (datagrams : List (List ℕ)) : Type 0 where
+pub record AreWalked (who : Identity) (z : Certificate) (scope : Scope) (count : ℕ) (came : Bool) (groups : List Group) (carriers : List ℕ) (datagrams : List (List ℕ)) : Type 0 where
   pub clean : (reception_to who z (readings_of datagrams)).wrong ≡ None
   pub holds : (reception_to who z (readings_of datagrams)).scope ≡ scope
   pub many : length datagrams ≡ count
   pub some : nat_lt 0 (length (symbols (counted who (readings_of datagrams)))) ≡ came
   pub grouped : AreGroupsOf z.fti (counted who (readings_of datagrams)) groups
+  pub placed : carriers ≡ places_from (is_carrier who) 0 (readings_of datagrams)
 
 abbrev pub HasWalked : Walk → List (List ℕ) → Type 0
 HasWalked walk datagrams =
-    AreWalked walk.scope.identity walk.symbols walk.scope walk.count walk.came (groups_of walk.groups.items) datagrams
+    AreWalked walk.scope.identity walk.symbols walk.scope walk.count walk.came (groups_of walk.groups.items)
+    walk.carriers.items datagrams
 
 -- a reason against the object, whatever datagrams come
 abbrev pub IsAgainstObject : Reason → List ℕ → Certificate → Type 0
@@ -43,6 +46,7 @@ IsNotBegun object z NoMemory = ⊤
 abbrev pub place_of : Reason → Option ℕ
 place_of (NoPacket i fault) = Some i
 place_of (OtherFti i) = Some i
+place_of (SymbolLength i) = Some i
 place_of (Range i) = Some i
 place_of (Symbol i c) = Some i
 place_of _ = None

@@ -7,14 +7,14 @@ use Rattle.alc.specs.Reading.{Reading}
 use Rattle.reception.specs.declared.scope.Identity.{Identity}
 use Rattle.reception.specs.Symbols.{IsObject}
 use Rattle.reception.specs.Reception.{ReadAll}
-use Rattle.reception.specs.Headline.{DecodesWhereEnough, UndecidedElse}
+use Rattle.reception.specs.Headline.{DecodesWhereEnough, TwinWhereShort, TellsElse}
 use Rattle.cert.specs.Certificate.{Certificate}
 use Rattle.cert.specs.Report.{IsReport, OnYes}
 use Rattle.cert.specs.Verdict.{GivesObject, first_reason, IsVerdict}
 use Rattle.cert.specs.declared.verdict.Verdict.{Verdict}
 use Rattle.cert.specs.declared.verdict.Verdict.TheVariants.{Yes, No}
 use Rattle.cert.specs.declared.verdict.Reason.{Reason}
-use Rattle.cert.specs.declared.verdict.Reason.TheVariants.{ObjectLength, NotObject, Empty, Packet as NoPacket, OtherFti, Range, Symbol, Thin}
+use Rattle.cert.specs.declared.verdict.Reason.TheVariants.{ObjectLength, NotObject, Empty, Packet as NoPacket, OtherFti, SymbolLength, Range, Symbol, Thin, NoCarrier}
 use Rattle.cert.specs.declared.from_reader.CheckFault.{CheckFault}
 use Rattle.cert.specs.declared.from_reader.CheckFault.TheVariants.{Frame, NoMemory}
 
@@ -38,8 +38,10 @@ IsVerdictAfter who (No (NotObject b c i)) datagrams left object z =
     (datagrams ≡ []) × IsVerdictWhatFollows who datagrams object z (No (NotObject b c i))
 IsVerdictAfter who (No Empty) datagrams left object z = IsAtEnd left × IsVerdict who datagrams object z (No Empty)
 IsVerdictAfter who (No (Thin b have need)) datagrams left object z = IsAtEnd left × IsVerdict who datagrams object z (No (Thin b have need))
+IsVerdictAfter who (No NoCarrier) datagrams left object z = IsAtEnd left × IsVerdict who datagrams object z (No NoCarrier)
 IsVerdictAfter who (No (NoPacket i fault)) datagrams left object z = IsVerdictAtLast who i datagrams object z (NoPacket i fault)
 IsVerdictAfter who (No (OtherFti i)) datagrams left object z = IsVerdictAtLast who i datagrams object z (OtherFti i)
+IsVerdictAfter who (No (SymbolLength i)) datagrams left object z = IsVerdictAtLast who i datagrams object z (SymbolLength i)
 IsVerdictAfter who (No (Range i)) datagrams left object z = IsVerdictAtLast who i datagrams object z (Range i)
 IsVerdictAfter who (No (Symbol i c)) datagrams left object z = IsVerdictAtLast who i datagrams object z (Symbol i c)
 
@@ -51,7 +53,8 @@ pub record IsCheckedFrom (who : Identity) (old new : Option (List ℕ)) (object 
   pub consumed : Consumes old new (frames datagrams)
   pub judged : IsVerdictAfter who verdict datagrams new object z
   pub decodes : OnYes verdict (λ _. DecodesWhereEnough who z.fti datagrams object)
-  pub undecided : OnYes verdict (λ _. UndecidedElse who z.fti datagrams object)
+  pub undecided : OnYes verdict (λ _. TwinWhereShort who z.fti datagrams object)
+  pub tells : OnYes verdict (λ _. TellsElse who z.fti datagrams)
   pub report : OnYes verdict (IsReport who datagrams z.fti)
 
 -- no reason against the object, and none at the place of one of these datagrams

@@ -1,5 +1,5 @@
 -- What the report of a yes says.
-use Rattle.std.specs.Prelude.{◌≡◌, ℕ, ◌+◌, List, map}
+use Rattle.std.specs.Prelude.{◌≡◌, ℕ, ◌+◌, List, map, count_by}
 use Rattle.lists.specs.Below.{below}
 use Rattle.losses.specs.Losses.{Blocks, IsMargin, IsKill, IsBurst}
 use Rattle.partition.specs.Fti.{Fti, block_count, source_count}
@@ -9,21 +9,28 @@ use Rattle.cert.specs.declared.verdict.Verdict.{Verdict}
 use Rattle.cert.specs.declared.verdict.Verdict.TheVariants.{Yes, No}
 use Rattle.reception.specs.declared.scope.Identity.{Identity}
 use Rattle.reception.specs.Symbols.{Symbol, has_arrived, arrived_count}
-use Rattle.reception.specs.Reception.{ReadAll, counted, symbols}
+use Rattle.reception.specs.Reception.{ReadAll, counted, symbols, is_carrier}
 
 -- for each block below n its source symbols, and how many different ESIs of it came
 abbrev pub block_lines : Fti → List Symbol → ℕ → List (ℕ × ℕ)
 block_lines f arrivals n = map (λ b. (source_count f b, arrived_count arrivals b)) (below n)
 
--- the blocks of an FTI, and which of their symbols the identity's packets among a list of readings hold
+-- the blocks of an FTI, which of their symbols the identity's packets among a list of readings hold, and which readings are
+-- carriers of the identity
 abbrev pub blocks_of : Identity → Fti → Blocks Reading
-blocks_of who f = record { count = block_count f; need = source_count f; has_symbol = λ rs b j. has_arrived (symbols (counted who rs)) b j }
+blocks_of who f = record {
+  count = block_count f;
+  need = source_count f;
+  has_symbol = λ rs b j. has_arrived (symbols (counted who rs)) b j;
+  is_carrier = is_carrier who;
+}
 
 -- a loss is of datagrams, whosever packets they are, and its places are those of all of them
 pub record IsReport (who : Identity) (datagrams : List (List ℕ)) (f : Fti) (report : Report) : Type 0 where
   pub readings : List Reading
   pub read : ReadAll datagrams readings
   pub blocks : report.blocks.items ≡ block_lines f (symbols (counted who readings)) (block_count f)
+  pub carriers : report.carriers ≡ count_by (is_carrier who) readings
   pub margin : IsMargin (blocks_of who f) readings report.margin
   pub kill : IsKill (blocks_of who f) readings (report.margin + 1) report.kill.items
   pub burst : IsBurst (blocks_of who f) readings report.burst

@@ -1,12 +1,13 @@
 -- What a scan over the datagrams finds.
-use Rattle.std.specs.Prelude.{◌≡◌, ◌≢◌, ℕ, ◌<◌, ◌≤◌, ◌==◌, cond, List, [], ◌∷◌, ◌++◌, length}
+use Rattle.std.specs.Prelude.{◌≡◌, ◌≢◌, ℕ, ◌<◌, ◌≤◌, ◌==◌, cond, List, [], ◌∷◌, ◌++◌, length, true, Option, Some, None}
+use Rattle.std.specs.List.{list_any}
 use Rattle.losses.specs.declared.groups.Member.{Member}
 use Rattle.losses.specs.Members.{different_outside}
 use Rattle.losses.specs.Groups.{Group, group_at}
 use Rattle.partition.specs.Fti.{Fti, block_count, source_count}
 use Rattle.reception.specs.declared.scope.Identity.{Identity}
 use Rattle.reception.specs.Symbols.{Symbol}
-use Rattle.reception.specs.Reception.{Placed, symbols_in, Suffices}
+use Rattle.reception.specs.Reception.{Placed, symbols_in, is_carrier, Suffices}
 use Rattle.reception.specs.Walks.{readings_of}
 use Rattle.cert.specs.declared.walk.NoReport.{NoReport}
 use Rattle.cert.specs.declared.walk.NoReport.TheVariants.{Reason as ByReason, NoMemory}
@@ -36,6 +37,11 @@ pub record IsPut (old : List Group) (place : ℕ) (s : Symbol) (new : List Group
   pub need : (b : ℕ) → b < length old → (group_at new b).need ≡ (group_at old b).need
   pub here : (group_at new s.block).members ≡ (group_at old s.block).members ++ record { place = place; esi = s.esi } ∷ []
   pub elsewhere : (b : ℕ) → b < length old → b ≢ s.block → (group_at new b).members ≡ (group_at old b).members
+
+-- the places of the carriers, and with them that of a packet which carries an FTI
+abbrev pub with_carrier : List ℕ → ℕ → Option Fti → List ℕ
+with_carrier carriers place (Some f) = carriers ++ place ∷ []
+with_carrier carriers place None = carriers
 
 -- there is no report for this reason against the datagrams, or for want of memory
 abbrev pub IsNoReport : Identity → List (List ℕ) → Certificate → NoReport → Type 0
@@ -71,3 +77,4 @@ IsShortGroup groups NoMemory = Unit {0}
 pub record AreEnoughCertified (who : Identity) (datagrams : List (List ℕ)) (z : Certificate) : Type 0 where
   pub all : AreCertified who (readings_of datagrams) z
   pub full : Suffices who z.fti (readings_of datagrams)
+  pub carrier : list_any (is_carrier who) (readings_of datagrams) ≡ true

@@ -1,18 +1,18 @@
 -- What a check of a session, an object and a certificate answers.
-use Rattle.std.specs.Prelude.{◌≡◌, ◌≢◌, true, ℕ, zero, suc, ◌+◌, ◌<◌, ◌==◌, if◌then◌else◌, List, [], length, slice_index, Option, Some, None, Ok, Err, option_map}
-use Rattle.std.specs.List.{AllByRecursion}
-use Rattle.partition.specs.Fti.{source_count, block_count, source_byte}
+use Rattle.std.specs.Prelude.{◌≡◌, ◌≢◌, true, false, ℕ, zero, suc, ◌+◌, ◌<◌, ◌==◌, if◌then◌else◌, List, [], length, slice_index, Option, Some, None, Ok, Err, option_map}
+use Rattle.std.specs.List.{list_any, AllByRecursion}
+use Rattle.partition.specs.Fti.{Fti, source_count, block_count, source_byte}
 use Rattle.alc.specs.Packet.{Packet}
 use Rattle.alc.specs.Reading.{Reading}
 use Rattle.cert.specs.declared.verdict.Verdict.{Verdict}
 use Rattle.cert.specs.declared.verdict.Verdict.TheVariants.{Yes, No}
 use Rattle.cert.specs.declared.verdict.Reason.{Reason}
-use Rattle.cert.specs.declared.verdict.Reason.TheVariants.{ObjectLength, NotObject, Empty, Packet as NoPacket, OtherFti, Range, Symbol, Thin}
+use Rattle.cert.specs.declared.verdict.Reason.TheVariants.{ObjectLength, NotObject, Empty, Packet as NoPacket, OtherFti, SymbolLength, Range, Symbol, Thin, NoCarrier}
 use Rattle.reception.specs.declared.scope.Identity.{Identity}
 use Rattle.reception.specs.declared.scope.PlaceFault.TheVariants as fault
 use Rattle.reception.specs.Symbols.{Symbol as Received, arrived_count, IsFirstShort, IsObject}
 use Rattle.cert.specs.Certificate.{Certificate, certified_byte}
-use Rattle.reception.specs.Reception.{ReadAll, Judge, Wrong, Faulty, Judged, Reception, counted, symbols, reception_with, with_fti, in_range, Suffices}
+use Rattle.reception.specs.Reception.{ReadAll, Judge, Wrong, Faulty, Judged, Reception, counted, symbols, reception_with, with_fti, in_range, is_carrier, Suffices}
 
 abbrev pub GivesAt : List ℕ → Certificate → ℕ → ℕ → ℕ → Type 0
 GivesAt object z b c i = certified_byte z b i c ≡ source_byte z.fti object b i c
@@ -58,6 +58,7 @@ reception_to who z rs = reception_with (uncertified z) (with_fti who z.fti) rs
 abbrev pub reason_at : ℕ → Wrong ℕ → Reason
 reason_at i (Faulty (fault.NoPacket r)) = NoPacket i r
 reason_at i (Faulty fault.OtherFti) = OtherFti i
+reason_at i (Faulty fault.SymbolLength) = SymbolLength i
 reason_at i (Faulty fault.Range) = Range i
 reason_at i (Judged c) = Symbol i c
 
@@ -65,9 +66,11 @@ reason_at i (Judged c) = Symbol i c
 abbrev pub first_reason : Identity → Certificate → List Reading → Option Reason
 first_reason who z rs = option_map (λ x. reason_at x.0 x.1) (reception_to who z rs).wrong
 
--- the packet is of the certificate's FTI, in range, and has the certified symbol
+-- the packet carries no other FTI than the certificate's, has a symbol as long as that tells, is in range, and has the
+-- certified symbol
 pub record IsCertifiedPacket (z : Certificate) (p : Packet) : Type 0 where
-  pub fti : p.fti ≡ z.fti
+  pub fti : (f : Fti) → p.fti ≡ Some f → f ≡ z.fti
+  pub size : length p.bytes ≡ z.fti.symbol_length
   pub range : in_range p z.fti ≡ true
   pub symbol : (c : ℕ) → c < z.fti.symbol_length → slice_index p.bytes c ≡ certified_byte z p.block p.esi c
 
@@ -86,14 +89,18 @@ pub record IsCertificateOf (who : Identity) (rs : List Reading) (object : List �
   pub gives : GivesObject object z
   pub certified : AreCertified who rs z
   pub full : Suffices who z.fti rs
+  pub carrier : list_any (is_carrier who) rs ≡ true
 
 -- why the readings don't have the certificate, where it gives the object: the first that is wrong at a place; none of the
--- identity's packets came; a short block
+-- identity's packets came; a short block; none of the packets is a carrier
 abbrev pub IsAgainst : Identity → List Reading → Certificate → Reason → Type 0
 IsAgainst who rs z Empty = (first_reason who z rs ≡ None) × (symbols (counted who rs) ≡ [])
 IsAgainst who rs z (Thin b have need) =
     (first_reason who z rs ≡ None) × (symbols (counted who rs) ≢ []) × IsFirstShort z.fti (symbols (counted who rs)) b
     × (have ≡ arrived_count (symbols (counted who rs)) b) × (need ≡ source_count z.fti b)
+IsAgainst who rs z NoCarrier =
+    (first_reason who z rs ≡ None) × (symbols (counted who rs) ≢ []) × Suffices who z.fti rs
+    × (list_any (is_carrier who) rs ≡ false)
 IsAgainst who rs z reason = first_reason who z rs ≡ Some reason
 
 -- Yes where the certificate is one, and each no the first reason in this order.

@@ -1,6 +1,6 @@
 //! The check.
 ghost use Rattle.std.specs.Prelude.{IfOk, IfErr, OnOk};
-ghost use Rattle.reception.specs.Headline.{DecodesWhereEnough, UndecidedElse};
+ghost use Rattle.reception.specs.Headline.{DecodesWhereEnough, TwinWhereShort, TellsElse};
 ghost use Rattle.cert.specs.DatagramWalk.{IsNo};
 ghost use Rattle.cert.specs.Certificate.{IsCertificate};
 ghost use Rattle.cert.specs.Report.{IsReport, OnYes};
@@ -70,13 +70,18 @@ pub fn check(
 ) -> Result<Verdict, AllocError>
     // The verdict: yes exactly where the certificate is one, and else the first reason.
     ensures verdict { IfOk result (IsVerdict identity session.now object.now certificate.now) }
-    // At yes, each selection of the datagrams whose packets of the identity leave no block short decodes to the object.
+    // At yes, each selection of the datagrams whose packets of the identity leave no block short, and of which one is a
+    // carrier, decodes to the object.
     ensures decodes { IfOk result (λ v. OnYes v
         (λ _. DecodesWhereEnough identity certificate.now.fti session.now object.now)) }
-    // At yes, each other selection leaves another object that agrees with all of it, and a decoder says what lacks.
+    // At yes, each selection that leaves a block short leaves another object that agrees with all of it.
     ensures undecided { IfOk result (λ v. OnYes v
-        (λ _. UndecidedElse identity certificate.now.fti session.now object.now)) }
-    // At yes, what each block needs and has, and of all losses of datagrams the margin, the kill and the burst.
+        (λ _. TwinWhereShort identity certificate.now.fti session.now object.now)) }
+    // At yes, of each selection that isn't enough a decoder says what lacks: a short block, or a carrier.
+    ensures tells { IfOk result (λ v. OnYes v
+        (λ _. TellsElse identity certificate.now.fti session.now)) }
+    // At yes, what each block needs and has, how many carriers came, and of all losses of datagrams the margin, the
+    // kill and the burst.
     ensures report { IfOk result (λ v.
         OnYes v (IsReport identity session.now certificate.now.fti)) }
 {

@@ -1,9 +1,9 @@
-//! What is asked of one datagram, and where its symbol goes.
+//! What is asked of one datagram, and where its symbol and its place go.
 ghost use Rattle.std.specs.Prelude.{◌≡◌, ◌<◌, true, [], length, IfOk, OnOk};
 ghost use Rattle.alc.specs.Views.{packet_of};
 ghost use Rattle.reception.specs.Reception.{Faulty, in_range, symbol_of};
 ghost use Rattle.cert.specs.Verdict.{GivesObject, uncertified, reason_at};
-ghost use Rattle.cert.specs.Scan.{AreGroupsOf, IsPut};
+ghost use Rattle.cert.specs.Scan.{AreGroupsOf, IsPut, with_carrier};
 ghost use Rattle.losses.specs.Groups.{groups_of};
 
 use crate::certified_symbols::CertifiedSymbols;
@@ -43,6 +43,7 @@ pub(crate) fn reason_of(place: usize, fault: PlaceFault) -> Reason
     match fault {
         PlaceFault::NoPacket(fault) => Reason::Packet(place, fault),
         PlaceFault::OtherFti => Reason::OtherFti(place),
+        PlaceFault::SymbolLength => Reason::SymbolLength(place),
         PlaceFault::Range => Reason::Range(place),
     }
 }
@@ -71,5 +72,20 @@ pub(crate) fn put(groups: &mut [Group], place: usize, packet: &Packet<'_>) -> Re
     groups[packet.sbn as usize]
         .members
         .push(Member { place, esi })?;
+    Ok(())
+}
+
+/// Puts the place of a packet behind those of the carriers, where it carries an FTI.
+pub(crate) fn put_carrier(
+    carriers: &mut Vec<usize>,
+    place: usize,
+    packet: &Packet<'_>,
+) -> Result<(), AllocError>
+    ensures { OnOk result
+        (carriers.new.items ≡ with_carrier carriers.old.items place packet.now.fti) }
+{
+    if packet.fti.is_some() {
+        carriers.push(place)?;
+    }
     Ok(())
 }

@@ -27,8 +27,8 @@ pub fn first_reason()
         → TellsTheFirst (uncertified z) (with_fti who z.fti) }
 {}
 
-/// At one place a check's reasons come in this order: no packet, another FTI, out of range, a symbol that isn't certified.
-/// Each is told exactly where it holds and none before it does.
+/// At one place a check's reasons come in this order: no packet, another FTI in a carrier, a symbol of another length, out
+/// of range, a symbol that isn't certified. Each is told exactly where it holds and none before it does.
 pub fn reason_order()
     ensures { (z : CertificateValue) → TellsInOrder (uncertified z) }
 {}

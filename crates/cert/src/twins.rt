@@ -13,7 +13,7 @@ use gf256::{Field, Gf, point};
 use lists::are_bytes;
 use partition::Fti;
 use poly::Poly;
-use reception::{Identity, Scope};
+use reception::{Identity, Look, Scope};
 use session::Session;
 use std::alloc::{AllocError, Global};
 
@@ -93,12 +93,13 @@ fn esis_held(
     let mut arrived_esis = Vec::new(alloc);
     for place in 0..session.len() {
         match scope.look(session.get(place)) {
-            Ok(Some(packet)) => {
+            Ok(Look::InRange(packet)) => {
                 if packet.sbn == block {
                     arrived_esis.push(packet.esi)?;
                 }
             }
-            Ok(None) => {}
+            Ok(Look::Other) => {}
+            Ok(Look::Early) => {}
             Err(_) => {}
         }
     }

@@ -6,12 +6,17 @@ use alc::PacketFault;
 pub struct Report {
     /// For each block, rising, how many source symbols it has and how many different ESIs of it the identity's packets hold.
     pub blocks: Vec<(usize, usize)>,
-    /// The greatest number of datagrams whose loss, whichever of all they are, leaves no block short.
+    /// How many places hold a carrier: a packet of the identity that carries an FTI. A datagram that comes again counts
+    /// again.
+    pub carriers: usize,
+    /// The greatest number of datagrams whose loss, whichever of all they are, leaves a carrier and no block short.
     pub margin: usize,
-    /// The places of one datagram more, rising, whose loss does leave a block short: the least block that a loss of so
-    /// many can, and of those losses the one whose lost ESIs, rising, stand first in a dictionary.
+    /// The places of one datagram more, rising, whose loss is too much: where a loss of so many can leave a block short,
+    /// it leaves short the least block that one can, and of those losses is the one whose lost ESIs, rising, stand first
+    /// in a dictionary; else it takes all carriers.
     pub kill: Vec<usize>,
-    /// The greatest number of neighbouring datagrams whose loss, wherever they stand, leaves no block short.
+    /// The greatest number of neighbouring datagrams whose loss, wherever they stand, leaves a carrier and no block
+    /// short.
     pub burst: usize,
 }
 
@@ -19,7 +24,7 @@ pub struct Report {
 /// whosever packets they are; they and blocks, columns and symbols count from 0.
 ///
 /// The first of these is told: `ObjectLength`, `NotObject`, the reason at the least place (`Packet` to `Symbol`, at one
-/// place in this order), `Empty`, `Thin`.
+/// place in this order), `Empty`, `Thin`, `NoCarrier`.
 #[derive(Clone, Copy, Debug, PartialEq, Eq)]
 pub enum Reason {
     /// N1: the object hasn't the certificate's length.
@@ -35,8 +40,10 @@ pub enum Reason {
     Empty,
     /// N4: the datagram at a place is no packet, whatever identity is asked for.
     Packet(usize, PacketFault),
-    /// N6: the FTI of a packet of the identity isn't the certificate's.
+    /// N6: a packet of the identity carries an FTI that isn't the certificate's.
     OtherFti(usize),
+    /// N10: its symbol isn't as long as the certificate's FTI tells.
+    SymbolLength(usize),
     /// N7: there is no such block, or no such ESI in it.
     Range(usize),
     /// N8: its symbol isn't the polynomials' value at its point; the place and the least column.
@@ -48,6 +55,8 @@ pub enum Reason {
         have: usize,
         need: usize,
     },
+    /// N11: no packet of the identity carries the FTI.
+    NoCarrier,
 }
 
 /// Whether a certificate is one of an identity's packets in a session, and of an object.

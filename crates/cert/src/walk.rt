@@ -8,18 +8,18 @@ ghost use Rattle.reception.specs.Symbols.{IsObject};
 ghost use Rattle.reception.specs.Reception.{in_range, symbol_of};
 ghost use Rattle.cert.specs.Certificate.{IsCertificate};
 ghost use Rattle.cert.specs.Report.{IsReport};
-ghost use Rattle.cert.specs.Scan.{line_in, AreEnough, AreEnoughCertified, IsShortGroup, IsPut, IsNoReport};
+ghost use Rattle.cert.specs.Scan.{line_in, with_carrier, AreEnough, AreEnoughCertified, IsShortGroup, IsPut, IsNoReport};
 ghost use Rattle.cert.specs.Verdict.{GivesObject, uncertified};
 
 use crate::certificate::Certificate;
 use crate::certified_symbols::CertifiedSymbols;
-use crate::datagrams::{empty_groups, first_wrong_column_of, put, reason_of};
+use crate::datagrams::{empty_groups, first_wrong_column_of, put, put_carrier, reason_of};
 use crate::source::first_not_given;
 use crate::verdict::{Reason, Report};
 use alc::Packet;
 use lists::are_bytes;
 use losses::{Figures, Group, figures_of};
-use reception::{Identity, Scope};
+use reception::{Identity, Look, Scope};
 use std::alloc::{AllocError, Global};
 
 /// Why there is no report: a reason, or want of memory.
@@ -39,15 +39,16 @@ impl From<AllocError> for NoReport {
     }
 }
 
-/// A check on its way over datagrams: the polynomials give the object, and no datagram so far has a reason against it. None
-/// is kept, only the place and the ESI of its symbol, in its block's group. Packets of another identity are passed over, and
-/// their places are counted.
+/// A check on its way over datagrams: the polynomials give the object, and no datagram so far has a reason against it.
+/// None is kept, only the place and the ESI of its symbol, in its block's group, and a carrier's place. Packets of another
+/// identity are passed over, and their places are counted.
 #[derive(Drop)]
 pub(crate) struct Walk<'a> {
     symbols: CertifiedSymbols<'a>,
     object: &'a [u8],
     scope: Scope,
     groups: Vec<Group>,
+    carriers: Vec<usize>,
     count: usize,
     // Whether some packet of the identity came.
     came: bool,
@@ -87,6 +88,7 @@ impl<'a> Walk<'a> {
             object,
             scope: Scope::with_fti(identity, fti),
             groups: empty_groups(alloc, &fti)?,
+            carriers: Vec::new(alloc),
             count: 0,
             came: false,
         })
@@ -110,13 +112,15 @@ impl<'a> Walk<'a> {
         };
         self.count = count;
         match self.scope.look(datagram) {
-            Ok(Some(packet)) => self.keep(place, &packet),
-            Ok(None) => Ok(()),
+            Ok(Look::InRange(packet)) => self.keep(place, &packet),
+            Ok(Look::Other) => Ok(()),
+            Ok(Look::Early) => unreachable!(),
             Err(fault) => Err(NoReport::Reason(reason_of(place, fault))),
         }
     }
 
-    // Puts the symbol of the packet at a place into its block's group, or tells the column in which it isn't certified.
+    // Puts the symbol of the packet at a place into its block's group, and the place behind the carriers' where it is one,
+    // or tells the column in which the symbol isn't certified.
     fn keep(&mut self, place: usize, packet: &Packet<'_>) -> Result<(), NoReport>
         requires range { in_range (packet_of packet.now) self.old.symbols.fti ≡ true }
         requires symbol { length packet.now.symbol.now ≡ self.old.symbols.fti.symbol_length }
@@ -130,6 +134,8 @@ impl<'a> Walk<'a> {
             (uncertified self.old.symbols [] (symbol_of (packet_of packet.now)) ≡ None) }
         ensures put { OnOk result (IsPut (groups_of self.old.groups.items) place
             (symbol_of (packet_of packet.now)) (groups_of self.new.groups.items)) }
+        ensures carriers { OnOk result
+            (self.new.carriers.items ≡ with_carrier self.old.carriers.items place packet.now.fti) }
         ensures no_report { IfErr result (IsNotKept self.old.symbols place (packet_of packet.now)) }
     {
         match first_wrong_column_of(&mut self.symbols, self.object, packet) {
@@ -137,6 +143,7 @@ impl<'a> Walk<'a> {
             None => {}
         }
         put(&mut self.groups, place, packet)?;
+        put_carrier(&mut self.carriers, place, packet)?;
         self.came = true;
         Ok(())
     }
@@ -157,13 +164,17 @@ impl<'a> Walk<'a> {
             return Err(NoReport::Reason(Reason::Empty));
         }
         let blocks = block_lines(alloc, &self.groups)?;
+        if self.carriers.is_empty() {
+            return Err(NoReport::Reason(Reason::NoCarrier));
+        }
         let Figures {
             margin,
             kill,
             burst,
-        } = figures_of(alloc, &self.groups)?;
+        } = figures_of(alloc, &self.groups, &self.carriers)?;
         Ok(Report {
             blocks,
+            carriers: self.carriers.len(),
             margin,
             kill,
             burst,

@@ -1,8 +1,8 @@
 -- What passes send, and that all passes together send every encoding symbol in the order.
-use Rattle.std.proofs.Common.{◌≡◌, ℕ, ◌+◌, ◌-◌, ◌*◌, ◌/◌, ◌≤◌, List, [], ◌∷◌, ◌++◌, length, take, drop, refl, ap, ◌∙◌, inl, inr, arith}
+use Rattle.std.proofs.Common.{◌≡◌, ℕ, ◌+◌, ◌-◌, ◌*◌, ◌/◌, ◌≤◌, List, [], ◌∷◌, ◌++◌, Option, length, take, drop, refl, ap, sym, subst, ◌∙◌, inl, inr, arith}
 use Rattle.std.specs.Prelude.{flat_map}
 use Rattle.std.proofs.lemmas.Bool.{cases_lt}
-use Rattle.std.proofs.lemmas.List.{append-nil}
+use Rattle.std.proofs.lemmas.List.{append-nil, take_at}
 use Rattle.std.proofs.Math.Nat.{mul-le-mul_right, div-mul-le_self, le-div_iff_mul-le}
 use Rattle.lists.specs.Below.{below}
 use Rattle.partition.specs.Fti.{Fti, IsValidFti, source_count, encoding_count, large_blocks}
@@ -10,13 +10,14 @@ use Rattle.partition.proofs.Laws.{large_count, other_count}
 use Rattle.partition.specs.declared.order.Order.{Order}
 use Rattle.partition.specs.declared.order.Order.TheVariants.{Blocks, Rounds}
 use Rattle.alc.specs.Packet.{written}
-use Rattle.alc.specs.Written.{packet_from}
+use Rattle.alc.specs.Written.{header_size, packet_from}
+use Rattle.alc.proofs.Writes.{length-written}
 use Rattle.reception.specs.Symbols.{Agrees}
 use Rattle.coder.specs.Rows.{row_at}
-use Rattle.coder.specs.Sending.{pairs, IsSent}
+use Rattle.coder.specs.Sending.{pairs, fti_at, IsSent}
 use Rattle.coder.specs.Passes.{run_of, pairs_of_pass, passes}
 use Rattle.coder.proofs.EncodedRows.{row_between}
-use Rattle.coder.proofs.Sent.{fills, length_of_map}
+use Rattle.coder.proofs.Sent.{length_of_map}
 
 pub one_run : (b j : ℕ) → run_of b j 1 ≡ (b, j) ∷ []
 unfolding below
@@ -51,16 +52,23 @@ unfolding below
 by_passes Blocks f = append-nil (pairs_of_pass Blocks f 0)
 by_passes Rounds f = refl
 
--- a datagram that was written of a row
-pub sent_row : (object : List ℕ) (f : Fti) (t u b j size i n : ℕ) (rows old new : List ℕ) → size ≡ f.symbol_length
-    → Agrees f object (record { block = b; esi = j; bytes = row_at f.symbol_length rows i }) → length old ≤ n
-    → new ≡ written (packet_from t u f b j (take ((i + 1) * size - i * size) (drop (i * size) rows))) ++ drop n old
-    → IsSent object f t u (b, j) new
-sent_row object f t u b j size i n rows old new e agrees whole is =
-    let row : take ((i + 1) * size - i * size) (drop (i * size) rows) ≡ row_at f.symbol_length rows i = row_between size rows i ∙ ap (λ (v : ℕ). row_at v rows i) e in
+-- ---- one datagram
+
+-- a symbol that lies in rows
+pub row_agrees : (object : List ℕ) (f : Fti) (b j size i : ℕ) (rows : List ℕ) → size ≡ f.symbol_length → Agrees f object (record { block = b; esi = j; bytes = row_at f.symbol_length rows i })
+    → Agrees f object (record { block = b; esi = j; bytes = take ((i + 1) * size - i * size) (drop (i * size) rows) })
+row_agrees object f b j size i rows e agrees =
+    let row : row_at f.symbol_length rows i ≡ take ((i + 1) * size - i * size) (drop (i * size) rows) = ap (λ (v : ℕ). row_at v rows i) (sym e) ∙ sym (row_between size rows i) in
+    subst (λ (y : List ℕ). Agrees f object (record { block = b; esi = j; bytes = y })) row agrees
+
+-- what was written at the front of a buffer is the datagram
+pub sent_at : (object : List ℕ) (f : Fti) (t u every place b j size : ℕ) (fti : Option Fti) (y new rest : List ℕ) → Agrees f object (record { block = b; esi = j; bytes = y })
+    → fti ≡ fti_at f every place → size ≡ header_size fti + length y → new ≡ written (packet_from t u fti b j y) ++ rest
+    → IsSent object f t u every (record { place = place; block = b; esi = j }) (take size new)
+sent_at object f t u every place b j size fti y new rest agrees carries long is =
+    let whole : length (written (packet_from t u fti b j y)) ≡ size = length-written t u fti b j y ∙ sym long in
     record {
-      symbol = row_at f.symbol_length rows i;
+      symbol = y;
       agrees = agrees;
-      spelling = fills (written (packet_from t u f b j (take ((i + 1) * size - i * size) (drop (i * size) rows)))) old new n whole is
-          ∙ ap (λ (y : List ℕ). written (packet_from t u f b j y)) row;
+      spelling = ap (take size) is ∙ take_at (written (packet_from t u fti b j y)) rest size whole ∙ ap (λ (o : Option Fti). written (packet_from t u o b j y)) carries;
     }

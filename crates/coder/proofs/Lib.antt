@@ -5,3 +5,4 @@ pub mod Sent
 pub mod Places
 pub mod SessionReadings
 pub mod SourcePlaces
+mod Vectors

@@ -1,17 +1,17 @@
 -- Datagrams that are sent one after the other, and the lists of encoding symbols that grow by it.
-use Rattle.std.proofs.Common.{◌≡◌, ℕ, zero, suc, ◌+◌, ◌-◌, ◌*◌, ◌<◌, ◌≤◌, List, [], ◌∷◌, ◌++◌, Option, Some, None, length, map, arith, refl, ap, sym, subst, ◌∙◌, append_assoc, drop, length-append, true, false, Result, Ok, Err, IfErr}
-use Rattle.std.specs.Prelude.{flat_map, nat_lt}
+use Rattle.std.proofs.Common.{◌≡◌, ℕ, zero, suc, ◌+◌, ◌-◌, ◌<◌, ◌≤◌, List, [], ◌∷◌, ◌++◌, Option, Some, None, length, map, arith, refl, ap, sym, subst, ◌∙◌, append_assoc, length-append, true, false, Result, Ok, Err}
+use Rattle.std.specs.Prelude.{OnErr, flat_map, nat_lt}
 use Rattle.std.proofs.lemmas.Bool.{lt-ltb, le-ltb}
-use Rattle.std.proofs.lemmas.List.{append-nil, map-append, drop_all, length-map}
+use Rattle.std.proofs.lemmas.List.{append-nil, map-append, length-map}
+use Rattle.std.proofs.lemmas.List.Sums.{sum_by-append}
 use Rattle.std.proofs.lemmas.Grind.{flat_map-append}
 use Rattle.std.specs.Io.KnownBytes.{Appends}
-use Rattle.gf256.proofs.RowPlaces.{rows_apart, rows_fit}
 use Rattle.lists.specs.Below.{below}
 use Rattle.lists.proofs.Below.{length_below}
 use Rattle.partition.specs.Fti.{Fti, encoding_count}
 use Rattle.session.specs.Frames.{frame, frames, AppendsSome}
 use Rattle.session.proofs.Writes.{then_appends, then_some as then_some_bytes}
-use Rattle.coder.specs.Sending.{IsSent, AreSent, Sends, SendsSome, pair_with}
+use Rattle.coder.specs.Sending.{Item, IsSent, AreSent, Sends, SendsSome, items_from, frame_bytes, session_bytes, pair_with}
 
 -- ---- numbers below a bound
 
@@ -51,78 +51,82 @@ module _ {A : Type 0} (g : ℕ → List A) where
       let r = below_later m n le in
       (flat_map g r.0, ap (flat_map g) r.1 ∙ flat_map-append g (below m) r.0)
 
+-- ---- the places of encoding symbols that follow one another
+
+items_append : (i : ℕ) (ps qs : List (ℕ × ℕ)) → items_from i (ps ++ qs) ≡ items_from i ps ++ items_from (i + length ps) qs
+items_append i [] qs = let e : i ≡ i + 0 = omega arith in ap (λ (n : ℕ). items_from n qs) e
+items_append i (p ∷ ps) qs =
+    let e : i + 1 + length ps ≡ i + suc (length ps) = omega arith in
+    ap (λ (xs : List Item). record { place = i; block = p.0; esi = p.1 } ∷ xs) (items_append (i + 1) ps qs ∙ ap (λ (n : ℕ). items_from (i + 1) ps ++ items_from n qs) e)
+
 -- ---- what was sent
 
-sent_append : (object : List ℕ) (f : Fti) (t u : ℕ) (ps qs : List (ℕ × ℕ)) (ds es : List (List ℕ)) → AreSent object f t u ps ds → AreSent object f t u qs es
-    → AreSent object f t u (ps ++ qs) (ds ++ es)
-sent_append object f t u [] qs [] es h g = g
-sent_append object f t u [] qs (d ∷ ds) es h g = absurd h
-sent_append object f t u (p ∷ ps) qs [] es h g = absurd h
-sent_append object f t u (p ∷ ps) qs (d ∷ ds) es h g = (h.0, sent_append object f t u ps qs ds es h.1 g)
+module _ (object : List ℕ) (f : Fti) (t u every : ℕ) where
+  sent_append : (xs ys : List Item) (ds es : List (List ℕ)) → AreSent object f t u every xs ds → AreSent object f t u every ys es → AreSent object f t u every (xs ++ ys) (ds ++ es)
+  sent_append [] ys [] es h g = g
+  sent_append [] ys (d ∷ ds) es h g = absurd h
+  sent_append (x ∷ xs) ys [] es h g = absurd h
+  sent_append (x ∷ xs) ys (d ∷ ds) es h g = (h.0, sent_append xs ys ds es h.1 g)
 
 nothing_appended : (a : Option (List ℕ)) → Appends a a []
 nothing_appended None = tt
 nothing_appended (Some x) = sym (append-nil x)
 
-module _ (object : List ℕ) (f : Fti) (t u : ℕ) where
-  pub nothing_sent : (a : Option (List ℕ)) → Sends object f t u [] a a
+module _ (object : List ℕ) (f : Fti) (t u every : ℕ) where
+  pub nothing_sent : (a : Option (List ℕ)) → Sends object f t u every [] a a
   nothing_sent a = record { datagrams = []; sent = tt; gained = nothing_appended a }
 
-  pub one_sent : (p : ℕ × ℕ) (d : List ℕ) (a b : Option (List ℕ)) → IsSent object f t u p d → Appends a b (frame d) → Sends object f t u (p ∷ []) a b
-  one_sent p d a b is gained = record {
+  pub one_sent : (x : Item) (d : List ℕ) (a b : Option (List ℕ)) → IsSent object f t u every x d → Appends a b (frame d) → Sends object f t u every (x ∷ []) a b
+  one_sent x d a b is gained = record {
     datagrams = d ∷ [];
     sent = (is, tt);
-    gained = subst (λ (x : List ℕ). Appends a b x) (sym (append-nil (frame d))) gained;
+    gained = subst (λ (y : List ℕ). Appends a b y) (sym (append-nil (frame d))) gained;
   }
 
-  pub one_some : (p : ℕ × ℕ) (d : List ℕ) (a b : Option (List ℕ)) → IsSent object f t u p d → AppendsSome a b (frame d) → SendsSome object f t u (p ∷ []) a b
-  one_some p d a b is gained = record {
-    front = p ∷ [];
+  pub one_some : (x : Item) (d : List ℕ) (a b : Option (List ℕ)) → IsSent object f t u every x d → AppendsSome a b (frame d) → SendsSome object f t u every (x ∷ []) a b
+  one_some x d a b is gained = record {
+    front = x ∷ [];
     later = [];
     whole = refl;
     datagrams = d ∷ [];
     sent = (is, tt);
-    gained = subst (λ (x : List ℕ). AppendsSome a b x) (sym (append-nil (frame d))) gained;
+    gained = subst (λ (y : List ℕ). AppendsSome a b y) (sym (append-nil (frame d))) gained;
   }
 
-  pub then_sends : (ps qs : List (ℕ × ℕ)) (a b c : Option (List ℕ)) → Sends object f t u ps a b → Sends object f t u qs b c → Sends object f t u (ps ++ qs) a c
-  then_sends ps qs a b c h g = record {
+  then_sends : (xs ys : List Item) (a b c : Option (List ℕ)) → Sends object f t u every xs a b → Sends object f t u every ys b c → Sends object f t u every (xs ++ ys) a c
+  then_sends xs ys a b c h g = record {
     datagrams = h.datagrams ++ g.datagrams;
-    sent = sent_append object f t u ps qs h.datagrams g.datagrams h.sent g.sent;
+    sent = sent_append object f t u every xs ys h.datagrams g.datagrams h.sent g.sent;
     gained = subst (λ (x : List ℕ). Appends a c x) (sym (flat_map-append frame h.datagrams g.datagrams))
         (then_appends a b c (frames h.datagrams) (frames g.datagrams) h.gained g.gained);
   }
 
-  pub then_some : (ps qs : List (ℕ × ℕ)) (a b c : Option (List ℕ)) → Sends object f t u ps a b → SendsSome object f t u qs b c → SendsSome object f t u (ps ++ qs) a c
-  then_some ps qs a b c h g = record {
-    front = ps ++ g.front;
+  then_some : (xs ys : List Item) (a b c : Option (List ℕ)) → Sends object f t u every xs a b → SendsSome object f t u every ys b c → SendsSome object f t u every (xs ++ ys) a c
+  then_some xs ys a b c h g = record {
+    front = xs ++ g.front;
     later = g.later;
-    whole = ap (λ (l : List (ℕ × ℕ)). ps ++ l) g.whole ∙ sym (append_assoc ps g.front g.later);
+    whole = ap (λ (l : List Item). xs ++ l) g.whole ∙ sym (append_assoc xs g.front g.later);
     datagrams = h.datagrams ++ g.datagrams;
-    sent = sent_append object f t u ps g.front h.datagrams g.datagrams h.sent g.sent;
+    sent = sent_append object f t u every xs g.front h.datagrams g.datagrams h.sent g.sent;
     gained = subst (λ (x : List ℕ). AppendsSome a c x) (sym (flat_map-append frame h.datagrams g.datagrams))
         (then_some_bytes a b c (frames h.datagrams) (frames g.datagrams) h.gained g.gained);
   }
 
-  pub some_of : (ps qs later : List (ℕ × ℕ)) (a b : Option (List ℕ)) → qs ≡ ps ++ later → SendsSome object f t u ps a b → SendsSome object f t u qs a b
-  some_of ps qs later a b is h = record {
+  some_of : (xs ys later : List Item) (a b : Option (List ℕ)) → ys ≡ xs ++ later → SendsSome object f t u every xs a b → SendsSome object f t u every ys a b
+  some_of xs ys later a b is h = record {
     front = h.front;
     later = h.later ++ later;
-    whole = is ∙ ap (λ (l : List (ℕ × ℕ)). l ++ later) h.whole ∙ append_assoc h.front h.later later;
+    whole = is ∙ ap (λ (l : List Item). l ++ later) h.whole ∙ append_assoc h.front h.later later;
     datagrams = h.datagrams;
     sent = h.sent;
     gained = h.gained;
   }
 
--- bytes that fill all of a buffer
-pub fills : (p out new : List ℕ) (n : ℕ) → length out ≤ n → new ≡ p ++ drop n out → new ≡ p
-fills p out new n le is = is ∙ ap (λ (l : List ℕ). p ++ l) (drop_all n out le) ∙ append-nil p
-
--- ---- what was sent, number by number
-
-pub if_err : {T E : Type 0} (r : Result T E) (X : Type 0) → X → IfErr r (λ _. X)
+pub if_err : {T E : Type 0} (r : Result T E) (X : Type 0) → X → OnErr r X
 if_err (Ok x) X h = tt
 if_err (Err e) X h = h
+
+-- ---- the lists of encoding symbols, number by number
 
 pub with_pair : (f : Fti) (j b : ℕ) → j < encoding_count f b → pair_with f j b ≡ (b, j) ∷ []
 with_pair f j b lt = let t : nat_lt j (encoding_count f b) ≡ true = lt-ltb _ _ lt in rw t refl
@@ -136,47 +140,54 @@ length_of_map g n = length-map (below n) g ∙ length_below n
 pub length_next : {A : Type 0} (g : ℕ → List A) (n : ℕ) → length (flat_map g (below (n + 1))) ≡ length (flat_map g (below n)) + length (g n)
 length_next g n = ap length (flat_next g n) ∙ length-append (flat_map g (below n)) (g n)
 
-pub length_within : {A : Type 0} (g : ℕ → List A) (m n : ℕ) → m < n → length (flat_map g (below m)) + length (g m) ≤ length (flat_map g (below n))
-length_within g m n lt =
+-- ---- what was sent, and the writer's room, list behind list
+
+module _ (object : List ℕ) (f : Fti) (t u every i next : ℕ) (ps qs : List (ℕ × ℕ)) (at : next ≡ i + length ps) (a b c : Option (List ℕ)) where
+  pub behind_sends : (whole : List (ℕ × ℕ)) → whole ≡ ps ++ qs → Sends object f t u every (items_from i ps) a b → Sends object f t u every (items_from next qs) b c
+      → Sends object f t u every (items_from i whole) a c
+  behind_sends whole is h g =
+      subst (λ (xs : List Item). Sends object f t u every xs a c) (sym (ap (items_from i) is ∙ items_append i ps qs))
+      (then_sends object f t u every (items_from i ps) (items_from (i + length ps) qs) a b c h (subst (λ (n : ℕ). Sends object f t u every (items_from n qs) b c) at g))
+
+  pub behind_some : (whole later : List (ℕ × ℕ)) → whole ≡ (ps ++ qs) ++ later → Sends object f t u every (items_from i ps) a b → SendsSome object f t u every (items_from next qs) b c
+      → SendsSome object f t u every (items_from i whole) a c
+  behind_some whole later is h g =
+      some_of object f t u every (items_from i ps ++ items_from (i + length ps) qs) (items_from i whole) (items_from (i + length (ps ++ qs)) later) a c
+      (ap (items_from i) is ∙ items_append i (ps ++ qs) later ∙ ap (λ (xs : List Item). xs ++ items_from (i + length (ps ++ qs)) later) (items_append i ps qs))
+      (then_some object f t u every (items_from i ps) (items_from (i + length ps) qs) a b c h (subst (λ (n : ℕ). SendsSome object f t u every (items_from n qs) b c) at g))
+
+module _ (f : Fti) (every : ℕ) where
+  bytes_append : (i : ℕ) (ps qs : List (ℕ × ℕ)) → session_bytes f every (items_from i (ps ++ qs)) ≡ session_bytes f every (items_from i ps) + session_bytes f every (items_from (i + length ps) qs)
+  bytes_append i ps qs =
+      ap (session_bytes f every) (items_append i ps qs)
+      ∙ sum_by-append (λ (x : Item). frame_bytes f every x.place) (items_from i ps) (items_from (i + length ps) qs)
+
+  pub one_frame : (i : ℕ) (p : ℕ × ℕ) → session_bytes f every (items_from i (p ∷ [])) ≡ frame_bytes f every i
+  one_frame i p = omega arith
+
+  module _ (i next : ℕ) (ps qs : List (ℕ × ℕ)) (at : next ≡ i + length ps) (a b : ℕ) where
+    pub behind_room : (c : ℕ) (whole : List (ℕ × ℕ)) → whole ≡ ps ++ qs → a ≤ b + session_bytes f every (items_from i ps) → b ≤ c + session_bytes f every (items_from next qs)
+        → a ≤ c + session_bytes f every (items_from i whole)
+    behind_room c whole is h g =
+        let all = ap (λ (l : List (ℕ × ℕ)). session_bytes f every (items_from i l)) is ∙ bytes_append i ps qs in
+        let same = ap (λ (n : ℕ). session_bytes f every (items_from n qs)) at in
+        omega (arith, h, g, all, same)
+
+    pub behind_short : (whole later : List (ℕ × ℕ)) → whole ≡ (ps ++ qs) ++ later → a ≤ b + session_bytes f every (items_from i ps) → b < session_bytes f every (items_from next qs)
+        → a < session_bytes f every (items_from i whole)
+    behind_short whole later is h g =
+        let one = bytes_append i ps qs in
+        let all = ap (λ (l : List (ℕ × ℕ)). session_bytes f every (items_from i l)) is ∙ bytes_append i (ps ++ qs) later in
+        let same = ap (λ (n : ℕ). session_bytes f every (items_from n qs)) at in
+        omega (arith, h, g, one, all, same)
+
+-- a list up to a number, that number's part, and the rest
+pub map_parts : {A : Type 0} (g : ℕ → A) (m n : ℕ) → m < n → (later : List A) × (map g (below n) ≡ (map g (below m) ++ g m ∷ []) ++ later)
+map_parts {A} g m n lt =
+    let r = map_later g (m + 1) n (omega arith) in
+    (r.0, r.1 ∙ ap (λ (l : List A). l ++ r.0) (map_next g m))
+
+pub flat_parts : {A : Type 0} (g : ℕ → List A) (m n : ℕ) → m < n → (later : List A) × (flat_map g (below n) ≡ (flat_map g (below m) ++ g m) ++ later)
+flat_parts {A} g m n lt =
     let r = flat_later g (m + 1) n (omega arith) in
-    let whole : length (flat_map g (below n)) ≡ length (flat_map g (below (m + 1))) + length r.0 = ap length r.1 ∙ length-append (flat_map g (below (m + 1))) r.0 in
-    omega (arith, whole, length_next g m)
-
--- ---- the writer's room, by frames of e bytes
-
-pub length_frame : (d : List ℕ) → length (frame d) ≡ 2 + length d
-length_frame d = let e : length (frame d) ≡ suc (suc (length d)) = refl in omega (arith, e)
-
-pub room_next : (a b c s l e : ℕ) → a ≤ b + s * e → b ≤ c + l * e → a ≤ c + (s + l) * e
-room_next a b c s l e h k = let apart = rows_apart s l e in omega (arith, h, k, apart)
-
-pub room_short : (a b s l n e : ℕ) → a ≤ b + s * e → b < l * e → s + l ≤ n → a < n * e
-room_short a b s l n e h k le = let fit = rows_fit s l n e le in omega (arith, h, k, fit)
-
--- the same of an equal list of encoding symbols
-pub sends_as : (object : List ℕ) (f : Fti) (t u : ℕ) (a b : Option (List ℕ)) (ps qs : List (ℕ × ℕ)) → qs ≡ ps → Sends object f t u ps a b → Sends object f t u qs a b
-sends_as object f t u a b ps qs e h = subst (λ (x : List (ℕ × ℕ)). Sends object f t u x a b) (sym e) h
-
-pub some_as : (object : List ℕ) (f : Fti) (t u : ℕ) (a b : Option (List ℕ)) (ps qs : List (ℕ × ℕ)) → qs ≡ ps → SendsSome object f t u ps a b → SendsSome object f t u qs a b
-some_as object f t u a b ps qs e h = subst (λ (x : List (ℕ × ℕ)). SendsSome object f t u x a b) (sym e) h
-
-module _ (object : List ℕ) (f : Fti) (t u : ℕ) (a b c : Option (List ℕ)) where
-  module _ (g : ℕ → ℕ × ℕ) where
-    pub map_sends : (m : ℕ) → Sends object f t u (map g (below m)) a b → Sends object f t u (g m ∷ []) b c → Sends object f t u (map g (below (m + 1))) a c
-    map_sends m h k = subst (λ (ps : List (ℕ × ℕ)). Sends object f t u ps a c) (sym (map_next g m)) (then_sends object f t u (map g (below m)) (g m ∷ []) a b c h k)
-
-    pub map_some : (m n : ℕ) → m < n → Sends object f t u (map g (below m)) a b → SendsSome object f t u (g m ∷ []) b c → SendsSome object f t u (map g (below n)) a c
-    map_some m n lt h k =
-        let r = map_later g (m + 1) n (omega arith) in
-        some_of object f t u (map g (below m) ++ g m ∷ []) (map g (below n)) r.0 a c (r.1 ∙ ap (λ (l : List (ℕ × ℕ)). l ++ r.0) (map_next g m))
-        (then_some object f t u (map g (below m)) (g m ∷ []) a b c h k)
-
-  module _ (g : ℕ → List (ℕ × ℕ)) where
-    pub flat_sends : (m : ℕ) → Sends object f t u (flat_map g (below m)) a b → Sends object f t u (g m) b c → Sends object f t u (flat_map g (below (m + 1))) a c
-    flat_sends m h k = subst (λ (ps : List (ℕ × ℕ)). Sends object f t u ps a c) (sym (flat_next g m)) (then_sends object f t u (flat_map g (below m)) (g m) a b c h k)
-
-    pub flat_some : (m n : ℕ) → m < n → Sends object f t u (flat_map g (below m)) a b → SendsSome object f t u (g m) b c → SendsSome object f t u (flat_map g (below n)) a c
-    flat_some m n lt h k =
-        let r = flat_later g (m + 1) n (omega arith) in
-        some_of object f t u (flat_map g (below m) ++ g m) (flat_map g (below n)) r.0 a c (r.1 ∙ ap (λ (l : List (ℕ × ℕ)). l ++ r.0) (flat_next g m))
-        (then_some object f t u (flat_map g (below m)) (g m) a b c h k)
+    (r.0, r.1 ∙ ap (λ (l : List A). l ++ r.0) (flat_next g m))

@@ -1,5 +1,5 @@
 -- What certifying an object promises of the sessions that are sent of it.
-use Rattle.std.specs.Prelude.{◌≡◌, ◌≢◌, ℕ, ◌<◌, ◌^◌, List, length}
+use Rattle.std.specs.Prelude.{◌≡◌, ◌≢◌, ℕ, ◌<◌, ◌≤◌, ◌^◌, List, length}
 use Rattle.partition.specs.Fti.{Fti}
 use Rattle.alc.specs.Reading.{Reading}
 use Rattle.reception.specs.declared.scope.Identity.{Identity}
@@ -25,14 +25,15 @@ identity_of tsi toi = record { tsi = tsi; toi = toi }
 -- it is one of every session that is sent of the object
 abbrev pub CertifiesSent : List ℕ → Certificate → Type 0
 CertifiesSent object z =
-    (tsi toi : ℕ) (order : Order) (session : List (List ℕ)) → tsi < 2 ^ 32 → toi < 2 ^ 32
-    → IsSessionOf object z.fti tsi toi order session → Certifies (identity_of tsi toi) z object session
+    (tsi toi every : ℕ) (order : Order) (session : List (List ℕ)) → tsi < 2 ^ 32 → toi < 2 ^ 32 → 1 ≤ every
+    → IsSessionOf object z.fti tsi toi every order session → Certifies (identity_of tsi toi) z object session
 
 -- a check of any such session, of its identity, says yes
 abbrev pub ChecksYes : List ℕ → Certificate → Type 0
 ChecksYes object z =
-    (tsi toi : ℕ) (order : Order) (session : List (List ℕ)) (verdict : Verdict) → tsi < 2 ^ 32 → toi < 2 ^ 32
-    → IsSessionOf object z.fti tsi toi order session → IsVerdict (identity_of tsi toi) session object z verdict → IsYes verdict
+    (tsi toi every : ℕ) (order : Order) (session : List (List ℕ)) (verdict : Verdict)
+    → tsi < 2 ^ 32 → toi < 2 ^ 32 → 1 ≤ every → IsSessionOf object z.fti tsi toi every order session
+    → IsVerdict (identity_of tsi toi) session object z verdict → IsYes verdict
 
 -- why an object wasn't certified
 abbrev pub IsCertifyFault : CertifyFault → List ℕ → Fti → Type 0

@@ -96,9 +96,9 @@ fn certify_blocks(
     }
 }
 
-/// The certificate of the object: one of each session that is sent of it, whatever its TSI, TOI and
-/// order. Memory is asked for two matrices at most, for the coefficients, and for those of one
-/// block.
+/// The certificate of the object: one of each session that is sent of it, whatever its TSI, TOI,
+/// order and carriers of the FTI. Memory is asked for two matrices at most, for the coefficients,
+/// and for those of one block.
 pub fn certify(alloc: Global, object: &[u8], fti: &Fti) -> Result<Certificate, CertifyFault>
     ensures fti { IfOk result (λ z. z.fti ≡ fti.now) }
     ensures gives { IfOk result (GivesObject object.now) }

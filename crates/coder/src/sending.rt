@@ -1,10 +1,12 @@
 //! Sending an object: its encoding symbols as the datagrams of a session.
-ghost use Rattle.std.specs.Prelude.{◌≡◌, ◌^◌, ◌≤◌, ◌<◌, ◌+◌, ◌*◌, true, length, IfOk, IfErr, OnOk, OnErr};
+ghost use Rattle.std.specs.Prelude.{◌≡◌, ◌^◌, ◌≤◌, ◌<◌, ◌+◌, ◌*◌, ◌∷◌, [], true, length, IfOk, IfErr, OnOk, OnErr};
+ghost use Rattle.alc.specs.Views.{lent};
+ghost use Rattle.reception.specs.Symbols.{Agrees};
 ghost use Rattle.partition.specs.Fti.{IsValidFti, block_count, encoding_count};
 ghost use Rattle.block_code.specs.Codes.{EachBlockHas};
 ghost use Rattle.block_code.specs.CodesOf.{IsCodeOf};
 ghost use Rattle.coder.specs.Passes.{run_of, pairs_in, pairs_of_pass, passes, at_once};
-ghost use Rattle.coder.specs.Sending.{pairs, Sends, SendsSome, CanBeSent, IsSendFault, most_symbol_bytes, frame_bytes};
+ghost use Rattle.coder.specs.Sending.{pairs, items, items_from, fti_at, Sends, SendsSome, CanBeSent, IsSendFault, most_symbol_bytes, frame_bytes, session_bytes};
 
 use crate::rows::encoding_symbols;
 use alc::{HEADER_SIZE, write};
@@ -43,40 +45,94 @@ impl From<AllocError> for SendFault {
 // The most bytes of an encoding symbol that can be sent.
 const MOST_SYMBOL_BYTES: u16 = (MOST_BYTES - HEADER_SIZE) as u16;
 
-/// What is sent of an object, and the codes of its blocks.
+/// What is sent of an object and how, and the codes of its blocks.
 #[derive(Drop)]
 struct Transmission<'a> {
     object: &'a [u8],
     tsi: u32,
     toi: u32,
     fti: Fti,
+    every: u32,
     codes: BlockCodes,
     ghost fits: { CanBeSent object.now fti },
+    ghost valid: { IsValidFti fti },
+    ghost some: { 1 ≤ every },
 }
 
-// Sends encoding symbols of a block, as many as there is room for, from ESI `first` on.
+impl Transmission<'_> {
+    // The FTI, where the datagram at this place of the session carries it.
+    fn fti_at(&self, place: u64) -> Option<&Fti>
+        ensures { lent result ≡ fti_at self.now.fti self.now.every place }
+    {
+        if place % u64::from(self.every) == 0 {
+            Some(&self.fti)
+        } else {
+            None
+        }
+    }
+}
+
+// Sends the datagram of an encoding symbol, at this place of the session. `datagram` has room for it.
+fn send_symbol<W: Write>(
+    t: &Transmission<'_>,
+    place: u64,
+    block: u32,
+    esi: u8,
+    symbol: &[u8],
+    datagram: &mut [u8],
+    writer: &mut W,
+) -> Result<(), SendFault>
+    requires agrees { Agrees t.now.fti t.now.object.now
+        (record { block = block; esi = esi; bytes = symbol.now }) }
+    requires datagram { length datagram.old ≡ 32 + t.now.fti.symbol_length }
+    ensures sent { OnOk result (Sends t.now.object.now t.now.fti t.now.tsi t.now.toi t.now.every
+        (items_from place ((block, esi) ∷ []))
+        (W.contents writer.old) (W.contents writer.new)) }
+    ensures some { OnErr result (SendsSome t.now.object.now t.now.fti t.now.tsi t.now.toi
+        t.now.every (items_from place ((block, esi) ∷ []))
+        (W.contents writer.old) (W.contents writer.new)) }
+    ensures io { IfErr result (λ e. (e ≡ SendFault.Io) × (W.failed writer.new ≡ true)) }
+    ensures full { OnErr result
+        (W.room writer.old < frame_bytes t.now.fti t.now.every place) }
+    ensures fills { OnOk result
+        (W.room writer.old ≤ W.room writer.new + frame_bytes t.now.fti t.now.every place) }
+{
+    let size = write(t.tsi, t.toi, t.fti_at(place), block, esi, symbol, datagram);
+    match write_one(writer, &datagram[..size]) {
+        Ok(()) => Ok(()),
+        Err(_) => Err(SendFault::Io),
+    }
+}
+
+// Sends encoding symbols of a block, as many as there is room for, from ESI `first` on, at the
+// places of the session from `place` on.
 fn send_symbols<W: Write>(
     t: &Transmission<'_>,
     symbols: &mut [u8],
     datagram: &mut [u8],
+    place: u64,
     block: u32,
     first: usize,
     count: usize,
     writer: &mut W,
 ) -> Result<(), SendFault>
     requires codes { EachBlockHas (IsCodeOf t.now.fti) t.now.fti t.now.codes }
+    requires place { place + count < 2 ^ 64 }
     requires block { block < block_count t.now.fti }
     requires within { first + count ≤ encoding_count t.now.fti block }
     requires symbols { length symbols.old ≡ count * t.now.fti.symbol_length }
     requires datagram { length datagram.old ≡ 32 + t.now.fti.symbol_length }
-    ensures sent { OnOk result (Sends t.now.object.now t.now.fti t.now.tsi t.now.toi
-        (run_of block first count) (W.contents writer.old) (W.contents writer.new)) }
-    ensures some { IfErr result (λ e. SendsSome t.now.object.now t.now.fti t.now.tsi t.now.toi
-        (run_of block first count) (W.contents writer.old) (W.contents writer.new)) }
+    ensures sent { OnOk result (Sends t.now.object.now t.now.fti t.now.tsi t.now.toi t.now.every
+        (items_from place (run_of block first count))
+        (W.contents writer.old) (W.contents writer.new)) }
+    ensures some { OnErr result (SendsSome t.now.object.now t.now.fti t.now.tsi t.now.toi
+        t.now.every (items_from place (run_of block first count))
+        (W.contents writer.old) (W.contents writer.new)) }
     ensures io { IfErr result (λ e. (e ≡ SendFault.Io) × (W.failed writer.new ≡ true)) }
-    ensures full { OnErr result (W.room writer.old < count * frame_bytes t.now.fti) }
-    ensures fills { OnOk result
-        (W.room writer.old ≤ W.room writer.new + count * frame_bytes t.now.fti) }
+    ensures full { OnErr result (W.room writer.old
+        < session_bytes t.now.fti t.now.every (items_from place (run_of block first count))) }
+    ensures fills { OnOk result (W.room writer.old ≤ W.room writer.new
+        + session_bytes t.now.fti t.now.every (items_from place (run_of block first count))) }
 {
     let code = t.codes.of(t.fti.k(block));
     encoding_symbols(t.object, &t.fti, block, code, first, count, symbols);
@@ -84,11 +140,7 @@ fn send_symbols<W: Write>(
     for i in 0..count {
         let symbol = &symbols[i * size..(i + 1) * size];
         let esi = (first + i) as u8;
-        write(t.tsi, t.toi, &t.fti, block, esi, symbol, datagram);
-        match write_one(writer, datagram) {
-            Ok(()) => {}
-            Err(_) => return Err(SendFault::Io),
-        }
+        send_symbol(t, place + i as u64, block, esi, symbol, datagram, writer)?;
     }
     Ok(())
 }
@@ -109,39 +161,43 @@ fn run(fti: &Fti, order: Order, pass: u8, block: u32) -> (usize, usize)
     }
 }
 
-// Sends one pass over the blocks, and tells how many datagrams.
+// Sends one pass over the blocks, at the places from `place` on, and tells the place behind it.
 fn send_pass<W: Write>(
     t: &Transmission<'_>,
     order: Order,
     pass: u8,
+    place: u64,
     symbols: &mut [u8],
     datagram: &mut [u8],
     writer: &mut W,
 ) -> Result<u64, SendFault>
     requires codes { EachBlockHas (IsCodeOf t.now.fti) t.now.fti t.now.codes }
+    requires place { place ≤ 2 ^ 40 }
     requires room { length symbols.old ≡ at_once order t.now.fti * t.now.fti.symbol_length }
     requires datagram { length datagram.old ≡ 32 + t.now.fti.symbol_length }
-    ensures sent { OnOk result (Sends t.now.object.now t.now.fti t.now.tsi t.now.toi
-        (pairs_of_pass order t.now.fti pass) (W.contents writer.old) (W.contents writer.new)) }
-    ensures count { IfOk result (λ n. n ≡ length (pairs_of_pass order t.now.fti pass)) }
-    ensures few { IfOk result (λ n. n ≤ 2 ^ 24 * 255) }
-    ensures some { IfErr result (λ e. SendsSome t.now.object.now t.now.fti t.now.tsi t.now.toi
-        (pairs_of_pass order t.now.fti pass) (W.contents writer.old) (W.contents writer.new)) }
+    ensures sent { OnOk result (Sends t.now.object.now t.now.fti t.now.tsi t.now.toi t.now.every
+        (items_from place (pairs_of_pass order t.now.fti pass))
+        (W.contents writer.old) (W.contents writer.new)) }
+    ensures next { IfOk result (λ n. n ≡ place + length (pairs_of_pass order t.now.fti pass)) }
+    ensures few { IfOk result (λ n. n ≤ place + 2 ^ 24 * 255) }
+    ensures some { OnErr result (SendsSome t.now.object.now t.now.fti t.now.tsi t.now.toi
+        t.now.every (items_from place (pairs_of_pass order t.now.fti pass))
+        (W.contents writer.old) (W.contents writer.new)) }
     ensures io { IfErr result (λ e. (e ≡ SendFault.Io) × (W.failed writer.new ≡ true)) }
-    ensures full { OnErr result
-        (W.room writer.old < length (pairs_of_pass order t.now.fti pass) * frame_bytes t.now.fti) }
-    ensures fills { OnOk result (W.room writer.old ≤ W.room writer.new
-        + length (pairs_of_pass order t.now.fti pass) * frame_bytes t.now.fti) }
+    ensures full { OnErr result (W.room writer.old < session_bytes t.now.fti t.now.every
+        (items_from place (pairs_of_pass order t.now.fti pass))) }
+    ensures fills { OnOk result (W.room writer.old ≤ W.room writer.new + session_bytes t.now.fti
+        t.now.every (items_from place (pairs_of_pass order t.now.fti pass))) }
 {
     let size = usize::from(t.fti.symbol_length());
-    let mut sent = 0;
+    let mut next = place;
     for block in 0..t.fti.block_count() {
         let (first, count) = run(&t.fti, order, pass, block);
         let room = &mut symbols[..count * size];
-        send_symbols(t, room, datagram, block, first, count, writer)?;
-        sent += count as u64;
+        send_symbols(t, room, datagram, next, block, first, count, writer)?;
+        next += count as u64;
     }
-    Ok(sent)
+    Ok(next)
 }
 
 // How many passes there are.
@@ -167,22 +223,22 @@ fn send_all<W: Write>(
     requires codes { EachBlockHas (IsCodeOf t.now.fti) t.now.fti t.now.codes }
     requires room { length symbols.old ≡ at_once order t.now.fti * t.now.fti.symbol_length }
     requires datagram { length datagram.old ≡ 32 + t.now.fti.symbol_length }
-    ensures sent { OnOk result (Sends t.now.object.now t.now.fti t.now.tsi t.now.toi
-        (pairs order t.now.fti) (W.contents writer.old) (W.contents writer.new)) }
+    ensures sent { OnOk result (Sends t.now.object.now t.now.fti t.now.tsi t.now.toi t.now.every
+        (items order t.now.fti) (W.contents writer.old) (W.contents writer.new)) }
     ensures count { IfOk result (λ n. n ≡ length (pairs order t.now.fti)) }
-    ensures some { IfErr result (λ e. SendsSome t.now.object.now t.now.fti t.now.tsi t.now.toi
-        (pairs order t.now.fti) (W.contents writer.old) (W.contents writer.new)) }
+    ensures some { OnErr result (SendsSome t.now.object.now t.now.fti t.now.tsi t.now.toi
+        t.now.every (items order t.now.fti) (W.contents writer.old) (W.contents writer.new)) }
     ensures io { IfErr result (λ e. (e ≡ SendFault.Io) × (W.failed writer.new ≡ true)) }
-    ensures full { OnErr result
-        (W.room writer.old < length (pairs order t.now.fti) * frame_bytes t.now.fti) }
-    ensures fills { OnOk result (W.room writer.old
-        ≤ W.room writer.new + length (pairs order t.now.fti) * frame_bytes t.now.fti) }
+    ensures full { OnErr result (W.room writer.old
+        < session_bytes t.now.fti t.now.every (items order t.now.fti)) }
+    ensures fills { OnOk result (W.room writer.old ≤ W.room writer.new
+        + session_bytes t.now.fti t.now.every (items order t.now.fti)) }
 {
-    let mut sent = 0;
+    let mut place = 0;
     for pass in 0..pass_count(&t.fti, order) {
-        sent += send_pass(t, order, pass, symbols, datagram, writer)?;
+        place = send_pass(t, order, pass, place, symbols, datagram, writer)?;
     }
-    Ok(sent)
+    Ok(place)
 }
 
 // How many encoding symbols are made at once: all of the greatest block, or one.
@@ -198,9 +254,11 @@ fn most_at_once(fti: &Fti, order: Order) -> usize
 }
 
 /// Sends the object: writes the frame of the datagram of each encoding symbol of each block, source
-/// symbols among them (RFC 5510, section 8), in this order, and tells how many datagrams. All
-/// memory is asked for before the first byte is written: two generator matrices at most, and room
-/// for one datagram and for the encoding symbols that are made at once: a block's, or in order
+/// symbols among them (RFC 5510, section 8), in this order, and tells how many datagrams. Those at
+/// the places that `every` divides, 0 among them, carry the FTI, and no others.
+///
+/// All memory is asked for before the first byte is written: two generator matrices at most, and
+/// room for one datagram and for the encoding symbols that are made at once: a block's, or in order
 /// `Rounds` one. `Io` comes only where the writer has failed, and never where it is sure to have
 /// room for the whole session.
 pub fn encode<W: Write>(
@@ -209,17 +267,19 @@ pub fn encode<W: Write>(
     tsi: u32,
     toi: u32,
     fti: &Fti,
+    every: u32,
     order: Order,
     writer: &mut W,
 ) -> Result<u64, SendFault>
-    ensures sent { OnOk result (Sends object.now fti.now tsi toi (pairs order fti.now)
+    requires every { 1 ≤ every }
+    ensures sent { OnOk result (Sends object.now fti.now tsi toi every (items order fti.now)
         (W.contents writer.old) (W.contents writer.new)) }
     ensures count { IfOk result (λ n. n ≡ length (pairs order fti.now)) }
     ensures can { OnOk result (CanBeSent object.now fti.now) }
-    ensures fault { IfErr result (λ e. IsSendFault e object.now fti.now tsi toi order
+    ensures fault { IfErr result (λ e. IsSendFault e object.now fti.now tsi toi every order
         (W.contents writer.old) (W.contents writer.new) (W.failed writer.new)) }
     ensures full { IfErr result (λ e. e ≡ SendFault.Io
-        → W.room writer.old < length (pairs order fti.now) * frame_bytes fti.now) }
+        → W.room writer.old < session_bytes fti.now every (items order fti.now)) }
 {
     if object.len() as u64 != fti.transfer_length() {
         return Err(SendFault::Length);
@@ -236,6 +296,7 @@ pub fn encode<W: Write>(
         tsi,
         toi,
         fti: *fti,
+        every,
         codes,
     };
     send_all(&transmission, order, &mut symbols, &mut datagram, writer)

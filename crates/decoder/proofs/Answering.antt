@@ -53,19 +53,19 @@ module _ (f : Fti) (at : ℕ → ℕ → Option (List ℕ)) (s : Stand f at) whe
       omega (arith, held_is f s.arrivals at b s.index s.within (omega (arith, counts f valid b hb)), leb-true _ _ (full b hb))
 
 -- what is received stands
-pub stand_of : (who : Identity) (ds : List (List ℕ)) (f : Fti) (at : ℕ → ℕ → Option (List ℕ)) → ReadAll ds (readings_of ds) → AreReceived who ds f at → Stand f at
-stand_of who ds f at read r = record {
+pub stand_of : (who : Identity) (ds : List (List ℕ)) (f : Fti) (at : ℕ → ℕ → Option (List ℕ)) → AreReceived who ds f at → Stand f at
+stand_of who ds f at r = record {
   arrivals = symbols (counted who (readings_of ds));
   index = r.index;
-  within = within clash (asked who) ds (readings_of ds) f read r.clean;
+  within = within clash (asked who) (readings_of ds) f r.clean;
 }
 
 -- an answer to all symbols that stand so answers the datagrams
-pub answered : (who : Identity) (ds : List (List ℕ)) (f : Fti) (at : ℕ → ℕ → Option (List ℕ)) (v : value.Answer) → ReadAll ds (readings_of ds) → AreReceived who ds f at → Answers f at v
+pub answered : (who : Identity) (ds : List (List ℕ)) (f : Fti) (at : ℕ → ℕ → Option (List ℕ)) (v : value.Answer) → AreReceived who ds f at → Answers f at v
     → AnswerTo (reception_of who (readings_of ds)) v
-answered who ds f at v read r h =
+answered who ds f at v r h =
     answers_came (reception_of who (readings_of ds)) f v r.clean
-    (h (symbols (counted who (readings_of ds))) r.index (within clash (asked who) ds (readings_of ds) f read r.clean))
+    (h (symbols (counted who (readings_of ds))) r.index (within clash (asked who) (readings_of ds) f r.clean))
 
 -- what is so of a result is so of what follows
 pub if_ok : {A E : Type 0} (P Q : A → Type 0) (r : Result A E) → ((a : A) → P a → Q a) → IfOk r P → IfOk r Q

@@ -1,6 +1,6 @@
 -- A receiver that stands for a list of datagrams, and one datagram more.
-use Rattle.std.specs.Prelude.{if◌then◌else◌, not, filter, option_map, is_some, IsSome, Ok, Err}
-use Rattle.std.specs.List.{AllByRecursion}
+use Rattle.std.specs.Prelude.{if◌then◌else◌, not, filter, option_map, is_some, IsSome, Result, Ok, Err}
+use Rattle.std.specs.List.{AllByRecursion, list_any}
 use Rattle.std.proofs.Common.{◌≡◌, ◌≢◌, ℕ, zero, suc, ◌+◌, ◌<◌, ◌≤◌, Bool, true, false, List, [], ◌∷◌, ◌++◌, Option, Some, None, length, take, get_or, refl, sym, ap, subst, ◌∙◌, inl, inr, arith, length-append, ltb-true, leb-true}
 use Rattle.std.proofs.lemmas.Bool.{cases_Bool, cases_eq, le-leb, eq-eqb}
 use Rattle.lists.specs.Bytes.{AreBytes}
@@ -8,32 +8,35 @@ use Rattle.lists.specs.Below.{below}
 use Rattle.lists.proofs.Below.{one_missing}
 use Rattle.lists.proofs.Lists.{at_end, both}
 use Rattle.partition.specs.Fti.{Fti, IsValidFti, block_count, source_count, encoding_count}
-use Rattle.partition.proofs.Laws.{counts}
-use Rattle.alc.specs.Reading.{Reading}
+use Rattle.partition.proofs.Laws.{counts as block_counts}
+use Rattle.alc.specs.Reading.{Reading, Reads}
 use Rattle.alc.specs.Computed.{read_of}
 use Rattle.alc.specs.PacketFault.{same}
 use Rattle.alc.specs.Views.{packet_of}
 use Rattle.alc.specs.declared.reading.Packet.{Packet as ReadPacket}
-use Rattle.alc.proofs.Again.{reads}
+use Rattle.alc.proofs.Again.{reads, exact}
 use Rattle.alc.proofs.Chosen.{same_is, same_self}
 use Rattle.reception.specs.declared.scope.Identity.{Identity}
+use Rattle.reception.specs.declared.scope.Look.{Look}
+use Rattle.reception.specs.declared.scope.Look.TheVariants as look_at
 use Rattle.reception.specs.declared.scope.PlaceFault.{PlaceFault}
 use Rattle.reception.specs.declared.scope.Scope.{Scope}
 use Rattle.reception.specs.Symbols.{Symbol, is_full, arrived_count, Solvable, IsFirstUnsolvable}
 use Rattle.decoder.specs.Answers.{fault_value}
 use Rattle.decoder.specs.declared.answer.DecodeFault.{DecodeFault}
 use Rattle.decoder.specs.declared.answer.DecodeFault.TheVariants as fault
-use Rattle.reception.specs.Reception.{Wrong, ReadAll, Faulty, Judged, asked, learned, or_later, carried, symbol_of, counted, symbols, in_range, reception_with}
-use Rattle.reception.specs.Step.{IsLook}
+use Rattle.reception.specs.Reception.{Wrong, ReadAll, Faulty, Judged, Other, Early, asked, counts, is_of_identity, is_carrier, learned, or_later, carried, symbol_of, counted, symbols, in_range, look_by, look as look_of}
+use Rattle.reception.specs.Headline.{HasCarrier}
+use Rattle.reception.specs.Step.{IsLook, looked}
 use Rattle.reception.specs.Walks.{readings_of, Timely}
 use Rattle.reception.specs.Within.{IsWithin}
 use Rattle.reception.specs.Answer.{Answer, AnswerTo, Clash, Clashes, Fault, NotCode, IsAnswer, clash, clashes, reception_of}
 use Rattle.reception.specs.declared.scope.PlaceFault.TheVariants as place_fault
 use Rattle.reception.proofs.OneAnswer.{same_readings}
-use Rattle.reception.proofs.Looks.{faultless_look}
+use Rattle.reception.proofs.Carriers.{known_carrier, carrier_known}
+use Rattle.reception.proofs.Looks.{faultless_look, fti_after}
 use Rattle.reception.proofs.Walk.{identity_stays}
-use Rattle.reception.proofs.Stepping.{timely, after_packet}
-use Rattle.reception.proofs.Walking.{Walked, came_before, stops, goes_on, ends, came_all, symbols_passed, is_packet, packet_counts, passed_counts, passed_scope}
+use Rattle.reception.proofs.Walking.{Walked, came_before, one_behind, stops, goes_on, ends, came_all, symbols_passed, passed_counts, passed_scope, is_early}
 use Rattle.reception.proofs.Within.{within}
 use Rattle.decoder.specs.Columns.{ColumnExplained}
 use Rattle.decoder.specs.Decoded.{IsEnoughAt}
@@ -46,7 +49,7 @@ use Rattle.decoder.specs.Received.{IsIndex, AreReceived}
 use Rattle.decoder.specs.Stored.{IsStored}
 use Rattle.decoder.specs.Stands.{Stands, Keeps}
 use Rattle.decoder.specs.Fed.{HoldsFor, put_refusal}
-use Rattle.decoder.specs.Receiving.{LeaveNoneShort, IsFaultOf, with_datagram}
+use Rattle.decoder.specs.Receiving.{LeaveNoneShort, IsFaultOf, with_datagram, ComesEarly}
 use Rattle.decoder.specs.declared.stored.Stored.TheVariants as stored
 use Rattle.decoder.specs.declared.receiver.Receiver.{Receiver}
 use Rattle.decoder.specs.declared.store.Store.{Store}
@@ -76,19 +79,22 @@ read_more : (ds : List (List ℕ)) (d : List ℕ) → ReadAll ds (readings_of ds
 read_more [] d read bytes = (reads d bytes (read_of d) refl, tt)
 read_more (x ∷ xs) d read bytes = (read.0, read_more xs d read.1 bytes)
 
-timely_none : (g : Option Fti) (ss : List Symbol) → Timely g ss → g ≡ None → ss ≡ []
-timely_none (Some f) ss h e = absurd (cc)
-timely_none None ss h e = h
+-- no symbol came before the FTI was known
+timely_kept : (o : Option Store) (g : Option Fti) (arrivals : List Symbol) → Keeps o g arrivals → Timely g arrivals
+timely_kept None None arrivals h = h
+timely_kept (Some s) (Some g) arrivals h = tt
+timely_kept None (Some g) arrivals h = absurd h
+timely_kept (Some s) None arrivals h = absurd h
 
 -- what a store holds that has this FTI, where the symbols came
-held_by : (f : Fti) (o : Option Store) (g : Option Fti) (arrivals : List Symbol) → Keeps o g arrivals → (g ≡ None → arrivals ≡ []) → ((h : Fti) → g ≡ Some h → h ≡ f)
+held_by : (f : Fti) (o : Option Store) (g : Option Fti) (arrivals : List Symbol) → Keeps o g arrivals → ((h : Fti) → g ≡ Some h → h ≡ f)
     → (at : ℕ → ℕ → Option (List ℕ)) × IsIndex arrivals at × HoldsFor f o at
-held_by f None None arrivals h none is =
+held_by f None None arrivals h is =
     let at : ℕ → ℕ → Option (List ℕ) = λ b j. None in
-    (at, subst (λ (ss : List Symbol). IsIndex ss at) (sym (none refl)) (empty_index at (λ b j. refl)), λ b j. refl)
-held_by f (Some s) (Some g) arrivals h none is = (h.1.at, h.1.index, (h.0 ∙ is g refl, h.1.holds))
-held_by f None (Some g) arrivals h none is = absurd h
-held_by f (Some s) None arrivals h none is = absurd h
+    (at, subst (λ (ss : List Symbol). IsIndex ss at) (sym h) (empty_index at (λ b j. refl)), λ b j. refl)
+held_by f (Some s) (Some g) arrivals h is = (h.1.at, h.1.index, (h.0 ∙ is g refl, h.1.holds))
+held_by f None (Some g) arrivals h is = absurd h
+held_by f (Some s) None arrivals h is = absurd h
 
 -- a store that holds what the one before held keeps the same
 keeps_still : (f : Fti) (at : ℕ → ℕ → Option (List ℕ)) (o n : Option Store) (g : Option Fti) (arrivals : List Symbol) → Keeps o g arrivals → ((h : Fti) → g ≡ Some h → h ≡ f)
@@ -118,7 +124,7 @@ module _ (f : Fti) (valid : IsValidFti f) (o : Option Store) (at : ℕ → ℕ �
   put = with_symbol at b j y
 
   arrived : (a : ℕ) → a < block_count f → arrived_count arrivals a ≡ length (filter (λ i. is_some (put a i)) (below (encoding_count f a)))
-  arrived a ha = held_is f arrivals put a index all_within (counts f valid a ha).2
+  arrived a ha = held_is f arrivals put a index all_within (block_counts f valid a ha).2
 
   full_here : is_full f arrivals b ≡ true
   full_here =
@@ -136,7 +142,7 @@ module _ (f : Fti) (valid : IsValidFti f) (o : Option Store) (at : ℕ → ℕ �
       let same : put a ≡ at a = with_apart at b j y a (λ e. omega (arith, e, la)) in
       let enough : IsEnoughAt f a (put a) = omega (arith, leb-true (source_count f a) (arrived_count arrivals a) full, arrived a ha) in
       let own : IsStored f a (entry o a) (put a) = subst (λ (g : ℕ → Option (List ℕ)). IsStored f a (entry o a) g) (sym same) (entries f o at holds a) in
-      solvable_from f arrivals put index a (full_explained f a (entry o a) (put a) (counts f valid a ha).0 own enough)
+      solvable_from f arrivals put index a (full_explained f a (entry o a) (put a) (block_counts f valid a ha).0 own enough)
 
   first_unsolvable : IsFirstUnsolvable f arrivals b
   first_unsolvable = record { in_range = hb; full = full_here; unsolvable = unsolvable_here; least = solvable_before }
@@ -152,10 +158,10 @@ module _ (r : Receiver) (ds : List (List ℕ)) (stands : Stands r ds) (d : List 
   here = sym (at_end ds d [] (length ds) refl)
 
   walked : Walked clash (asked r.identity) all (length ds) old
-  walked = record {
-    clean = ap (λ (rs : List Reading). (reception_with clash (asked r.identity) rs).wrong) (front_of ds d) ∙ stands.clean;
-    holds = ap (λ (rs : List Reading). (reception_with clash (asked r.identity) rs).scope) (front_of ds d) ∙ sym is;
-  }
+  walked =
+      let c = reception_of r.identity (readings_of ds) in
+      subst (λ (s : Scope). Walked clash (asked r.identity) all (length ds) s) (sym is)
+      (one_behind clash (asked r.identity) ds d stands.clean (timely_kept r.store c.scope.fti c.symbols stands.symbols))
 
   came : came_before r.identity all (length ds) ≡ (reception_of r.identity (readings_of ds)).symbols
   came = ap (λ (rs : List Reading). symbols (counted r.identity rs)) (front_of ds d)
@@ -171,10 +177,63 @@ module _ (r : Receiver) (ds : List (List ℕ)) (stands : Stands r ds) (d : List 
     answers = stops clash (asked r.identity) all (length ds) old walked d new (Err e) inside here look (Faulty e) refl ∙ ap (λ (n : ℕ). Some (n, Faulty e)) (sym stands.count);
   }
 
+  known_who : old.identity ≡ r.identity
+  known_who = ap (λ (s : Scope). s.identity) is ∙ identity_stays (asked r.identity) (counted r.identity (readings_of ds))
+
+  -- without a carrier no FTI is known
+  none_known : ¬ HasCarrier r.identity ds → old.fti ≡ None
+  none_known none = by (reception_of r.identity (readings_of ds)).scope.fti refl
+    where
+      by : (o : Option Fti) → (reception_of r.identity (readings_of ds)).scope.fti ≡ o → old.fti ≡ None
+      by None e = ap (λ (s : Scope). s.fti) is ∙ e
+      by (Some f) e = absurd (none record { readings = readings_of ds; read = stands.read; carrier = known_carrier r.identity (readings_of ds) f e })
+
+  -- a packet that comes early is seen as one
+  seen_early : (answer : Result Look PlaceFault) → IsLook d old new answer → ComesEarly r.identity ds d → looked answer ≡ Ok Early
+  seen_early answer seen early =
+      let p = early.packet in
+      let read_is : seen.reading ≡ Ok p = sym (exact d seen.reading seen.reads) ∙ exact d (Ok p) early.reads in
+      let mine : is_of_identity old.identity p ≡ true = ap (λ (i : Identity). is_of_identity i p) known_who ∙ early.mine in
+      let counted_here : counts old.identity seen.reading ≡ true = ap (λ (x : Reading). counts old.identity x) read_is ∙ mine in
+      let now : new ≡ learned old seen.reading = seen.scope ∙ ap (λ (v : Bool). if v then learned old seen.reading else old) counted_here in
+      let none : new.fti ≡ None =
+      ap (λ (s : Scope). s.fti) now ∙ ap (λ (x : Reading). or_later old.fti (carried x)) read_is
+      ∙ ap (λ (o : Option Fti). or_later o p.fti) (none_known early.first) ∙ early.bare in
+      let still : is_of_identity new.identity p ≡ true = ap (λ (s : Scope). is_of_identity s.identity p) now ∙ mine in
+      seen.told ∙ ap (λ (x : Reading). look_of new x) read_is
+      ∙ ap (λ (v : Bool). if v then look_by new.fti p else Ok Other) still ∙ ap (λ (o : Option Fti). look_by o p) none
+
+  -- what is seen as another thing doesn't come early
+  pub not_early_fault : (e : PlaceFault) → IsLook d old new (Err e) → ¬ ComesEarly r.identity ds d
+  not_early_fault e seen early = let w = seen_early (Err e) seen early in cc
+
+  pub not_early_other : IsLook d old new (Ok look_at.Other) → ¬ ComesEarly r.identity ds d
+  not_early_other seen early = let w = seen_early (Ok look_at.Other) seen early in cc
+
+  pub not_early_packet : (p : ReadPacket) → IsLook d old new (Ok (look_at.InRange p)) → ¬ ComesEarly r.identity ds d
+  not_early_packet p seen early = let w = seen_early (Ok (look_at.InRange p)) seen early in cc
+
+  -- what is seen as early comes so
+  pub comes_early : IsLook d old new (Ok look_at.Early) → ComesEarly r.identity ds d
+  comes_early seen =
+      let e = is_early d old new seen in
+      let unknown : (reception_of r.identity (readings_of ds)).scope.fti ≡ None = ap (λ (s : Scope). s.fti) (sym is) ∙ e.unknown in
+      record {
+        packet = e.packet;
+        reads = subst (λ (x : Reading). Reads d x) e.is seen.reads;
+        mine = ap (λ (i : Identity). is_of_identity i e.packet) (sym known_who) ∙ e.counts;
+        bare = e.bare;
+        first = λ has.
+            let carrier = subst (λ (rs : List Reading). list_any (is_carrier r.identity) rs ≡ true) (same_readings ds has.readings (readings_of ds) has.read stands.read) has.carrier in
+            let w = carrier_known r.identity (readings_of ds) carrier in
+            let known = w.1 in
+            absurd (cc);
+      }
+
   -- a datagram that is passed over
-  module _ (look : IsLook d old new (Ok None)) where
+  module _ (look : IsLook d old new (Ok look_at.Other)) where
     on : Walked clash (asked r.identity) all (length ds + 1) new
-    on = goes_on clash (asked r.identity) all (length ds) old walked d new (Ok None) inside here look refl
+    on = goes_on clash (asked r.identity) all (length ds) old walked d new (Ok look_at.Other) inside here look tt refl
 
     over : length all ≤ length ds + 1
     over = omega (arith, length-append ds (d ∷ []))
@@ -185,7 +244,7 @@ module _ (r : Receiver) (ds : List (List ℕ)) (stands : Stands r ds) (d : List 
     same_symbols : (reception_of r.identity (readings_of all)).symbols ≡ (reception_of r.identity (readings_of ds)).symbols
     same_symbols =
         sym (came_all r.identity all (length ds + 1) over)
-        ∙ symbols_passed clash (asked r.identity) all (length ds) old walked d new (Ok None) inside here look (passed_counts d old new look) ∙ came
+        ∙ symbols_passed clash (asked r.identity) all (length ds) old walked d new (Ok look_at.Other) inside here look (passed_counts d old new look) ∙ came
 
     -- raises the count alone
     pub passed_over : Stands (record { identity = r.identity; store = r.store; accepted = r.accepted + 1 }) all
@@ -197,35 +256,19 @@ module _ (r : Receiver) (ds : List (List ℕ)) (stands : Stands r ds) (d : List 
           (subst (λ (ss : List Symbol). Keeps r.store (reception_of r.identity (readings_of ds)).scope.fti ss) (sym same_symbols) stands.symbols);
     }
 
-  module _ (p : ReadPacket) (look : IsLook d old new (Ok (Some p))) where
-    learns : new ≡ learned old look.reading
-    learns = look.scope ∙ ap (λ (v : Bool). if v then learned old look.reading else old) (packet_counts d old new p look)
+  module _ (p : ReadPacket) (look : IsLook d old new (Ok (look_at.InRange p))) (f : Fti) (known : new.fti ≡ Some f) where
+    range : in_range (packet_of p) f ≡ true
+    range = (faultless_look d old new p look f known).range
 
-    packet_scope : (f : Fti) × (new ≡ record { identity = old.identity; fti = Some f })
-    packet_scope =
-        let w = after_packet old (packet_of p) in
-        (w.0, learns ∙ ap (learned old) (is_packet d old new p look) ∙ w.1)
-
-    known : new.fti ≡ Some p.fti
-    known =
-        let w = packet_scope in
-        let e : new.fti ≡ Some w.0 = ap (λ (s : Scope). s.fti) w.1 in
-        let v = faultless_look d old new p look w.0 e in
-        e ∙ ap Some (sym v.fti)
-
-    range : in_range (packet_of p) p.fti ≡ true
-    range = (faultless_look d old new p look p.fti known).range
-
-    pub in_block : p.sbn < block_count p.fti
+    pub in_block : p.sbn < block_count f
     in_block = ltb-true _ _ (both _ _ range).0
 
-    pub in_esis : p.esi < encoding_count p.fti p.sbn
+    pub in_esis : p.esi < encoding_count f p.sbn
     in_esis = ltb-true _ _ (both _ _ range).1
 
-    old_fti : (h : Fti) → (reception_of r.identity (readings_of ds)).scope.fti ≡ Some h → h ≡ p.fti
+    old_fti : (h : Fti) → (reception_of r.identity (readings_of ds)).scope.fti ≡ Some h → h ≡ f
     old_fti h e =
-        let now : new.fti ≡ Some h =
-        ap (λ (s : Scope). s.fti) learns ∙ ap (λ (s : Scope). or_later s.fti (carried look.reading)) is ∙ ap (λ (o : Option Fti). or_later o (carried look.reading)) e in
+        let now = fti_after d old new (Ok (look_at.InRange p)) look h (ap (λ (s : Scope). s.fti) is ∙ e) in
         let k = known in
         cc
 
@@ -236,21 +279,20 @@ module _ (r : Receiver) (ds : List (List ℕ)) (stands : Stands r ds) (d : List 
         subst (λ (rs : List Reading). (reception_of r.identity rs).wrong ≡ Some (i, Faulty e)) (same_readings all answer.readings (readings_of all) answer.read read) answer.answers in
         elim (cases_Bool (clashes (came_before r.identity all (length ds)) (symbol_of (packet_of p)))) [
           | inl clash_here ↦
-              (let w = stops clash (asked r.identity) all (length ds) old walked d new (Ok (Some p)) inside here look (Judged Clashes) (clashed (came_before r.identity all (length ds)) (symbol_of (packet_of p)) clash_here) in
+              (let w = stops clash (asked r.identity) all (length ds) old walked d new (Ok (look_at.InRange p)) inside here look (Judged Clashes) (clashed (came_before r.identity all (length ds)) (symbol_of (packet_of p)) clash_here) in
               let e = ap tells_before (sym told ∙ w) in
               absurd (cc))
           | inr none_here ↦
-              (let on = goes_on clash (asked r.identity) all (length ds) old walked d new (Ok (Some p)) inside here look (unclashed_judge (came_before r.identity all (length ds)) (symbol_of (packet_of p)) none_here) in
+              (let on = goes_on clash (asked r.identity) all (length ds) old walked d new (Ok (look_at.InRange p)) inside here look tt (unclashed_judge (came_before r.identity all (length ds)) (symbol_of (packet_of p)) none_here) in
               let w = (ends clash (asked r.identity) all (length ds + 1) new on (omega (arith, length-append ds (d ∷ [])))).0 in
               let e = ap tells_before (sym told ∙ w) in
               absurd (cc))
         ]
 
     -- what the store holds, if there is one
-    pub held : (at : ℕ → ℕ → Option (List ℕ)) × IsIndex (reception_of r.identity (readings_of ds)).symbols at × HoldsFor p.fti r.store at
+    pub held : (at : ℕ → ℕ → Option (List ℕ)) × IsIndex (reception_of r.identity (readings_of ds)).symbols at × HoldsFor f r.store at
     held =
-        held_by p.fti r.store (reception_of r.identity (readings_of ds)).scope.fti (reception_of r.identity (readings_of ds)).symbols stands.symbols
-        (timely_none (reception_of r.identity (readings_of ds)).scope.fti (reception_of r.identity (readings_of ds)).symbols (timely (asked r.identity) (counted r.identity (readings_of ds))))
+        held_by f r.store (reception_of r.identity (readings_of ds)).scope.fti (reception_of r.identity (readings_of ds)).symbols stands.symbols
         old_fti
 
     module _ (at : ℕ → ℕ → Option (List ℕ)) (index : IsIndex (reception_of r.identity (readings_of ds)).symbols at) where
@@ -270,7 +312,7 @@ module _ (r : Receiver) (ds : List (List ℕ)) (stands : Stands r ds) (d : List 
           record {
             readings = readings_of all;
             read = read;
-            answers = stops clash (asked r.identity) all (length ds) old walked d new (Ok (Some p)) inside here look (Judged Clashes) (clashed (came_before r.identity all (length ds)) s says)
+            answers = stops clash (asked r.identity) all (length ds) old walked d new (Ok (look_at.InRange p)) inside here look (Judged Clashes) (clashed (came_before r.identity all (length ds)) s says)
                 ∙ ap (λ (n : ℕ). Some (n, Judged Clashes)) (sym stands.count);
           }
 
@@ -282,55 +324,57 @@ module _ (r : Receiver) (ds : List (List ℕ)) (stands : Stands r ds) (d : List 
           ∙ ap not (pointwise_same p.symbol.now p.symbol.now ∙ same_self p.symbol.now)
 
       module _ (may : MayStand (at p.sbn) p.esi p.symbol.now) where
-        scanned : Scanned r.identity all new (with_symbol at p.sbn p.esi p.symbol.now) (length ds + 1)
+        scanned : Scanned (asked r.identity) all new (with_symbol at p.sbn p.esi p.symbol.now) (length ds + 1)
         scanned =
-            receives r.identity all old at (length ds) record { walked = walked; index = earlier } d new p inside here look (with_symbol at p.sbn p.esi p.symbol.now) (no_clash may)
+            receives (asked r.identity) all old at (length ds) record { walked = walked; index = λ h e. earlier } d new p inside here look (with_symbol at p.sbn p.esi p.symbol.now) (no_clash may)
             (rw (eq-eqb p.sbn p.sbn refl, eq-eqb p.esi p.esi refl) refl) (λ b j other. rw other refl)
 
         whole : length all ≤ length ds + 1
         whole = omega (arith, length-append ds (d ∷ []))
 
-        got : AreReceived r.identity all p.fti (with_symbol at p.sbn p.esi p.symbol.now)
-        got = received r.identity all new (with_symbol at p.sbn p.esi p.symbol.now) (length ds + 1) scanned whole p.fti known
+        got : AreReceived r.identity all f (with_symbol at p.sbn p.esi p.symbol.now)
+        got =
+            let h = received (asked r.identity) all new (with_symbol at p.sbn p.esi p.symbol.now) (length ds + 1) scanned whole f known in
+            record { clean = h.0; index = h.1 }
 
         -- the receiver stands for the datagram too
-        pub accepted : (store : Option Store) → HoldsFor p.fti store (with_symbol at p.sbn p.esi p.symbol.now) → IsSome store
+        pub accepted : (store : Option Store) → HoldsFor f store (with_symbol at p.sbn p.esi p.symbol.now) → IsSome store
             → Stands (record { identity = r.identity; store = store; accepted = r.accepted + 1 }) all
         accepted store holds some = record {
           read = read;
           clean = got.clean.clean;
           count = (let n = stands.count in let l = length-append ds (d ∷ []) in omega (arith, n, l));
           symbols = subst (λ (g : Option Fti). Keeps store g (reception_of r.identity (readings_of all)).symbols) (sym got.clean.some)
-              (keeps_now p.fti (with_symbol at p.sbn p.esi p.symbol.now) store (reception_of r.identity (readings_of all)).symbols holds some got.index);
+              (keeps_now f (with_symbol at p.sbn p.esi p.symbol.now) store (reception_of r.identity (readings_of all)).symbols holds some got.index);
         }
 
         -- with the symbol its block is no object's
-        pub no_code_told : IsValidFti p.fti → HoldsFor p.fti r.store at → IsNoCode p.fti p.sbn (at p.sbn) p.esi p.symbol.now → IsAnswer r.identity all (NotCode p.sbn)
+        pub no_code_told : IsValidFti f → HoldsFor f r.store at → IsNoCode f p.sbn (at p.sbn) p.esi p.symbol.now → IsAnswer r.identity all (NotCode p.sbn)
         no_code_told valid holds none = record {
           readings = readings_of all;
           read = read;
           answers = (
-            p.fti,
+            f,
             got.clean,
-            first_unsolvable p.fti valid r.store at holds p.sbn p.esi p.symbol.now in_block none (reception_of r.identity (readings_of all)).symbols got.index
-                (within clash (asked r.identity) all (readings_of all) p.fti read got.clean),
+            first_unsolvable f valid r.store at holds p.sbn p.esi p.symbol.now in_block none (reception_of r.identity (readings_of all)).symbols got.index
+                (within clash (asked r.identity) (readings_of all) f got.clean),
           );
         }
 
       -- why the symbol isn't put is the answer
-      pub refusal_told : IsValidFti p.fti → HoldsFor p.fti r.store at → (v : PutFault) → IsPutFault p.fti p.sbn (at p.sbn) p.esi p.symbol.now v
+      pub refusal_told : IsValidFti f → HoldsFor f r.store at → (v : PutFault) → IsPutFault f p.sbn (at p.sbn) p.esi p.symbol.now v
           → IsFaultOf r.identity all (put_refusal r.accepted p.sbn v)
       refusal_told valid holds put_fault.Clash h = clash_told h
       refusal_told valid holds put_fault.NotCode h = no_code_told (inl h.free) valid holds h
       refusal_told valid holds put_fault.NoMemory h = tt
 
       -- the receiver stands for those before, where the store holds what it held
-      pub refused : (store : Option Store) → HoldsFor p.fti store at → is_some store ≡ is_some r.store → Stands (record { identity = r.identity; store = store; accepted = r.accepted }) ds
+      pub refused : (store : Option Store) → HoldsFor f store at → is_some store ≡ is_some r.store → Stands (record { identity = r.identity; store = store; accepted = r.accepted }) ds
       refused store holds kind = record {
         read = stands.read;
         clean = stands.clean;
         count = stands.count;
-        symbols = keeps_still p.fti at r.store store (reception_of r.identity (readings_of ds)).scope.fti (reception_of r.identity (readings_of ds)).symbols stands.symbols old_fti holds index kind;
+        symbols = keeps_still f at r.store store (reception_of r.identity (readings_of ds)).scope.fti (reception_of r.identity (readings_of ds)).symbols stands.symbols old_fti holds index kind;
       }
 
 -- ---- whether each block is solved
@@ -373,7 +417,7 @@ module _ (r : Receiver) (ds : List (List ℕ)) (stands : Stands r ds) (store : S
       let full : is_full store.fti (reception_of r.identity (readings_of ds)).symbols w.0 ≡ true =
       subst (λ (f : Fti). (b : ℕ) → b < block_count f → is_full f (reception_of r.identity (readings_of ds)).symbols b ≡ true) same_fti none.full w.0 w.1 in
       let arrived_at = arrived_is store valid k.1.at k.1.holds (reception_of r.identity (readings_of ds)).symbols k.1.index (all_within r ds stands store is) w.0 w.1 in
-      unsolved_short store.fti w.0 (kept_of store w.0) (k.1.at w.0) (counts store.fti valid w.0 w.1).0 (k.1.holds.blocks w.0) w.2
+      unsolved_short store.fti w.0 (kept_of store w.0) (k.1.at w.0) (block_counts store.fti valid w.0 w.1).0 (k.1.holds.blocks w.0) w.2
       (omega (arith, leb-true (source_count store.fti w.0) (arrived_count (reception_of r.identity (readings_of ds)).symbols w.0) full, arrived_at))
 
 -- the answer to them is no fault
@@ -398,11 +442,12 @@ module _ (r : Receiver) (ds : List (List ℕ)) (stands : Stands r ds) (store : S
   pub no_fault : (e : DecodeFault) → IsAnswer r.identity ds (fault_value e) → ⊥
   no_fault (fault.Packet i e) answer = no_place i (Faulty (place_fault.NoPacket e)) answer
   no_fault (fault.OtherFti i) answer = no_place i (Faulty place_fault.OtherFti) answer
+  no_fault (fault.SymbolLength i) answer = no_place i (Faulty place_fault.SymbolLength) answer
   no_fault (fault.Range i) answer = no_place i (Faulty place_fault.Range) answer
   no_fault (fault.Clash i) answer = no_place i (Judged Clashes) answer
   no_fault (fault.NotCode b) answer = no_code b answer
 
--- where there is no store nothing came, and that is no fault
+-- where there is no store no carrier came, and that is no fault
 pub no_fault_none : (r : Receiver) (ds : List (List ℕ)) → Stands r ds → r.store ≡ None → (e : DecodeFault) → IsAnswer r.identity ds (fault_value e) → ⊥
 no_fault_none r ds stands is e answer = by e answer
   where
@@ -415,6 +460,7 @@ no_fault_none r ds stands is e answer = by e answer
     by : (f : DecodeFault) → IsAnswer r.identity ds (fault_value f) → ⊥
     by (fault.Packet i x) given = place i (Faulty (place_fault.NoPacket x)) given
     by (fault.OtherFti i) given = place i (Faulty place_fault.OtherFti) given
+    by (fault.SymbolLength i) given = place i (Faulty place_fault.SymbolLength) given
     by (fault.Range i) given = place i (Faulty place_fault.Range) given
     by (fault.Clash i) given = place i (Judged Clashes) given
     by (fault.NotCode b) given =

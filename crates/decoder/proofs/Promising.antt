@@ -4,16 +4,16 @@ use Rattle.partition.specs.Fti.{Fti}
 use Rattle.lists.specs.Selection.{chosen}
 use Rattle.reception.specs.declared.scope.Identity.{Identity}
 use Rattle.reception.specs.Answer.{Answer, Object, IsAnswer}
-use Rattle.reception.specs.Headline.{TellsWhatLacks, DecodesWhereEnough, UndecidedElse}
+use Rattle.reception.specs.Headline.{TellsWhatLacks, DecodesWhereEnough, TwinWhereShort, TellsElse}
 use Rattle.reception.proofs.OneAnswer.{one_answer}
 use Rattle.decoder.specs.Promised.{IsPromised}
 
 pub promised : (who : Identity) (session : List (List ℕ)) (places : List ℕ) (a : Answer) → IsAnswer who (chosen session places) a → (f : Fti) (object : List ℕ)
-    → DecodesWhereEnough who f session object → UndecidedElse who f session object → IsPromised who f (chosen session places) object a
-promised who session places a is f object decodes undecided = record {
+    → DecodesWhereEnough who f session object → TwinWhereShort who f session object → TellsElse who f session → IsPromised who f (chosen session places) object a
+promised who session places a is f object decodes short tells = record {
   enough = λ enough. one_answer who (chosen session places) a (Object object) is (decodes places enough).is;
   lacks = λ few.
-      let u = undecided places few in
+      let u = tells places few in
       subst (λ (x : Answer). TellsWhatLacks who x (chosen session places)) (one_answer who (chosen session places) u.answer a u.told is) u.lacks;
-  twin = λ few. (undecided places few).twin;
+  twin = short places;
 }

@@ -213,7 +213,7 @@ module _ (r : Receiver) (ds : List (List ℕ)) (stands : Stands r ds) where
   pub no_fti : r.store ≡ None → (reception_of r.identity (readings_of ds)).scope.fti ≡ None
   no_fti e = keeps_none _ _ (subst (λ (o : Option Store). Keeps o (reception_of r.identity (readings_of ds)).scope.fti (reception_of r.identity (readings_of ds)).symbols) e stands.symbols)
 
-  -- nothing came where there is no store
+  -- no carrier came where there is no store
   pub empty_taken : r.store ≡ None → IsAnswer r.identity ds Empty
   empty_taken e = record { readings = readings_of ds; read = stands.read; answers = (stands.clean, no_fti e) }
 
@@ -232,11 +232,11 @@ module _ (r : Receiver) (ds : List (List ℕ)) (stands : Stands r ds) where
     store_taken v h = record {
       readings = readings_of ds;
       read = stands.read;
-      answers = answered r.identity ds store.fti keeps.1.at v stands.read received (h keeps.1.at keeps.1.holds);
+      answers = answered r.identity ds store.fti keeps.1.at v received (h keeps.1.at keeps.1.holds);
     }
 
     pub all_within : AllByRecursion (IsWithin store.fti) (reception_of r.identity (readings_of ds)).symbols
-    all_within = within clash (asked r.identity) ds (readings_of ds) store.fti stands.read received.clean
+    all_within = within clash (asked r.identity) (readings_of ds) store.fti received.clean
 
     -- the object of the solved blocks has the FTI's length
     pub object_length : IsValidFti store.fti → AllSolved store → length (object_in store) ≡ store.fti.transfer_length

@@ -1,12 +1,15 @@
 -- What a receiver tells of the datagrams that it accepted and one more.
-use Rattle.std.specs.Prelude.{◌≡◌, ℕ, List, [], ◌∷◌, ◌++◌, length, Option, Some}
+use Rattle.std.specs.Prelude.{◌≡◌, ℕ, true, List, [], ◌∷◌, ◌++◌, length, Option, Some, None, Ok}
 use Rattle.std.specs.Io.KnownBytes.{Appends}
 use Rattle.partition.specs.Fti.{Fti}
+use Rattle.alc.specs.Packet.{Packet}
+use Rattle.alc.specs.Reading.{Reads}
 use Rattle.reception.specs.declared.scope.Identity.{Identity}
 use Rattle.reception.specs.Symbols.{AllFull}
 use Rattle.reception.specs.Readings.{readings_of}
 use Rattle.reception.specs.declared.scope.PlaceFault.{PlaceFault}
-use Rattle.reception.specs.Reception.{Faulty}
+use Rattle.reception.specs.Reception.{Faulty, is_of_identity}
+use Rattle.reception.specs.Headline.{HasCarrier}
 use Rattle.reception.specs.Answer.{Object, IsAnswer, reception_of}
 use Rattle.reception.specs.Answer as value
 use Rattle.decoder.specs.Answers.{fault_value}
@@ -14,13 +17,13 @@ use Rattle.decoder.specs.declared.answer.DecodeFault.{DecodeFault}
 use Rattle.decoder.specs.declared.receiver.Progress.{Progress}
 use Rattle.decoder.specs.declared.receiver.Progress.TheVariants.{More, Complete}
 use Rattle.decoder.specs.declared.receiver.FeedFault.{FeedFault}
-use Rattle.decoder.specs.declared.receiver.FeedFault.TheVariants.{Fault, Full, NoMemory}
+use Rattle.decoder.specs.declared.receiver.FeedFault.TheVariants.{Fault, Full, Early, NoMemory}
 
 -- one datagram more
 abbrev pub with_datagram : List (List ℕ) → List ℕ → List (List ℕ)
 with_datagram datagrams d = datagrams ++ d ∷ []
 
--- the datagrams leave no block short
+-- a carrier came, and the datagrams leave no block short
 pub record LeaveNoneShort (who : Identity) (datagrams : List (List ℕ)) : Type 0 where
   pub fti : Fti
   pub known : (reception_of who (readings_of datagrams)).scope.fti ≡ Some fti
@@ -35,6 +38,7 @@ Tells More who datagrams = ¬ LeaveNoneShort who datagrams
 abbrev pub IsFaultOf : Identity → List (List ℕ) → FeedFault → Type 0
 IsFaultOf who datagrams (Fault e) = IsAnswer who datagrams (fault_value e)
 IsFaultOf who datagrams Full = Unit {0}
+IsFaultOf who datagrams Early = Unit {0}
 IsFaultOf who datagrams NoMemory = Unit {0}
 
 -- the answer to the datagrams is no fault
@@ -44,6 +48,14 @@ HasNoFault who datagrams = (e : DecodeFault) → ¬ IsAnswer who datagrams (faul
 -- the answer to the datagrams is no fault of one whose symbol isn't looked at
 abbrev pub HasNoFaultBefore : Identity → List (List ℕ) → Type 0
 HasNoFaultBefore who datagrams = (i : ℕ) (e : PlaceFault) → ¬ IsAnswer who datagrams (value.Fault i (Faulty e))
+
+-- a datagram that is a packet of the identity and carries no FTI, behind datagrams of which none is a carrier
+pub record ComesEarly (who : Identity) (datagrams : List (List ℕ)) (datagram : List ℕ) : Type 0 where
+  pub packet : Packet
+  pub reads : Reads datagram (Ok packet)
+  pub mine : is_of_identity who packet ≡ true
+  pub bare : packet.fti ≡ None
+  pub first : ¬ HasCarrier who datagrams
 
 -- the object that these datagrams give was written; its length in bytes
 abbrev pub IsWrittenOf : Identity → List (List ℕ) → Option (List ℕ) → Option (List ℕ) → ℕ → Type 0

@@ -1,5 +1,5 @@
 -- What a receiver stands for: the list of the datagrams that it accepted.
-use Rattle.std.specs.Prelude.{◌≡◌, ℕ, List, length, Option, Some, None}
+use Rattle.std.specs.Prelude.{◌≡◌, ℕ, List, [], length, Option, Some, None}
 use Rattle.partition.specs.Fti.{Fti}
 use Rattle.reception.specs.Symbols.{Symbol}
 use Rattle.reception.specs.Reception.{ReadAll}
@@ -16,9 +16,9 @@ pub record HoldsSymbols (store : Store) (arrivals : List Symbol) : Type 0 where
   pub index : IsIndex arrivals at
   pub holds : Holds store at
 
--- there is a store with the FTI where one is known, and it holds these symbols
+-- there is a store with the FTI where one is known, and it holds these symbols; where none is known there are none
 abbrev pub Keeps : Option Store → Option Fti → List Symbol → Type 0
-Keeps None None arrivals = Unit {0}
+Keeps None None arrivals = arrivals ≡ []
 Keeps (Some store) (Some f) arrivals = (store.fti ≡ f) × HoldsSymbols store arrivals
 Keeps None (Some f) arrivals = ⊥
 Keeps (Some store) None arrivals = ⊥

@@ -3,15 +3,19 @@
 use alc::PacketFault;
 use thiserror::Error;
 
-/// Why datagrams are of no object. A place is that of a datagram, counted from 0.
+/// Why datagrams are of no object. A place is that of a datagram, counted from 0. The FTI is that of the first carrier:
+/// the first packet of the identity that has one.
 #[derive(Debug, Clone, Copy, PartialEq, Eq, Error)]
 pub enum DecodeFault {
     /// The datagram is no packet.
     #[error("R1 Packet place {0} {1}")]
     Packet(usize, PacketFault),
-    /// The FTI isn't that of the first packet.
+    /// The FTI isn't that of the first carrier.
     #[error("R3 OtherFti place {0}")]
     OtherFti(usize),
+    /// The symbol isn't as long as the FTI tells.
+    #[error("R7 SymbolLength place {0}")]
+    SymbolLength(usize),
     /// The FTI has no such block, or the block no such encoding symbol.
     #[error("R4 Range place {0}")]
     Range(usize),
@@ -26,7 +30,7 @@ pub enum DecodeFault {
 /// What datagrams say of the object that was sent.
 #[derive(Drop)]
 pub enum Answer {
-    /// Nothing came.
+    /// No carrier came, and so nothing can be said of symbols that did.
     Empty,
     Fault(DecodeFault),
     /// The first block that has fewer symbols than it needs: its source block number, how many different ESIs it has,

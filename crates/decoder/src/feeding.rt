@@ -6,7 +6,7 @@ ghost use Rattle.reception.specs.Walks.{readings_of};
 ghost use Rattle.decoder.specs.Kept.{with_symbol};
 ghost use Rattle.decoder.specs.Putting.{MayStand, IsPutFault};
 ghost use Rattle.decoder.specs.Stands.{Stands, IsFed};
-ghost use Rattle.decoder.specs.Receiving.{with_datagram, Tells, IsFaultOf, HasNoFault, HasNoFaultBefore};
+ghost use Rattle.decoder.specs.Receiving.{with_datagram, Tells, IsFaultOf, HasNoFault, HasNoFaultBefore, ComesEarly};
 ghost use Rattle.decoder.specs.Fed.{HoldsFor, put_refusal};
 
 use crate::answer::DecodeFault;
@@ -16,13 +16,15 @@ use crate::store::Store;
 use crate::stored::PutFault;
 use alc::Packet;
 use lists::are_bytes;
-use reception::Scope;
+use partition::Fti;
+use reception::{Look, Scope};
 use std::alloc::Global;
 
 // Why the datagram is refused whose symbol isn't put.
 fn refusal(place: usize, b: u32, fault: PutFault) -> FeedFault
     ensures value { result ≡ put_refusal place b fault }
     ensures other { result ≢ FeedFault.Full }
+    ensures late { result ≢ FeedFault.Early }
 {
     match fault {
         PutFault::Clash => FeedFault::Fault(DecodeFault::Clash(place)),
@@ -32,31 +34,33 @@ fn refusal(place: usize, b: u32, fault: PutFault) -> FeedFault
 }
 
 // Puts the packet's symbol, into a new store where there is none.
-fn put(alloc: Global, store: &mut Option<Store>, packet: &Packet<'_>) -> Result<(), PutFault>
-    requires number { packet.now.sbn < block_count packet.now.fti }
-    requires esi { packet.now.esi < encoding_count packet.now.fti packet.now.sbn }
-    requires symbol { length packet.now.symbol.now ≡ packet.now.fti.symbol_length }
-    requires held { (at : ℕ → ℕ → Option (List ℕ))
-        × HoldsFor packet.now.fti store.old at }
-    ensures put { (at : ℕ → ℕ → Option (List ℕ)) → HoldsFor packet.now.fti store.old at
-        → OnOk result (HoldsFor packet.now.fti store.new
+fn put(
+    alloc: Global,
+    fti: Fti,
+    store: &mut Option<Store>,
+    packet: &Packet<'_>,
+) -> Result<(), PutFault>
+    requires number { packet.now.sbn < block_count fti }
+    requires esi { packet.now.esi < encoding_count fti packet.now.sbn }
+    requires symbol { length packet.now.symbol.now ≡ fti.symbol_length }
+    requires held { (at : ℕ → ℕ → Option (List ℕ)) × HoldsFor fti store.old at }
+    ensures put { (at : ℕ → ℕ → Option (List ℕ)) → HoldsFor fti store.old at
+        → OnOk result (HoldsFor fti store.new
         (with_symbol at packet.now.sbn packet.now.esi packet.now.symbol.now)) }
-    ensures may { (at : ℕ → ℕ → Option (List ℕ)) → HoldsFor packet.now.fti store.old at
+    ensures may { (at : ℕ → ℕ → Option (List ℕ)) → HoldsFor fti store.old at
         → OnOk result (MayStand (at packet.now.sbn) packet.now.esi packet.now.symbol.now) }
-    ensures fault { (at : ℕ → ℕ → Option (List ℕ))
-        → HoldsFor packet.now.fti store.old at
-        → IfErr result (IsPutFault packet.now.fti packet.now.sbn (at packet.now.sbn)
+    ensures fault { (at : ℕ → ℕ → Option (List ℕ)) → HoldsFor fti store.old at
+        → IfErr result (IsPutFault fti packet.now.sbn (at packet.now.sbn)
         packet.now.esi packet.now.symbol.now) }
-    ensures stays { (at : ℕ → ℕ → Option (List ℕ))
-        → HoldsFor packet.now.fti store.old at
-        → OnErr result (HoldsFor packet.now.fti store.new at) }
+    ensures stays { (at : ℕ → ℕ → Option (List ℕ)) → HoldsFor fti store.old at
+        → OnErr result (HoldsFor fti store.new at) }
     ensures some { OnOk result (IsSome store.new) }
     ensures none { OnErr result (is_some store.new ≡ is_some store.old) }
 {
     if let Some(store) = store {
         return store.put(alloc, packet);
     }
-    let Ok(mut new) = Store::new(alloc, packet.fti) else {
+    let Ok(mut new) = Store::new(alloc, fti) else {
         return Err(PutFault::NoMemory);
     };
     new.put(alloc, packet)?;
@@ -114,10 +118,11 @@ impl Receiver {
         self.progress()
     }
 
-    /// Takes one datagram, of any bytes. The receiver stands for the datagrams that it accepted: `Ok` is where `decode`
-    /// would answer no fault to them and this one, and it stands for one more. At an error it stands for those before. Want of
-    /// memory is never told in place of a fault that is seen before the symbol: no packet, another FTI, or out of range. A
-    /// packet of another identity is accepted and left aside.
+    /// Takes one datagram, of any bytes. The receiver stands for the datagrams that it accepted: at `Ok` it stands for one
+    /// more, and `decode` would answer no fault to them. At an error it stands for those before. Want of memory is never
+    /// told in place of a fault that is seen before the symbol: no packet, another FTI, another length, or out of range. A
+    /// packet of another identity is accepted and left aside. One of this identity that carries no FTI is refused as early
+    /// where no carrier was accepted, whatever its symbol is.
     pub fn feed(&mut self, alloc: Global, datagram: &[u8]) -> Result<Progress, FeedFault>
         // It is new, or was fed.
         requires { IsFed self.old }
@@ -136,6 +141,9 @@ impl Receiver {
             → OnOk result (HasNoFault self.old.identity (with_datagram ds datagram.now)) }
         ensures full { (ds : List (List ℕ)) → Stands self.old ds
             → (result ≡ Err FeedFault.Full) ↔ (length ds ≡ usize.MAX) }
+        ensures early { (ds : List (List ℕ)) → Stands self.old ds
+            → (result ≡ Err FeedFault.Early)
+            ↔ ((length ds ≢ usize.MAX) × ComesEarly self.old.identity ds datagram.now) }
     {
         if self.accepted == usize::MAX {
             return Err(FeedFault::Full);
@@ -143,12 +151,14 @@ impl Receiver {
         are_bytes(datagram);
         let mut scope = self.scope();
         let packet = match scope.look(datagram) {
-            Ok(Some(packet)) => packet,
-            Ok(None) => return Ok(self.accept()),
+            Ok(Look::InRange(packet)) => packet,
+            Ok(Look::Other) => return Ok(self.accept()),
+            Ok(Look::Early) => return Err(FeedFault::Early),
             Err(fault) => return Err(FeedFault::Fault(fault_at(self.accepted, fault))),
         };
-        packet.fti.is_valid();
-        if let Err(fault) = put(alloc, &mut self.store, &packet) {
+        let fti = scope.fti.unwrap();
+        fti.is_valid();
+        if let Err(fault) = put(alloc, fti, &mut self.store, &packet) {
             return Err(refusal(self.accepted, packet.sbn, fault));
         }
         Ok(self.accept())

@@ -1,8 +1,8 @@
 //! The decoder: the object that datagrams give, or why they give none (RFC 5510, section 8).
 //!
 //! - `answer`: what a decoder answers;
-//! - `received`: the symbols of a list of datagrams, by block and ESI, or the first fault at a place; `counting`: how many
-//!   of them each block has;
+//! - `received`: the symbols of a list of datagrams, by block and ESI, or the first fault at a place, by the FTI of the
+//!   first carrier, which is found before; `counting`: how many of them each block has;
 //! - `recovering`: the source symbols of one block that has enough of them, by `rows`, `block` and `erasure`;
 //! - `blocks`: the same for a block of what was received; `padding`: whether its symbols can have the object's padding, told
 //!   before they are solved; `unsolvable`: the blocks whose symbols are those of no object;
@@ -10,7 +10,8 @@
 //!   yes promises of it;
 //! - `receiver`: the same for one datagram at a time: `feeding` takes one more, and `taking` gives the answer, or writes the
 //!   object block by block. A receiver stands for the list of the datagrams that it accepted (`specs/Stands`). It accepts
-//!   none with which `decode` would answer a fault to that list, and tells no fault but that answer;
+//!   none with which `decode` would answer a fault to that list, and tells no fault but that answer. Of packets that carry
+//!   no FTI it accepts none before a carrier, as it couldn't tell what their symbols are;
 //! - `store`: what it keeps of an object, and `stored`: of a block. That is, by `pending_block`, copies of the symbols that
 //!   came while these are too few, and by `solved_block` the source symbols from then on, with which ESIs came: never more
 //!   symbols than the block has source symbols. `putting` puts a symbol where it goes, and walks neither over the blocks

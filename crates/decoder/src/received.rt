@@ -11,7 +11,7 @@ ghost use Rattle.decoder.specs.Received.{bytes_at, IsIndex, AreReceived, IsNothi
 use crate::answer::DecodeFault;
 use alc::Packet;
 use partition::Fti;
-use reception::{Identity, PlaceFault, Scope};
+use reception::{Identity, Look, PlaceFault, Scope};
 use std::alloc::{AllocError, Global};
 use std::collections::BTreeMap;
 
@@ -50,6 +50,7 @@ pub(crate) fn fault_at(place: usize, fault: PlaceFault) -> DecodeFault
     match fault {
         PlaceFault::NoPacket(fault) => DecodeFault::Packet(place, fault),
         PlaceFault::OtherFti => DecodeFault::OtherFti(place),
+        PlaceFault::SymbolLength => DecodeFault::SymbolLength(place),
         PlaceFault::Range => DecodeFault::Range(place),
     }
 }
@@ -66,7 +67,8 @@ fn keep<'a>(symbols: &mut Symbols<'a>, packet: &Packet<'a>) -> Result<(), AllocE
     Ok(())
 }
 
-/// The symbols of the identity's packets, if some came, or the first fault at the least place that has one.
+/// The symbols of the identity's packets, if a carrier came, or the first fault at the least place that has one. The FTI
+/// of the first carrier is found before any fault is looked for: it may stand behind a packet that has a fault by it.
 pub(crate) fn receive<'a>(
     alloc: Global,
     datagrams: &[&'a [u8]],
@@ -78,12 +80,14 @@ pub(crate) fn receive<'a>(
         → IsNothing identity (map (λ d. d.now) datagrams.now)) }
     ensures refusal { IfErr result (IsRefusal identity (map (λ d. d.now) datagrams.now)) }
 {
-    let mut scope = Scope::new(identity);
+    let mut scope = Scope::found_in(identity, datagrams);
     let mut symbols = BTreeMap::new(alloc);
     for place in 0..datagrams.len() {
         let packet = match scope.look(datagrams[place]) {
-            Ok(Some(packet)) => packet,
-            Ok(None) => continue,
+            Ok(Look::InRange(packet)) => packet,
+            Ok(Look::Other) => continue,
+            // There is no carrier at all.
+            Ok(Look::Early) => continue,
             Err(fault) => return Err(Refusal::Fault(fault_at(place, fault))),
         };
         if is_clash(&symbols, &packet) {

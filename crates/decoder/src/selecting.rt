@@ -5,7 +5,7 @@ ghost use Rattle.lists.specs.Selection.{chosen, first_outside};
 ghost use Rattle.session.specs.Frames.{IsPlaceFault};
 ghost use Rattle.reception.specs.Answer.{Answer as AnswerValue, IsAnswer};
 ghost use Rattle.reception.specs.declared.scope.Identity.{Identity as IdentityValue};
-ghost use Rattle.reception.specs.Headline.{DecodesWhereEnough, UndecidedElse};
+ghost use Rattle.reception.specs.Headline.{DecodesWhereEnough, TwinWhereShort, TellsElse};
 ghost use Rattle.decoder.specs.Answers.{answer_value};
 ghost use Rattle.decoder.specs.Promised.{IsPromised};
 
@@ -33,7 +33,8 @@ pub fn decode_selection(
     // Where `check` said yes to the session, this object and a certificate with this FTI.
     ensures promised { IfOk result (λ a. (f : Fti) (object : List ℕ)
         → DecodesWhereEnough identity f session.now object
-        → UndecidedElse identity f session.now object
+        → TwinWhereShort identity f session.now object
+        → TellsElse identity f session.now
         → IsPromised identity f (chosen session.now places.now) object (answer_value a)) }
     ensures inside { OnOk result (first_outside (length session.now) places.now ≡ None) }
     ensures fault { IfErr result

@@ -129,7 +129,7 @@ impl Receiver {
     }
 
     /// Writes the object block by block, so that it is never held whole, and answers its length in bytes. `None` is where a
-    /// block is short or nothing came, and nothing is written then. `Failed` comes only where no block is short and the
+    /// block is short or no carrier came, and nothing is written then. `Failed` comes only where no block is short and the
     /// writer has failed, and never where it has room for the object. It has a beginning of it then.
     pub fn write_object<W: Write>(&self, writer: &mut W) -> Result<Option<u64>, Failed>
         ensures written { (ds : List (List ℕ)) → Stands self.now ds

@@ -8,9 +8,9 @@ use Rattle.lists.specs.Selection.{is_among, loss_size, rest, rest_from}
 use Rattle.losses.proofs.Copies.{HasByteEsi, copies_total, filter_filter, is_of_those, lost_at_least, total_none, total_same}
 use Rattle.losses.proofs.Exchange.{before_costs, cheapest}
 use Rattle.lists.proofs.Lists.{all_of, all_to, filter_all, filter_same}
-use Rattle.losses.proofs.Places.{marks_places, marks_rest, marks_size, places_from}
+use Rattle.losses.proofs.Places.{marks_places, marks_rest, marks_size}
 use Rattle.losses.specs.Costs.{copies, count, is_cheap, total}
-use Rattle.losses.specs.Losses.{IsBefore, IsRising}
+use Rattle.losses.specs.Losses.{IsBefore, IsRising, places_from}
 use Rattle.lists.specs.Below.{below}
 use Rattle.losses.specs.Numbers.{has, is_number, present}
 use Rattle.losses.specs.Number.{Number}

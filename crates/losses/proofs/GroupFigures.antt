@@ -1,6 +1,6 @@
 -- The computed figures of groups are those over all losses.
 use Rattle.std.proofs.lemmas.List.{get_or-map, length-map}
-use Rattle.std.specs.Prelude.{slice_index_or, ◌≡◌, ℕ, zero, suc, ◌+◌, ◌-◌, ◌<◌, ◌≤◌, Bool, true, false, not, nat_le, List, length, filter, min, refl}
+use Rattle.std.specs.Prelude.{slice_index_or, ◌≡◌, ℕ, zero, suc, ◌+◌, ◌-◌, ◌<◌, ◌≤◌, Bool, true, false, not, nat_le, List, [], length, filter, min, refl}
 use Rattle.std.specs.List.{AllByRecursion, list_any}
 use Rattle.std.proofs.Common.{◌∙◌, sym, ap, subst, arith, leb-true}
 use Rattle.std.proofs.lemmas.Bool.{leb-false, lt-leb}
@@ -12,9 +12,11 @@ use Rattle.losses.specs.Numbers.{has, present}
 use Rattle.losses.specs.Members.{different_outside}
 use Rattle.losses.specs.Windows.{ArePlaced, IsLeastGap, members}
 use Rattle.losses.specs.Costs.{IsWeighed, cheap_places}
-use Rattle.losses.specs.Losses.{Blocks, IsBefore, IsKill, IsMargin, IsBurst, is_enough, esis_in, taken_wholly}
+use Rattle.losses.specs.Losses.{Blocks, IsBefore, is_enough, esis_in, taken_wholly}
+use Rattle.losses.proofs.BlockLosses.{IsBlockKill, IsBlockMargin, IsBlockBurst}
 use Rattle.losses.specs.declared.groups.Group.{Group as GroupOf}
 use Rattle.losses.specs.Groups.{Group, group_of, groups_of, no_group, group_at, places, is_at, blocks_of_groups, AreGroups}
+use Rattle.losses.specs.Lightest.{IsHeavyGroup, IsWideGroup, IsNarrowGroup}
 use Rattle.losses.proofs.Copies.{HasByteEsi}
 use Rattle.lists.proofs.Lists.{filter_same, all_of}
 use Rattle.losses.proofs.Places.{marks_places, marks_size, places_below, places_count, places_rise}
@@ -66,7 +68,7 @@ module _ {X : Type 0} (these : Blocks X) (xs : List X) (ps : ℕ → List Number
 
   module _ (at t last m : ℕ) (at_within : at < these.count) (cut_at : IsCut 0 (these.need at) (ps at) t last) (is : m + 1 ≡ cost 0 t last (ps at))
       (priced : (b : ℕ) → b < these.count → IsGroupPriced b (these.need b) (ps b) (m + 1) at) where
-    pub margin : IsMargin these xs m
+    pub margin : IsBlockMargin these xs m
     margin = record {
       bears = λ lost size b hb.
           elim (is_enough these (rest lost xs) b) as (λ v. is_enough these (rest lost xs) b ≡ v → v ≡ true) [
@@ -92,7 +94,7 @@ module _ {X : Type 0} (these : Blocks X) (xs : List X) (ps : ℕ → List Number
           ] refl;
     }
 
-    pub kill : IsKill these xs (m + 1) (doomed 0 t last (ps at))
+    pub kill : IsBlockKill these xs (m + 1) (doomed 0 t last (ps at))
     kill =
         let lost = is_among (doomed 0 t last (ps at)) in
         let here = small at at_within in
@@ -128,7 +130,7 @@ module _ {X : Type 0} (these : Blocks X) (xs : List X) (ps : ℕ → List Number
 
   module _ (at m : ℕ) (at_within : at < these.count) (run : IsLeastRun 0 (these.need at) (ps at) (m + 1))
       (spanned : (b : ℕ) → b < these.count → IsGroupSpanned (these.need b) (ps b) (m + 1)) where
-    pub burst : IsBurst these xs m
+    pub burst : IsBlockBurst these xs m
     burst =
         let r = run in
         let n = len at at_within in
@@ -164,33 +166,18 @@ module _ {X : Type 0} (these : Blocks X) (xs : List X) (ps : ℕ → List Number
 
 -- ---- from the weights of groups, as they are computed, to the figures
 
--- a group costs no less than the least, and more before group `at`
-pub record IsHeavyGroup (b : ℕ) (g : Group) (least at : ℕ) : Type 0 where
-  pub t : ℕ
-  pub last : ℕ
-  pub price : ℕ
-  pub weighed : IsWeighed g.members g.need price t last
-  pub low : least ≤ price
-  pub early : b < at → least < price
-
--- a group's least gap is no less than the least
-pub record IsWideGroup (g : Group) (least : ℕ) : Type 0 where
-  pub gap : ℕ
-  pub is : IsLeastGap g.members g.need gap
-  pub low : least ≤ gap
-
 -- a group, as the code sees it
 pub seen : (gs : List GroupOf) (b : ℕ) (d : GroupOf) → b < length gs → group_at (groups_of gs) b ≡ group_of (slice_index_or gs b d)
 seen gs b d l = get_or-map group_of gs b d no_group l
 
+pub members_seen : (gs : List GroupOf) (b : ℕ) (d : GroupOf) → b < length gs → (group_at (groups_of gs) b).members ≡ (slice_index_or gs b d).members.items
+members_seen gs b d l = ap (λ (g : Group). g.members) (seen gs b d l)
+
+pub need_seen : (gs : List GroupOf) (b : ℕ) (d : GroupOf) → b < length gs → (group_at (groups_of gs) b).need ≡ (slice_index_or gs b d).need
+need_seen gs b d l = ap (λ (g : Group). g.need) (seen gs b d l)
+
 pub count_of : (gs : List GroupOf) → length (groups_of gs) ≡ length gs
 count_of gs = length-map gs group_of
-
--- some group below n has this gap
-pub record IsNarrowGroup (groups : List Group) (n gap : ℕ) : Type 0 where
-  pub at : ℕ
-  pub within : at < n
-  pub is : IsLeastGap (group_at groups at).members (group_at groups at).need gap
 
 -- one group more
 module _ (groups : List Group) (n : ℕ) where
@@ -285,20 +272,20 @@ module _ (groups : List Group) (n : ℕ) (are : AreGroups groups n) where
         let s = some in
         omega (arith, p, s)
 
-    pub margin_of_groups : IsMargin (blocks_of_groups groups) (places 0 n) (price - 1)
-    margin_of_groups = margin (blocks_of_groups groups) (places 0 n) (λ b. line 0 n (group_at groups b).members) small len whole left at t last (price - 1) within cut is priced
+    pub margin_of_groups : IsBlockMargin (blocks_of_groups groups []) (places 0 n) (price - 1)
+    margin_of_groups = margin (blocks_of_groups groups []) (places 0 n) (λ b. line 0 n (group_at groups b).members) small len whole left at t last (price - 1) within cut is priced
 
-    pub kill_of_groups : IsKill (blocks_of_groups groups) (places 0 n) (price - 1 + 1) (cheap_places (group_at groups at).members t last)
+    pub kill_of_groups : IsBlockKill (blocks_of_groups groups []) (places 0 n) (price - 1 + 1) (cheap_places (group_at groups at).members t last)
     kill_of_groups =
         let e : cheap_places (group_at groups at).members t last ≡ doomed 0 t last (line 0 n (group_at groups at).members) =
         ap (λ (qs : List Member). cheap_places qs t last) (sym (of_line at within)) ∙ doomed_are 0 (line 0 n (group_at groups at).members) t last in
-        subst (λ (ks : List ℕ). IsKill (blocks_of_groups groups) (places 0 n) (price - 1 + 1) ks) (sym e)
-        (kill (blocks_of_groups groups) (places 0 n) (λ b. line 0 n (group_at groups b).members) small len whole left at t last (price - 1) within cut is priced)
+        subst (λ (ks : List ℕ). IsBlockKill (blocks_of_groups groups []) (places 0 n) (price - 1 + 1) ks) (sym e)
+        (kill (blocks_of_groups groups []) (places 0 n) (λ b. line 0 n (group_at groups b).members) small len whole left at t last (price - 1) within cut is priced)
 
   pub burst_of_groups : (at gap : ℕ) → at < length groups → IsLeastGap (group_at groups at).members (group_at groups at).need gap
-      → ((b : ℕ) → b < length groups → IsWideGroup (group_at groups b) gap) → IsBurst (blocks_of_groups groups) (places 0 n) gap
+      → ((b : ℕ) → b < length groups → IsWideGroup (group_at groups b) gap) → IsBlockBurst (blocks_of_groups groups []) (places 0 n) gap
   burst_of_groups at gap within narrow wide =
-      burst (blocks_of_groups groups) (places 0 n) (λ b. line 0 n (group_at groups b).members) small len whole left at gap within
+      burst (blocks_of_groups groups []) (places 0 n) (λ b. line 0 n (group_at groups b).members) small len whole left at gap within
       (least_run 0 (line 0 n (group_at groups at).members) (group_at groups at).need gap (enough_of at within) (gap_of at _ gap within narrow))
       (λ b hb.
       (let q = wide b hb in

@@ -13,6 +13,11 @@ pub mod Narrowest
 pub mod Weights
 pub mod Pairs
 pub mod Gathered
+pub mod BlockLosses
+pub mod Rising
+pub mod Carried
 pub mod Transfer
 pub mod Lines
 pub mod GroupFigures
+pub mod CarrierGroup
+pub mod CarrierPlaces

@@ -5,12 +5,7 @@ use Rattle.std.proofs.Common.{◌∙◌, ap, arith}
 use Rattle.std.proofs.lemmas.Bool.{eqb-true, eq-eqb}
 use Rattle.lists.specs.Selection.{is_among, lost_from, rest_from}
 use Rattle.losses.specs.Costs.{count}
-use Rattle.losses.specs.Losses.{IsRising}
-
--- the places of the members that pass, of a list whose first is at place i
-abbrev pub places_from : {X : Type 0} → (X → Bool) → ℕ → List X → List ℕ
-places_from g i [] = []
-places_from g i (x ∷ xs) = cond (g x) (i ∷ places_from g (i + 1) xs) (places_from g (i + 1) xs)
+use Rattle.losses.specs.Losses.{IsRising, places_from}
 
 -- a loss of just the members that pass
 abbrev pub Marks : {X : Type 0} → (X → Bool) → (ℕ → Bool) → ℕ → List X → Type 0

@@ -1,9 +1,11 @@
 -- Two lists of which each loss leaves the same symbols can lose the same.
-use Rattle.std.specs.Prelude.{◌≡◌, ℕ, ◌<◌, Bool, not, nat_le, List, length, filter}
+use Rattle.std.specs.Prelude.{◌≡◌, ℕ, ◌<◌, ◌≤◌, Bool, not, nat_le, List, length, filter}
+use Rattle.std.specs.List.{AllByRecursion, list_any}
 use Rattle.std.proofs.Common.{◌∙◌, sym, ap, subst, arith}
 use Rattle.lists.specs.Selection.{rest, loss_size, lost_from, is_run, is_among}
 use Rattle.lists.specs.Below.{below}
-use Rattle.losses.specs.Losses.{Blocks, esis_in, is_enough, IsHarmless, IsMargin, IsBurst, IsBefore, taken_wholly, LeavesShort, IsKill}
+use Rattle.losses.specs.Losses.{Blocks, esis_in, is_enough, carrier_places, IsHarmless, IsMargin, IsBurst, IsBefore, taken_wholly, LeavesShort, KillsBlock, IsKill}
+use Rattle.losses.proofs.BlockLosses.{KeepsBlocks, IsBlockMargin, IsBlockBurst, IsBlockKill}
 use Rattle.lists.proofs.Lists.{filter_same, all_of, all_to}
 
 module _ {X Y : Type 0} (these : Blocks X) (those : Blocks Y) (xs : List X) (ys : List Y)
@@ -18,23 +20,23 @@ module _ {X Y : Type 0} (these : Blocks X) (those : Blocks Y) (xs : List X) (ys 
       ap (λ (k : ℕ). nat_le k (length (esis_in those (rest lost ys) b))) (need b l)
       ∙ ap (λ (js : List ℕ). nat_le (these.need b) (length js)) (filter_same (those.has_symbol (rest lost ys) b) (these.has_symbol (rest lost xs) b) (below 256) (all_of _ (λ j. left lost b j l) (below 256)))
 
-  harmless_to : (lost : ℕ → Bool) → IsHarmless these xs lost → IsHarmless those ys lost
-  harmless_to lost h b l = let here : b < these.count = omega (arith, l, count) in enough_same lost b here ∙ h b here
+  keeps_to : (lost : ℕ → Bool) → KeepsBlocks these xs lost → KeepsBlocks those ys lost
+  keeps_to lost h b l = let here : b < these.count = omega (arith, l, count) in enough_same lost b here ∙ h b here
 
-  harmless_from : (lost : ℕ → Bool) → IsHarmless those ys lost → IsHarmless these xs lost
-  harmless_from lost h b l = sym (enough_same lost b l) ∙ h b (omega (arith, l, count))
+  keeps_from : (lost : ℕ → Bool) → KeepsBlocks those ys lost → KeepsBlocks these xs lost
+  keeps_from lost h b l = sym (enough_same lost b l) ∙ h b (omega (arith, l, count))
 
-  pub margin_same : (m : ℕ) → IsMargin these xs m → IsMargin those ys m
-  margin_same m h = record {
-    bears = λ lost l. harmless_to lost (h.bears lost (let s = size_same lost in omega (arith, l, s)));
-    greatest = λ n bears. h.greatest n (λ lost l. harmless_from lost (bears lost (let s = size_same lost in omega (arith, l, s))));
+  pub block_margin_same : (m : ℕ) → IsBlockMargin these xs m → IsBlockMargin those ys m
+  block_margin_same m h = record {
+    bears = λ lost l. keeps_to lost (h.bears lost (let s = size_same lost in omega (arith, l, s)));
+    greatest = λ n bears. h.greatest n (λ lost l. keeps_from lost (bears lost (let s = size_same lost in omega (arith, l, s))));
   }
 
-  pub burst_same : (m : ℕ) → IsBurst these xs m → IsBurst those ys m
-  burst_same m h = record {
+  pub block_burst_same : (m : ℕ) → IsBlockBurst these xs m → IsBlockBurst those ys m
+  block_burst_same m h = record {
     within = (let w = h.within in omega (arith, w, len));
-    bears = λ a l. harmless_to (is_run a m) (h.bears a (omega (arith, l, len)));
-    greatest = λ n l bears. h.greatest n (omega (arith, l, len)) (λ a g. harmless_from (is_run a n) (bears a (omega (arith, g, len))));
+    bears = λ a l. keeps_to (is_run a m) (h.bears a (omega (arith, l, len)));
+    greatest = λ n l bears. h.greatest n (omega (arith, l, len)) (λ a g. keeps_from (is_run a n) (bears a (omega (arith, g, len))));
   }
 
   taken_same : (lost : ℕ → Bool) (b : ℕ) → b < these.count → taken_wholly those ys lost b ≡ taken_wholly these xs lost b
@@ -59,16 +61,66 @@ module _ {X Y : Type 0} (these : Blocks X) (those : Blocks Y) (xs : List X) (ys 
         short = sym (enough_same lost b here) ∙ h.short;
       }
 
-  pub kill_same : (n : ℕ) (places : List ℕ) → IsKill these xs n places → IsKill those ys n places
-  kill_same n places h = record {
+  within_same : (places : List ℕ) → AllByRecursion (λ p. p < length xs) places → AllByRecursion (λ p. p < length ys) places
+  within_same places h = all_to (λ p. p < length xs) (λ p. p < length ys) (λ p l. omega (arith, l, len)) places h
+
+  module _ (n : ℕ) (places : List ℕ) (block : ℕ) (here : block < these.count) where
+    least_same : ((b : ℕ) (lost : ℕ → Bool) → LeavesShort these xs n b lost → block ≤ b) → (b : ℕ) (lost : ℕ → Bool) → LeavesShort those ys n b lost → block ≤ b
+    least_same h b lost s = h b lost (short_from n b lost s)
+
+    first_same : ((lost : ℕ → Bool) → LeavesShort these xs n block lost → ¬ IsBefore (taken_wholly these xs lost block) (taken_wholly these xs (is_among places) block))
+        → (lost : ℕ → Bool) → LeavesShort those ys n block lost → ¬ IsBefore (taken_wholly those ys lost block) (taken_wholly those ys (is_among places) block)
+    first_same h lost s before =
+        h lost (short_from n block lost s)
+        (subst (λ (js : List ℕ). IsBefore (taken_wholly these xs lost block) js) (taken_same (is_among places) block here)
+        (subst (λ (js : List ℕ). IsBefore js (taken_wholly those ys (is_among places) block)) (taken_same lost block here) before))
+
+  pub block_kill_same : (n : ℕ) (places : List ℕ) → IsBlockKill these xs n places → IsBlockKill those ys n places
+  block_kill_same n places h = record {
     rising = h.rising;
     count = h.count;
-    within = all_to (λ p. p < length xs) (λ p. p < length ys) (λ p l. omega (arith, l, len)) places h.within;
+    within = within_same places h.within;
     block = h.block;
     short = short_to n h.block (is_among places) h.short;
-    least = λ b lost s. h.least b lost (short_from n b lost s);
-    first = λ lost s before.
-        h.first lost (short_from n h.block lost s)
-        (subst (λ (js : List ℕ). IsBefore (taken_wholly these xs lost h.block) js) (taken_same (is_among places) h.block h.short.block)
-        (subst (λ (js : List ℕ). IsBefore js (taken_wholly those ys (is_among places) h.block)) (taken_same lost h.block h.short.block) before));
+    least = least_same n places h.block h.short.block h.least;
+    first = first_same n places h.block h.short.block h.first;
   }
+
+  killed_same : (n : ℕ) (places : List ℕ) → KillsBlock these xs n places → KillsBlock those ys n places
+  killed_same n places h = record {
+    block = h.block;
+    short = short_to n h.block (is_among places) h.short;
+    least = least_same n places h.block h.short.block h.least;
+    first = first_same n places h.block h.short.block h.first;
+  }
+
+  -- and each loss of which leaves a carrier, or none
+  module _ (carrier : (lost : ℕ → Bool) → list_any those.is_carrier (rest lost ys) ≡ list_any these.is_carrier (rest lost xs))
+      (carriers : carrier_places those ys ≡ carrier_places these xs) where
+    harmless_to : (lost : ℕ → Bool) → IsHarmless these xs lost → IsHarmless those ys lost
+    harmless_to lost h = record { full = keeps_to lost h.full; carrier = carrier lost ∙ h.carrier }
+
+    harmless_from : (lost : ℕ → Bool) → IsHarmless those ys lost → IsHarmless these xs lost
+    harmless_from lost h = record { full = keeps_from lost h.full; carrier = sym (carrier lost) ∙ h.carrier }
+
+    pub margin_same : (m : ℕ) → IsMargin these xs m → IsMargin those ys m
+    margin_same m h = record {
+      bears = λ lost l. harmless_to lost (h.bears lost (let s = size_same lost in omega (arith, l, s)));
+      greatest = λ n bears. h.greatest n (λ lost l. harmless_from lost (bears lost (let s = size_same lost in omega (arith, l, s))));
+    }
+
+    pub burst_same : (m : ℕ) → IsBurst these xs m → IsBurst those ys m
+    burst_same m h = record {
+      within = (let w = h.within in omega (arith, w, len));
+      bears = λ a l. harmless_to (is_run a m) (h.bears a (omega (arith, l, len)));
+      greatest = λ n l bears. h.greatest n (omega (arith, l, len)) (λ a g. harmless_from (is_run a n) (bears a (omega (arith, g, len))));
+    }
+
+    pub kill_same : (n : ℕ) (places : List ℕ) → IsKill these xs n places → IsKill those ys n places
+    kill_same n places h = record {
+      rising = h.rising;
+      count = h.count;
+      within = within_same places h.within;
+      block = λ b lost s. killed_same n places (h.block b lost (short_from n b lost s));
+      carriers = λ none. h.carriers (λ b lost s. none b lost (short_to n b lost s)) ∙ sym carriers;
+    }

@@ -9,9 +9,8 @@ use Rattle.losses.proofs.Filled.{same_count}
 use Rattle.losses.proofs.Grouping.{any_is, count_cons, has_members}
 use Rattle.losses.proofs.Link.{copies_are}
 use Rattle.lists.proofs.Lists.{all_of, all_to, filter_all, filter_same}
-use Rattle.losses.proofs.Places.{places_from}
 use Rattle.losses.specs.Costs.{IsWeighed, present_esis, cheap_esis, cheap_places, cheapest_of, copies, cost_of, esi_copies, esis, is_cheap, total}
-use Rattle.losses.specs.Losses.{IsRising}
+use Rattle.losses.specs.Losses.{IsRising, places_from}
 use Rattle.losses.specs.Members.{different_outside, has_esi, outside}
 use Rattle.losses.specs.Windows.{filled, member, members}
 use Rattle.lists.specs.Below.{below}

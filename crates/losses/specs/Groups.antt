@@ -1,4 +1,5 @@
--- Groups of places: what a list can lose, by the places of each group's symbols. A place can be in several groups, or in none.
+-- Groups of places: what a list can lose, by the places of each group's symbols and those of the carriers. A place can
+-- be in several groups, or in none.
 use Rattle.std.specs.Prelude.{ℕ, zero, suc, ◌+◌, ◌<◌, ◌≤◌, Bool, ◌&&◌, ◌==◌, List, [], ◌∷◌, length, map, slice_index_or}
 use Rattle.std.specs.List.{list_any}
 use Rattle.lists.specs.Selection.{is_among}
@@ -33,12 +34,13 @@ places i (suc n) = i ∷ places (i + 1) n
 abbrev pub is_at : List ℕ → ℕ → Member → Bool
 is_at left j q = is_among left q.place && q.esi == j
 
--- the groups, and which of their symbols stand at places that are left
-abbrev pub blocks_of_groups : List Group → Blocks ℕ
-blocks_of_groups groups = record {
+-- the groups, and which of their symbols and of the carriers stand at places that are left
+abbrev pub blocks_of_groups : List Group → List ℕ → Blocks ℕ
+blocks_of_groups groups carriers = record {
   count = length groups;
   need = λ b. (group_at groups b).need;
   has_symbol = λ left b j. list_any (is_at left j) (group_at groups b).members;
+  is_carrier = is_among carriers;
 }
 
 -- the places rise from i on, and are below n; the symbols' numbers are bytes
@@ -51,3 +53,18 @@ pub record AreGroups (groups : List Group) (n : ℕ) : Type 0 where
   pub some : (b : ℕ) → b < length groups → 0 < (group_at groups b).need
   pub members : (b : ℕ) → b < length groups → AreMembers 0 n (group_at groups b).members
   pub enough : (b : ℕ) → b < length groups → (group_at groups b).need ≤ different_outside (group_at groups b).members 0 0
+
+-- the places rise from i on, and are below n
+abbrev pub ArePlaces : ℕ → ℕ → List ℕ → Type 0
+ArePlaces i n [] = Unit {0}
+ArePlaces i n (p ∷ ps) = (i ≤ p) × (p < n) × ArePlaces (p + 1) n ps
+
+-- there is a carrier, and their places are those of a list that is n long
+pub record AreCarriers (carriers : List ℕ) (n : ℕ) : Type 0 where
+  pub some : 0 < length carriers
+  pub places : ArePlaces 0 n carriers
+
+-- what holds in each list that has the groups' places and the carriers'
+abbrev pub InEachList : List Group → List ℕ → (Blocks ℕ → List ℕ → Type 0) → Type 0
+InEachList groups carriers P =
+    (n : ℕ) → AreGroups groups n → AreCarriers carriers n → P (blocks_of_groups groups carriers) (places 0 n)

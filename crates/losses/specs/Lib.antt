@@ -5,3 +5,4 @@ pub mod Losses
 pub mod Groups
 pub mod Costs
 pub mod Windows
+pub mod Lightest

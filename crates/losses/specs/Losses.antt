@@ -1,14 +1,17 @@
--- What a list of packets, or of their numbers, can lose. A loss is a set of places of the list.
-use Rattle.std.specs.Prelude.{◌≡◌, ℕ, ◌+◌, ◌<◌, ◌≤◌, ◌⊎◌, Bool, true, false, not, nat_le, List, [], ◌∷◌, length, filter}
-use Rattle.std.specs.List.{AllByRecursion}
+-- What a list of packets, or of their numbers, can lose. A loss is a set of places of the list. What is left has to be
+-- enough for each block, and has to have a carrier: a packet that tells what the blocks are.
+use Rattle.std.specs.Prelude.{◌≡◌, ℕ, ◌+◌, ◌<◌, ◌≤◌, ◌⊎◌, Bool, true, false, not, nat_le, cond, List, [], ◌∷◌, length, filter}
+use Rattle.std.specs.List.{AllByRecursion, list_any}
 use Rattle.lists.specs.Selection.{rest, loss_size, is_run, is_among}
 use Rattle.lists.specs.Below.{below}
 
--- So many blocks, how many different symbols each of them needs, and whether a list has a symbol of a block by its ESI.
+-- So many blocks, how many different symbols each of them needs, and whether a list has a symbol of a block by its ESI;
+-- and which members of a list are carriers.
 pub record Blocks (X : Type 0) : Type 0 where
   pub count : ℕ
   pub need : ℕ → ℕ
   pub has_symbol : List X → ℕ → ℕ → Bool
+  pub is_carrier : X → Bool
 
 -- the different ESIs of block b in a list, rising
 abbrev pub esis_in : {X : Type 0} → Blocks X → List X → ℕ → List ℕ
@@ -18,9 +21,19 @@ esis_in blocks xs b = filter (blocks.has_symbol xs b) (below 256)
 abbrev pub is_enough : {X : Type 0} → Blocks X → List X → ℕ → Bool
 is_enough blocks xs b = nat_le (blocks.need b) (length (esis_in blocks xs b))
 
--- what is left is enough for each block
-abbrev pub IsHarmless : {X : Type 0} → Blocks X → List X → (ℕ → Bool) → Type 0
-IsHarmless blocks xs lost = (b : ℕ) → b < blocks.count → is_enough blocks (rest lost xs) b ≡ true
+-- the places of the members that pass, of a list whose first is at place i
+abbrev pub places_from : {X : Type 0} → (X → Bool) → ℕ → List X → List ℕ
+places_from passes i [] = []
+places_from passes i (x ∷ xs) = cond (passes x) (i ∷ places_from passes (i + 1) xs) (places_from passes (i + 1) xs)
+
+-- the places of the carriers, rising
+abbrev pub carrier_places : {X : Type 0} → Blocks X → List X → List ℕ
+carrier_places blocks xs = places_from blocks.is_carrier 0 xs
+
+-- what is left is enough for each block, and has a carrier
+pub record IsHarmless {X : Type 0} (blocks : Blocks X) (xs : List X) (lost : ℕ → Bool) : Type 0 where
+  pub full : (b : ℕ) → b < blocks.count → is_enough blocks (rest lost xs) b ≡ true
+  pub carrier : list_any blocks.is_carrier (rest lost xs) ≡ true
 
 -- every loss of at most m places is harmless
 abbrev pub Bears : {X : Type 0} → Blocks X → List X → ℕ → Type 0
@@ -63,14 +76,19 @@ pub record LeavesShort {X : Type 0} (blocks : Blocks X) (xs : List X) (n b : ℕ
   pub block : b < blocks.count
   pub short : is_enough blocks (rest lost xs) b ≡ false
 
--- n places, rising, whose loss leaves short the least block that any loss of n places leaves short; and of all losses of
--- n places that leave this block short the one whose list of ESIs wholly taken away stands first in a dictionary
-pub record IsKill {X : Type 0} (blocks : Blocks X) (xs : List X) (n : ℕ) (places : List ℕ) : Type 0 where
-  pub rising : IsRising places
-  pub count : length places ≡ n
-  pub within : AllByRecursion (λ p. p < length xs) places
+-- The loss of these n places leaves short the least block that any loss of n places leaves short; and of all losses of
+-- n places that leave this block short it's the one whose list of ESIs wholly taken away stands first in a dictionary.
+pub record KillsBlock {X : Type 0} (blocks : Blocks X) (xs : List X) (n : ℕ) (places : List ℕ) : Type 0 where
   pub block : ℕ
   pub short : LeavesShort blocks xs n block (is_among places)
   pub least : (b : ℕ) (lost : ℕ → Bool) → LeavesShort blocks xs n b lost → block ≤ b
   pub first : (lost : ℕ → Bool) → LeavesShort blocks xs n block lost
       → ¬ IsBefore (taken_wholly blocks xs lost block) (taken_wholly blocks xs (is_among places) block)
+
+-- n places, rising: those of a block's kill, where a loss of n places leaves a block short, else those of all carriers
+pub record IsKill {X : Type 0} (blocks : Blocks X) (xs : List X) (n : ℕ) (places : List ℕ) : Type 0 where
+  pub rising : IsRising places
+  pub count : length places ≡ n
+  pub within : AllByRecursion (λ p. p < length xs) places
+  pub block : (b : ℕ) (lost : ℕ → Bool) → LeavesShort blocks xs n b lost → KillsBlock blocks xs n places
+  pub carriers : ((b : ℕ) (lost : ℕ → Bool) → ¬ LeavesShort blocks xs n b lost) → places ≡ carrier_places blocks xs

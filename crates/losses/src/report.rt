@@ -1,36 +1,37 @@
 //! Margin, kill and burst.
-ghost use Rattle.std.specs.Prelude.{ℕ, ◌+◌, ◌<◌, IfOk, length};
-ghost use Rattle.losses.specs.Groups.{groups_of, blocks_of_groups, places, AreGroups};
+ghost use Rattle.std.specs.Prelude.{◌≡◌, ℕ, ◌+◌, ◌<◌, IfOk, length};
+ghost use Rattle.losses.specs.Groups.{groups_of, AreGroups, AreCarriers, InEachList};
 ghost use Rattle.losses.specs.Losses.{IsMargin, IsKill, IsBurst};
+ghost use Rattle.losses.specs.Lightest.{IsLightest};
 
 use crate::groups::Group;
+use crate::pricing::Threshold;
 use crate::weighing::{doomed_places, weigh};
 use std::alloc::{AllocError, Global};
 
 /// What a list can lose, in places.
 #[derive(Drop, Debug)]
 pub struct Figures {
-    /// The greatest number of places whose loss, whichever they are, leaves no group short.
+    /// The greatest number of places whose loss, whichever they are, leaves no group short and a carrier.
     pub margin: usize,
-    /// One place more, rising, whose loss does leave a group short.
+    /// One place more, rising, whose loss does leave a group short, or else no carrier.
     pub kill: Vec<usize>,
-    /// The greatest number of neighbouring places whose loss, wherever they stand, leaves no group short.
+    /// The greatest number of neighbouring places whose loss, wherever they stand, leaves no group short and a carrier.
     pub burst: usize,
 }
 
-/// The figures of groups, one at least, that have the symbols that they need: at least one, and no more than there are
-/// different ones among the group's. They are those of a list of any length that has the groups' places. Want of memory is
-/// the only error.
-pub fn figures_of(alloc: Global, groups: &[Group]) -> Result<Figures, AllocError>
+// The group whose loss costs least, the first of such groups, and the narrowest run that leaves any group short.
+#[derive(Clone, Copy)]
+struct Lightest {
+    at: usize,
+    threshold: Threshold,
+    burst: usize,
+}
+
+fn weigh_all(alloc: Global, groups: &[Group]) -> Result<Lightest, AllocError>
     requires some { 0 < length groups.now }
     requires groups { (n : ℕ) × AreGroups (groups_of groups.now) n }
-    ensures margin { IfOk result (λ r. (n : ℕ) → AreGroups (groups_of groups.now) n
-        → IsMargin (blocks_of_groups (groups_of groups.now)) (places 0 n) r.margin) }
-    ensures kill { IfOk result (λ r. (n : ℕ) → AreGroups (groups_of groups.now) n
-        → IsKill (blocks_of_groups (groups_of groups.now)) (places 0 n)
-        (r.margin + 1) r.kill.items) }
-    ensures burst { IfOk result (λ r. (n : ℕ) → AreGroups (groups_of groups.now) n
-        → IsBurst (blocks_of_groups (groups_of groups.now)) (places 0 n) r.burst) }
+    ensures { IfOk result (IsLightest (groups_of groups.now)) }
 {
     let first = weigh(alloc, &groups[0].members, groups[0].need)?;
     let mut at = 0;
@@ -46,9 +47,48 @@ pub fn figures_of(alloc: Global, groups: &[Group]) -> Result<Figures, AllocError
             burst = weight.burst;
         }
     }
-    let kill = doomed_places(alloc, &groups[at].members, threshold)?;
+    Ok(Lightest {
+        at,
+        threshold,
+        burst,
+    })
+}
+
+/// The figures of groups and of the places of carriers, of each one at least, in any list that has their places. A group
+/// has the symbols that it needs: at least one, and no more than there are different ones among the group's. The carriers'
+/// places rise. Want of memory is the only error.
+pub fn figures_of(
+    alloc: Global,
+    groups: &[Group],
+    carriers: &[usize],
+) -> Result<Figures, AllocError>
+    requires some { 0 < length groups.now }
+    requires groups { (n : ℕ) × AreGroups (groups_of groups.now) n × AreCarriers carriers.now n }
+    ensures margin { IfOk result (λ r. InEachList (groups_of groups.now) carriers.now
+        (λ blocks xs. IsMargin blocks xs r.margin)) }
+    ensures kill { IfOk result (λ r. InEachList (groups_of groups.now) carriers.now
+        (λ blocks xs. IsKill blocks xs (r.margin + 1) r.kill.items)) }
+    ensures burst { IfOk result (λ r. InEachList (groups_of groups.now) carriers.now
+        (λ blocks xs. IsBurst blocks xs r.burst)) }
+{
+    let block = weigh_all(alloc, groups)?;
+    // The narrowest run that takes all carriers goes from the first to the last, and is longer by one place.
+    let span = carriers[carriers.len() - 1] - carriers[0];
+    let burst = if span < block.burst {
+        span
+    } else {
+        block.burst
+    };
+    if carriers.len() < block.threshold.cost {
+        return Ok(Figures {
+            margin: carriers.len() - 1,
+            kill: carriers.to_vec(alloc)?,
+            burst,
+        });
+    }
+    let kill = doomed_places(alloc, &groups[block.at].members, block.threshold)?;
     Ok(Figures {
-        margin: threshold.cost - 1,
+        margin: block.threshold.cost - 1,
         kill,
         burst,
     })

@@ -1,6 +1,7 @@
 pub mod Walk
 pub mod Stepping
 pub mod Walking
+pub mod Heard
 pub mod Within
 pub mod Looks
 pub mod OneAnswer
@@ -9,3 +10,6 @@ pub mod Full
 pub mod First
 pub mod Order
 pub mod PutBack
+pub mod Carriers
+pub mod Vectors
+pub mod Nothing

@@ -1,17 +1,19 @@
 -- What a look at a datagram says of the packet that it hands over.
-use Rattle.std.specs.Prelude.{◌≡◌, Bool, true, false, if◌then◌else◌, List, ℕ, length, Option, Some, None, Result, Ok, refl}
-use Rattle.std.proofs.Common.{◌∙◌, sym, ap, subst}
+use Rattle.std.specs.Prelude.{◌≡◌, Bool, true, false, if◌then◌else◌, List, ℕ, length, Option, Some, None, Result, Ok, Err, refl}
+use Rattle.std.proofs.Common.{◌∙◌, ap, subst}
 use Rattle.partition.specs.Fti.{Fti}
 use Rattle.alc.specs.Packet.{Packet}
 use Rattle.alc.specs.Views.{packet_of}
-use Rattle.alc.specs.Reading.{Reading, Reads}
+use Rattle.alc.specs.Reading.{Reading}
 use Rattle.alc.specs.declared.reading.Packet.{Packet as ReadPacket}
-use Rattle.reception.specs.declared.scope.Identity.{Identity}
 use Rattle.reception.specs.declared.scope.Scope.{Scope}
 use Rattle.reception.specs.declared.scope.PlaceFault.{PlaceFault}
-use Rattle.reception.specs.Reception.{counts, is_of_identity, or_later, carried, learned, look, look_by, or_packet, packet_fault}
-use Rattle.reception.specs.Step.{IsLook, after}
-use Rattle.reception.proofs.Walking.{is_packet}
+use Rattle.reception.specs.declared.scope.Look.{Look}
+use Rattle.reception.specs.declared.scope.Look.TheVariants as look_at
+use Rattle.reception.specs.Reception.{Seen, Other, InRange, counts, is_of_identity, or_later, carried, learned, look, look_by, or_packet, packet_fault}
+use Rattle.reception.specs.Step.{IsLook, looked}
+use Rattle.reception.specs.Walks.{MayPass}
+use Rattle.reception.proofs.Walking.{is_packet, is_early}
 use Rattle.reception.proofs.Within.{IsFaultless, faultless}
 
 -- an FTI that is known stays
@@ -23,26 +25,43 @@ fti_after d old new answer h f e =
       | false ↦ e
     ])
 
-no_fault : (p : Packet) (o : Option PlaceFault) → ◌≡◌ {A = Result (Option Packet) PlaceFault} (Ok (Some p)) (or_packet p o) → o ≡ None
+-- where one is known, no packet is early
+pub never_early : (d : List ℕ) (old new : Scope) → IsLook d old new (Ok look_at.Early) → (f : Fti) → old.fti ≡ Some f → ⊥
+never_early d old new h f e = let none = (is_early d old new h).unknown in (cc)
+
+-- and so a walk goes on over each datagram without a fault
+pub may_pass : (d : List ℕ) (old new last : Scope) (answer : Result Look PlaceFault) → IsLook d old new answer → (f : Fti) → old.fti ≡ Some f → MayPass last (looked answer)
+may_pass d old new last (Err e) h f is = tt
+may_pass d old new last (Ok look_at.Other) h f is = tt
+may_pass d old new last (Ok look_at.Early) h f is = absurd (never_early d old new h f is)
+may_pass d old new last (Ok (look_at.InRange p)) h f is = tt
+
+no_fault : (p : Packet) (o : Option PlaceFault) → ◌≡◌ {A = Result Seen PlaceFault} (Ok (InRange p)) (or_packet p o) → o ≡ None
 no_fault p None h = refl
 no_fault p (Some e) h = absurd (cc)
 
-by_fti : (p : Packet) (o : Option Fti) (f : Fti) → o ≡ Some f → ◌≡◌ {A = Result (Option Packet) PlaceFault} (Ok (Some p)) (look_by o p) → IsFaultless f p
-by_fti p (Some g) f e h =
-    let same : g ≡ f = cc in
-    subst (λ (x : Fti). IsFaultless x p) same (faultless g p (no_fault p (packet_fault g p) h))
-by_fti p None f e h = absurd (cc)
+by_fti : (p : Packet) (o : Option Fti) → ◌≡◌ {A = Result Seen PlaceFault} (Ok (InRange p)) (look_by o p) → (f : Fti) × (o ≡ Some f) × IsFaultless f p
+by_fti p (Some g) h = (g, refl, faultless g p (no_fault p (packet_fault g p) h))
+by_fti p None h = absurd (cc)
 
-by_identity : (p : Packet) (v : Bool) (o : Option Fti) (f : Fti) → o ≡ Some f → ◌≡◌ {A = Result (Option Packet) PlaceFault} (Ok (Some p)) (if v then look_by o p else Ok None) → IsFaultless f p
-by_identity p true o f e h = by_fti p o f e h
-by_identity p false o f e h = absurd (cc)
+by_identity : (p : Packet) (v : Bool) (o : Option Fti) → ◌≡◌ {A = Result Seen PlaceFault} (Ok (InRange p)) (if v then look_by o p else Ok Other) → (f : Fti) × (o ≡ Some f) × IsFaultless f p
+by_identity p true o h = by_fti p o h
+by_identity p false o h = absurd (cc)
+
+-- an FTI is known then, and by it the packet is without a fault
+pub known_look : (d : List ℕ) (old new : Scope) (p : ReadPacket) → IsLook d old new (Ok (look_at.InRange p)) → (f : Fti) × (new.fti ≡ Some f) × IsFaultless f (packet_of p)
+known_look d old new p h =
+    by_identity (packet_of p) (is_of_identity new.identity (packet_of p)) new.fti
+    (subst (λ (r : Reading). ◌≡◌ {A = Result Seen PlaceFault} (Ok (InRange (packet_of p))) (look new r)) (is_packet d old new p h) h.told)
 
 -- the packet is without a fault where this FTI holds
-pub faultless_look : (d : List ℕ) (old new : Scope) (p : ReadPacket) → IsLook d old new (Ok (Some p)) → (f : Fti) → new.fti ≡ Some f → IsFaultless f (packet_of p)
+pub faultless_look : (d : List ℕ) (old new : Scope) (p : ReadPacket) → IsLook d old new (Ok (look_at.InRange p)) → (f : Fti) → new.fti ≡ Some f → IsFaultless f (packet_of p)
 faultless_look d old new p h f e =
-    by_identity (packet_of p) (is_of_identity new.identity (packet_of p)) new.fti f e
-    (subst (λ (r : Reading). ◌≡◌ {A = Result (Option Packet) PlaceFault} (Ok (Some (packet_of p))) (look new r)) (is_packet d old new p h) h.told)
+    let w = known_look d old new p h in
+    let known = w.1 in
+    let same : w.0 ≡ f = cc in
+    subst (λ (x : Fti). IsFaultless x (packet_of p)) same w.2
 
--- the symbol has the length that the packet's FTI tells
-pub length_look : (d : List ℕ) (old new : Scope) (p : ReadPacket) → IsLook d old new (Ok (Some p)) → length p.symbol.now ≡ p.fti.symbol_length
-length_look d old new p h = (subst (λ (r : Reading). Reads d r) (is_packet d old new p h) h.reads).valid.symbol
+-- the symbol has the length that the FTI tells
+pub length_look : (d : List ℕ) (old new : Scope) (p : ReadPacket) → IsLook d old new (Ok (look_at.InRange p)) → (f : Fti) → new.fti ≡ Some f → length p.symbol.now ≡ f.symbol_length
+length_look d old new p h f e = (faultless_look d old new p h f e).size

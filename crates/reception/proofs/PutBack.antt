@@ -10,7 +10,7 @@ use Rattle.reception.specs.declared.scope.Scope.{Scope}
 use Rattle.reception.specs.Symbols.{Symbol}
 use Rattle.reception.specs.Reception.{ReadAll, Placed, counts, counted_from, counted, symbols, symbols_in, learned, scope_from, asked, Judge, Wrong, Found, Reception, or_else, at_place, reading_wrong, wrong_after, first_wrong, reception_with}
 use Rattle.reception.specs.Readings.{readings_of}
-use Rattle.reception.specs.Answer.{Clash, Answer, Empty, Fault, NotCode, Missing, Object, AnswerTo, IsAnswer, clash, reception_of}
+use Rattle.reception.specs.Answer.{Clash, Answer, Empty, Fault, NotCode, Missing, Object, AnswerTo, clash, reception_of}
 use Rattle.reception.specs.Isolation.{part_of, places_of, put_back, IsIsolated}
 use Rattle.reception.proofs.OneAnswer.{same_readings}
 

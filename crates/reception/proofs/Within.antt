@@ -1,5 +1,5 @@
 -- Where nothing is wrong, each symbol is one that the FTI has.
-use Rattle.std.specs.Prelude.{◌≡◌, ◌==◌, not, Bool, true, false, if◌then◌else◌, cond, ℕ, ◌+◌, List, [], ◌∷◌, ◌++◌, Option, Some, None, Ok, Err, refl}
+use Rattle.std.specs.Prelude.{◌≡◌, ◌==◌, not, Bool, true, false, if◌then◌else◌, ℕ, List, [], ◌∷◌, ◌++◌, length, Option, Some, None, Ok, Err, refl}
 use Rattle.std.specs.List.{AllByRecursion}
 use Rattle.std.proofs.Common.{◌∙◌, sym, ap, subst, ltb-true}
 use Rattle.std.proofs.lemmas.Bool.{eqb-true, eq-eqb}
@@ -10,10 +10,10 @@ use Rattle.alc.specs.Reading.{Reading}
 use Rattle.reception.specs.declared.scope.Identity.{Identity}
 use Rattle.reception.specs.declared.scope.Scope.{Scope}
 use Rattle.reception.specs.declared.scope.PlaceFault.{PlaceFault}
-use Rattle.reception.specs.declared.scope.PlaceFault.TheVariants.{OtherFti, Range}
+use Rattle.reception.specs.declared.scope.PlaceFault.TheVariants.{OtherFti, SymbolLength, Range}
 use Rattle.reception.specs.Symbols.{Symbol}
 use Rattle.reception.specs.Within.{IsWithin}
-use Rattle.reception.specs.Reception.{ReadAll, Judge, Wrong, Placed, counts, counted_from, counted, scope_from, symbols_in, symbols, is_of_identity, same_fti, in_range, packet_fault, or_packet, wrong_by, or_else, at_place, reading_wrong, wrong_after, IsClean, reception_with}
+use Rattle.reception.specs.Reception.{Judge, Wrong, Placed, Other, counts, counted, scope_from, symbols_in, symbols, same_fti, has_other_fti, in_range, packet_fault, or_packet, wrong_by, or_else, at_place, reading_wrong, wrong_after, IsClean, reception_with}
 use Rattle.reception.proofs.Walk.{each_counts, identity_stays}
 use Rattle.reception.proofs.Stepping.{scope}
 
@@ -39,27 +39,46 @@ same_fti_refl f =
     let d : (f.max_symbols == f.max_symbols) ≡ true = eq-eqb _ _ refl in
     rw (a, b, c, d)
 
--- two tests that let through
-passed : (a b : Bool) (r s : PlaceFault) → (if not a then Some r else if not b then Some s else None) ≡ None → (a ≡ true) × (b ≡ true)
-passed true true r s h = (refl, refl)
-passed false b r s h = absurd (cc)
-passed true false r s h = absurd (cc)
+-- three tests that let through
+passed : (a b c : Bool) (r s t : PlaceFault) → (if a then Some r else if not b then Some s else if not c then Some t else None) ≡ None → (a ≡ false) × (b ≡ true) × (c ≡ true)
+passed false true true r s t h = (refl, refl, refl)
+passed true b c r s t h = absurd (cc)
+passed false false c r s t h = absurd (cc)
+passed false true false r s t h = absurd (cc)
+
+-- no other FTI is carried
+pub not_other : (f : Fti) (o : Option Fti) → has_other_fti f o ≡ false → (g : Fti) → o ≡ Some g → g ≡ f
+not_other f (Some x) h g e =
+    let same : x ≡ f = fti_same x f (not_false (same_fti x f) h) in
+    let is : x ≡ g = cc in
+    sym is ∙ same
+  where
+    not_false : (v : Bool) → not v ≡ false → v ≡ true
+    not_false true k = refl
+    not_false false k = absurd (cc)
+not_other f None h g e = absurd (cc)
+
+pub none_other : (f : Fti) (o : Option Fti) → ((g : Fti) → o ≡ Some g → g ≡ f) → has_other_fti f o ≡ false
+none_other f (Some x) h = let e : same_fti x f ≡ true = rw (h x refl) (same_fti_refl f) in ap not e
+none_other f None h = refl
 
 -- a packet without a fault
 pub record IsFaultless (f : Fti) (p : Packet) : Type 0 where
-  pub fti : p.fti ≡ f
+  pub fti : (g : Fti) → p.fti ≡ Some g → g ≡ f
+  pub size : length p.bytes ≡ f.symbol_length
   pub range : in_range p f ≡ true
 
 pub faultless : (f : Fti) (p : Packet) → packet_fault f p ≡ None → IsFaultless f p
 faultless f p h =
-    let w = passed (same_fti p.fti f) (in_range p f) OtherFti Range h in
-    record { fti = fti_same p.fti f w.0; range = w.1 }
+    let w = passed (has_other_fti f p.fti) (length p.bytes == f.symbol_length) (in_range p f) OtherFti SymbolLength Range h in
+    record { fti = not_other f p.fti w.0; size = eqb-true _ _ w.1; range = w.2 }
 
 pub no_fault : (f : Fti) (p : Packet) → IsFaultless f p → packet_fault f p ≡ None
 no_fault f p h =
-    let c : same_fti p.fti f ≡ true = rw h.fti (same_fti_refl f) in
-    let d : in_range p f ≡ true = h.range in
-    rw (c, d) refl
+    let a : has_other_fti f p.fti ≡ false = none_other f p.fti h.fti in
+    let b : (length p.bytes == f.symbol_length) ≡ true = eq-eqb _ _ h.size in
+    let c : in_range p f ≡ true = h.range in
+    rw (a, b, c) refl
 
 pub neither : {X : Type 0} (a b : Option X) → or_else a b ≡ None → (a ≡ None) × (b ≡ None)
 neither None b h = (refl, h)
@@ -85,7 +104,7 @@ module _ {R : Type 0} (judge : Judge R) (who : Identity) (f : Fti) where
   here earlier (Ok p) mine h =
       faultless f p
       (none_wrong judge earlier p (packet_fault f p)
-      (ap (λ (v : Bool). wrong_by judge earlier (if v then or_packet p (packet_fault f p) else Ok None)) (sym mine) ∙ h))
+      (ap (λ (v : Bool). wrong_by judge earlier (if v then or_packet p (packet_fault f p) else Ok Other)) (sym mine) ∙ h))
 
   pub all_sound : (earlier : List Symbol) (xs : List Placed) → AllByRecursion (λ x. counts who x.reading ≡ true) xs → wrong_after judge (scope who (Some f)) earlier xs ≡ None
       → AllByRecursion (λ x. IsSoundReading (IsFaultless f) x.reading) xs
@@ -95,27 +114,16 @@ module _ {R : Type 0} (judge : Judge R) (who : Identity) (f : Fti) where
       (wrong_after judge (scope who (Some f)) (earlier ++ symbols_in x.reading) xs) h in
       (here earlier x.reading mine.0 (nowhere x.place _ w.0), all_sound (earlier ++ symbols_in x.reading) xs mine.1 w.1)
 
--- the symbols of sound packets that were read are ones that the FTI has
-within_all : (who : Identity) (f : Fti) (i : ℕ) (ds : List (List ℕ)) (rs : List Reading) → ReadAll ds rs
-    → AllByRecursion (λ x. IsSoundReading (IsFaultless f) x.reading) (counted_from who i rs) → AllByRecursion (IsWithin f) (symbols (counted_from who i rs))
-within_all who f i [] [] read h = tt
-within_all who f i [] (r ∷ rs) read h = absurd read
-within_all who f i (d ∷ ds) [] read h = absurd read
-within_all who f i (d ∷ ds) (Err e ∷ rs) read h = absurd h.0
-within_all who f i (d ∷ ds) (Ok p ∷ rs) read h =
-    (elim (is_of_identity who p) as (λ v. AllByRecursion (λ x. IsSoundReading (IsFaultless f) x.reading) (cond v (record { place = i; reading = Ok p } ∷ []) [] ++ counted_from who (i + 1) rs)
-    → AllByRecursion (IsWithin f) (symbols (cond v (record { place = i; reading = Ok p } ∷ []) [] ++ counted_from who (i + 1) rs))) [
-      | true ↦ λ k.
-          (let r = both _ _ k.0.range in (
-            record {
-              block = ltb-true _ _ r.0;
-              esi = ltb-true _ _ r.1;
-              count = read.0.valid.symbol ∙ ap (λ (g : Fti). g.symbol_length) k.0.fti;
-            },
-            within_all who f (i + 1) ds rs read.1 k.1,
-          ))
-      | false ↦ λ k. within_all who f (i + 1) ds rs read.1 k
-    ]) h
+-- the symbols of sound packets are ones that the FTI has
+within_all : (f : Fti) (xs : List Placed) → AllByRecursion (λ x. IsSoundReading (IsFaultless f) x.reading) xs → AllByRecursion (IsWithin f) (symbols xs)
+within_all f [] h = tt
+within_all f (x ∷ xs) h = by x.reading h.0 (within_all f xs h.1)
+  where
+    by : (r : Reading) → IsSoundReading (IsFaultless f) r → AllByRecursion (IsWithin f) (symbols xs) → AllByRecursion (IsWithin f) (symbols_in r ++ symbols xs)
+    by (Err e) k later = absurd k
+    by (Ok p) k later =
+        let r = both _ _ k.range in
+        (record { block = ltb-true _ _ r.0; esi = ltb-true _ _ r.1; count = k.size }, later)
 
 -- where nothing is wrong, and the FTI is known
 pub clean_sound : {R : Type 0} (judge : Judge R) (known : Scope) (rs : List Reading) (f : Fti) → IsClean (reception_with judge known rs) f
@@ -126,6 +134,6 @@ clean_sound judge known rs f h =
     ap (λ (w : Identity). scope w (scope_from known xs).fti) (identity_stays known xs) ∙ ap (λ (o : Option Fti). scope known.identity o) h.some in
     all_sound judge known.identity f [] xs (each_counts known.identity 0 rs) (subst (λ (s : Scope). wrong_after judge s [] xs ≡ None) same h.clean)
 
-pub within : {R : Type 0} (judge : Judge R) (known : Scope) (ds : List (List ℕ)) (rs : List Reading) (f : Fti) → ReadAll ds rs
-    → IsClean (reception_with judge known rs) f → AllByRecursion (IsWithin f) (symbols (counted known.identity rs))
-within judge known ds rs f read h = within_all known.identity f 0 ds rs read (clean_sound judge known rs f h)
+pub within : {R : Type 0} (judge : Judge R) (known : Scope) (rs : List Reading) (f : Fti) → IsClean (reception_with judge known rs) f
+    → AllByRecursion (IsWithin f) (symbols (counted known.identity rs))
+within judge known rs f h = within_all f (counted known.identity rs) (clean_sound judge known rs f h)

@@ -30,8 +30,8 @@ pub data Answer : Type 0 where
 abbrev pub reception_of : Identity → List Reading → Reception Clash
 reception_of who rs = reception_with clash (asked who) rs
 
--- The answer, by cases in this order: the first that is wrong at a place; nothing came; a full block that no object
--- explains; a short block; the object.
+-- The answer, by cases in this order: the first that is wrong at a place; no carrier came; a full block that no object
+-- explains; a short block; the object. Without a carrier nothing is wrong at a place but that it holds no packet.
 abbrev pub AnswerTo : Reception Clash → Answer → Type 0
 AnswerTo reception (Fault i r) = reception.wrong ≡ Some (i, r)
 AnswerTo reception Empty = (reception.wrong ≡ None) × (reception.scope.fti ≡ None)

@@ -1,10 +1,9 @@
 -- What a list of datagrams says of one object isn't disturbed by others' packets: it is what the identity's part of the list
 -- says, with the places of the whole list.
-use Rattle.std.specs.Prelude.{◌≡◌, ℕ, cond, List, [], ◌∷◌, ◌++◌, map, slice_index, Option, Some, None}
-use Rattle.alc.specs.Reading.{Reading}
+use Rattle.std.specs.Prelude.{ℕ, cond, List, [], ◌∷◌, ◌++◌, map, slice_index}
 use Rattle.alc.specs.Computed.{read_of}
 use Rattle.reception.specs.declared.scope.Identity.{Identity}
-use Rattle.reception.specs.Reception.{Placed, counts, counted, ReadAll}
+use Rattle.reception.specs.Reception.{counts, counted, ReadAll}
 use Rattle.reception.specs.Readings.{readings_of}
 use Rattle.reception.specs.Answer.{Answer, Empty, Fault, NotCode, Missing, Object, IsAnswer}
 

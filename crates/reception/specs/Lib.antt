@@ -7,5 +7,7 @@ pub mod Step
 pub mod First
 pub mod Order
 pub mod Readings
+pub mod Found
 pub mod Walks
 pub mod Within
+pub mod Nothing

@@ -1,13 +1,13 @@
 -- What a list of datagrams says to one who asks for an identity's packets: which of them count, whose FTI holds, which
 -- symbols came, and what is wrong at a place. All that stands above sees the datagrams through this file alone.
-use Rattle.std.specs.Prelude.{◌≡◌, ℕ, ◌+◌, Bool, true, ◌&&◌, ◌==◌, not, cond, if◌then◌else◌, List, [], ◌∷◌, ◌++◌, Option, Some, None, Result, Ok, Err}
+use Rattle.std.specs.Prelude.{◌≡◌, ℕ, ◌+◌, Bool, true, ◌&&◌, ◌==◌, not, false, cond, if◌then◌else◌, List, [], ◌∷◌, ◌++◌, length, is_some, Option, Some, None, Result, Ok, Err}
 use Rattle.partition.specs.Fti.{Fti, has_symbol}
 use Rattle.alc.specs.Packet.{Packet}
 use Rattle.alc.specs.Reading.{Reading, Reads}
 use Rattle.reception.specs.declared.scope.Identity.{Identity}
 use Rattle.reception.specs.declared.scope.Scope.{Scope}
 use Rattle.reception.specs.declared.scope.PlaceFault.{PlaceFault}
-use Rattle.reception.specs.declared.scope.PlaceFault.TheVariants.{NoPacket, OtherFti, Range}
+use Rattle.reception.specs.declared.scope.PlaceFault.TheVariants.{NoPacket, OtherFti, SymbolLength, Range}
 use Rattle.reception.specs.Symbols.{Symbol, AllFull}
 
 -- each datagram is read
@@ -48,8 +48,13 @@ counted who rs = counted_from who 0 rs
 
 -- the FTI that a reading carries
 abbrev pub carried : Reading → Option Fti
-carried (Ok p) = Some p.fti
+carried (Ok p) = p.fti
 carried (Err r) = None
+
+-- whether a reading is a packet of this identity that carries one
+abbrev pub is_carrier : Identity → Reading → Bool
+is_carrier who (Ok p) = is_of_identity who p && is_some p.fti
+is_carrier who (Err r) = false
 
 abbrev pub or_later : {X : Type 0} → Option X → Option X → Option X
 or_later (Some x) later = Some x
@@ -59,7 +64,7 @@ or_later None later = later
 abbrev pub learned : Scope → Reading → Scope
 learned known r = record { identity = known.identity; fti = or_later known.fti (carried r) }
 
--- what holds: the FTI that is known before, else the first packet's
+-- what holds: the FTI that is known before, else the first carrier's, wherever it stands
 abbrev pub scope_from : Scope → List Placed → Scope
 scope_from known [] = known
 scope_from known (x ∷ xs) = scope_from (learned known x.reading) xs
@@ -86,7 +91,7 @@ abbrev pub symbols : List Placed → List Symbol
 symbols [] = []
 symbols (x ∷ xs) = symbols_in x.reading ++ symbols xs
 
--- what a decoder needs
+-- what a decoder needs of the symbols
 abbrev pub Suffices : Identity → Fti → List Reading → Type 0
 Suffices who f rs = AllFull f (symbols (counted who rs))
 
@@ -96,6 +101,11 @@ abbrev pub same_fti : Fti → Fti → Bool
 same_fti a b = a.transfer_length == b.transfer_length && a.symbol_length == b.symbol_length
     && a.block_length == b.block_length && a.max_symbols == b.max_symbols
 
+-- whether a packet's FTI, if it carries one, is another
+abbrev pub has_other_fti : Fti → Option Fti → Bool
+has_other_fti f None = false
+has_other_fti f (Some g) = not (same_fti g f)
+
 -- the FTI has the packet's block and symbol
 abbrev pub in_range : Packet → Fti → Bool
 in_range p f = has_symbol f p.block p.esi
@@ -103,23 +113,30 @@ in_range p f = has_symbol f p.block p.esi
 -- the first fault of a packet before its symbol is looked at
 abbrev pub packet_fault : Fti → Packet → Option PlaceFault
 packet_fault f p =
-    if not (same_fti p.fti f) then Some OtherFti
+    if has_other_fti f p.fti then Some OtherFti
+    else if not (length p.bytes == f.symbol_length) then Some SymbolLength
     else if not (in_range p f) then Some Range
     else None
 
-abbrev pub or_packet : Packet → Option PlaceFault → Result (Option Packet) PlaceFault
+-- what a reading without a fault is: a packet of another identity; one of the identity where no FTI is known, of which
+-- nothing can be said; or one of the identity, of the FTI that holds, as long as that tells, and in range
+pub data Seen : Type 0 where
+  Other : Seen
+  Early : Seen
+  InRange : Packet → Seen
+
+abbrev pub or_packet : Packet → Option PlaceFault → Result Seen PlaceFault
 or_packet p (Some e) = Err e
-or_packet p None = Ok (Some p)
+or_packet p None = Ok (InRange p)
 
--- a packet that can't be compared is passed over
-abbrev pub look_by : Option Fti → Packet → Result (Option Packet) PlaceFault
+abbrev pub look_by : Option Fti → Packet → Result Seen PlaceFault
 look_by (Some f) p = or_packet p (packet_fault f p)
-look_by None p = Ok None
+look_by None p = Ok Early
 
--- what is asked of a reading before its symbol: its first fault, or a packet of the identity in range, or nothing
-abbrev pub look : Scope → Reading → Result (Option Packet) PlaceFault
+-- what is asked of a reading before its symbol: its first fault, else what it is
+abbrev pub look : Scope → Reading → Result Seen PlaceFault
 look scope (Err r) = Err (NoPacket r)
-look scope (Ok p) = if is_of_identity scope.identity p then look_by scope.fti p else Ok None
+look scope (Ok p) = if is_of_identity scope.identity p then look_by scope.fti p else Ok Other
 
 -- ---- what is wrong at a place
 
@@ -136,10 +153,11 @@ abbrev pub judged : {R : Type 0} → Option R → Option (Wrong R)
 judged None = None
 judged (Some r) = Some (Judged r)
 
-abbrev pub wrong_by : {R : Type 0} → Judge R → List Symbol → Result (Option Packet) PlaceFault → Option (Wrong R)
+abbrev pub wrong_by : {R : Type 0} → Judge R → List Symbol → Result Seen PlaceFault → Option (Wrong R)
 wrong_by judge earlier (Err e) = Some (Faulty e)
-wrong_by judge earlier (Ok None) = None
-wrong_by judge earlier (Ok (Some p)) = judged (judge earlier (symbol_of p))
+wrong_by judge earlier (Ok Other) = None
+wrong_by judge earlier (Ok Early) = None
+wrong_by judge earlier (Ok (InRange p)) = judged (judge earlier (symbol_of p))
 
 -- what is wrong with a reading after these symbols
 abbrev pub reading_wrong : {R : Type 0} → Judge R → Scope → List Symbol → Reading → Option (Wrong R)
@@ -174,6 +192,7 @@ pub record Reception (R : Type 0) : Type 0 where
   pub scope : Scope
   pub symbols : List Symbol
 
+-- the walk knows from its start what holds in the end: a fault at a place may be of the FTI of a carrier behind it
 abbrev pub reception_with : {R : Type 0} → Judge R → Scope → List Reading → Reception R
 reception_with judge known rs = record {
   wrong = first_wrong judge (scope_from known (counted known.identity rs)) (counted known.identity rs);

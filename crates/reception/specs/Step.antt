@@ -1,12 +1,12 @@
 -- One datagram more: what is known of a list, and of the list with one more at its end.
-use Rattle.std.specs.Prelude.{◌≡◌, ℕ, if◌then◌else◌, List, ◌++◌, Option, Some, None, Result, Ok, Err}
-use Rattle.alc.specs.Packet.{Packet}
+use Rattle.std.specs.Prelude.{◌≡◌, ℕ, if◌then◌else◌, List, ◌++◌, Result, Ok, Err}
 use Rattle.alc.specs.Reading.{Reading, Reads}
 use Rattle.alc.specs.Views.{packet_of}
-use Rattle.alc.specs.declared.reading.Packet.{Packet as ReadPacket}
 use Rattle.reception.specs.declared.scope.Scope.{Scope}
 use Rattle.reception.specs.declared.scope.PlaceFault.{PlaceFault}
-use Rattle.reception.specs.Reception.{Judge, Reception, counts, symbols_in, learned, look, or_else, at_place, reading_wrong}
+use Rattle.reception.specs.declared.scope.Look.{Look}
+use Rattle.reception.specs.declared.scope.Look.TheVariants as look_at
+use Rattle.reception.specs.Reception.{Judge, Reception, Seen, Other, Early, InRange, counts, symbols_in, learned, look, or_else, at_place, reading_wrong}
 
 -- what comes to be known by a reading that counts, at place i
 abbrev pub told : {R : Type 0} → Judge R → ℕ → Reception R → Reading → Reception R
@@ -17,12 +17,13 @@ told judge i c r = record {
 }
 
 -- what the code answers to a look, as a value
-abbrev pub some_packet : Option ReadPacket → Option Packet
-some_packet None = None
-some_packet (Some p) = Some (packet_of p)
+abbrev pub seen : Look → Seen
+seen look_at.Other = Other
+seen look_at.Early = Early
+seen (look_at.InRange p) = InRange (packet_of p)
 
-abbrev pub looked : Result (Option ReadPacket) PlaceFault → Result (Option Packet) PlaceFault
-looked (Ok o) = Ok (some_packet o)
+abbrev pub looked : Result Look PlaceFault → Result Seen PlaceFault
+looked (Ok l) = Ok (seen l)
 looked (Err e) = Err e
 
 -- what is known after a reading: that of another identity tells nothing
@@ -30,7 +31,7 @@ abbrev pub after : Scope → Reading → Scope
 after known r = if counts known.identity r then learned known r else known
 
 -- the answer to a look at a datagram, and what is known after it
-pub record IsLook (datagram : List ℕ) (old new : Scope) (answer : Result (Option ReadPacket) PlaceFault) : Type 0 where
+pub record IsLook (datagram : List ℕ) (old new : Scope) (answer : Result Look PlaceFault) : Type 0 where
   pub reading : Reading
   pub reads : Reads datagram reading
   pub scope : new ≡ after old reading

@@ -1,8 +1,10 @@
 //! One look at a datagram.
-ghost use Rattle.std.specs.Prelude.{◌≡◌, Some, Ok};
+ghost use Rattle.std.specs.Prelude.{◌≡◌, Ok, map};
 ghost use Rattle.alc.specs.Views.{packet_of};
-ghost use Rattle.reception.specs.Reception.{asked, with_fti, learned, is_of_identity, packet_fault};
+ghost use Rattle.reception.specs.Reception.{asked, with_fti, learned, is_of_identity, has_other_fti, packet_fault};
+ghost use Rattle.reception.specs.Found.{scope_in};
 ghost use Rattle.reception.specs.Step.{IsLook};
+ghost use Rattle.reception.specs.Walks.{IsHeard};
 
 use alc::{Packet, PacketFault, read};
 use partition::Fti;
@@ -20,13 +22,28 @@ pub struct Identity {
 pub enum PlaceFault {
     /// The datagram is no packet.
     NoPacket(PacketFault),
-    /// The FTI isn't that of the scope.
+    /// The packet carries an FTI that isn't that of the scope.
     OtherFti,
+    /// The symbol isn't as long as the scope's FTI tells.
+    SymbolLength,
     /// The FTI has no such block, or the block no such encoding symbol.
     Range,
 }
 
-/// Whose packets are received, and with which FTI, as far as that is known. What isn't is taken from the first of them.
+/// What a datagram without a fault is.
+#[derive(Clone, Copy, Debug)]
+pub enum Look<'a> {
+    /// A packet of another identity, which doesn't count.
+    Other,
+    /// A packet of the identity that carries no FTI, where none is known: nothing can be said of its symbol.
+    Early,
+    /// A packet of the identity, in range of the scope's FTI and with a symbol as long as that tells, which is left to
+    /// the caller to judge. It is a carrier where it has an FTI, which is then the scope's.
+    InRange(Packet<'a>),
+}
+
+/// Whose packets are received, and with which FTI, as far as that is known. What isn't is taken from the first carrier:
+/// the first of them that has one.
 #[derive(Clone, Copy, Debug)]
 pub struct Scope {
     pub identity: Identity,
@@ -34,7 +51,7 @@ pub struct Scope {
 }
 
 impl Scope {
-    /// The identity's packets, with an FTI that isn't known before the first: a decoder's.
+    /// The identity's packets, with an FTI that isn't known before the first carrier: a receiver's.
     pub fn new(identity: Identity) -> Scope
         ensures { result ≡ asked identity }
     {
@@ -54,11 +71,24 @@ impl Scope {
         }
     }
 
-    /// Looks at one datagram, of any bytes. `Ok` has a packet of the identity, with the scope's FTI and in range, whose symbol,
-    /// of the FTI's symbol length, is left to the caller to judge; `None` is a packet of another identity, which doesn't
-    /// count. Else it is the first fault: `NoPacket`, `OtherFti`, `Range`. In any case the scope takes the FTI from a packet of
-    /// the identity where it doesn't know one yet; what it knows stays.
-    pub fn look<'a>(&mut self, datagram: &'a [u8]) -> Result<Option<Packet<'a>>, PlaceFault>
+    /// The scope of datagrams, with the FTI of the first carrier among them, if there is one: a decoder's, who looks at
+    /// each of them then. A fault of one may be by the FTI of a carrier behind it.
+    pub fn found_in(identity: Identity, datagrams: &[&[u8]]) -> Scope
+        ensures { result ≡ scope_in identity (map (λ d. d.now) datagrams.now) }
+    {
+        let mut scope = Scope::new(identity);
+        for datagram in datagrams {
+            if scope.fti.is_some() {
+                return scope;
+            }
+            scope.hear(datagram);
+        }
+        scope
+    }
+
+    /// Looks at one datagram, of any bytes: the first fault, in the order of `PlaceFault`, else what it is. In any case
+    /// the scope takes the FTI from a carrier of the identity where it doesn't know one yet; what it knows stays.
+    pub fn look<'a>(&mut self, datagram: &'a [u8]) -> Result<Look<'a>, PlaceFault>
         ensures { IsLook datagram.now self.old self.new result }
     {
         let packet = match read(datagram) {
@@ -66,12 +96,26 @@ impl Scope {
             Err(fault) => return Err(PlaceFault::NoPacket(fault)),
         };
         if !self.has(&packet) {
-            return Ok(None);
+            return Ok(Look::Other);
         }
-        let fti = self.learn(&packet);
+        self.learn(&packet);
+        let Some(fti) = self.fti else {
+            return Ok(Look::Early);
+        };
         match fault_of(&packet, &fti) {
             Some(fault) => Err(fault),
-            None => Ok(Some(packet)),
+            None => Ok(Look::InRange(packet)),
+        }
+    }
+
+    // Takes from a datagram what isn't known, and asks no more of it.
+    fn hear(&mut self, datagram: &[u8])
+        ensures { IsHeard datagram.now self.old self.new }
+    {
+        if let Ok(packet) = read(datagram) {
+            if self.has(&packet) {
+                self.learn(&packet);
+            }
         }
     }
 
@@ -82,14 +126,23 @@ impl Scope {
         packet.tsi == self.identity.tsi && packet.toi == self.identity.toi
     }
 
-    // Takes from a packet what isn't known: the FTI that holds then.
-    fn learn(&mut self, packet: &Packet<'_>) -> Fti
-        ensures learned { self.new ≡ learned self.old (Ok (packet_of packet.now)) }
-        ensures fti { self.new.fti ≡ Some result }
+    // Takes from a packet of the identity what isn't known.
+    fn learn(&mut self, packet: &Packet<'_>)
+        ensures { self.new ≡ learned self.old (Ok (packet_of packet.now)) }
     {
-        let fti = self.fti.unwrap_or(packet.fti);
-        self.fti = Some(fti);
-        fti
+        if self.fti.is_none() {
+            self.fti = packet.fti;
+        }
+    }
+}
+
+// Whether a packet carries an FTI that isn't this one.
+fn carries_other(packet: &Packet<'_>, fti: &Fti) -> bool
+    ensures { result ≡ has_other_fti fti.now packet.now.fti }
+{
+    match packet.fti {
+        Some(own) => own != *fti,
+        None => false,
     }
 }
 
@@ -97,8 +150,11 @@ impl Scope {
 fn fault_of(packet: &Packet<'_>, fti: &Fti) -> Option<PlaceFault>
     ensures { result ≡ packet_fault fti.now (packet_of packet.now) }
 {
-    if packet.fti != *fti {
+    if carries_other(packet, fti) {
         return Some(PlaceFault::OtherFti);
+    }
+    if packet.symbol.len() != usize::from(fti.symbol_length()) {
+        return Some(PlaceFault::SymbolLength);
     }
     if !fti.has(packet.sbn, packet.esi) {
         return Some(PlaceFault::Range);

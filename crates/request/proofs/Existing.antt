@@ -136,7 +136,7 @@ fine_encode : (orders : Bor (List (Bor Text))) → IsOrders orders → IsFine (s
 unfolding clap_on_literals
 fine_encode orders are words none =
     let s = shape_at 0 orders in
-    let each : Each (IsOwn s.rules) s.rules = (record { first = refl; action = inl refl }, (record { first = refl; action = inl refl }, (record { first = refl; action = inl refl }, (record { first = refl; action = inl refl }, (record { first = refl; action = inl refl }, (record { first = refl; action = inl refl }, (record { first = refl; action = inl refl }, (record { first = refl; action = inl refl }, (record { first = refl; action = inr (inr (inl refl)) }, tt))))))))) in
+    let each : Each (IsOwn s.rules) s.rules = (record { first = refl; action = inl refl }, (record { first = refl; action = inl refl }, (record { first = refl; action = inl refl }, (record { first = refl; action = inl refl }, (record { first = refl; action = inl refl }, (record { first = refl; action = inl refl }, (record { first = refl; action = inl refl }, (record { first = refl; action = inl refl }, (record { first = refl; action = inl refl }, (record { first = refl; action = inr (inr (inl refl)) }, tt)))))))))) in
     let right = right_level s words each none in
     let object = text_value s words _ (codes "OBJECT") right refl refl refl in
     let output = text_value s words _ (codes "OUT") right refl refl refl in
@@ -149,9 +149,10 @@ fine_encode orders are words none =
     let max_n = has_number _ 1 255 8 (codes "max") (rows_after s.rules [] words) refl (omega arith) (text_value s words _ (codes "max") right refl refl refl) in
     let sizes : Sizes = record { symbol = symbol.0; block = block.0; max_n = max_n.0 } in
     let has : HasSizes (rows_after s.rules [] words) sizes = record { symbol = symbol.1; block = block.1; max_n = max_n.1; some_symbol = symbol.2; sendable = symbol.3; some_block = block.2; some_max = max_n.2 } in
+    let every = has_number _ 1 255 8 (codes "fti-every") (rows_after s.rules [] words) refl (omega arith) (option_value s words _ (codes "fti-every") _ _ right refl refl refl) in
     let order = has_order _ orders (rows_after s.rules [] words) refl refl are (option_value s words _ (codes "order") _ _ right refl refl refl) in
-    let sending : Sending = record { identifiers = identifiers; sizes = sizes; order = order.0 } in
-    (EncodeAsked object.value output.value sending, refl, (object.first, output.first, record { identifiers = whose; sizes = has; order = order.1 }))
+    let sending : Sending = record { identifiers = identifiers; sizes = sizes; fti_every = every.0; order = order.0; some = every.2 } in
+    (EncodeAsked object.value output.value sending, refl, (object.first, output.first, record { identifiers = whose; sizes = has; carriers = record { given = every.1; some = every.2 }; order = order.1 }))
 
 fine_certify : (orders : Bor (List (Bor Text))) → IsOrders orders → IsFine (shape_at 1 orders)
 unfolding clap_on_literals

@@ -10,7 +10,7 @@ use Rattle.clap.specs.Matches.{ReadsOne, raw_values, values_left}
 use Rattle.clap.specs.declared.parser.matches.ValuesRef.{ValuesRef}
 use Rattle.clap.specs.declared.parser.matches.Found.{Found}
 use Rattle.clap.proofs.WalkLemmas.{first_value-rows, one_text-rows, raw_values-rows, typed_values-rows}
-use Rattle.request.specs.Requests.{Asked, EncodeAsked, CertifyAsked, CheckAsked, DropAsked, JoinAsked, DecodeAsked, FollowAsked, TwinAsked, ShowAsked, HasIdentifiers, HasOrder, HasPlaces, HasSending, HasSessions, HasSizes, HasText, HasTurns, HasValues, IsRead, flag_word, name_of, order_name}
+use Rattle.request.specs.Requests.{Asked, EncodeAsked, CertifyAsked, CheckAsked, DropAsked, JoinAsked, DecodeAsked, FollowAsked, TwinAsked, ShowAsked, HasCarriers, HasIdentifiers, HasOrder, HasPlaces, HasSending, HasSessions, HasSizes, HasText, HasTurns, HasValues, IsRead, flag_word, name_of, order_name}
 use Rattle.request.specs.RequestReading.{AnswersRead, Gives, GivesNone, IsNoPlaces, IsNoSessions, NoneIs}
 use Rattle.request.specs.declared.requests.Request.{Request}
 use Rattle.request.specs.declared.usage.Usage.{Usage}
@@ -68,6 +68,10 @@ no_sending rows none sending has = none sending.sizes has.sizes
 -- and with no identifiers
 pub no_one_to_send : (rows : List Row) → NoneIs (HasIdentifiers rows) → NoneIs (HasSending rows)
 no_one_to_send rows none sending has = none sending.identifiers has.identifiers
+
+-- and with no number for the places of carriers
+pub no_carriers_to_send : (rows : List Row) → NoneIs (HasCarriers rows) → NoneIs (HasSending rows)
+no_carriers_to_send rows none sending has = none sending.fti_every has.carriers
 
 -- ---- what was read is no request, where a value of it is none
 

@@ -64,6 +64,35 @@ encode_order : read (codes "order") (encode (codes "--max=30" ∷ [])) ≡ Some 
 unfolding clap_on_literals
 encode_order = refl
 
+-- the FTI is in each datagram where it isn't told
+encode_carriers : read (codes "fti-every") (encode (codes "--max=30" ∷ [])) ≡ Some (codes "encode", Some (codes "1"))
+unfolding clap_on_literals
+encode_carriers = refl
+
+encode_some_carriers : read (codes "fti-every") (encode (codes "--max=30" ∷ codes "--fti-every" ∷ codes "255" ∷ [])) ≡ Some (codes "encode", Some (codes "255"))
+unfolding clap_on_literals
+encode_some_carriers = refl
+
+some_carriers_taken : fault_of grammar (encode (codes "--max=30" ∷ codes "--fti-every=255" ∷ [])) ≡ []
+unfolding clap_on_literals
+some_carriers_taken = refl
+
+no_carriers : fault_of grammar (encode (codes "--max=30" ∷ codes "--fti-every=0" ∷ [])) ≡ kind.ValueValidation ∷ []
+unfolding clap_on_literals
+no_carriers = refl
+
+carriers_out_of_range : fault_of grammar (encode (codes "--max=30" ∷ codes "--fti-every=256" ∷ [])) ≡ kind.ValueValidation ∷ []
+unfolding clap_on_literals
+carriers_out_of_range = refl
+
+carriers_told_twice : fault_of grammar (encode (codes "--max=30" ∷ codes "--fti-every=2" ∷ codes "--fti-every=2" ∷ [])) ≡ kind.ArgumentConflict ∷ []
+unfolding clap_on_literals
+carriers_told_twice = refl
+
+carriers_of_no_sending : fault_of grammar (check (codes "--toi=1" ∷ codes "--fti-every=2" ∷ [])) ≡ kind.UnknownArgument ∷ []
+unfolding clap_on_literals
+carriers_of_no_sending = refl
+
 out_of_range : fault_of grammar (encode (codes "--max=256" ∷ [])) ≡ kind.ValueValidation ∷ []
 unfolding clap_on_literals
 out_of_range = refl

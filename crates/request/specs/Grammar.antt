@@ -20,6 +20,15 @@ number name least most = record (new_rule name) {
   required = true;
 }
 
+-- `--fti-every M`, 1 to 255, and 1 where it isn't given
+abbrev pub fti_every : Rule
+fti_every = record (new_rule (codes "fti-every")) {
+  long = Some (codes "fti-every");
+  value_names = 1;
+  parser = Some (Unsigned 1 255);
+  defaults = codes "1" ∷ [];
+}
+
 -- `--order ORDER`, one of the orders, and the first where it isn't given
 abbrev pub order : Bor (List (Bor Text)) → Rule
 order orders = record (new_rule (codes "order")) {
@@ -65,7 +74,7 @@ command name rules = record (new_shape name) { rules = rules }
 
 abbrev pub encode_command : Bor (List (Bor Text)) → Shape
 encode_command orders = command (codes "encode")
-    (file (codes "OBJECT") ∷ file (codes "OUT") ∷ identifiers ++ sizes ++ order orders ∷ [])
+    (file (codes "OBJECT") ∷ file (codes "OUT") ∷ identifiers ++ sizes ++ fti_every ∷ order orders ∷ [])
 
 abbrev pub certify_command : Shape
 certify_command = command (codes "certify") (file (codes "OBJECT") ∷ file (codes "OUT") ∷ sizes)

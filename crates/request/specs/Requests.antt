@@ -39,6 +39,11 @@ pub record HasSizes (rows : List Row) (sizes : Sizes) : Type 0 where
   pub some_block : 1 ≤ sizes.block
   pub some_max : 1 ≤ sizes.max_n
 
+-- of how many datagrams in a row one carries the FTI
+pub record HasCarriers (rows : List Row) (fti_every : ℕ) : Type 0 where
+  pub given : HasNumber 8 rows (codes "fti-every") fti_every
+  pub some : 1 ≤ fti_every
+
 -- the word for an order
 abbrev pub order_name : Order → Text
 order_name Blocks = codes "blocks"
@@ -56,6 +61,7 @@ pub record HasIdentifiers (rows : List Row) (identifiers : Identifiers) : Type 0
 pub record HasSending (rows : List Row) (sending : Sending) : Type 0 where
   pub identifiers : HasIdentifiers rows sending.identifiers
   pub sizes : HasSizes rows sending.sizes
+  pub carriers : HasCarriers rows sending.fti_every
   pub order : HasOrder rows sending.order
 
 -- each text is a number of 32 bits, place by place

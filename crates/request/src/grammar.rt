@@ -1,7 +1,7 @@
 //! The grammar: the commands, their arguments and their help.
-ghost use Rattle.std.specs.Prelude.{◌≡◌, map, false, IfOk};
+ghost use Rattle.std.specs.Prelude.{◌≡◌, ◌∷◌, [], map, false, IfOk};
 ghost use Rattle.clap.specs.Words.{rule_of};
-ghost use Rattle.request.specs.Grammar.{file as file_rule, number as number_rule, order as order_rule, places as places_rule, sessions as sessions_rule, turns as turns_rule, encode_command as encode_shape, certify_command as certify_shape, check_command as check_shape, drop_command as drop_shape, join_command as join_shape, decode_command as decode_shape, follow_command as follow_shape, twin_command as twin_shape, show_command as show_shape, IsOrders};
+ghost use Rattle.request.specs.Grammar.{file as file_rule, number as number_rule, fti_every as fti_every_rule, order as order_rule, places as places_rule, sessions as sessions_rule, turns as turns_rule, encode_command as encode_shape, certify_command as certify_shape, check_command as check_shape, drop_command as drop_shape, join_command as join_shape, decode_command as decode_shape, follow_command as follow_shape, twin_command as twin_shape, show_command as show_shape, IsOrders};
 ghost use Rattle.request.specs.Building.{HasGrammar, IsShaped, AddsRules, AddsCommand};
 
 use crate::requests::MOST_SYMBOL_BYTES;
@@ -61,7 +61,7 @@ fn check_command<'a>(alloc: Global) -> Result<Command<'a>, AllocError>
             "Says whether a certificate proves that a session carries an object under a TSI and TOI, and how many datagrams may be missed",
         )
         .after_help(
-            "Prints `yes`, for each block how many symbols it needs and has, and how many datagrams may be missed: any (margin), and neighbouring ones (burst); and the places of the first loss that is too great (kill). Else `no` and the first reason. Packets of another TSI or TOI are passed over; places are those of the whole session.\nStatuses: 0 yes, 1 no or a fault, 2 the command line is refused.\n\nExample: alcrs check bulletin.session bulletin.txt bulletin.rsc --tsi 7 --toi 1",
+            "Prints `yes`, for each block how many symbols it needs and has, how many datagrams carry the FTI (carriers), and how many may be missed: any (margin), and neighbouring ones (burst); and the places of the first loss that is too great (kill). Else `no` and the first reason. Packets of another TSI or TOI are passed over; places are those of the whole session.\nStatuses: 0 yes, 1 no or a fault, 2 the command line is refused.\n\nExample: alcrs check bulletin.session bulletin.txt bulletin.rsc --tsi 7 --toi 1",
         );
     let command = with_files(alloc, command, &[SESSION, CARRIED_OBJECT, CERTIFICATE])?;
     with_numbers(alloc, command, &IDENTIFIERS)
@@ -96,7 +96,7 @@ fn show_command<'a>(alloc: Global) -> Result<Command<'a>, AllocError>
     let command = Command::new(alloc, "show")
         .about("Prints a line for each datagram of a session")
         .after_help(
-            "Prints each datagram's place, TSI, TOI, FTI, source block number and encoding symbol ID, or why it is no packet.\nStatuses: 0 all are packets, 1 some are not or a fault, 2 the command line is refused.\n\nExample: alcrs show bulletin.session",
+            "Prints each datagram's place, TSI, TOI, FTI or that it has none, source block number and encoding symbol ID, or why it is no packet.\nStatuses: 0 all are packets, 1 some are not or a fault, 2 the command line is refused.\n\nExample: alcrs show bulletin.session",
         );
     with_files(alloc, command, &[SESSION])
 }
@@ -192,7 +192,30 @@ fn encode_command<'a>(alloc: Global) -> Result<Command<'a>, AllocError>
         &[("OBJECT", "The file to send"), SESSION_TO_WRITE],
     )?;
     let command = with_numbers(alloc, command, &IDENTIFIERS)?;
-    with_numbers(alloc, command, &SIZES)?.arg(order(alloc))
+    let command = with_numbers(alloc, command, &SIZES)?;
+    with_fti_every(alloc, command)?.arg(order(alloc))
+}
+
+// The command with `--fti-every` last.
+fn with_fti_every<'a>(alloc: Global, command: Command<'a>) -> Result<Command<'a>, AllocError>
+    ensures { IfOk result (AddsRules command.entry (fti_every_rule ∷ [])) }
+{
+    command.arg(fti_every(alloc))
+}
+
+// Which datagrams carry the FTI.
+fn fti_every<'a>(alloc: Global) -> Arg<'a>
+    ensures rule { rule_of result ≡ fti_every_rule }
+    ensures local { result.global ≡ false }
+{
+    Arg::new(alloc, "fti-every")
+        .long("fti-every")
+        .value_name("M")
+        .value_parser(ValueParser::unsigned(1, 255))
+        .default_value("1")
+        .help(
+            "The datagrams at the places that M divides carry the FTI, 1 to 255: each of them costs 12 bytes (a header of 32 in place of 20), so that a greater M saves bytes; with M above 1 a listener that misses all of them can't decode. The line `carriers` of check tells how many there are",
+        )
 }
 
 // In which order the encoding symbols are sent.
@@ -258,7 +281,7 @@ fn decode_command<'a>(alloc: Global) -> Result<Command<'a>, AllocError>
     let command = Command::new(alloc, "decode")
         .about("Writes the object that the packets of a TSI and TOI in a session give")
         .after_help(
-            "Prints `object` and its length in bytes, and writes it; else `empty`, or `missing`, the first block that is short and how many symbols it has and needs, or `fault` and why the packets are of no object. Packets of another TSI or TOI are passed over.\nStatuses: 0 the object was written, 1 a fault, 2 the command line is refused, 3 nothing came or a block is short.\n\nExample: alcrs decode bulletin.session received.txt --tsi 7 --toi 1",
+            "Prints `object` and its length in bytes, and writes it; else `empty`, or `missing`, the first block that is short and how many symbols it has and needs, or `fault` and why the packets are of no object. Packets of another TSI or TOI are passed over.\nStatuses: 0 the object was written, 1 a fault, 2 the command line is refused, 3 a block is short or no packet with the FTI came.\n\nExample: alcrs decode bulletin.session received.txt --tsi 7 --toi 1",
         );
     let command = with_files(alloc, command, &[SESSION, OBJECT_TO_WRITE])?;
     with_numbers(alloc, command, &IDENTIFIERS)
@@ -272,7 +295,7 @@ fn follow_command<'a>(alloc: Global) -> Result<Command<'a>, AllocError>
             "Takes the datagrams of a session one by one, as they come, and writes the object of a TSI and TOI as soon as they give it",
         )
         .after_help(
-            "Prints `refused`, its place and why for each datagram that is of no object with those before it, and goes on without it; then `complete after` and how many datagrams were read, and `object` and its length in bytes, and reads no further; else, at the session's end, `empty`, or `missing`, the first block that is short and how many symbols it has and needs. Packets of another TSI or TOI are passed over. SESSION may be a pipe.\nStatuses: 0 the object was written, 1 a fault, 2 the command line is refused, 3 nothing came or a block is short.\n\nExample: alcrs follow bulletin.session received.txt --tsi 7 --toi 1",
+            "Prints `refused`, its place and why for each datagram that is of no object with those before it, and goes on without it; then `complete after` and how many datagrams were read, and `object` and its length in bytes, and reads no further; else, at the session's end, `empty`, or `missing`, the first block that is short and how many symbols it has and needs. Packets of another TSI or TOI are passed over. SESSION may be a pipe.\nStatuses: 0 the object was written, 1 a fault, 2 the command line is refused, 3 a block is short or no packet with the FTI came.\n\nExample: alcrs follow bulletin.session received.txt --tsi 7 --toi 1",
         );
     let command = with_files(alloc, command, &[SESSION, OBJECT_TO_WRITE])?;
     with_numbers(alloc, command, &IDENTIFIERS)

@@ -1,7 +1,7 @@
 //! Requests of what the grammar matched.
 ghost use Rattle.std.specs.Prelude.{◌≡◌, ◌∷◌, None, Some, IfOk, IfErr, codes, map};
 ghost use Rattle.clap.specs.Words.{first_of, one_of, subcommand_rows_of};
-ghost use Rattle.request.specs.Requests.{HasIdentifiers, HasOrder, HasPlaces, HasSending, HasSessions, HasSizes, HasText, HasTurns};
+ghost use Rattle.request.specs.Requests.{HasCarriers, HasIdentifiers, HasOrder, HasPlaces, HasSending, HasSessions, HasSizes, HasText, HasTurns};
 ghost use Rattle.request.specs.RequestReading.{AnswersRead, Finds, Gives, GivesNone, IsNoPlaces, IsNoSessions, rows_in};
 
 use crate::requests::{Identifiers, MOST_SYMBOL_BYTES, Request, Sending, Sizes};
@@ -49,6 +49,17 @@ fn sizes(matches: &ArgMatches<'_>) -> Result<Sizes, Usage>
     })
 }
 
+// Of how many datagrams in a row one carries the FTI.
+fn fti_every(matches: &ArgMatches<'_>) -> Result<u8, Usage>
+    ensures { Finds (HasCarriers (rows_in matches.now)) result }
+{
+    let every = number::<u8>(matches, "fti-every")?;
+    if every == 0 {
+        return Err(Usage::Value);
+    }
+    Ok(every)
+}
+
 #[tactic(auto, using(crate::proofs::Getters::no_order))]
 fn order(matches: &ArgMatches<'_>) -> Result<Order, Usage>
     ensures { Finds (HasOrder (rows_in matches.now)) result }
@@ -71,13 +82,14 @@ fn identifiers(matches: &ArgMatches<'_>) -> Result<Identifiers, Usage>
 }
 
 // What is sent, and how.
-#[tactic(auto, using(crate::proofs::Getters::no_sending, crate::proofs::Getters::no_one_to_send))]
+#[tactic(auto, using(crate::proofs::Getters::no_sending, crate::proofs::Getters::no_one_to_send, crate::proofs::Getters::no_carriers_to_send))]
 fn sending(matches: &ArgMatches<'_>) -> Result<Sending, Usage>
     ensures { Finds (HasSending (rows_in matches.now)) result }
 {
     Ok(Sending {
         identifiers: identifiers(matches)?,
         sizes: sizes(matches)?,
+        fti_every: fti_every(matches)?,
         order: order(matches)?,
     })
 }

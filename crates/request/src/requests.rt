@@ -1,4 +1,6 @@
 //! What a command line asks for.
+ghost use Rattle.std.specs.Prelude.{◌≤◌};
+
 use partition::Order;
 
 // The most bytes of an encoding symbol: no more go into a datagram.
@@ -31,8 +33,11 @@ pub struct Sending {
     pub identifiers: Identifiers,
     /// The FTI, but for the object's length.
     pub sizes: Sizes,
+    /// The datagrams at the places that this number divides carry the FTI, 1 to 255.
+    pub fti_every: u8,
     /// In which order the encoding symbols follow one another.
     pub order: Order,
+    ghost some: { 1 ≤ fti_every },
 }
 
 /// A command with its values. Texts are paths as the command line has them.

@@ -20,7 +20,7 @@ use Rattle.tool.specs.Inputs.{Opens, IsNotOpened}
 use Rattle.tool.specs.Lines.{line_of}
 use Rattle.tool.specs.Decoding.{object_text}
 use Rattle.tool.specs.Following.{complete_line, IsCompleted, TellsComplete, IsCutOff, IsFollowed, IsNotFollowed}
-use Rattle.tool.specs.Listening.{HasMadeUp, HasHeardAll, IsCutBehind, IsUnheard, IsDelivered, IsUndelivered, IsUntold, TellsAnswer}
+use Rattle.tool.specs.Listening.{HasMadeUp, HasHeardAll, HasHeardSome, IsCutBehind, IsUnheard, IsDelivered, IsUndelivered, IsUntold, TellsAnswer}
 
 -- the session didn't open
 pub not_opened : (who : Identity) (files : Option Files) (session output : List ℕ) (failed : Bool) (before : Option (List ℕ)) (fault : Fault) → IsNotOpened files session fault
@@ -34,13 +34,14 @@ not_opened who files session output failed before (Fti e) h = absurd h
 not_opened who files session output failed before (Send e) h = absurd h
 not_opened who files session output failed before Output h = absurd h
 
-module _ (who : Identity) (files : Option Files) (session output : List ℕ) (opened : Option (List ℕ)) (sound : Bool) (input : HoldsInput files session opened sound) where
-  opens : (fs : Option Files) → HoldsInput fs session opened sound → Opens fs session opened
-  opens None h = tt
-  opens (Some held) h = (h.0, h.1, h.2.0)
+-- the file that an input was opened of
+pub opens : (files : Option Files) (name : List ℕ) (opened : Option (List ℕ)) (sound : Bool) → HoldsInput files name opened sound → Opens files name opened
+opens None name opened sound h = tt
+opens (Some held) name opened sound h = (h.0, h.1, h.2.0)
 
+module _ (who : Identity) (files : Option Files) (session output : List ℕ) (opened : Option (List ℕ)) (sound : Bool) (input : HoldsInput files session opened sound) where
   sent : Opens files session opened
-  sent = opens files input
+  sent = opens files session opened sound input
 
   -- a folder whose inputs may fail doesn't tell its files
   untold : (fs : Option Files) → HoldsInput fs session opened sound → sound ≡ false → fs ≡ None
@@ -151,3 +152,15 @@ module _ (who : Identity) (files : Option Files) (session output : List ℕ) (op
 pub passed_on : {A E : Type 0} (r : Result A E) (e : E) (P : E → Type 0) → IsErrAnd r (λ x. x ≡ e) → P e → IfErr r P
 passed_on (Ok a) e P h p = tt
 passed_on (Err x) e P h p = subst P (sym h) p
+
+-- the line of a refused datagram wasn't printed, behind those of some that came
+pub line_untold : (who : Identity) (sound : Bool) (opened new : Option (List ℕ)) (failed unprinted : Bool) (before middle after : Option (List ℕ)) (fault : Fault)
+    → HasHeardSome who opened before middle → IsUntold unprinted middle after fault → IsUnheard who sound opened new failed unprinted before after fault
+line_untold who sound opened new failed unprinted before middle after (Open name) heard why = absurd why.0
+line_untold who sound opened new failed unprinted before middle after (File name) heard why = absurd why.0
+line_untold who sound opened new failed unprinted before middle after Memory heard why = subst (λ (o : Option (List ℕ)). HasHeardSome who opened before o) (sym why.1) heard
+line_untold who sound opened new failed unprinted before middle after (Frame f) heard why = absurd why.0
+line_untold who sound opened new failed unprinted before middle after (Certificate f) heard why = absurd why.0
+line_untold who sound opened new failed unprinted before middle after (Fti f) heard why = absurd why.0
+line_untold who sound opened new failed unprinted before middle after (Send f) heard why = absurd why.0
+line_untold who sound opened new failed unprinted before middle after Output heard why = why.0

@@ -15,15 +15,12 @@ use Rattle.tool.specs.Inputs.{HoldsSession, Opens, IsNotOpened, IsSessionUnread}
 use Rattle.tool.specs.Joining.{HoldSessions, IsNotJoined, IsOneUnread}
 use Rattle.tool.specs.Making.{Fails}
 use Rattle.tool.specs.Opening.{AreOpen}
+use Rattle.tool.proofs.Ends.{opens}
 
 -- one file more
 pub open_more : (files : Option Files) (names : List (List ℕ)) (opened : List (Option (List ℕ))) (name : List ℕ) (input : Option (List ℕ)) (sound : Bool)
     → AreOpen files names opened → HoldsInput files name input sound → AreOpen files (names ++ name ∷ []) (opened ++ input ∷ [])
-open_more files [] [] name input sound are holds = (one files holds, tt)
-  where
-    one : (f : Option Files) → HoldsInput f name input sound → Opens f name input
-    one None h = tt
-    one (Some held) h = (h.0, h.1, h.2.0)
+open_more files [] [] name input sound are holds = (opens files name input sound holds, tt)
 open_more files [] (o ∷ os) name input sound are holds = absurd are
 open_more files (n ∷ ns) [] name input sound are holds = absurd are
 open_more files (n ∷ ns) (o ∷ os) name input sound are holds = (are.0, open_more files ns os name input sound are.1 holds)

@@ -2,7 +2,7 @@
 use Rattle.std.proofs.Common.{◌≡◌, ℕ, List, Option, Some, None, refl, ap}
 use Rattle.reception.specs.declared.scope.Identity.{Identity}
 use Rattle.cert.specs.declared.verdict.Reason.{Reason}
-use Rattle.cert.specs.declared.verdict.Reason.TheVariants.{ObjectLength, NotObject, Empty, Packet, OtherFti, Range, Symbol, Thin}
+use Rattle.cert.specs.declared.verdict.Reason.TheVariants.{ObjectLength, NotObject, Empty, Packet, OtherFti, SymbolLength, Range, Symbol, Thin, NoCarrier}
 use Rattle.cert.specs.declared.verdict.Verdict.TheVariants.{No}
 use Rattle.tool.specs.Lines.{Prints, PrintsTwin}
 use Rattle.partition.specs.Fti.{Fti}
@@ -21,8 +21,10 @@ short_reason (NotObject b c i) t e = absurd (cc)
 short_reason Empty t e = absurd (cc)
 short_reason (Packet i x) t e = absurd (cc)
 short_reason (OtherFti i) t e = absurd (cc)
+short_reason (SymbolLength i) t e = absurd (cc)
 short_reason (Range i) t e = absurd (cc)
 short_reason (Symbol i c) t e = absurd (cc)
+short_reason NoCarrier t e = absurd (cc)
 
 -- any other reason
 pub record IsOther (who : Identity) (reason : Reason) (before after : Option (List ℕ)) (f : Fti) (datagrams : List (List ℕ)) (object output : List ℕ) (old new : Option Files) : Type 0 where
@@ -38,5 +40,7 @@ other_reason who (NotObject b c i) before after f datagrams object output old ne
 other_reason who Empty before after f datagrams object output old new e s h = record { told = refl; printed = h; made = s }
 other_reason who (Packet i x) before after f datagrams object output old new e s h = record { told = refl; printed = h; made = s }
 other_reason who (OtherFti i) before after f datagrams object output old new e s h = record { told = refl; printed = h; made = s }
+other_reason who (SymbolLength i) before after f datagrams object output old new e s h = record { told = refl; printed = h; made = s }
 other_reason who (Range i) before after f datagrams object output old new e s h = record { told = refl; printed = h; made = s }
 other_reason who (Symbol i c) before after f datagrams object output old new e s h = record { told = refl; printed = h; made = s }
+other_reason who NoCarrier before after f datagrams object output old new e s h = record { told = refl; printed = h; made = s }

@@ -7,7 +7,7 @@ use Rattle.decoder.specs.Answers.{answer_value}
 use Rattle.decoder.specs.declared.answer.Answer.{Answer}
 use Rattle.decoder.specs.declared.answer.Answer.TheVariants.{Empty, Fault as NoObject, Missing, Object}
 use Rattle.decoder.specs.declared.answer.DecodeFault.{DecodeFault}
-use Rattle.decoder.specs.declared.answer.DecodeFault.TheVariants.{Packet, OtherFti, Range, Clash, NotCode}
+use Rattle.decoder.specs.declared.answer.DecodeFault.TheVariants.{Packet, OtherFti, SymbolLength, Range, Clash, NotCode}
 use Rattle.tool.specs.declared.fault.Fault.{Fault}
 use Rattle.tool.specs.Folder.{Files, Replaces}
 use Rattle.tool.specs.Inputs.{HoldsSession, IsSessionUnread}
@@ -20,6 +20,7 @@ abbrev pub GainsFault : DecodeFault → List ℕ → List ℕ → Type 0
 GainsFault (Packet place fault) old new =
     new ≡ old ++ named (codes "R1 Packet place") (decimal place) ++ 32 ∷ [] ++ packet_words fault
 GainsFault (OtherFti place) old new = new ≡ old ++ named (codes "R3 OtherFti place") (decimal place)
+GainsFault (SymbolLength place) old new = new ≡ old ++ named (codes "R7 SymbolLength place") (decimal place)
 GainsFault (Range place) old new = new ≡ old ++ named (codes "R4 Range place") (decimal place)
 GainsFault (Clash place) old new = new ≡ old ++ named (codes "R5 Clash place") (decimal place)
 GainsFault (NotCode block) old new = new ≡ old ++ named (codes "R6 NotCode block") (decimal block)

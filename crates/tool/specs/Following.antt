@@ -7,10 +7,10 @@ use Rattle.session.specs.declared.frame.FrameFault.TheVariants.{Io as FrameIo, N
 use Rattle.reception.specs.declared.scope.Identity.{Identity}
 use Rattle.reception.specs.Answer.{Answer, Empty, Missing, Object, IsAnswer}
 use Rattle.decoder.specs.Answers.{fault_value}
-use Rattle.decoder.specs.Receiving.{with_datagram, LeaveNoneShort, HasNoFault}
-use Rattle.decoder.specs.declared.answer.DecodeFault.TheVariants.{Packet, OtherFti, Range, Clash, NotCode}
+use Rattle.decoder.specs.Receiving.{with_datagram, ComesEarly, LeaveNoneShort, HasNoFault}
+use Rattle.decoder.specs.declared.answer.DecodeFault.TheVariants.{Packet, OtherFti, SymbolLength, Range, Clash, NotCode}
 use Rattle.decoder.specs.declared.receiver.FeedFault.{FeedFault}
-use Rattle.decoder.specs.declared.receiver.FeedFault.TheVariants.{Fault as NoObject, Full, NoMemory}
+use Rattle.decoder.specs.declared.receiver.FeedFault.TheVariants.{Fault as NoObject, Full, Early, NoMemory}
 use Rattle.tool.specs.declared.fault.Fault.{Fault}
 use Rattle.tool.specs.declared.fault.Fault.TheVariants.{Memory, Frame, Output}
 use Rattle.tool.specs.Folder.{Files, Replaces}
@@ -26,10 +26,12 @@ use Rattle.tool.specs.Making.{IsUnmade, LeavesFiles}
 abbrev pub refusal_words : FeedFault → List ℕ
 refusal_words (NoObject (Packet place fault)) = codes "R1 Packet " ++ packet_words fault
 refusal_words (NoObject (OtherFti place)) = codes "R3 OtherFti"
+refusal_words (NoObject (SymbolLength place)) = codes "R7 SymbolLength"
 refusal_words (NoObject (Range place)) = codes "R4 Range"
 refusal_words (NoObject (Clash place)) = codes "R5 Clash"
 refusal_words (NoObject (NotCode block)) = named (codes "R6 NotCode block") (decimal block)
 refusal_words Full = codes "G1 Full"
+refusal_words Early = codes "G2 Early"
 refusal_words NoMemory = codes "memory"
 
 -- the line of a refused datagram, by its place
@@ -42,11 +44,12 @@ complete_line count = named (codes "complete after") (decimal count) ++ codes " 
 
 -- ---- datagrams, one by one
 
--- Why a datagram isn't taken behind those that were: the decoder's answer to them and it is a fault, or they are as many as
--- can be counted.
+-- Why a datagram isn't taken behind those that were: the decoder's answer to them and it is a fault; they are as many as
+-- can be counted; or it comes before the first carrier.
 abbrev pub IsRefused : Identity → List (List ℕ) → List ℕ → FeedFault → Type 0
 IsRefused who taken d (NoObject fault) = IsAnswer who (with_datagram taken d) (fault_value fault)
 IsRefused who taken d Full = length taken ≡ 2 ^ 64 - 1
+IsRefused who taken d Early = ComesEarly who taken d
 IsRefused who taken d NoMemory = ⊥
 
 -- a datagram was taken, which leaves some block short, and nothing is told

@@ -1,11 +1,12 @@
 -- Printed lines.
-use Rattle.std.specs.Prelude.{◌≡◌, ℕ, zero, suc, Bool, true, List, [], ◌∷◌, ◌++◌, Option, length, slice_index_or, flat_map, ◌⊎◌, codes, decimal, Ok, Err, ⊤}
+use Rattle.std.specs.Prelude.{◌≡◌, ℕ, zero, suc, Bool, true, List, [], ◌∷◌, ◌++◌, Option, Some, None, length, slice_index_or, flat_map, ◌⊎◌, codes, decimal, Ok, Err, ⊤}
 use Rattle.std.specs.Io.KnownBytes.{Appends}
+use Rattle.partition.specs.Fti.{Fti as CarriedFti}
 use Rattle.alc.specs.Packet.{Packet as Sent}
 use Rattle.alc.specs.Reading.{Reading, Reads}
 use Rattle.cert.specs.declared.verdict.Report.{Report}
 use Rattle.cert.specs.declared.verdict.Reason.{Reason}
-use Rattle.cert.specs.declared.verdict.Reason.TheVariants.{ObjectLength, NotObject, Empty, Packet, OtherFti, Range, Symbol, Thin}
+use Rattle.cert.specs.declared.verdict.Reason.TheVariants.{ObjectLength, NotObject, Empty, Packet, OtherFti, SymbolLength, Range, Symbol, Thin, NoCarrier}
 use Rattle.cert.specs.declared.verdict.Verdict.{Verdict}
 use Rattle.cert.specs.declared.verdict.Verdict.TheVariants.{Yes, No}
 use Rattle.tool.specs.declared.fault.Fault.{Fault}
@@ -63,10 +64,11 @@ block_lines blocks (suc n) = block_lines blocks n ++ line_of (block_line n (slic
 abbrev pub kill_line : List ℕ → List ℕ
 kill_line places = codes "kill" ++ flat_map (λ place. named [] (decimal place)) places
 
--- the lines of what can be lost
+-- the lines of the carriers and of what can be lost
 abbrev pub losses_text : Report → List ℕ
 losses_text report =
-    line_of (named (codes "margin") (decimal report.margin)) ++ (line_of (kill_line report.kill.items) ++ line_of (named (codes "burst") (decimal report.burst)))
+    line_of (named (codes "carriers") (decimal report.carriers))
+    ++ (line_of (named (codes "margin") (decimal report.margin)) ++ (line_of (kill_line report.kill.items) ++ line_of (named (codes "burst") (decimal report.burst))))
 
 -- what a yes prints
 abbrev pub report_text : Report → List ℕ
@@ -81,11 +83,13 @@ GainsReason Empty old new = new ≡ old ++ codes "N3 Empty"
 GainsReason (Packet place fault) old new =
     new ≡ old ++ named (codes "N4 Packet place") (decimal place) ++ 32 ∷ [] ++ packet_words fault
 GainsReason (OtherFti place) old new = new ≡ old ++ named (codes "N6 OtherFti place") (decimal place)
+GainsReason (SymbolLength place) old new = new ≡ old ++ named (codes "N10 SymbolLength place") (decimal place)
 GainsReason (Range place) old new = new ≡ old ++ named (codes "N7 Range place") (decimal place)
 GainsReason (Symbol place column) old new =
     new ≡ old ++ named (codes "N8 Symbol place") (decimal place) ++ named (codes " column") (decimal column)
 GainsReason (Thin block have need) old new =
     new ≡ old ++ named (codes "N9 Thin block") (decimal block) ++ named (codes " have") (decimal have) ++ named (codes " need") (decimal need)
+GainsReason NoCarrier old new = new ≡ old ++ codes "N11 NoCarrier"
 
 -- the line of a no
 abbrev pub IsNoLine : Reason → List ℕ → Type 0
@@ -107,12 +111,18 @@ PrintsTwin (Yes report) before after = Appends before after (line_of (codes "no 
 PrintsTwin (No (Thin block have need)) before after = Appends before after (line_of (twin_line block have need))
 PrintsTwin (No reason) before after = Prints (No reason) before after
 
+-- what a packet's line says of its FTI and its symbol: of a carrier the FTI, else how many bytes of symbol it has
+abbrev pub fti_text : Option CarriedFti → ℕ → List ℕ
+fti_text (Some f) size =
+    named (codes " length") (decimal f.transfer_length) ++ named (codes " symbol") (decimal f.symbol_length)
+    ++ named (codes " block") (decimal f.block_length) ++ named (codes " max") (decimal f.max_symbols)
+fti_text None size = codes " no fti" ++ named (codes " symbol") (decimal size)
+
 -- a packet's line, behind its datagram's place
 abbrev pub packet_text : ℕ → Sent → List ℕ
 packet_text place p =
     decimal place ++ named (codes " tsi") (decimal p.tsi) ++ named (codes " toi") (decimal p.toi)
-    ++ named (codes " length") (decimal p.fti.transfer_length) ++ named (codes " symbol") (decimal p.fti.symbol_length)
-    ++ named (codes " block") (decimal p.fti.block_length) ++ named (codes " max") (decimal p.fti.max_symbols)
+    ++ fti_text p.fti (length p.bytes)
     ++ named (codes " sbn") (decimal p.block) ++ named (codes " esi") (decimal p.esi)
 
 -- the line of a datagram, read so

@@ -39,7 +39,7 @@ pub record IsEncoded (old new : Option Files) (object output : List ℕ) (sendin
   pub whole : HoldsBytes old object bytes
   pub can : CanBeSent bytes (sized sending.sizes (length bytes))
   pub datagrams : List (List ℕ)
-  pub sent : IsSessionOf bytes (sized sending.sizes (length bytes)) sending.identifiers.tsi sending.identifiers.toi sending.order datagrams
+  pub sent : IsSessionOf bytes (sized sending.sizes (length bytes)) sending.identifiers.tsi sending.identifiers.toi sending.fti_every sending.order datagrams
   pub made : Replaces old new output (frames datagrams)
   pub printed : PrintsCount (codes "encoded") (length (pairs sending.order (sized sending.sizes (length bytes)))) (codes " datagrams") before after
   pub told : status ≡ 0

@@ -3,7 +3,7 @@ use Rattle.std.specs.Prelude.{List, ℕ, ◌++◌, codes, decimal}
 use Rattle.partition.specs.declared.FtiError.{FtiError}
 use Rattle.partition.specs.declared.FtiError.TheVariants.{LengthZero, LengthTooGreat, SymbolZero, BlockZero, MaxBelowBlock, TooManyBlocks}
 use Rattle.alc.specs.declared.fault.PacketFault.{PacketFault}
-use Rattle.alc.specs.declared.fault.PacketFault.TheVariants.{TooShort, Version, Psi, Codepoint, NoIdentity, HeaderLength, Extension, FtiLength, TwoFti, NoFti, FtiValue, PayloadLength}
+use Rattle.alc.specs.declared.fault.PacketFault.TheVariants.{TooShort, Version, Psi, Codepoint, NoIdentity, HeaderLength, Extension, FtiLength, TwoFti, FtiValue, PayloadLength}
 use Rattle.session.specs.declared.frame.FrameFault.{FrameFault}
 use Rattle.session.specs.declared.frame.FrameFault.TheVariants.{CutLength, CutDatagram, TooLong, Io as FrameIo, NoMemory as NoFrameMemory, NoSuchPlace}
 use Rattle.cert.specs.declared.certificate.CertFault.{CertFault}
@@ -29,7 +29,6 @@ packet_words HeaderLength = codes "P6 HeaderLength"
 packet_words Extension = codes "P7 Extension"
 packet_words FtiLength = codes "P8 FtiLength"
 packet_words TwoFti = codes "P9 TwoFti"
-packet_words NoFti = codes "P10 NoFti"
 packet_words (FtiValue fault) = codes "P11 FtiValue " ++ fti_words fault
 packet_words PayloadLength = codes "P12 PayloadLength"
 

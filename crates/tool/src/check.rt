@@ -106,10 +106,11 @@ fn number_line(alloc: Global, name: &str, number: usize) -> Result<Text, AllocEr
     Ok(line)
 }
 
-// Puts the lines of what can be lost last.
+// Puts the lines of the carriers and of what can be lost last.
 fn put_losses(alloc: Global, lines: &mut Text, report: &Report) -> Result<(), AllocError>
     ensures { OnOk result (line_of lines.new ≡ line_of lines.old ++ losses_text report.now) }
 {
+    lines.put_line(&number_line(alloc, "carriers", report.carriers)?)?;
     lines.put_line(&number_line(alloc, "margin", report.margin)?)?;
     lines.put_line(&kill_line_of(alloc, report.kill.as_slice())?)?;
     lines.put_line(&number_line(alloc, "burst", report.burst)?)
@@ -150,6 +151,7 @@ fn put_reason(line: &mut Text, reason: Reason) -> Result<(), AllocError>
             put_packet_fault(line, fault)
         }
         Reason::OtherFti(place) => line.named("N6 OtherFti place", place),
+        Reason::SymbolLength(place) => line.named("N10 SymbolLength place", place),
         Reason::Range(place) => line.named("N7 Range place", place),
         Reason::Symbol(place, column) => {
             line.named("N8 Symbol place", place)?;
@@ -160,6 +162,7 @@ fn put_reason(line: &mut Text, reason: Reason) -> Result<(), AllocError>
             line.named(" have", have)?;
             line.named(" need", need)
         }
+        Reason::NoCarrier => line.text("N11 NoCarrier"),
     }
 }
 

@@ -63,6 +63,7 @@ fn put_fault(line: &mut Text, fault: DecodeFault) -> Result<(), AllocError>
             put_packet_fault(line, fault)
         }
         DecodeFault::OtherFti(place) => line.named("R3 OtherFti place", place),
+        DecodeFault::SymbolLength(place) => line.named("R7 SymbolLength place", place),
         DecodeFault::Range(place) => line.named("R4 Range place", place),
         DecodeFault::Clash(place) => line.named("R5 Clash place", place),
         DecodeFault::NotCode(block) => line.named("R6 NotCode block", block),

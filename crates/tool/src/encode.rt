@@ -37,6 +37,7 @@ pub(crate) fn encode<'a, F: Folder, W: Write>(
         sending.identifiers.tsi,
         sending.identifiers.toi,
         &fti,
+        u32::from(sending.fti_every),
         sending.order,
         &mut file,
     );

@@ -77,6 +77,7 @@ fn listen<'a, R: Read, W: Console>(
             Ok(Progress::More) => {}
             Err(FeedFault::NoMemory) => return Err(Fault::Memory),
             Err(FeedFault::Full) => tell_refusal(alloc, out, count, FeedFault::Full)?,
+            Err(FeedFault::Early) => tell_refusal(alloc, out, count, FeedFault::Early)?,
             Err(FeedFault::Fault(fault)) => {
                 tell_refusal(alloc, out, count, FeedFault::Fault(fault))?
             }
@@ -142,10 +143,12 @@ fn put_refusal(line: &mut Text, fault: FeedFault) -> Result<(), AllocError>
             put_packet_fault(line, fault)
         }
         FeedFault::Fault(DecodeFault::OtherFti(_)) => line.text("R3 OtherFti"),
+        FeedFault::Fault(DecodeFault::SymbolLength(_)) => line.text("R7 SymbolLength"),
         FeedFault::Fault(DecodeFault::Range(_)) => line.text("R4 Range"),
         FeedFault::Fault(DecodeFault::Clash(_)) => line.text("R5 Clash"),
         FeedFault::Fault(DecodeFault::NotCode(block)) => line.named("R6 NotCode block", block),
         FeedFault::Full => line.text("G1 Full"),
+        FeedFault::Early => line.text("G2 Early"),
         FeedFault::NoMemory => line.text("memory"),
     }
 }

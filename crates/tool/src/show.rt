@@ -1,8 +1,8 @@
 //! The command `show`.
-ghost use Rattle.std.specs.Prelude.{◌≡◌, ◌≤◌, length, Err, IfOk, IfErr, OnOk};
+ghost use Rattle.std.specs.Prelude.{◌≡◌, ◌≤◌, ◌++◌, length, Err, IfOk, IfErr, OnOk};
 ghost use Rattle.alc.specs.Views.{packet_of};
 ghost use Rattle.tool.specs.Outcomes.{IsShown, IsShownStatus, IsUnshown, IsShownInPart};
-ghost use Rattle.tool.specs.Lines.{packet_text, IsReadingLine, PrintsDatagrams, PrintsSome, IsPrintFault};
+ghost use Rattle.tool.specs.Lines.{fti_text, packet_text, IsReadingLine, PrintsDatagrams, PrintsSome, IsPrintFault};
 
 use crate::fault::Fault;
 use crate::folder::Folder;
@@ -10,6 +10,7 @@ use crate::input::read_session;
 use crate::print::Text;
 use crate::wording::put_packet_fault;
 use alc::{Packet, PacketFault, read};
+use partition::Fti;
 use session::{Session, Write};
 use std::alloc::{AllocError, Global};
 
@@ -56,6 +57,24 @@ fn print_datagrams<'a, W: Write>(
     Ok(status)
 }
 
+// Puts the FTI of a carrier, or how many bytes of symbol another packet has.
+fn put_fti(line: &mut Text, fti: &Option<Fti>, size: usize) -> Result<(), AllocError>
+    ensures { OnOk result (line.new ≡ line.old ++ fti_text fti.now size) }
+{
+    match fti {
+        Some(fti) => {
+            line.named(" length", fti.transfer_length())?;
+            line.named(" symbol", fti.symbol_length())?;
+            line.named(" block", fti.block_length())?;
+            line.named(" max", fti.max_symbols())
+        }
+        None => {
+            line.text(" no fti")?;
+            line.named(" symbol", size)
+        }
+    }
+}
+
 fn packet_line(alloc: Global, place: usize, packet: &Packet<'_>) -> Result<Text, AllocError>
     ensures { IfOk result (λ line. line ≡ packet_text place (packet_of packet.now)) }
 {
@@ -63,10 +82,7 @@ fn packet_line(alloc: Global, place: usize, packet: &Packet<'_>) -> Result<Text,
     line.number(place)?;
     line.named(" tsi", packet.tsi)?;
     line.named(" toi", packet.toi)?;
-    line.named(" length", packet.fti.transfer_length())?;
-    line.named(" symbol", packet.fti.symbol_length())?;
-    line.named(" block", packet.fti.block_length())?;
-    line.named(" max", packet.fti.max_symbols())?;
+    put_fti(&mut line, &packet.fti, packet.symbol.len())?;
     line.named(" sbn", packet.sbn)?;
     line.named(" esi", packet.esi)?;
     Ok(line)

@@ -76,8 +76,10 @@ fn short_block(reason: Reason) -> Option<(u32, usize, usize)>
         | Reason::Empty
         | Reason::Packet(..)
         | Reason::OtherFti(_)
+        | Reason::SymbolLength(_)
         | Reason::Range(_)
-        | Reason::Symbol(..) => None,
+        | Reason::Symbol(..)
+        | Reason::NoCarrier => None,
     }
 }
 

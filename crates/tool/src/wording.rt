@@ -38,7 +38,6 @@ pub(crate) fn put_packet_fault(line: &mut Text, fault: PacketFault) -> Result<()
         PacketFault::Extension => line.text("P7 Extension"),
         PacketFault::FtiLength => line.text("P8 FtiLength"),
         PacketFault::TwoFti => line.text("P9 TwoFti"),
-        PacketFault::NoFti => line.text("P10 NoFti"),
         PacketFault::FtiValue(fault) => {
             line.text("P11 FtiValue ")?;
             put_fti_fault(line, fault)

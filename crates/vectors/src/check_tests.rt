@@ -1,8 +1,9 @@
 //! Checks of sessions as they are read.
 use crate::ONE;
 use crate::session_tests::breaking_between;
-use cert::{Certificate, CheckFault, Reason, Verdict, check_from};
-use session::{FrameFault, Pieces, read_to_end};
+use cert::{Certificate, CheckFault, Reason, Verdict, check, check_from};
+use session::{FrameFault, Pieces, Session, read_to_end};
+use std::alloc::Global;
 use std::test::Fail;
 
 /// With FTI (2, 1, 2, 3).
@@ -21,7 +22,15 @@ pub(crate) const SESSION: [u8; 105] = [
     0, 0, 0, 0, 0, 0, 0, 1, 0, 0, 0, 1, 0x40, 3, 0, 0, 0, 0, 0, 2, 0, 1, 2, 3, 0, 0, 0, 2, 4,
 ];
 
-/// The bytes of one frame.
+/// The same with the FTI in the first datagram alone, of frames of 35, 23 and 23 bytes.
+pub(crate) const FIRST_ALONE: [u8; 81] = [
+    0x00, 0x21, 0x10, 0xA0, 0x07, 0x05, 0, 0, 0, 0, 0, 0, 0, 1, 0, 0, 0, 1, 0x40, 3, 0, 0, 0, 0, 0,
+    2, 0, 1, 2, 3, 0, 0, 0, 0, 1, 0x00, 0x15, 0x10, 0xA0, 0x04, 0x05, 0, 0, 0, 0, 0, 0, 0, 1, 0, 0,
+    0, 1, 0, 0, 0, 1, 2, 0x00, 0x15, 0x10, 0xA0, 0x04, 0x05, 0, 0, 0, 0, 0, 0, 0, 1, 0, 0, 0, 1, 0,
+    0, 0, 2, 4,
+];
+
+/// The bytes of one frame of a carrier.
 pub(crate) const FRAME: usize = 35;
 
 // The same with another symbol in datagram 1.
@@ -151,6 +160,74 @@ fn a_reader_that_fails_under_a_check(rt: HostRuntime) -> Result<(), Fail> {
             Told::No(Reason::Symbol(1, 0))
         };
         assert_eq!(rt; answer, wanted, "broken at {size}");
+    }
+    Ok(())
+}
+
+// A session's carriers, margin, kill and burst are these.
+fn has_figures(
+    alloc: Global,
+    file: &[u8],
+    carriers: usize,
+    margin: usize,
+    kill: &[usize],
+    burst: usize,
+) -> Result<bool, Fail> {
+    let certificate = Certificate::read(alloc, &mut Pieces::new(&CERTIFICATE, 5))?;
+    let session = Session::read(alloc, &mut Pieces::new(file, 50))?;
+    match check(alloc, &session, &OBJECT, &certificate, ONE)? {
+        Verdict::Yes(report) => Ok(
+            report.carriers == carriers
+                && report.margin == margin
+                && report.kill.as_slice() == kill
+                && report.burst == burst,
+        ),
+        Verdict::No(_) => Ok(false),
+    }
+}
+
+// The loss of all carriers counts as that of a block does, and carriers by their places.
+#[test]
+fn carriers_in_the_report(rt: HostRuntime) -> Result<(), Fail> {
+    let alloc = rt.alloc();
+    assert!(rt; has_figures(alloc, &SESSION, 3, 1, &[0, 1], 1)?);
+    assert!(rt; has_figures(alloc, &FIRST_ALONE, 1, 0, &[0], 0)?);
+    let mut twice = FIRST_ALONE.to_vec(alloc)?;
+    twice.extend_from_slice(&FIRST_ALONE)?;
+    assert!(rt; has_figures(alloc, twice.as_slice(), 2, 1, &[0, 3], 3)?);
+    let mut second = FIRST_ALONE[..58].to_vec(alloc)?;
+    second.extend_from_slice(&SESSION[70..])?;
+    assert!(rt; has_figures(alloc, second.as_slice(), 2, 1, &[0, 1], 1)?);
+    Ok(())
+}
+
+// That no carrier came is known at the end alone, behind each cut; a symbol that is too long is a reason at its place.
+#[test]
+fn packets_without_fti_as_they_are_read(rt: HostRuntime) -> Result<(), Fail> {
+    let alloc = rt.alloc();
+    let certificate = Certificate::read(alloc, &mut Pieces::new(&CERTIFICATE, 5))?;
+    let plain = &FIRST_ALONE[35..];
+    for size in 0..=46usize {
+        let beginning = plain.get(..size).unwrap_or(&[]);
+        let mut reader = Pieces::new(beginning, 8);
+        let answer = told_by(check_from(alloc, &mut reader, &OBJECT, &certificate, ONE));
+        let wanted = match (size / 23, size % 23) {
+            (2, _) => Told::No(Reason::NoCarrier),
+            (_, 0) => of_beginning(size / 23 * FRAME),
+            (_, 1) => Told::Fault(CheckFault::Frame(FrameFault::CutLength)),
+            _ => Told::Fault(CheckFault::Frame(FrameFault::CutDatagram)),
+        };
+        assert_eq!(rt; answer, wanted, "{size} bytes");
+    }
+    let mut longer = plain.to_vec(alloc)?;
+    longer.extend_from_slice(&[0, 22])?;
+    longer.extend_from_slice(&plain[2..23])?;
+    longer.push(0)?;
+    for behind in 0..3u8 {
+        let mut reader = Pieces::new(longer.as_slice(), 8);
+        let answer = told_by(check_from(alloc, &mut reader, &OBJECT, &certificate, ONE));
+        assert_eq!(rt; answer, Told::No(Reason::SymbolLength(2)), "{behind}");
+        longer.push(behind)?;
     }
     Ok(())
 }

@@ -8,10 +8,18 @@ use session::{FrameFault, Pieces, Session, Sink};
 use std::alloc::{AllocError, Global};
 use std::test::Fail;
 
-// The datagrams that are sent of an object, block after block.
+// The datagrams that are sent of an object, block after block, of which the first alone carries the FTI.
+fn first_alone(alloc: Global, object: &[u8], fti: &Fti) -> Result<Session, Fail> {
+    let mut sink = Sink::new(alloc);
+    encode(alloc, object, 1, 1, fti, u32::MAX, Order::Blocks, &mut sink)?;
+    let mut reader = Pieces::new(sink.bytes(), 100);
+    Ok(Session::read(alloc, &mut reader)?)
+}
+
+// The same, of which all do.
 fn sent(alloc: Global, object: &[u8], fti: &Fti) -> Result<Session, Fail> {
     let mut sink = Sink::new(alloc);
-    encode(alloc, object, 1, 1, fti, Order::Blocks, &mut sink)?;
+    encode(alloc, object, 1, 1, fti, 1, Order::Blocks, &mut sink)?;
     let mut reader = Pieces::new(sink.bytes(), 100);
     Ok(Session::read(alloc, &mut reader)?)
 }
@@ -57,6 +65,16 @@ fn datagram(
 // The datagram of a symbol of a byte, of block 0 of an object of two source symbols and one repair symbol.
 fn of_two(alloc: Global, esi: u8, byte: u8) -> Result<Vec<u8>, AllocError> {
     datagram(alloc, 1, TWO_OF_THREE, [0, 0, 0, esi], &[byte])
+}
+
+// The same without FTI.
+fn plain(alloc: Global, payload_id: [u8; 4], symbol: &[u8]) -> Result<Vec<u8>, AllocError> {
+    let header = [0x10, 0xA0, 4, 5, 0, 0, 0, 0, 0, 0, 0, 1, 0, 0, 0, 1];
+    let mut bytes = Vec::new(alloc);
+    bytes.extend_from_slice(&header)?;
+    bytes.extend_from_slice(&payload_id)?;
+    bytes.extend_from_slice(symbol)?;
+    Ok(bytes)
 }
 
 fn is_object(answer: &Answer, bytes: &[u8]) -> bool {
@@ -253,6 +271,62 @@ fn faults_of_the_second(rt: HostRuntime) -> Result<(), Fail> {
     Ok(())
 }
 
+// The carrier may stand anywhere; what is wrong with packets without FTI before it is told by its FTI.
+#[test]
+fn a_carrier_behind(rt: HostRuntime) -> Result<(), Fail> {
+    let alloc = rt.alloc();
+    let object = [1, 2];
+    let session = first_alone(alloc, &object, &Fti::new(2, 1, 2, 3)?)?;
+    for places in [&[0usize, 1][..], &[1, 0], &[2, 1, 0], &[2, 2, 1, 0, 2]] {
+        let answer = of_places(alloc, &session, places)?;
+        assert!(rt; is_object(&answer, &object));
+    }
+    assert!(rt; is_empty(&of_places(alloc, &session, &[2, 1])?));
+    assert!(rt; is_missing(&of_places(alloc, &session, &[0])?, 0, 1, 2));
+    let second = plain(alloc, [0, 0, 0, 1], &[2])?;
+    let carrier = of_two(alloc, 0, 1)?;
+    for (payload_id, symbol, fault) in [
+        ([0, 0, 0, 3], &[2u8][..], DecodeFault::Range(0)),
+        ([0, 0, 1, 0], &[2], DecodeFault::Range(0)),
+        ([0, 0, 0, 1], &[2, 0], DecodeFault::SymbolLength(0)),
+        ([0, 0, 9, 9], &[2, 0], DecodeFault::SymbolLength(0)),
+        ([0, 0, 0, 0], &[9], DecodeFault::Clash(2)),
+    ] {
+        let wrong = plain(alloc, payload_id, symbol)?;
+        let answer = decode(
+            alloc,
+            &[wrong.as_slice(), second.as_slice(), carrier.as_slice()],
+            ONE,
+        )?;
+        assert!(rt; is_fault(&answer, fault), "{fault}");
+    }
+    Ok(())
+}
+
+// Without a carrier nothing is said of symbols, whatever they are; but what is no packet is told.
+#[test]
+fn no_carrier(rt: HostRuntime) -> Result<(), Fail> {
+    let alloc = rt.alloc();
+    let first = plain(alloc, [0, 0, 0, 0], &[1])?;
+    let second = plain(alloc, [0, 0, 0, 1], &[2])?;
+    let clash = plain(alloc, [0, 0, 0, 1], &[3])?;
+    let longer = plain(alloc, [255, 255, 255, 255], &[3, 3])?;
+    let datagrams = [first, second, clash, longer];
+    for count in 0..=4usize {
+        let answer = of_datagrams(alloc, datagrams.get(..count).unwrap_or(&[]))?;
+        assert!(rt; is_empty(&answer), "{count}");
+    }
+    let [first, _, _, longer] = &datagrams;
+    let answer = decode(alloc, &[first.as_slice(), longer.as_slice(), &[]], ONE)?;
+    let no_packet = DecodeFault::Packet(2, PacketFault::TooShort);
+    assert!(rt; is_fault(&answer, no_packet));
+    // A carrier of another object.
+    let other = datagram(alloc, 2, TWO_OF_THREE, [0, 0, 0, 0], &[1])?;
+    let answer = decode(alloc, &[other.as_slice(), first.as_slice()], ONE)?;
+    assert!(rt; is_empty(&answer));
+    Ok(())
+}
+
 // Packets of another object are passed over, and places are those of the whole list.
 #[test]
 fn another_object_passed_over(rt: HostRuntime) -> Result<(), Fail> {
@@ -307,6 +381,7 @@ fn texts_of_faults(rt: HostRuntime) -> Result<(), Fail> {
     for (fault, text) in [
         (no_packet, "R1 Packet place 0 P1 TooShort"),
         (DecodeFault::OtherFti(4), "R3 OtherFti place 4"),
+        (DecodeFault::SymbolLength(3), "R7 SymbolLength place 3"),
         (DecodeFault::Range(5), "R4 Range place 5"),
         (DecodeFault::Clash(1), "R5 Clash place 1"),
         (DecodeFault::NotCode(2), "R6 NotCode block 2"),

@@ -1,6 +1,6 @@
 //! Every cut, great claims, each byte of a datagram changed, and readers and writers that fail at any place.
 use crate::ONE;
-use crate::check_tests::{CERTIFICATE, FRAME, OBJECT, SESSION, Told, told_by};
+use crate::check_tests::{CERTIFICATE, FIRST_ALONE, FRAME, OBJECT, SESSION, Told, told_by};
 use crate::session_tests::breaking_between;
 use alc::{PacketFault, read};
 use cert::{CertFault, Certificate, CheckFault, Reason, check, check_from};
@@ -60,6 +60,18 @@ fn every_beginning_of_a_datagram(rt: HostRuntime) {
             _ => None,
         };
         assert_eq!(rt; fault, wanted, "{size} bytes");
+    }
+    // The second datagram carries no FTI.
+    let datagram = FIRST_ALONE.get(FRAME + 2..FRAME + 23).unwrap_or(&[]);
+    for size in 0..=21usize {
+        let fault = reading_fault(datagram.get(..size).unwrap_or(&[]));
+        let wanted = match size {
+            0..=3 => Some(PacketFault::TooShort),
+            4..=15 => Some(PacketFault::HeaderLength),
+            16..=20 => Some(PacketFault::PayloadLength),
+            _ => None,
+        };
+        assert_eq!(rt; fault, wanted, "{size} bytes without FTI");
     }
 }
 
@@ -214,6 +226,50 @@ fn every_byte_as_every_byte(rt: HostRuntime) -> Result<(), Fail> {
     Ok(())
 }
 
+// Why a datagram isn't decoded behind the session's first, if it isn't.
+fn decoding_fault_behind(
+    alloc: Global,
+    datagram: &[u8],
+) -> Result<Option<DecodeFault>, AllocError> {
+    match decode(alloc, &[&SESSION[2..FRAME], datagram], ONE)? {
+        Answer::Fault(fault) => Ok(Some(fault)),
+        _ => Ok(None),
+    }
+}
+
+// Why a receiver that has taken the session's first datagram refuses another, if it does.
+fn feeding_fault_behind(alloc: Global, datagram: &[u8]) -> Result<Option<DecodeFault>, AllocError> {
+    let mut receiver = Receiver::new(ONE);
+    let Ok(_) = receiver.feed(alloc, &SESSION[2..FRAME]) else {
+        return Err(AllocError);
+    };
+    match receiver.feed(alloc, datagram) {
+        Err(FeedFault::Fault(fault)) => Ok(Some(fault)),
+        Err(FeedFault::NoMemory) => Err(AllocError),
+        _ => Ok(None),
+    }
+}
+
+// Each byte of a datagram without FTI as each byte, behind a carrier: a decoder and a receiver say the same.
+#[test]
+fn every_byte_without_fti(rt: HostRuntime) -> Result<(), Fail> {
+    let alloc = rt.alloc();
+    for at in 0..21usize {
+        for byte in 0..=255u8 {
+            let mut datagram = [0; 21];
+            datagram.copy_from_slice(&FIRST_ALONE[37..58]);
+            datagram[at] = byte;
+            let decoded = decoding_fault_behind(alloc, &datagram)?;
+            let fed = feeding_fault_behind(alloc, &datagram)?;
+            assert_eq!(rt; fed, decoded, "byte {at} is {byte}");
+            if let Some(fault) = reading_fault(&datagram) {
+                assert_eq!(rt; decoded, Some(DecodeFault::Packet(1, fault)));
+            }
+        }
+    }
+    Ok(())
+}
+
 // A writer that takes one byte at a time, and fails behind any number of them, has just these.
 #[test]
 fn a_writer_that_fails_anywhere(rt: HostRuntime) -> Result<(), Fail> {
@@ -223,7 +279,7 @@ fn a_writer_that_fails_anywhere(rt: HostRuntime) -> Result<(), Fail> {
     let certificate = Certificate::read(alloc, &mut Pieces::new(&CERTIFICATE, 5))?;
     for room in 0..=104usize {
         let mut sink = Sink::limited(alloc, 1, room);
-        let sent = encode(alloc, &OBJECT, 1, 1, &fti, Order::Blocks, &mut sink);
+        let sent = encode(alloc, &OBJECT, 1, 1, &fti, 1, Order::Blocks, &mut sink);
         assert_eq!(rt; sent, Err(SendFault::Io), "room {room}");
         assert_eq!(rt; sink.bytes(), SESSION.get(..room).unwrap_or(&[]));
         let mut sink = Sink::limited(alloc, 1, room);
@@ -286,7 +342,7 @@ fn a_write_that_takes_nothing(rt: HostRuntime) -> Result<(), Fail> {
     for before in 0..=15usize {
         let beginning = SESSION.get(..before).unwrap_or(&[]);
         let mut writer = stuck_behind(alloc, before);
-        let sent = encode(alloc, &OBJECT, 1, 1, &fti, Order::Blocks, &mut writer);
+        let sent = encode(alloc, &OBJECT, 1, 1, &fti, 1, Order::Blocks, &mut writer);
         assert_eq!(rt; sent, Err(SendFault::Io));
         assert!(rt; writer.write(&[7]).is_err());
         assert_eq!(rt; writer.into_inner().taken.as_slice(), beginning);

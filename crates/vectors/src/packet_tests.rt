@@ -3,10 +3,15 @@ use alc::{Packet, PacketFault, one_reading, read, write};
 use partition::{Fti, FtiError};
 use std::test::Fail;
 
-// TSI 1, TOI 1, FTI (2, 1, 2, 3), source block 0, ESI 0, symbol 01.
+// A carrier: TSI 1, TOI 1, FTI (2, 1, 2, 3), source block 0, ESI 0, symbol 01.
 const DATAGRAM: [u8; 33] = [
     0x10, 0xA0, 7, 5, 0, 0, 0, 0, 0, 0, 0, 1, 0, 0, 0, 1, 0x40, 3, 0, 0, 0, 0, 0, 2, 0, 1, 2, 3, 0,
     0, 0, 0, 1,
+];
+
+// The same packet without FTI.
+const PLAIN: [u8; 21] = [
+    0x10, 0xA0, 4, 5, 0, 0, 0, 0, 0, 0, 0, 1, 0, 0, 0, 1, 0, 0, 0, 0, 1,
 ];
 
 fn the_packet() -> Result<Packet<'static>, PacketFault> {
@@ -18,11 +23,23 @@ fn packet_of(tsi: u64, toi: u128) -> Result<Packet<'static>, PacketFault> {
     Ok(Packet {
         tsi,
         toi,
-        fti,
+        fti: Some(fti),
         sbn: 0,
         esi: 0,
         symbol: &[1],
     })
+}
+
+// Of TSI 1 and TOI 1.
+fn without_fti(sbn: u32, esi: u8, symbol: &[u8]) -> Packet<'_> {
+    Packet {
+        tsi: 1,
+        toi: 1,
+        fti: None,
+        sbn,
+        esi,
+        symbol,
+    }
 }
 
 #[test]
@@ -36,11 +53,9 @@ fn one_byte_changed(rt: HostRuntime) {
         (2, 3, PacketFault::HeaderLength),
         (2, 9, PacketFault::HeaderLength),
         (2, 6, PacketFault::Extension),
-        (2, 4, PacketFault::NoFti),
         (17, 0, PacketFault::Extension),
         (17, 2, PacketFault::FtiLength),
         (17, 4, PacketFault::Extension),
-        (16, 0x41, PacketFault::NoFti),
         (23, 0, PacketFault::FtiValue(FtiError::LengthZero)),
         (25, 0, PacketFault::FtiValue(FtiError::SymbolZero)),
         (26, 0, PacketFault::FtiValue(FtiError::BlockZero)),
@@ -63,6 +78,30 @@ fn other_lengths(rt: HostRuntime) {
         3, 0, 0, 0, 0, 1, 0,
     ];
     assert_eq!(rt; read(&longer), Err(PacketFault::PayloadLength));
+}
+
+// Where the header ends before EXT_FTI its bytes are payload ID and symbol, and one of another type is passed over.
+#[test]
+fn packets_without_fti(rt: HostRuntime) {
+    assert_eq!(rt; read(&PLAIN), Ok(without_fti(0, 0, &[1])));
+    let mut short_header = DATAGRAM;
+    short_header[2] = 4;
+    let symbol = [0, 0, 0, 2, 0, 1, 2, 3, 0, 0, 0, 0, 1];
+    assert_eq!(rt; read(&short_header), Ok(without_fti(0x40_0300, 0, &symbol)));
+    let mut other_type = DATAGRAM;
+    other_type[16] = 0x41;
+    assert_eq!(rt; read(&other_type), Ok(without_fti(0, 0, &[1])));
+    for size in 16..21usize {
+        let beginning = PLAIN.get(..size).unwrap_or(&[]);
+        assert_eq!(rt; read(beginning), Err(PacketFault::PayloadLength), "{size}");
+    }
+    let greatest = [
+        0x10, 0xA0, 4, 5, 0, 0, 0, 0, 0, 0, 0, 1, 0, 0, 0, 1, 255, 255, 255, 255, 7, 8, 9,
+    ];
+    assert_eq!(rt;
+        read(&greatest),
+        Ok(without_fti(0xFF_FFFF, 255, &[7, 8, 9]))
+    );
 }
 
 #[test]
@@ -122,10 +161,20 @@ fn a_packet_is_written(rt: HostRuntime) -> Result<(), Fail> {
     let mut out = [7; 40];
     let fti = Fti::new(2, 1, 2, 3)?;
     assert!(rt; 0 < fti.block_count() && 0 < fti.n(0));
-    assert_eq!(rt; write(1, 1, &fti, 0, 0, &[1], &mut out), 33);
+    assert_eq!(rt; write(1, 1, Some(&fti), 0, 0, &[1], &mut out), 33);
     assert_eq!(rt; &out[..33], DATAGRAM.as_slice());
     assert_eq!(rt; &out[33..], [7; 7].as_slice());
     Ok(())
+}
+
+#[test]
+fn a_packet_without_fti_is_written(rt: HostRuntime) {
+    let mut out = [7; 40];
+    assert_eq!(rt; write(1, 1, None, 0, 0, &[1], &mut out), 21);
+    assert_eq!(rt; &out[..21], PLAIN.as_slice());
+    assert_eq!(rt; &out[21..], [7; 19].as_slice());
+    assert_eq!(rt; write(1, 1, None, 0xFF_FFFF, 255, &[7, 8, 9], &mut out), 23);
+    assert_eq!(rt; &out[16..24], [255, 255, 255, 255, 7, 8, 9, 7].as_slice());
 }
 
 #[test]
@@ -140,7 +189,6 @@ fn texts(rt: HostRuntime) -> Result<(), Fail> {
         (PacketFault::Extension, "P7 Extension"),
         (PacketFault::FtiLength, "P8 FtiLength"),
         (PacketFault::TwoFti, "P9 TwoFti"),
-        (PacketFault::NoFti, "P10 NoFti"),
         (
             PacketFault::FtiValue(FtiError::TooManyBlocks),
             "P11 FtiValue F6 TooManyBlocks",

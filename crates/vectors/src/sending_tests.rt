@@ -1,10 +1,13 @@
 //! What is sent, and its certificate.
+ghost use Rattle.std.specs.Prelude.{◌≤◌};
+
+use crate::check_tests::FIRST_ALONE;
 use cert::{Certificate, Verdict, check};
 use coder::{CertifyFault, SendFault, certify, encode};
 use partition::{Fti, Order};
 use reception::Identity;
 use session::{Pieces, Session, Sink};
-use std::alloc::Global;
+use std::alloc::{AllocError, Global};
 use std::test::Fail;
 
 const TSI: u32 = 1;
@@ -13,7 +16,7 @@ const TOI: u32 = 1;
 
 const IDENTITY: Identity = Identity { tsi: 1, toi: 1 };
 
-// The session's file.
+// The session's file, whose datagrams all carry the FTI.
 fn sent(
     alloc: Global,
     object: &[u8],
@@ -21,8 +24,22 @@ fn sent(
     order: Order,
     count: u64,
 ) -> Result<Sink, SendFault> {
+    sent_every(alloc, object, fti, 1, order, count)
+}
+
+// The session's file, where the datagrams at the places that `every` divides carry the FTI.
+fn sent_every(
+    alloc: Global,
+    object: &[u8],
+    fti: &Fti,
+    every: u32,
+    order: Order,
+    count: u64,
+) -> Result<Sink, SendFault>
+    requires { 1 ≤ every }
+{
     let mut sink = Sink::new(alloc);
-    let sent = encode(alloc, object, TSI, TOI, fti, order, &mut sink)?;
+    let sent = encode(alloc, object, TSI, TOI, fti, every, order, &mut sink)?;
     if sent == count {
         Ok(sink)
     } else {
@@ -30,16 +47,41 @@ fn sent(
     }
 }
 
-// Whether `check` says yes to the session in each order and the certificate.
+// The datagrams of a file.
+fn read_back(alloc: Global, file: &[u8]) -> Result<Session, Fail> {
+    let mut reader = Pieces::new(file, 100);
+    Ok(Session::read(alloc, &mut reader)?)
+}
+
+// Whether `check` says yes to a session and the certificate, and tells as many carriers.
+fn says_yes(
+    alloc: Global,
+    file: &[u8],
+    object: &[u8],
+    certificate: &Certificate,
+    carriers: u64,
+) -> Result<bool, Fail> {
+    let session = read_back(alloc, file)?;
+    match check(alloc, &session, object, certificate, IDENTITY)? {
+        Verdict::Yes(report) => Ok(report.carriers as u64 == carriers),
+        Verdict::No(_) => Ok(false),
+    }
+}
+
+// Whether `check` says yes to the session in each order, with the FTI in all datagrams, in each third and in the first
+// alone, and the certificate.
 fn is_certified(alloc: Global, object: &[u8], fti: &Fti, count: u64) -> Result<bool, Fail> {
     let certificate = certify(alloc, object, fti)?;
     for order in [Order::Blocks, Order::Rounds] {
-        let sink = sent(alloc, object, fti, order, count)?;
-        let mut reader = Pieces::new(sink.bytes(), 100);
-        let session = Session::read(alloc, &mut reader)?;
-        match check(alloc, &session, object, &certificate, IDENTITY)? {
-            Verdict::Yes(_) => {}
-            Verdict::No(_) => return Ok(false),
+        let all = sent_every(alloc, object, fti, 1, order, count)?;
+        let third = sent_every(alloc, object, fti, 3, order, count)?;
+        let first = sent_every(alloc, object, fti, u32::MAX, order, count)?;
+        let thirds = count.div_ceil(3);
+        if !says_yes(alloc, all.bytes(), object, &certificate, count)?
+            || !says_yes(alloc, third.bytes(), object, &certificate, thirds)?
+            || !says_yes(alloc, first.bytes(), object, &certificate, 1)?
+        {
+            return Ok(false);
         }
     }
     Ok(true)
@@ -67,6 +109,56 @@ fn one_block_sent(rt: HostRuntime) -> Result<(), Fail> {
         ]
         .as_slice()
     );
+    Ok(())
+}
+
+// The FTI in the datagrams 0 and 2, and in datagram 0 alone.
+#[test]
+fn one_block_sent_with_some_carriers(rt: HostRuntime) -> Result<(), Fail> {
+    let fti = Fti::new(2, 1, 2, 3)?;
+    let second = sent_every(rt.alloc(), &[1, 2], &fti, 2, Order::Blocks, 3)?;
+    assert_eq!(rt;
+        second.bytes(),
+        [
+            0x00, 0x21, 0x10, 0xA0, 7, 5, 0, 0, 0, 0, 0, 0, 0, 1, 0, 0, 0, 1, 0x40, 3, 0, 0, 0, 0,
+            0, 2, 0, 1, 2, 3, 0, 0, 0, 0, 1, 0x00, 0x15, 0x10, 0xA0, 4, 5, 0, 0, 0, 0, 0, 0, 0, 1,
+            0, 0, 0, 1, 0, 0, 0, 1, 2, 0x00, 0x21, 0x10, 0xA0, 7, 5, 0, 0, 0, 0, 0, 0, 0, 1, 0, 0,
+            0, 1, 0x40, 3, 0, 0, 0, 0, 0, 2, 0, 1, 2, 3, 0, 0, 0, 2, 4,
+        ]
+        .as_slice()
+    );
+    let third = sent_every(rt.alloc(), &[1, 2], &fti, 3, Order::Blocks, 3)?;
+    assert_eq!(rt; third.bytes(), FIRST_ALONE.as_slice());
+    Ok(())
+}
+
+// Of 14 frames of carriers, with symbols of one byte, those without EXT_FTI whose places 4 doesn't divide.
+fn carriers_at_fourths(alloc: Global, carriers: &[u8]) -> Result<Vec<u8>, AllocError> {
+    let mut file = Vec::new(alloc);
+    for place in 0..14usize {
+        let frame = carriers.get(35 * place..35 * place + 35).unwrap_or(&[]);
+        if place % 4 == 0 {
+            file.extend_from_slice(frame)?;
+        } else {
+            file.extend_from_slice(&[0, 21, 0x10, 0xA0, 4])?;
+            file.extend_from_slice(frame.get(5..18).unwrap_or(&[]))?;
+            file.extend_from_slice(frame.get(30..35).unwrap_or(&[]))?;
+        }
+    }
+    Ok(file)
+}
+
+// A carrier stands at each place of the whole session that 4 divides, in either order.
+#[test]
+fn carriers_of_three_blocks(rt: HostRuntime) -> Result<(), Fail> {
+    let alloc = rt.alloc();
+    let fti = Fti::new(10, 1, 4, 6)?;
+    for order in [Order::Blocks, Order::Rounds] {
+        let all = sent(alloc, &THREE_BLOCKS, &fti, order, 14)?;
+        let some = sent_every(alloc, &THREE_BLOCKS, &fti, 4, order, 14)?;
+        let wanted = carriers_at_fourths(alloc, all.bytes())?;
+        assert_eq!(rt; some.bytes(), wanted.as_slice());
+    }
     Ok(())
 }
 
@@ -202,6 +294,7 @@ fn nothing_sent(rt: HostRuntime) -> Result<(), Fail> {
             TSI,
             TOI,
             &fti,
+            1,
             Order::Blocks,
             &mut sink
         ),
@@ -215,6 +308,7 @@ fn nothing_sent(rt: HostRuntime) -> Result<(), Fail> {
             TSI,
             TOI,
             &long,
+            2,
             Order::Blocks,
             &mut sink
         ),
@@ -256,6 +350,7 @@ fn beginning_sent(rt: HostRuntime) -> Result<(), Fail> {
             TSI,
             TOI,
             &fti,
+            1,
             Order::Blocks,
             &mut sink
         ),

@@ -1,6 +1,7 @@
-use Rattle.std.specs.Prelude.{◌≡◌, ◌<◌, ◌^◌, length}
+use Rattle.std.specs.Prelude.{◌<◌, ◌^◌, length, IfSome}
 use Rattle.std.proofs.Common.{sym, ◌∙◌, arith}
 use Rattle.partition.specs.Fti.{IsValidFti}
+use Rattle.alc.specs.Packet.{IsSymbolLength}
 use Rattle.alc.proofs.Again.{reads, exact}
 use Rattle.alc.proofs.Packets.{IfOk-packet, packet_valid, packet_symbol, packet_block, packet_tsi, packet_toi}
 use Rattle.alc.proofs.reading.read.Goals as goal
@@ -12,10 +13,10 @@ pub returns-clause-only : goal.returns-clause-only
 returns-clause-only c r h = sym (exact c.args.datagram.now r h) ∙ c.parse.ensures
 
 pub returns-clause-valid : goal.returns-clause-valid
-returns-clause-valid c = IfOk-packet (λ p. IsValidFti p.fti) c.args.datagram.now _ (packet_valid c.args.datagram.now) (returns-clause-reads c)
+returns-clause-valid c = IfOk-packet (λ p. IfSome p.fti IsValidFti) c.args.datagram.now _ (packet_valid c.args.datagram.now) (returns-clause-reads c)
 
 pub returns-clause-symbol : goal.returns-clause-symbol
-returns-clause-symbol c = IfOk-packet (λ p. length p.bytes ≡ p.fti.symbol_length) c.args.datagram.now _ (packet_symbol c.args.datagram.now) (returns-clause-reads c)
+returns-clause-symbol c = IfOk-packet (λ p. IsSymbolLength p.fti (length p.bytes)) c.args.datagram.now _ (packet_symbol c.args.datagram.now) (returns-clause-reads c)
 
 pub returns-clause-block : goal.returns-clause-block
 returns-clause-block c = IfOk-packet (λ p. p.block < 2 ^ 24) c.args.datagram.now _ (packet_block c.args.datagram.now) (returns-clause-reads c)

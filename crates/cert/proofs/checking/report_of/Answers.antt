@@ -57,7 +57,7 @@ returns-clause-yes c =
     let h = whole c.args.session.now c.loop-place.walk c.loop-place.place n c.loop-place.invariant.walked in
     let form = rw (c.loop-place.invariant.certificate, c.loop-place.invariant.object) at c.loop-place.walk.form in
     let gives = rw (c.loop-place.invariant.certificate, c.loop-place.invariant.object) at c.loop-place.walk.gives in
-    on_ok_weaker c.report.result (λ (enough : AreEnoughCertified c.args.identity c.args.session.now z). record { form = form; gives = gives; certified = enough.all; full = enough.full })
+    on_ok_weaker c.report.result (λ (enough : AreEnoughCertified c.args.identity c.args.session.now z). record { form = form; gives = gives; certified = enough.all; full = enough.full; carrier = enough.carrier })
     (rw (c.loop-place.invariant.identity, c.loop-place.invariant.certificate) at (c.report.ensures.certified c.args.session.now h))
 
 pub returns-clause-no : goal.returns-clause-no

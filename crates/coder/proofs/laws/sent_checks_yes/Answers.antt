@@ -17,5 +17,5 @@ yes who object z session (No reason) g h =
     absurd (never_no who g.readings object z g.granted reason (subst (λ (rs : List Reading). VerdictOn who rs object z (No reason)) e h.judged))
 
 pub returns : goal.returns
-returns c = λ object z all tsi toi order session verdict lt lu sent is.
-    yes (identity_of tsi toi) object z session verdict (all tsi toi order session lt lu sent) is
+returns c = λ object z all tsi toi every order session verdict lt lu some sent is.
+    yes (identity_of tsi toi) object z session verdict (all tsi toi every order session lt lu some sent) is

@@ -1,14 +1,14 @@
 use Rattle.std.proofs.Common.{◌≡◌, ◌≤◌, ◌+◌, ◌*◌, length}
 use Rattle.std.specs.Prelude.{flat_map}
 use Rattle.lists.specs.Below.{below}
-use Rattle.coder.specs.Sending.{Sends, frame_bytes}
+use Rattle.coder.specs.Sending.{Sends, items_from, session_bytes}
 use Rattle.coder.specs.Passes.{pairs_in}
 use Rattle.coder.proofs.sending.send_pass.Given as goal
 
 abbrev pub invariant-loop-block : goal.invariant-loop-block
 invariant-loop-block g l = record {
-  sent : Sends l.t.object.now l.t.fti l.t.tsi l.t.toi (flat_map (pairs_in l.order l.t.fti l.pass) (below l.block)) (g.W.Write.contents l.initial.writer) (g.W.Write.contents l.writer);
-  count : l.sent ≡ length (flat_map (pairs_in l.order l.t.fti l.pass) (below l.block));
-  few : l.sent ≤ 255 * l.block;
-  room : g.W.Write.room l.initial.writer ≤ g.W.Write.room l.writer + l.sent * frame_bytes l.t.fti;
+  sent : Sends l.t.object.now l.t.fti l.t.tsi l.t.toi l.t.every (items_from l.place (flat_map (pairs_in l.order l.t.fti l.pass) (below l.block))) (g.W.Write.contents l.initial.writer) (g.W.Write.contents l.writer);
+  next : l.next ≡ l.place + length (flat_map (pairs_in l.order l.t.fti l.pass) (below l.block));
+  few : l.next ≤ l.place + 255 * l.block;
+  room : g.W.Write.room l.initial.writer ≤ g.W.Write.room l.writer + session_bytes l.t.fti l.t.every (items_from l.place (flat_map (pairs_in l.order l.t.fti l.pass) (below l.block)));
 }

@@ -1,7 +1,7 @@
 use Rattle.std.proofs.Common.{arith, subst, inl, inr}
 use Rattle.std.proofs.lemmas.Bool.{cases_eq}
 use Rattle.lists.specs.Bytes.{AreBytes}
-use Rattle.decoder.proofs.Receiving.{borrowed_at}
+use Rattle.reception.proofs.Heard.{borrowed_at}
 use Rattle.decoder.proofs.decoding.all_are_bytes.Goals as goal
 
 pub loop-i-preserved : goal.loop-i-preserved

@@ -16,7 +16,7 @@ bytes_of xs P h i l = h i (omega (arith, l, length-map xs (λ (d : Bor (List ℕ
 pub answer-requires : goal.answer-requires
 answer-requires c =
     let ds = map (λ (d : Bor (List ℕ)). d.now) c.args.datagrams.now in
-    stand_of c.args.identity ds c.in-Ok-Some.received.fti (bytes_at c.in-Ok-Some.received.symbols) (read_all ds (bytes_of c.args.datagrams.now _ c.all_are_bytes.ensures))
+    stand_of c.args.identity ds c.in-Ok-Some.received.fti (bytes_at c.in-Ok-Some.received.symbols)
     (rw c.in-Ok-Some.field-0-is at c.in-Ok-Some.ensures.received)
 
 pub returns-in-Ok-Some : goal.returns-in-Ok-Some
@@ -27,7 +27,7 @@ returns-in-Ok-Some c =
     (λ a h. record {
       readings = readings_of ds;
       read = read;
-      answers = answered c.args.identity ds c.in-Ok-Some.received.fti (bytes_at c.in-Ok-Some.received.symbols) (answer_value a) read
+      answers = answered c.args.identity ds c.in-Ok-Some.received.fti (bytes_at c.in-Ok-Some.received.symbols) (answer_value a)
           (rw c.in-Ok-Some.field-0-is at c.in-Ok-Some.ensures.received) h;
     })
     c.answer.ensures

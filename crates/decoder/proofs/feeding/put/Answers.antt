@@ -17,7 +17,7 @@ returns-in_err-put-clause-fault c = λ at h.
     let e = c.in_err-put.field-0.0 in
     let same = nothing at (rw c.in_default.is at h) in
     let own = c.in_err-put.ensures.fault (λ b j. None) c.in-Ok.ensures.holds in
-    let d : IsPutFault k.fti k.sbn (at k.sbn) k.esi k.symbol.now e =
+    let d : IsPutFault c.args.fti k.sbn (at k.sbn) k.esi k.symbol.now e =
     subst (λ (f : Fti). IsPutFault f k.sbn (at k.sbn) k.esi k.symbol.now e) c.in-Ok.ensures.fti
     (subst (λ (a : ℕ → ℕ → Option (List ℕ)). IsPutFault c.in-Ok.new.fti k.sbn (a k.sbn) k.esi k.symbol.now e) same own) in
     search rules

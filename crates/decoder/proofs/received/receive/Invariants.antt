@@ -1,7 +1,10 @@
 use Rattle.std.proofs.Common.{map}
+use Rattle.reception.specs.Walks.{scope_in}
 use Rattle.decoder.specs.Received.{bytes_at}
 use Rattle.decoder.proofs.Receiving.{Scanned}
 use Rattle.decoder.proofs.received.receive.Given as goal
 
 abbrev pub invariant-loop-place : goal.invariant-loop-place
-invariant-loop-place l = Scanned l.fn.identity (map (λ d. d.now) l.datagrams) l.scope (bytes_at l.symbols) l.place
+invariant-loop-place l =
+    let ds = map (λ d. d.now) l.datagrams in
+    Scanned (scope_in l.fn.identity ds) ds l.scope (bytes_at l.symbols) l.place

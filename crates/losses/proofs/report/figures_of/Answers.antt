@@ -1,162 +1,66 @@
-use Rattle.std.proofs.Common.{◌≡◌, ◌<◌, ◌+◌, ◌-◌, ℕ, List, length, get_or, ap, sym, ◌∙◌, arith, subst}
-use Rattle.losses.specs.Costs.{IsWeighed, cheap_places}
-use Rattle.losses.specs.Members.{different_outside}
-use Rattle.losses.specs.Windows.{ArePlaced, IsLeastGap}
+use Rattle.std.proofs.Common.{◌<◌, ◌+◌, ◌-◌, ℕ, List, length, ap, sym, ◌∙◌, arith, subst}
+use Rattle.losses.specs.Costs.{cheap_places}
 use Rattle.losses.specs.Losses.{IsKill}
 use Rattle.losses.specs.declared.groups.Member.{Member}
-use Rattle.losses.specs.declared.groups.Group.{Group as GroupOf}
-use Rattle.losses.specs.Groups.{Group, groups_of, group_at, places, blocks_of_groups}
-use Rattle.losses.proofs.GroupFigures.{IsHeavyGroup, IsWideGroup, seen, count_of, placed_of, heavy_new, heavy_same, wide_new, wide_same, narrow_more, some, margin_of_groups, kill_of_groups, burst_of_groups}
+use Rattle.losses.specs.Groups.{groups_of, places, blocks_of_groups}
+use Rattle.losses.proofs.GroupFigures.{members_seen, count_of, some}
+use Rattle.losses.proofs.CarrierGroup.{span_fits, margin_blocks, margin_carriers, kill_blocks, kill_carriers, burst_blocks, burst_carriers}
 use Rattle.losses.proofs.report.figures_of.Goals as goal
-use Rattle.losses.proofs.report.figures_of.Goals.{then-weight-threshold, else-weight-threshold, then-weight-burst, else-weight-burst}
+use Rattle.losses.proofs.report.figures_of.Goals.{then-span-block, else-span-block}
 
-members_seen : (gs : List GroupOf) (b : ℕ) (d : GroupOf) → b < length gs → (group_at (groups_of gs) b).members ≡ (get_or gs b d).members.items
-members_seen gs b d l = ap (λ (g : Group). g.members) (seen gs b d l)
+pub overflow_sub-span-2 : goal.overflow_sub-span-2
+overflow_sub-span-2 c = span_fits c.requires.groups.0 c.args.carriers.now c.requires.groups.2
 
-need_seen : (gs : List GroupOf) (b : ℕ) (d : GroupOf) → b < length gs → (group_at (groups_of gs) b).need ≡ (get_or gs b d).need
-need_seen gs b d l = ap (λ (g : Group). g.need) (seen gs b d l)
+pub returns-then-carriers-block-clause-margin : goal.returns-then-carriers-block-clause-margin
+returns-then-carriers-block-clause-margin c = λ n are carriers.
+    let w = c.in_ok-block.ensures in
+    let l = c.in_ok-block.block in
+    margin_carriers (groups_of c.args.groups.now) c.args.carriers.now n are carriers l.at l.threshold.cost l.threshold.most_copies l.threshold.last_esi w.within w.weighed w.heavy c.if-carriers-block.true
 
-weighed_as : {qs rs : List Member} {k m price t last : ℕ} → qs ≡ rs → k ≡ m → IsWeighed qs k price t last → IsWeighed rs m price t last
-weighed_as {qs} {rs} {k} {m} {price} {t} {last} e f w = subst (λ (x : ℕ). IsWeighed rs x price t last) f (subst (λ (xs : List Member). IsWeighed xs k price t last) e w)
+pub returns-then-carriers-block-clause-kill : goal.returns-then-carriers-block-clause-kill
+returns-then-carriers-block-clause-kill c = λ n are carriers.
+    let w = c.in_ok-block.ensures in
+    let l = c.in_ok-block.block in
+    subst (λ (ps : List ℕ). IsKill (blocks_of_groups (groups_of c.args.groups.now) c.args.carriers.now) (places 0 n) (length c.args.carriers.now - 1 + 1) ps) (sym (c.in_ok-to_vec.ensures.items_if_clones_equal (λ x y e. e)))
+    (kill_carriers (groups_of c.args.groups.now) c.args.carriers.now n are carriers l.at l.threshold.cost l.threshold.most_copies l.threshold.last_esi w.within w.weighed w.heavy c.if-carriers-block.true)
 
-gap_as : {qs rs : List Member} {k m gap : ℕ} → qs ≡ rs → k ≡ m → IsLeastGap qs k gap → IsLeastGap rs m gap
-gap_as {qs} {rs} {k} {m} {gap} e f w = subst (λ (x : ℕ). IsLeastGap rs x gap) f (subst (λ (xs : List Member). IsLeastGap xs k gap) e w)
+pub returns-then-carriers-block-clause-burst : goal.returns-then-carriers-block-clause-burst
+returns-then-carriers-block-clause-burst c = λ n are carriers.
+    let w = c.in_ok-block.ensures in
+    let l = c.in_ok-block.block in
+    elim c.if-span-block.branch [
+      | then-span-block b ↦ rw b.burst-is (burst_carriers (groups_of c.args.groups.now) c.args.carriers.now n are carriers l.burst w.narrow w.wide (omega (arith, b)))
+      | else-span-block b ↦ rw b.burst-is (burst_blocks (groups_of c.args.groups.now) c.args.carriers.now n are carriers l.burst w.narrow w.wide (omega (arith, b)))
+    ]
 
-pub weigh-requires-clause-placed : goal.weigh-requires-clause-placed
-weigh-requires-clause-placed c =
-    let gs = c.args.groups.now in
-    let is = c.deref.ensures.value ∙ sym (members_seen gs 0 c.index-groups-0.result c.requires.some) in
-    subst (λ (qs : List Member). ArePlaced qs) (sym is) (placed_of (groups_of gs) c.requires.groups.0 c.requires.groups.1 0 (omega (arith, c.requires.some, count_of gs)))
-
-pub weigh-requires-clause-some : goal.weigh-requires-clause-some
-weigh-requires-clause-some c =
-    let gs = c.args.groups.now in
-    let n = need_seen gs 0 c.index-groups-0-2.result c.requires.some in
-    let s = c.requires.groups.1.some 0 (omega (arith, c.requires.some, count_of gs)) in
-    omega (arith, n, s)
-
-pub weigh-requires-clause-enough : goal.weigh-requires-clause-enough
-weigh-requires-clause-enough c =
-    let gs = c.args.groups.now in
-    let n = need_seen gs 0 c.index-groups-0-2.result c.requires.some in
-    let is = c.deref.ensures.value ∙ sym (members_seen gs 0 c.index-groups-0.result c.requires.some) in
-    let e = c.requires.groups.1.enough 0 (omega (arith, c.requires.some, count_of gs)) in
-    let d = ap (λ (qs : List Member). different_outside qs 0 0) is in
-    omega (arith, n, e, d)
-
-pub loop-block-init : goal.loop-block-init
-loop-block-init c =
-    let gs = c.args.groups.now in
-    let n = need_seen gs 0 c.index-groups-0-2.result c.requires.some in
-    let is = c.deref.ensures.value ∙ sym (members_seen gs 0 c.index-groups-0.result c.requires.some) in
-    let w = c.in_ok-first.first in
-    let cut : IsWeighed (group_at (groups_of gs) 0).members (group_at (groups_of gs) 0).need w.threshold.cost w.threshold.most_copies w.threshold.last_esi =
-    weighed_as is (sym n) c.in_ok-first.ensures.cut in
-    let gap : IsLeastGap (group_at (groups_of gs) 0).members (group_at (groups_of gs) 0).need w.burst = gap_as is (sym n) c.in_ok-first.ensures.burst in
-    record {
-      within = omega arith;
-      weighed = cut;
-      heavy = λ b l. (let e : 0 ≡ b = omega (arith, l) in subst (λ (x : ℕ). IsHeavyGroup x (group_at (groups_of gs) x) w.threshold.cost 0) e
-          (record { t = w.threshold.most_copies; last = w.threshold.last_esi; price = w.threshold.cost; weighed = cut; low = omega arith; early = λ z. absurd (omega arith) }));
-      narrow = record { at = 0; within = omega arith; is = gap };
-      wide = λ b l. (let e : 0 ≡ b = omega (arith, l) in subst (λ (x : ℕ). IsWideGroup (group_at (groups_of gs) x) w.burst) e (record { gap = w.burst; is = gap; low = omega arith }));
-    }
-
-pub weigh-requires-in-loop-block-clause-placed : goal.weigh-requires-in-loop-block-clause-placed
-weigh-requires-in-loop-block-clause-placed c =
-    let gs = c.args.groups.now in
-    let is = c.deref-in-loop-block.ensures.value ∙ sym (members_seen gs c.loop-block.block c.index-groups-block.result c.loop-block-test.true) in
-    subst (λ (qs : List Member). ArePlaced qs) (sym is) (placed_of (groups_of gs) c.requires.groups.0 c.requires.groups.1 c.loop-block.block (omega (arith, c.loop-block-test.true, count_of gs)))
-
-pub weigh-requires-in-loop-block-clause-some : goal.weigh-requires-in-loop-block-clause-some
-weigh-requires-in-loop-block-clause-some c =
-    let gs = c.args.groups.now in
-    let n = need_seen gs c.loop-block.block c.index-groups-block-in-loop-block.result c.loop-block-test.true in
-    let s = c.requires.groups.1.some c.loop-block.block (omega (arith, c.loop-block-test.true, count_of gs)) in
-    omega (arith, n, s)
-
-pub weigh-requires-in-loop-block-clause-enough : goal.weigh-requires-in-loop-block-clause-enough
-weigh-requires-in-loop-block-clause-enough c =
-    let gs = c.args.groups.now in
-    let n = need_seen gs c.loop-block.block c.index-groups-block-in-loop-block.result c.loop-block-test.true in
-    let is = c.deref-in-loop-block.ensures.value ∙ sym (members_seen gs c.loop-block.block c.index-groups-block.result c.loop-block-test.true) in
-    let e = c.requires.groups.1.enough c.loop-block.block (omega (arith, c.loop-block-test.true, count_of gs)) in
-    let d = ap (λ (qs : List Member). different_outside qs 0 0) is in
-    omega (arith, n, e, d)
-
-pub loop-block-preserved : goal.loop-block-preserved
-loop-block-preserved c =
-    let i = c.loop-block.invariant in
-    let gs = c.args.groups.now in
-    let groups = groups_of gs in
-    let here : c.loop-block.at < c.loop-block.block = i.within in
-    let n = need_seen gs c.loop-block.block c.index-groups-block-in-loop-block.result c.loop-block-test.true in
-    let is = c.deref-in-loop-block.ensures.value ∙ sym (members_seen gs c.loop-block.block c.index-groups-block.result c.loop-block-test.true) in
-    let w = c.in_ok-weight.weight in
-    let cut : IsWeighed (group_at (groups_of c.args.groups.now) c.loop-block.block).members (group_at (groups_of c.args.groups.now) c.loop-block.block).need w.threshold.cost w.threshold.most_copies w.threshold.last_esi =
-    weighed_as is (sym n) c.in_ok-weight.ensures.cut in
-    let gap : IsLeastGap (group_at (groups_of c.args.groups.now) c.loop-block.block).members (group_at (groups_of c.args.groups.now) c.loop-block.block).need w.burst = gap_as is (sym n) c.in_ok-weight.ensures.burst in
-    record {
-      within = elim c.if-weight-threshold.branch [ then-weight-threshold w ↦ (let e = w.at-is in omega (arith, e)) | else-weight-threshold w ↦ (let e = w.at-is in omega (arith, e, here)) ];
-      weighed =
-          elim c.if-weight-threshold.branch [
-            | then-weight-threshold w ↦ rw (w.at-is, w.threshold-is) cut
-            | else-weight-threshold w ↦ rw (w.at-is, w.threshold-is) i.weighed
-          ];
-      heavy =
-          elim c.if-weight-threshold.branch [
-            | then-weight-threshold w ↦
-                rw (w.at-is, w.threshold-is) (heavy_new groups c.loop-block.block c.loop-block.at c.loop-block.threshold.cost c.in_ok-weight.weight.threshold.cost
-                c.in_ok-weight.weight.threshold.most_copies c.in_ok-weight.weight.threshold.last_esi (omega (arith, w)) i.heavy cut)
-            | else-weight-threshold w ↦
-                rw (w.at-is, w.threshold-is) (heavy_same groups c.loop-block.block c.loop-block.at c.loop-block.threshold.cost c.in_ok-weight.weight.threshold.cost
-                c.in_ok-weight.weight.threshold.most_copies c.in_ok-weight.weight.threshold.last_esi (omega (arith, w)) here i.heavy cut)
-          ];
-      narrow =
-          elim c.if-weight-burst.branch [
-            | then-weight-burst w ↦ rw w.burst-is (record { at = c.loop-block.block; within = omega arith; is = gap })
-            | else-weight-burst w ↦ rw w.burst-is (narrow_more groups c.loop-block.block c.loop-block.burst i.narrow)
-          ];
-      wide =
-          elim c.if-weight-burst.branch [
-            | then-weight-burst w ↦ rw w.burst-is (wide_new groups c.loop-block.block c.loop-block.burst c.in_ok-weight.weight.burst (omega (arith, w)) i.wide gap)
-            | else-weight-burst w ↦ rw w.burst-is (wide_same groups c.loop-block.block c.loop-block.burst c.in_ok-weight.weight.burst (omega (arith, w)) i.wide gap)
-          ];
-    }
-
-pub overflow_sub-result : goal.overflow_sub-result
-overflow_sub-result c =
-    let gs = c.args.groups.now in
-    let i = c.loop-block.invariant in
-    let end : c.loop-block.block ≡ length c.args.groups.now = (let l = c.requires.some in omega (arith, l)) in
-    let heavy = λ (b : ℕ) (l : b < length (groups_of c.args.groups.now)). i.heavy b (let k = count_of c.args.groups.now in omega (arith, l, k, end)) in
-    some (groups_of gs) c.requires.groups.0 c.requires.groups.1 c.loop-block.at c.loop-block.threshold.cost c.loop-block.threshold.most_copies c.loop-block.threshold.last_esi
-    (let w = i.within in let k = count_of gs in omega (arith, w, k, end)) i.weighed heavy
+pub overflow_sub-result-2 : goal.overflow_sub-result-2
+overflow_sub-result-2 c =
+    let w = c.in_ok-block.ensures in
+    let l = c.in_ok-block.block in
+    some (groups_of c.args.groups.now) c.requires.groups.0 c.requires.groups.1 l.at l.threshold.cost l.threshold.most_copies l.threshold.last_esi w.within w.weighed w.heavy
 
 pub returns-clause-margin : goal.returns-clause-margin
-returns-clause-margin c = λ n are.
-    let i = c.loop-block.invariant in
-    let end : c.loop-block.block ≡ length c.args.groups.now = (let l = c.requires.some in omega (arith, l)) in
-    let heavy = λ (b : ℕ) (l : b < length (groups_of c.args.groups.now)). i.heavy b (let k = count_of c.args.groups.now in omega (arith, l, k, end)) in
-    margin_of_groups (groups_of c.args.groups.now) n are c.loop-block.at c.loop-block.threshold.cost c.loop-block.threshold.most_copies c.loop-block.threshold.last_esi
-    (let w = i.within in let k = count_of c.args.groups.now in omega (arith, w, k, end)) i.weighed heavy
+returns-clause-margin c = λ n are carriers.
+    let w = c.in_ok-block.ensures in
+    let l = c.in_ok-block.block in
+    margin_blocks (groups_of c.args.groups.now) c.args.carriers.now n are carriers l.at l.threshold.cost l.threshold.most_copies l.threshold.last_esi w.within w.weighed w.heavy c.if-carriers-block.false
 
 pub returns-clause-kill : goal.returns-clause-kill
-returns-clause-kill c = λ n are.
+returns-clause-kill c = λ n are carriers.
+    let w = c.in_ok-block.ensures in
+    let l = c.in_ok-block.block in
     let gs = c.args.groups.now in
-    let i = c.loop-block.invariant in
-    let end : c.loop-block.block ≡ length c.args.groups.now = (let l = c.requires.some in omega (arith, l)) in
-    let heavy = λ (b : ℕ) (l : b < length (groups_of c.args.groups.now)). i.heavy b (let k = count_of c.args.groups.now in omega (arith, l, k, end)) in
-    let within : c.loop-block.at < length c.args.groups.now = (let w = i.within in omega (arith, w, end)) in
-    let is = c.deref-2.ensures.value ∙ sym (members_seen gs c.loop-block.at c.index-groups-at.result within) in
-    let places_are = c.in_ok-kill.ensures ∙ ap (λ (qs : List Member). cheap_places qs c.loop-block.threshold.most_copies c.loop-block.threshold.last_esi) is in
-    subst (λ (ps : List ℕ). IsKill (blocks_of_groups (groups_of gs)) (places 0 n) (c.loop-block.threshold.cost - 1 + 1) ps) (sym places_are)
-    (kill_of_groups (groups_of gs) n are c.loop-block.at c.loop-block.threshold.cost c.loop-block.threshold.most_copies c.loop-block.threshold.last_esi
-    (let w = i.within in let k = count_of gs in omega (arith, w, k, end)) i.weighed heavy)
+    let within : l.at < length c.args.groups.now = (let h = w.within in let k = count_of c.args.groups.now in omega (arith, h, k)) in
+    let is = c.deref.ensures.value ∙ sym (members_seen gs l.at c.index-groups-block.result within) in
+    let places_are = c.in_ok-kill.ensures ∙ ap (λ (qs : List Member). cheap_places qs l.threshold.most_copies l.threshold.last_esi) is in
+    subst (λ (ps : List ℕ). IsKill (blocks_of_groups (groups_of gs) c.args.carriers.now) (places 0 n) (c.in_ok-block.block.threshold.cost - 1 + 1) ps) (sym places_are)
+    (kill_blocks (groups_of gs) c.args.carriers.now n are carriers l.at l.threshold.cost l.threshold.most_copies l.threshold.last_esi w.within w.weighed w.heavy c.if-carriers-block.false)
 
 pub returns-clause-burst : goal.returns-clause-burst
-returns-clause-burst c = λ n are.
-    let i = c.loop-block.invariant in
-    let end : c.loop-block.block ≡ length c.args.groups.now = (let l = c.requires.some in omega (arith, l)) in
-    let wide = λ (b : ℕ) (l : b < length (groups_of c.args.groups.now)). i.wide b (let k = count_of c.args.groups.now in omega (arith, l, k, end)) in
-    burst_of_groups (groups_of c.args.groups.now) n are i.narrow.at c.loop-block.burst (let w = i.narrow.within in let k = count_of c.args.groups.now in omega (arith, w, k, end)) i.narrow.is wide
+returns-clause-burst c = λ n are carriers.
+    let w = c.in_ok-block.ensures in
+    let l = c.in_ok-block.block in
+    elim c.if-span-block.branch [
+      | then-span-block b ↦ rw b.burst-is (burst_carriers (groups_of c.args.groups.now) c.args.carriers.now n are carriers l.burst w.narrow w.wide (omega (arith, b)))
+      | else-span-block b ↦ rw b.burst-is (burst_blocks (groups_of c.args.groups.now) c.args.carriers.now n are carriers l.burst w.narrow w.wide (omega (arith, b)))
+    ]

@@ -1,12 +1,13 @@
 use Rattle.std.proofs.Common.{◌∙◌, ◌++◌, Err, ap, arith}
 use Rattle.decoder.specs.Receiving.{with_datagram}
-use Rattle.decoder.specs.declared.receiver.FeedFault.TheVariants.{Fault, Full}
+use Rattle.decoder.specs.declared.receiver.FeedFault.TheVariants.{Fault, Full, Early}
 use Rattle.session.proofs.Writes.{then_appends}
 use Rattle.tool.specs.Following.{refusal_line}
 use Rattle.tool.specs.Lines.{line_of}
 use Rattle.tool.proofs.Followed.{read_last, read_taken, read_refused, many_more}
+use Rattle.tool.proofs.Ends.{line_untold, passed_on}
 use Rattle.tool.proofs.follow.listen.Goals as goal
-use Rattle.tool.proofs.follow.listen.Goals.{in-Ok-More, in-Err-Full+in_ok-tell_refusal-in-Err-Full, in-Err-Fault+in_ok-tell_refusal-in-Err-Fault}
+use Rattle.tool.proofs.follow.listen.Goals.{in-Ok-More, in-Err-Full+in_ok-tell_refusal-in-Err-Full, in-Err-Early+in_ok-tell_refusal-in-Err-Early, in-Err-Fault+in_ok-tell_refusal-in-Err-Fault}
 
 pub returns-in-Ok-Complete-clause-complete : goal.returns-in-Ok-Complete-clause-complete
 returns-in-Ok-Complete-clause-complete g c =
@@ -76,6 +77,23 @@ loop-datagram-preserved g c =
             identity = c.feed.ensures.identity ∙ same;
             stays = stays;
           })
+      | in-Err-Early+in_ok-tell_refusal-in-Err-Early w ↦
+          (let stands = w.in-Err-Early.ensures.refused read.1 read.4 in
+          let early = ((rw (c.as_slice.ensures.value, same) at (c.feed.ensures.early read.1 read.4)).0 (w.in-Err-Early.is ∙ ap Err w.in-Err-Early.field-0-is)).1 in
+          rw w.out-is record {
+            read = (
+              with_datagram read.0 d,
+              read.1,
+              read.2 ++ line_of (refusal_line count Early),
+              many,
+              stands,
+              read.5,
+              read_refused who opened a b read.0 read.1 read.2 count d read.6 read.3 one Early early,
+              then_appends _ _ _ read.2 (line_of (refusal_line count Early)) read.7 w.in_ok-tell_refusal-in-Err-Early.ensures.ok,
+            );
+            identity = c.feed.ensures.identity ∙ same;
+            stays = stays;
+          })
       | in-Err-Fault+in_ok-tell_refusal-in-Err-Fault w ↦
           (let stands = w.in-Err-Fault.ensures.refused read.1 read.4 in
           let fault = rw (w.in-Err-Fault.field-0-is, c.as_slice.ensures.value, same) at (w.in-Err-Fault.ensures.fault read.1 read.4) in
@@ -94,3 +112,13 @@ loop-datagram-preserved g c =
             stays = stays;
           })
     ]
+
+pub returns-in_err-tell_refusal-in-Err-Early-clause-fault : goal.returns-in_err-tell_refusal-in-Err-Early-clause-fault
+returns-in_err-tell_refusal-in-Err-Early-clause-fault g c =
+    let read = c.loop-datagram.invariant.read in
+    let fault = c.in_err-tell_refusal-in-Err-Early.field-0.0 in
+    passed_on c.from_residual-in_err-tell_refusal-in-Err-Early.result fault _ c.from_residual-in_err-tell_refusal-in-Err-Early.ensures.1
+    (line_untold c.args.receiver.now.identity (g.R.Read.sound c.args.frames.now) (g.R.Read.remaining c.args.frames.now) (g.R.Read.remaining c.next.new.frames)
+    (g.R.Read.failed c.next.new.frames) (g.W.Write.failed c.tell_refusal-in-Err-Early.new.out) (g.W.Write.contents c.args.out.now) (g.W.Write.contents c.loop-datagram.out)
+    (g.W.Write.contents c.tell_refusal-in-Err-Early.new.out) fault
+    (g.R.Read.remaining c.loop-datagram.frames, read.0, read.1, read.2, read.6, read.7) c.in_err-tell_refusal-in-Err-Early.ensures.fault)

@@ -1,10 +1,14 @@
-use Rattle.std.proofs.Common.{◌≡◌, ◌∙◌, ℕ, List, true, arith, ap, length, map, sym}
+use Rattle.std.proofs.Common.{◌≡◌, ◌∙◌, ℕ, List, true, false, arith, ap, length, map, sym, subst}
+use Rattle.std.specs.Prelude.{◌==◌, nat_lt}
+use Rattle.std.specs.List.{list_any}
+use Rattle.std.proofs.lemmas.Bool.{eqb-true, eqb-false, lt-ltb, le-ltb}
 use Rattle.lists.specs.Below.{below}
 use Rattle.losses.specs.declared.groups.Group.{Group as GroupOf}
-use Rattle.losses.specs.Groups.{groups_of}
+use Rattle.losses.specs.Groups.{groups_of, AreCarriers}
 use Rattle.losses.proofs.GroupFigures.{count_of}
+use Rattle.losses.proofs.CarrierPlaces.{are_carriers}
 use Rattle.partition.proofs.Laws.{some_block}
-use Rattle.reception.specs.Reception.{counted, symbols}
+use Rattle.reception.specs.Reception.{counted, symbols, is_carrier}
 use Rattle.reception.specs.Walks.{readings_of}
 use Rattle.cert.specs.DatagramWalk.{HasWalked}
 use Rattle.cert.specs.declared.walk.Walk.{Walk}
@@ -13,6 +17,7 @@ use Rattle.cert.specs.Verdict.{AreCertified}
 use Rattle.cert.proofs.Judging.{read_all, are_certified, none_came, some_came, no_reason}
 use Rattle.cert.proofs.DatagramSteps.{passed_on}
 use Rattle.cert.proofs.Bridge.{lines_are, enough_full, counts_refused}
+use Rattle.cert.proofs.CarrierPlaces.{any_place, places_counted}
 use Rattle.cert.proofs.Losing.{are_groups, margin_told, kill_told, burst_told}
 use Rattle.cert.proofs.walk.Walk.report.Goals as goal
 
@@ -20,6 +25,24 @@ use Rattle.cert.proofs.walk.Walk.report.Goals as goal
 all_certified : (walk : Walk) (datagrams : List (List ℕ)) → HasWalked walk datagrams → walk.came ≡ true → AreCertified walk.scope.identity (readings_of datagrams) walk.symbols
 all_certified walk datagrams h is =
     are_certified walk.scope.identity walk.symbols (readings_of datagrams) h.clean (some_came (symbols (counted walk.scope.identity (readings_of datagrams))) (h.some ∙ is))
+
+-- whether a carrier came
+any_carrier : (walk : Walk) (datagrams : List (List ℕ)) → HasWalked walk datagrams → list_any (is_carrier walk.scope.identity) (readings_of datagrams) ≡ nat_lt 0 walk.carriers.len
+any_carrier walk datagrams h =
+    any_place (is_carrier walk.scope.identity) 0 (readings_of datagrams)
+    ∙ ap (λ (ps : List ℕ). nat_lt 0 (length ps)) (sym h.placed) ∙ ap (λ (n : ℕ). nat_lt 0 n) (sym walk.carriers.ok.0)
+
+no_carrier : (walk : Walk) (datagrams : List (List ℕ)) → HasWalked walk datagrams → (walk.carriers.len == 0) ≡ true → list_any (is_carrier walk.scope.identity) (readings_of datagrams) ≡ false
+no_carrier walk datagrams h e = let none = eqb-true _ _ e in any_carrier walk datagrams h ∙ le-ltb 0 walk.carriers.len (omega (arith, none))
+
+carrier_came : (walk : Walk) (datagrams : List (List ℕ)) → HasWalked walk datagrams → (walk.carriers.len == 0) ≡ false → list_any (is_carrier walk.scope.identity) (readings_of datagrams) ≡ true
+carrier_came walk datagrams h e = let some = eqb-false _ _ e in any_carrier walk datagrams h ∙ lt-ltb 0 walk.carriers.len (omega (arith, some))
+
+-- their places
+carriers_are : (walk : Walk) (datagrams : List (List ℕ)) → HasWalked walk datagrams → (walk.carriers.len == 0) ≡ false → AreCarriers walk.carriers.items (length (readings_of datagrams))
+carriers_are walk datagrams h e =
+    subst (λ (ps : List ℕ). AreCarriers ps (length (readings_of datagrams))) (sym h.placed)
+    (are_carriers (is_carrier walk.scope.identity) (readings_of datagrams) (carrier_came walk datagrams h e))
 
 pub returns-then-not-self-clause-no_report : goal.returns-then-not-self-clause-no_report
 returns-then-not-self-clause-no_report c = λ datagrams h. (
@@ -35,6 +58,17 @@ returns-in_err-blocks-clause-no_report c = λ datagrams h. (
     let refused = counts_refused who z datagrams (groups_of c.args.self.now.groups.items) h.grouped c.in_err-blocks.field-0.0 (no_reason _ h.clean) some
     (rw c.deref.ensures.value at c.in_err-blocks.ensures.no_report) in
     passed_on c.from_residual.result c.in_err-blocks.field-0.0 _ c.from_residual.ensures.1 refused)
+
+pub returns-then-is_empty-clause-no_report : goal.returns-then-is_empty-clause-no_report
+returns-then-is_empty-clause-no_report c = λ datagrams h. (
+    let who = c.args.self.now.scope.identity in
+    let z = c.args.self.now.symbols in
+    let enough = rw c.deref.ensures.value at c.in_ok-blocks.ensures.enough in (
+      no_reason _ h.clean,
+      some_came (symbols (counted c.args.self.now.scope.identity (readings_of datagrams))) (h.some ∙ c.if-not-self.false),
+      enough_full who z.fti (readings_of datagrams) (groups_of c.args.self.now.groups.items) h.grouped enough,
+      no_carrier c.args.self.now datagrams h (sym c.is_empty.ensures ∙ c.if-is_empty.true),
+    ))
 
 pub figures_of-requires-clause-some : goal.figures_of-requires-clause-some
 figures_of-requires-clause-some c =
@@ -52,8 +86,11 @@ figures_of-requires-clause-groups c =
     let rs = readings_of c.requires.0 in
     let all = all_certified c.args.self.now c.requires.0 h c.if-not-self.false in
     let enough = rw c.deref.ensures.value at c.in_ok-blocks.ensures.enough in
-    rw c.deref-2.ensures.value
-    (length rs, are_groups c.args.self.now.scope.identity z c.args.self.now.valid.fti rs all.packets (groups_of c.args.self.now.groups.items) h.grouped enough)
+    rw (c.deref-2.ensures.value, c.deref-3.ensures.value) (
+      length rs,
+      are_groups c.args.self.now.scope.identity z c.args.self.now.valid.fti rs all.packets (groups_of c.args.self.now.groups.items) h.grouped enough,
+      carriers_are c.args.self.now c.requires.0 h (sym c.is_empty.ensures ∙ c.if-is_empty.false),
+    )
 
 pub returns-clause-report : goal.returns-clause-report
 returns-clause-report c = λ datagrams each h. (
@@ -67,13 +104,18 @@ returns-clause-report c = λ datagrams each h. (
     let lines = rw c.deref.ensures.value at c.in_ok-blocks.ensures.lines in
     let enough = rw c.deref.ensures.value at c.in_ok-blocks.ensures.enough in
     let are = are_groups who z valid rs all.packets groups h.grouped enough in
+    let carriers = rw h.placed at (carriers_are c.args.self.now datagrams h (sym c.is_empty.ensures ∙ c.if-is_empty.false)) in
+    let margin = rw (c.deref-2.ensures.value, c.deref-3.ensures.value, h.placed) at c.in_ok-margin.ensures.margin in
+    let kill = rw (c.deref-2.ensures.value, c.deref-3.ensures.value, h.placed) at c.in_ok-margin.ensures.kill in
+    let burst = rw (c.deref-2.ensures.value, c.deref-3.ensures.value, h.placed) at c.in_ok-margin.ensures.burst in
     record {
       readings = rs;
       read = read_all datagrams each;
       blocks = lines ∙ ap (λ (m : ℕ). map (line_in (groups_of c.args.self.now.groups.items)) (below m)) (sym n) ∙ lines_are who z.fti rs groups h.grouped;
-      margin = margin_told who z valid rs all.packets groups h.grouped _ ((rw c.deref-2.ensures.value at c.in_ok-margin.ensures.margin) (length rs) are);
-      kill = kill_told who z valid rs all.packets groups h.grouped _ _ ((rw c.deref-2.ensures.value at c.in_ok-margin.ensures.kill) (length rs) are);
-      burst = burst_told who z valid rs all.packets groups h.grouped _ ((rw c.deref-2.ensures.value at c.in_ok-margin.ensures.burst) (length rs) are);
+      carriers = c.len.ensures ∙ c.args.self.now.carriers.ok.0 ∙ ap (λ (ps : List ℕ). length ps) h.placed ∙ places_counted (is_carrier who) 0 rs;
+      margin = margin_told who z valid rs all.packets groups h.grouped _ (margin (length rs) are carriers);
+      kill = kill_told who z valid rs all.packets groups h.grouped _ _ (kill (length rs) are carriers);
+      burst = burst_told who z valid rs all.packets groups h.grouped _ (burst (length rs) are carriers);
     })
 
 pub returns-clause-certified : goal.returns-clause-certified
@@ -81,4 +123,8 @@ returns-clause-certified c = λ datagrams h. (
     let z = c.args.self.now.symbols in
     let all = all_certified c.args.self.now datagrams h c.if-not-self.false in
     let enough = rw c.deref.ensures.value at c.in_ok-blocks.ensures.enough in
-    record { all = all; full = enough_full c.args.self.now.scope.identity z.fti (readings_of datagrams) (groups_of c.args.self.now.groups.items) h.grouped enough })
+    record {
+      all = all;
+      full = enough_full c.args.self.now.scope.identity z.fti (readings_of datagrams) (groups_of c.args.self.now.groups.items) h.grouped enough;
+      carrier = carrier_came c.args.self.now datagrams h (sym c.is_empty.ensures ∙ c.if-is_empty.false);
+    })
