@@ -51,7 +51,7 @@ class Case:
         dropped = min(DROPPED, datagrams // 4)
         return {
             "encode": ["object", "session", *IDENTIFIERS, *sizes],
-            "certify": ["object", "certificate", *sizes],
+            "certify": ["object", "certificate", *IDENTIFIERS, *sizes],
             "check": ["session", "object", "certificate", *IDENTIFIERS],
             "drop": ["session", "fewer", *(str(i * datagrams // dropped) for i in range(dropped))],
             "decode": ["thin", "decoded", *IDENTIFIERS],

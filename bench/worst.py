@@ -56,7 +56,7 @@ def send(length, fti, order):
     put("o", random.Random(1).randbytes(length))
     sizes = ["--symbol", str(fti[0]), "--block", str(fti[1]), "--max", str(fti[2])]
     alcrs("encode", "o", "s", *IDENTIFIERS, *sizes, "--order", order)
-    alcrs("certify", "o", "c", *sizes)
+    alcrs("certify", "o", "c", *IDENTIFIERS, *sizes)
 
 
 def keep(size, chosen):

@@ -32,7 +32,7 @@ PACKET = (
 FRAMES = "fault S[12] Cut(?:Length|Datagram)\n|fault S3 TooLong\n"
 FAULTS = f"{FRAMES}|fault Z1 Magic\n|fault Z2 Fti (?:{FTI})\n|fault Z3 Size\n"
 REASONS = (
-    r"no (?:N1 ObjectLength|N2 NotObject block \d+ column \d+ symbol \d+|N3 Empty|N4 Packet place \d+ " + PACKET +
+    r"no (?:N12 OtherCertificate|N1 ObjectLength|N2 NotObject block \d+ column \d+ symbol \d+|N3 Empty|N4 Packet place \d+ " + PACKET +
     r"|N6 OtherFti place \d+|N7 Range place \d+|N8 Symbol place \d+ column \d+"
     r"|N9 Thin block \d+ have \d+ need \d+|N10 SymbolLength place \d+|N11 NoCarrier)\n"
 )
@@ -64,6 +64,7 @@ LINES = {
     },
     "show": {0: f"(?:{SHOWN})*", 1: rf"(?:{SHOWN}|\d+ {PACKET}\n)+|{FRAMES}"},
     "drop": {0: r"kept \d+ datagrams\n", 1: rf"fault S6 NoSuchPlace \d+\n|{FRAMES}"},
+    "convert": {0: r"converted \d+ blocks\n", 1: rf"fault Z1 Magic\n|fault Z2 Fti (?:{FTI})\n|fault Z3 Size\n|fault Z6 OtherIdentity\n"},
     "twin": {0: r"twin block \d+ have \d+ need \d+\n", 1: f"no twin\n|{REASONS}|{FAULTS}"},
 }
 LINES = {name: {status: re.compile(text) for status, text in told.items()} for name, told in LINES.items()}
@@ -76,8 +77,10 @@ WORDS = {
     "show": ["show", "s"],
     "drop": ["drop", "s", "out", "0"],
     "twin": ["twin", "s", "o", "c", "out", *OF_NOTE],
+    "convert": ["convert", "c", "out", *OF_NOTE],
 }
-OF_CERTIFICATE = ["check", "twin"]
+OF_SESSION = [name for name in WORDS if name != "convert"]
+OF_CERTIFICATE = ["check", "twin", "convert"]
 
 
 def sample(name):
@@ -86,6 +89,8 @@ def sample(name):
 
 
 SESSION, OBJECT, CERTIFICATE = sample("note.session"), sample("note.txt"), sample("note.rsc")
+# The same certificate in the older layout, and where its FTI and that of the other begins.
+OLDER, OLDER_FTI, NAMED_FTI = sample("note.rsc1"), 4, 24
 # The bytes of a frame, and of one whose packet carries no FTI; the datagrams at the places 0 and 4 of SPARSE carry it.
 FRAME, PLAIN_FRAME = 42, 30
 SPARSE = sample("sparse.session")
@@ -134,16 +139,18 @@ def of_beginning(command, session):
 
 
 def beginnings():
-    for command, words in WORDS.items():
+    for command in OF_SESSION:
+        words = WORDS[command]
         for whole in [SESSION, SPARSE]:
             for size in range(len(whole) + 1):
                 wanted = of_beginning(command, whole[:size])
                 yield Try(f"session of {size} bytes", words, {"s": whole[:size]}, wanted)
     for command in OF_CERTIFICATE:
-        for size in range(len(CERTIFICATE)):
-            wanted = 1, "fault Z1 Magic\n" if size < 4 else "fault Z3 Size\n"
-            yield Try(f"certificate of {size} bytes", WORDS[command], {"c": CERTIFICATE[:size]}, wanted)
-        for size in range(len(OBJECT)):
+        for certificate in [CERTIFICATE, OLDER]:
+            for size in range(len(certificate)):
+                wanted = 1, "fault Z1 Magic\n" if size < 4 else "fault Z3 Size\n"
+                yield Try(f"certificate of {size} bytes", WORDS[command], {"c": certificate[:size]}, wanted)
+        for size in range(len(OBJECT) if command != "convert" else 0):
             wanted = 1, "no N1 ObjectLength\n"
             yield Try(f"object of {size} bytes", WORDS[command], {"o": OBJECT[:size]}, wanted)
 
@@ -190,12 +197,14 @@ def great_claims():
         shown = "tsi 7 toi 2 length {} symbol {} block {} max {}".format(*fti)
         yield Try(f"packet of {fti}", WORDS["show"], {"s": far}, (0, f"0 {shown} sbn {last} esi 0\n"))
         yield Try(f"packet of {fti}", WORDS["drop"], {"s": far}, (0, "kept 0 datagrams\n"))
-        for command in OF_CERTIFICATE:
+        for command in ["check", "twin"]:
             wanted = 1, "no N6 OtherFti place 0\n"
             yield Try(f"packet of {fti}", WORDS[command], {"s": far}, wanted)
-            head = b"RSC1" + fti_bytes(*fti)
-            for behind in [b"", b"\0", bytes(100_000)]:
-                yield Try(f"certificate of {fti}", WORDS[command], {"c": head + behind}, (1, "fault Z3 Size\n"))
+        for command in OF_CERTIFICATE:
+            for head in [OLDER[:OLDER_FTI], CERTIFICATE[:NAMED_FTI]]:
+                for behind in [b"", b"\0", bytes(100_000)]:
+                    certificate = head + fti_bytes(*fti) + behind
+                    yield Try(f"certificate of {fti}", WORDS[command], {"c": certificate}, (1, "fault Z3 Size\n"))
     # Of a packet without FTI alone nothing is known but its place in the object that it claims.
     for size in [1, 8, 65487]:
         far = plain_frame_of((1 << 24) - 1, 255, size)
@@ -213,11 +222,11 @@ def great_claims():
         wanted = 1, f"fault {reason} place 1\n"
         yield Try(f"packet without FTI, of {size} bytes", WORDS["decode"], {"s": behind}, wanted)
     for length, text in [(65507, "fault S2 CutDatagram\n"), (65508, "fault S3 TooLong\n"), (65535, "fault S3 TooLong\n")]:
-        for words in WORDS.values():
-            yield Try(f"frame of {length} bytes", words, {"s": struct.pack(">H", length) + bytes(100)}, (1, text))
+        for command in OF_SESSION:
+            yield Try(f"frame of {length} bytes", WORDS[command], {"s": struct.pack(">H", length) + bytes(100)}, (1, text))
     sizes = ["--symbol", "65475", "--block", "1", "--max", "255"]
     yield Try("great symbols", ["encode", "o", "out", *OF_NOTE, *sizes], {}, (0, "encoded 255 datagrams\n"))
-    yield Try("great symbols", ["certify", "o", "out", *sizes], {}, (0, "certified 1 blocks\n"))
+    yield Try("great symbols", ["certify", "o", "out", *OF_NOTE, *sizes], {}, (0, "certified 1 blocks\n"))
     yield Try("a far place", ["drop", "s", "out", "4294967295"], {}, (1, "fault S6 NoSuchPlace 4294967295\n"))
 
 
@@ -225,17 +234,18 @@ def changes():
     """Each byte of the beginnings, of a session's last datagram and of one without FTI as each value."""
     last = len(SESSION) - FRAME
     changed = [(SESSION, [*range(64), *range(last, len(SESSION))]), (SPARSE, range(FRAME, FRAME + PLAIN_FRAME))]
-    for command, words in WORDS.items():
+    for command in OF_SESSION:
         for session, places in changed:
             for at in places:
                 for value in range(256):
                     data = session[:at] + bytes([value]) + session[at + 1 :]
-                    yield Try(f"session with byte {at} {value}", words, {"s": data})
+                    yield Try(f"session with byte {at} {value}", WORDS[command], {"s": data})
     for command in OF_CERTIFICATE:
-        for at in range(len(CERTIFICATE)):
-            for value in range(256):
-                data = CERTIFICATE[:at] + bytes([value]) + CERTIFICATE[at + 1 :]
-                yield Try(f"certificate with byte {at} {value}", WORDS[command], {"c": data})
+        for certificate in [CERTIFICATE, OLDER]:
+            for at in range(min(64, len(certificate))):
+                for value in range(256):
+                    data = certificate[:at] + bytes([value]) + certificate[at + 1 :]
+                    yield Try(f"certificate with byte {at} {value}", WORDS[command], {"c": data})
 
 
 def chosen(tries, words):

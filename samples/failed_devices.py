@@ -22,7 +22,8 @@ SIZES = ["--symbol", "1000", "--block", "50", "--max", "60"]
 # More than what stands between the program and a file.
 GREAT_COMMANDS = [
     ["encode", "great.txt", "out", *OF_BULLETIN, *SIZES],
-    ["certify", "great.txt", "out", *SIZES],
+    ["certify", "great.txt", "out", *OF_BULLETIN, *SIZES],
+    ["convert", "great.rsc", "out", *OF_BULLETIN],
     ["check", "great.session", "great.txt", "great.rsc", *OF_BULLETIN],
     ["drop", "great.session", "out", "0"],
     ["decode", "great.session", "out", *OF_BULLETIN],
@@ -140,7 +141,13 @@ long close(long a) {
 """
 
 # How a command tells that its output can't be written before the last bytes of it.
-WRITING = {"encode": "fault O3 Io", "certify": "fault Z4 Io", "drop": "fault S4 Io", "join": "fault S4 Io"}
+WRITING = {
+    "encode": "fault O3 Io",
+    "certify": "fault Z4 Io",
+    "convert": "fault Z4 Io",
+    "drop": "fault S4 Io",
+    "join": "fault S4 Io",
+}
 
 
 # How a command tells that it can't read an input, by the inputs' places.
@@ -148,6 +155,7 @@ FRAMES, OBJECT, CERTIFICATE = "fault S4 Io", "fault file {}", "fault Z4 Io"
 INPUTS = {
     "encode": [OBJECT],
     "certify": [OBJECT],
+    "convert": [CERTIFICATE],
     "check": [FRAMES, OBJECT, CERTIFICATE],
     "drop": [FRAMES],
     "join": ["", FRAMES, FRAMES, FRAMES],
@@ -277,7 +285,7 @@ def make_great_inputs(room):
         subprocess.run([PROGRAM, *words], cwd=room, check=True, stdout=subprocess.DEVNULL)
 
     alcrs("encode", "great.txt", "great.session", *OF_BULLETIN, *SIZES)
-    alcrs("certify", "great.txt", "great.rsc", *SIZES)
+    alcrs("certify", "great.txt", "great.rsc", *OF_BULLETIN, *SIZES)
     alcrs("drop", "great.session", "great_thin.session", *map(str, range(30)))
 
 

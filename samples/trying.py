@@ -32,9 +32,14 @@ COMMANDS = [
     ["encode", "bulletin.txt", "out", *OF_BULLETIN, "--symbol", "8", "--block", "9", "--max", "8"],
     ["encode", "note.txt", "out", *OF_NOTE, *NOTE, "--fti-every", "4"],
     ["encode", "bulletin.txt", "out", *OF_BULLETIN, *MANY_BLOCKS, "--order", "rounds", "--fti-every", "7"],
-    ["certify", "note.txt", "out", *NOTE],
-    ["certify", "bulletin.txt", "out", *ONE_BLOCK],
-    ["certify", "bulletin.txt", "out", *MANY_BLOCKS],
+    ["certify", "note.txt", "out", *OF_NOTE, *NOTE],
+    ["certify", "bulletin.txt", "out", *OF_BULLETIN, *ONE_BLOCK],
+    ["certify", "bulletin.txt", "out", *OF_BULLETIN, *MANY_BLOCKS],
+    ["convert", "note.rsc1", "out", *OF_NOTE],
+    ["convert", "many.rsc", "out", *OF_BULLETIN],
+    ["convert", "many.rsc", "out", *OF_NOTE],
+    ["check", "note.session", "note.txt", "note.rsc1", *OF_NOTE],
+    ["check", "note.session", "note.txt", "bulletin.rsc", *OF_NOTE],
     ["check", "note.session", "note.txt", "note.rsc", *OF_NOTE],
     ["check", "bulletin.session", "bulletin.txt", "bulletin.rsc", *OF_BULLETIN],
     ["check", "one.session", "bulletin.txt", "one.rsc", *OF_BULLETIN],
@@ -122,7 +127,7 @@ def make_inputs(room):
                 put(name, file.read())
     for name, sizes in [("one", ONE_BLOCK), ("many", MANY_BLOCKS), ("repair", ALL_REPAIR)]:
         alcrs("encode", "bulletin.txt", f"{name}.session", *OF_BULLETIN, *sizes, "--order", "rounds")
-        alcrs("certify", "bulletin.txt", f"{name}.rsc", *sizes)
+        alcrs("certify", "bulletin.txt", f"{name}.rsc", *OF_BULLETIN, *sizes)
     os.rename(os.path.join(room, "many.session"), os.path.join(room, "rounds.session"))
     alcrs("drop", "one.session", "one_lossy.session", *map(str, range(10)))
     alcrs("drop", "one.session", "one_thin.session", *map(str, range(20)))

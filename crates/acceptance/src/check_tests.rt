@@ -1,5 +1,5 @@
 //! Verdicts on worked sessions.
-use crate::command::{Wanted, expect};
+use crate::command::{Wanted, answer, expect};
 use crate::sessions::{
     PAIR, PAIR_CERTIFICATE, PAIR_SESSION, Sent, THREE_BLOCKS, THREE_BLOCKS_COEFFICIENTS,
     THREE_BLOCKS_FTI, THREE_BLOCKS_IN_ROUNDS, THREE_BLOCKS_IN_TURN, certificate_of, pair_changed,
@@ -8,7 +8,39 @@ use crate::sessions::{
 use std::alloc::Global;
 use std::test::Fail;
 
+// The certificate as `convert` writes it for TSI 1 and TOI 1, or nothing where it is none.
+fn converted(alloc: Global, certificate: &[u8]) -> Result<Vec<u8>, Fail> {
+    let words = ["alcrs", "convert", "c", "out", "--tsi", "1", "--toi", "1"];
+    let told = answer(alloc, &words, &[("c", certificate)])?;
+    let mut named = Vec::new(alloc);
+    for (_, bytes) in told.created.iter() {
+        named.extend_from_slice(bytes.as_slice())?;
+    }
+    Ok(named)
+}
+
 // `alcrs check s o c --tsi 1 --toi 1` of these files ends with this status, and prints this.
+fn checks_alone(
+    alloc: Global,
+    session: &[u8],
+    object: &[u8],
+    certificate: &[u8],
+    status: u8,
+    text: &str,
+) -> Result<(), Fail> {
+    expect(
+        alloc,
+        &["alcrs", "check", "s", "o", "c", "--tsi", "1", "--toi", "1"],
+        &[("s", session), ("o", object), ("c", certificate)],
+        &Wanted {
+            status,
+            text,
+            created: &[],
+        },
+    )
+}
+
+// So it does, and with the certificate's converted form too.
 fn checks(
     alloc: Global,
     session: &[u8],
@@ -17,17 +49,12 @@ fn checks(
     status: u8,
     text: &str,
 ) -> Result<(), Fail> {
-    let wanted = Wanted {
-        status,
-        text,
-        created: &[],
-    };
-    expect(
-        alloc,
-        &["alcrs", "check", "s", "o", "c", "--tsi", "1", "--toi", "1"],
-        &[("s", session), ("o", object), ("c", certificate)],
-        &wanted,
-    )
+    checks_alone(alloc, session, object, certificate, status, text)?;
+    let named = converted(alloc, certificate)?;
+    if named.is_empty() {
+        return Ok(());
+    }
+    checks_alone(alloc, session, object, named.as_slice(), status, text)
 }
 
 // A check of these symbols says yes, and prints this.
@@ -334,7 +361,8 @@ fn cut_and_wrong_certificates(rt: HostRuntime) -> Result<(), Fail> {
     for (certificate, line) in [
         (&[][..], "fault Z1 Magic\n"),
         (b"RSC", "fault Z1 Magic\n"),
-        (b"RSC2 and anything", "fault Z1 Magic\n"),
+        (b"RSC3 and anything", "fault Z1 Magic\n"),
+        (b"RSC2 and anything", "fault Z3 Size\n"),
         (b"RSC1", "fault Z3 Size\n"),
         (&PAIR_CERTIFICATE[..13], "fault Z3 Size\n"),
         (&PAIR_CERTIFICATE[..15], "fault Z3 Size\n"),

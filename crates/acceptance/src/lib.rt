@@ -8,6 +8,8 @@ mod check_tests;
 #[cfg(test)]
 mod command;
 #[cfg(test)]
+mod convert_tests;
+#[cfg(test)]
 mod decode_tests;
 #[cfg(test)]
 mod follow_tests;

@@ -1,7 +1,7 @@
 //! `encode`, `certify` and `drop`.
 use crate::command::{Wanted, expect};
 use crate::sessions::{
-    PAIR, PAIR_CERTIFICATE, PAIR_EVERY_SECOND, PAIR_FIRST_ALONE, PAIR_SESSION, THREE_BLOCKS,
+    PAIR, PAIR_EVERY_SECOND, PAIR_FIRST_ALONE, PAIR_NAMED_CERTIFICATE, PAIR_SESSION, THREE_BLOCKS,
     THREE_BLOCKS_FTI, THREE_BLOCKS_IN_ROUNDS, THREE_BLOCKS_IN_TURN, pair_frames, session_every,
     session_of,
 };
@@ -173,14 +173,15 @@ fn some_carriers_in_each_order(rt: HostRuntime) -> Result<(), Fail> {
 #[test]
 fn certified(rt: HostRuntime) -> Result<(), Fail> {
     let words = [
-        "alcrs", "certify", "o", "out", "--symbol", "1", "--block", "2", "--max", "3",
+        "alcrs", "certify", "o", "out", "--tsi", "1", "--toi", "1", "--symbol", "1", "--block",
+        "2", "--max", "3",
     ];
     makes(
         rt.alloc(),
         &words,
         &[("o", &PAIR)],
         "certified 1 blocks\n",
-        &PAIR_CERTIFICATE,
+        &PAIR_NAMED_CERTIFICATE,
     )
 }
 
@@ -208,7 +209,8 @@ fn nothing_encoded(rt: HostRuntime) -> Result<(), Fail> {
 fn nothing_certified(rt: HostRuntime) -> Result<(), Fail> {
     for (name, block, text) in REFUSED {
         let words = [
-            "alcrs", "certify", name, "out", "--symbol", "1", "--block", block, "--max", "3",
+            "alcrs", "certify", name, "out", "--tsi", "1", "--toi", "1", "--symbol", "1",
+            "--block", block, "--max", "3",
         ];
         let files = [("empty", [].as_slice()), ("pair", PAIR.as_slice())];
         makes_nothing(rt.alloc(), &words, &files, text)?;

@@ -23,7 +23,7 @@ use Rattle.reception.specs.Reception.{Placed, is_of_identity, placed_at, counted
 use Rattle.reception.specs.Walks.{readings_of}
 use Rattle.cert.specs.Certificate.{Certificate}
 use Rattle.cert.specs.declared.verdict.Reason.{Reason}
-use Rattle.cert.specs.declared.verdict.Reason.TheVariants.{ObjectLength, NotObject, Empty, Packet as NoPacket, OtherFti, SymbolLength, Range, Symbol as Wrong, Thin, NoCarrier}
+use Rattle.cert.specs.declared.verdict.Reason.TheVariants.{OtherCertificate, ObjectLength, NotObject, Empty, Packet as NoPacket, OtherFti, SymbolLength, Range, Symbol as Wrong, Thin, NoCarrier}
 use Rattle.cert.specs.declared.walk.NoReport.{NoReport}
 use Rattle.cert.specs.declared.walk.NoReport.TheVariants.{Reason as ByReason, NoMemory}
 use Rattle.cert.specs.Verdict.{first_reason, IsAgainst}
@@ -207,6 +207,7 @@ module _ (who : Identity) (f : Fti) (rs : List Reading) (groups : List Group) (a
 module _ (who : Identity) (z : Certificate) (ds : List (List ℕ)) (groups : List Group) (are : AreGroupsOf z.fti (counted who (readings_of ds)) groups) where
   refused_reason : (r : Reason) → first_reason who z (readings_of ds) ≡ None → symbols (counted who (readings_of ds)) ≢ [] → IsShortGroup groups (ByReason r) → IsAgainst who (readings_of ds) z r
   refused_reason (Thin b have need) none some h = let w = short_group who z.fti (readings_of ds) groups are b have need h in (none, some, w.0, w.1, w.2)
+  refused_reason OtherCertificate none some h = absurd h
   refused_reason ObjectLength none some h = absurd h
   refused_reason (NotObject b c i) none some h = absurd h
   refused_reason Empty none some h = absurd h

@@ -1,6 +1,7 @@
 -- Lists of readings worked by hand: what a check says of them. The object is 01 02, of two source symbols and one repair
 -- symbol, of a byte each; the certificate's polynomial is z.
 use Rattle.std.specs.Prelude.{◌≡◌, ℕ, List, [], ◌∷◌, map, count_by, Option, Some, None, Ok, Err, refl}
+use Rattle.lists.specs.Below.{below}
 use Rattle.gf256.specs.Arithmetic.{product, product_over, doubled, doubled_times, alpha_to}
 use Rattle.poly.specs.Polynomial.{value_over}
 use Rattle.partition.specs.Fti.{Fti, fti_from, ceiling, symbol_count, block_count, encoding_count, source_count, large_blocks, start_of}
@@ -11,7 +12,7 @@ use Rattle.reception.specs.declared.scope.Identity.{Identity}
 use Rattle.reception.specs.Reception.{is_carrier}
 use Rattle.cert.specs.declared.verdict.Reason.{Reason}
 use Rattle.cert.specs.declared.verdict.Reason.TheVariants.{Packet as NoPacket, OtherFti, SymbolLength, Range, Symbol}
-use Rattle.cert.specs.Certificate.{Certificate, polynomial}
+use Rattle.cert.specs.Certificate.{Certificate, unnamed, polynomial}
 use Rattle.cert.specs.Verdict.{first_reason}
 use Rattle.cert.specs.Report.{blocks_of}
 
@@ -22,7 +23,7 @@ abbrev fti : Fti
 fti = fti_from 2 1 2 3
 
 abbrev certificate : Certificate
-certificate = record { fti = fti; coefficients = 0 ∷ 1 ∷ [] }
+certificate = unnamed fti (0 ∷ 1 ∷ [])
 
 abbrev packet : Option Fti → ℕ → List ℕ → Reading
 packet f j y = Ok (record { tsi = 1; toi = 1; fti = f; block = 0; esi = j; bytes = y })
@@ -47,7 +48,7 @@ pub none : map reason (
     ∷ (plain 0 (1 ∷ []) ∷ plain 1 (2 ∷ []) ∷ [])
     ∷ [])
     ≡ None ∷ None ∷ None ∷ []
-unfolding product product_over doubled doubled_times alpha_to value_over ceiling symbol_count block_count encoding_count source_count large_blocks start_of polynomial
+unfolding product product_over doubled doubled_times alpha_to value_over ceiling symbol_count block_count encoding_count source_count large_blocks start_of polynomial below
 none = refl
 
 -- the first at the least place; with no carrier too
@@ -60,7 +61,7 @@ pub told : map reason (
     ∷ (foreign ∷ plain 2 (5 ∷ []) ∷ [])
     ∷ [])
     ≡ Some (NoPacket 1 TooShort) ∷ Some (OtherFti 0) ∷ Some (SymbolLength 1) ∷ Some (SymbolLength 1) ∷ Some (Range 1) ∷ Some (Symbol 1 0) ∷ []
-unfolding product product_over doubled doubled_times alpha_to value_over ceiling symbol_count block_count encoding_count source_count large_blocks start_of polynomial
+unfolding product product_over doubled doubled_times alpha_to value_over ceiling symbol_count block_count encoding_count source_count large_blocks start_of polynomial below
 told = refl
 
 abbrev session : List Reading

@@ -28,7 +28,7 @@ use Rattle.reception.proofs.Stepping.{stays, stays_wrong}
 use Rattle.reception.proofs.Walking.{Walked, last, came_before, stops, goes_on, ends, one_behind, is_packet, same_identity, packet_counts, passed_counts}
 use Rattle.reception.proofs.Looks.{fti_after, never_early, may_pass, faultless_look, length_look}
 use Rattle.cert.specs.declared.verdict.Reason.{Reason}
-use Rattle.cert.specs.declared.verdict.Reason.TheVariants.{ObjectLength, NotObject, Empty, Packet as NoPacket, OtherFti, SymbolLength, Range, Symbol as NotCertified, Thin, NoCarrier}
+use Rattle.cert.specs.declared.verdict.Reason.TheVariants.{OtherCertificate, ObjectLength, NotObject, Empty, Packet as NoPacket, OtherFti, SymbolLength, Range, Symbol as NotCertified, Thin, NoCarrier}
 use Rattle.cert.specs.declared.walk.NoReport.{NoReport}
 use Rattle.cert.specs.declared.walk.NoReport.TheVariants.{Reason as ByReason, NoMemory}
 use Rattle.cert.specs.Certificate.{Certificate}
@@ -211,6 +211,7 @@ module _ (who : Identity) (z : Certificate) (scope : Scope) (count : ℕ) (came 
     refuses_symbol NoMemory h = tt
     refuses_symbol (ByReason (NotCertified i c)) h =
         rw h.0 (refuses d new (Ok (look_at.InRange p)) at (Judged c) (ap (λ (o : Option ℕ). judged o) h.1))
+    refuses_symbol (ByReason OtherCertificate) h = absurd h
     refuses_symbol (ByReason ObjectLength) h = absurd h
     refuses_symbol (ByReason (NotObject b c i)) h = absurd h
     refuses_symbol (ByReason Empty) h = absurd h

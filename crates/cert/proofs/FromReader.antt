@@ -1,5 +1,5 @@
 -- What the answers to datagrams, one after the other, say of the verdict.
-use Rattle.std.proofs.Common.{◌≡◌, ℕ, zero, suc, Bool, List, [], ◌∷◌, ◌++◌, Option, Some, None, refl, sym, ap, ◌∙◌, append_assoc, arith}
+use Rattle.std.proofs.Common.{◌≡◌, ℕ, zero, suc, Bool, true, List, [], ◌∷◌, ◌++◌, Option, Some, None, refl, sym, ap, ◌∙◌, append_assoc, arith}
 use Rattle.std.specs.Io.KnownBytes.{Consumes, IsAtEnd}
 use Rattle.session.specs.Frames.{frame, frames, AreDatagrams, IsReadFault}
 use Rattle.session.specs.declared.frame.FrameFault.{FrameFault}
@@ -9,12 +9,12 @@ use Rattle.reception.specs.declared.scope.Identity.{Identity}
 use Rattle.reception.specs.Symbols.{IsObject}
 use Rattle.reception.specs.Walks.{readings_of}
 use Rattle.cert.specs.declared.verdict.Reason.{Reason}
-use Rattle.cert.specs.declared.verdict.Reason.TheVariants.{ObjectLength, NotObject, Empty, Packet as NoPacket, OtherFti, SymbolLength, Range, Symbol, Thin, NoCarrier}
+use Rattle.cert.specs.declared.verdict.Reason.TheVariants.{OtherCertificate, ObjectLength, NotObject, Empty, Packet as NoPacket, OtherFti, SymbolLength, Range, Symbol, Thin, NoCarrier}
 use Rattle.cert.specs.declared.verdict.Report.{Report}
 use Rattle.cert.specs.declared.verdict.Verdict.TheVariants.{Yes, No}
 use Rattle.cert.specs.declared.walk.NoReport.{NoReport}
 use Rattle.cert.specs.declared.walk.NoReport.TheVariants.{Reason as ByReason, NoMemory}
-use Rattle.cert.specs.Certificate.{Certificate, IsCertificate}
+use Rattle.cert.specs.Certificate.{Certificate, IsCertificate, is_for}
 use Rattle.cert.specs.DatagramWalk.{IsAgainstObject, IsNotBegun, IsNotPassed, IsNo}
 use Rattle.cert.specs.Endings.{ending_of, IsEnding}
 use Rattle.cert.specs.FromReader.{IsVerdictWhatFollows, IsVerdictAfter, IsCheckedFrom, IsRefusedBehind}
@@ -62,6 +62,7 @@ against_place : (who : Identity) (z : Certificate) (rs : List Reading) (r : Reas
 against_place who z rs Empty h = absurd (is_at_place (reception_to who z rs).wrong Empty h)
 against_place who z rs (Thin b have need) h = absurd (is_at_place (reception_to who z rs).wrong (Thin b have need) h)
 against_place who z rs NoCarrier h = absurd (is_at_place (reception_to who z rs).wrong NoCarrier h)
+against_place who z rs OtherCertificate h = h
 against_place who z rs ObjectLength h = h
 against_place who z rs (NotObject b c i) h = h
 against_place who z rs (NoPacket i x) h = h
@@ -70,20 +71,20 @@ against_place who z rs (SymbolLength i) h = h
 against_place who z rs (Range i) h = h
 against_place who z rs (Symbol i c) h = h
 
-module _ (who : Identity) (z : Certificate) (object : List ℕ) (form : IsObject z.fti object) (gives : GivesObject object z) where
+module _ (who : Identity) (z : Certificate) (object : List ℕ) (name : is_for who z.name ≡ true) (form : IsObject z.fti object) (gives : GivesObject object z) where
   verdict_no : (ds : List (List ℕ)) (r : Reason) → AreDatagrams ds → IsAgainst who (readings_of ds) z r → IsVerdict who ds object z (No r)
-  verdict_no ds r each h = record { readings = readings_of ds; read = read_all ds each; judged = refused who (readings_of ds) object z r form gives h }
+  verdict_no ds r each h = record { readings = readings_of ds; read = read_all ds each; judged = refused who (readings_of ds) object z r name form gives h }
 
   -- the no to a list that begins with datagrams of which the last isn't passed
   pub step_no : (ds rest : List (List ℕ)) (e : NoReport) → IsNotPassed who ds z e → IsNo who (ds ++ rest) object z e
   step_no ds rest NoMemory h = tt
   step_no ds rest (ByReason r) h =
-      refused who (readings_of (ds ++ rest)) object z r form gives (against_place who z (readings_of (ds ++ rest)) r (reason_stays who z ds rest r h.0))
+      refused who (readings_of (ds ++ rest)) object z r name form gives (against_place who z (readings_of (ds ++ rest)) r (reason_stays who z ds rest r h.0))
 
   -- the no to a list that was walked over
   pub report_no : (ds : List (List ℕ)) (e : NoReport) → IsNoReport who ds z e → IsNo who ds object z e
   report_no ds NoMemory h = tt
-  report_no ds (ByReason r) h = refused who (readings_of ds) object z r form gives h
+  report_no ds (ByReason r) h = refused who (readings_of ds) object z r name form gives h
 
   module _ (ds : List (List ℕ)) (each : AreDatagrams ds) (left : Option (List ℕ)) where
     what_follows : (r : Reason) → first_reason who z (readings_of ds) ≡ Some r → IsVerdictWhatFollows who ds object z (No r)
@@ -91,6 +92,7 @@ module _ (who : Identity) (z : Certificate) (object : List ℕ) (form : IsObject
         verdict_no (ds ++ rest) r (datagrams_append ds rest each more) (against_place who z (readings_of (ds ++ rest)) r (reason_stays who z ds rest r h))
 
     after_place : (r : Reason) → IsNotPassed who ds z (ByReason r) → IsVerdictAfter who (No r) ds left object z
+    after_place OtherCertificate h = absurd (is_at_place (reception_to who z (readings_of ds)).wrong OtherCertificate h.0)
     after_place ObjectLength h = absurd (is_at_place (reception_to who z (readings_of ds)).wrong ObjectLength h.0)
     after_place (NotObject b c i) h = absurd (is_at_place (reception_to who z (readings_of ds)).wrong (NotObject b c i) h.0)
     after_place Empty h = absurd (is_at_place (reception_to who z (readings_of ds)).wrong Empty h.0)
@@ -110,6 +112,7 @@ module _ (who : Identity) (z : Certificate) (object : List ℕ) (form : IsObject
       after_all Empty end h = (end, verdict_no ds Empty each h)
       after_all (Thin b have need) end h = (end, verdict_no ds (Thin b have need) each h)
       after_all NoCarrier end h = (end, verdict_no ds NoCarrier each h)
+      after_all OtherCertificate end h = absurd (no_place OtherCertificate h)
       after_all ObjectLength end h = absurd (no_place ObjectLength h)
       after_all (NotObject b c i) end h = absurd (no_place (NotObject b c i) h)
       after_all (NoPacket i x) end h = absurd (no_place (NoPacket i x) h)
@@ -118,8 +121,9 @@ module _ (who : Identity) (z : Certificate) (object : List ℕ) (form : IsObject
       after_all (Range i) end h = absurd (no_place (Range i) h)
       after_all (Symbol i c) end h = absurd (no_place (Symbol i c) h)
 
--- a reason against the object is the verdict on any list
-before_all : (who : Identity) (z : Certificate) (object : List ℕ) (left : Option (List ℕ)) (r : Reason) → IsAgainstObject r object z → IsVerdictAfter who (No r) [] left object z
+-- a reason against the name or the object is the verdict on any list
+before_all : (who : Identity) (z : Certificate) (object : List ℕ) (left : Option (List ℕ)) (r : Reason) → IsAgainstObject who r object z → IsVerdictAfter who (No r) [] left object z
+before_all who z object left OtherCertificate h = (refl, λ rest each. record { readings = readings_of rest; read = read_all rest each; judged = h })
 before_all who z object left ObjectLength h = (refl, λ rest each. record { readings = readings_of rest; read = read_all rest each; judged = h })
 before_all who z object left (NotObject b c i) h = (refl, λ rest each. record { readings = readings_of rest; read = read_all rest each; judged = h })
 before_all who z object left Empty h = absurd h
@@ -133,7 +137,7 @@ before_all who z object left NoCarrier h = absurd h
 
 -- ---- why there is no report
 
-pub not_begun : (who : Identity) (old : Option (List ℕ)) (failed : Bool) (z : Certificate) (object : List ℕ) (e : NoReport) → IsNotBegun object z e → IsEnding who old old failed object z (ending_of e)
+pub not_begun : (who : Identity) (old : Option (List ℕ)) (failed : Bool) (z : Certificate) (object : List ℕ) (e : NoReport) → IsNotBegun who object z e → IsEnding who old old failed object z (ending_of e)
 not_begun who old failed z object NoMemory h = tt
 not_begun who old failed z object (ByReason r) h = record {
   datagrams = [];
@@ -146,7 +150,7 @@ not_begun who old failed z object (ByReason r) h = record {
   report = tt;
 }
 
-module _ (who : Identity) (z : Certificate) (object : List ℕ) (form : IsObject z.fti object) (gives : GivesObject object z)
+module _ (who : Identity) (z : Certificate) (object : List ℕ) (name : is_for who z.name ≡ true) (form : IsObject z.fti object) (gives : GivesObject object z)
     (old new : Option (List ℕ)) (failed : Bool) (ds : List (List ℕ)) (each : AreDatagrams ds) (consumed : Consumes old new (frames ds)) where
   no_from : (r : Reason) → IsVerdictAfter who (No r) ds new object z → IsCheckedFrom who old new object z (No r)
   no_from r h = record { datagrams = ds; each = each; consumed = consumed; judged = h; decodes = tt; undecided = tt; tells = tt; report = tt }
@@ -154,20 +158,20 @@ module _ (who : Identity) (z : Certificate) (object : List ℕ) (form : IsObject
   -- the last of the datagrams isn't passed
   pub not_passed : (e : NoReport) → IsNotPassed who ds z e → IsEnding who old new failed object z (ending_of e)
   not_passed NoMemory h = tt
-  not_passed (ByReason r) h = no_from r (after_place who z object form gives ds each new r h)
+  not_passed (ByReason r) h = no_from r (after_place who z object name form gives ds each new r h)
 
   module _ (clean : (reception_to who z (readings_of ds)).wrong ≡ None) where
     -- they don't suffice
     pub no_report : (e : NoReport) → IsAtEnd new → IsNoReport who ds z e → IsEnding who old new failed object z (ending_of e)
     no_report NoMemory end h = tt
-    no_report (ByReason r) end h = no_from r (after_all who z object form gives ds each new (no_reason _ clean) r end h)
+    no_report (ByReason r) end h = no_from r (after_all who z object name form gives ds each new (no_reason _ clean) r end h)
 
     -- the next wasn't read
     pub not_read : (later : Option (List ℕ)) (fault : FrameFault) → IsReadFault fault new later failed → IsRefusedBehind who fault old later failed object z
     not_read later fault h = record {
       datagrams = ds;
       each = each;
-      none = record { form = form; gives = gives; readings = readings_of ds; read = read_all ds each; none = no_reason _ clean };
+      none = record { name = name; form = form; gives = gives; readings = readings_of ds; read = read_all ds each; none = no_reason _ clean };
       left = new;
       consumed = consumed;
       refused = h;
@@ -176,7 +180,7 @@ module _ (who : Identity) (z : Certificate) (object : List ℕ) (form : IsObject
   -- all is well
   pub yes_from : (report : Report) → IsCertificate z → IsAtEnd new → AreEnoughCertified who ds z → IsReport who ds z.fti report → IsCheckedFrom who old new object z (Yes report)
   yes_from report valid end enough is =
-      let judged = yes_all who ds object z report form gives enough in
+      let judged = yes_all who ds object z report name form gives enough in
       record {
         datagrams = ds;
         each = each;

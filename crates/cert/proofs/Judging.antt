@@ -19,12 +19,11 @@ use Rattle.reception.proofs.Walk.{each_counts}
 use Rattle.reception.proofs.Stepping.{scope, stays}
 use Rattle.reception.proofs.Within.{faultless, none_wrong, neither, nowhere}
 use Rattle.cert.specs.declared.verdict.Reason.{Reason}
-use Rattle.cert.specs.declared.verdict.Reason.TheVariants.{ObjectLength, NotObject, Empty, Packet as NoPacket, OtherFti, SymbolLength, Range, Symbol, Thin, NoCarrier}
+use Rattle.cert.specs.declared.verdict.Reason.TheVariants.{OtherCertificate, ObjectLength, NotObject, Empty, Packet as NoPacket, OtherFti, SymbolLength, Range, Symbol, Thin, NoCarrier}
 use Rattle.cert.specs.declared.verdict.Report.{Report}
 use Rattle.cert.specs.declared.verdict.Verdict.TheVariants.{Yes, No}
-use Rattle.cert.specs.Certificate.{Certificate}
+use Rattle.cert.specs.Certificate.{Certificate, is_for}
 use Rattle.cert.specs.Verdict.{GivesObject, wrong_column, uncertified, reception_to, reason_at, IsCertifiedPacket, IsCertifiedReading, AreCertified, IsAgainst, VerdictOn}
-use Rattle.cert.specs.NotGiven.{IsNotGiven}
 use Rattle.cert.specs.Scan.{AreEnoughCertified}
 use Rattle.cert.proofs.Columns.{certified_where_none}
 
@@ -90,6 +89,7 @@ nothing_found (Some x) h = absurd (cc)
 
 -- the reasons that are at places
 abbrev pub IsAtPlace : Reason → Type 0
+IsAtPlace OtherCertificate = ⊥
 IsAtPlace ObjectLength = ⊥
 IsAtPlace (NotObject b c i) = ⊥
 IsAtPlace Empty = ⊥
@@ -112,31 +112,19 @@ is_at_place None r h = absurd (cc)
 is_at_place (Some x) r h = subst IsAtPlace (some_same h) (judged_place x.0 x.1)
 
 -- the verdict for what the datagrams say
-pub refused : (who : Identity) (rs : List Reading) (object : List ℕ) (z : Certificate) (r : Reason) → IsObject z.fti object → GivesObject object z
+pub refused : (who : Identity) (rs : List Reading) (object : List ℕ) (z : Certificate) (r : Reason) → is_for who z.name ≡ true → IsObject z.fti object → GivesObject object z
     → IsAgainst who rs z r → VerdictOn who rs object z (No r)
-refused who rs object z ObjectLength form gives h = absurd (is_at_place (reception_to who z rs).wrong ObjectLength h)
-refused who rs object z (NotObject b c i) form gives h = absurd (is_at_place (reception_to who z rs).wrong (NotObject b c i) h)
-refused who rs object z Empty form gives h = (form, gives, h)
-refused who rs object z (Thin b have need) form gives h = (form, gives, h)
-refused who rs object z NoCarrier form gives h = (form, gives, h)
-refused who rs object z (NoPacket i x) form gives h = (form, gives, h)
-refused who rs object z (OtherFti i) form gives h = (form, gives, h)
-refused who rs object z (SymbolLength i) form gives h = (form, gives, h)
-refused who rs object z (Range i) form gives h = (form, gives, h)
-refused who rs object z (Symbol i c) form gives h = (form, gives, h)
-
--- the verdict for an object that isn't given
-pub no_object : (who : Identity) (rs : List Reading) (object : List ℕ) (z : Certificate) (r : Reason) → length object ≡ z.fti.transfer_length → IsNotGiven object z r → VerdictOn who rs object z (No r)
-no_object who rs object z (NotObject b c i) len h = (len, h)
-no_object who rs object z ObjectLength len h = absurd h
-no_object who rs object z Empty len h = absurd h
-no_object who rs object z (NoPacket i x) len h = absurd h
-no_object who rs object z (OtherFti i) len h = absurd h
-no_object who rs object z (SymbolLength i) len h = absurd h
-no_object who rs object z (Range i) len h = absurd h
-no_object who rs object z (Symbol i c) len h = absurd h
-no_object who rs object z (Thin b have need) len h = absurd h
-no_object who rs object z NoCarrier len h = absurd h
+refused who rs object z OtherCertificate name form gives h = absurd (is_at_place (reception_to who z rs).wrong OtherCertificate h)
+refused who rs object z ObjectLength name form gives h = absurd (is_at_place (reception_to who z rs).wrong ObjectLength h)
+refused who rs object z (NotObject b c i) name form gives h = absurd (is_at_place (reception_to who z rs).wrong (NotObject b c i) h)
+refused who rs object z Empty name form gives h = (name, form, gives, h)
+refused who rs object z (Thin b have need) name form gives h = (name, form, gives, h)
+refused who rs object z NoCarrier name form gives h = (name, form, gives, h)
+refused who rs object z (NoPacket i x) name form gives h = (name, form, gives, h)
+refused who rs object z (OtherFti i) name form gives h = (name, form, gives, h)
+refused who rs object z (SymbolLength i) name form gives h = (name, form, gives, h)
+refused who rs object z (Range i) name form gives h = (name, form, gives, h)
+refused who rs object z (Symbol i c) name form gives h = (name, form, gives, h)
 
 -- where some symbols came, there are some, and where none came, none
 pub some_came : (arrivals : List Received) → nat_lt 0 (length arrivals) ≡ true → arrivals ≢ []
@@ -148,6 +136,6 @@ none_came [] h = refl
 none_came (s ∷ ss) h = let l = ltb-false 0 (length (s ∷ ss)) h in absurd (omega (arith, l))
 
 -- the verdict where all is well
-pub yes_all : (who : Identity) (ds : List (List ℕ)) (object : List ℕ) (z : Certificate) (report : Report) → IsObject z.fti object → GivesObject object z → AreEnoughCertified who ds z
+pub yes_all : (who : Identity) (ds : List (List ℕ)) (object : List ℕ) (z : Certificate) (report : Report) → is_for who z.name ≡ true → IsObject z.fti object → GivesObject object z → AreEnoughCertified who ds z
     → VerdictOn who (readings_of ds) object z (Yes report)
-yes_all who ds object z report form gives h = record { form = form; gives = gives; certified = h.all; full = h.full; carrier = h.carrier }
+yes_all who ds object z report name form gives h = record { name = name; form = form; gives = gives; certified = h.all; full = h.full; carrier = h.carrier }

@@ -4,7 +4,12 @@ pub mod Twinning
 pub mod Undecided
 pub mod Whole
 pub mod Texts
+pub mod Flat
+pub mod TextPlaces
+pub mod OneText
 pub mod Consuming
+pub mod BlockByBlock
+pub mod GivenName
 pub mod Scanning
 pub mod Judging
 pub mod Bridge
@@ -21,5 +26,6 @@ pub mod GreatestBlock
 pub mod BlockSymbols
 pub mod RepairSymbols
 pub mod OneVerdict
+pub mod Named
 pub mod DatagramSteps
 pub mod FromReader

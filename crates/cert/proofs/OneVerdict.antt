@@ -13,10 +13,10 @@ use Rattle.reception.proofs.OneAnswer.{which, one_short, same_readings}
 use Rattle.reception.proofs.Stepping.{scope, stays}
 use Rattle.reception.proofs.Within.{no_fault}
 use Rattle.cert.specs.declared.verdict.Reason.{Reason}
-use Rattle.cert.specs.declared.verdict.Reason.TheVariants.{ObjectLength, NotObject, Empty, Packet as NoPacket, OtherFti, SymbolLength, Range, Symbol, Thin, NoCarrier}
+use Rattle.cert.specs.declared.verdict.Reason.TheVariants.{OtherCertificate, ObjectLength, NotObject, Empty, Packet as NoPacket, OtherFti, SymbolLength, Range, Symbol, Thin, NoCarrier}
 use Rattle.cert.specs.declared.verdict.Verdict.{Verdict}
 use Rattle.cert.specs.declared.verdict.Verdict.TheVariants.{Yes, No}
-use Rattle.cert.specs.Certificate.{Certificate}
+use Rattle.cert.specs.Certificate.{Certificate, is_for}
 use Rattle.cert.specs.Verdict.{GivesObject, IsFirstNotGiven, uncertified, reception_to, first_reason, IsCertifiedPacket, IsCertifiedReading, AreCertified, IsCertificateOf, VerdictOn, IsVerdict, AreOneVerdict}
 use Rattle.cert.proofs.Columns.{none_is}
 use Rattle.cert.proofs.Judging.{no_reason}
@@ -54,13 +54,14 @@ yes_no_reason who z rs h =
 -- ---- the tests in their order
 
 abbrev stage : Verdict → ℕ
-stage (No ObjectLength) = 0
-stage (No (NotObject b c i)) = 1
-stage (No Empty) = 3
-stage (No (Thin b have need)) = 4
-stage (No NoCarrier) = 5
-stage (No _) = 2
-stage (Yes report) = 6
+stage (No OtherCertificate) = 0
+stage (No ObjectLength) = 1
+stage (No (NotObject b c i)) = 2
+stage (No Empty) = 4
+stage (No (Thin b have need)) = 5
+stage (No NoCarrier) = 6
+stage (No _) = 3
+stage (Yes report) = 7
 
 one_place : (object : List ℕ) (z : Certificate) (b c i x y n : ℕ) → IsFirstNotGiven object z b c i → IsFirstNotGiven object z x y n → (b ≡ x) × (c ≡ y) × (i ≡ n)
 one_place object z b c i x y n h k =
@@ -82,12 +83,13 @@ one_place object z b c i x y n h k =
 
 module _ (who : Identity) (rs : List Reading) (object : List ℕ) (z : Certificate) where
   abbrev Pass : ℕ → Type 0
-  Pass zero = length object ≡ z.fti.transfer_length
-  Pass (suc zero) = GivesObject object z
-  Pass (suc (suc zero)) = first_reason who z rs ≡ None
-  Pass (suc (suc (suc zero))) = symbols (counted who rs) ≢ []
-  Pass (suc (suc (suc (suc zero)))) = Suffices who z.fti rs
-  Pass (suc (suc (suc (suc (suc zero))))) = list_any (is_carrier who) rs ≡ true
+  Pass zero = is_for who z.name ≡ true
+  Pass (suc zero) = length object ≡ z.fti.transfer_length
+  Pass (suc (suc zero)) = GivesObject object z
+  Pass (suc (suc (suc zero))) = first_reason who z rs ≡ None
+  Pass (suc (suc (suc (suc zero)))) = symbols (counted who rs) ≢ []
+  Pass (suc (suc (suc (suc (suc zero))))) = Suffices who z.fti rs
+  Pass (suc (suc (suc (suc (suc (suc zero)))))) = list_any (is_carrier who) rs ≡ true
   Pass _ = Unit {0}
 
   abbrev Passed : ℕ → Type 0
@@ -103,34 +105,37 @@ module _ (who : Identity) (rs : List Reading) (object : List ℕ) (z : Certifica
       ] refl
 
   passed : (v : Verdict) → VerdictOn who rs object z v → Passed (stage v)
-  passed (No ObjectLength) h = tt
-  passed (No (NotObject b c i)) h = (tt, h.0)
-  passed (No (NoPacket i x)) h = ((tt, h.0.count), h.1)
-  passed (No (OtherFti i)) h = ((tt, h.0.count), h.1)
-  passed (No (SymbolLength i)) h = ((tt, h.0.count), h.1)
-  passed (No (Range i)) h = ((tt, h.0.count), h.1)
-  passed (No (Symbol i c)) h = ((tt, h.0.count), h.1)
-  passed (No Empty) h = (((tt, h.0.count), h.1), h.2.0)
-  passed (No (Thin b have need)) h = ((((tt, h.0.count), h.1), h.2.0), h.2.1)
-  passed (No NoCarrier) h = (((((tt, h.0.count), h.1), h.2.0), h.2.1), h.2.2)
-  passed (Yes report) h = ((((((tt, h.form.count), h.gives), yes_no_reason who z rs h.certified), h.certified.some), h.full), h.carrier)
+  passed (No OtherCertificate) h = tt
+  passed (No ObjectLength) h = (tt, h.0)
+  passed (No (NotObject b c i)) h = ((tt, h.0), h.1)
+  passed (No (NoPacket i x)) h = (((tt, h.0), h.1.count), h.2)
+  passed (No (OtherFti i)) h = (((tt, h.0), h.1.count), h.2)
+  passed (No (SymbolLength i)) h = (((tt, h.0), h.1.count), h.2)
+  passed (No (Range i)) h = (((tt, h.0), h.1.count), h.2)
+  passed (No (Symbol i c)) h = (((tt, h.0), h.1.count), h.2)
+  passed (No Empty) h = ((((tt, h.0), h.1.count), h.2), h.3.0)
+  passed (No (Thin b have need)) h = (((((tt, h.0), h.1.count), h.2), h.3.0), h.3.1)
+  passed (No NoCarrier) h = ((((((tt, h.0), h.1.count), h.2), h.3.0), h.3.1), h.3.2)
+  passed (Yes report) h = (((((((tt, h.name), h.form.count), h.gives), yes_no_reason who z rs h.certified), h.certified.some), h.full), h.carrier)
 
   at_place_no : (r : Reason) → first_reason who z rs ≡ Some r → ¬ (first_reason who z rs ≡ None)
   at_place_no r e p = absurd (cc)
 
   stopped : (r : Reason) → VerdictOn who rs object z (No r) → ¬ Pass (stage (No r))
-  stopped ObjectLength h p = h p
-  stopped (NotObject b c i) h p = h.1.first.first.wrong (p b c i h.1.block h.1.first.column h.1.first.first.symbol)
-  stopped (NoPacket i x) h p = at_place_no (NoPacket i x) h.2 p
-  stopped (OtherFti i) h p = at_place_no (OtherFti i) h.2 p
-  stopped (SymbolLength i) h p = at_place_no (SymbolLength i) h.2 p
-  stopped (Range i) h p = at_place_no (Range i) h.2 p
-  stopped (Symbol i c) h p = at_place_no (Symbol i c) h.2 p
-  stopped Empty h p = p h.2.1
-  stopped (Thin b have need) h p = let f = p b h.2.2.in_range in let s = h.2.2.short in absurd (cc)
-  stopped NoCarrier h p = let none = h.2.3 in absurd (cc)
+  stopped OtherCertificate h p = absurd (cc)
+  stopped ObjectLength h p = h.1 p
+  stopped (NotObject b c i) h p = h.2.first.first.wrong (p b c i h.2.block h.2.first.column h.2.first.first.symbol)
+  stopped (NoPacket i x) h p = at_place_no (NoPacket i x) h.3 p
+  stopped (OtherFti i) h p = at_place_no (OtherFti i) h.3 p
+  stopped (SymbolLength i) h p = at_place_no (SymbolLength i) h.3 p
+  stopped (Range i) h p = at_place_no (Range i) h.3 p
+  stopped (Symbol i c) h p = at_place_no (Symbol i c) h.3 p
+  stopped Empty h p = p h.3.1
+  stopped (Thin b have need) h p = let f = p b h.3.2.in_range in let s = h.3.2.short in absurd (cc)
+  stopped NoCarrier h p = let none = h.3.3 in absurd (cc)
 
-  stage_top : (v : Verdict) → stage v < 7
+  stage_top : (v : Verdict) → stage v < 8
+  stage_top (No OtherCertificate) = omega arith
   stage_top (No ObjectLength) = omega arith
   stage_top (No (NotObject b c i)) = omega arith
   stage_top (No (NoPacket i x)) = omega arith
@@ -143,7 +148,8 @@ module _ (who : Identity) (rs : List Reading) (object : List ℕ) (z : Certifica
   stage_top (No NoCarrier) = omega arith
   stage_top (Yes report) = omega arith
 
-  below_yes : (r : Reason) → stage (No r) < 6
+  below_yes : (r : Reason) → stage (No r) < 7
+  below_yes OtherCertificate = omega arith
   below_yes ObjectLength = omega arith
   below_yes (NotObject b c i) = omega arith
   below_yes (NoPacket i x) = omega arith
@@ -173,18 +179,19 @@ module _ (who : Identity) (rs : List Reading) (object : List ℕ) (z : Certifica
   AtPlace (Yes report) = ⊥
   AtPlace (No r) = told r
 
-  at_two : (v : Verdict) → VerdictOn who rs object z v → stage v ≡ 2 → AtPlace v
-  at_two (No (NoPacket i x)) h e = h.2
-  at_two (No (OtherFti i)) h e = h.2
-  at_two (No (SymbolLength i)) h e = h.2
-  at_two (No (Range i)) h e = h.2
-  at_two (No (Symbol i c)) h e = h.2
-  at_two (No ObjectLength) h e = absurd (omega (arith, e))
-  at_two (No (NotObject b c i)) h e = absurd (omega (arith, e))
-  at_two (No Empty) h e = absurd (omega (arith, e))
-  at_two (No (Thin b have need)) h e = absurd (omega (arith, e))
-  at_two (No NoCarrier) h e = absurd (omega (arith, e))
-  at_two (Yes report) h e = absurd (omega (arith, e))
+  at_three : (v : Verdict) → VerdictOn who rs object z v → stage v ≡ 3 → AtPlace v
+  at_three (No (NoPacket i x)) h e = h.3
+  at_three (No (OtherFti i)) h e = h.3
+  at_three (No (SymbolLength i)) h e = h.3
+  at_three (No (Range i)) h e = h.3
+  at_three (No (Symbol i c)) h e = h.3
+  at_three (No OtherCertificate) h e = absurd (omega (arith, e))
+  at_three (No ObjectLength) h e = absurd (omega (arith, e))
+  at_three (No (NotObject b c i)) h e = absurd (omega (arith, e))
+  at_three (No Empty) h e = absurd (omega (arith, e))
+  at_three (No (Thin b have need)) h e = absurd (omega (arith, e))
+  at_three (No NoCarrier) h e = absurd (omega (arith, e))
+  at_three (Yes report) h e = absurd (omega (arith, e))
 
   both_told : (a b : Verdict) → AtPlace a → AtPlace b → AreOneVerdict a b
   both_told (Yes report) b h k = absurd h
@@ -195,36 +202,37 @@ module _ (who : Identity) (rs : List Reading) (object : List ℕ) (z : Certifica
       some_same e = cc
 
   one_of : (a b : Verdict) → VerdictOn who rs object z a → VerdictOn who rs object z b → stage a ≡ stage b → AreOneVerdict a b
+  one_of (No OtherCertificate) (No OtherCertificate) h k e = refl
   one_of (No ObjectLength) (No ObjectLength) h k e = refl
   one_of (No (NotObject b c i)) (No (NotObject x y n)) h k e =
-      let p = one_place object z b c i x y n h.1 k.1 in
+      let p = one_place object z b c i x y n h.2 k.2 in
       let p0 = p.0 in
       let p1 = p.1 in
       let p2 = p.2 in
       (cc)
   one_of (No Empty) (No Empty) h k e = refl
   one_of (No (Thin b have need)) (No (Thin x y n)) h k e =
-      let f = one_short z.fti (symbols (counted who rs)) b x h.2.2 k.2.2 in
-      let p = h.2.3 in
-      let q = h.2.4 in
-      let r = k.2.3 in
-      let s = k.2.4 in
+      let f = one_short z.fti (symbols (counted who rs)) b x h.3.2 k.3.2 in
+      let p = h.3.3 in
+      let q = h.3.4 in
+      let r = k.3.3 in
+      let s = k.3.4 in
       (cc)
   one_of (No NoCarrier) (No NoCarrier) h k e = refl
   one_of (Yes r) (Yes s) h k e = tt
   one_of (Yes r) (No s) h k e = let l = below_yes s in absurd (omega (arith, e, l))
-  one_of (No (NoPacket i x)) b h k e = both_told (No (NoPacket i x)) b h.2 (at_two b k (sym e))
-  one_of (No (OtherFti i)) b h k e = both_told (No (OtherFti i)) b h.2 (at_two b k (sym e))
-  one_of (No (SymbolLength i)) b h k e = both_told (No (SymbolLength i)) b h.2 (at_two b k (sym e))
-  one_of (No (Range i)) b h k e = both_told (No (Range i)) b h.2 (at_two b k (sym e))
-  one_of (No (Symbol i c)) b h k e = both_told (No (Symbol i c)) b h.2 (at_two b k (sym e))
+  one_of (No (NoPacket i x)) b h k e = both_told (No (NoPacket i x)) b h.3 (at_three b k (sym e))
+  one_of (No (OtherFti i)) b h k e = both_told (No (OtherFti i)) b h.3 (at_three b k (sym e))
+  one_of (No (SymbolLength i)) b h k e = both_told (No (SymbolLength i)) b h.3 (at_three b k (sym e))
+  one_of (No (Range i)) b h k e = both_told (No (Range i)) b h.3 (at_three b k (sym e))
+  one_of (No (Symbol i c)) b h k e = both_told (No (Symbol i c)) b h.3 (at_three b k (sym e))
   one_of a b h k e = absurd (omega (arith, e))
 
 -- where the certificate is one, the verdict is yes
 pub never_no : (who : Identity) (rs : List Reading) (object : List ℕ) (z : Certificate) → IsCertificateOf who rs object z → (r : Reason) → VerdictOn who rs object z (No r) → ⊥
 never_no who rs object z g r h =
     stopped who rs object z r h
-    (passed_at who rs object z 6 (stage (No r)) ((((((tt, g.form.count), g.gives), yes_no_reason who z rs g.certified), g.certified.some), g.full), g.carrier) (below_yes who rs object z r))
+    (passed_at who rs object z 7 (stage (No r)) (((((((tt, g.name), g.form.count), g.gives), yes_no_reason who z rs g.certified), g.certified.some), g.full), g.carrier) (below_yes who rs object z r))
 
 -- an identity's packets in a session, an object and a certificate have one verdict
 pub one_verdict : (who : Identity) (ds : List (List ℕ)) (object : List ℕ) (z : Certificate) (a b : Verdict) → IsVerdict who ds object z a → IsVerdict who ds object z b → AreOneVerdict a b

@@ -197,7 +197,7 @@ agrees_of z object good gives p sound =
       count = sound.size;
       columns = λ c hc. record {
         polynomial = polynomial z p.block c;
-        form = forms z good p.block c hb hc;
+        form = forms z good p.block c;
         source = λ i hi. gives p.block c i hb hc hi;
         symbol = sym (sound.symbol c hc);
       };
@@ -229,7 +229,7 @@ pub solvable : (z : Certificate) (object : List ℕ) → IsCertificate z → IsO
     → (arrivals : List Symbol) → AllByRecursion (IsRight z) arrivals → FullSolvable z.fti arrivals
 solvable z object good form gives arrivals right b hb full c hc = record {
   polynomial = polynomial z b c;
-  form = forms z good b c hb hc;
+  form = forms z good b c;
   symbols = through z b c hc arrivals right;
   padding = λ i hi past.
       gives b c i hb hc hi ∙ get_or-eq_default object 0 (omega (arith, form.count));

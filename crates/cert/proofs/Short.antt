@@ -127,7 +127,7 @@ pub shortness : (who : Identity) (ds : List (List ℕ)) (object : List ℕ) (z :
 shortness who ds object z b small h =
     let same : h.2.readings ≡ readings_of ds = same_readings ds h.2.readings (readings_of ds) h.2.read (read_all ds small) in
     let v = subst (λ (rs : List Reading). VerdictOn who rs object z (No (Thin b h.0 h.1))) same h.2.judged in
-    (v.0, v.1, v.2.0, v.2.1, v.2.2)
+    (v.1, v.2, v.3.0, v.3.1, v.3.2)
 
 pub few_arrived : (who : Identity) (ds : List (List ℕ)) (object : List ℕ) (z : Certificate) (b : ℕ) → AreDatagrams ds → IsShortIn who ds object z b
     → length (different_esis (esis_of b (symbols (counted who (readings_of ds))))) < source_count z.fti b

@@ -1,21 +1,136 @@
 -- The bytes before a certificate's coefficients.
-use Rattle.std.proofs.Common.{◌≡◌, ℕ, zero, suc, ◌+◌, ◌<◌, ◌≤◌, ◌≢◌, true, false, List, [], ◌∷◌, ◌++◌, Some, None, drop, take, length, get_or, refl, sym, ap, subst, ◌∙◌, arith, length-append, length-drop, length-take-le, ltb-true}
+use Rattle.std.proofs.Common.{◌≡◌, ◌⊎◌, ℕ, zero, suc, ◌+◌, ◌-◌, ◌<◌, ◌≤◌, ◌≢◌, true, false, Bool, List, [], ◌∷◌, ◌++◌, Some, None, drop, take, length, get_or, refl, sym, ap, subst, ◌∙◌, arith, inl, inr, length-append, length-drop, length-take-le}
 use Rattle.std.specs.Prelude.{nat_eq, nat_lt, ◌==◌}
+use lib.Pointwise.{pointwise}
 use Rattle.std.specs.List.{starts_with}
 use Rattle.std.specs.Cmp.Lexicographic.{same_text}
-use Rattle.std.proofs.lemmas.Bool.{ltb-false, le-leb, le-ltb, ne_eqb}
-use Rattle.std.proofs.lemmas.List.{append-nil, drop_at}
+use Rattle.std.proofs.lemmas.Bool.{cases_Bool, cases_lt, le-leb, le-ltb, ne_eqb}
+use Rattle.std.proofs.lemmas.List.{append-nil, drop-append-le, take-append-le, drop-drop, get_or_append_left, get_or-drop}
 use Rattle.byteorder.specs.Endian.{big_bytes, big_number}
-use Rattle.byteorder.specs.Numbers.{big_number-reads_back}
+use Rattle.byteorder.specs.Numbers.{big_from-lt}
 use Rattle.lists.specs.Bytes.{AreBytes}
-use Rattle.partition.specs.Fti.{Fti, IsValidFti, fti_from}
+use Rattle.partition.specs.Fti.{Fti, fti_from}
 use Rattle.partition.specs.FtiFault.{fti_fault}
 use Rattle.partition.specs.declared.FtiError.{FtiError}
 use Rattle.alc.specs.Computed.{number_of}
 use Rattle.alc.proofs.Digits.{number_is, bytes_again}
 use Rattle.alc.proofs.Bytes.{AreBytes-take, AreBytes-drop}
 use Rattle.cert.specs.declared.certificate.CertFault.TheVariants.{Magic, Fti as WrongFti, Size}
-use Rattle.cert.specs.Certificate.{Certificate, IsCertificate, certificate_text, coefficient_count, magic, head_text, told_fti, text_fault}
+use Rattle.cert.specs.Certificate.{IsIdentity, coefficient_count, magic, magic_of_named, name_text, fti_text, told_fti, fault_behind, size_fault, text_fault}
+use Rattle.cert.specs.CertificateReading.{told_name, head_length}
+
+-- ---- the magic number
+
+abbrev is_plain : List ℕ → Bool
+is_plain x = starts_with nat_eq x magic
+
+abbrev is_named : List ℕ → Bool
+is_named x = starts_with nat_eq x magic_of_named
+
+pub plain_front : (x : List ℕ) → is_plain x ≡ true → take 4 x ≡ magic
+plain_front x right = sym (same_text magic (take 4 x) (sym right))
+
+pub named_front : (x : List ℕ) → is_named x ≡ true → take 4 x ≡ magic_of_named
+named_front x right = sym (same_text magic_of_named (take 4 x) (sym right))
+
+not_both : (x : List ℕ) → is_named x ≡ true → is_plain x ≡ false
+not_both x right = ap (pointwise nat_eq magic) (named_front x right)
+
+pub length_cases : (x : List ℕ) → 14 ≤ head_length x
+length_cases x = elim (cases_Bool (is_named x)) [ inl named ↦ rw named (omega arith) | inr other ↦ rw other (omega arith) ]
+
+-- what comes behind a head doesn't change with which four bytes it begins
+front_same : (x rest : List ℕ) → (length x < head_length x → rest ≡ []) → take 4 (x ++ rest) ≡ take 4 x
+front_same x rest end = elim (cases_lt (length x) 4) [
+  | inl short ↦ (let none = end (omega (arith, short, length_cases x)) in ap (λ (l : List ℕ). take 4 (x ++ l)) none ∙ ap (take 4) (append-nil x))
+  | inr long ↦ take-append-le 4 x rest long
+]
+
+-- the fault of a text that begins with these bytes, where the magic number is right
+fault_is : (x rest : List ℕ) (named : Bool) → is_named x ≡ named → (named ≡ false → is_plain x ≡ true) → (length x < head_length x → rest ≡ [])
+    → text_fault (x ++ rest) ≡ fault_behind (head_length x) (x ++ rest)
+unfolding text_fault
+fault_is x rest true named plain end =
+    let same = front_same x rest end in
+    let p : is_plain (x ++ rest) ≡ false = ap (pointwise nat_eq magic) same ∙ not_both x named in
+    let n : is_named (x ++ rest) ≡ true = ap (pointwise nat_eq magic_of_named) same ∙ named in
+    rw (p, n, named) refl
+fault_is x rest false named plain end =
+    let same = front_same x rest end in
+    let p : is_plain (x ++ rest) ≡ true = ap (pointwise nat_eq magic) same ∙ plain refl in
+    rw (p, named) refl
+
+pub wrong_magic : (x rest : List ℕ) → (length x < head_length x → rest ≡ []) → is_named x ≡ false → is_plain x ≡ false → text_fault (x ++ rest) ≡ Some Magic
+unfolding text_fault
+wrong_magic x rest end named plain =
+    let same = front_same x rest end in
+    let p : is_plain (x ++ rest) ≡ false = ap (pointwise nat_eq magic) same ∙ plain in
+    let n : is_named (x ++ rest) ≡ false = ap (pointwise nat_eq magic_of_named) same ∙ named in
+    rw (p, n) refl
+
+-- the file ends within the head
+pub short_head : (x rest : List ℕ) (named : Bool) → is_named x ≡ named → (named ≡ false → is_plain x ≡ true) → length x < head_length x
+    → (length x < head_length x → rest ≡ []) → text_fault (x ++ rest) ≡ Some Size
+short_head x rest named is plain short end =
+    let less : nat_lt (length (x ++ rest)) (head_length x) ≡ true = rw (end short, append-nil x) (le-leb _ _ short) in
+    fault_is x rest named is plain end ∙ rw less refl
+
+-- ---- numbers
+
+number_front : (n : ℕ) (y rest : List ℕ) → n ≤ length y → big_number n (y ++ rest) ≡ big_number n y
+number_front n y rest l =
+    sym (number_is n (y ++ rest) (omega (arith, l, length-append y rest))) ∙ ap number_of (take-append-le n y rest l) ∙ number_is n y l
+
+-- the FTI in the last ten of some bytes, whatever comes behind
+pub told_behind : (x rest : List ℕ) (from : ℕ) → length x ≡ from + 10 → told_fti from (x ++ rest) ≡ told_fti 0 (drop from x)
+told_behind x rest from long =
+    let y = drop from x in
+    let len : length (drop from x) ≡ 10 = omega (arith, length-drop from x, long) in
+    let a : big_number 6 (drop from (x ++ rest)) ≡ big_number 6 (drop from x) =
+    ap (big_number 6) (drop-append-le from x rest (omega (arith, long))) ∙ number_front 6 y rest (omega (arith, len)) in
+    let b : big_number 2 (drop (from + 6) (x ++ rest)) ≡ big_number 2 (drop 6 (drop from x)) =
+    ap (big_number 2) (drop-append-le (from + 6) x rest (omega (arith, long)) ∙ ap (λ (l : List ℕ). l ++ rest) (sym (drop-drop 6 from x)))
+    ∙ number_front 2 (drop 6 y) rest (omega (arith, length-drop 6 (drop from x), len)) in
+    let c : get_or (x ++ rest) (from + 8) 0 ≡ get_or (drop from x) 8 0 = get_or_append_left x rest 0 (from + 8) (omega (arith, long)) ∙ sym (get_or-drop from x 8 0) in
+    let d : get_or (x ++ rest) (from + 9) 0 ≡ get_or (drop from x) 9 0 = get_or_append_left x rest 0 (from + 9) (omega (arith, long)) ∙ sym (get_or-drop from x 9 0) in
+    ap (λ (v : ℕ). fti_from v (big_number 2 (drop (from + 6) (x ++ rest))) (get_or (x ++ rest) (from + 8) 0) (get_or (x ++ rest) (from + 9) 0)) a
+    ∙ ap (λ (v : ℕ). fti_from (big_number 6 (drop from x)) v (get_or (x ++ rest) (from + 8) 0) (get_or (x ++ rest) (from + 9) 0)) b
+    ∙ ap (λ (v : ℕ). fti_from (big_number 6 (drop from x)) (big_number 2 (drop 6 (drop from x))) v (get_or (x ++ rest) (from + 9) 0)) c
+    ∙ ap (λ (v : ℕ). fti_from (big_number 6 (drop from x)) (big_number 2 (drop 6 (drop from x))) (get_or (drop from x) 8 0) v) d
+
+long_enough : (x rest : List ℕ) (n : ℕ) → length x ≡ n → nat_lt (length (x ++ rest)) n ≡ false
+long_enough x rest n h = le-ltb (length (x ++ rest)) n (omega (arith, h, length-append x rest))
+
+-- the numbers of the head are no FTI
+pub wrong_fti : (x rest : List ℕ) (named : Bool) (e : FtiError) → is_named x ≡ named → (named ≡ false → is_plain x ≡ true) → length x ≡ head_length x
+    → fti_fault (told_fti 0 (drop (head_length x - 10) x)) ≡ Some e → text_fault (x ++ rest) ≡ Some (WrongFti e)
+wrong_fti x rest named e is plain whole wrong =
+    let h = head_length x in
+    let least = length_cases x in
+    let told = told_behind x rest (h - 10) (omega (arith, whole, least)) in
+    let f : fti_fault (told_fti (head_length x - 10) (x ++ rest)) ≡ Some e = ap fti_fault told ∙ wrong in
+    fault_is x rest named is plain (λ short. absurd (omega (arith, short, whole))) ∙ rw (long_enough x rest h whole, f) refl
+
+-- other than the right number of coefficients come
+pub wrong_size : (x rest : List ℕ) (named : Bool) → is_named x ≡ named → (named ≡ false → is_plain x ≡ true) → length x ≡ head_length x
+    → (f : Fti) → told_fti 0 (drop (head_length x - 10) x) ≡ f → fti_fault f ≡ None → length rest ≢ coefficient_count f → text_fault (x ++ rest) ≡ Some Size
+wrong_size x rest named is plain whole f told good wrong =
+    let h = head_length x in
+    let least = length_cases x in
+    let t : told_fti (head_length x - 10) (x ++ rest) ≡ f = told_behind x rest (h - 10) (omega (arith, whole, least)) ∙ told in
+    let count = ap coefficient_count t in
+    let n : (length (x ++ rest) == head_length x + coefficient_count (told_fti (head_length x - 10) (x ++ rest))) ≡ false =
+    ne_eqb _ _ (λ e. wrong (omega (arith, e, whole, count, length-append x rest))) in
+    let none : size_fault (head_length x) (x ++ rest) None ≡ Some Size = rw n refl in
+    fault_is x rest named is plain (λ short. absurd (omega (arith, short, whole)))
+    ∙ rw (long_enough x rest h whole) (ap (size_fault h (x ++ rest)) (ap fti_fault t ∙ good) ∙ none)
+
+-- ---- what is read is what would be written
+
+number_back : (n : ℕ) (y : List ℕ) → AreBytes y → n ≤ length y → big_bytes n (big_number n y) ≡ take n y
+number_back n y h l =
+    ap (big_bytes n) (sym (number_is n y l))
+    ∙ (let len = length-take-le n y l in subst (λ (m : ℕ). big_bytes m (number_of (take n y)) ≡ take n y) len (bytes_again (take n y) (AreBytes-take n y h)))
 
 -- the first n members, one by one
 abbrev spread : ℕ → List ℕ → List ℕ
@@ -28,103 +143,33 @@ spread_is zero (y ∷ ys) h = absurd (omega arith)
 spread_is (suc n) [] h = absurd (omega arith)
 spread_is (suc n) (y ∷ ys) h = ap (λ (l : List ℕ). y ∷ l) (spread_is n ys (omega arith))
 
--- what comes behind the head doesn't change what it tells
-pub told_same : (x rest : List ℕ) → length x ≡ 14 → told_fti (x ++ rest) ≡ told_fti x
-told_same x rest h = subst (λ (y : List ℕ). told_fti (y ++ rest) ≡ told_fti y) (sym (spread_is 14 x h)) refl
+parts : (x : List ℕ) → length x ≡ 10 → x ≡ take 6 x ++ (take 2 (drop 6 x) ++ (get_or x 8 0 ∷ get_or x 9 0 ∷ []))
+parts x h = subst (λ (y : List ℕ). y ≡ take 6 y ++ (take 2 (drop 6 y) ++ (get_or y 8 0 ∷ get_or y 9 0 ∷ []))) (sym (spread_is 10 x h)) refl
 
-magic_same : (x rest : List ℕ) → length x ≡ 14 → starts_with nat_eq (x ++ rest) magic ≡ starts_with nat_eq x magic
-magic_same x rest h = subst (λ (y : List ℕ). starts_with nat_eq (y ++ rest) magic ≡ starts_with nat_eq y magic) (sym (spread_is 14 x h)) refl
+pub fti_again : (y : List ℕ) → length y ≡ 10 → AreBytes y → y ≡ fti_text (told_fti 0 y)
+fti_again y h bytes =
+    let length_bytes = number_back 6 y bytes (omega (arith, h)) in
+    let symbol_bytes = number_back 2 (drop 6 y) (AreBytes-drop 6 y bytes) (omega (arith, h, length-drop 6 y)) in
+    let last = get_or y 8 0 ∷ get_or y 9 0 ∷ [] in
+    parts y h
+    ∙ ap (λ (l : List ℕ). l ++ (take 2 (drop 6 y) ++ last)) (sym length_bytes)
+    ∙ ap (λ (l : List ℕ). big_bytes 6 (big_number 6 y) ++ (l ++ last)) (sym symbol_bytes)
 
--- whatever may follow
-pub magic_before : (x rest : List ℕ) → length x ≤ 14 → (length x < 14 → rest ≡ []) → starts_with nat_eq (x ++ rest) magic ≡ starts_with nat_eq x magic
-magic_before x rest h end =
-    elim (nat_lt (length x) 14) as (λ v. nat_lt (length x) 14 ≡ v → starts_with nat_eq (x ++ rest) magic ≡ starts_with nat_eq x magic) [
-      | true ↦ λ e. rw (end (ltb-true _ _ e), append-nil x) refl
-      | false ↦ λ e. (let l = ltb-false (length x) 14 e in magic_same x rest (omega arith))
-    ] refl
+halves : (x : List ℕ) → length x ≡ 20 → x ≡ take 6 x ++ take 14 (drop 6 x)
+halves x h = subst (λ (y : List ℕ). y ≡ take 6 y ++ take 14 (drop 6 y)) (sym (spread_is 20 x h)) refl
 
--- the magic number is wrong
-pub wrong_magic : (x rest : List ℕ) → length x ≤ 14 → (length x < 14 → rest ≡ []) → starts_with nat_eq x magic ≡ false → text_fault (x ++ rest) ≡ Some Magic
-unfolding text_fault
-wrong_magic x rest h end wrong = let e = magic_before x rest h end ∙ wrong in rw e refl
+pub name_again : (y : List ℕ) → length y ≡ 20 → AreBytes y → y ≡ name_text (told_name y)
+name_again y h bytes =
+    let tsi_bytes = number_back 6 y bytes (omega (arith, h)) in
+    let toi_bytes = number_back 14 (drop 6 y) (AreBytes-drop 6 y bytes) (omega (arith, h, length-drop 6 y)) in
+    halves y h ∙ ap (λ (l : List ℕ). l ++ take 14 (drop 6 y)) (sym tsi_bytes) ∙ ap (λ (l : List ℕ). big_bytes 6 (big_number 6 y) ++ l) (sym toi_bytes)
 
--- the file ends within the head
-pub short_head : (x rest : List ℕ) → length x < 14 → (length x < 14 → rest ≡ []) → starts_with nat_eq x magic ≡ true → text_fault (x ++ rest) ≡ Some Size
-unfolding text_fault
-short_head x rest h end right =
-    let e = magic_before x rest (omega arith) end ∙ right in
-    let s : nat_lt (length (x ++ rest)) 14 ≡ true = rw (end h, append-nil x) (le-leb _ _ h) in
-    rw (e, s) refl
+pub name_in_range : (y : List ℕ) → AreBytes y → IsIdentity (told_name y)
+name_in_range y bytes = record { tsi = big_from-lt 0 6 y bytes; toi = big_from-lt 0 14 (drop 6 y) (AreBytes-drop 6 y bytes) }
 
-long_enough : (x rest : List ℕ) → length x ≡ 14 → nat_lt (length (x ++ rest)) 14 ≡ false
-long_enough x rest h = le-ltb (length (x ++ rest)) 14 (omega (arith, length-append x rest))
+-- how long a head is doesn't change with what comes behind its front
+pub head_length_front : (x rest : List ℕ) → 4 ≤ length x → head_length (x ++ rest) ≡ head_length x
+head_length_front x rest long = let n : is_named (x ++ rest) ≡ is_named x = ap (pointwise nat_eq magic_of_named) (take-append-le 4 x rest long) in rw n refl
 
--- the numbers of the head are no FTI
-pub wrong_fti : (x rest : List ℕ) (e : FtiError) → length x ≡ 14 → starts_with nat_eq x magic ≡ true → fti_fault (told_fti x) ≡ Some e → text_fault (x ++ rest) ≡ Some (WrongFti e)
-unfolding text_fault
-wrong_fti x rest e h right wrong =
-    let m = magic_same x rest h ∙ right in
-    let s = long_enough x rest h in
-    let f : fti_fault (told_fti (x ++ rest)) ≡ Some e = ap fti_fault (told_same x rest h) ∙ wrong in
-    rw (m, s, f) refl
-
--- other than the right number of coefficients come
-pub wrong_size : (x rest : List ℕ) → length x ≡ 14 → starts_with nat_eq x magic ≡ true → fti_fault (told_fti x) ≡ None → length rest ≢ coefficient_count (told_fti x)
-    → text_fault (x ++ rest) ≡ Some Size
-unfolding text_fault
-wrong_size x rest h right good wrong =
-    let m = magic_same x rest h ∙ right in
-    let s = long_enough x rest h in
-    let t = told_same x rest h in
-    let f : fti_fault (told_fti (x ++ rest)) ≡ None = ap fti_fault t ∙ good in
-    let c = ap coefficient_count t in
-    let n : (length (x ++ rest) == 14 + coefficient_count (told_fti (x ++ rest))) ≡ false =
-    ne_eqb _ _ (λ e. wrong (omega (arith, e, c, length-append x rest))) in
-    rw (m, s, f, n) refl
-
--- four bytes in front, and then the rest in parts
-parts : (x : List ℕ) → length x ≡ 14 → x ≡ take 4 x ++ (take 6 (drop 4 x) ++ (take 2 (drop 10 x) ++ (get_or x 12 0 ∷ get_or x 13 0 ∷ [])))
-parts x h =
-    subst (λ (y : List ℕ). y ≡ take 4 y ++ (take 6 (drop 4 y) ++ (take 2 (drop 10 y) ++ (get_or y 12 0 ∷ get_or y 13 0 ∷ [])))) (sym (spread_is 14 x h)) refl
-
-number_back : (n : ℕ) (y : List ℕ) → AreBytes y → n ≤ length y → big_bytes n (big_number n y) ≡ take n y
-number_back n y h l =
-    ap (big_bytes n) (sym (number_is n y l))
-    ∙ (let len = length-take-le n y l in subst (λ (m : ℕ). big_bytes m (number_of (take n y)) ≡ take n y) len (bytes_again (take n y) (AreBytes-take n y h)))
-
--- what is read is what would be written
-pub head_again : (x : List ℕ) → length x ≡ 14 → AreBytes x → starts_with nat_eq x magic ≡ true → x ≡ head_text (told_fti x)
-unfolding head_text
-head_again x h bytes right =
-    let front : take 4 x ≡ magic = sym (same_text magic (take 4 x) (sym right)) in
-    let length_bytes = number_back 6 (drop 4 x) (AreBytes-drop 4 x bytes) (omega (arith, length-drop 4 x)) in
-    let symbol_bytes = number_back 2 (drop 10 x) (AreBytes-drop 10 x bytes) (omega (arith, length-drop 10 x)) in
-    let last = get_or x 12 0 ∷ get_or x 13 0 ∷ [] in
-    parts x h
-    ∙ ap (λ (l : List ℕ). l ++ (take 6 (drop 4 x) ++ (take 2 (drop 10 x) ++ last))) front
-    ∙ ap (λ (l : List ℕ). magic ++ (l ++ (take 2 (drop 10 x) ++ last))) (sym length_bytes)
-    ∙ ap (λ (l : List ℕ). magic ++ (big_bytes 6 (big_number 6 (drop 4 x)) ++ (l ++ last))) (sym symbol_bytes)
-
--- the FTI that is told in a head that was written
-pub told_again : (f : Fti) (rest : List ℕ) → IsValidFti f → told_fti (head_text f ++ rest) ≡ f
-unfolding head_text
-told_again f rest valid =
-    let behind : List ℕ = f.block_length ∷ f.max_symbols ∷ rest in
-    let length_again : big_number 6 (big_bytes 6 f.transfer_length ++ (big_bytes 2 f.symbol_length ++ behind)) ≡ f.transfer_length =
-    big_number-reads_back 6 f.transfer_length (big_bytes 2 f.symbol_length ++ behind) (omega (arith, valid.length_below)) in
-    let symbol_again : big_number 2 (big_bytes 2 f.symbol_length ++ behind) ≡ f.symbol_length =
-    big_number-reads_back 2 f.symbol_length behind (omega (arith, valid.symbol_below)) in
-    ap (λ (v : ℕ). fti_from v (big_number 2 (big_bytes 2 f.symbol_length ++ behind)) f.block_length f.max_symbols) length_again
-    ∙ ap (λ (v : ℕ). fti_from f.transfer_length v f.block_length f.max_symbols) symbol_again
-
-pub length-head : (f : Fti) → length (head_text f) ≡ 14
-unfolding head_text
-length-head f = refl
-
--- no two certificates have one text
-pub one_text : (x y : Certificate) → IsCertificate x → IsCertificate y → certificate_text x ≡ certificate_text y → x ≡ y
-one_text x y hx hy same =
-    let e = sym (told_again x.fti x.coefficients hx.fti) ∙ ap told_fti same ∙ told_again y.fti y.coefficients hy.fti in
-    let c = sym (drop_at (head_text x.fti) x.coefficients 14 (length-head x.fti)) ∙ ap (drop 14) same ∙ drop_at (head_text y.fti) y.coefficients 14 (length-head y.fti) in
-    let made : Fti → List ℕ → Certificate = λ f l. record { fti = f; coefficients = l } in
-    ap (λ (f : Fti). made f x.coefficients) e ∙ ap (made y.fti) c
+pub length_known : (x : List ℕ) → (head_length x ≡ 14) ⊎ (head_length x ≡ 34)
+length_known x = elim (cases_Bool (is_named x)) [ inl named ↦ inr (rw named refl) | inr other ↦ inl (rw other refl) ]

@@ -9,10 +9,9 @@ AreSymbols z b first count bytes =
     (r c : ℕ) → r < count → c < z.fti.symbol_length
     → slice_index bytes (r * z.fti.symbol_length + c) ≡ certified_byte z b (first + r) c
 
--- room for the coefficients of the greatest block, which is the first, and for 255 rows of sums where they have many
-pub record IsRoom (f : Fti) (coefficients sums : List ℕ) : Type 0 where
-  pub for_coefficients : length coefficients ≡ source_count f 0 * f.symbol_length
-  pub for_sums : 80 ≤ source_count f 0 → 255 * f.symbol_length ≤ length sums
+-- room for 255 rows of sums, where the greatest block, which is the first, has many coefficients
+abbrev pub IsRoom : Fti → List ℕ → Type 0
+IsRoom f sums = 80 ≤ source_count f 0 → 255 * f.symbol_length ≤ length sums
 
 -- which symbols were made last, and of what
 pub record MadeSymbols : Type 0 where

@@ -1,5 +1,5 @@
 -- What is known of datagrams that were looked at one by one.
-use Rattle.std.specs.Prelude.{◌≡◌, ◌≢◌, ℕ, ◌+◌, Bool, nat_lt, List, [], length, Option, None, Some, IfSome, ⊤}
+use Rattle.std.specs.Prelude.{◌≡◌, ◌≢◌, ℕ, ◌+◌, Bool, true, false, nat_lt, List, [], length, Option, None, Some, IfSome, ⊤}
 use Rattle.losses.specs.Groups.{Group, groups_of}
 use Rattle.losses.specs.Losses.{places_from}
 use Rattle.alc.specs.Packet.{Packet}
@@ -11,9 +11,9 @@ use Rattle.cert.specs.declared.walk.Walk.{Walk}
 use Rattle.cert.specs.declared.walk.NoReport.{NoReport}
 use Rattle.cert.specs.declared.walk.NoReport.TheVariants.{Reason as ByReason, NoMemory}
 use Rattle.cert.specs.declared.verdict.Reason.{Reason}
-use Rattle.cert.specs.declared.verdict.Reason.TheVariants.{ObjectLength, NotObject, Packet as NoPacket, OtherFti, SymbolLength, Range, Symbol}
+use Rattle.cert.specs.declared.verdict.Reason.TheVariants.{OtherCertificate, ObjectLength, NotObject, Packet as NoPacket, OtherFti, SymbolLength, Range, Symbol}
 use Rattle.cert.specs.declared.verdict.Verdict.TheVariants.{No}
-use Rattle.cert.specs.Certificate.{Certificate}
+use Rattle.cert.specs.Certificate.{Certificate, is_for}
 use Rattle.cert.specs.Scan.{AreGroupsOf}
 use Rattle.cert.specs.Verdict.{IsFirstNotGiven, reception_to, first_reason, VerdictOn, uncertified}
 
@@ -31,16 +31,18 @@ HasWalked walk datagrams =
     AreWalked walk.scope.identity walk.symbols walk.scope walk.count walk.came (groups_of walk.groups.items)
     walk.carriers.items datagrams
 
--- a reason against the object, whatever datagrams come
-abbrev pub IsAgainstObject : Reason → List ℕ → Certificate → Type 0
-IsAgainstObject ObjectLength object z = length object ≢ z.fti.transfer_length
-IsAgainstObject (NotObject b c i) object z = (length object ≡ z.fti.transfer_length) × IsFirstNotGiven object z b c i
-IsAgainstObject _ object z = ⊥
+-- a reason against the certificate's name or the object, whatever datagrams come
+abbrev pub IsAgainstObject : Identity → Reason → List ℕ → Certificate → Type 0
+IsAgainstObject who OtherCertificate object z = is_for who z.name ≡ false
+IsAgainstObject who ObjectLength object z = (is_for who z.name ≡ true) × (length object ≢ z.fti.transfer_length)
+IsAgainstObject who (NotObject b c i) object z =
+    (is_for who z.name ≡ true) × (length object ≡ z.fti.transfer_length) × IsFirstNotGiven object z b c i
+IsAgainstObject who _ object z = ⊥
 
 -- why no datagram is looked at
-abbrev pub IsNotBegun : List ℕ → Certificate → NoReport → Type 0
-IsNotBegun object z (ByReason r) = IsAgainstObject r object z
-IsNotBegun object z NoMemory = ⊤
+abbrev pub IsNotBegun : Identity → List ℕ → Certificate → NoReport → Type 0
+IsNotBegun who object z (ByReason r) = IsAgainstObject who r object z
+IsNotBegun who object z NoMemory = ⊤
 
 -- the place that a reason tells
 abbrev pub place_of : Reason → Option ℕ

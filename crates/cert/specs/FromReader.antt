@@ -1,5 +1,5 @@
 -- What a check answers whose datagrams come from a reader, one after the other.
-use Rattle.std.specs.Prelude.{◌≡◌, ℕ, ◌+◌, Bool, List, [], ◌++◌, length, Option, None, ⊤}
+use Rattle.std.specs.Prelude.{◌≡◌, ℕ, ◌+◌, Bool, true, List, [], ◌++◌, length, Option, None, ⊤}
 use Rattle.std.specs.Io.KnownBytes.{Consumes, IsAtEnd}
 use Rattle.session.specs.Frames.{frames, AreDatagrams, IsReadFault}
 use Rattle.session.specs.declared.frame.FrameFault.{FrameFault}
@@ -8,13 +8,13 @@ use Rattle.reception.specs.declared.scope.Identity.{Identity}
 use Rattle.reception.specs.Symbols.{IsObject}
 use Rattle.reception.specs.Reception.{ReadAll}
 use Rattle.reception.specs.Headline.{DecodesWhereEnough, TwinWhereShort, TellsElse}
-use Rattle.cert.specs.Certificate.{Certificate}
+use Rattle.cert.specs.Certificate.{Certificate, is_for}
 use Rattle.cert.specs.Report.{IsReport, OnYes}
 use Rattle.cert.specs.Verdict.{GivesObject, first_reason, IsVerdict}
 use Rattle.cert.specs.declared.verdict.Verdict.{Verdict}
 use Rattle.cert.specs.declared.verdict.Verdict.TheVariants.{Yes, No}
 use Rattle.cert.specs.declared.verdict.Reason.{Reason}
-use Rattle.cert.specs.declared.verdict.Reason.TheVariants.{ObjectLength, NotObject, Empty, Packet as NoPacket, OtherFti, SymbolLength, Range, Symbol, Thin, NoCarrier}
+use Rattle.cert.specs.declared.verdict.Reason.TheVariants.{OtherCertificate, ObjectLength, NotObject, Empty, Packet as NoPacket, OtherFti, SymbolLength, Range, Symbol, Thin, NoCarrier}
 use Rattle.cert.specs.declared.from_reader.CheckFault.{CheckFault}
 use Rattle.cert.specs.declared.from_reader.CheckFault.TheVariants.{Frame, NoMemory}
 
@@ -28,10 +28,12 @@ abbrev pub IsVerdictAtLast : Identity → ℕ → List (List ℕ) → List ℕ �
 IsVerdictAtLast who place datagrams object z reason =
     (length datagrams ≡ place + 1) × IsVerdictWhatFollows who datagrams object z (No reason)
 
--- The verdict once these datagrams were read, and that is left of the reader: for a reason against the object none is read,
--- for one at a place none behind it, and for every other verdict all.
+-- The verdict once these datagrams were read, and that is left of the reader: for a reason against the certificate's name or
+-- the object none is read, for one at a place none behind it, and for every other verdict all.
 abbrev pub IsVerdictAfter : Identity → Verdict → List (List ℕ) → Option (List ℕ) → List ℕ → Certificate → Type 0
 IsVerdictAfter who (Yes report) datagrams left object z = IsAtEnd left × IsVerdict who datagrams object z (Yes report)
+IsVerdictAfter who (No OtherCertificate) datagrams left object z =
+    (datagrams ≡ []) × IsVerdictWhatFollows who datagrams object z (No OtherCertificate)
 IsVerdictAfter who (No ObjectLength) datagrams left object z =
     (datagrams ≡ []) × IsVerdictWhatFollows who datagrams object z (No ObjectLength)
 IsVerdictAfter who (No (NotObject b c i)) datagrams left object z =
@@ -57,8 +59,9 @@ pub record IsCheckedFrom (who : Identity) (old new : Option (List ℕ)) (object 
   pub tells : OnYes verdict (λ _. TellsElse who z.fti datagrams)
   pub report : OnYes verdict (IsReport who datagrams z.fti)
 
--- no reason against the object, and none at the place of one of these datagrams
+-- no reason against the certificate's name or the object, and none at the place of one of these datagrams
 pub record HasNoReason (who : Identity) (datagrams : List (List ℕ)) (object : List ℕ) (z : Certificate) : Type 0 where
+  pub name : is_for who z.name ≡ true
   pub form : IsObject z.fti object
   pub gives : GivesObject object z
   pub readings : List Reading

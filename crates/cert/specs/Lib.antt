@@ -9,6 +9,8 @@ pub mod Scan
 pub mod Report
 pub mod Twins
 pub mod CertificateReading
+pub mod Converting
+pub mod ConvertingBlocks
 pub mod CertifiedSymbol
 pub mod TwinBytes
 pub mod NotGiven

@@ -7,15 +7,19 @@ use Rattle.alc.specs.Reading.{Reading}
 use Rattle.cert.specs.declared.verdict.Verdict.{Verdict}
 use Rattle.cert.specs.declared.verdict.Verdict.TheVariants.{Yes, No}
 use Rattle.cert.specs.declared.verdict.Reason.{Reason}
-use Rattle.cert.specs.declared.verdict.Reason.TheVariants.{ObjectLength, NotObject, Empty, Packet as NoPacket, OtherFti, SymbolLength, Range, Symbol, Thin, NoCarrier}
+use Rattle.cert.specs.declared.verdict.Reason.TheVariants.{OtherCertificate, ObjectLength, NotObject, Empty, Packet as NoPacket, OtherFti, SymbolLength, Range, Symbol, Thin, NoCarrier}
 use Rattle.reception.specs.declared.scope.Identity.{Identity}
 use Rattle.reception.specs.declared.scope.PlaceFault.TheVariants as fault
 use Rattle.reception.specs.Symbols.{Symbol as Received, arrived_count, IsFirstShort, IsObject}
-use Rattle.cert.specs.Certificate.{Certificate, certified_byte}
+use Rattle.cert.specs.Certificate.{Certificate, is_for, certified_byte}
 use Rattle.reception.specs.Reception.{ReadAll, Judge, Wrong, Faulty, Judged, Reception, counted, symbols, reception_with, with_fti, in_range, is_carrier, Suffices}
 
 abbrev pub GivesAt : List ℕ → Certificate → ℕ → ℕ → ℕ → Type 0
 GivesAt object z b c i = certified_byte z b i c ≡ source_byte z.fti object b i c
+
+-- the polynomials give a block of the object
+abbrev pub GivesBlock : List ℕ → Certificate → ℕ → Type 0
+GivesBlock object z b = (c i : ℕ) → c < z.fti.symbol_length → i < source_count z.fti b → GivesAt object z b c i
 
 -- the polynomials give the object at every source point
 abbrev pub GivesObject : List ℕ → Certificate → Type 0
@@ -83,8 +87,9 @@ pub record AreCertified (who : Identity) (rs : List Reading) (z : Certificate) :
   pub some : symbols (counted who rs) ≢ []
   pub packets : AllByRecursion (λ x. IsCertifiedReading z x.reading) (counted who rs)
 
--- the certificate is one of the identity's packets among these readings, and of this object
+-- the certificate is one of the identity's packets among these readings, and of this object, and has no other's name
 pub record IsCertificateOf (who : Identity) (rs : List Reading) (object : List ℕ) (z : Certificate) : Type 0 where
+  pub name : is_for who z.name ≡ true
   pub form : IsObject z.fti object
   pub gives : GivesObject object z
   pub certified : AreCertified who rs z
@@ -106,9 +111,12 @@ IsAgainst who rs z reason = first_reason who z rs ≡ Some reason
 -- Yes where the certificate is one, and each no the first reason in this order.
 abbrev pub VerdictOn : Identity → List Reading → List ℕ → Certificate → Verdict → Type 0
 VerdictOn who rs object z (Yes report) = IsCertificateOf who rs object z
-VerdictOn who rs object z (No ObjectLength) = length object ≢ z.fti.transfer_length
-VerdictOn who rs object z (No (NotObject b c i)) = (length object ≡ z.fti.transfer_length) × IsFirstNotGiven object z b c i
-VerdictOn who rs object z (No reason) = IsObject z.fti object × GivesObject object z × IsAgainst who rs z reason
+VerdictOn who rs object z (No OtherCertificate) = is_for who z.name ≡ false
+VerdictOn who rs object z (No ObjectLength) = (is_for who z.name ≡ true) × (length object ≢ z.fti.transfer_length)
+VerdictOn who rs object z (No (NotObject b c i)) =
+    (is_for who z.name ≡ true) × (length object ≡ z.fti.transfer_length) × IsFirstNotGiven object z b c i
+VerdictOn who rs object z (No reason) =
+    (is_for who z.name ≡ true) × IsObject z.fti object × GivesObject object z × IsAgainst who rs z reason
 
 -- the verdict on a session, an object and a certificate, where this identity's packets are asked for
 pub record IsVerdict (who : Identity) (datagrams : List (List ℕ)) (object : List ℕ) (z : Certificate) (verdict : Verdict) : Type 0 where

@@ -11,23 +11,20 @@ use partition::Fti;
 use std::alloc::{AllocError, Global};
 use std::marker::Model;
 
-// Makes the front of these bytes `count` symbols of a block, from ESI `first` on. `coefficients` is room for those of the
-// block, and `sums` for what `evaluate` needs; what they have afterwards means nothing.
+// Makes the front of these bytes `count` symbols of a block, from ESI `first` on. `sums` is room for what `evaluate` needs;
+// what it has afterwards means nothing.
 fn put_symbols(
     certificate: &Certificate,
     block: u32,
     first: usize,
     count: usize,
     bytes: &mut [u8],
-    coefficients: &mut [u8],
     sums: &mut [u8],
 )
     requires block { block < block_count certificate.now.fti }
     requires near { first ≤ 255 }
     requires few { count ≤ 255 }
     requires bytes { count * certificate.now.fti.symbol_length ≤ length bytes.old }
-    requires coefficients { source_count certificate.now.fti block
-        * certificate.now.fti.symbol_length ≤ length coefficients.old }
     requires sums { 80 ≤ source_count certificate.now.fti block
         → 255 * certificate.now.fti.symbol_length ≤ length sums.old }
     ensures { AreSymbols certificate.now block first count bytes.new }
@@ -35,13 +32,11 @@ fn put_symbols(
     let fti = certificate.fti();
     let k = fti.k(block);
     let width = usize::from(fti.symbol_length());
-    let rows = &mut coefficients[..k * width];
-    certificate.put_rows(block, rows);
     evaluate(
         &mut bytes[..count * width],
         first,
         count,
-        rows,
+        certificate.rows(block),
         k,
         width,
         sums,
@@ -58,7 +53,6 @@ pub(crate) struct BlockSymbols<'a> {
     count: usize,
     bytes: Vec<u8>,
     // Room to work in.
-    coefficients: Vec<u8>,
     sums: Vec<u8>,
 }
 
@@ -71,7 +65,7 @@ impl<'a> Model for BlockSymbols<'a> {
 
     ghost invariant = { λ s.
         AreMade (made_of s.certificate.now s.block s.first s.count) s.bytes.items
-        × IsRoom s.certificate.now.fti s.coefficients.items s.sums.items };
+        × IsRoom s.certificate.now.fti s.sums.items };
 }
 
 impl<'a> BlockSymbols<'a> {
@@ -88,7 +82,6 @@ impl<'a> BlockSymbols<'a> {
         let width = usize::from(fti.symbol_length());
         let k = fti.k(0);
         let bytes = Vec::from_elem(alloc, 0u8, fti.n(0) * width)?;
-        let coefficients = Vec::from_elem(alloc, 0u8, k * width)?;
         let sums = Vec::from_elem(alloc, 0u8, room(k, width))?;
         Ok(BlockSymbols {
             certificate,
@@ -96,7 +89,6 @@ impl<'a> BlockSymbols<'a> {
             first: 0,
             count: 0,
             bytes,
-            coefficients,
             sums,
         })
     }
@@ -129,7 +121,6 @@ impl<'a> BlockSymbols<'a> {
             first,
             count,
             &mut self.bytes,
-            &mut self.coefficients,
             &mut self.sums,
         );
         self.block = block;

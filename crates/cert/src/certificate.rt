@@ -1,32 +1,34 @@
 //! The certificate: the polynomial of each byte column of each block.
-ghost use Rattle.std.specs.Prelude.{◌≡◌, ◌≢◌, ◌+◌, ◌*◌, ◌<◌, ◌≤◌, ◌^◌, ◌++◌, [], ℕ, List, Some, true, false, take, drop, length, vec_len, MatchOption, MatchResult, OnOk, OnErr, IfOk, IfErr, IfSome, slice_index};
+ghost use Rattle.std.specs.Prelude.{◌≡◌, ◌≢◌, ◌+◌, ◌*◌, ◌<◌, ◌≤◌, ℕ, List, None, true, false, take, drop, length, vec_len, MatchOption, OnOk, OnErr, IfOk, IfErr, IfSome, slice_index};
 ghost use Rattle.std.specs.Io.KnownBytes.{Consumes, IsAtEnd, Appends};
 ghost use Rattle.session.specs.Pieces.{AppendsSome};
-ghost use Rattle.partition.specs.Fti.{IsValidFti, symbol_count, source_count, block_count};
-ghost use Rattle.cert.specs.Certificate.{Certificate as CertificateValue, IsCertificate, coefficient_count, polynomial as polynomial_of, head_text, certificate_text, text_fault, IsCertFault};
-ghost use Rattle.cert.specs.CertificateReading.{IsReadFault, IsTold, IsHead, IsHeadFault};
+ghost use Rattle.partition.specs.Fti.{IsValidFti, source_count, block_count};
+ghost use Rattle.cert.specs.Certificate.{Certificate as CertificateValue, IsCertificate, IsIdentity, is_for as is_for_name, coefficient_count, coefficient as coefficient_of, unnamed, named_as, coefficients_text, certificate_text, text_fault, IsCertFault, IsRowOf};
+ghost use Rattle.cert.specs.CertificateReading.{IsReadFault};
 ghost use Rattle.cert.specs.CoefficientRows.{AreRowsOf};
 
-use byteorder::{BigEndian, ByteOrder};
+use crate::column_text::{rows_of, write_columns};
+use crate::head::{read_head, write_head};
 use lists::are_bytes;
 use partition::{Fti, FtiError};
-use session::{Read, ReadFault, Write, fill, read_to_end, write_all};
+use reception::Identity;
+use session::{Failed, Read, ReadFault, Write, read_to_end, write_all};
 use std::alloc::Global;
 use std::marker::Model;
 use thiserror::Error;
-use transpose::rows_from_columns;
 
-/// Why a certificate wasn't read or written. `Magic`, `Fti` and `Size` tell why bytes are no certificate, in the order in
-/// which they are looked at.
+/// Why a certificate wasn't read, written or named. `Magic`, `Fti` and `Size` tell why bytes are no certificate, in the
+/// order in which they are looked at.
 #[derive(Debug, Clone, Copy, PartialEq, Eq, Error)]
 pub enum CertFault {
-    /// The first four bytes aren't `RSC1`.
+    /// The first four bytes are neither `RSC1` nor `RSC2`.
     #[error("Z1 Magic")]
     Magic,
-    /// The FTI in bytes 4 to 13 isn't valid; the first fault of it.
+    /// The FTI in bytes 4 to 13, behind a name in bytes 24 to 33, isn't valid; the first fault of it.
     #[error("Z2 Fti {0}")]
     Fti(FtiError),
-    /// There are other than 14 bytes and T·E coefficients, T being the object's source symbols and E the symbol's bytes.
+    /// There are other than 14 bytes, with a name 34, and T·E coefficients, T being the object's source symbols and E the
+    /// symbol's bytes.
     #[error("Z3 Size")]
     Size,
     /// The reader or writer has failed.
@@ -35,12 +37,18 @@ pub enum CertFault {
     /// There is no memory for the bytes that came.
     #[error("Z5 NoMemory")]
     NoMemory,
+    /// It has another name.
+    #[error("Z6 OtherIdentity")]
+    OtherIdentity,
 }
 
-/// An FTI, and for each byte column of each block the coefficients of its polynomial, the constant one first.
+/// An FTI, for each byte column of each block the coefficients of its polynomial, the constant one first, and maybe a name:
+/// whose packets they are certified for.
 #[derive(Drop)]
 pub struct Certificate {
     fti: Fti,
+    name: Option<Identity>,
+    // Blocks rising, in a block a row for each coefficient, which has its byte of each column.
     coefficients: Vec<u8>,
 }
 
@@ -49,18 +57,28 @@ impl Model for Certificate {
 
     ghost Value = { CertificateValue };
 
-    ghost view = { λ z. record { fti = z.fti; coefficients = z.coefficients.items } };
+    ghost view = { λ z. record { fti = z.fti; name = z.name; coefficients = z.coefficients.items } };
 
-    ghost invariant = { λ z.
-        IsCertificate (record { fti = z.fti; coefficients = z.coefficients.items }) };
+    ghost invariant = { λ z. IsCertificate
+        (record { fti = z.fti; name = z.name; coefficients = z.coefficients.items }) };
 }
 
 // How many coefficients a certificate of this FTI has.
-fn coefficients_of(fti: &Fti) -> u64
+pub(crate) fn coefficients_of(fti: &Fti) -> u64
     ensures count { result ≡ coefficient_count fti.now }
     ensures valid { IsValidFti fti.now }
 {
     fti.symbol_count() * u64::from(fti.symbol_length())
+}
+
+// Whether a certificate with this name can be one of the identity's packets: it has none, or this one.
+pub(crate) fn is_for(identity: &Identity, name: &Option<Identity>) -> bool
+    ensures { result ≡ is_for_name identity.now name.now }
+{
+    match name {
+        Some(name) => name.tsi == identity.tsi && name.toi == identity.toi,
+        None => true,
+    }
 }
 
 // So many bytes from a place on.
@@ -70,45 +88,6 @@ fn part(bytes: &[u8], from: usize, count: usize) -> &[u8]
     ensures len { length result.now ≡ count }
 {
     &bytes[from..from + count]
-}
-
-const MAGIC: [u8; 4] = *b"RSC1";
-
-// What stands before the coefficients: the magic number and the FTI.
-const HEAD_LENGTH: usize = 14;
-
-// Writes what stands before the coefficients.
-#[tactic(auto, unfolding(crate::specs::Certificate::head_text))]
-fn write_head(out: &mut [u8], fti: &Fti)
-    requires { length out.old ≡ 14 }
-    ensures { out.new ≡ head_text fti.now }
-{
-    out[..4].copy_from_slice(&MAGIC);
-    BigEndian::write_u48(&mut out[4..], fti.transfer_length());
-    BigEndian::write_u16(&mut out[10..], fti.symbol_length());
-    out[12..14].copy_from_slice(&[fti.block_length(), fti.max_symbols()]);
-}
-
-// The FTI in the bytes before the coefficients, of which there are fewer only where the file ends.
-fn read_head(bytes: &[u8]) -> Result<Fti, CertFault>
-    requires { length bytes.now ≤ 14 }
-    ensures ok { IfOk result (λ f. bytes.now ≡ head_text f) }
-    ensures head { IfOk result (IsHead bytes.now) }
-    ensures told { IfErr result IsTold }
-    ensures fault { IfErr result (IsHeadFault bytes.now) }
-{
-    if !bytes.starts_with(&MAGIC) {
-        return Err(CertFault::Magic);
-    }
-    if bytes.len() < HEAD_LENGTH {
-        return Err(CertFault::Size);
-    }
-    let length = BigEndian::read_u48(&bytes[4..]);
-    let symbol = BigEndian::read_u16(&bytes[10..]);
-    match Fti::new(length, symbol, bytes[12], bytes[13]) {
-        Ok(fti) => Ok(fti),
-        Err(e) => Err(CertFault::Fti(e)),
-    }
 }
 
 // All bytes up to the end, where there are `count`.
@@ -135,12 +114,12 @@ fn read_coefficients<R: Read>(
 }
 
 impl Certificate {
-    /// The certificate of these coefficients, in the order of its file: blocks rising, in a block columns rising, in a
-    /// column the constant one first. `None` where there are other than T·E, source symbols of the object times bytes of a
-    /// symbol, and only then.
+    /// The certificate without a name of these coefficients: blocks rising, in a block rows rising, one of each coefficient
+    /// from the constant one on, with its byte of each column. `None` where there are other than T·E, source symbols of the
+    /// object times bytes of a symbol, and only then.
     pub fn from_parts(fti: Fti, coefficients: Vec<u8>) -> Option<Certificate>
         ensures parts { MatchOption result (vec_len coefficients ≢ coefficient_count fti)
-            (λ z. z ≡ record { fti = fti; coefficients = coefficients.items }) }
+            (λ z. z ≡ unnamed fti coefficients.items) }
         ensures count { IfSome result (λ z. vec_len coefficients ≡ coefficient_count fti) }
         ensures certificate { IfSome result IsCertificate }
     {
@@ -148,7 +127,11 @@ impl Certificate {
             return None;
         }
         are_bytes(coefficients.as_slice());
-        Some(Certificate { fti, coefficients })
+        Some(Certificate {
+            fti,
+            name: None,
+            coefficients,
+        })
     }
 
     /// The certificate's FTI, which is valid.
@@ -159,32 +142,104 @@ impl Certificate {
         self.fti
     }
 
-    /// The coefficients of byte column `c` of block `b`, the constant one first, as many as the block has source symbols. It
-    /// needs that the FTI has the block and its symbols the column.
-    pub fn polynomial(&self, b: u32, c: usize) -> &[u8]
-        requires block { b < block_count self.now.fti }
-        requires column { c < self.now.fti.symbol_length }
-        ensures value { result.now ≡ polynomial_of self.now b c }
-        ensures len { length result.now ≡ source_count self.now.fti b }
+    /// Whose packets it certifies, if it says so.
+    pub fn name(&self) -> Option<Identity>
+        ensures value { result ≡ self.now.name }
+        ensures identity { IfSome result IsIdentity }
     {
-        let count = self.fti.k(b);
-        let from = self.fti.start(b) as usize * usize::from(self.fti.symbol_length()) + c * count;
-        part(self.coefficients.as_slice(), from, count)
+        self.name
     }
 
-    // Makes these the rows of coefficients of block `b`: row `i` has coefficient `i` of the polynomial of each column.
-    pub(crate) fn put_rows(&self, b: u32, rows: &mut [u8])
-        requires block { b < block_count self.now.fti }
-        requires room { length rows.old
-            ≡ source_count self.now.fti b * self.now.fti.symbol_length }
-        ensures len { length rows.new ≡ length rows.old }
-        ensures rows { AreRowsOf self.now b rows.new }
+    // Whether it has no name, or this one.
+    pub(crate) fn is_for(&self, identity: &Identity) -> bool
+        ensures { result ≡ is_for_name identity.now self.now.name }
     {
-        let count = self.fti.k(b);
+        is_for(identity, &self.name)
+    }
+
+    // Refuses a name where it has another one.
+    fn may_take(&self, identity: &Identity) -> Result<(), CertFault>
+        ensures own { OnOk result (is_for_name identity.now self.now.name ≡ true) }
+        ensures other { IfErr result (λ e. (e ≡ CertFault.OtherIdentity)
+            × (is_for_name identity.now self.now.name ≡ false)) }
+    {
+        if self.is_for(identity) {
+            Ok(())
+        } else {
+            Err(CertFault::OtherIdentity)
+        }
+    }
+
+    /// The same polynomials with this name. `OtherIdentity` where the certificate has another one, and only then; `NoMemory`
+    /// where there is no memory for a copy.
+    ///
+    /// The identity's TSI is below 2^48, its TOI below 2^112 (RFC 5651, section 5.1).
+    pub fn named(&self, alloc: Global, identity: Identity) -> Result<Certificate, CertFault>
+        requires { IsIdentity identity }
+        ensures named { IfOk result (λ z. z ≡ named_as identity self.now) }
+        ensures own { OnOk result (is_for_name identity self.now.name ≡ true) }
+        ensures other { IfErr result (λ e. e ≢ CertFault.NoMemory
+            → (e ≡ CertFault.OtherIdentity) × (is_for_name identity self.now.name ≡ false)) }
+    {
+        self.may_take(&identity)?;
+        match self.coefficients.to_vec(alloc) {
+            Ok(coefficients) => Ok(Certificate {
+                fti: self.fti,
+                name: Some(identity),
+                coefficients,
+            }),
+            Err(_) => Err(CertFault::NoMemory),
+        }
+    }
+
+    /// The same without a copy.
+    pub fn into_named(self, identity: Identity) -> Result<Certificate, CertFault>
+        requires { IsIdentity identity }
+        ensures named { IfOk result (λ z. z ≡ named_as identity self) }
+        ensures own { OnOk result (is_for_name identity self.name ≡ true) }
+        ensures other { IfErr result (λ e. (e ≡ CertFault.OtherIdentity)
+            × (is_for_name identity self.name ≡ false)) }
+    {
+        self.may_take(&identity)?;
+        Ok(Certificate {
+            fti: self.fti,
+            name: Some(identity),
+            coefficients: self.coefficients,
+        })
+    }
+
+    // The rows of coefficients of block `b`, one behind the other.
+    pub(crate) fn rows(&self, b: u32) -> &[u8]
+        requires { b < block_count self.now.fti }
+        ensures len { length result.now
+            ≡ source_count self.now.fti b * self.now.fti.symbol_length }
+        ensures rows { AreRowsOf self.now b result.now }
+    {
         let width = usize::from(self.fti.symbol_length());
         let from = self.fti.start(b) as usize * width;
-        let columns = part(self.coefficients.as_slice(), from, width * count);
-        rows_from_columns(rows, columns, count, width);
+        part(self.coefficients.as_slice(), from, self.fti.k(b) * width)
+    }
+
+    /// Coefficient `i` of the polynomials of block `b`: its byte of each column, E bytes. It needs that the FTI has the block
+    /// and this as many source symbols.
+    pub fn row(&self, b: u32, i: usize) -> &[u8]
+        requires block { b < block_count self.now.fti }
+        requires symbol { i < source_count self.now.fti b }
+        ensures len { length result.now ≡ self.now.fti.symbol_length }
+        ensures value { IsRowOf self.now b i result.now }
+    {
+        let width = usize::from(self.fti.symbol_length());
+        part(self.rows(b), i * width, width)
+    }
+
+    /// Coefficient `i` of the polynomial of byte column `c` of block `b`.
+    pub fn coefficient(&self, b: u32, c: usize, i: usize) -> u8
+        requires block { b < block_count self.now.fti }
+        requires column { c < self.now.fti.symbol_length }
+        requires symbol { i < source_count self.now.fti b }
+        ensures { result ≡ coefficient_of self.now b c i }
+    {
+        self.row(b, i)[c]
     }
 
     /// The certificate in all bytes up to the reader's end, where the reader then is. Memory grows with the bytes that
@@ -200,25 +255,29 @@ impl Certificate {
             IsCertFault e (R.remaining reader.old) (R.failed reader.new)) }
         ensures unsound { IfErr result (λ e. e ≡ CertFault.Io → R.sound reader.old ≡ false) }
     {
-        let mut head = [0u8; HEAD_LENGTH];
-        let Ok(got) = fill(reader, &mut head) else {
-            return Err(CertFault::Io);
-        };
-        let fti = match read_head(&head[..got]) {
-            Ok(fti) => fti,
+        let head = read_head(reader)?;
+        let text = match read_coefficients(alloc, reader, coefficients_of(&head.fti)) {
+            Ok(text) => text,
             Err(fault) => return Err(fault),
         };
-        match read_coefficients(alloc, reader, coefficients_of(&fti)) {
-            Ok(coefficients) => {
-                are_bytes(coefficients.as_slice());
-                Ok(Certificate { fti, coefficients })
-            }
-            Err(fault) => Err(fault),
-        }
+        let coefficients = match head.name {
+            Some(_) => text,
+            None => match rows_of(alloc, &head.fti, &text) {
+                Ok(rows) => rows,
+                Err(_) => return Err(CertFault::NoMemory),
+            },
+        };
+        are_bytes(coefficients.as_slice());
+        Ok(Certificate {
+            fti: head.fti,
+            name: head.name,
+            coefficients,
+        })
     }
 
-    /// Writes the certificate's text: `RSC1`, the FTI in ten bytes and the coefficients. `Io`, the only fault, comes only
-    /// where the writer has failed, and never where it has room for the text. It has a beginning of it then.
+    /// Writes the certificate's text, `RSC1` where it has no name, else `RSC2`: the name, the FTI in ten bytes and the
+    /// coefficients. `Io`, the only fault, comes only where the writer has failed, and never where it has room for the text.
+    /// It has a beginning of it then.
     pub fn write<W: Write>(&self, writer: &mut W) -> Result<(), CertFault>
         ensures ok { OnOk result
             (Appends (W.contents writer.old) (W.contents writer.new) (certificate_text self.now)) }
@@ -228,15 +287,29 @@ impl Certificate {
         ensures io { IfErr result (λ e. (e ≡ CertFault.Io) × (W.failed writer.new ≡ true)) }
         ensures full { OnErr result (W.room writer.old < length (certificate_text self.now)) }
     {
-        let mut head = [0u8; HEAD_LENGTH];
-        write_head(&mut head, &self.fti);
-        let Ok(()) = write_all(writer, &head) else {
+        let Ok(()) = write_head(writer, &self.name, &self.fti) else {
             return Err(CertFault::Io);
         };
-        let Ok(()) = write_all(writer, self.coefficients.as_slice()) else {
+        let Ok(()) = self.write_coefficients(writer) else {
             return Err(CertFault::Io);
         };
         Ok(())
+    }
+
+    // Writes the coefficients, column by column where there is no name, else row by row.
+    fn write_coefficients<W: Write>(&self, writer: &mut W) -> Result<(), Failed>
+        ensures ok { OnOk result (Appends (W.contents writer.old) (W.contents writer.new)
+            (coefficients_text self.now.name self.now)) }
+        ensures err { OnErr result (AppendsSome (W.contents writer.old) (W.contents writer.new)
+            (coefficients_text self.now.name self.now)) }
+        ensures fails { OnErr result (W.failed writer.new ≡ true) }
+        ensures full { OnErr result (W.room writer.old
+            < length (coefficients_text self.now.name self.now)) }
+    {
+        match self.name {
+            Some(_) => write_all(writer, self.coefficients.as_slice()),
+            None => write_columns(self, writer),
+        }
     }
 }
 

@@ -1,12 +1,12 @@
 //! Laws of the definitions, for callers to cite. They do nothing.
-ghost use Rattle.std.specs.Prelude.{ℕ, List};
+ghost use Rattle.std.specs.Prelude.{◌≡◌, ◌↔◌, true, ℕ, List};
 ghost use Rattle.reception.specs.declared.scope.Identity.{Identity};
 ghost use Rattle.reception.specs.Symbols.{Symbol};
 ghost use Rattle.reception.specs.Reception.{with_fti};
 ghost use Rattle.reception.specs.First.{TellsTheFirst};
 ghost use Rattle.reception.specs.Order.{TellsInOrder};
 ghost use Rattle.cert.specs.declared.verdict.Verdict.{Verdict as VerdictValue};
-ghost use Rattle.cert.specs.Certificate.{Certificate as CertificateValue};
+ghost use Rattle.cert.specs.Certificate.{Certificate as CertificateValue, named_as, is_for};
 ghost use Rattle.cert.specs.Verdict.{uncertified, IsVerdict, AreOneVerdict};
 ghost use Rattle.cert.specs.Columns.{TellsFirstWrong};
 
@@ -18,6 +18,15 @@ pub fn one_verdict()
         → IsVerdict who datagrams object z a
         → IsVerdict who datagrams object z b
         → AreOneVerdict a b }
+{}
+
+/// The identity's own name changes no verdict: a certificate without a name has the same as with that name.
+pub fn own_name_changes_nothing()
+    ensures { (who : Identity) (datagrams : List (List ℕ)) (object : List ℕ)
+        (z : CertificateValue) (v : VerdictValue)
+        → is_for who z.name ≡ true
+        → IsVerdict who datagrams object z v
+        ↔ IsVerdict who datagrams object (named_as who z) v }
 {}
 
 /// The reason of a check at a place is the one at the least place that has one, and there the first in the order of the

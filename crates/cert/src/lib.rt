@@ -1,10 +1,13 @@
 //! Certificates of sessions, and their check.
 //!
-//! `certificate` has the certificate, its file and the faults of one (`specs/Certificate`). `verdict` has what a check
-//! answers, `specs/Verdict` which answer is right, `specs/Report` what a yes tells. A check asks for one identity's
-//! packets and is a walk over datagrams, one step each (`walk`), in two loops: [`check`] goes over a session (`checking`),
-//! [`check_from`] over what a reader gives (`from_reader`, `specs/FromReader`). The certificate's FTI is known from the
-//! start, so a packet is judged whether a carrier came before it or not; that none came is told in the end.
+//! `certificate` has the certificate, its file and the faults of one (`specs/Certificate`); `head` reads and writes what
+//! stands in the file before the coefficients, `column_text` the coefficients of a certificate without a name, column by
+//! column; `converting` gives a file a name, block by block. `verdict` has what a check answers, `specs/Verdict` which answer is right, `specs/Report` what a yes tells.
+//!
+//! A check asks for one identity's packets and is a walk over datagrams, one step each (`walk`), in two loops: [`check`]
+//! goes over a session (`checking`), [`check_from`] over what a reader gives (`from_reader`, `specs/FromReader`). The
+//! certificate's FTI is known from the start, so a packet is judged whether a carrier came before it or not; that none came
+//! is told in the end.
 //!
 //! The walk puts three parts together: `certified_symbols` makes each symbol that the certificate gives, `source` compares
 //! them with the object and `datagrams` with a datagram, whose place it puts into its block's group for `losses`, and that
@@ -21,9 +24,12 @@ mod block_symbols;
 mod certificate;
 mod certified_symbols;
 mod checking;
+mod column_text;
+mod converting;
 mod datagrams;
 mod differing;
 mod from_reader;
+mod head;
 mod laws;
 mod repair_symbols;
 mod runs;
@@ -34,7 +40,9 @@ mod walk;
 
 pub use certificate::{CertFault, Certificate, one_certificate};
 pub use checking::check;
+pub use converting::{ConvertFault, convert};
 pub use from_reader::{CheckFault, check_from};
-pub use laws::{first_column, first_reason, one_verdict, reason_order};
+pub use head::write_head;
+pub use laws::{first_column, first_reason, one_verdict, own_name_changes_nothing, reason_order};
 pub use twins::{session_twin, twin};
 pub use verdict::{Reason, Report, Verdict};

@@ -1,8 +1,8 @@
 //! Whether the polynomials give the object.
 ghost use Rattle.std.specs.Prelude.{◌≡◌, ◌+◌, ◌<◌, ℕ, slice_index, IsNone, IfSome};
 ghost use Rattle.partition.specs.Fti.{block_count, source_count};
-ghost use Rattle.cert.specs.CoefficientRows.{GivesBlock, IsSourceSymbol};
-ghost use Rattle.cert.specs.Verdict.{GivesObject, IsFirstInBlock};
+ghost use Rattle.cert.specs.CoefficientRows.{IsSourceSymbol};
+ghost use Rattle.cert.specs.Verdict.{GivesObject, IsFirstInBlock, GivesBlock};
 ghost use Rattle.cert.specs.NotGiven.{IsNotGiven};
 
 use crate::certified_symbols::CertifiedSymbols;

@@ -6,7 +6,7 @@ ghost use Rattle.session.specs.Frames.{AreDatagrams};
 ghost use Rattle.alc.specs.Views.{packet_of};
 ghost use Rattle.reception.specs.Symbols.{IsObject};
 ghost use Rattle.reception.specs.Reception.{in_range, symbol_of};
-ghost use Rattle.cert.specs.Certificate.{IsCertificate};
+ghost use Rattle.cert.specs.Certificate.{IsCertificate, is_for};
 ghost use Rattle.cert.specs.Report.{IsReport};
 ghost use Rattle.cert.specs.Scan.{line_in, with_carrier, AreEnough, AreEnoughCertified, IsShortGroup, IsPut, IsNoReport};
 ghost use Rattle.cert.specs.Verdict.{GivesObject, uncertified};
@@ -39,7 +39,7 @@ impl From<AllocError> for NoReport {
     }
 }
 
-/// A check on its way over datagrams: the polynomials give the object, and no datagram so far has a reason against it.
+/// A check on its way over datagrams: the certificate has no other identity's name, its polynomials give the object, and no datagram so far has a reason against it.
 /// None is kept, only the place and the ESI of its symbol, in its block's group, and a carrier's place. Packets of another
 /// identity are passed over, and their places are counted.
 #[derive(Drop)]
@@ -53,6 +53,7 @@ pub(crate) struct Walk<'a> {
     // Whether some packet of the identity came.
     came: bool,
     ghost valid: { IsCertificate symbols },
+    ghost name: { is_for scope.identity symbols.name ≡ true },
     ghost form: { IsObject symbols.fti object.now },
     ghost gives: { GivesObject object.now symbols },
 }
@@ -60,7 +61,7 @@ pub(crate) struct Walk<'a> {
 impl<'a> Walk<'a> {
     ghost use Rattle.cert.specs.DatagramWalk.{HasWalked, IsNotBegun, IsNotPassed, IsNotKept};
 
-    /// Before the first datagram, or the reason against the object.
+    /// Before the first datagram, or the reason against the certificate's name or the object.
     pub(crate) fn new(
         alloc: Global,
         object: &'a [u8],
@@ -71,8 +72,11 @@ impl<'a> Walk<'a> {
         ensures certificate { IfOk result (λ walk. walk.symbols ≡ certificate.now) }
         ensures object { IfOk result (λ walk. walk.object.now ≡ object.now) }
         ensures none { IfOk result (λ walk. HasWalked walk []) }
-        ensures no_report { IfErr result (IsNotBegun object.now certificate.now) }
+        ensures no_report { IfErr result (IsNotBegun identity object.now certificate.now) }
     {
+        if !certificate.is_for(&identity) {
+            return Err(NoReport::Reason(Reason::OtherCertificate));
+        }
         are_bytes(object);
         let fti = certificate.fti();
         if object.len() as u64 != fti.transfer_length() {

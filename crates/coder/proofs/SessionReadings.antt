@@ -23,15 +23,16 @@ use Rattle.alc.proofs.Writes.{written_packet}
 use Rattle.reception.specs.Symbols.{Symbol, has_arrived, arrived_count, is_full, IsObject, Agrees}
 use Rattle.reception.specs.declared.scope.Identity.{Identity}
 use Rattle.reception.specs.Reception.{ReadAll, counts as reading_counts, counted_from, counted, symbols, is_carrier, Suffices}
-use Rattle.cert.specs.Certificate.{Certificate, IsCertificate, polynomial, certified_byte}
+use Rattle.cert.specs.Certificate.{Certificate, IsCertificate, is_for, polynomial, certified_byte}
 use Rattle.cert.specs.Verdict.{GivesObject, IsCertifiedPacket, IsCertifiedReading, AreCertified}
 use Rattle.reception.proofs.Full.{same_source}
 use Rattle.cert.proofs.Polynomials.{forms}
 use Rattle.cert.proofs.Promise.{WhereCounted, placed_all}
+use Rattle.cert.proofs.Named.{named_granted}
 use Rattle.partition.specs.declared.order.Order.{Order}
 use Rattle.partition.specs.declared.order.Order.TheVariants.{Blocks, Rounds}
 use Rattle.coder.specs.Sending.{pairs_of_block, pair_with, pairs_of_round, pairs, Item, items_from, items, is_carrier_at, fti_at, AreSent, IsSessionOf}
-use Rattle.coder.specs.Certified.{Certifies, CertifiesSent}
+use Rattle.coder.specs.Certified.{Certifies, CertifiesSent, identity_of}
 use Rattle.coder.proofs.Sent.{map_next, map_later, flat_next, flat_later, with_pair}
 
 -- ---- which encoding symbols a session has
@@ -123,13 +124,13 @@ module _ (z : Certificate) (good : IsCertificate z) (object : List ℕ) (gives :
   symbol_is b j y agrees c hc =
       let column = agrees.columns c hc in
       let few = (counts z.fti good.fti b agrees.block).1 in
-      let one = same_source z.fti object column.polynomial (polynomial z b c) b c few column.form (forms z good b c agrees.block hc) column.source (λ i li. gives b c i agrees.block hc li) in
+      let one = same_source z.fti object column.polynomial (polynomial z b c) b c few column.form (forms z good b c) column.source (λ i li. gives b c i agrees.block hc li) in
       sym column.symbol ∙ ap (λ (p : List ℕ). value p (point j)) one
 
   symbol_bytes : (b j : ℕ) (y : List ℕ) → Agrees z.fti object (record { block = b; esi = j; bytes = y }) → AreBytes y
   symbol_bytes b j y agrees c = elim (cases_lt c z.fti.symbol_length) [
     | inl hc ↦ rw (symbol_is b j y agrees c hc)
-        (value_element IsByte sum_of product 0 1 byte_field (polynomial z b c) (point j) (bytes_by_recursion (polynomial z b c) (forms z good b c agrees.block hc).bytes) (point_byte j))
+        (value_element IsByte sum_of product 0 1 byte_field (polynomial z b c) (point j) (bytes_by_recursion (polynomial z b c) (forms z good b c).bytes) (point_byte j))
     | inr past ↦ rw (get_or_past y c 0 (omega (arith, past, agrees.count))) (omega arith)
   ]
 
@@ -244,13 +245,14 @@ module _ (z : Certificate) (good : IsCertificate z) (object : List ℕ) (gives :
   some_carrier order ds some r =
       r.carriers ∙ some_carries every 0 0 (pairs order z.fti) some (all_pairs z.fti good.fti order 0 0 (some_block z.fti good.fti) some_encoding)
 
-  pub certifies : IsObject z.fti object → 1 ≤ every → (order : Order) (ds : List (List ℕ)) → IsSessionOf object z.fti t u every order ds → Certifies who z object ds
-  certifies form some order ds sent =
+  pub certifies : is_for who z.name ≡ true → IsObject z.fti object → 1 ≤ every → (order : Order) (ds : List (List ℕ)) → IsSessionOf object z.fti t u every order ds → Certifies who z object ds
+  certifies name form some order ds sent =
       let r = read_sent (items order z.fti) ds sent in
       record {
         readings = r.readings;
         read = r.read;
         granted = record {
+          name = name;
           form = form;
           gives = gives;
           certified = all_certified r.readings r.sound (some_read order ds r);
@@ -259,6 +261,10 @@ module _ (z : Certificate) (good : IsCertificate z) (object : List ℕ) (gives :
         };
       }
 
--- a certificate whose polynomials give the object is one of every session that is sent of it
-pub certifies_sent : (z : Certificate) (object : List ℕ) → IsCertificate z → IsObject z.fti object → GivesObject object z → CertifiesSent object z
-certifies_sent z object good form gives = λ t u every order ds lt lu some sent. certifies z good object gives t u every lt lu form some order ds sent
+-- a certificate without a name whose polynomials give the object is one of every session that is sent of it, and so is its
+-- form with a name
+pub certifies_sent : (z : Certificate) (object : List ℕ) → IsCertificate z → z.name ≡ None → IsObject z.fti object → GivesObject object z → CertifiesSent object z
+certifies_sent z object good none form gives = λ t u every order ds lt lu some sent.
+    let own : is_for (identity_of t u) z.name ≡ true = ap (is_for (identity_of t u)) none in
+    let plain = certifies z good object gives t u every lt lu own form some order ds sent in
+    (plain, record { readings = plain.readings; read = plain.read; granted = named_granted (identity_of t u) plain.readings object z plain.granted })

@@ -1,14 +1,17 @@
 -- What certifying an object promises of the sessions that are sent of it.
-use Rattle.std.specs.Prelude.{◌≡◌, ◌≢◌, ℕ, ◌<◌, ◌≤◌, ◌^◌, List, length}
-use Rattle.partition.specs.Fti.{Fti}
+use Rattle.std.specs.Prelude.{◌≡◌, ◌≢◌, ◌⊎◌, ℕ, ◌<◌, ◌≤◌, ◌*◌, ◌^◌, Bool, true, List, ◌++◌, length, Option, Some, None}
+use Rattle.std.specs.Io.KnownBytes.{Appends}
+use Rattle.lists.specs.Bytes.{AreBytes}
+use Rattle.partition.specs.Fti.{Fti, start_of}
 use Rattle.alc.specs.Reading.{Reading}
 use Rattle.reception.specs.declared.scope.Identity.{Identity}
 use Rattle.reception.specs.Reception.{ReadAll}
-use Rattle.cert.specs.Certificate.{Certificate}
+use Rattle.cert.specs.Certificate.{Certificate, IsCertificate, unnamed, named_as, head_text, certificate_text}
 use Rattle.cert.specs.declared.verdict.Verdict.{Verdict}
-use Rattle.cert.specs.Verdict.{IsCertificateOf, IsVerdict, IsYes}
+use Rattle.cert.specs.Verdict.{GivesObject, IsCertificateOf, IsVerdict, IsYes, GivesBlock}
+use Rattle.session.specs.Pieces.{AppendsSome}
 use Rattle.coder.specs.declared.certifying.CertifyFault.{CertifyFault}
-use Rattle.coder.specs.declared.certifying.CertifyFault.TheVariants.{Length, NoMemory}
+use Rattle.coder.specs.declared.certifying.CertifyFault.TheVariants.{Length, Io, NoMemory}
 use Rattle.partition.specs.declared.order.Order.{Order}
 use Rattle.coder.specs.Sending.{IsSessionOf}
 
@@ -22,20 +25,55 @@ pub record Certifies (who : Identity) (z : Certificate) (object : List ℕ) (ses
 abbrev pub identity_of : ℕ → ℕ → Identity
 identity_of tsi toi = record { tsi = tsi; toi = toi }
 
--- it is one of every session that is sent of the object
+-- it is one of every session that is sent of the object, and so is its form with the name of the session's identity
 abbrev pub CertifiesSent : List ℕ → Certificate → Type 0
 CertifiesSent object z =
     (tsi toi every : ℕ) (order : Order) (session : List (List ℕ)) → tsi < 2 ^ 32 → toi < 2 ^ 32 → 1 ≤ every
-    → IsSessionOf object z.fti tsi toi every order session → Certifies (identity_of tsi toi) z object session
+    → IsSessionOf object z.fti tsi toi every order session
+    → Certifies (identity_of tsi toi) z object session × Certifies (identity_of tsi toi) (named_as (identity_of tsi toi) z) object session
 
--- a check of any such session, of its identity, says yes
+-- a check of any such session, of its identity, says yes, with the one and with the other
 abbrev pub ChecksYes : List ℕ → Certificate → Type 0
 ChecksYes object z =
     (tsi toi every : ℕ) (order : Order) (session : List (List ℕ)) (verdict : Verdict)
     → tsi < 2 ^ 32 → toi < 2 ^ 32 → 1 ≤ every → IsSessionOf object z.fti tsi toi every order session
-    → IsVerdict (identity_of tsi toi) session object z verdict → IsYes verdict
+    → IsVerdict (identity_of tsi toi) session object z verdict ⊎ IsVerdict (identity_of tsi toi) session object (named_as (identity_of tsi toi) z) verdict
+    → IsYes verdict
 
 -- why an object wasn't certified
 abbrev pub IsCertifyFault : CertifyFault → List ℕ → Fti → Type 0
 IsCertifyFault Length object f = length object ≢ f.transfer_length
+IsCertifyFault Io object f = ⊥
 IsCertifyFault NoMemory object f = length object ≡ f.transfer_length
+
+-- ---- written block by block
+
+-- the rows of the first n blocks: a certificate that begins with them gives the object's symbols in these blocks
+pub record AreFirstRows (object : List ℕ) (f : Fti) (n : ℕ) (rows : List ℕ) : Type 0 where
+  pub count : length rows ≡ start_of f n * f.symbol_length
+  pub bytes : AreBytes rows
+  pub gives : (b : ℕ) (later : List ℕ) → b < n → GivesBlock object (unnamed f (rows ++ later)) b
+
+-- a beginning of the rows of some blocks was written, and what stands before them
+pub record BeginsRows (object : List ℕ) (f : Fti) (head : List ℕ) (old new : Option (List ℕ)) : Type 0 where
+  pub blocks : ℕ
+  pub rows : List ℕ
+  pub first : AreFirstRows object f blocks rows
+  pub gained : AppendsSome old new (head ++ rows)
+
+-- what was written is the text, with this name, of a certificate that `certify` can make of the object
+pub record IsCertifiedTo (object : List ℕ) (f : Fti) (who : Identity) (old new : Option (List ℕ)) : Type 0 where
+  pub certificate : Certificate
+  pub form : IsCertificate certificate
+  pub fti : certificate.fti ≡ f
+  pub name : certificate.name ≡ None
+  pub gives : GivesObject object certificate
+  pub certifies : CertifiesSent object certificate
+  pub gained : Appends old new (certificate_text (named_as who certificate))
+
+-- why no certificate was written, or only a beginning
+abbrev pub IsCertifyToFault : CertifyFault → List ℕ → Fti → Identity → Option (List ℕ) → Option (List ℕ) → Bool → Type 0
+IsCertifyToFault Length object f who old new failed = (length object ≢ f.transfer_length) × (new ≡ old)
+IsCertifyToFault Io object f who old new failed =
+    (length object ≡ f.transfer_length) × BeginsRows object f (head_text (Some who) f) old new × (failed ≡ true)
+IsCertifyToFault NoMemory object f who old new failed = (length object ≡ f.transfer_length) × (new ≡ old)

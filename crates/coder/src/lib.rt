@@ -13,7 +13,7 @@ mod laws;
 mod rows;
 mod sending;
 
-pub use certifying::{CertifyFault, certify};
+pub use certifying::{CertifyFault, certify, certify_to};
 pub use decoder::{
     Answer, DecodeFault, FeedFault, Progress, Receiver, decode, decode_selection, one_answer,
 };

@@ -22,7 +22,7 @@ use Rattle.partition.specs.declared.order.Order.{Order}
 use Rattle.partition.specs.declared.order.Order.TheVariants.{Blocks, Rounds}
 use Rattle.request.specs.Grammar.{IsOrders, grammar_of}
 use Rattle.request.specs.Requests.{AreNumbers, Asked, HasIdentifiers, HasNumber, HasOrder, HasPlaces, HasSessions, HasSizes, HasTurns, HasValues, IsNumber, IsRead, name_of}
-use Rattle.request.specs.Requests.{CertifyAsked, CheckAsked, DecodeAsked, DropAsked, EncodeAsked, FollowAsked, JoinAsked, ShowAsked, TwinAsked}
+use Rattle.request.specs.Requests.{CertifyAsked, ConvertAsked, CheckAsked, DecodeAsked, DropAsked, EncodeAsked, FollowAsked, JoinAsked, ShowAsked, TwinAsked}
 use Rattle.request.specs.declared.requests.Identifiers.{Identifiers}
 use Rattle.request.specs.declared.requests.Sizes.{Sizes}
 use Rattle.request.specs.declared.requests.Sending.{Sending}
@@ -158,21 +158,39 @@ fine_certify : (orders : Bor (List (Bor Text))) → IsOrders orders → IsFine (
 unfolding clap_on_literals
 fine_certify orders are words none =
     let s = shape_at 1 orders in
-    let each : Each (IsOwn s.rules) s.rules = (record { first = refl; action = inl refl }, (record { first = refl; action = inl refl }, (record { first = refl; action = inl refl }, (record { first = refl; action = inl refl }, (record { first = refl; action = inl refl }, (record { first = refl; action = inr (inr (inl refl)) }, tt)))))) in
+    let each : Each (IsOwn s.rules) s.rules = (record { first = refl; action = inl refl }, (record { first = refl; action = inl refl }, (record { first = refl; action = inl refl }, (record { first = refl; action = inl refl }, (record { first = refl; action = inl refl }, (record { first = refl; action = inl refl }, (record { first = refl; action = inl refl }, (record { first = refl; action = inr (inr (inl refl)) }, tt)))))))) in
     let right = right_level s words each none in
     let object = text_value s words _ (codes "OBJECT") right refl refl refl in
     let output = text_value s words _ (codes "OUT") right refl refl refl in
+    let tsi = has_number _ 0 4294967295 32 (codes "tsi") (rows_after s.rules [] words) refl (omega arith) (text_value s words _ (codes "tsi") right refl refl refl) in
+    let toi = has_number _ 0 4294967295 32 (codes "toi") (rows_after s.rules [] words) refl (omega arith) (text_value s words _ (codes "toi") right refl refl refl) in
+    let identifiers : Identifiers = record { tsi = tsi.0; toi = toi.0 } in
+    let whose : HasIdentifiers (rows_after s.rules [] words) identifiers = record { tsi = tsi.1; toi = toi.1 } in
     let symbol = has_number _ 1 65475 16 (codes "symbol") (rows_after s.rules [] words) refl (omega arith) (text_value s words _ (codes "symbol") right refl refl refl) in
     let block = has_number _ 1 255 8 (codes "block") (rows_after s.rules [] words) refl (omega arith) (text_value s words _ (codes "block") right refl refl refl) in
     let max_n = has_number _ 1 255 8 (codes "max") (rows_after s.rules [] words) refl (omega arith) (text_value s words _ (codes "max") right refl refl refl) in
     let sizes : Sizes = record { symbol = symbol.0; block = block.0; max_n = max_n.0 } in
     let has : HasSizes (rows_after s.rules [] words) sizes = record { symbol = symbol.1; block = block.1; max_n = max_n.1; some_symbol = symbol.2; sendable = symbol.3; some_block = block.2; some_max = max_n.2 } in
-    (CertifyAsked object.value output.value sizes, refl, (object.first, output.first, has))
+    (CertifyAsked object.value output.value identifiers sizes, refl, (object.first, output.first, whose, has))
 
-fine_check : (orders : Bor (List (Bor Text))) → IsOrders orders → IsFine (shape_at 2 orders)
+fine_convert : (orders : Bor (List (Bor Text))) → IsOrders orders → IsFine (shape_at 2 orders)
+unfolding clap_on_literals
+fine_convert orders are words none =
+    let s = shape_at 2 orders in
+    let each : Each (IsOwn s.rules) s.rules = (record { first = refl; action = inl refl }, (record { first = refl; action = inl refl }, (record { first = refl; action = inl refl }, (record { first = refl; action = inl refl }, (record { first = refl; action = inr (inr (inl refl)) }, tt))))) in
+    let right = right_level s words each none in
+    let certificate = text_value s words _ (codes "IN") right refl refl refl in
+    let output = text_value s words _ (codes "OUT") right refl refl refl in
+    let tsi = has_number _ 0 4294967295 32 (codes "tsi") (rows_after s.rules [] words) refl (omega arith) (text_value s words _ (codes "tsi") right refl refl refl) in
+    let toi = has_number _ 0 4294967295 32 (codes "toi") (rows_after s.rules [] words) refl (omega arith) (text_value s words _ (codes "toi") right refl refl refl) in
+    let identifiers : Identifiers = record { tsi = tsi.0; toi = toi.0 } in
+    let whose : HasIdentifiers (rows_after s.rules [] words) identifiers = record { tsi = tsi.1; toi = toi.1 } in
+    (ConvertAsked certificate.value output.value identifiers, refl, (certificate.first, output.first, whose))
+
+fine_check : (orders : Bor (List (Bor Text))) → IsOrders orders → IsFine (shape_at 3 orders)
 unfolding clap_on_literals
 fine_check orders are words none =
-    let s = shape_at 2 orders in
+    let s = shape_at 3 orders in
     let each : Each (IsOwn s.rules) s.rules = (record { first = refl; action = inl refl }, (record { first = refl; action = inl refl }, (record { first = refl; action = inl refl }, (record { first = refl; action = inl refl }, (record { first = refl; action = inl refl }, (record { first = refl; action = inr (inr (inl refl)) }, tt)))))) in
     let right = right_level s words each none in
     let session = text_value s words _ (codes "SESSION") right refl refl refl in
@@ -184,10 +202,10 @@ fine_check orders are words none =
     let whose : HasIdentifiers (rows_after s.rules [] words) identifiers = record { tsi = tsi.1; toi = toi.1 } in
     (CheckAsked session.value object.value certificate.value identifiers, refl, (session.first, object.first, certificate.first, whose))
 
-fine_drop : (orders : Bor (List (Bor Text))) → IsOrders orders → IsFine (shape_at 3 orders)
+fine_drop : (orders : Bor (List (Bor Text))) → IsOrders orders → IsFine (shape_at 4 orders)
 unfolding clap_on_literals
 fine_drop orders are words none =
-    let s = shape_at 3 orders in
+    let s = shape_at 4 orders in
     let each : Each (IsOwn s.rules) s.rules = (record { first = refl; action = inl refl }, (record { first = refl; action = inl refl }, (record { first = refl; action = inr (inl refl) }, (record { first = refl; action = inr (inr (inl refl)) }, tt)))) in
     let right = right_level s words each none in
     let session = text_value s words _ (codes "SESSION") right refl refl refl in
@@ -196,10 +214,10 @@ fine_drop orders are words none =
     let places = has_places _ 0 4294967295 (rows_after s.rules [] words) row.0 refl (omega arith) refl row.1 row.2 in
     (DropAsked session.value output.value places.0, refl, (session.first, output.first, places.1))
 
-fine_join : (orders : Bor (List (Bor Text))) → IsOrders orders → IsFine (shape_at 4 orders)
+fine_join : (orders : Bor (List (Bor Text))) → IsOrders orders → IsFine (shape_at 5 orders)
 unfolding clap_on_literals
 fine_join orders are words none =
-    let s = shape_at 4 orders in
+    let s = shape_at 5 orders in
     let each : Each (IsOwn s.rules) s.rules = (record { first = refl; action = inl refl }, (record { first = refl; action = inr (inl refl) }, (record { first = refl; action = inr (inr (inr refl)) }, (record { first = refl; action = inr (inr (inl refl)) }, tt)))) in
     let right = right_level s words each none in
     let output = text_value s words _ (codes "OUT") right refl refl refl in
@@ -208,10 +226,10 @@ fine_join orders are words none =
     let turns = has_turns _ (rows_after s.rules [] words) refl (flag_value s words _ (codes "turns") _ _ right refl refl (omega arith)) in
     (JoinAsked output.value sessions.0 turns.0, refl, (output.first, sessions.1, turns.1))
 
-fine_decode : (orders : Bor (List (Bor Text))) → IsOrders orders → IsFine (shape_at 5 orders)
+fine_decode : (orders : Bor (List (Bor Text))) → IsOrders orders → IsFine (shape_at 6 orders)
 unfolding clap_on_literals
 fine_decode orders are words none =
-    let s = shape_at 5 orders in
+    let s = shape_at 6 orders in
     let each : Each (IsOwn s.rules) s.rules = (record { first = refl; action = inl refl }, (record { first = refl; action = inl refl }, (record { first = refl; action = inl refl }, (record { first = refl; action = inl refl }, (record { first = refl; action = inr (inr (inl refl)) }, tt))))) in
     let right = right_level s words each none in
     let session = text_value s words _ (codes "SESSION") right refl refl refl in
@@ -222,10 +240,10 @@ fine_decode orders are words none =
     let whose : HasIdentifiers (rows_after s.rules [] words) identifiers = record { tsi = tsi.1; toi = toi.1 } in
     (DecodeAsked session.value output.value identifiers, refl, (session.first, output.first, whose))
 
-fine_follow : (orders : Bor (List (Bor Text))) → IsOrders orders → IsFine (shape_at 6 orders)
+fine_follow : (orders : Bor (List (Bor Text))) → IsOrders orders → IsFine (shape_at 7 orders)
 unfolding clap_on_literals
 fine_follow orders are words none =
-    let s = shape_at 6 orders in
+    let s = shape_at 7 orders in
     let each : Each (IsOwn s.rules) s.rules = (record { first = refl; action = inl refl }, (record { first = refl; action = inl refl }, (record { first = refl; action = inl refl }, (record { first = refl; action = inl refl }, (record { first = refl; action = inr (inr (inl refl)) }, tt))))) in
     let right = right_level s words each none in
     let session = text_value s words _ (codes "SESSION") right refl refl refl in
@@ -236,10 +254,10 @@ fine_follow orders are words none =
     let whose : HasIdentifiers (rows_after s.rules [] words) identifiers = record { tsi = tsi.1; toi = toi.1 } in
     (FollowAsked session.value output.value identifiers, refl, (session.first, output.first, whose))
 
-fine_twin : (orders : Bor (List (Bor Text))) → IsOrders orders → IsFine (shape_at 7 orders)
+fine_twin : (orders : Bor (List (Bor Text))) → IsOrders orders → IsFine (shape_at 8 orders)
 unfolding clap_on_literals
 fine_twin orders are words none =
-    let s = shape_at 7 orders in
+    let s = shape_at 8 orders in
     let each : Each (IsOwn s.rules) s.rules = (record { first = refl; action = inl refl }, (record { first = refl; action = inl refl }, (record { first = refl; action = inl refl }, (record { first = refl; action = inl refl }, (record { first = refl; action = inl refl }, (record { first = refl; action = inl refl }, (record { first = refl; action = inr (inr (inl refl)) }, tt))))))) in
     let right = right_level s words each none in
     let session = text_value s words _ (codes "SESSION") right refl refl refl in
@@ -252,10 +270,10 @@ fine_twin orders are words none =
     let whose : HasIdentifiers (rows_after s.rules [] words) identifiers = record { tsi = tsi.1; toi = toi.1 } in
     (TwinAsked session.value object.value certificate.value output.value identifiers, refl, (session.first, object.first, certificate.first, output.first, whose))
 
-fine_show : (orders : Bor (List (Bor Text))) → IsOrders orders → IsFine (shape_at 8 orders)
+fine_show : (orders : Bor (List (Bor Text))) → IsOrders orders → IsFine (shape_at 9 orders)
 unfolding clap_on_literals
 fine_show orders are words none =
-    let s = shape_at 8 orders in
+    let s = shape_at 9 orders in
     let each : Each (IsOwn s.rules) s.rules = (record { first = refl; action = inl refl }, (record { first = refl; action = inr (inr (inl refl)) }, tt)) in
     let right = right_level s words each none in
     let session = text_value s words _ (codes "SESSION") right refl refl refl in
@@ -273,14 +291,17 @@ each_fine orders are = (
   (
     inr (fine_certify orders are),
     (
-      inr (fine_check orders are),
+      inr (fine_convert orders are),
       (
-        inr (fine_drop orders are),
+        inr (fine_check orders are),
         (
-          inr (fine_join orders are),
+          inr (fine_drop orders are),
           (
-            inr (fine_decode orders are),
-            (inr (fine_follow orders are), (inr (fine_twin orders are), (inr (fine_show orders are), (inl refl, tt)))),
+            inr (fine_join orders are),
+            (
+              inr (fine_decode orders are),
+              (inr (fine_follow orders are), (inr (fine_twin orders are), (inr (fine_show orders are), (inl refl, tt)))),
+            ),
           ),
         ),
       ),

@@ -10,7 +10,7 @@ use Rattle.clap.specs.Matches.{ReadsOne, raw_values, values_left}
 use Rattle.clap.specs.declared.parser.matches.ValuesRef.{ValuesRef}
 use Rattle.clap.specs.declared.parser.matches.Found.{Found}
 use Rattle.clap.proofs.WalkLemmas.{first_value-rows, one_text-rows, raw_values-rows, typed_values-rows}
-use Rattle.request.specs.Requests.{Asked, EncodeAsked, CertifyAsked, CheckAsked, DropAsked, JoinAsked, DecodeAsked, FollowAsked, TwinAsked, ShowAsked, HasCarriers, HasIdentifiers, HasOrder, HasPlaces, HasSending, HasSessions, HasSizes, HasText, HasTurns, HasValues, IsRead, flag_word, name_of, order_name}
+use Rattle.request.specs.Requests.{Asked, EncodeAsked, CertifyAsked, ConvertAsked, CheckAsked, DropAsked, JoinAsked, DecodeAsked, FollowAsked, TwinAsked, ShowAsked, HasCarriers, HasIdentifiers, HasOrder, HasPlaces, HasSending, HasSessions, HasSizes, HasText, HasTurns, HasValues, IsRead, flag_word, name_of, order_name}
 use Rattle.request.specs.RequestReading.{AnswersRead, Gives, GivesNone, IsNoPlaces, IsNoSessions, NoneIs}
 use Rattle.request.specs.declared.requests.Request.{Request}
 use Rattle.request.specs.declared.usage.Usage.{Usage}
@@ -89,7 +89,8 @@ no_encode rows none request read = go request (same_command (codes "encode") row
   where
     go : (request : Asked) → codes "encode" ≡ name_of request → HasValues rows request → ⊥
     go (EncodeAsked object output sending) same values = none sending values.2
-    go (CertifyAsked object output sizes) same values = different (codes "encode") (codes "certify") refl same
+    go (CertifyAsked object output identifiers sizes) same values = different (codes "encode") (codes "certify") refl same
+    go (ConvertAsked certificate output identifiers) same values = different (codes "encode") (codes "convert") refl same
     go (CheckAsked session object certificate identifiers) same values = different (codes "encode") (codes "check") refl same
     go (DropAsked session output places) same values = different (codes "encode") (codes "drop") refl same
     go (JoinAsked output sessions turns) same values = different (codes "encode") (codes "join") refl same
@@ -103,7 +104,8 @@ no_certify rows none request read = go request (same_command (codes "certify") r
   where
     go : (request : Asked) → codes "certify" ≡ name_of request → HasValues rows request → ⊥
     go (EncodeAsked object output sending) same values = different (codes "certify") (codes "encode") refl same
-    go (CertifyAsked object output sizes) same values = none sizes values.2
+    go (CertifyAsked object output identifiers sizes) same values = none sizes values.3
+    go (ConvertAsked certificate output identifiers) same values = different (codes "certify") (codes "convert") refl same
     go (CheckAsked session object certificate identifiers) same values = different (codes "certify") (codes "check") refl same
     go (DropAsked session output places) same values = different (codes "certify") (codes "drop") refl same
     go (JoinAsked output sessions turns) same values = different (codes "certify") (codes "join") refl same
@@ -117,7 +119,8 @@ no_drop rows none request read = go request (same_command (codes "drop") rows re
   where
     go : (request : Asked) → codes "drop" ≡ name_of request → HasValues rows request → ⊥
     go (EncodeAsked object output sending) same values = different (codes "drop") (codes "encode") refl same
-    go (CertifyAsked object output sizes) same values = different (codes "drop") (codes "certify") refl same
+    go (CertifyAsked object output identifiers sizes) same values = different (codes "drop") (codes "certify") refl same
+    go (ConvertAsked certificate output identifiers) same values = different (codes "drop") (codes "convert") refl same
     go (CheckAsked session object certificate identifiers) same values = different (codes "drop") (codes "check") refl same
     go (DropAsked session output places) same values = none places values.2
     go (JoinAsked output sessions turns) same values = different (codes "drop") (codes "join") refl same
@@ -138,7 +141,8 @@ module _ (rows : List Row) (none : (NoneIs (HasSessions rows)) ⊎ NoneIs (HasTu
 
       go : (request : Asked) → codes "join" ≡ name_of request → HasValues rows request → ⊥
       go (EncodeAsked object output sending) same values = different (codes "join") (codes "encode") refl same
-      go (CertifyAsked object output sizes) same values = different (codes "join") (codes "certify") refl same
+      go (CertifyAsked object output identifiers sizes) same values = different (codes "join") (codes "certify") refl same
+      go (ConvertAsked certificate output identifiers) same values = different (codes "join") (codes "convert") refl same
       go (CheckAsked session object certificate identifiers) same values = different (codes "join") (codes "check") refl same
       go (DropAsked session output places) same values = different (codes "join") (codes "drop") refl same
       go (JoinAsked output sessions turns) same values = lacks sessions turns values.1 values.2
@@ -149,7 +153,7 @@ module _ (rows : List Row) (none : (NoneIs (HasSessions rows)) ⊎ NoneIs (HasTu
 
 -- the commands that ask for an object's packets
 abbrev asks_packets : Text → Bool
-asks_packets name = bytes_eq name (codes "check") || bytes_eq name (codes "decode") || bytes_eq name (codes "follow") || bytes_eq name (codes "twin")
+asks_packets name = bytes_eq name (codes "certify") || bytes_eq name (codes "convert") || bytes_eq name (codes "check") || bytes_eq name (codes "decode") || bytes_eq name (codes "follow") || bytes_eq name (codes "twin")
 
 module _ (rows : List Row) (none : NoneIs (HasIdentifiers rows)) where
   no_packets : (name : Text) → asks_packets name ≡ true → NoneIs (IsRead (Some (name, rows)))
@@ -159,7 +163,8 @@ module _ (rows : List Row) (none : NoneIs (HasIdentifiers rows)) where
     where
       go : (request : Asked) → asks_packets (name_of request) ≡ true → HasValues rows request → ⊥
       go (EncodeAsked object output sending) asks values = let bad : false ≡ true = asks in cc
-      go (CertifyAsked object output sizes) asks values = let bad : false ≡ true = asks in cc
+      go (CertifyAsked object output identifiers sizes) asks values = none identifiers values.2
+      go (ConvertAsked certificate output identifiers) asks values = none identifiers values.2
       go (CheckAsked session object certificate identifiers) asks values = none identifiers values.3
       go (DropAsked session output places) asks values = let bad : false ≡ true = asks in cc
       go (JoinAsked output sessions turns) asks values = let bad : false ≡ true = asks in cc
@@ -167,6 +172,12 @@ module _ (rows : List Row) (none : NoneIs (HasIdentifiers rows)) where
       go (FollowAsked session output identifiers) asks values = none identifiers values.2
       go (TwinAsked session object certificate output identifiers) asks values = none identifiers values.4
       go (ShowAsked session) asks values = let bad : false ≡ true = asks in cc
+
+  pub no_certify_for : NoneIs (IsRead (Some (codes "certify", rows)))
+  no_certify_for = no_packets (codes "certify") refl
+
+  pub no_convert : NoneIs (IsRead (Some (codes "convert", rows)))
+  no_convert = no_packets (codes "convert") refl
 
   pub no_check : NoneIs (IsRead (Some (codes "check", rows)))
   no_check = no_packets (codes "check") refl

@@ -93,6 +93,29 @@ carriers_of_no_sending : fault_of grammar (check (codes "--toi=1" ∷ codes "--f
 unfolding clap_on_literals
 carriers_of_no_sending = refl
 
+-- a certificate is for the packets of a TSI and TOI
+abbrev certify : List Text → List Text
+certify last = codes "alcrs" ∷ codes "certify" ∷ codes "a" ∷ codes "b" ∷ codes "--symbol=64" ∷ codes "--block=20" ∷ codes "--max=30" ∷ last
+
+certify_toi : read (codes "toi") (certify (codes "--tsi=7" ∷ codes "--toi=1" ∷ [])) ≡ Some (codes "certify", Some (codes "1"))
+unfolding clap_on_literals
+certify_toi = refl
+
+certify_for_none : fault_of grammar (certify []) ≡ kind.MissingRequiredArgument ∷ []
+unfolding clap_on_literals
+certify_for_none = refl
+
+abbrev convert : List Text → List Text
+convert last = codes "alcrs" ∷ codes "convert" ∷ codes "a" ∷ codes "b" ∷ codes "--tsi=7" ∷ last
+
+convert_read : read (codes "IN") (convert (codes "--toi=1" ∷ [])) ≡ Some (codes "convert", Some (codes "a"))
+unfolding clap_on_literals
+convert_read = refl
+
+convert_for_none : fault_of grammar (convert []) ≡ kind.MissingRequiredArgument ∷ []
+unfolding clap_on_literals
+convert_for_none = refl
+
 out_of_range : fault_of grammar (encode (codes "--max=256" ∷ [])) ≡ kind.ValueValidation ∷ []
 unfolding clap_on_literals
 out_of_range = refl

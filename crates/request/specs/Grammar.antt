@@ -77,7 +77,10 @@ encode_command orders = command (codes "encode")
     (file (codes "OBJECT") ∷ file (codes "OUT") ∷ identifiers ++ sizes ++ fti_every ∷ order orders ∷ [])
 
 abbrev pub certify_command : Shape
-certify_command = command (codes "certify") (file (codes "OBJECT") ∷ file (codes "OUT") ∷ sizes)
+certify_command = command (codes "certify") (file (codes "OBJECT") ∷ file (codes "OUT") ∷ identifiers ++ sizes)
+
+abbrev pub convert_command : Shape
+convert_command = command (codes "convert") (file (codes "IN") ∷ file (codes "OUT") ∷ identifiers)
 
 abbrev pub check_command : Shape
 check_command = command (codes "check")
@@ -106,8 +109,8 @@ show_command = command (codes "show") (file (codes "SESSION") ∷ [])
 abbrev pub grammar_of : Bor (List (Bor Text)) → App
 grammar_of orders = record {
   top = record (new_shape (codes "alcrs")) { is_leaf = false; subcommand_required = true };
-  subs = encode_command orders ∷ certify_command ∷ check_command ∷ drop_command ∷ join_command ∷ decode_command
-      ∷ follow_command ∷ twin_command ∷ show_command ∷ [];
+  subs = encode_command orders ∷ certify_command ∷ convert_command ∷ check_command ∷ drop_command ∷ join_command
+      ∷ decode_command ∷ follow_command ∷ twin_command ∷ show_command ∷ [];
 }
 
 -- the orders' names

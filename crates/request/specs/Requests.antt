@@ -9,7 +9,7 @@ use Rattle.request.specs.declared.requests.Sizes.{Sizes}
 use Rattle.request.specs.declared.requests.Identifiers.{Identifiers}
 use Rattle.request.specs.declared.requests.Sending.{Sending}
 use Rattle.request.specs.declared.requests.Request.{Request}
-use Rattle.request.specs.declared.requests.Request.TheVariants.{Check, Twin, Show, Encode, Certify, Decode, Follow, Drop, Join}
+use Rattle.request.specs.declared.requests.Request.TheVariants.{Check, Twin, Show, Encode, Certify, Convert, Decode, Follow, Drop, Join}
 use Rattle.request.specs.declared.usage.Usage.{Usage}
 use Rattle.request.specs.declared.usage.Usage.TheVariants.{Help, Line, Value, NoMemory}
 use Rattle.request.specs.Usages.{IsRefusal}
@@ -96,7 +96,8 @@ HasTurns rows turns = first_of (codes "turns") rows ≡ Some (flag_word turns)
 -- a request's values: files by their names, what is sent, an FTI's numbers, whose packets, places, whether in turns
 pub data Asked : Type 0 where
   EncodeAsked : Text → Text → Sending → Asked
-  CertifyAsked : Text → Text → Sizes → Asked
+  CertifyAsked : Text → Text → Identifiers → Sizes → Asked
+  ConvertAsked : Text → Text → Identifiers → Asked
   CheckAsked : Text → Text → Text → Identifiers → Asked
   DropAsked : Text → Text → List ℕ → Asked
   JoinAsked : Text → List Text → Bool → Asked
@@ -107,7 +108,8 @@ pub data Asked : Type 0 where
 
 abbrev pub asked_of : Request → Asked
 asked_of (Encode object output sending) = EncodeAsked object.now output.now sending
-asked_of (Certify object output sizes) = CertifyAsked object.now output.now sizes
+asked_of (Certify object output identifiers sizes) = CertifyAsked object.now output.now identifiers sizes
+asked_of (Convert certificate output identifiers) = ConvertAsked certificate.now output.now identifiers
 asked_of (Check session object certificate identifiers) = CheckAsked session.now object.now certificate.now identifiers
 asked_of (Drop session output places) = DropAsked session.now output.now places.items
 asked_of (Join output sessions turns) = JoinAsked output.now (map (λ session. session.now) sessions.items) turns
@@ -119,7 +121,8 @@ asked_of (Show session) = ShowAsked session.now
 
 abbrev pub name_of : Asked → Text
 name_of (EncodeAsked object output sending) = codes "encode"
-name_of (CertifyAsked object output sizes) = codes "certify"
+name_of (CertifyAsked object output identifiers sizes) = codes "certify"
+name_of (ConvertAsked certificate output identifiers) = codes "convert"
 name_of (CheckAsked session object certificate identifiers) = codes "check"
 name_of (DropAsked session output places) = codes "drop"
 name_of (JoinAsked output sessions turns) = codes "join"
@@ -132,8 +135,11 @@ name_of (ShowAsked session) = codes "show"
 abbrev pub HasValues : List Row → Asked → Type 0
 HasValues rows (EncodeAsked object output sending) =
     HasText rows (codes "OBJECT") object × HasText rows (codes "OUT") output × HasSending rows sending
-HasValues rows (CertifyAsked object output sizes) =
-    HasText rows (codes "OBJECT") object × HasText rows (codes "OUT") output × HasSizes rows sizes
+HasValues rows (CertifyAsked object output identifiers sizes) =
+    HasText rows (codes "OBJECT") object × HasText rows (codes "OUT") output × HasIdentifiers rows identifiers
+    × HasSizes rows sizes
+HasValues rows (ConvertAsked certificate output identifiers) =
+    HasText rows (codes "IN") certificate × HasText rows (codes "OUT") output × HasIdentifiers rows identifiers
 HasValues rows (CheckAsked session object certificate identifiers) =
     HasText rows (codes "SESSION") session × HasText rows (codes "OBJECT") object × HasText rows (codes "CERT") certificate
     × HasIdentifiers rows identifiers

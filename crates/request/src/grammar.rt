@@ -1,7 +1,7 @@
 //! The grammar: the commands, their arguments and their help.
 ghost use Rattle.std.specs.Prelude.{◌≡◌, ◌∷◌, [], map, false, IfOk};
 ghost use Rattle.clap.specs.Words.{rule_of};
-ghost use Rattle.request.specs.Grammar.{file as file_rule, number as number_rule, fti_every as fti_every_rule, order as order_rule, places as places_rule, sessions as sessions_rule, turns as turns_rule, encode_command as encode_shape, certify_command as certify_shape, check_command as check_shape, drop_command as drop_shape, join_command as join_shape, decode_command as decode_shape, follow_command as follow_shape, twin_command as twin_shape, show_command as show_shape, IsOrders};
+ghost use Rattle.request.specs.Grammar.{file as file_rule, number as number_rule, fti_every as fti_every_rule, order as order_rule, places as places_rule, sessions as sessions_rule, turns as turns_rule, encode_command as encode_shape, certify_command as certify_shape, convert_command as convert_shape, check_command as check_shape, drop_command as drop_shape, join_command as join_shape, decode_command as decode_shape, follow_command as follow_shape, twin_command as twin_shape, show_command as show_shape, IsOrders};
 ghost use Rattle.request.specs.Building.{HasGrammar, IsShaped, AddsRules, AddsCommand};
 
 use crate::requests::MOST_SYMBOL_BYTES;
@@ -33,6 +33,8 @@ const CERTIFICATE: FileArgument<'static> = (
 );
 
 const SESSION_TO_WRITE: FileArgument<'static> = ("OUT", "The session file to write");
+
+const CERTIFICATE_TO_WRITE: FileArgument<'static> = ("OUT", "The certificate to write");
 
 const OBJECT_TO_WRITE: FileArgument<'static> = ("OUT", "The object to write, where there is one");
 
@@ -236,20 +238,34 @@ fn certify_command<'a>(alloc: Global) -> Result<Command<'a>, AllocError>
 {
     let command = Command::new(alloc, "certify")
         .about(
-            "Writes the certificate of an object: the polynomial of each byte column of each block",
+            "Writes the certificate of an object, for the packets of a TSI and TOI: the polynomial of each byte column of each block",
         )
         .after_help(
-            "Prints how many blocks there are.\nStatuses: 0 done, 1 a fault, 2 the command line is refused.\n\nExample: alcrs certify bulletin.txt bulletin.rsc --symbol 64 --block 20 --max 30",
+            "Prints how many blocks there are.\nStatuses: 0 done, 1 a fault, 2 the command line is refused.\n\nExample: alcrs certify bulletin.txt bulletin.rsc --tsi 7 --toi 1 --symbol 64 --block 20 --max 30",
         );
     let command = with_files(
         alloc,
         command,
-        &[
-            ("OBJECT", "The file to certify"),
-            ("OUT", "The certificate to write"),
-        ],
+        &[("OBJECT", "The file to certify"), CERTIFICATE_TO_WRITE],
     )?;
+    let command = with_numbers(alloc, command, &IDENTIFIERS)?;
     with_numbers(alloc, command, &SIZES)
+}
+
+fn convert_command<'a>(alloc: Global) -> Result<Command<'a>, AllocError>
+    ensures { IfOk result (IsShaped convert_shape) }
+{
+    let command = Command::new(alloc, "convert")
+        .about("Writes a certificate anew, by rows and for the packets of a TSI and TOI")
+        .after_help(
+            "Reads a certificate of either layout. Prints how many blocks there are. A certificate that is for another TSI or TOI is refused.\nStatuses: 0 done, 1 a fault, 2 the command line is refused.\n\nExample: alcrs convert old.rsc bulletin.rsc --tsi 7 --toi 1",
+        );
+    let command = with_files(
+        alloc,
+        command,
+        &[("IN", "The certificate to read"), CERTIFICATE_TO_WRITE],
+    )?;
+    with_numbers(alloc, command, &IDENTIFIERS)
 }
 
 fn drop_command<'a>(alloc: Global) -> Result<Command<'a>, AllocError>
@@ -355,6 +371,7 @@ pub(crate) fn grammar<'a>(alloc: Global) -> Result<Command<'a>, AllocError>
         .subcommand_required(true);
     let parser = with_command(parser, encode_command(alloc))?;
     let parser = with_command(parser, certify_command(alloc))?;
+    let parser = with_command(parser, convert_command(alloc))?;
     let parser = with_command(parser, check_command(alloc))?;
     let parser = with_command(parser, drop_command(alloc))?;
     let parser = with_command(parser, join_command(alloc))?;

@@ -159,14 +159,25 @@ fn encode_request<'a>(matches: &ArgMatches<'a>) -> Result<Request<'a>, Usage>
     })
 }
 
-#[tactic(auto, using(crate::proofs::Getters::no_certify))]
+#[tactic(auto, using(crate::proofs::Getters::no_certify, crate::proofs::Getters::no_certify_for))]
 fn certify_request<'a>(matches: &ArgMatches<'a>) -> Result<Request<'a>, Usage>
     ensures { AnswersRead (Some (codes "certify", rows_in matches.now)) result }
 {
     Ok(Request::Certify {
         object: text(matches, "OBJECT")?,
         output: text(matches, "OUT")?,
+        identifiers: identifiers(matches)?,
         sizes: sizes(matches)?,
+    })
+}
+
+fn convert_request<'a>(matches: &ArgMatches<'a>) -> Result<Request<'a>, Usage>
+    ensures { AnswersRead (Some (codes "convert", rows_in matches.now)) result }
+{
+    Ok(Request::Convert {
+        certificate: text(matches, "IN")?,
+        output: text(matches, "OUT")?,
+        identifiers: identifiers(matches)?,
     })
 }
 
@@ -253,6 +264,7 @@ fn command_request<'a>(
     match name {
         "encode" => encode_request(matches),
         "certify" => certify_request(matches),
+        "convert" => convert_request(matches),
         "check" => check_request(matches),
         "drop" => drop_request(alloc, matches),
         "join" => join_request(alloc, matches),

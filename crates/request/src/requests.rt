@@ -68,11 +68,18 @@ pub enum Request<'a> {
         output: &'a str,
         sending: Sending,
     },
-    /// Certify the object.
+    /// Certify the object, for the packets with these identifiers.
     Certify {
         object: &'a str,
         output: &'a str,
+        identifiers: Identifiers,
         sizes: Sizes,
+    },
+    /// Write the certificate as one of the packets with these identifiers.
+    Convert {
+        certificate: &'a str,
+        output: &'a str,
+        identifiers: Identifiers,
     },
     /// Write the object that the session's packets with these identifiers give.
     Decode {

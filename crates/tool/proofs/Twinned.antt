@@ -2,7 +2,7 @@
 use Rattle.std.proofs.Common.{◌≡◌, ℕ, List, Option, Some, None, refl, ap}
 use Rattle.reception.specs.declared.scope.Identity.{Identity}
 use Rattle.cert.specs.declared.verdict.Reason.{Reason}
-use Rattle.cert.specs.declared.verdict.Reason.TheVariants.{ObjectLength, NotObject, Empty, Packet, OtherFti, SymbolLength, Range, Symbol, Thin, NoCarrier}
+use Rattle.cert.specs.declared.verdict.Reason.TheVariants.{OtherCertificate, ObjectLength, NotObject, Empty, Packet, OtherFti, SymbolLength, Range, Symbol, Thin, NoCarrier}
 use Rattle.cert.specs.declared.verdict.Verdict.TheVariants.{No}
 use Rattle.tool.specs.Lines.{Prints, PrintsTwin}
 use Rattle.partition.specs.Fti.{Fti}
@@ -16,6 +16,7 @@ some_same e = cc
 -- the reason that a block is short
 pub short_reason : (reason : Reason) (t : ℕ × ℕ × ℕ) → short_of reason ≡ Some t → reason ≡ Thin t.0 t.1 t.2
 short_reason (Thin block have need) t e = ap (λ (u : ℕ × ℕ × ℕ). Thin u.0 u.1 u.2) (some_same e)
+short_reason OtherCertificate t e = absurd (cc)
 short_reason ObjectLength t e = absurd (cc)
 short_reason (NotObject b c i) t e = absurd (cc)
 short_reason Empty t e = absurd (cc)
@@ -35,6 +36,7 @@ pub record IsOther (who : Identity) (reason : Reason) (before after : Option (Li
 pub other_reason : (who : Identity) (reason : Reason) (before after : Option (List ℕ)) (f : Fti) (datagrams : List (List ℕ)) (object output : List ℕ) (old new : Option Files)
     → short_of reason ≡ None → new ≡ old → Prints (No reason) before after → IsOther who reason before after f datagrams object output old new
 other_reason who (Thin block have need) before after f datagrams object output old new e s h = absurd (cc)
+other_reason who OtherCertificate before after f datagrams object output old new e s h = record { told = refl; printed = h; made = s }
 other_reason who ObjectLength before after f datagrams object output old new e s h = record { told = refl; printed = h; made = s }
 other_reason who (NotObject b c i) before after f datagrams object output old new e s h = record { told = refl; printed = h; made = s }
 other_reason who Empty before after f datagrams object output old new e s h = record { told = refl; printed = h; made = s }

@@ -6,7 +6,7 @@ use Rattle.alc.specs.Packet.{Packet as Sent}
 use Rattle.alc.specs.Reading.{Reading, Reads}
 use Rattle.cert.specs.declared.verdict.Report.{Report}
 use Rattle.cert.specs.declared.verdict.Reason.{Reason}
-use Rattle.cert.specs.declared.verdict.Reason.TheVariants.{ObjectLength, NotObject, Empty, Packet, OtherFti, SymbolLength, Range, Symbol, Thin, NoCarrier}
+use Rattle.cert.specs.declared.verdict.Reason.TheVariants.{OtherCertificate, ObjectLength, NotObject, Empty, Packet, OtherFti, SymbolLength, Range, Symbol, Thin, NoCarrier}
 use Rattle.cert.specs.declared.verdict.Verdict.{Verdict}
 use Rattle.cert.specs.declared.verdict.Verdict.TheVariants.{Yes, No}
 use Rattle.tool.specs.declared.fault.Fault.{Fault}
@@ -76,6 +76,7 @@ report_text report = (line_of (codes "yes") ++ block_lines report.blocks.items (
 
 -- what a line gains by a reason
 abbrev pub GainsReason : Reason → List ℕ → List ℕ → Type 0
+GainsReason OtherCertificate old new = new ≡ old ++ codes "N12 OtherCertificate"
 GainsReason ObjectLength old new = new ≡ old ++ codes "N1 ObjectLength"
 GainsReason (NotObject block column symbol) old new =
     new ≡ old ++ named (codes "N2 NotObject block") (decimal block) ++ named (codes " column") (decimal column) ++ named (codes " symbol") (decimal symbol)

@@ -1,13 +1,15 @@
 -- What the commands that write a file do, by what the files hold before and after.
-use Rattle.std.specs.Prelude.{◌≡◌, ◌<◌, ◌⊎◌, ℕ, Bool, List, ◌++◌, Option, None, Some, length, codes, decimal, ⊤}
+use Rattle.std.specs.Prelude.{◌≡◌, ◌<◌, ◌⊎◌, ℕ, Bool, true, false, List, ◌++◌, Option, None, Some, length, codes, decimal, ⊤}
 use Rattle.std.specs.Io.KnownBytes.{Appends}
 use Rattle.partition.specs.Fti.{Fti, fti_from, block_count}
 use Rattle.partition.specs.FtiFault.{fti_fault}
 use Rattle.session.specs.Frames.{frames}
 use Rattle.lists.specs.Selection.{rest, is_among, first_outside}
 use Rattle.session.specs.declared.frame.FrameFault.TheVariants.{Io as FrameIo, NoSuchPlace}
-use Rattle.cert.specs.declared.certificate.CertFault.TheVariants.{Io as CertificateIo}
-use Rattle.cert.specs.Certificate.{Certificate, certificate_text}
+use Rattle.reception.specs.declared.scope.Identity.{Identity}
+use Rattle.cert.specs.declared.certificate.CertFault.TheVariants.{Io as CertificateIo, OtherIdentity}
+use Rattle.cert.specs.Certificate.{Certificate, is_for, named_as, certificate_text}
+use Rattle.cert.specs.Converting.{IsOfOther}
 use Rattle.cert.specs.Verdict.{GivesObject}
 use Rattle.coder.specs.Sending.{pairs, CanBeSent, IsSessionOf, most_symbol_bytes}
 use Rattle.coder.specs.Certified.{CertifiesSent}
@@ -16,8 +18,8 @@ use Rattle.request.specs.declared.requests.Sizes.{Sizes}
 use Rattle.request.specs.declared.requests.Sending.{Sending}
 use Rattle.tool.specs.declared.fault.Fault.{Fault}
 use Rattle.tool.specs.declared.fault.Fault.TheVariants.{Open, File, Memory, Fti as WrongFti, Send, Frame, Certificate as CertificateFault, Output}
-use Rattle.tool.specs.Folder.{Files, Replaces}
-use Rattle.tool.specs.Inputs.{HoldsBytes, HoldsSession, IsObjectUnread, IsSessionUnread}
+use Rattle.tool.specs.Folder.{Files, Holds, Replaces}
+use Rattle.tool.specs.Inputs.{HoldsBytes, HoldsCertificate, HoldsSession, IsCertificateUnread, IsObjectUnread, IsSessionUnread}
 use Rattle.tool.specs.Lines.{line_of, named, IsPrintFault, IsSilent}
 
 -- the FTI of an object of so many bytes
@@ -44,17 +46,27 @@ pub record IsEncoded (old new : Option Files) (object output : List ℕ) (sendin
   pub printed : PrintsCount (codes "encoded") (length (pairs sending.order (sized sending.sizes (length bytes)))) (codes " datagrams") before after
   pub told : status ≡ 0
 
--- A certificate of the object, which is one of every session sent of it, stands under the output's name, all other files
--- are as before, and the number of its blocks was printed.
-pub record IsCertified (old new : Option Files) (object output : List ℕ) (sizes : Sizes) (before after : Option (List ℕ)) (status : ℕ) : Type 0 where
+-- A certificate of the object for this identity stands under the output's name: one of every session sent of the object, and
+-- in this form of those of the identity. All other files are as before, and the number of its blocks was printed.
+pub record IsCertified (who : Identity) (old new : Option Files) (object output : List ℕ) (sizes : Sizes) (before after : Option (List ℕ)) (status : ℕ) : Type 0 where
   pub bytes : List ℕ
   pub whole : HoldsBytes old object bytes
   pub polynomials : Certificate
   pub fti : polynomials.fti ≡ sized sizes (length bytes)
   pub gives : GivesObject bytes polynomials
   pub certifies : CertifiesSent bytes polynomials
-  pub made : Replaces old new output (certificate_text polynomials)
+  pub made : Replaces old new output (certificate_text (named_as who polynomials))
   pub printed : PrintsCount (codes "certified") (block_count (sized sizes (length bytes))) (codes " blocks") before after
+  pub told : status ≡ 0
+
+-- The certificate of a file, which has no other's name, stands with this identity's under the output's name, all other files
+-- are as before, and the number of its blocks was printed.
+pub record IsConverted (who : Identity) (old new : Option Files) (certificate output : List ℕ) (before after : Option (List ℕ)) (status : ℕ) : Type 0 where
+  pub polynomials : Certificate
+  pub held : HoldsCertificate old certificate polynomials
+  pub own : is_for who polynomials.name ≡ true
+  pub made : Replaces old new output (certificate_text (named_as who polynomials))
+  pub printed : PrintsCount (codes "converted") (block_count polynomials.fti) (codes " blocks") before after
   pub told : status ≡ 0
 
 -- The session without these places stands under the output's name, all other files are as before, and the number of its
@@ -118,6 +130,16 @@ IsNotEncoded object output sending files failed fault =
 abbrev pub IsNotCertified : List ℕ → List ℕ → Sizes → Option Files → Bool → Fault → Type 0
 IsNotCertified object output sizes files failed fault =
     IsObjectUnread files object fault ⊎ IsUnsized files object sizes fault
+    ⊎ IsUnmade files output fault ⊎ IsUnwritten files fault ⊎ IsPrintFault failed fault
+
+-- the certificate of a file has another's name
+abbrev pub IsAnothers : Identity → Option Files → List ℕ → Fault → Type 0
+IsAnothers who files certificate (CertificateFault OtherIdentity) = Holds files certificate (IsOfOther who)
+IsAnothers who files certificate _ = ⊥
+
+abbrev pub IsNotConverted : Identity → List ℕ → List ℕ → Option Files → Bool → Fault → Type 0
+IsNotConverted who certificate output files failed fault =
+    IsCertificateUnread files certificate fault ⊎ IsAnothers who files certificate fault
     ⊎ IsUnmade files output fault ⊎ IsUnwritten files fault ⊎ IsPrintFault failed fault
 
 abbrev pub IsNotDropped : List ℕ → List ℕ → List ℕ → Option Files → Bool → Fault → Type 0

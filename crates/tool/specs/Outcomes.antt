@@ -16,7 +16,7 @@ use Rattle.cert.specs.declared.verdict.Verdict.{Verdict}
 use Rattle.cert.specs.declared.verdict.Verdict.TheVariants.{Yes, No}
 use Rattle.request.specs.declared.requests.Identifiers.{Identifiers}
 use Rattle.request.specs.declared.requests.Request.{Request}
-use Rattle.request.specs.declared.requests.Request.TheVariants.{Check, Twin, Show, Encode, Certify, Decode, Follow, Drop, Join}
+use Rattle.request.specs.declared.requests.Request.TheVariants.{Check, Twin, Show, Encode, Certify, Convert, Decode, Follow, Drop, Join}
 use Rattle.tool.specs.declared.fault.Fault.{Fault}
 use Rattle.tool.specs.declared.fault.Fault.TheVariants.{Frame}
 use Rattle.tool.specs.Folder.{Files, Replaces}
@@ -25,7 +25,7 @@ use Rattle.tool.specs.Lines.{IsPrintFault, IsSilent, TellsFault, Prints, PrintsT
 use Rattle.tool.specs.Decoding.{IsDecoded, IsNotDecoded}
 use Rattle.tool.specs.Following.{IsFollowed, IsNotFollowed}
 use Rattle.tool.specs.Joining.{IsJoined, IsNotJoined}
-use Rattle.tool.specs.Making.{IsEncoded, IsNotEncoded, IsCertified, IsNotCertified, IsDropped, IsNotDropped, IsUnmade, Fails}
+use Rattle.tool.specs.Making.{IsEncoded, IsNotEncoded, IsCertified, IsNotCertified, IsConverted, IsNotConverted, IsDropped, IsNotDropped, IsUnmade, Fails}
 
 abbrev pub status_of : Verdict → ℕ
 status_of (Yes report) = 0
@@ -141,8 +141,10 @@ IsDone old new (Twin session object certificate output asked) before after statu
 IsDone old new (Show session) before after status = IsShown old session.now before after status × (new ≡ old)
 IsDone old new (Encode object output sending) before after status =
     IsEncoded old new object.now output.now sending before after status
-IsDone old new (Certify object output sizes) before after status =
-    IsCertified old new object.now output.now sizes before after status
+IsDone old new (Certify object output asked sizes) before after status =
+    IsCertified (identity_of asked) old new object.now output.now sizes before after status
+IsDone old new (Convert certificate output asked) before after status =
+    IsConverted (identity_of asked) old new certificate.now output.now before after status
 IsDone old new (Decode session output asked) before after status =
     IsDecoded (identity_of asked) old new session.now output.now before after status
 IsDone old new (Follow session output asked) before after status =
@@ -169,8 +171,10 @@ IsUndone old new (Show session) failed before after fault =
     IsUnshown old session.now failed fault × (new ≡ old) × IsShownInPart old session.now fault failed before after
 IsUndone old new (Encode object output sending) failed before after fault =
     Fails (IsNotEncoded object.now output.now sending) old new output.now failed before after fault
-IsUndone old new (Certify object output sizes) failed before after fault =
+IsUndone old new (Certify object output asked sizes) failed before after fault =
     Fails (IsNotCertified object.now output.now sizes) old new output.now failed before after fault
+IsUndone old new (Convert certificate output asked) failed before after fault =
+    Fails (IsNotConverted (identity_of asked) certificate.now output.now) old new output.now failed before after fault
 IsUndone old new (Decode session output asked) failed before after fault =
     Fails (IsNotDecoded session.now output.now) old new output.now failed before after fault
 IsUndone old new (Follow session output asked) failed before after fault =

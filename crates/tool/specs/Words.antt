@@ -7,7 +7,7 @@ use Rattle.alc.specs.declared.fault.PacketFault.TheVariants.{TooShort, Version, 
 use Rattle.session.specs.declared.frame.FrameFault.{FrameFault}
 use Rattle.session.specs.declared.frame.FrameFault.TheVariants.{CutLength, CutDatagram, TooLong, Io as FrameIo, NoMemory as NoFrameMemory, NoSuchPlace}
 use Rattle.cert.specs.declared.certificate.CertFault.{CertFault}
-use Rattle.cert.specs.declared.certificate.CertFault.TheVariants.{Magic, Fti as WrongFti, Size, Io as CertificateIo, NoMemory as NoCertificateMemory}
+use Rattle.cert.specs.declared.certificate.CertFault.TheVariants.{Magic, Fti as WrongFti, Size, Io as CertificateIo, NoMemory as NoCertificateMemory, OtherIdentity}
 use Rattle.coder.specs.declared.sending.SendFault.{SendFault}
 use Rattle.coder.specs.declared.sending.SendFault.TheVariants.{Length, SymbolTooLong, Io as SendIo, NoMemory as NoSendMemory}
 
@@ -46,6 +46,7 @@ certificate_words (WrongFti fault) = codes "Z2 Fti " ++ fti_words fault
 certificate_words Size = codes "Z3 Size"
 certificate_words CertificateIo = codes "Z4 Io"
 certificate_words NoCertificateMemory = codes "Z5 NoMemory"
+certificate_words OtherIdentity = codes "Z6 OtherIdentity"
 
 abbrev pub send_words : SendFault → List ℕ
 send_words Length = codes "O1 Length"

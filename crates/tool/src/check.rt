@@ -134,6 +134,7 @@ fn put_reason(line: &mut Text, reason: Reason) -> Result<(), AllocError>
     ensures { OnOk result (GainsReason reason line.old line.new) }
 {
     match reason {
+        Reason::OtherCertificate => line.text("N12 OtherCertificate"),
         Reason::ObjectLength => line.text("N1 ObjectLength"),
         Reason::NotObject {
             block,

@@ -1,11 +1,12 @@
 //! Doing what was asked for.
 ghost use Rattle.std.specs.Prelude.{◌≡◌, ◌⊎◌, ◌≤◌, ◌++◌, ℕ, List, true, codes, IfOk, IfErr, OnOk};
 ghost use Rattle.std.specs.Io.KnownBytes.{Appends};
+ghost use Rattle.cert.specs.Certificate.{IsIdentity};
 ghost use Rattle.tool.specs.Lines.{line_of, IsFaultText, IsPrintFault, IsSilent, TellsFault};
 ghost use Rattle.tool.specs.Outcomes.{identity_of as asked_identity, IsRun, IsDone, IsUndone};
 ghost use Rattle.tool.specs.declared.fault.Fault.TheVariants.{Output};
 
-use crate::certify::certify;
+use crate::certify::{certify, convert};
 use crate::check::check;
 use crate::console::Console;
 use crate::decode::decode;
@@ -26,7 +27,8 @@ use std::alloc::{AllocError, Global};
 
 // Whose packets a command asks for.
 fn identity_of(identifiers: &Identifiers) -> Identity
-    ensures { result ≡ asked_identity identifiers.now }
+    ensures value { result ≡ asked_identity identifiers.now }
+    ensures identity { IsIdentity result }
 {
     Identity {
         tsi: u64::from(identifiers.tsi),
@@ -88,8 +90,24 @@ fn perform<'a, F: Folder, W: Console>(
         Request::Certify {
             object,
             output,
+            identifiers,
             sizes,
-        } => certify(alloc, folder, out, object, output, sizes),
+        } => {
+            let identity = identity_of(identifiers);
+            certify(alloc, folder, out, object, output, identity, sizes)
+        }
+        Request::Convert {
+            certificate,
+            output,
+            identifiers,
+        } => convert(
+            alloc,
+            folder,
+            out,
+            certificate,
+            output,
+            identity_of(identifiers),
+        ),
         Request::Decode {
             session,
             output,

@@ -71,7 +71,8 @@ fn short_block(reason: Reason) -> Option<(u32, usize, usize)>
 {
     match reason {
         Reason::Thin { block, have, need } => Some((block, have, need)),
-        Reason::ObjectLength
+        Reason::OtherCertificate
+        | Reason::ObjectLength
         | Reason::NotObject { .. }
         | Reason::Empty
         | Reason::Packet(..)

@@ -76,6 +76,7 @@ pub(crate) fn put_certificate_fault(line: &mut Text, fault: CertFault) -> Result
         CertFault::Size => line.text("Z3 Size"),
         CertFault::Io => line.text("Z4 Io"),
         CertFault::NoMemory => line.text("Z5 NoMemory"),
+        CertFault::OtherIdentity => line.text("Z6 OtherIdentity"),
     }
 }
 

@@ -1,6 +1,9 @@
 //! Every cut, great claims, each byte of a datagram changed, and readers and writers that fail at any place.
 use crate::ONE;
-use crate::check_tests::{CERTIFICATE, FIRST_ALONE, FRAME, OBJECT, SESSION, Told, told_by};
+use crate::check_tests::{
+    CERTIFICATE, FIRST_ALONE, FRAME, NAMED_CERTIFICATE, OBJECT, SESSION, Told, certificates,
+    told_by,
+};
 use crate::session_tests::breaking_between;
 use alc::{PacketFault, read};
 use cert::{CertFault, Certificate, CheckFault, Reason, check, check_from};
@@ -92,32 +95,58 @@ fn every_beginning_of_a_certificate(rt: HostRuntime) {
     }
 }
 
+// One with a name is told by its magic number, and has twenty bytes more.
+#[test]
+fn every_beginning_of_a_named_certificate(rt: HostRuntime) {
+    let alloc = rt.alloc();
+    for size in 0..=36usize {
+        let beginning = NAMED_CERTIFICATE.get(..size).unwrap_or(&[]);
+        let wanted = match size {
+            0..=3 => Some(CertFault::Magic),
+            4..=35 => Some(CertFault::Size),
+            _ => None,
+        };
+        for most in [1, 5, 100usize] {
+            let fault = Certificate::read(alloc, &mut Pieces::new(beginning, most)).err();
+            assert_eq!(rt; fault, wanted, "{size} bytes in pieces of {most}");
+        }
+        let fault = Certificate::read(alloc, &mut breaking_between(beginning, &[])).err();
+        assert_eq!(rt; fault, Some(CertFault::Io), "broken at {size}");
+    }
+}
+
 // A reason at the last place stands before the failure behind it.
 #[test]
 fn a_reason_before_a_failure(rt: HostRuntime) -> Result<(), Fail> {
     let alloc = rt.alloc();
-    let certificate = Certificate::read(alloc, &mut Pieces::new(&CERTIFICATE, 5))?;
     let session = last_changed();
-    for size in 0..=105usize {
-        let mut reader = breaking_between(session.get(..size).unwrap_or(&[]), &[]);
-        let answer = told_by(check_from(alloc, &mut reader, &OBJECT, &certificate, ONE));
-        let wanted = if size < 105 {
-            Told::Fault(CheckFault::Frame(FrameFault::Io))
-        } else {
-            Told::No(Reason::Symbol(2, 0))
-        };
-        assert_eq!(rt; answer, wanted, "broken at {size}");
+    for certificate in &certificates(alloc)? {
+        for size in 0..=105usize {
+            let mut reader = breaking_between(session.get(..size).unwrap_or(&[]), &[]);
+            let answer = told_by(check_from(alloc, &mut reader, &OBJECT, certificate, ONE));
+            let wanted = if size < 105 {
+                Told::Fault(CheckFault::Frame(FrameFault::Io))
+            } else {
+                Told::No(Reason::Symbol(2, 0))
+            };
+            assert_eq!(rt; answer, wanted, "broken at {size}");
+        }
     }
     Ok(())
 }
 
-// Of what is claimed alone no memory is asked for: a certificate of 2^40 bytes.
+// Of what is claimed alone no memory is asked for: a certificate of 2^40 bytes, without a name and with one.
 #[test]
 fn a_great_certificate_claimed(rt: HostRuntime) {
     let head = [
         0x52, 0x53, 0x43, 0x31, 1, 0, 0, 0, 0, 0, 0xFF, 0xC3, 255, 255,
     ];
     let fault = Certificate::read(rt.alloc(), &mut Pieces::new(&head, 5)).err();
+    assert_eq!(rt; fault, Some(CertFault::Size));
+    let mut named = [0; 34];
+    named[..24].copy_from_slice(&NAMED_CERTIFICATE[..24]);
+    named[24..].copy_from_slice(&head[4..]);
+    let fault = Certificate::read(rt.alloc(), &mut Pieces::new(&named, 5)).err();
     assert_eq!(rt; fault, Some(CertFault::Size));
 }
 
@@ -276,7 +305,6 @@ fn a_writer_that_fails_anywhere(rt: HostRuntime) -> Result<(), Fail> {
     let alloc = rt.alloc();
     let fti = Fti::new(2, 1, 2, 3)?;
     let session = Session::read(alloc, &mut Pieces::new(&SESSION, 50))?;
-    let certificate = Certificate::read(alloc, &mut Pieces::new(&CERTIFICATE, 5))?;
     for room in 0..=104usize {
         let mut sink = Sink::limited(alloc, 1, room);
         let sent = encode(alloc, &OBJECT, 1, 1, &fti, 1, Order::Blocks, &mut sink);
@@ -290,14 +318,27 @@ fn a_writer_that_fails_anywhere(rt: HostRuntime) -> Result<(), Fail> {
         );
         assert_eq!(rt; sink.bytes(), SESSION.get(..room).unwrap_or(&[]));
     }
-    for room in 0..=15usize {
-        let mut sink = Sink::limited(alloc, 1, room);
-        assert_eq!(rt;
-            certificate.write(&mut sink),
-            Err(CertFault::Io),
-            "room {room}"
-        );
-        assert_eq!(rt; sink.bytes(), CERTIFICATE.get(..room).unwrap_or(&[]));
+    Ok(())
+}
+
+// So has it of a certificate, in either text.
+#[test]
+fn a_writer_that_fails_anywhere_in_a_certificate(rt: HostRuntime) -> Result<(), Fail> {
+    let alloc = rt.alloc();
+    for text in [CERTIFICATE.as_slice(), NAMED_CERTIFICATE.as_slice()] {
+        let certificate = Certificate::read(alloc, &mut Pieces::new(text, 5))?;
+        for room in 0..text.len() {
+            let mut sink = Sink::limited(alloc, 1, room);
+            assert_eq!(rt;
+                certificate.write(&mut sink),
+                Err(CertFault::Io),
+                "room {room}"
+            );
+            assert_eq!(rt; sink.bytes(), text.get(..room).unwrap_or(&[]));
+        }
+        let mut sink = Sink::limited(alloc, 1, text.len());
+        assert_eq!(rt; certificate.write(&mut sink), Ok(()));
+        assert_eq!(rt; sink.bytes(), text);
     }
     Ok(())
 }
@@ -338,7 +379,6 @@ fn a_write_that_takes_nothing(rt: HostRuntime) -> Result<(), Fail> {
     let alloc = rt.alloc();
     let fti = Fti::new(2, 1, 2, 3)?;
     let session = Session::read(alloc, &mut Pieces::new(&SESSION, 50))?;
-    let certificate = Certificate::read(alloc, &mut Pieces::new(&CERTIFICATE, 5))?;
     for before in 0..=15usize {
         let beginning = SESSION.get(..before).unwrap_or(&[]);
         let mut writer = stuck_behind(alloc, before);
@@ -349,10 +389,21 @@ fn a_write_that_takes_nothing(rt: HostRuntime) -> Result<(), Fail> {
         let mut writer = stuck_behind(alloc, before);
         assert_eq!(rt; session.write(&mut writer), Err(FrameFault::Io));
         assert_eq!(rt; writer.into_inner().taken.as_slice(), beginning);
-        let mut writer = stuck_behind(alloc, before);
-        assert_eq!(rt; certificate.write(&mut writer), Err(CertFault::Io));
-        let beginning = CERTIFICATE.get(..before).unwrap_or(&[]);
-        assert_eq!(rt; writer.into_inner().taken.as_slice(), beginning);
+    }
+    Ok(())
+}
+
+#[test]
+fn a_certificates_write_that_takes_nothing(rt: HostRuntime) -> Result<(), Fail> {
+    let alloc = rt.alloc();
+    for text in [CERTIFICATE.as_slice(), NAMED_CERTIFICATE.as_slice()] {
+        let certificate = Certificate::read(alloc, &mut Pieces::new(text, 5))?;
+        for before in 0..text.len() {
+            let mut writer = stuck_behind(alloc, before);
+            assert_eq!(rt; certificate.write(&mut writer), Err(CertFault::Io));
+            let beginning = text.get(..before).unwrap_or(&[]);
+            assert_eq!(rt; writer.into_inner().taken.as_slice(), beginning);
+        }
     }
     Ok(())
 }

@@ -6,6 +6,8 @@ mod certificate_tests;
 #[cfg(test)]
 mod check_tests;
 #[cfg(test)]
+mod converting_tests;
+#[cfg(test)]
 mod decoding_tests;
 #[cfg(test)]
 mod field_tests;

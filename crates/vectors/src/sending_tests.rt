@@ -1,6 +1,7 @@
 //! What is sent, and its certificate.
 ghost use Rattle.std.specs.Prelude.{◌≤◌};
 
+use crate::certificate_tests::text;
 use crate::check_tests::FIRST_ALONE;
 use cert::{Certificate, Verdict, check};
 use coder::{CertifyFault, SendFault, certify, encode};
@@ -69,29 +70,38 @@ fn says_yes(
 }
 
 // Whether `check` says yes to the session in each order, with the FTI in all datagrams, in each third and in the first
-// alone, and the certificate.
+// alone, and the certificate, which has no name, and so to its form with the session's.
 fn is_certified(alloc: Global, object: &[u8], fti: &Fti, count: u64) -> Result<bool, Fail> {
     let certificate = certify(alloc, object, fti)?;
+    let named = certificate.named(alloc, IDENTITY)?;
+    Ok(
+        certificate.name().is_none()
+            && says_yes_always(alloc, object, fti, count, &certificate)?
+            && says_yes_always(alloc, object, fti, count, &named)?,
+    )
+}
+
+// The same of one certificate.
+fn says_yes_always(
+    alloc: Global,
+    object: &[u8],
+    fti: &Fti,
+    count: u64,
+    certificate: &Certificate,
+) -> Result<bool, Fail> {
     for order in [Order::Blocks, Order::Rounds] {
         let all = sent_every(alloc, object, fti, 1, order, count)?;
         let third = sent_every(alloc, object, fti, 3, order, count)?;
         let first = sent_every(alloc, object, fti, u32::MAX, order, count)?;
         let thirds = count.div_ceil(3);
-        if !says_yes(alloc, all.bytes(), object, &certificate, count)?
-            || !says_yes(alloc, third.bytes(), object, &certificate, thirds)?
-            || !says_yes(alloc, first.bytes(), object, &certificate, 1)?
+        if !says_yes(alloc, all.bytes(), object, certificate, count)?
+            || !says_yes(alloc, third.bytes(), object, certificate, thirds)?
+            || !says_yes(alloc, first.bytes(), object, certificate, 1)?
         {
             return Ok(false);
         }
     }
     Ok(true)
-}
-
-// The certificate's file.
-fn text(alloc: Global, certificate: &Certificate) -> Result<Sink, Fail> {
-    let mut sink = Sink::new(alloc);
-    certificate.write(&mut sink)?;
-    Ok(sink)
 }
 
 #[test]

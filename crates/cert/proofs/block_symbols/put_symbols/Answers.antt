@@ -13,4 +13,4 @@ returns c =
     symbols_in_front z c.args.block c.args.first c.args.count c.evaluate.new.symbols _
     (c.evaluate.auto.symbols ∙ length-take-le _ c.args.bytes.now room ∙ size)
     (values_are z c.fti-fti.ensures.certificate c.args.block c.requires.block c.k-k.result c.from-width.result k_is width_is
-    c.put_rows.new.rows c.evaluate.new.symbols c.args.first c.args.count c.put_rows.ensures.rows c.evaluate.ensures)
+    c.rows.result.now c.evaluate.new.symbols c.args.first c.args.count c.rows.ensures.rows c.evaluate.ensures)

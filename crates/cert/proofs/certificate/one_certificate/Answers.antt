@@ -1,4 +1,4 @@
-use Rattle.cert.proofs.Texts.{one_text}
+use Rattle.cert.proofs.OneText.{one_text}
 use Rattle.cert.proofs.certificate.one_certificate.Goals as goal
 
 pub returns : goal.returns

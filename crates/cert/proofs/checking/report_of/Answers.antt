@@ -18,13 +18,14 @@ returns-in_err-step-clause-no c =
     let front : take (c.loop-place.place + 1) ds ≡ take c.loop-place.place ds ++ c.get.result.now ∷ [] =
     take_more ds c.loop-place.place [] (let h = c.loop-place-test.true in let n = c.len-place-end.ensures.value in omega (arith, h, n))
     ∙ ap (λ (d : List ℕ). take c.loop-place.place c.args.session.now ++ d ∷ []) (sym c.get.ensures) in
+    let name = rw (c.loop-place.invariant.identity, c.loop-place.invariant.certificate) at c.loop-place.walk.name in
     let form = rw (c.loop-place.invariant.certificate, c.loop-place.invariant.object) at c.loop-place.walk.form in
     let gives = rw (c.loop-place.invariant.certificate, c.loop-place.invariant.object) at c.loop-place.walk.gives in
     let refused : IsNotPassed c.args.identity (take (c.loop-place.place + 1) ds) z e =
     rw front (rw (c.loop-place.invariant.identity, c.loop-place.invariant.certificate) at (c.in_err-step.ensures.no_report (take c.loop-place.place ds) c.loop-place.invariant.walked)) in
     passed_on c.from_residual-in_err-step.result e (IsNo who ds object z) c.from_residual-in_err-step.ensures.1
     (subst (λ (xs : List (List ℕ)). IsNo c.args.identity xs c.args.object.now c.args.certificate.now c.in_err-step.field-0.0) (take-append-drop (c.loop-place.place + 1) ds)
-    (step_no who z object form gives (take (c.loop-place.place + 1) ds) (drop (c.loop-place.place + 1) ds) e refused))
+    (step_no who z object name form gives (take (c.loop-place.place + 1) ds) (drop (c.loop-place.place + 1) ds) e refused))
 
 pub loop-place-preserved : goal.loop-place-preserved
 loop-place-preserved c =
@@ -55,9 +56,10 @@ returns-clause-yes c =
     let z = c.args.certificate.now in
     let n : length c.args.session.now ≤ c.loop-place.place = (let n = c.len-place-end.ensures.value in let h = c.loop-place-test.false in omega (arith, n, h)) in
     let h = whole c.args.session.now c.loop-place.walk c.loop-place.place n c.loop-place.invariant.walked in
+    let name = rw (c.loop-place.invariant.identity, c.loop-place.invariant.certificate) at c.loop-place.walk.name in
     let form = rw (c.loop-place.invariant.certificate, c.loop-place.invariant.object) at c.loop-place.walk.form in
     let gives = rw (c.loop-place.invariant.certificate, c.loop-place.invariant.object) at c.loop-place.walk.gives in
-    on_ok_weaker c.report.result (λ (enough : AreEnoughCertified c.args.identity c.args.session.now z). record { form = form; gives = gives; certified = enough.all; full = enough.full; carrier = enough.carrier })
+    on_ok_weaker c.report.result (λ (enough : AreEnoughCertified c.args.identity c.args.session.now z). record { name = name; form = form; gives = gives; certified = enough.all; full = enough.full; carrier = enough.carrier })
     (rw (c.loop-place.invariant.identity, c.loop-place.invariant.certificate) at (c.report.ensures.certified c.args.session.now h))
 
 pub returns-clause-no : goal.returns-clause-no
@@ -66,7 +68,8 @@ returns-clause-no c =
     let z = c.args.certificate.now in
     let n : length c.args.session.now ≤ c.loop-place.place = (let n = c.len-place-end.ensures.value in let h = c.loop-place-test.false in omega (arith, n, h)) in
     let h = whole c.args.session.now c.loop-place.walk c.loop-place.place n c.loop-place.invariant.walked in
+    let name = rw (c.loop-place.invariant.identity, c.loop-place.invariant.certificate) at c.loop-place.walk.name in
     let form = rw (c.loop-place.invariant.certificate, c.loop-place.invariant.object) at c.loop-place.walk.form in
     let gives = rw (c.loop-place.invariant.certificate, c.loop-place.invariant.object) at c.loop-place.walk.gives in
-    IfErr-weaker c.report.result _ _ (report_no c.args.identity z c.args.object.now form gives c.args.session.now)
+    IfErr-weaker c.report.result _ _ (report_no c.args.identity z c.args.object.now name form gives c.args.session.now)
     (rw (c.loop-place.invariant.identity, c.loop-place.invariant.certificate) at (c.report.ensures.no_report c.args.session.now h))

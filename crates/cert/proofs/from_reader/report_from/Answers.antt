@@ -18,12 +18,13 @@ returns-in_err-datagram-clause-no g c =
     let who = c.args.identity in
     let z = c.args.certificate.now in
     let object = c.args.object.now in
+    let name = rw (c.loop-walk.invariant.identity, c.loop-walk.invariant.certificate) at c.loop-walk.walk.name in
     let form = rw (c.loop-walk.invariant.certificate, c.loop-walk.invariant.object) at c.loop-walk.walk.form in
     let gives = rw (c.loop-walk.invariant.certificate, c.loop-walk.invariant.object) at c.loop-walk.walk.gives in
     let read = c.loop-walk.invariant.read in
     let clean = rw (c.loop-walk.invariant.identity, c.loop-walk.invariant.certificate) at read.2.clean in
     passed_on c.from_residual-in_err-datagram.result (Fault (Frame c.in_err-datagram.field-0.0)) _ c.from_residual-in_err-datagram.ensures.1
-    (not_read who z object form gives (g.R.Read.remaining c.args.reader.now) (g.R.Read.remaining c.loop-walk.reader) (g.R.Read.failed c.read_next.new.reader) read.0 read.1 read.3 clean
+    (not_read who z object name form gives (g.R.Read.remaining c.args.reader.now) (g.R.Read.remaining c.loop-walk.reader) (g.R.Read.failed c.read_next.new.reader) read.0 read.1 read.3 clean
     (g.R.Read.remaining c.read_next.new.reader) c.in_err-datagram.field-0.0 c.in_err-datagram.ensures.fault)
 
 pub returns-in_err-report-clause-no : goal.returns-in_err-report-clause-no
@@ -31,6 +32,7 @@ returns-in_err-report-clause-no g c =
     let who = c.args.identity in
     let z = c.args.certificate.now in
     let object = c.args.object.now in
+    let name = rw (c.loop-walk.invariant.identity, c.loop-walk.invariant.certificate) at c.loop-walk.walk.name in
     let form = rw (c.loop-walk.invariant.certificate, c.loop-walk.invariant.object) at c.loop-walk.walk.form in
     let gives = rw (c.loop-walk.invariant.certificate, c.loop-walk.invariant.object) at c.loop-walk.walk.gives in
     let read = c.loop-walk.invariant.read in
@@ -39,7 +41,7 @@ returns-in_err-report-clause-no g c =
     let nothing = c.in_ok-datagram.ensures.nothing c.in_default.is in
     let left = g.R.Read.remaining c.read_next.new.reader in
     passed_on c.from_residual-in_err-report.result (ending_of c.in_err-report.field-0.0) _ c.from_residual-in_err-report.ensures.1
-    (no_report who z object form gives (g.R.Read.remaining c.args.reader.now) left (g.R.Read.failed c.read_next.new.reader) read.0 read.1
+    (no_report who z object name form gives (g.R.Read.remaining c.args.reader.now) left (g.R.Read.failed c.read_next.new.reader) read.0 read.1
     (consumes_none (g.R.Read.remaining c.args.reader.now) (g.R.Read.remaining c.loop-walk.reader) left read.0 read.3 nothing) clean
     c.in_err-report.field-0.0 end.1 (rw (c.loop-walk.invariant.identity, c.loop-walk.invariant.certificate) at (c.in_err-report.ensures.no_report read.0 read.2)))
 
@@ -48,6 +50,7 @@ returns-in_default-clause-yes g c =
     let who = c.args.identity in
     let z = c.args.certificate.now in
     let object = c.args.object.now in
+    let name = rw (c.loop-walk.invariant.identity, c.loop-walk.invariant.certificate) at c.loop-walk.walk.name in
     let form = rw (c.loop-walk.invariant.certificate, c.loop-walk.invariant.object) at c.loop-walk.walk.form in
     let gives = rw (c.loop-walk.invariant.certificate, c.loop-walk.invariant.object) at c.loop-walk.walk.gives in
     let valid = rw c.loop-walk.invariant.certificate at c.loop-walk.walk.valid in
@@ -55,7 +58,7 @@ returns-in_default-clause-yes g c =
     let end = c.in_ok-datagram.ensures.none c.in_default.is in
     let nothing = c.in_ok-datagram.ensures.nothing c.in_default.is in
     let left = g.R.Read.remaining c.read_next.new.reader in
-    yes_from who z object form gives (g.R.Read.remaining c.args.reader.now) left (g.R.Read.failed c.read_next.new.reader) read.0 read.1
+    yes_from who z object name form gives (g.R.Read.remaining c.args.reader.now) left (g.R.Read.failed c.read_next.new.reader) read.0 read.1
     (consumes_none (g.R.Read.remaining c.args.reader.now) (g.R.Read.remaining c.loop-walk.reader) left read.0 read.3 nothing)
     c.in_ok-report.field-0 valid end.1
     (rw (c.loop-walk.invariant.identity, c.loop-walk.invariant.certificate) at (c.in_ok-report.ensures.certified read.0 read.2))
@@ -66,6 +69,7 @@ returns-in_err-step-clause-no g c =
     let who = c.args.identity in
     let z = c.args.certificate.now in
     let object = c.args.object.now in
+    let name = rw (c.loop-walk.invariant.identity, c.loop-walk.invariant.certificate) at c.loop-walk.walk.name in
     let form = rw (c.loop-walk.invariant.certificate, c.loop-walk.invariant.object) at c.loop-walk.walk.form in
     let gives = rw (c.loop-walk.invariant.certificate, c.loop-walk.invariant.object) at c.loop-walk.walk.gives in
     let read = c.loop-walk.invariant.read in
@@ -75,7 +79,7 @@ returns-in_err-step-clause-no g c =
     let here : IsDatagram d = record { short = short; bytes = rw c.as_slice-bytes.ensures.value at c.are_bytes.ensures } in
     let left = g.R.Read.remaining c.read_next.new.reader in
     passed_on c.from_residual-in_err-step.result (ending_of c.in_err-step.field-0.0) _ c.from_residual-in_err-step.ensures.1
-    (not_passed who z object form gives (g.R.Read.remaining c.args.reader.now) left (g.R.Read.failed c.read_next.new.reader) (read.0 ++ d ∷ []) (datagrams_push read.0 d read.1 here)
+    (not_passed who z object name form gives (g.R.Read.remaining c.args.reader.now) left (g.R.Read.failed c.read_next.new.reader) (read.0 ++ d ∷ []) (datagrams_push read.0 d read.1 here)
     (consumes_one (g.R.Read.remaining c.args.reader.now) (g.R.Read.remaining c.loop-walk.reader) left read.0 d read.3 some)
     c.in_err-step.field-0.0 (rw (c.loop-walk.invariant.identity, c.loop-walk.invariant.certificate, c.as_slice-bytes.ensures.value) at (c.in_err-step.ensures.no_report read.0 read.2)))
 

@@ -1,5 +1,5 @@
 use Rattle.std.proofs.Common.{◌≡◌, ℕ, ◌<◌}
-use Rattle.cert.specs.CoefficientRows.{GivesBlock}
+use Rattle.cert.specs.Verdict.{GivesBlock}
 use Rattle.cert.proofs.source.first_not_given.Given as goal
 
 abbrev pub invariant-loop-block : goal.invariant-loop-block

@@ -1,5 +1,6 @@
 use Rattle.std.proofs.Common.{◌≡◌, ◌<◌, ℕ, length}
 use Rattle.partition.specs.Fti.{source_count}
+use Rattle.cert.specs.Certificate.{unnamed}
 use Rattle.cert.specs.Verdict.{GivesAt}
 use Rattle.coder.proofs.certifying.certify_blocks.Given as goal
 
@@ -7,5 +8,5 @@ abbrev pub invariant-loop-b : goal.invariant-loop-b
 invariant-loop-b l = record {
   len : length l.coefficients ≡ length l.initial.coefficients;
   gives : (x y i : ℕ) → x < l.b → y < l.fti.symbol_length → i < source_count l.fti x
-      → GivesAt l.object (record { fti = l.fti; coefficients = l.coefficients }) x y i;
+      → GivesAt l.object (unnamed l.fti l.coefficients) x y i;
 }

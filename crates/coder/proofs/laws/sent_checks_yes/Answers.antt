@@ -1,10 +1,10 @@
-use Rattle.std.proofs.Common.{ℕ, List, subst}
+use Rattle.std.proofs.Common.{ℕ, List, inl, inr, subst}
 use Rattle.alc.specs.Reading.{Reading}
 use Rattle.reception.specs.declared.scope.Identity.{Identity}
 use Rattle.reception.proofs.OneAnswer.{same_readings}
 use Rattle.cert.specs.declared.verdict.Verdict.{Verdict}
 use Rattle.cert.specs.declared.verdict.Verdict.TheVariants.{Yes, No}
-use Rattle.cert.specs.Certificate.{Certificate}
+use Rattle.cert.specs.Certificate.{Certificate, named_as}
 use Rattle.cert.specs.Verdict.{VerdictOn, IsVerdict, IsYes}
 use Rattle.cert.proofs.OneVerdict.{never_no}
 use Rattle.coder.specs.Certified.{Certifies, identity_of}
@@ -18,4 +18,8 @@ yes who object z session (No reason) g h =
 
 pub returns : goal.returns
 returns c = λ object z all tsi toi every order session verdict lt lu some sent is.
-    yes (identity_of tsi toi) object z session verdict (all tsi toi every order session lt lu some sent) is
+    let both = all tsi toi every order session lt lu some sent in
+    elim is [
+      | inl plain ↦ yes (identity_of tsi toi) object z session verdict both.0 plain
+      | inr named ↦ yes (identity_of tsi toi) object (named_as (identity_of tsi toi) z) session verdict both.1 named
+    ]

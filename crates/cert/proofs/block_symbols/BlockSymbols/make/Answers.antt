@@ -1,5 +1,5 @@
 use Rattle.std.proofs.Common.{arith}
-use Rattle.cert.proofs.GreatestBlock.{few_symbols, most_source, rows_of_block}
+use Rattle.cert.proofs.GreatestBlock.{few_symbols, most_source}
 use Rattle.cert.proofs.block_symbols.BlockSymbols.make.Goals as goal
 
 pub put_symbols-requires-clause-few : goal.put_symbols-requires-clause-few
@@ -7,14 +7,7 @@ put_symbols-requires-clause-few c =
     let few = rw (← c.self.view_is) at c.requires.few in
     few_symbols c.self.inside.certificate.now.fti c.self.invariant.0.valid.fti c.args.count few
 
-pub put_symbols-requires-clause-coefficients :
-    goal.put_symbols-requires-clause-coefficients
-put_symbols-requires-clause-coefficients c =
-    let room = c.self.invariant.1.for_coefficients in
-    rw c.deref_mut-2.ensures.value
-    (omega (arith, room, rows_of_block c.self.inside.certificate.now.fti c.self.invariant.0.valid.fti c.args.block))
-
 pub put_symbols-requires-clause-sums : goal.put_symbols-requires-clause-sums
 put_symbols-requires-clause-sums c = λ many.
     let most = most_source c.self.inside.certificate.now.fti c.self.invariant.0.valid.fti c.args.block in
-    rw c.deref_mut-3.ensures.value (c.self.invariant.1.for_sums (omega (arith, most, many)))
+    rw c.deref_mut-2.ensures.value (c.self.invariant.1 (omega (arith, most, many)))

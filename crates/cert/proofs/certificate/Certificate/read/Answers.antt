@@ -1,7 +1,7 @@
 use Rattle.cert.proofs.Consuming.{coefficients_fault}
 use Rattle.cert.proofs.certificate.Certificate.read.Goals as goal
 
-pub returns-in-Err-read_coefficients-clause-fault : goal.returns-in-Err-read_coefficients-clause-fault
-returns-in-Err-read_coefficients-clause-fault g c =
-    coefficients_fault c.in-Err-read_coefficients.fault _ _ _ c.in-Ok-read_head.fti _ c.in-Ok-read_head.ensures.head c.in-Ok.ensures.bytes
-    (λ e. rw c.coefficients_of.ensures.count at (c.in-Err-read_coefficients.ensures.size e)) c.in-Err-read_coefficients.ensures.fault
+pub returns-in-Err-clause-fault : goal.returns-in-Err-clause-fault
+returns-in-Err-clause-fault g c =
+    coefficients_fault c.in-Err.fault _ _ _ c.in_ok-head.head.name c.in_ok-head.head.fti c.in_ok-head.ensures.valid c.coefficients_of.ensures.valid c.in_ok-head.ensures.ok
+    (λ e. rw c.coefficients_of.ensures.count at (c.in-Err.ensures.size e)) c.in-Err.ensures.fault

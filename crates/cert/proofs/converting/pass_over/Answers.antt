@@ -1,0 +1,14 @@
+use Rattle.std.proofs.Common.{◌≡◌, ◌∙◌, length, take, arith, length-take-le}
+use Rattle.cert.proofs.BlockByBlock.{piece_passed}
+use Rattle.cert.proofs.converting.pass_over.Goals as goal
+
+pub loop-got-preserved : goal.loop-got-preserved
+loop-got-preserved g c =
+    let piece = take c.in-Ok.got c.fill.new.buf in
+    let long : length (take c.in-Ok.got c.fill.new.buf) ≡ c.in-Ok.got = length-take-le c.in-Ok.got c.fill.new.buf (omega (arith, c.in-Ok.ensures.bound, c.fill.auto.buf)) in
+    record {
+      passes =
+          rw long at
+          (piece_passed c.args.count c.loop-got.left _ _ _ piece c.loop-got.invariant.passes c.are_bytes.ensures c.in-Ok.ensures.bytes (omega (arith, long, c.if-got-left.false)));
+      stays = c.in-Ok.ensures.stays ∙ c.loop-got.invariant.stays;
+    }

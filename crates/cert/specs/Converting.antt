@@ -1,0 +1,45 @@
+-- A certificate's file that is given a name, block by block.
+use Rattle.std.specs.Prelude.{◌≡◌, ℕ, ◌<◌, ◌+◌, List, length, Bool, true, false, Option, IfSome}
+use Rattle.std.specs.Io.KnownBytes.{Appends}
+use Rattle.partition.specs.Fti.{Fti}
+use Rattle.reception.specs.declared.scope.Identity.{Identity}
+use Rattle.cert.specs.declared.certificate.CertFault.{CertFault}
+use Rattle.cert.specs.declared.certificate.CertFault.TheVariants.{Magic, Fti as WrongFti, OtherIdentity}
+use Rattle.cert.specs.declared.converting.ConvertFault.{ConvertFault}
+use Rattle.cert.specs.declared.converting.ConvertFault.TheVariants.{Certificate as OfCertificate, Write}
+use Rattle.cert.specs.Certificate.{Certificate, IsCertificate, is_for, named_as, certificate_text, IsCertFault}
+
+-- what was left is the text of a certificate of this FTI, without a name or with this one, and what was written is the text
+-- of the same certificate with this name
+pub record IsConverted (who : Identity) (f : Fti) (left before after : Option (List ℕ)) : Type 0 where
+  pub certificate : Certificate
+  pub form : IsCertificate certificate
+  pub fti : certificate.fti ≡ f
+  pub own : is_for who certificate.name ≡ true
+  pub text : IfSome left (λ x. x ≡ certificate_text certificate)
+  pub gained : Appends before after (certificate_text (named_as who certificate))
+
+-- the text of a certificate with another name
+pub record IsOfOther (who : Identity) (x : List ℕ) : Type 0 where
+  pub certificate : Certificate
+  pub form : IsCertificate certificate
+  pub other : is_for who certificate.name ≡ false
+  pub text : x ≡ certificate_text certificate
+
+-- why a certificate wasn't given the name, by what the reader held before, and whether it has failed
+abbrev pub IsNameFault : CertFault → Identity → Option (List ℕ) → Bool → Type 0
+IsNameFault OtherIdentity who left failed = IfSome left (IsOfOther who)
+IsNameFault fault who left failed = IsCertFault fault left failed
+
+-- Why a file wasn't converted. With a name it is at most twenty bytes longer.
+abbrev pub IsConvertFault : ConvertFault → Identity → Option (List ℕ) → Bool → ℕ → Bool → Type 0
+IsConvertFault (OfCertificate e) who left reader_failed room writer_failed = IsNameFault e who left reader_failed
+IsConvertFault Write who left reader_failed room writer_failed =
+    (writer_failed ≡ true) × IfSome left (λ x. room < length x + 20)
+
+-- what the first bytes tell, or the name
+abbrev pub IsBeforeAll : ConvertFault → Type 0
+IsBeforeAll (OfCertificate Magic) = Unit {0}
+IsBeforeAll (OfCertificate (WrongFti e)) = Unit {0}
+IsBeforeAll (OfCertificate OtherIdentity) = Unit {0}
+IsBeforeAll _ = ⊥

@@ -1,0 +1,108 @@
+-- Rows of coefficients, block after block, and the certificate that they are in the end.
+use Rattle.std.proofs.Common.{◌≡◌, ℕ, ◌+◌, ◌-◌, ◌*◌, List, [], ◌++◌, Option, Some, length, get_or, refl, sym, ap, subst, ◌∙◌, arith, inl, inr, append_assoc, length-append}
+use Rattle.std.proofs.lemmas.Bool.{cases_eq}
+use Rattle.std.proofs.lemmas.List.{append-nil, get_or_append_left, get_or-append_right}
+use Rattle.std.specs.Io.KnownBytes.{Appends}
+use Rattle.lists.specs.Bytes.{AreBytes}
+use Rattle.gf256.proofs.RowPlaces.{rows_apart, row_ends}
+use Rattle.partition.specs.Fti.{Fti, IsValidFti, block_count, source_count, start_of, source_place}
+use Rattle.partition.proofs.Laws.{start_end}
+use Rattle.alc.proofs.Bytes.{AreBytes-append}
+use Rattle.session.specs.Pieces.{AppendsSome}
+use Rattle.session.proofs.Writes.{then_appends, then_some, front_some}
+use Rattle.reception.specs.declared.scope.Identity.{Identity}
+use Rattle.reception.specs.Symbols.{IsObject}
+use Rattle.cert.specs.Certificate.{IsCertificate, unnamed, head_text}
+use Rattle.cert.specs.CoefficientRows.{AreRowsOf}
+use Rattle.cert.specs.Verdict.{GivesObject, GivesBlock}
+use Rattle.cert.proofs.BlockByBlock.{next_start}
+use Rattle.cert.proofs.Flat.{appends_none}
+use Rattle.coder.specs.Certified.{AreFirstRows, BeginsRows, IsCertifiedTo}
+use Rattle.coder.specs.RowsWritten.{RowsGive, WritesRows}
+use Rattle.coder.proofs.SessionReadings.{certifies_sent}
+
+module _ (object : List ℕ) (f : Fti) where
+  pub no_rows : AreFirstRows object f 0 []
+  unfolding start_of
+  no_rows = record { count = (let e : 0 ≡ 0 * f.symbol_length = omega arith in e); bytes = λ i. omega arith; gives = λ b later lt. absurd (omega (arith, lt)) }
+
+  module _ (valid : IsValidFti f) where
+    -- the rows of a block, behind those of the blocks before it
+    next_are : (n : ℕ) (rows block later : List ℕ) → length rows ≡ start_of f n * f.symbol_length → length block ≡ source_count f n * f.symbol_length
+        → AreRowsOf (unnamed f ((rows ++ block) ++ later)) n block
+    next_are n rows block later before long = λ i c li lc.
+        let apart = rows_apart (start_of f n) i f.symbol_length in
+        let ends = row_ends i (source_count f n) f.symbol_length li in
+        let at : ℕ = start_of f n * f.symbol_length in
+        let place : source_place f n i c ≡ start_of f n * f.symbol_length + (i * f.symbol_length + c) = omega (arith, apart) in
+        let back : source_place f n i c - start_of f n * f.symbol_length ≡ i * f.symbol_length + c = omega (arith, apart) in
+        sym (get_or_append_left (rows ++ block) later 0 (source_place f n i c) (omega (arith, place, ends, lc, before, long, length-append rows block))
+        ∙ get_or-append_right rows block at (source_place f n i c) 0 before (omega (arith, place))
+        ∙ ap (λ (p : ℕ). get_or block p 0) back)
+
+    pub next_rows : (n : ℕ) (rows block : List ℕ) → AreFirstRows object f n rows → length block ≡ source_count f n * f.symbol_length → AreBytes block
+        → RowsGive object f n block → AreFirstRows object f (n + 1) (rows ++ block)
+    next_rows n rows block done long bytes give =
+        record {
+          count = omega (arith, next_start f valid n, long, done.count, length-append rows block);
+          bytes = AreBytes-append rows block done.bytes bytes;
+          gives = λ b later lt.
+              elim (cases_eq b n) [
+                | inl e ↦ subst (GivesBlock object (unnamed f ((rows ++ block) ++ later))) (sym e) (give ((rows ++ block) ++ later) (next_are n rows block later done.count long))
+                | inr ne ↦
+                    subst (λ (l : List ℕ). GivesBlock object (unnamed f l) b) (sym (append_assoc rows block later))
+                    (done.gives b (block ++ later) (omega (arith, lt, ne)))
+              ];
+        }
+
+    -- the rows of all blocks
+    pub all_certificate : (rows : List ℕ) → AreFirstRows object f (block_count f) rows → IsCertificate (unnamed f rows)
+    all_certificate rows all = record {
+      fti = valid;
+      name = λ who e. absurd (cc);
+      count = all.count ∙ ap (λ (m : ℕ). m * f.symbol_length) (start_end f valid);
+      bytes = all.bytes;
+    }
+
+    pub all_give : (rows : List ℕ) → AreFirstRows object f (block_count f) rows → GivesObject object (unnamed f rows)
+    all_give rows all = λ b c i hb. subst (λ (l : List ℕ). GivesBlock object (unnamed f l) b) (append-nil rows) (all.gives b [] hb) c i
+
+    pub certified : (who : Identity) (a b c : Option (List ℕ)) → IsObject f object → Appends a b (head_text (Some who) f)
+        → WritesRows object f (block_count f) b c → IsCertifiedTo object f who a c
+    certified who a b c form head all = record {
+      certificate = unnamed f all.rows;
+      form = all_certificate all.rows all.first;
+      fti = refl;
+      name = refl;
+      gives = all_give all.rows all.first;
+      certifies = certifies_sent (unnamed f all.rows) object (all_certificate all.rows all.first) refl form (all_give all.rows all.first);
+      gained = then_appends a b c (head_text (Some who) f) all.rows head all.gained;
+    }
+
+    -- one block more is written
+    module _ (n : ℕ) (block : List ℕ) (a b c : Option (List ℕ)) (done : WritesRows object f n a b)
+        (long : length block ≡ source_count f n * f.symbol_length) (bytes : AreBytes block) (give : RowsGive object f n block) where
+      pub block_written : Appends b c block → WritesRows object f (n + 1) a c
+      block_written more = record {
+        rows = done.rows ++ block;
+        first = next_rows n done.rows block done.first long bytes give;
+        gained = then_appends a b c done.rows block done.gained more;
+      }
+
+      -- or a beginning of it
+      pub block_begun : AppendsSome b c block → BeginsRows object f [] a c
+      block_begun some = record {
+        blocks = n + 1;
+        rows = done.rows ++ block;
+        first = next_rows n done.rows block done.first long bytes give;
+        gained = then_some a b c done.rows block done.gained some;
+      }
+
+  pub none_written : (a : Option (List ℕ)) → WritesRows object f 0 a a
+  none_written a = record { rows = []; first = no_rows; gained = appends_none a }
+
+  pub behind_head : (head : List ℕ) (a b c : Option (List ℕ)) → Appends a b head → BeginsRows object f [] b c → BeginsRows object f head a c
+  behind_head head a b c p q = record { blocks = q.blocks; rows = q.rows; first = q.first; gained = then_some a b c head q.rows p q.gained }
+
+  pub head_begun : (head : List ℕ) (a b : Option (List ℕ)) → AppendsSome a b head → BeginsRows object f head a b
+  head_begun head a b some = record { blocks = 0; rows = []; first = no_rows; gained = front_some a b head [] some }
