@@ -1,4 +1,4 @@
--- The bits of coefficients in groups of four, and sums of sources looked up by them.
+-- The bits of coefficients in groups, and sums of sources looked up by them.
 use Rattle.std.specs.Prelude.{ℕ, ◌≡◌, ◌<◌, ◌-◌, zero, suc, slice_index_or, [], ◌+◌, ◌*◌, ◌/◌, ◌%◌, ◌^◌, ◌==◌, List, cond, slice_index}
 use lib.Dec.{ltb}
 use Rattle.gf256.specs.Arithmetic.{sum_of, doubled}
@@ -8,17 +8,13 @@ use Rattle.gf256.specs.ByteSums.{byte_sum}
 abbrev pub pick : ℕ → ℕ → ℕ
 pick b x = cond (b == 1) x 0
 
--- the sum of those of four whose bit is 1
-abbrev pub pick_four : ℕ → ℕ → ℕ → ℕ → ℕ → ℕ → ℕ → ℕ → ℕ
-pick_four b0 b1 b2 b3 x0 x1 x2 x3 = sum_of (sum_of (pick b0 x0) (pick b1 x1)) (sum_of (pick b2 x2) (pick b3 x3))
-
 -- bit d of c
 abbrev pub bit : ℕ → ℕ → ℕ
 bit d c = (c / 2 ^ d) % 2
 
--- four bits as a number
-abbrev pub nibble : ℕ → ℕ → ℕ → ℕ → ℕ
-nibble b0 b1 b2 b3 = b0 + 2 * b1 + 4 * b2 + 8 * b3
+-- the sum of those of the first n for which the bit of p is 1
+abbrev pub choice_sum : ℕ → ℕ → (ℕ → ℕ) → ℕ
+choice_sum n p f = byte_sum n (λ x. pick (bit x p) (f x))
 
 -- the item, and 0 from place n on
 abbrev pub below : ℕ → ℕ → ℕ → ℕ
@@ -29,35 +25,31 @@ unfoldable pub horner : ℕ → (ℕ → ℕ) → ℕ
 horner zero f = 0
 horner (suc n) f = sum_of (doubled (horner n f)) (f n)
 
--- the table has the sums of the groups below m
-abbrev pub IsFilled : List (List ℕ) → List ℕ → ℕ → ℕ → ℕ → ℕ → ℕ → Type 0
-IsFilled table sources taken groups stride at m = (q b0 b1 b2 b3 t : ℕ) → q < m → b0 < 2 → b1 < 2 → b2 < 2 → b3 < 2 → t < 64
-    → slice_index (slice_index_or table (16 * q + nibble b0 b1 b2 b3) []) t
-    ≡ pick_four b0 b1 b2 b3
-    (below taken q (slice_index sources (q * stride + (at + t))))
-    (below taken (q + groups) (slice_index sources ((q + groups) * stride + (at + t))))
-    (below taken (q + 2 * groups) (slice_index sources ((q + 2 * groups) * stride + (at + t))))
-    (below taken (q + 3 * groups) (slice_index sources ((q + 3 * groups) * stride + (at + t))))
+-- a lane of an entry of a table
+abbrev pub lane : List (List ℕ) → ℕ → ℕ → ℕ
+lane table place t = slice_index (slice_index_or table place []) t
 
--- from a place on there are the bits of a row's coefficients, the highest m bits so far
-abbrev pub IsList : List ℕ → ℕ → List ℕ → ℕ → ℕ → ℕ → ℕ → Type 0
-IsList lists at coefficients row taken groups m = (b q : ℕ) → b < m → q < groups
-    → slice_index lists (at + 16 * b + q)
-    ≡ nibble
-    (bit (7 - b) (below taken q (slice_index coefficients (row + q))))
-    (bit (7 - b) (below taken (q + groups) (slice_index coefficients (row + (q + groups)))))
-    (bit (7 - b) (below taken (q + 2 * groups) (slice_index coefficients (row + (q + 2 * groups)))))
-    (bit (7 - b) (below taken (q + 3 * groups) (slice_index coefficients (row + (q + 3 * groups)))))
+-- the table has the sums of the groups below m, each of as many sources as the size tells
+abbrev pub IsFilled : List (List ℕ) → List ℕ → ℕ → ℕ → ℕ → ℕ → ℕ → ℕ → ℕ → Type 0
+IsFilled table sources taken groups size entries stride at m = (q p t : ℕ) → q < m → p < entries → t < 64
+    → lane table (q * entries + p) t
+    ≡ choice_sum size p (λ x. below taken (q + x * groups) (slice_index sources ((q + x * groups) * stride + (at + t))))
+
+-- from a place on there are the bits of a row's coefficients, the highest m bits so far, each bit a step behind the one above it
+abbrev pub IsList : List ℕ → ℕ → List ℕ → ℕ → ℕ → ℕ → ℕ → ℕ → ℕ → Type 0
+IsList lists at coefficients row taken groups size step m = (b q x : ℕ) → b < m → q < groups → x < size
+    → bit x (slice_index lists (at + b * step + q))
+    ≡ bit (7 - b) (below taken (q + x * groups) (slice_index coefficients (row + (q + x * groups))))
 
 -- a lane of the sum that the list from a place on looks up in the table
-abbrev pub sum_at : List (List ℕ) → List ℕ → ℕ → ℕ → ℕ → ℕ
-sum_at table lists groups at t =
-    horner 8 (λ b. byte_sum groups (λ q. slice_index (slice_index_or table (16 * q + slice_index lists (at + 16 * b + q)) []) t))
+abbrev pub sum_at : List (List ℕ) → List ℕ → ℕ → ℕ → ℕ → ℕ → ℕ → ℕ
+sum_at table lists groups entries step at t =
+    horner 8 (λ b. byte_sum groups (λ q. lane table (q * entries + slice_index lists (at + b * step + q)) t))
 
 -- the same for row r
-abbrev pub tile_sum : List (List ℕ) → List ℕ → ℕ → ℕ → ℕ → ℕ
-tile_sum table lists groups r t = sum_at table lists groups (128 * r) t
+abbrev pub tile_sum : List (List ℕ) → List ℕ → ℕ → ℕ → ℕ → ℕ → ℕ → ℕ
+tile_sum table lists groups entries step r t = sum_at table lists groups entries step (r * (8 * step)) t
 
--- each byte is a number of four bits
-abbrev pub AreSmall : List ℕ → Type 0
-AreSmall lists = (i : ℕ) → slice_index lists i < 16
+-- each byte is below a limit
+abbrev pub AreSmall : List ℕ → ℕ → Type 0
+AreSmall lists limit = (i : ℕ) → slice_index lists i < limit

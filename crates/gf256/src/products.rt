@@ -1,14 +1,14 @@
 //! Rows that are sums of multiples of other rows.
 //!
 //! A product is a sum over the bits of its coefficient, by Horner's rule: from the highest bit down
-//! the sum is doubled, and where the bit is set the source is added. For many outputs the sums of
-//! each choice of four sources are tabled once, 64 columns at a time, so that a bit of four
-//! coefficients is one addition.
+//! the sum is doubled, and where the bit is set the source is added. For several outputs the sums
+//! of each choice of four sources, for many of six, are tabled once, 64 columns at a time, so that a
+//! bit of four or six coefficients is one addition.
 ghost use Rattle.std.specs.Prelude.{◌≡◌, ℕ, ◌<◌, ◌≤◌, ◌+◌, ◌-◌, ◌*◌, ◌/◌, ◌%◌, ◌^◌, List, [], map, length, slice_index, slice_index_or};
 ghost use Rattle.gf256.specs.Arithmetic.{sum_of, product, doubled};
 ghost use Rattle.gf256.specs.Sums.{row_sum};
 ghost use Rattle.gf256.specs.ByteSums.{byte_sum};
-ghost use Rattle.gf256.specs.Slices.{pick_four, nibble, bit, below, horner, IsFilled, IsList, AreSmall, tile_sum, sum_at};
+ghost use Rattle.gf256.specs.Slices.{choice_sum, bit, below, horner, lane, IsFilled, IsList, AreSmall, tile_sum, sum_at};
 ghost use Rattle.std.specs.Simd.Lanes.{zip2};
 
 use crate::gf::Gf;
@@ -18,14 +18,16 @@ use std::simd::prelude::*;
 /// How many columns are summed at a time.
 const LANES: usize = 64;
 
-/// Sources that are taken at a time: 16 groups of four, whose sums fill a table of 16 KiB.
-const MOST_SOURCES: usize = 64;
+/// From so many outputs on, the sums of six sources are faster for any number of sources above
+/// [`ONE_TABLE`], by measurement.
+const MANY_ROWS: usize = 64;
+
+/// The sources of one table of groups of four. Up to here groups of six are slower for some numbers of
+/// sources, as for 12 and fewer, and about as fast for 64, by measurement.
+const ONE_TABLE: usize = 64;
 
 /// Outputs that are made of one table.
-const MOST_ROWS: usize = 32;
-
-/// The bytes of an output's list: for each of 8 bits a number below 16 for each of 16 groups.
-const LIST_BYTES: usize = 128;
+const MOST_ROWS: usize = 128;
 
 #[inline(always)]
 fn sum_lanes(a: u8x64, b: u8x64) -> u8x64
@@ -86,43 +88,6 @@ fn add_lanes(bytes: &mut [u8], at: usize, used: usize, v: u8x64)
     }
 }
 
-// The sums of every choice of two vectors, each with `more`.
-#[inline(always)]
-fn put_four(table: &mut [u8x64; 256], at: usize, a: u8x64, b: u8x64, ab: u8x64, more: u8x64)
-    requires { at + 4 ≤ 256 }
-    ensures none { slice_index_or table.new at [] ≡ more }
-    ensures first { slice_index_or table.new (at + 1) [] ≡ zip2 sum_of a more }
-    ensures second { slice_index_or table.new (at + 2) [] ≡ zip2 sum_of b more }
-    ensures both { slice_index_or table.new (at + 3) [] ≡ zip2 sum_of ab more }
-    ensures below { (p : ℕ) → p < at
-        → slice_index_or table.new p [] ≡ slice_index_or table.old p [] }
-    ensures above { (p : ℕ) → at + 4 ≤ p
-        → slice_index_or table.new p [] ≡ slice_index_or table.old p [] }
-{
-    table[at] = more;
-    table[at + 1] = a ^ more;
-    table[at + 2] = b ^ more;
-    table[at + 3] = ab ^ more;
-}
-
-// The sums of every choice of four vectors.
-#[inline(always)]
-fn put_sums(table: &mut [u8x64; 256], q: usize, s0: u8x64, s1: u8x64, s2: u8x64, s3: u8x64)
-    requires { q < 16 }
-    ensures sums { (b0 b1 b2 b3 t : ℕ) → b0 < 2 → b1 < 2 → b2 < 2 → b3 < 2 → t < 64
-        → slice_index (slice_index_or table.new (16 * q + nibble b0 b1 b2 b3) []) t
-        ≡ pick_four b0 b1 b2 b3
-        (slice_index s0 t) (slice_index s1 t) (slice_index s2 t) (slice_index s3 t) }
-    ensures below { (p : ℕ) → p < 16 * q
-        → slice_index_or table.new p [] ≡ slice_index_or table.old p [] }
-{
-    let s01 = s0 ^ s1;
-    put_four(table, 16 * q, s0, s1, s01, u8x64::splat(0));
-    put_four(table, 16 * q + 4, s0, s1, s01, s2);
-    put_four(table, 16 * q + 8, s0, s1, s01, s3);
-    put_four(table, 16 * q + 12, s0, s1, s01, s2 ^ s3);
-}
-
 // The bytes of source `i` from a column on; zeros if fewer are taken.
 #[inline(always)]
 fn source_lanes(sources: &[u8], i: usize, taken: usize, stride: usize, at: usize) -> u8x64
@@ -137,38 +102,98 @@ fn source_lanes(sources: &[u8], i: usize, taken: usize, stride: usize, at: usize
     lanes_from(sources, i * stride + at)
 }
 
-// The sums of the sources q, q + groups, q + 2 groups and q + 3 groups, for each group q.
+// The entries from a place on once more behind themselves, each with a source added.
 #[inline(always)]
-fn fill_table(
-    table: &mut [u8x64; 256],
+fn put_with(table: &mut [u8x64], at: usize, have: usize, v: u8x64)
+    requires { at + (have + have) ≤ length table.old }
+    ensures with { (p t : ℕ) → p < have → t < 64
+        → lane table.new (at + have + p) t ≡ sum_of (lane table.old (at + p) t) (slice_index v t) }
+    ensures below { (p t : ℕ) → p < at + have → lane table.new p t ≡ lane table.old p t }
+{
+    for p in 0..have {
+        table[at + have + p] = sum_lanes(table[at + p], v);
+    }
+}
+
+// The sums of every choice of the sources q, q + groups, q + 2 groups and so on.
+#[inline(always)]
+fn put_sums(
+    table: &mut [u8x64],
+    place: usize,
     sources: &[u8],
     taken: usize,
+    q: usize,
     groups: usize,
+    size: usize,
     stride: usize,
     at: usize,
 )
     requires reach { (i : ℕ) → i < taken → i * stride + at < 2 ^ 64 }
     requires few { groups ≤ 16 }
-    ensures { IsFilled table.new sources.now taken groups stride at groups }
+    requires inside { q < groups }
+    requires small { size ≤ 6 }
+    requires room { place + 2 ^ size ≤ length table.old }
+    ensures sums { (p t : ℕ) → p < 2 ^ size → t < 64
+        → lane table.new (place + p) t
+        ≡ choice_sum size p (λ x. below taken (q + x * groups)
+        (slice_index sources.now ((q + x * groups) * stride + (at + t)))) }
+    ensures below { (p t : ℕ) → p < place → lane table.new p t ≡ lane table.old p t }
+{
+    table[place] = u8x64::splat(0);
+    let mut have = 1;
+    for x in 0..size {
+        let v = source_lanes(sources, q + x * groups, taken, stride, at);
+        put_with(table, place, have, v);
+        have *= 2;
+    }
+}
+
+// The sums of the sources of each group q.
+#[inline(always)]
+fn fill_table(
+    table: &mut [u8x64],
+    sources: &[u8],
+    taken: usize,
+    groups: usize,
+    size: usize,
+    entries: usize,
+    stride: usize,
+    at: usize,
+)
+    requires reach { (i : ℕ) → i < taken → i * stride + at < 2 ^ 64 }
+    requires few { groups ≤ 16 }
+    requires small { size ≤ 6 }
+    requires entries { entries ≡ 2 ^ size }
+    requires room { groups * entries ≤ length table.old }
+    ensures { IsFilled table.new sources.now taken groups size entries stride at groups }
 {
     for q in 0..groups {
-        let s0 = source_lanes(sources, q, taken, stride, at);
-        let s1 = source_lanes(sources, q + groups, taken, stride, at);
-        let s2 = source_lanes(sources, q + 2 * groups, taken, stride, at);
-        let s3 = source_lanes(sources, q + 3 * groups, taken, stride, at);
-        put_sums(table, q, s0, s1, s2, s3);
+        put_sums(
+            table,
+            q * entries,
+            sources,
+            taken,
+            q,
+            groups,
+            size,
+            stride,
+            at,
+        );
     }
 }
 
 // 16 coefficients of a row; zeros past those that are taken.
 #[inline(always)]
 fn coefficients_from(coefficients: &[u8], row: usize, from: usize, taken: usize) -> u8x16
-    requires near { from ≤ 64 }
+    requires near { from ≤ 128 }
     requires fits { row + 256 < 2 ^ 64 }
     ensures { (i : ℕ) → i < 16
         → slice_index result i
         ≡ below taken (from + i) (slice_index coefficients.now (row + (from + i))) }
 {
+    if from + 16 <= taken && row + from + 16 <= coefficients.len() {
+        return u8x16::from_slice(&coefficients[row + from..]);
+    }
     let mut bytes = [0u8; 16];
     for i in 0..16usize {
         let place = from + i;
@@ -195,17 +220,37 @@ fn with_bit(high: u8x16, low: u8x16) -> u8x16
     high + high + low
 }
 
-// One bit of four coefficients each.
+// One bit of as many coefficients as the size tells, the first one's the lowest.
 #[inline(always)]
-fn nibbles(c0: u8x16, c1: u8x16, c2: u8x16, c3: u8x16, down: u8) -> u8x16
-    requires { down < 8 }
-    ensures { (i : ℕ) → i < 16
-        → slice_index result i
-        ≡ nibble (bit down (slice_index c0 i)) (bit down (slice_index c1 i))
-        (bit down (slice_index c2 i)) (bit down (slice_index c3 i)) }
+fn numbers(parts: &[u8x16; 6], size: usize, down: u8) -> u8x16
+    requires low { down < 8 }
+    requires few { size ≤ 6 }
+    ensures bits { (i x : ℕ) → i < 16 → x < size
+        → bit x (slice_index result i) ≡ bit down (lane parts.now x i) }
+    ensures small { (i : ℕ) → i < 16 → slice_index result i < 2 ^ size }
 {
-    let high = with_bit(bit_of(c3, down), bit_of(c2, down));
-    with_bit(with_bit(high, bit_of(c1, down)), bit_of(c0, down))
+    let mut sum = u8x16::splat(0);
+    for x in 0..size {
+        sum = with_bit(sum, bit_of(parts[size - 1 - x], down));
+    }
+    sum
+}
+
+// The coefficients of the first source of each group, of the second, and so on.
+#[inline(always)]
+fn parts_of(coefficients: &[u8], row: usize, taken: usize, groups: usize, size: usize) -> [u8x16; 6]
+    requires few { groups ≤ 16 }
+    requires small { size ≤ 6 }
+    requires fits { row + 256 < 2 ^ 64 }
+    ensures { (x i : ℕ) → x < size → i < 16
+        → lane result x i
+        ≡ below taken (i + x * groups) (slice_index coefficients.now (row + (i + x * groups))) }
+{
+    let mut parts = [u8x16::splat(0); 6];
+    for x in 0..size {
+        parts[x] = coefficients_from(coefficients, row, x * groups, taken);
+    }
+    parts
 }
 
 #[inline(always)]
@@ -213,54 +258,64 @@ fn put_list(lists: &mut [u8], at: usize, v: u8x16)
     requires { at + 16 ≤ length lists.old }
     ensures within { (q : ℕ) → q < 16 → slice_index lists.new (at + q) ≡ slice_index v q }
     ensures below { (p : ℕ) → p < at → slice_index lists.new p ≡ slice_index lists.old p }
-    ensures small { AreSmall lists.old
-        → ((q : ℕ) → q < 16 → slice_index v q < 16) → AreSmall lists.new }
+    ensures small { (limit : ℕ) → AreSmall lists.old limit
+        → ((q : ℕ) → q < 16 → slice_index v q < limit) → AreSmall lists.new limit }
 {
     v.copy_to_slice(&mut lists[at..]);
 }
 
-// Each bit of the coefficients of each group, the highest bit first.
+// An output's list: each bit of the coefficients of each group, the highest bit first. Each time 16
+// numbers are written, and where fewer are wanted the next ones go over the rest.
 #[inline(always)]
 fn write_list(
-    lists: &mut [u8; 4096],
+    lists: &mut [u8; 16384],
     at: usize,
     coefficients: &[u8],
     row: usize,
     taken: usize,
     groups: usize,
+    size: usize,
+    step: usize,
 )
-    requires room { at + 128 ≤ 4096 }
-    requires few { taken ≤ 64 }
-    requires enough { groups ≤ 16 }
+    requires room { at + 128 ≤ 16384 }
+    requires near { step ≤ 16 }
+    requires enough { groups ≤ step }
+    requires few { size ≤ 6 }
     requires fits { row + 256 < 2 ^ 64 }
-    ensures list { IsList lists.new at coefficients.now row taken groups 8 }
+    ensures list { IsList lists.new at coefficients.now row taken groups size step 8 }
     ensures below { (p : ℕ) → p < at → slice_index lists.new p ≡ slice_index lists.old p }
-    ensures small { AreSmall lists.old → AreSmall lists.new }
+    ensures small { AreSmall lists.old (2 ^ size) → AreSmall lists.new (2 ^ size) }
 {
-    let c0 = coefficients_from(coefficients, row, 0, taken);
-    let c1 = coefficients_from(coefficients, row, groups, taken);
-    let c2 = coefficients_from(coefficients, row, 2 * groups, taken);
-    let c3 = coefficients_from(coefficients, row, 3 * groups, taken);
+    let parts = parts_of(coefficients, row, taken, groups, size);
     for b in 0..8usize {
-        put_list(lists, at + 16 * b, nibbles(c0, c1, c2, c3, 7 - b as u8));
+        put_list(lists, at + b * step, numbers(&parts, size, 7 - b as u8));
     }
 }
 
 // The sum that a list tells, 64 columns of it.
 #[inline(always)]
-fn row_sum(table: &[u8x64; 256], lists: &[u8; 4096], at: usize, groups: usize) -> u8x64
-    requires few { groups ≤ 16 }
-    requires within { at + 128 ≤ 4096 }
-    requires small { AreSmall lists.now }
+fn listed_sum(
+    table: &[u8x64],
+    lists: &[u8; 16384],
+    at: usize,
+    groups: usize,
+    entries: usize,
+    step: usize,
+) -> u8x64
+    requires near { step ≤ 16 }
+    requires few { groups ≤ step }
+    requires room { groups * entries ≤ length table.now }
+    requires within { at + 128 ≤ 16384 }
+    requires small { AreSmall lists.now entries }
     ensures { (t : ℕ) → t < 64
-        → slice_index result t ≡ sum_at table.now lists.now groups at t }
+        → slice_index result t ≡ sum_at table.now lists.now groups entries step at t }
 {
     let mut sum = u8x64::splat(0);
     for b in 0..8usize {
         sum = double_lanes(sum);
-        let row = at + 16 * b;
+        let row = at + b * step;
         for q in 0..groups {
-            sum = sum_lanes(sum, table[16 * q + usize::from(lists[row + q])]);
+            sum = sum_lanes(sum, table[q * entries + usize::from(lists[row + q])]);
         }
     }
     sum
@@ -268,26 +323,30 @@ fn row_sum(table: &[u8x64; 256], lists: &[u8; 4096], at: usize, groups: usize) -
 
 // Adds the sums of one table to the columns from a place on.
 #[inline(always)]
-fn add_tile(
+fn add_listed(
     outputs: &mut [u8],
     rows: usize,
-    table: &[u8x64; 256],
-    lists: &[u8; 4096],
+    table: &[u8x64],
+    lists: &[u8; 16384],
     groups: usize,
+    entries: usize,
+    step: usize,
     width: usize,
     at: usize,
     used: usize,
 )
-    requires few_rows { rows ≤ 32 }
-    requires few { groups ≤ 16 }
+    requires few_rows { rows ≤ 128 }
+    requires near { step ≤ 16 }
+    requires few { groups ≤ step }
     requires narrow { used ≤ 64 }
     requires columns { at + used ≤ width }
     requires room { rows * width ≤ length outputs.old }
-    requires small { AreSmall lists.now }
+    requires table { groups * entries ≤ length table.now }
+    requires small { AreSmall lists.now entries }
     ensures within { (r t : ℕ) → r < rows → t < used
         → slice_index outputs.new (r * width + (at + t))
         ≡ sum_of (slice_index outputs.old (r * width + (at + t)))
-        (tile_sum table.now lists.now groups r t) }
+        (tile_sum table.now lists.now groups entries step r t) }
     ensures before { (r j : ℕ) → r < rows → j < at
         → slice_index outputs.new (r * width + j) ≡ slice_index outputs.old (r * width + j) }
     ensures after { (r j : ℕ) → r < rows → j < width → at + used ≤ j
@@ -296,8 +355,58 @@ fn add_tile(
         → slice_index outputs.new p ≡ slice_index outputs.old p }
 {
     for r in 0..rows {
-        let v = row_sum(table, lists, LIST_BYTES * r, groups);
+        let v = listed_sum(table, lists, r * (8 * step), groups, entries, step);
         add_lanes(outputs, r * width + at, used, v);
+    }
+}
+
+// The same. A loop over numbers that are known is laid out in full: those of whole tables, those of
+// the few sources that levels of values have, and those that 128 or 160 sources leave to the last
+// table of groups of six.
+#[inline(always)]
+fn add_tile(
+    outputs: &mut [u8],
+    rows: usize,
+    table: &[u8x64],
+    lists: &[u8; 16384],
+    groups: usize,
+    entries: usize,
+    step: usize,
+    width: usize,
+    at: usize,
+    used: usize,
+)
+    requires few_rows { rows ≤ 128 }
+    requires near { step ≤ 16 }
+    requires few { groups ≤ step }
+    requires narrow { used ≤ 64 }
+    requires columns { at + used ≤ width }
+    requires room { rows * width ≤ length outputs.old }
+    requires table { groups * entries ≤ length table.now }
+    requires small { AreSmall lists.now entries }
+    ensures within { (r t : ℕ) → r < rows → t < used
+        → slice_index outputs.new (r * width + (at + t))
+        ≡ sum_of (slice_index outputs.old (r * width + (at + t)))
+        (tile_sum table.now lists.now groups entries step r t) }
+    ensures before { (r j : ℕ) → r < rows → j < at
+        → slice_index outputs.new (r * width + j) ≡ slice_index outputs.old (r * width + j) }
+    ensures after { (r j : ℕ) → r < rows → j < width → at + used ≤ j
+        → slice_index outputs.new (r * width + j) ≡ slice_index outputs.old (r * width + j) }
+    ensures above { (p : ℕ) → rows * width ≤ p
+        → slice_index outputs.new p ≡ slice_index outputs.old p }
+{
+    match (groups, entries, step) {
+        (16, 16, 16) => add_listed(outputs, rows, table, lists, 16, 16, 16, width, at, used),
+        (8, 16, 16) => add_listed(outputs, rows, table, lists, 8, 16, 16, width, at, used),
+        (4, 16, 16) => add_listed(outputs, rows, table, lists, 4, 16, 16, width, at, used),
+        (3, 16, 16) => add_listed(outputs, rows, table, lists, 3, 16, 16, width, at, used),
+        (2, 16, 16) => add_listed(outputs, rows, table, lists, 2, 16, 16, width, at, used),
+        (8, 64, 8) => add_listed(outputs, rows, table, lists, 8, 64, 8, width, at, used),
+        (6, 64, 8) => add_listed(outputs, rows, table, lists, 6, 64, 8, width, at, used),
+        (3, 64, 8) => add_listed(outputs, rows, table, lists, 3, 64, 8, width, at, used),
+        _ => add_listed(
+            outputs, rows, table, lists, groups, entries, step, width, at, used,
+        ),
     }
 }
 
@@ -312,9 +421,19 @@ fn add_some(
     taken: usize,
     stride: usize,
     width: usize,
+    table: &mut [u8x64],
+    groups: usize,
+    size: usize,
+    entries: usize,
+    step: usize,
 )
-    requires few_rows { rows ≤ 32 }
-    requires few { taken ≤ 64 }
+    requires few_rows { rows ≤ 128 }
+    requires enough { taken ≤ size * groups }
+    requires near { step ≤ 16 }
+    requires groups { groups ≤ step }
+    requires size { size ≤ 6 }
+    requires entries { entries ≡ 2 ^ size }
+    requires table { groups * entries ≤ length table.old }
     requires inside { first + taken ≤ count }
     requires coefficients { rows * count ≤ length coefficients.now }
     requires room { rows * width ≤ length outputs.old }
@@ -327,18 +446,27 @@ fn add_some(
     ensures above { (p : ℕ) → rows * width ≤ p
         → slice_index outputs.new p ≡ slice_index outputs.old p }
 {
-    let groups = taken.div_ceil(4);
-    let mut lists = [0u8; 4096];
+    let mut lists = [0u8; 16384];
     for r in 0..rows {
         let row = r * count + first;
-        write_list(&mut lists, LIST_BYTES * r, coefficients, row, taken, groups);
+        write_list(
+            &mut lists,
+            r * (8 * step),
+            coefficients,
+            row,
+            taken,
+            groups,
+            size,
+            step,
+        );
     }
-    let mut table = [u8x64::splat(0); 256];
     for t in 0..width.div_ceil(LANES) {
         let at = LANES * t;
-        fill_table(&mut table, sources, taken, groups, stride, at);
+        fill_table(table, sources, taken, groups, size, entries, stride, at);
         let used = LANES.min(width - at);
-        add_tile(outputs, rows, &table, &lists, groups, width, at, used);
+        add_tile(
+            outputs, rows, table, &lists, groups, entries, step, width, at, used,
+        );
     }
 }
 
@@ -353,8 +481,18 @@ fn add_rows(
     taken: usize,
     stride: usize,
     width: usize,
+    table: &mut [u8x64],
+    groups: usize,
+    size: usize,
+    entries: usize,
+    step: usize,
 )
-    requires few { taken ≤ 64 }
+    requires enough { taken ≤ size * groups }
+    requires near { step ≤ 16 }
+    requires groups { groups ≤ step }
+    requires size { size ≤ 6 }
+    requires entries { entries ≡ 2 ^ size }
+    requires table { groups * entries ≤ length table.old }
     requires inside { first + taken ≤ count }
     requires room { length outputs.old ≡ rows * width }
     requires coefficients { length coefficients.now ≡ rows * count }
@@ -378,12 +516,72 @@ fn add_rows(
             taken,
             stride,
             width,
+            table,
+            groups,
+            size,
+            entries,
+            step,
         );
         row += some;
     }
 }
 
-// The same for any rows, by tables of sums.
+// The same for any sources.
+fn add_by_groups(
+    outputs: &mut [u8],
+    rows: usize,
+    coefficients: &[u8],
+    sources: &[u8],
+    count: usize,
+    stride: usize,
+    width: usize,
+    table: &mut [u8x64],
+    most: usize,
+    size: usize,
+    entries: usize,
+)
+    requires some { 0 < most }
+    requires groups { most ≤ 16 }
+    requires size { size ≤ 6 }
+    requires one { 0 < size }
+    requires entries { entries ≡ 2 ^ size }
+    requires table { most * entries ≤ length table.old }
+    requires outputs { length outputs.old ≡ rows * width }
+    requires coefficients { length coefficients.now ≡ rows * count }
+    requires reach { count * stride + width < 2 ^ 64 }
+    ensures { (r j : ℕ) → r < rows → j < width
+        → slice_index outputs.new (r * width + j)
+        ≡ sum_of (slice_index outputs.old (r * width + j))
+        (byte_sum count (λ i. product (slice_index coefficients.now (r * count + i))
+        (slice_index sources.now (i * stride + j)))) }
+{
+    let mut first = 0;
+    while first < count {
+        let groups = most.min((count - first - 1) / size + 1);
+        let taken = (size * groups).min(count - first);
+        let from = (first * stride).min(sources.len());
+        add_rows(
+            outputs,
+            rows,
+            coefficients,
+            count,
+            first,
+            &sources[from..],
+            taken,
+            stride,
+            width,
+            table,
+            groups,
+            size,
+            entries,
+            most,
+        );
+        first += taken;
+    }
+}
+
+// The same by tables of sums: of six sources each where many outputs share a table, and groups of
+// four would need more than one.
 fn add_by_tables(
     outputs: &mut [u8],
     rows: usize,
@@ -402,22 +600,36 @@ fn add_by_tables(
         (byte_sum count (λ i. product (slice_index coefficients.now (r * count + i))
         (slice_index sources.now (i * stride + j)))) }
 {
-    let mut first = 0;
-    while first < count {
-        let taken = MOST_SOURCES.min(count - first);
-        let from = (first * stride).min(sources.len());
-        add_rows(
+    if rows < MANY_ROWS || count <= ONE_TABLE {
+        let mut table = [u8x64::splat(0); 256];
+        add_by_groups(
             outputs,
             rows,
             coefficients,
+            sources,
             count,
-            first,
-            &sources[from..],
-            taken,
             stride,
             width,
+            &mut table,
+            16,
+            4,
+            16,
         );
-        first += taken;
+    } else {
+        let mut table = [u8x64::splat(0); 512];
+        add_by_groups(
+            outputs,
+            rows,
+            coefficients,
+            sources,
+            count,
+            stride,
+            width,
+            &mut table,
+            8,
+            6,
+            64,
+        );
     }
 }
 

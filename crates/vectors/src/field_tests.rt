@@ -106,6 +106,40 @@ fn adds_a_scaled_row_of_blocks(rt: HostRuntime) {
     assert_eq!(rt; bytes, sums);
 }
 
+// Whether the front of a row of elements gains what a row of the same bytes does, and the rest of it stays.
+fn adds_elements_as_bytes(length: usize) -> bool
+    requires { length ≤ 300 }
+{
+    let mut bytes = [0u8; 300];
+    let mut other_bytes = [0u8; 300];
+    let mut elements = [Gf(0); 300];
+    let mut other_elements = [Gf(0); 300];
+    let row = &mut elements[..];
+    let other = &mut other_elements[..];
+    for i in 0..300usize {
+        bytes[i] = (i % 251) as u8;
+        row[i] = Gf((i % 251) as u8);
+        other_bytes[i] = (i % 253) as u8;
+        other[i] = Gf((i % 253) as u8);
+    }
+    add_scaled(&mut bytes[..length], Gf(0xF4), &other_bytes[..length]);
+    Gf::add_scaled_row(&mut row[..length], Gf(0xF4), &other[..length]);
+    for i in 0..300usize {
+        if row[i] != Gf(bytes[i]) {
+            return false;
+        }
+    }
+    true
+}
+
+// At each length from which on rows of elements are added otherwise.
+#[test]
+fn adds_a_scaled_row_of_elements(rt: HostRuntime) {
+    for length in [0, 1, 31, 32, 33, 63, 64, 255, 256, 257, 300] {
+        assert!(rt; adds_elements_as_bytes(length), "length {length}");
+    }
+}
+
 // Whether the front of a row gains the products of the definition, whatever the element, and the rest of
 // it stays.
 fn scales_as_defined(length: usize) -> bool

@@ -3,30 +3,35 @@ use Rattle.std.proofs.lemmas.Bool.{cases_lt}
 use Rattle.std.proofs.lemmas.List.{get_or_past}
 use Rattle.std.proofs.lemmas.Simd.{get_or-replicate, length-replicate}
 use Rattle.gf256.specs.Arithmetic.{product}
-use Rattle.gf256.specs.Slices.{tile_sum}
+use Rattle.std.proofs.lemmas.Nat.{pow_pos}
+use Rattle.gf256.specs.Slices.{bit, tile_sum}
 use Rattle.gf256.proofs.Tiles.{tile_value}
+use Rattle.gf256.proofs.RowPlaces.{row_ends}
 use Rattle.gf256.proofs.SliceSums.{sum_same}
 use Rattle.gf256.proofs.products.add_some.Goals as goal
 
-zero_small : (k : ℕ) → k ≡ 0 → k < 16
-zero_small k e = omega arith
+zero_small : (limit k : ℕ) → 0 < limit → k ≡ 0 → k < limit
+zero_small limit k h e = omega arith
 
-zeros_small : (n i : ℕ) → get_or (replicate {A = ℕ} n 0) i 0 < 16
-zeros_small n i = elim (cases_lt i n) [
-  | inl l ↦ zero_small _ (get_or-replicate {A = ℕ} n i 0 0 l)
-  | inr g ↦ zero_small _ (get_or_past (replicate {A = ℕ} n 0) i 0 (omega (arith, length-replicate {A = ℕ} n 0)))
+zeros_small : (limit n i : ℕ) → 0 < limit → get_or (replicate {A = ℕ} n 0) i 0 < limit
+zeros_small limit n i h = elim (cases_lt i n) [
+  | inl l ↦ zero_small limit _ h (get_or-replicate {A = ℕ} n i 0 0 l)
+  | inr g ↦ zero_small limit _ h (get_or_past (replicate {A = ℕ} n 0) i 0 (omega (arith, length-replicate {A = ℕ} n 0)))
 ]
 
 pub loop-r-init : goal.loop-r-init
-loop-r-init c = ((λ r lr. absurd (omega arith)), zeros_small 4096)
+loop-r-init c = ((λ r lr. absurd (omega arith)), (λ i. zeros_small c.args.entries 16384 i (let some = pow_pos c.args.size in omega arith)))
 
 pub loop-r-preserved : goal.loop-r-preserved
 loop-r-preserved c = (
   (λ r lr. elim (cases_lt r c.loop-r.r) [
-    | inl l ↦ λ b q lb lq. c.write_list.ensures.below (128 * r + 16 * b + q) (omega arith) ∙ c.loop-r.invariant.0 r l b q lb lq
+    | inl l ↦ λ b q x lb lq lx.
+        let list = row_ends r c.loop-r.r (8 * c.args.step) l in
+        let ends = row_ends b 8 c.args.step lb in
+        ap (bit x) (c.write_list.ensures.below (r * (8 * c.args.step) + b * c.args.step + q) (omega arith)) ∙ c.loop-r.invariant.0 r l b q x lb lq lx
     | inr g ↦ let e : r ≡ c.loop-r.r = omega arith in rw e c.write_list.ensures.list
   ]),
-  c.write_list.ensures.small c.loop-r.invariant.1,
+  (λ i. let small = c.write_list.ensures.small (λ j. let old = c.loop-r.invariant.1 j in omega arith) i in omega arith),
 )
 
 pub loop-t-preserved : goal.loop-t-preserved
@@ -37,14 +42,14 @@ loop-t-preserved c = record {
         let e : 64 * c.loop-t.t + (j - 64 * c.loop-t.t) ≡ j = omega arith in
         let t : ℕ = j - 64 * c.loop-t.t in
         let lane : j - 64 * c.loop-t.t < 64 = omega arith in
-        let groups : ℕ = c.div_ceil-groups.result in
+        let groups : ℕ = c.args.groups in
         let old : ℕ = get_or c.args.outputs.now (r * c.args.width + j) 0 in
-        let sum : ℕ = tile_sum c.fill_table.new.table c.loop-r.lists groups r t in
+        let sum : ℕ = tile_sum c.fill_table.new.table c.loop-r.lists groups c.args.entries c.args.step r t in
         ap (λ p. get_or c.add_tile.new.outputs (r * c.args.width + p) 0) (sym e)
         ∙ c.add_tile.ensures.within r t lr (omega arith)
         ∙ ap (λ v. bit_xor v sum) (ap (λ p. get_or c.loop-t.outputs (r * c.args.width + p) 0) e ∙ c.loop-t.invariant.left r j lr lj g)
-        ∙ ap (bit_xor old) (tile_value c.fill_table.new.table c.loop-r.lists c.args.coefficients.now c.args.sources.now c.args.taken groups c.args.stride (64 * c.loop-t.t) (r * c.args.count + c.args.first) r t
-        (omega arith) (λ i. (c.type_inv.sources i).fits) lane c.fill_table.ensures (c.loop-r.invariant.0 r (omega arith))
+        ∙ ap (bit_xor old) (tile_value c.fill_table.new.table c.loop-r.lists c.args.coefficients.now c.args.sources.now c.args.taken groups c.args.size c.args.entries c.args.step c.args.stride (64 * c.loop-t.t) (r * c.args.count + c.args.first) r t
+        (omega arith) (λ i. (c.type_inv.sources i).fits) lane c.loop-r.invariant.1 c.fill_table.ensures (c.loop-r.invariant.0 r (omega arith))
         ∙ sum_same c.args.taken _ _ (λ i h. ap (λ p. product (get_or c.args.coefficients.now (r * c.args.count + c.args.first + i) 0) (get_or c.args.sources.now (i * c.args.stride + p) 0)) e))
   ];
   left = λ r j lr lj le. c.add_tile.ensures.after r j lr lj (omega arith) ∙ c.loop-t.invariant.left r j lr lj (omega arith);

@@ -4,7 +4,7 @@ use Rattle.gf256.specs.Arithmetic.{product}
 use Rattle.gf256.specs.ByteSums.{byte_sum}
 use Rattle.gf256.proofs.SliceSums.{sum_same, sum_parts}
 use Rattle.gf256.proofs.RowPlaces.{rows_apart, rows_fit, part_byte}
-use Rattle.gf256.proofs.products.add_by_tables.Goals as goal
+use Rattle.gf256.proofs.products.add_by_groups.Goals as goal
 
 pub loop-first-init : goal.loop-first-init
 loop-first-init c = record { inside = omega arith; sums = λ r j lr lj. sym (xor_zero_r _) }

@@ -1,0 +1,6 @@
+use Rattle.std.proofs.Common.{arith}
+use Rattle.gf256.proofs.RowLoop.{whole_copy}
+use Rattle.gf256.proofs.elements.from_bytes.Goals as goal
+
+pub returns : goal.returns
+returns c = whole_copy c.args.bytes.now c.loop-i.i c.loop-i.elements (omega arith) (omega arith) c.loop-i.invariant

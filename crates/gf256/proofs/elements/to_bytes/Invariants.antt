@@ -1,0 +1,5 @@
+use Rattle.gf256.proofs.RowLoop.{IsCopiedTo}
+use Rattle.gf256.proofs.elements.to_bytes.Given as goal
+
+abbrev pub invariant-loop-i : goal.invariant-loop-i
+invariant-loop-i l = IsCopiedTo l.elements l.i l.bytes
