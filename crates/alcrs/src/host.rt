@@ -175,6 +175,15 @@ impl<R: Files> Folder for HostFolder<'_, R> {
         }
     }
 
+    // A device or a pipe doesn't tell its length, nor does a file of the system's own, whose bytes are made as they are
+    // read and which calls itself empty.
+    fn length_of(&self, input: &Device<BufReader<R::File>>) -> Option<u64> {
+        match input.get_ref().get_ref().metadata() {
+            Ok(there) if there.is_file() && there.len() > 0 => Some(there.len()),
+            _ => None,
+        }
+    }
+
     fn create_file(&mut self, name: &str) -> Result<HostOutput<R::File>, FileFault> {
         let (file, part) = create(self.rt, self.alloc, name)?;
         match BufWriter::with_capacity(self.alloc, BUFFER_SIZE, file) {

@@ -39,7 +39,7 @@ module _ (f : Fti) (object : List ℕ) (b : ℕ) (g : Grid ℕ) (code : IsCodeOf
 
   pub source_row : (from : List ℕ) (r : ℕ) → r < m → first + m ≤ source_count f b
       → ((p : ℕ) → p < length s → get_or s p 0 ≡ get_or from p 0)
-      → ((i c : ℕ) → get_or from (i * f.symbol_length + c) 0 ≡ source_byte f object b (first + i) c)
+      → ((i c : ℕ) → i < m → c < f.symbol_length → get_or from (i * f.symbol_length + c) 0 ≡ source_byte f object b (first + i) c)
       → Agrees f object (record { block = b; esi = first + r; bytes = row_at f.symbol_length (s ++ rest) r })
   source_row from r lr within copied is =
       let ends = row_ends r m f.symbol_length lr in
@@ -49,7 +49,7 @@ module _ (f : Fti) (object : List ℕ) (b : ℕ) (g : Grid ℕ) (code : IsCodeOf
       let inside : r * f.symbol_length + c < length s = omega (arith, front, ends, hc) in
       get_or-row_at f.symbol_length (s ++ rest) r c hc
       ∙ get_or_append_left s rest 0 (r * f.symbol_length + c) inside
-      ∙ copied (r * f.symbol_length + c) inside ∙ is r c)
+      ∙ copied (r * f.symbol_length + c) inside ∙ is r c lr hc)
 
   pub repair_row : (columns part : List ℕ) (r : ℕ) → m ≤ r → r < count → first + count ≤ encoding_count f b → AreBytes columns → AreColumns g columns
       → ((i : ℕ) → i < source_count f b → get_or part ((r - m) * source_count f b + i) 0 ≡ get_or columns ((first + r) * source_count f b + i) 0)

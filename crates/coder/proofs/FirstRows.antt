@@ -1,7 +1,8 @@
 -- Rows of coefficients, block after block, and the certificate that they are in the end.
+use Rattle.std.specs.Prelude.{Result, Ok, Err, OnOk, OnErr}
 use Rattle.std.proofs.Common.{◌≡◌, ℕ, ◌+◌, ◌-◌, ◌*◌, List, [], ◌++◌, Option, Some, length, get_or, refl, sym, ap, subst, ◌∙◌, arith, inl, inr, append_assoc, length-append}
 use Rattle.std.proofs.lemmas.Bool.{cases_eq}
-use Rattle.std.proofs.lemmas.List.{append-nil, get_or_append_left, get_or-append_right}
+use Rattle.std.proofs.lemmas.List.{append-nil, take_all, get_or_append_left, get_or-append_right}
 use Rattle.std.specs.Io.KnownBytes.{Appends}
 use Rattle.lists.specs.Bytes.{AreBytes}
 use Rattle.gf256.proofs.RowPlaces.{rows_apart, row_ends}
@@ -18,8 +19,17 @@ use Rattle.cert.specs.Verdict.{GivesObject, GivesBlock}
 use Rattle.cert.proofs.BlockByBlock.{next_start}
 use Rattle.cert.proofs.Flat.{appends_none}
 use Rattle.coder.specs.Certified.{AreFirstRows, BeginsRows, IsCertifiedTo}
-use Rattle.coder.specs.RowsWritten.{RowsGive, WritesRows}
+use Rattle.coder.specs.RowsWritten.{RowsGive, WritesRows, WritesBlock, BeginsBlock}
 use Rattle.coder.proofs.SessionReadings.{certifies_sent}
+
+-- what a result tells, put in other words
+pub to_ok : {T E A B : Type 0} (r : Result T E) → (A → B) → OnOk r A → OnOk r B
+to_ok (Ok x) g h = g h
+to_ok (Err e) g h = tt
+
+pub to_err : {T E A B : Type 0} (r : Result T E) → (A → B) → OnErr r A → OnErr r B
+to_err (Ok x) g h = tt
+to_err (Err e) g h = g h
 
 module _ (object : List ℕ) (f : Fti) where
   pub no_rows : AreFirstRows object f 0 []
@@ -80,22 +90,21 @@ module _ (object : List ℕ) (f : Fti) where
     }
 
     -- one block more is written
-    module _ (n : ℕ) (block : List ℕ) (a b c : Option (List ℕ)) (done : WritesRows object f n a b)
-        (long : length block ≡ source_count f n * f.symbol_length) (bytes : AreBytes block) (give : RowsGive object f n block) where
-      pub block_written : Appends b c block → WritesRows object f (n + 1) a c
+    module _ (n : ℕ) (a b c : Option (List ℕ)) (done : WritesRows object f n a b) where
+      pub block_written : WritesBlock object f n b c → WritesRows object f (n + 1) a c
       block_written more = record {
-        rows = done.rows ++ block;
-        first = next_rows n done.rows block done.first long bytes give;
-        gained = then_appends a b c done.rows block done.gained more;
+        rows = done.rows ++ more.rows;
+        first = next_rows n done.rows more.rows done.first more.are.count more.are.bytes more.are.gives;
+        gained = then_appends a b c done.rows more.rows done.gained more.gained;
       }
 
       -- or a beginning of it
-      pub block_begun : AppendsSome b c block → BeginsRows object f [] a c
+      pub block_begun : BeginsBlock object f n b c → BeginsRows object f [] a c
       block_begun some = record {
         blocks = n + 1;
-        rows = done.rows ++ block;
-        first = next_rows n done.rows block done.first long bytes give;
-        gained = then_some a b c done.rows block done.gained some;
+        rows = done.rows ++ some.rows;
+        first = next_rows n done.rows some.rows done.first some.are.count some.are.bytes some.are.gives;
+        gained = then_some a b c done.rows some.rows done.gained some.gained;
       }
 
   pub none_written : (a : Option (List ℕ)) → WritesRows object f 0 a a
@@ -106,3 +115,12 @@ module _ (object : List ℕ) (f : Fti) where
 
   pub head_begun : (head : List ℕ) (a b : Option (List ℕ)) → AppendsSome a b head → BeginsRows object f head a b
   head_begun head a b some = record { blocks = 0; rows = []; first = no_rows; gained = front_some a b head [] some }
+
+-- all of the first rows were written
+pub rows_begun : (object : List ℕ) (f : Fti) (n : ℕ) (a b : Option (List ℕ)) → WritesRows object f n a b → BeginsRows object f [] a b
+rows_begun object f n a b done = record {
+  blocks = n;
+  rows = done.rows;
+  first = done.first;
+  gained = (length done.rows, rw (take_all (length done.rows) done.rows (omega arith)) done.gained);
+}

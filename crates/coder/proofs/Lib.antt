@@ -7,3 +7,5 @@ pub mod FirstRows
 pub mod SessionReadings
 pub mod SourcePlaces
 mod Vectors
+pub mod ObjectBlocks
+pub mod CertificateRead

@@ -2,7 +2,7 @@
 use Rattle.std.proofs.Common.{◌≡◌, ℕ, zero, suc, ◌+◌, ◌-◌, ◌<◌, ◌≤◌, List, [], ◌∷◌, ◌++◌, Option, Some, None, length, map, arith, refl, ap, sym, subst, ◌∙◌, append_assoc, length-append, true, false, Result, Ok, Err}
 use Rattle.std.specs.Prelude.{OnErr, flat_map, nat_lt}
 use Rattle.std.proofs.lemmas.Bool.{lt-ltb, le-ltb}
-use Rattle.std.proofs.lemmas.List.{append-nil, map-append, length-map}
+use Rattle.std.proofs.lemmas.List.{append-nil, take_all, map-append, length-map}
 use Rattle.std.proofs.lemmas.List.Sums.{sum_by-append}
 use Rattle.std.proofs.lemmas.Grind.{flat_map-append}
 use Rattle.std.specs.Io.KnownBytes.{Appends}
@@ -121,6 +121,18 @@ module _ (object : List ℕ) (f : Fti) (t u every : ℕ) where
     sent = h.sent;
     gained = h.gained;
   }
+
+-- a beginning that is whole by itself
+pub sent_some : (object : List ℕ) (f : Fti) (t u every i : ℕ) (ps later whole : List (ℕ × ℕ)) (a b : Option (List ℕ)) → whole ≡ ps ++ later
+    → Sends object f t u every (items_from i ps) a b → SendsSome object f t u every (items_from i whole) a b
+sent_some object f t u every i ps later whole a b is h = record {
+  front = items_from i ps;
+  later = items_from (i + length ps) later;
+  whole = ap (items_from i) is ∙ items_append i ps later;
+  datagrams = h.datagrams;
+  sent = h.sent;
+  gained = (length (frames h.datagrams), rw (take_all (length (frames h.datagrams)) (frames h.datagrams) (omega arith)) h.gained);
+}
 
 pub if_err : {T E : Type 0} (r : Result T E) (X : Type 0) → X → OnErr r X
 if_err (Ok x) X h = tt

@@ -3,3 +3,7 @@ pub mod Passes
 pub mod Rows
 pub mod Certified
 pub mod RowsWritten
+pub mod ObjectRead
+pub mod BlocksRead
+pub mod CertifiedFrom
+pub mod SentFrom

@@ -1,9 +1,12 @@
 -- Sending by passes over the blocks: one pass in order Blocks, one for each ESI in order Rounds.
-use Rattle.std.specs.Prelude.{ℕ, ◌+◌, List, map, flat_map}
+use Rattle.std.specs.Prelude.{◌≡◌, ℕ, ◌+◌, Bool, true, Option, List, map, flat_map}
 use Rattle.lists.specs.Below.{below}
 use Rattle.partition.specs.Fti.{Fti, block_count, encoding_count}
 use Rattle.partition.specs.declared.order.Order.{Order}
 use Rattle.partition.specs.declared.order.Order.TheVariants.{Blocks, Rounds}
+use Rattle.coder.specs.declared.sending_from.SendFromFault.{SendFromFault}
+use Rattle.coder.specs.declared.sending_from.SendFromFault.TheVariants.{Object, SymbolTooLong, Write, NoMemory}
+use Rattle.coder.specs.ObjectRead.{IsObjectFault}
 use Rattle.coder.specs.Sending.{pairs_of_block, pair_with}
 
 -- so many encoding symbols of a block, from an ESI on
@@ -28,3 +31,10 @@ passes Rounds f = f.max_symbols
 abbrev pub at_once : Order → Fti → ℕ
 at_once Blocks f = encoding_count f 0
 at_once Rounds f = 1
+
+-- why the encoding symbols of the blocks that a reader had weren't all sent
+abbrev pub IsBlocksFault : SendFromFault → Fti → Option (List ℕ) → Bool → Bool → Bool → Type 0
+IsBlocksFault (Object e) f left sound reader_failed writer_failed = IsObjectFault e f left sound reader_failed
+IsBlocksFault Write f left sound reader_failed writer_failed = writer_failed ≡ true
+IsBlocksFault SymbolTooLong f left sound reader_failed writer_failed = ⊥
+IsBlocksFault NoMemory f left sound reader_failed writer_failed = ⊥

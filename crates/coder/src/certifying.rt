@@ -1,5 +1,5 @@
 //! The certificate of an object: the polynomial of each byte column of each block.
-ghost use Rattle.std.specs.Prelude.{◌≡◌, ◌<◌, ◌+◌, ◌*◌, ℕ, [], true, Some, None, IfOk, IfErr, OnOk, OnErr, length, slice_index};
+ghost use Rattle.std.specs.Prelude.{◌≡◌, ◌<◌, ◌≤◌, ◌+◌, ◌*◌, ℕ, List, [], true, Some, None, IfOk, IfErr, OnOk, OnErr, length, slice_index};
 ghost use Rattle.lists.specs.Bytes.{AreBytes};
 ghost use Rattle.partition.specs.Fti.{block_count, source_count, start_of};
 ghost use Rattle.cert.specs.Certificate.{IsIdentity, coefficient_count, unnamed, head_text};
@@ -7,9 +7,10 @@ ghost use Rattle.cert.specs.Verdict.{GivesObject, GivesBlock};
 ghost use Rattle.block_code.specs.Codes.{EachBlockHas};
 ghost use Rattle.block_code.specs.CodesOf.{IsInterpolatorOf};
 ghost use Rattle.coder.specs.Certified.{CertifiesSent, BeginsRows, IsCertifiedTo, IsCertifyFault, IsCertifyToFault};
-ghost use Rattle.coder.specs.RowsWritten.{RowsGive, WritesRows};
+ghost use Rattle.coder.specs.Rows.{AreSourcesOf};
+ghost use Rattle.coder.specs.RowsWritten.{RowsGive, WritesRows, WritesBlock, BeginsBlock};
 
-use crate::rows::combine;
+use crate::rows::{block_of, combine};
 use block_code::{BlockCodes, Code, Kind};
 use cert::{Certificate, write_head};
 use lists::are_bytes;
@@ -47,17 +48,18 @@ fn interpolators(alloc: Global, object: &[u8], fti: &Fti) -> Result<BlockCodes, 
     }
 }
 
-// Makes a block's rows of coefficients, from the constant ones on, by the columns of the matrix that
-// makes them of its source symbols.
-fn certify_block(object: &[u8], fti: &Fti, b: u32, interpolator: &Code, rows: &mut [u8])
+// Makes a block's rows of coefficients of its source symbols, from the constant ones on, by the columns
+// of the matrix that makes them.
+fn certify_block(sources: &[u8], fti: &Fti, b: u32, interpolator: &Code, rows: &mut [u8])
     requires block { b < block_count fti.now }
     requires interpolator { IsInterpolatorOf fti.now b interpolator.now.matrix }
     requires room { length rows.old ≡ source_count fti.now b * fti.now.symbol_length }
     ensures len { length rows.new ≡ length rows.old }
     ensures bytes { AreBytes rows.new }
-    ensures gives { RowsGive object.now fti.now b rows.new }
+    ensures gives { (object : List ℕ) → AreBytes object
+        → AreSourcesOf fti.now object b sources.now → RowsGive object fti.now b rows.new }
 {
-    combine(object, fti, b, &interpolator.columns, fti.k(b), rows);
+    combine(sources, fti, b, &interpolator.columns, fti.k(b), rows);
     are_bytes(rows);
 }
 
@@ -74,7 +76,7 @@ fn put_block(object: &[u8], fti: &Fti, b: u32, interpolator: &Code, coefficients
     let size = usize::from(fti.symbol_length());
     let from = fti.start(b) as usize * size;
     let rows = &mut coefficients[from..from + fti.k(b) * size];
-    certify_block(object, fti, b, interpolator, rows);
+    certify_block(block_of(object, fti, b), fti, b, interpolator, rows);
 }
 
 // Puts the coefficients of all blocks at their places.
@@ -113,6 +115,37 @@ pub fn certify(alloc: Global, object: &[u8], fti: &Fti) -> Result<Certificate, C
     }
 }
 
+/// Makes a block's rows of coefficients of its source symbols, and writes them. `rows` has room for
+/// those of the greatest block.
+pub(crate) fn write_block<W: Write>(
+    sources: &[u8],
+    fti: &Fti,
+    b: u32,
+    interpolators: &BlockCodes,
+    rows: &mut [u8],
+    writer: &mut W,
+) -> Result<(), Failed>
+    requires block { b < block_count fti.now }
+    requires interpolators { EachBlockHas (IsInterpolatorOf fti.now) fti.now interpolators.now }
+    requires room { length rows.old ≡ source_count fti.now 0 * fti.now.symbol_length }
+    ensures ok { (object : List ℕ) → AreBytes object → AreSourcesOf fti.now object b sources.now
+        → OnOk result (WritesBlock object fti.now b
+        (W.contents writer.old) (W.contents writer.new)) }
+    ensures err { (object : List ℕ) → AreBytes object → AreSourcesOf fti.now object b sources.now
+        → OnErr result (BeginsBlock object fti.now b
+        (W.contents writer.old) (W.contents writer.new)) }
+    ensures fails { OnErr result (W.failed writer.new ≡ true) }
+    ensures full { OnErr result
+        (W.room writer.old < source_count fti.now b * fti.now.symbol_length) }
+    ensures fills { OnOk result
+        (W.room writer.old ≤ W.room writer.new + source_count fti.now b * fti.now.symbol_length) }
+{
+    let count = fti.k(b);
+    let block = &mut rows[..count * usize::from(fti.symbol_length())];
+    certify_block(sources, fti, b, interpolators.of(count), block);
+    write_all(writer, block)
+}
+
 // Writes the rows of coefficients of all blocks, one block behind the other. `rows` has room for those
 // of the greatest.
 fn write_rows<W: Write>(
@@ -131,12 +164,15 @@ fn write_rows<W: Write>(
     ensures fails { OnErr result (W.failed writer.new ≡ true) }
     ensures full { OnErr result (W.room writer.old < coefficient_count fti.now) }
 {
-    let size = usize::from(fti.symbol_length());
     for b in 0..fti.block_count() {
-        let count = fti.k(b);
-        let block = &mut rows[..count * size];
-        certify_block(object, fti, b, interpolators.of(count), block);
-        write_all(writer, block)?;
+        write_block(
+            block_of(object, fti, b),
+            fti,
+            b,
+            interpolators,
+            rows,
+            writer,
+        )?;
     }
     Ok(())
 }

@@ -3,19 +3,27 @@
 //! - `rows`: encoding symbols and coefficients of a block, as sums of the rows of its source symbols;
 //! - `sending`: the datagrams of an object's encoding symbols, in either order;
 //! - `certifying`: the polynomials of its byte columns;
+//! - `object`: an object that comes from a reader, block by block; `sending_from`: its session in order
+//!   `Blocks`; `certifying_from`: its certificate;
 //! - `laws`: what encoding, certifying and checking give together.
 //!
 //! Decoding is a crate of its own, `decoder`, whose calls can be named from here, too.
 #![tactic(auto)]
 
 mod certifying;
+mod certifying_from;
 mod laws;
+mod object;
 mod rows;
 mod sending;
+mod sending_from;
 
 pub use certifying::{CertifyFault, certify, certify_to};
+pub use certifying_from::{CertifyFromFault, certify_from};
 pub use decoder::{
     Answer, DecodeFault, FeedFault, Progress, Receiver, decode, decode_selection, one_answer,
 };
 pub use laws::sent_checks_yes;
+pub use object::ObjectFault;
 pub use sending::{SendFault, encode};
+pub use sending_from::{SendFromFault, encode_from};

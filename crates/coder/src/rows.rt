@@ -1,25 +1,34 @@
 //! Rows of bytes: a block's source symbols, and what a matrix makes of them.
-ghost use Rattle.std.specs.Prelude.{◌≡◌, ◌<◌, ◌≤◌, ◌+◌, ◌*◌, ◌^◌, ℕ, length, slice_index};
+ghost use Rattle.std.specs.Prelude.{◌≡◌, ◌<◌, ◌≤◌, ◌+◌, ◌*◌, ◌^◌, ℕ, List, length, slice_index};
 ghost use Rattle.gf256.specs.Arithmetic.{sum_of, product};
 ghost use Rattle.gf256.specs.Sums.{row_sum};
 ghost use Rattle.partition.specs.Fti.{block_count, source_count, encoding_count, source_byte};
 ghost use Rattle.reception.specs.Symbols.{Agrees};
 ghost use Rattle.block_code.specs.CodesOf.{IsCodeOf};
-ghost use Rattle.coder.specs.Rows.{row_at};
+ghost use Rattle.lists.specs.Bytes.{AreBytes};
+ghost use Rattle.coder.specs.Rows.{row_at, AreSourcesOf};
 
 use block_code::Code;
 use gf256::add_products;
 use partition::Fti;
 
-// The object's bytes from source symbol `i` on, counted over all blocks. Past the object's end
-// there is padding.
-fn bytes_from(object: &[u8], size: usize, i: usize) -> &[u8]
+// The bytes from symbol `i` on. Past the end there is padding.
+fn bytes_from(bytes: &[u8], size: usize, i: usize) -> &[u8]
     requires size { size < 2 ^ 16 }
     requires symbol { i < 2 ^ 48 }
-    ensures { (p : ℕ) → slice_index result.now p ≡ slice_index object.now (i * size + p) }
+    ensures { (p : ℕ) → slice_index result.now p ≡ slice_index bytes.now (i * size + p) }
 {
-    let from = (i * size).min(object.len());
-    &object[from..]
+    let from = (i * size).min(bytes.len());
+    &bytes[from..]
+}
+
+/// The object's bytes from a block's first source symbol on.
+pub(crate) fn block_of<'a>(object: &'a [u8], fti: &Fti, b: u32) -> &'a [u8]
+    requires block { b < block_count fti.now }
+    ensures { AreSourcesOf fti.now object.now b result.now }
+{
+    let size = usize::from(fti.symbol_length());
+    bytes_from(object, size, fti.start(b) as usize)
 }
 
 // As many bytes as there is room for, and zeros behind them.
@@ -44,7 +53,7 @@ fn clear(rows: &mut [u8])
 /// Sums of a block's source symbols, each times its coefficient: a row for each row of
 /// coefficients.
 pub(crate) fn combine(
-    object: &[u8],
+    sources: &[u8],
     fti: &Fti,
     b: u32,
     coefficients: &[u8],
@@ -55,23 +64,22 @@ pub(crate) fn combine(
     requires coefficients { length coefficients.now ≡ rows * source_count fti.now b }
     requires room { length out.old ≡ rows * fti.now.symbol_length }
     ensures len { length out.new ≡ length out.old }
-    ensures sums { (r c : ℕ) → r < rows → c < fti.now.symbol_length
+    ensures sums { (object : List ℕ) → AreSourcesOf fti.now object b sources.now
+        → (r c : ℕ) → r < rows → c < fti.now.symbol_length
         → slice_index out.new (r * fti.now.symbol_length + c)
         ≡ row_sum coefficients.now (source_count fti.now b)
-        (source_byte fti.now object.now b) r c }
+        (source_byte fti.now object b) r c }
 {
     clear(out);
     let size = usize::from(fti.symbol_length());
-    let count = fti.k(b);
-    let sources = bytes_from(object, size, fti.start(b) as usize);
-    add_products(out, rows, coefficients, sources, count, size, size);
+    add_products(out, rows, coefficients, sources, fti.k(b), size, size);
 }
 
 /// The encoding symbols of a block from ESI `first` on, as many as there is room for, one behind
-/// the other: source symbols as they stand in the object, and all repair symbols by one product.
-/// `code` is the block's.
+/// the other: source symbols as they stand there, and all repair symbols by one product. `code` is
+/// the block's.
 pub(crate) fn encoding_symbols(
-    object: &[u8],
+    sources: &[u8],
     fti: &Fti,
     b: u32,
     code: &Code,
@@ -79,14 +87,14 @@ pub(crate) fn encoding_symbols(
     count: usize,
     out: &mut [u8],
 )
-    requires object { length object.now ≡ fti.now.transfer_length }
     requires block { b < block_count fti.now }
     requires code { IsCodeOf fti.now b code.now.matrix }
     requires within { first + count ≤ encoding_count fti.now b }
     requires room { length out.old ≡ count * fti.now.symbol_length }
     ensures len { length out.new ≡ length out.old }
-    ensures symbols { (r : ℕ) → r < count
-        → Agrees fti.now object.now (record {
+    ensures symbols { (object : List ℕ) → AreBytes object
+        → AreSourcesOf fti.now object b sources.now → (r : ℕ) → r < count
+        → Agrees fti.now object (record {
           block = b;
           esi = first + r;
           bytes = row_at fti.now.symbol_length out.new r;
@@ -94,12 +102,11 @@ pub(crate) fn encoding_symbols(
 {
     let size = usize::from(fti.symbol_length());
     let k = fti.k(b);
-    let sources = k.saturating_sub(first).min(count);
-    let (source_rows, repair_rows) = out.split_at_mut(sources * size);
-    if sources > 0 {
-        let start = fti.start(b) as usize;
-        copy_padded(source_rows, bytes_from(object, size, start + first));
+    let copied = k.saturating_sub(first).min(count);
+    let (source_rows, repair_rows) = out.split_at_mut(copied * size);
+    if copied > 0 {
+        copy_padded(source_rows, bytes_from(sources, size, first));
     }
-    let coefficients = &code.columns[(first + sources) * k..(first + count) * k];
-    combine(object, fti, b, coefficients, count - sources, repair_rows);
+    let coefficients = &code.columns[(first + copied) * k..(first + count) * k];
+    combine(sources, fti, b, coefficients, count - copied, repair_rows);
 }

@@ -1,14 +1,16 @@
 //! Sending an object: its encoding symbols as the datagrams of a session.
-ghost use Rattle.std.specs.Prelude.{◌≡◌, ◌^◌, ◌≤◌, ◌<◌, ◌+◌, ◌*◌, ◌∷◌, [], true, length, IfOk, IfErr, OnOk, OnErr};
+ghost use Rattle.std.specs.Prelude.{ℕ, List, ◌≡◌, ◌^◌, ◌≤◌, ◌<◌, ◌+◌, ◌*◌, ◌∷◌, [], true, length, IfOk, IfErr, OnOk, OnErr};
 ghost use Rattle.alc.specs.Views.{lent};
 ghost use Rattle.reception.specs.Symbols.{Agrees};
 ghost use Rattle.partition.specs.Fti.{IsValidFti, block_count, encoding_count};
 ghost use Rattle.block_code.specs.Codes.{EachBlockHas};
 ghost use Rattle.block_code.specs.CodesOf.{IsCodeOf};
+ghost use Rattle.lists.specs.Bytes.{AreBytes};
+ghost use Rattle.coder.specs.Rows.{AreSourcesOf};
 ghost use Rattle.coder.specs.Passes.{run_of, pairs_in, pairs_of_pass, passes, at_once};
 ghost use Rattle.coder.specs.Sending.{pairs, items, items_from, fti_at, Sends, SendsSome, CanBeSent, IsSendFault, most_symbol_bytes, frame_bytes, session_bytes};
 
-use crate::rows::encoding_symbols;
+use crate::rows::{block_of, encoding_symbols};
 use alc::{HEADER_SIZE, write};
 use block_code::{BlockCodes, Kind};
 use partition::{Fti, Order};
@@ -42,24 +44,23 @@ impl From<AllocError> for SendFault {
     }
 }
 
-// The most bytes of an encoding symbol that can be sent.
-const MOST_SYMBOL_BYTES: u16 = (MOST_BYTES - HEADER_SIZE) as u16;
+/// The most bytes of an encoding symbol that can be sent.
+pub(crate) const MOST_SYMBOL_BYTES: u16 = (MOST_BYTES - HEADER_SIZE) as u16;
 
-/// What is sent of an object and how, and the codes of its blocks.
+/// How an object is sent, and the codes of its blocks.
 #[derive(Drop)]
-struct Transmission<'a> {
-    object: &'a [u8],
-    tsi: u32,
-    toi: u32,
-    fti: Fti,
-    every: u32,
-    codes: BlockCodes,
-    ghost fits: { CanBeSent object.now fti },
+pub(crate) struct Transmission {
+    pub(crate) tsi: u32,
+    pub(crate) toi: u32,
+    pub(crate) fti: Fti,
+    pub(crate) every: u32,
+    pub(crate) codes: BlockCodes,
+    ghost short: { fti.symbol_length ≤ most_symbol_bytes },
     ghost valid: { IsValidFti fti },
     ghost some: { 1 ≤ every },
 }
 
-impl Transmission<'_> {
+impl Transmission {
     // The FTI, where the datagram at this place of the session carries it.
     fn fti_at(&self, place: u64) -> Option<&Fti>
         ensures { lent result ≡ fti_at self.now.fti self.now.every place }
@@ -74,7 +75,7 @@ impl Transmission<'_> {
 
 // Sends the datagram of an encoding symbol, at this place of the session. `datagram` has room for it.
 fn send_symbol<W: Write>(
-    t: &Transmission<'_>,
+    t: &Transmission,
     place: u64,
     block: u32,
     esi: u8,
@@ -82,14 +83,19 @@ fn send_symbol<W: Write>(
     datagram: &mut [u8],
     writer: &mut W,
 ) -> Result<(), SendFault>
-    requires agrees { Agrees t.now.fti t.now.object.now
-        (record { block = block; esi = esi; bytes = symbol.now }) }
+    requires block { block < block_count t.now.fti }
+    requires esi { esi < encoding_count t.now.fti block }
+    requires symbol { length symbol.now ≡ t.now.fti.symbol_length }
     requires datagram { length datagram.old ≡ 32 + t.now.fti.symbol_length }
-    ensures sent { OnOk result (Sends t.now.object.now t.now.fti t.now.tsi t.now.toi t.now.every
+    ensures sent { (object : List ℕ)
+        → Agrees t.now.fti object (record { block = block; esi = esi; bytes = symbol.now })
+        → OnOk result (Sends object t.now.fti t.now.tsi t.now.toi t.now.every
         (items_from place ((block, esi) ∷ []))
         (W.contents writer.old) (W.contents writer.new)) }
-    ensures some { OnErr result (SendsSome t.now.object.now t.now.fti t.now.tsi t.now.toi
-        t.now.every (items_from place ((block, esi) ∷ []))
+    ensures some { (object : List ℕ)
+        → Agrees t.now.fti object (record { block = block; esi = esi; bytes = symbol.now })
+        → OnErr result (SendsSome object t.now.fti t.now.tsi t.now.toi t.now.every
+        (items_from place ((block, esi) ∷ []))
         (W.contents writer.old) (W.contents writer.new)) }
     ensures io { IfErr result (λ e. (e ≡ SendFault.Io) × (W.failed writer.new ≡ true)) }
     ensures full { OnErr result
@@ -104,10 +110,11 @@ fn send_symbol<W: Write>(
     }
 }
 
-// Sends encoding symbols of a block, as many as there is room for, from ESI `first` on, at the
-// places of the session from `place` on.
-fn send_symbols<W: Write>(
-    t: &Transmission<'_>,
+/// Sends encoding symbols of a block, as many as there is room for, from ESI `first` on, at the
+/// places of the session from `place` on. They are made of the block's source symbols.
+pub(crate) fn send_symbols<W: Write>(
+    t: &Transmission,
+    sources: &[u8],
     symbols: &mut [u8],
     datagram: &mut [u8],
     place: u64,
@@ -122,11 +129,15 @@ fn send_symbols<W: Write>(
     requires within { first + count ≤ encoding_count t.now.fti block }
     requires symbols { length symbols.old ≡ count * t.now.fti.symbol_length }
     requires datagram { length datagram.old ≡ 32 + t.now.fti.symbol_length }
-    ensures sent { OnOk result (Sends t.now.object.now t.now.fti t.now.tsi t.now.toi t.now.every
+    ensures sent { (object : List ℕ) → AreBytes object
+        → AreSourcesOf t.now.fti object block sources.now
+        → OnOk result (Sends object t.now.fti t.now.tsi t.now.toi t.now.every
         (items_from place (run_of block first count))
         (W.contents writer.old) (W.contents writer.new)) }
-    ensures some { OnErr result (SendsSome t.now.object.now t.now.fti t.now.tsi t.now.toi
-        t.now.every (items_from place (run_of block first count))
+    ensures some { (object : List ℕ) → AreBytes object
+        → AreSourcesOf t.now.fti object block sources.now
+        → OnErr result (SendsSome object t.now.fti t.now.tsi t.now.toi t.now.every
+        (items_from place (run_of block first count))
         (W.contents writer.old) (W.contents writer.new)) }
     ensures io { IfErr result (λ e. (e ≡ SendFault.Io) × (W.failed writer.new ≡ true)) }
     ensures full { OnErr result (W.room writer.old
@@ -135,7 +146,7 @@ fn send_symbols<W: Write>(
         + session_bytes t.now.fti t.now.every (items_from place (run_of block first count))) }
 {
     let code = t.codes.of(t.fti.k(block));
-    encoding_symbols(t.object, &t.fti, block, code, first, count, symbols);
+    encoding_symbols(sources, &t.fti, block, code, first, count, symbols);
     let size = usize::from(t.fti.symbol_length());
     for i in 0..count {
         let symbol = &symbols[i * size..(i + 1) * size];
@@ -163,7 +174,8 @@ fn run(fti: &Fti, order: Order, pass: u8, block: u32) -> (usize, usize)
 
 // Sends one pass over the blocks, at the places from `place` on, and tells the place behind it.
 fn send_pass<W: Write>(
-    t: &Transmission<'_>,
+    t: &Transmission,
+    object: &[u8],
     order: Order,
     pass: u8,
     place: u64,
@@ -175,12 +187,12 @@ fn send_pass<W: Write>(
     requires place { place ≤ 2 ^ 40 }
     requires room { length symbols.old ≡ at_once order t.now.fti * t.now.fti.symbol_length }
     requires datagram { length datagram.old ≡ 32 + t.now.fti.symbol_length }
-    ensures sent { OnOk result (Sends t.now.object.now t.now.fti t.now.tsi t.now.toi t.now.every
+    ensures sent { OnOk result (Sends object.now t.now.fti t.now.tsi t.now.toi t.now.every
         (items_from place (pairs_of_pass order t.now.fti pass))
         (W.contents writer.old) (W.contents writer.new)) }
     ensures next { IfOk result (λ n. n ≡ place + length (pairs_of_pass order t.now.fti pass)) }
     ensures few { IfOk result (λ n. n ≤ place + 2 ^ 24 * 255) }
-    ensures some { OnErr result (SendsSome t.now.object.now t.now.fti t.now.tsi t.now.toi
+    ensures some { OnErr result (SendsSome object.now t.now.fti t.now.tsi t.now.toi
         t.now.every (items_from place (pairs_of_pass order t.now.fti pass))
         (W.contents writer.old) (W.contents writer.new)) }
     ensures io { IfErr result (λ e. (e ≡ SendFault.Io) × (W.failed writer.new ≡ true)) }
@@ -194,7 +206,10 @@ fn send_pass<W: Write>(
     for block in 0..t.fti.block_count() {
         let (first, count) = run(&t.fti, order, pass, block);
         let room = &mut symbols[..count * size];
-        send_symbols(t, room, datagram, next, block, first, count, writer)?;
+        let sources = block_of(object, &t.fti, block);
+        send_symbols(
+            t, sources, room, datagram, next, block, first, count, writer,
+        )?;
         next += count as u64;
     }
     Ok(next)
@@ -214,7 +229,8 @@ fn pass_count(fti: &Fti, order: Order) -> u8
 // for each ESI in order `Rounds`, where a single symbol is made of the object at a time, so that
 // nothing more than it is held.
 fn send_all<W: Write>(
-    t: &Transmission<'_>,
+    t: &Transmission,
+    object: &[u8],
     order: Order,
     symbols: &mut [u8],
     datagram: &mut [u8],
@@ -223,10 +239,10 @@ fn send_all<W: Write>(
     requires codes { EachBlockHas (IsCodeOf t.now.fti) t.now.fti t.now.codes }
     requires room { length symbols.old ≡ at_once order t.now.fti * t.now.fti.symbol_length }
     requires datagram { length datagram.old ≡ 32 + t.now.fti.symbol_length }
-    ensures sent { OnOk result (Sends t.now.object.now t.now.fti t.now.tsi t.now.toi t.now.every
+    ensures sent { OnOk result (Sends object.now t.now.fti t.now.tsi t.now.toi t.now.every
         (items order t.now.fti) (W.contents writer.old) (W.contents writer.new)) }
     ensures count { IfOk result (λ n. n ≡ length (pairs order t.now.fti)) }
-    ensures some { OnErr result (SendsSome t.now.object.now t.now.fti t.now.tsi t.now.toi
+    ensures some { OnErr result (SendsSome object.now t.now.fti t.now.tsi t.now.toi
         t.now.every (items order t.now.fti) (W.contents writer.old) (W.contents writer.new)) }
     ensures io { IfErr result (λ e. (e ≡ SendFault.Io) × (W.failed writer.new ≡ true)) }
     ensures full { OnErr result (W.room writer.old
@@ -236,7 +252,7 @@ fn send_all<W: Write>(
 {
     let mut place = 0;
     for pass in 0..pass_count(&t.fti, order) {
-        place = send_pass(t, order, pass, place, symbols, datagram, writer)?;
+        place = send_pass(t, object, order, pass, place, symbols, datagram, writer)?;
     }
     Ok(place)
 }
@@ -292,12 +308,18 @@ pub fn encode<W: Write>(
     let mut symbols = Vec::from_elem(alloc, 0u8, most_at_once(fti, order) * size)?;
     let mut datagram = Vec::from_elem(alloc, 0u8, HEADER_SIZE + size)?;
     let transmission = Transmission {
-        object,
         tsi,
         toi,
         fti: *fti,
         every,
         codes,
     };
-    send_all(&transmission, order, &mut symbols, &mut datagram, writer)
+    send_all(
+        &transmission,
+        object,
+        order,
+        &mut symbols,
+        &mut datagram,
+        writer,
+    )
 }

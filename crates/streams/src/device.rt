@@ -33,6 +33,13 @@ impl<T> Device<T> {
         }
     }
 
+    /// The reader or writer.
+    pub fn get_ref(&self) -> &T
+        ensures { result.now ≡ self.now.inner }
+    {
+        &self.inner
+    }
+
     /// Gives the reader or writer back.
     pub fn into_inner(self) -> T
         ensures { result ≡ self.inner }

@@ -8,3 +8,4 @@ pub mod Gains
 pub mod Pieces
 pub mod Shown
 pub mod Twinned
+pub mod ObjectBytes

@@ -19,9 +19,9 @@ pub record IsRefusedMemory (failed : Bool) (before after : Option (List ℕ)) (s
   pub told : (failed ≡ true) ⊎ Appends before after (codes "fault memory\n")
   pub one : status ≡ 1
 
--- What is told of a line that makes no request, on the output and on the one for errors, and the status: help on the
--- output, with 0, or 1 where that has failed; of a refused line a text on the other, with 2, whether that has failed or
--- not; or that there is no memory.
+-- What is told of a line that makes no request, on the output and on the one for errors, and the status: help or the
+-- version on the output, with 0, or 1 where that has failed; of a refused line a text on the other, with 2, whether that
+-- has failed or not; or that there is no memory.
 abbrev pub Explains : Usage → Bool → Option (List ℕ) → Option (List ℕ) → Bool → Option (List ℕ) → Option (List ℕ) → ℕ → Type 0
 Explains (Help error) failed before after err_failed err_before err_after status =
     (err_after ≡ err_before)

@@ -15,3 +15,4 @@ pub mod Checks
 pub mod Following
 pub mod Listening
 pub mod Thinning
+pub mod ReadingObjects

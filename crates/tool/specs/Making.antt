@@ -34,28 +34,38 @@ count_line name count of = named name (decimal count) ++ of
 abbrev pub PrintsCount : List ℕ → ℕ → List ℕ → Option (List ℕ) → Option (List ℕ) → Type 0
 PrintsCount name count of before after = Appends before after (line_of (count_line name count of))
 
--- A session of the object stands under the output's name, all other files are as before, and the number of its datagrams
--- was printed.
+-- A session of an object of these bytes, of so many datagrams, stands under the output's name, and all other files are as
+-- before.
+pub record MakesSession (old new : Option Files) (bytes : List ℕ) (f : Fti) (output : List ℕ) (sending : Sending) (count : ℕ) : Type 0 where
+  pub can : CanBeSent bytes f
+  pub datagrams : List (List ℕ)
+  pub sent : IsSessionOf bytes f sending.identifiers.tsi sending.identifiers.toi sending.fti_every sending.order datagrams
+  pub made : Replaces old new output (frames datagrams)
+  pub counted : count ≡ length (pairs sending.order f)
+
+-- Such a session of the object in a file was made, and the number of its datagrams was printed.
 pub record IsEncoded (old new : Option Files) (object output : List ℕ) (sending : Sending) (before after : Option (List ℕ)) (status : ℕ) : Type 0 where
   pub bytes : List ℕ
   pub whole : HoldsBytes old object bytes
-  pub can : CanBeSent bytes (sized sending.sizes (length bytes))
-  pub datagrams : List (List ℕ)
-  pub sent : IsSessionOf bytes (sized sending.sizes (length bytes)) sending.identifiers.tsi sending.identifiers.toi sending.fti_every sending.order datagrams
-  pub made : Replaces old new output (frames datagrams)
-  pub printed : PrintsCount (codes "encoded") (length (pairs sending.order (sized sending.sizes (length bytes)))) (codes " datagrams") before after
+  pub count : ℕ
+  pub made : MakesSession old new bytes (sized sending.sizes (length bytes)) output sending count
+  pub printed : PrintsCount (codes "encoded") count (codes " datagrams") before after
   pub told : status ≡ 0
 
--- A certificate of the object for this identity stands under the output's name: one of every session sent of the object, and
--- in this form of those of the identity. All other files are as before, and the number of its blocks was printed.
-pub record IsCertified (who : Identity) (old new : Option Files) (object output : List ℕ) (sizes : Sizes) (before after : Option (List ℕ)) (status : ℕ) : Type 0 where
-  pub bytes : List ℕ
-  pub whole : HoldsBytes old object bytes
+-- A certificate of an object of these bytes for this identity stands under the output's name: one of every session sent of the
+-- object, and in this form of those of the identity. All other files are as before.
+pub record MakesCertificate (who : Identity) (old new : Option Files) (bytes : List ℕ) (f : Fti) (output : List ℕ) : Type 0 where
   pub polynomials : Certificate
-  pub fti : polynomials.fti ≡ sized sizes (length bytes)
+  pub fti : polynomials.fti ≡ f
   pub gives : GivesObject bytes polynomials
   pub certifies : CertifiesSent bytes polynomials
   pub made : Replaces old new output (certificate_text (named_as who polynomials))
+
+-- Such a certificate of the object in a file was made, and the number of its blocks was printed.
+pub record IsCertified (who : Identity) (old new : Option Files) (object output : List ℕ) (sizes : Sizes) (before after : Option (List ℕ)) (status : ℕ) : Type 0 where
+  pub bytes : List ℕ
+  pub whole : HoldsBytes old object bytes
+  pub made : MakesCertificate who old new bytes (sized sizes (length bytes)) output
   pub printed : PrintsCount (codes "certified") (block_count (sized sizes (length bytes))) (codes " blocks") before after
   pub told : status ≡ 0
 
@@ -104,10 +114,10 @@ IsUnsized files object sizes (WrongFti fault) =
     (bytes : List ℕ) × HoldsBytes files object bytes × (fti_fault (sized sizes (length bytes)) ≡ Some fault)
 IsUnsized files object sizes _ = ⊥
 
--- a datagram doesn't hold a symbol
-abbrev pub IsTooLong : Sizes → Fault → Type 0
-IsTooLong sizes (Send SymbolTooLong) = most_symbol_bytes < sizes.symbol
-IsTooLong sizes _ = ⊥
+-- a datagram doesn't hold a symbol of so many bytes
+abbrev pub IsTooLong : ℕ → Fault → Type 0
+IsTooLong size (Send SymbolTooLong) = most_symbol_bytes < size
+IsTooLong size _ = ⊥
 
 -- the session hasn't one of the places; the first such is told
 abbrev pub IsOutside : Option Files → List ℕ → List ℕ → Fault → Type 0
@@ -122,15 +132,22 @@ pub record Fails (why : Option Files → Bool → Fault → Type 0) (old new : O
   pub leaves : LeavesFiles old new output fault
   pub silent : IsSilent fault failed before after
 
+-- why no session was made of an object that was read
+abbrev pub IsUnsent : List ℕ → ℕ → Option Files → Fault → Type 0
+IsUnsent output size files fault = IsTooLong size fault ⊎ IsUnmade files output fault ⊎ IsUnwritten files fault
+
 abbrev pub IsNotEncoded : List ℕ → List ℕ → Sending → Option Files → Bool → Fault → Type 0
 IsNotEncoded object output sending files failed fault =
-    IsObjectUnread files object fault ⊎ IsUnsized files object sending.sizes fault ⊎ IsTooLong sending.sizes fault
-    ⊎ IsUnmade files output fault ⊎ IsUnwritten files fault ⊎ IsPrintFault failed fault
+    IsObjectUnread files object fault ⊎ IsUnsized files object sending.sizes fault ⊎ IsUnsent output sending.sizes.symbol files fault
+    ⊎ IsPrintFault failed fault
+
+-- why no certificate was made of an object that was read
+abbrev pub IsUncertified : List ℕ → Option Files → Fault → Type 0
+IsUncertified output files fault = IsUnmade files output fault ⊎ IsUnwritten files fault
 
 abbrev pub IsNotCertified : List ℕ → List ℕ → Sizes → Option Files → Bool → Fault → Type 0
 IsNotCertified object output sizes files failed fault =
-    IsObjectUnread files object fault ⊎ IsUnsized files object sizes fault
-    ⊎ IsUnmade files output fault ⊎ IsUnwritten files fault ⊎ IsPrintFault failed fault
+    IsObjectUnread files object fault ⊎ IsUnsized files object sizes fault ⊎ IsUncertified output files fault ⊎ IsPrintFault failed fault
 
 -- the certificate of a file has another's name
 abbrev pub IsAnothers : Identity → Option Files → List ℕ → Fault → Type 0

@@ -14,7 +14,7 @@ use std::alloc::Global;
 const REFUSED: u8 = 2;
 
 /// Does what the words of a command line ask for, the first of which is the program's name, and answers the status: that
-/// of `run` where they make a request; 0 after help, which goes to `out`; 2 where the line is refused, with the reason to
+/// of `run` where they make a request; 0 after help or the version, which go to `out`; 2 where the line is refused, with the reason to
 /// `err`, whether that can be written or not; 1 after `fault memory`, or where `out` can't be written.
 pub fn answer<'a, F: Folder, W: Console, E: Write>(
     alloc: Global,

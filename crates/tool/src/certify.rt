@@ -1,22 +1,27 @@
 //! The commands `certify` and `convert`, which write certificates.
-ghost use Rattle.std.specs.Prelude.{IfOk, IfErr};
+ghost use Rattle.std.specs.Prelude.{◌≡◌, ◌⊎◌, length, IfOk, IfErr, OnOk, OnErr};
 ghost use Rattle.cert.specs.Certificate.{IsIdentity};
-ghost use Rattle.tool.specs.Making.{IsCertified, IsNotCertified, IsConverted, IsNotConverted, Fails};
+ghost use Rattle.coder.specs.ObjectRead.{ReadsObject};
+ghost use Rattle.tool.specs.Making.{IsCertified, MakesCertificate, IsNotCertified, IsUncertified, IsConverted, IsNotConverted, Fails};
+ghost use Rattle.tool.specs.ReadingObjects.{IsObjectBroken};
 
 use crate::fault::Fault;
 use crate::folder::Folder;
-use crate::input::{open, read_object};
+use crate::input::{open, read_rest};
 use crate::output::{create, give_up, keep};
 use crate::print::print_count;
 use crate::sizes::fti_of;
 use cert::{CertFault, ConvertFault};
-use coder::{CertifyFault, certify_to};
+use coder::{CertifyFault, CertifyFromFault, certify_from, certify_to};
+use partition::Fti;
 use reception::Identity;
 use request::Sizes;
-use session::Write;
+use session::{Read, Write};
 use std::alloc::Global;
 
-/// Writes the object's certificate for the packets of an identity, a block at a time, and answers the status.
+/// Writes the object's certificate for the packets of an identity, a block at a time, and answers the status. An object
+/// whose length is known beforehand is read so too.
+#[tactic(auto, using(crate::proofs::ObjectBytes::makes_no_fti))]
 pub(crate) fn certify<'a, F: Folder, W: Write>(
     alloc: Global,
     folder: &mut F,
@@ -33,19 +38,83 @@ pub(crate) fn certify<'a, F: Folder, W: Write>(
         (F.files folder.old) (F.files folder.new) output.now
         (W.failed out.new) (W.contents out.old) (W.contents out.new)) }
 {
-    let object = read_object(alloc, folder, object)?;
-    let fti = fti_of(sizes, object.len())?;
+    let mut input = open(folder, object)?;
+    let count = match folder.length_of(&input) {
+        Some(length) => {
+            let fti = fti_of(sizes, length)?;
+            certify_read(alloc, folder, &mut input, &fti, object, output, identity)?;
+            fti.block_count()
+        }
+        None => {
+            let bytes = read_rest(alloc, &mut input, object)?;
+            let fti = fti_of(sizes, bytes.len() as u64)?;
+            certify_held(alloc, folder, bytes.as_slice(), &fti, output, identity)?;
+            fti.block_count()
+        }
+    };
+    print_count(out, "certified", count, " blocks")?;
+    Ok(0)
+}
+
+// Makes the certificate of an object that is read block by block.
+fn certify_read<'a, F: Folder, R: Read>(
+    alloc: Global,
+    folder: &mut F,
+    reader: &mut R,
+    fti: &Fti,
+    object: &'a str,
+    output: &'a str,
+    identity: Identity,
+) -> Result<(), Fault<'a>>
+    requires { IsIdentity identity }
+    ensures ok { OnOk result (ReadsObject fti.now (R.remaining reader.old)
+        (λ bytes. MakesCertificate identity (F.files folder.old) (F.files folder.new)
+        bytes fti.now output.now)) }
+    ensures fault { IfErr result (λ fault. IsObjectBroken fti.now (R.remaining reader.old)
+        (R.sound reader.old) object.now fault
+        ⊎ IsUncertified output.now (F.files folder.old) fault) }
+    ensures stays { OnErr result (F.files folder.new ≡ F.files folder.old) }
+{
     let mut file = create(folder, output)?;
-    match certify_to(alloc, object.as_slice(), &fti, identity, &mut file) {
-        Ok(()) => keep(folder, output, file)?,
+    match certify_from(alloc, reader, fti, identity, &mut file) {
+        Ok(()) => keep(folder, output, file),
+        Err(CertifyFromFault::Object(_)) => {
+            folder.give_up(file);
+            Err(Fault::File(object))
+        }
+        Err(CertifyFromFault::NoMemory) => Err(give_up(folder, file, Fault::Memory)),
+        Err(CertifyFromFault::Write) => {
+            Err(give_up(folder, file, Fault::Certificate(CertFault::Io)))
+        }
+    }
+}
+
+// Makes the certificate of an object of these bytes.
+fn certify_held<'a, F: Folder>(
+    alloc: Global,
+    folder: &mut F,
+    bytes: &[u8],
+    fti: &Fti,
+    output: &'a str,
+    identity: Identity,
+) -> Result<(), Fault<'a>>
+    requires identity { IsIdentity identity }
+    requires length { length bytes.now ≡ fti.now.transfer_length }
+    ensures ok { OnOk result (MakesCertificate identity (F.files folder.old)
+        (F.files folder.new) bytes.now fti.now output.now) }
+    ensures fault { IfErr result (IsUncertified output.now (F.files folder.old)) }
+    ensures stays { OnErr result (F.files folder.new ≡ F.files folder.old) }
+{
+    let mut file = create(folder, output)?;
+    match certify_to(alloc, bytes, fti, identity, &mut file) {
+        Ok(()) => {}
         Err(CertifyFault::Length) => unreachable!(),
         Err(CertifyFault::NoMemory) => return Err(give_up(folder, file, Fault::Memory)),
         Err(CertifyFault::Io) => {
             return Err(give_up(folder, file, Fault::Certificate(CertFault::Io)));
         }
     }
-    print_count(out, "certified", fti.block_count(), " blocks")?;
-    Ok(0)
+    keep(folder, output, file)
 }
 
 /// Writes a certificate for the packets of an identity, a block at a time, and answers the status.

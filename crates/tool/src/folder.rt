@@ -1,6 +1,6 @@
 //! Where files are.
 ghost use Rattle.std.specs.Prelude.{◌≡◌, Option, IfOk, IfErr, IfSome, OnOk, OnErr};
-ghost use Rattle.tool.specs.Folder.{Files, HoldsInput, IsBlank, Replaces, IsRefused, IsUnopened};
+ghost use Rattle.tool.specs.Folder.{Files, HoldsInput, LeavesBytes, IsBlank, Replaces, IsRefused, IsUnopened};
 
 use session::{Read, Write};
 
@@ -29,6 +29,10 @@ pub trait Folder {
         ensures input { IfOk result (λ file. HoldsInput (files self.now) name.now
             (Self.Input.remaining file) (Self.Input.sound file)) }
         ensures fault { IfErr result (IsUnopened (files self.now) name.now) };
+
+    /// How many bytes an input has left, where that is known before they are read.
+    fn length_of(&self, input: &Self::Input) -> Option<u64>
+        ensures { IfSome result (LeavesBytes (Self.Input.remaining input.now)) };
 
     /// Creates what is to be the file of this name. `Io` comes only where the folder doesn't tell its files.
     fn create_file(&mut self, name: &str) -> Result<Self::Output, FileFault>

@@ -1,12 +1,13 @@
 //! Input files.
-ghost use Rattle.std.specs.Prelude.{IfOk, IfErr};
+ghost use Rattle.std.specs.Prelude.{◌≡◌, IfOk, IfErr, IfSome};
 ghost use Rattle.tool.specs.Folder.{HoldsInput};
 ghost use Rattle.tool.specs.Inputs.{HoldsSession, HoldsBytes, HoldsCertificate, IsNotOpened, IsSessionUnread, IsCertificateUnread, IsObjectUnread};
+ghost use Rattle.tool.specs.ReadingObjects.{IsRestUnread};
 
 use crate::fault::Fault;
 use crate::folder::{FileFault, Folder};
 use cert::{CertFault, Certificate};
-use session::{FrameFault, ReadFault, Session, read_to_end};
+use session::{FrameFault, Read, ReadFault, Session, read_to_end};
 use std::alloc::Global;
 
 /// A file to be read.
@@ -66,8 +67,20 @@ pub(crate) fn read_object<'a, F: Folder>(
     ensures fault { IfErr result (IsObjectUnread (F.files folder.now) name.now) }
 {
     let mut input = open(folder, name)?;
-    match read_to_end(alloc, &mut input) {
-        Ok(object) => Ok(object),
+    read_rest(alloc, &mut input, name)
+}
+
+/// All bytes that the input of this name has left.
+pub(crate) fn read_rest<'a, R: Read>(
+    alloc: Global,
+    input: &mut R,
+    name: &'a str,
+) -> Result<Vec<u8>, Fault<'a>>
+    ensures ok { IfOk result (λ v. IfSome (R.remaining input.old) (λ left. left ≡ v.items)) }
+    ensures fault { IfErr result (IsRestUnread (R.sound input.old) name.now) }
+{
+    match read_to_end(alloc, input) {
+        Ok(bytes) => Ok(bytes),
         Err(ReadFault::Io) => Err(Fault::File(name)),
         Err(ReadFault::NoMemory) => Err(Fault::Memory),
     }

@@ -115,6 +115,10 @@ impl Folder for MemoryFolder {
         }
     }
 
+    fn length_of(&self, input: &MemoryInput) -> Option<u64> {
+        Some((input.bytes.len() - input.at) as u64)
+    }
+
     fn create_file(&mut self, _name: &str) -> Result<Sink, FileFault> {
         Ok(Sink::new(self.alloc))
     }

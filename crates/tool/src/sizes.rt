@@ -7,9 +7,9 @@ use partition::{Fti, FtiError};
 use request::Sizes;
 
 /// The FTI of an object of so many bytes.
-pub(crate) fn fti_of(sizes: &Sizes, length: usize) -> Result<Fti, FtiError>
+pub(crate) fn fti_of(sizes: &Sizes, length: u64) -> Result<Fti, FtiError>
     ensures fti { IfOk result (λ f. f ≡ sized sizes.now length) }
     ensures fault { IfErr result (λ e. fti_fault (sized sizes.now length) ≡ Some e) }
 {
-    Fti::new(length as u64, sizes.symbol, sizes.block, sizes.max_n)
+    Fti::new(length, sizes.symbol, sizes.block, sizes.max_n)
 }

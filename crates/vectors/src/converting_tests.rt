@@ -8,12 +8,12 @@ use session::{Pieces, Sink};
 use std::alloc::Global;
 use std::test::Fail;
 
-const IDENTITY: Identity = Identity { tsi: 1, toi: 1 };
+pub(crate) const IDENTITY: Identity = Identity { tsi: 1, toi: 1 };
 
 const ANOTHER: Identity = Identity { tsi: 1, toi: 2 };
 
 // 28 blocks: one of 97 source symbols, the others of 96 or 97, the last symbol cut.
-fn object(alloc: Global) -> Result<Vec<u8>, Fail> {
+pub(crate) fn object(alloc: Global) -> Result<Vec<u8>, Fail> {
     let mut object = Vec::new(alloc);
     for i in 0..100003u64 {
         object.push((i * 37 % 251) as u8)?;
@@ -21,7 +21,7 @@ fn object(alloc: Global) -> Result<Vec<u8>, Fail> {
     Ok(object)
 }
 
-fn fti() -> Result<Fti, Fail> {
+pub(crate) fn fti() -> Result<Fti, Fail> {
     Ok(Fti::new(100003, 37, 100, 200)?)
 }
 

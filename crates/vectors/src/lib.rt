@@ -26,6 +26,8 @@ mod partition_tests;
 #[cfg(test)]
 mod polynomial_tests;
 #[cfg(test)]
+mod reading_tests;
+#[cfg(test)]
 mod receiver_tests;
 #[cfg(test)]
 mod sending_tests;

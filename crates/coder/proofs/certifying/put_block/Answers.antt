@@ -2,6 +2,7 @@ use Rattle.std.proofs.Common.{◌≡◌, ◌<◌, ◌≤◌, ◌+◌, ◌-◌, �
 use Rattle.std.proofs.Math.Nat.{mul-le-mul_right}
 use Rattle.gf256.proofs.RowPlaces.{row_ends, rows_apart, put_at}
 use Rattle.partition.specs.Fti.{start_of, source_count, source_place, symbol_count}
+use Rattle.block_code.proofs.SourceRows.{bytes_fit}
 use Rattle.block_code.proofs.RowAdding.{products}
 use borrow.Rule.Slice.PartMut.{put_mid}
 use Rattle.coder.proofs.certifying.put_block.Goals as goal
@@ -29,7 +30,7 @@ returns-clause-gives c =
     let split = rows_apart (start_of f c.args.b) (source_count f c.args.b) f.symbol_length in
     let at : ℕ = c.start.result * c.from-size.result in
     let start : c.start.result * c.from-size.result ≤ length c.args.coefficients.now = omega (arith, from, most, split, c.requires.room) in
-    c.certify_block.ensures.gives
+    c.certify_block.ensures.gives c.args.object.now (bytes_fit c.args.object.now c.type_inv.object) c.block_of.ensures
     (put_mid (c.start.result * c.from-size.result) (c.start.result * c.from-size.result + c.k.result * c.from-size.result - c.start.result * c.from-size.result) c.args.coefficients.now c.certify_block.new.rows)
     (λ n y ln ly.
     let ends = row_ends n k f.symbol_length ln in

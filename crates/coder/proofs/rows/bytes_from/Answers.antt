@@ -9,4 +9,4 @@ overflow_mul-i c =
     omega (arith, most, c.requires.size)
 
 pub returns : goal.returns
-returns c = λ p. part_byte c.args.object.now c.min-from.result (c.args.i * c.args.size) p (omega arith) (λ l. omega arith)
+returns c = λ p. part_byte c.args.bytes.now c.min-from.result (c.args.i * c.args.size) p (omega arith) (λ l. omega arith)

@@ -10,7 +10,7 @@ pub loop-pass-init : goal.loop-pass-init
 unfolding below
 loop-pass-init g c =
     let t = c.args.t.now in
-    record { sent = nothing_sent t.object.now t.fti t.tsi t.toi t.every _; count = refl; few = omega arith; room = omega arith }
+    record { sent = nothing_sent c.args.object.now t.fti t.tsi t.toi t.every _; count = refl; few = omega arith; room = omega arith }
 
 pub returns-in_err-place-clause-some : goal.returns-in_err-place-clause-some
 returns-in_err-place-clause-some g c =
@@ -19,7 +19,7 @@ returns-in_err-place-clause-some g c =
     let at : c.loop-pass.place ≡ 0 + length (flat_map sent (below c.loop-pass.pass)) = omega (arith, c.loop-pass.invariant.count) in
     let parts = flat_parts sent c.loop-pass.pass _ (rw c.pass_count-pass-end.ensures at c.loop-pass-test.true) in
     if_err _ _ (rw (by_passes c.args.order t.fti) at
-    (behind_some t.object.now t.fti t.tsi t.toi t.every 0 c.loop-pass.place (flat_map sent (below c.loop-pass.pass)) (sent c.loop-pass.pass) at _ _ _ _
+    (behind_some c.args.object.now t.fti t.tsi t.toi t.every 0 c.loop-pass.place (flat_map sent (below c.loop-pass.pass)) (sent c.loop-pass.pass) at _ _ _ _
     parts.0 parts.1 c.loop-pass.invariant.sent c.in_err-place.ensures.some))
 
 pub returns-in_err-place-clause-full : goal.returns-in_err-place-clause-full
@@ -40,7 +40,7 @@ loop-pass-preserved g c =
     let at : c.loop-pass.place ≡ 0 + length (flat_map sent (below p)) = omega (arith, c.loop-pass.invariant.count) in
     let more = length_next sent p in
     record {
-      sent = behind_sends t.object.now t.fti t.tsi t.toi t.every 0 c.loop-pass.place (flat_map sent (below p)) (sent p) at _ _ _ _ (flat_next sent p)
+      sent = behind_sends c.args.object.now t.fti t.tsi t.toi t.every 0 c.loop-pass.place (flat_map sent (below p)) (sent p) at _ _ _ _ (flat_next sent p)
           c.loop-pass.invariant.sent c.in_ok-place.ensures.sent;
       count = omega (arith, c.loop-pass.invariant.count, c.in_ok-place.ensures.next, more);
       few = omega (arith, c.loop-pass.invariant.few, c.in_ok-place.ensures.few);

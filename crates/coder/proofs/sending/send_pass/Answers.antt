@@ -2,6 +2,7 @@ use Rattle.std.proofs.Common.{◌≡◌, length, ap, arith, ◌∙◌, sym}
 use Rattle.std.specs.Prelude.{flat_map}
 use Rattle.lists.specs.Below.{below}
 use Rattle.partition.proofs.Laws.{encoding_most}
+use Rattle.block_code.proofs.SourceRows.{bytes_fit}
 use Rattle.coder.specs.Passes.{pairs_in}
 use Rattle.coder.proofs.Sent.{nothing_sent, behind_sends, behind_some, behind_room, behind_short, flat_next, flat_parts, if_err, length_next}
 use Rattle.coder.proofs.InPasses.{length-run_of}
@@ -11,7 +12,7 @@ pub loop-block-init : goal.loop-block-init
 unfolding below
 loop-block-init g c =
     let t = c.args.t.now in
-    record { sent = nothing_sent t.object.now t.fti t.tsi t.toi t.every _; next = omega arith; few = omega arith; room = omega arith }
+    record { sent = nothing_sent c.args.object.now t.fti t.tsi t.toi t.every _; next = omega arith; few = omega arith; room = omega arith }
 
 pub returns-in_err-send_symbols-clause-some : goal.returns-in_err-send_symbols-clause-some
 returns-in_err-send_symbols-clause-some g c =
@@ -19,8 +20,8 @@ returns-in_err-send_symbols-clause-some g c =
     let sent = pairs_in c.args.order t.fti c.args.pass in
     let b = c.loop-block.block in
     let parts = flat_parts sent b _ (rw c.block_count-block-end.ensures.value at c.loop-block-test.true) in
-    if_err _ _ (behind_some t.object.now t.fti t.tsi t.toi t.every c.args.place c.loop-block.next (flat_map sent (below b)) (sent b) c.loop-block.invariant.next _ _ _ _
-    parts.0 parts.1 c.loop-block.invariant.sent (rw c.run-first.ensures.pairs at c.in_err-send_symbols.ensures.some))
+    if_err _ _ (behind_some c.args.object.now t.fti t.tsi t.toi t.every c.args.place c.loop-block.next (flat_map sent (below b)) (sent b) c.loop-block.invariant.next _ _ _ _
+    parts.0 parts.1 c.loop-block.invariant.sent (rw c.run-first.ensures.pairs at (c.in_err-send_symbols.ensures.some c.args.object.now (bytes_fit c.args.object.now c.type_inv.object) c.block_of-sources.ensures)))
 
 pub returns-in_err-send_symbols-clause-full : goal.returns-in_err-send_symbols-clause-full
 returns-in_err-send_symbols-clause-full g c =
@@ -40,8 +41,8 @@ loop-block-preserved g c =
     let long : length (sent b) ≡ c.run-first.result.1 = ap length (sym c.run-first.ensures.pairs) ∙ length-run_of b c.run-first.result.0 c.run-first.result.1 in
     let most = encoding_most t.fti c.symbol_length.ensures.valid b in
     record {
-      sent = behind_sends t.object.now t.fti t.tsi t.toi t.every c.args.place c.loop-block.next (flat_map sent (below b)) (sent b) c.loop-block.invariant.next _ _ _ _ (flat_next sent b)
-          c.loop-block.invariant.sent (rw c.run-first.ensures.pairs at c.in_ok-send_symbols.ensures.sent);
+      sent = behind_sends c.args.object.now t.fti t.tsi t.toi t.every c.args.place c.loop-block.next (flat_map sent (below b)) (sent b) c.loop-block.invariant.next _ _ _ _ (flat_next sent b)
+          c.loop-block.invariant.sent (rw c.run-first.ensures.pairs at (c.in_ok-send_symbols.ensures.sent c.args.object.now (bytes_fit c.args.object.now c.type_inv.object) c.block_of-sources.ensures));
       next = omega (arith, c.loop-block.invariant.next, more, long);
       few = omega (arith, c.loop-block.invariant.few, c.run-first.ensures.within, most, c.symbol_length.ensures.valid.max_below);
       room = behind_room t.fti t.every c.args.place c.loop-block.next (flat_map sent (below b)) (sent b) c.loop-block.invariant.next _ _ _ _ (flat_next sent b)
