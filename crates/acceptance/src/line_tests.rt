@@ -113,6 +113,20 @@ fn help(rt: HostRuntime) -> Result<(), Fail> {
     Ok(())
 }
 
+#[test]
+fn version(rt: HostRuntime) -> Result<(), Fail> {
+    let alloc = rt.alloc();
+    for words in [&["alcrs", "--version"][..], &["alcrs", "-V"]] {
+        let version = answer(alloc, words, &[])?;
+        assert_eq!(rt; version.status, 0);
+        assert_eq!(rt; version.text.as_str(), "alcrs 0.9.0\n");
+        assert!(rt; version.refusal.as_str().is_empty());
+    }
+    let refused = answer(alloc, &["alcrs", "show", "--version"], &[])?;
+    assert_eq!(rt; refused.status, 2);
+    Ok(())
+}
+
 // Numbers that the command line doesn't take: each is named by what is printed.
 #[test]
 fn numbers_out_of_range(rt: HostRuntime) -> Result<(), Fail> {

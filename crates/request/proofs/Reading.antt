@@ -3,12 +3,13 @@ use Rattle.std.proofs.Common.{List, [], ◌∷◌, ◌≡◌, ◌∙◌, Bor, Re
 use Rattle.clap.specs.Words.{App, FailsBy, HasKind, HasMatchesOf, IsAmong, Text, fault_of, is_simple, is_simple_and_free, kind_of, subcommand_of, subcommand_rows_of}
 use Rattle.clap.specs.declared.parser.matches.ArgMatches.{ArgMatches}
 use Rattle.clap.specs.declared.error.Error.{Error}
-use Rattle.clap.specs.declared.error.kind.ErrorKind.TheVariants.{DisplayHelp, OutOfMemory}
+use Rattle.clap.specs.declared.error.kind.ErrorKind.TheVariants.{DisplayHelp, DisplayVersion, OutOfMemory}
 use Rattle.clap.proofs.OnLiterals.{clap_on_literals}
 use Rattle.request.specs.Grammar.{IsOrders, grammar_of}
 use Rattle.request.specs.Requests.{Answers}
 use Rattle.request.specs.RequestReading.{AnswersRead}
 use Rattle.request.specs.UsageOf.{IsUsageOf}
+use Rattle.request.specs.Usages.{IsAskedFor}
 use Rattle.request.proofs.Existing.{asks}
 use Rattle.request.specs.declared.requests.Request.{Request}
 use Rattle.request.specs.declared.usage.Usage.{Usage}
@@ -60,7 +61,11 @@ module _ (orders : Bor (List (Bor Text))) (are : IsOrders orders) (words : List 
       go : (u : Usage) → HasKind (fault_of (grammar_of orders) words) error → IsUsageOf error u → Answers (grammar_of orders) words (Err u)
       go Value kind of = absurd of
       go NoMemory kind of = tt
-      go (Help told) (inl memory) of = let bad : OutOfMemory ≡ DisplayHelp = sym memory ∙ of.1 in cc
-      go (Help told) (inr among) of = (ap kind_of of.0 ∙ of.1, subst (λ k. IsAmong k (fault_of (grammar_of orders) words)) of.1 among)
-      go (Line told) (inl memory) of = absurd (of.1.1 memory)
+      go (Help told) (inl memory) of = absurd (no_memory of.1)
+        where
+          no_memory : IsAskedFor error → ⊥
+          no_memory (inl help) = let bad : OutOfMemory ≡ DisplayHelp = sym memory ∙ help in cc
+          no_memory (inr version) = let bad : OutOfMemory ≡ DisplayVersion = sym memory ∙ version in cc
+      go (Help told) (inr among) of = rw of.0 (of.1, among)
+      go (Line told) (inl memory) of = absurd (of.1.2 memory)
       go (Line told) (inr among) of = rw of.0 (of.1, among)

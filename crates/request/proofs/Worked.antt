@@ -135,3 +135,15 @@ no_command = refl
 help_asked_for : fault_of grammar (codes "alcrs" ∷ codes "show" ∷ codes "--help" ∷ []) ≡ kind.DisplayHelp ∷ []
 unfolding clap_on_literals
 help_asked_for = refl
+
+version_asked_for : fault_of grammar (codes "alcrs" ∷ codes "--version" ∷ []) ≡ kind.DisplayVersion ∷ []
+unfolding clap_on_literals
+version_asked_for = refl
+
+version_asked_for_in_short : fault_of grammar (codes "alcrs" ∷ codes "-V" ∷ []) ≡ kind.DisplayVersion ∷ []
+unfolding clap_on_literals
+version_asked_for_in_short = refl
+
+version_of_a_command : fault_of grammar (codes "alcrs" ∷ codes "show" ∷ codes "--version" ∷ []) ≡ kind.UnknownArgument ∷ []
+unfolding clap_on_literals
+version_of_a_command = refl

@@ -105,10 +105,10 @@ twin_command = command (codes "twin")
 abbrev pub show_command : Shape
 show_command = command (codes "show") (file (codes "SESSION") ∷ [])
 
--- `alcrs`, with one of its commands
+-- `alcrs`, with one of its commands, or with `--version`
 abbrev pub grammar_of : Bor (List (Bor Text)) → App
 grammar_of orders = record {
-  top = record (new_shape (codes "alcrs")) { is_leaf = false; subcommand_required = true };
+  top = record (new_shape (codes "alcrs")) { is_leaf = false; subcommand_required = true; has_version = true };
   subs = encode_command orders ∷ certify_command ∷ convert_command ∷ check_command ∷ drop_command ∷ join_command
       ∷ decode_command ∷ follow_command ∷ twin_command ∷ show_command ∷ [];
 }

@@ -2,7 +2,6 @@
 use Rattle.std.specs.Prelude.{◌≡◌, ◌<◌, ◌≤◌, ◌^◌, ◌∷◌, [], ℕ, Bool, true, false, List, Option, Some, Result, Ok, Err, length, codes, map, ⊤}
 use Rattle.std.specs.Str.Parse.{IsNumeral, digits_value, without_leading_plus}
 use Rattle.clap.specs.Words.{App, IsAmong, Row, Text, all_of, fault_of, first_of, kind_of, many_of, one_of, subcommand_of}
-use Rattle.clap.specs.declared.error.kind.ErrorKind.TheVariants.{DisplayHelp}
 use Rattle.partition.specs.declared.order.Order.{Order}
 use Rattle.partition.specs.declared.order.Order.TheVariants.{Blocks, Rounds}
 use Rattle.request.specs.declared.requests.Sizes.{Sizes}
@@ -12,7 +11,7 @@ use Rattle.request.specs.declared.requests.Request.{Request}
 use Rattle.request.specs.declared.requests.Request.TheVariants.{Check, Twin, Show, Encode, Certify, Convert, Decode, Follow, Drop, Join}
 use Rattle.request.specs.declared.usage.Usage.{Usage}
 use Rattle.request.specs.declared.usage.Usage.TheVariants.{Help, Line, Value, NoMemory}
-use Rattle.request.specs.Usages.{IsRefusal}
+use Rattle.request.specs.Usages.{IsAskedFor, IsRefusal}
 use Rattle.request.specs.Grammar.{most_symbol_bytes}
 
 -- ---- values, by the rows that the grammar reads from a command's words
@@ -164,6 +163,6 @@ IsRead read asked = (rows : List Row) × (read ≡ Some (name_of asked, rows)) �
 abbrev pub Answers : App → List Text → Result Request Usage → Type 0
 Answers grammar words (Ok request) = (fault_of grammar words ≡ []) × IsRead (subcommand_of grammar words) (asked_of request)
 Answers grammar words (Err Value) = ⊥
-Answers grammar words (Err (Help told)) = (kind_of told ≡ DisplayHelp) × IsAmong DisplayHelp (fault_of grammar words)
+Answers grammar words (Err (Help told)) = IsAskedFor told × IsAmong (kind_of told) (fault_of grammar words)
 Answers grammar words (Err (Line told)) = IsRefusal told × IsAmong (kind_of told) (fault_of grammar words)
 Answers grammar words (Err NoMemory) = ⊤

@@ -4,6 +4,7 @@ ghost use Rattle.clap.specs.Words.{rule_of};
 ghost use Rattle.request.specs.Grammar.{file as file_rule, number as number_rule, fti_every as fti_every_rule, order as order_rule, places as places_rule, sessions as sessions_rule, turns as turns_rule, encode_command as encode_shape, certify_command as certify_shape, convert_command as convert_shape, check_command as check_shape, drop_command as drop_shape, join_command as join_shape, decode_command as decode_shape, follow_command as follow_shape, twin_command as twin_shape, show_command as show_shape, IsOrders};
 ghost use Rattle.request.specs.Building.{HasGrammar, IsShaped, AddsRules, AddsCommand};
 
+use crate::help;
 use crate::requests::MOST_SYMBOL_BYTES;
 use clap::builder::ValueParser;
 use clap::{Arg, ArgAction, Command};
@@ -12,10 +13,10 @@ use std::alloc::{AllocError, Global};
 const ABOUT: &str =
     "Certifies file-delivery sessions: ALC datagrams with Reed-Solomon symbols (RFC 5510, FEC Encoding ID 5)";
 
-const ORDERS: [&str; 2] = ["blocks", "rounds"];
+// The version that `--version` tells; CHANGELOG.md has it too.
+const VERSION: &str = "0.9.0";
 
-const STATUSES: &str =
-    "Statuses: 0 done or yes, 1 no or a fault, 2 the command line is refused, 3 decode has too little.\n\nExample: alcrs check bulletin.session bulletin.txt bulletin.rsc --tsi 7 --toi 1";
+const ORDERS: [&str; 2] = ["blocks", "rounds"];
 
 /// An argument that names a file: its name and its help.
 type FileArgument<'a> = (&'a str, &'a str);
@@ -25,18 +26,21 @@ const SESSION: FileArgument<'static> = (
     "The session file: each datagram behind its length in two bytes",
 );
 
-const CARRIED_OBJECT: FileArgument<'static> = ("OBJECT", "The file that the session is to carry");
+const CARRIED_OBJECT: FileArgument<'static> = (
+    "OBJECT",
+    "The object: the file that the session is to carry",
+);
 
 const CERTIFICATE: FileArgument<'static> = (
     "CERT",
-    "The certificate: the polynomial of each byte column of each block",
+    "The certificate of the object, as `alcrs certify` writes it",
 );
 
 const SESSION_TO_WRITE: FileArgument<'static> = ("OUT", "The session file to write");
 
 const CERTIFICATE_TO_WRITE: FileArgument<'static> = ("OUT", "The certificate to write");
 
-const OBJECT_TO_WRITE: FileArgument<'static> = ("OUT", "The object to write, where there is one");
+const OBJECT_TO_WRITE: FileArgument<'static> = ("OUT", "The file to write the object to");
 
 // The command with these arguments last, in this order, each of which has to be given.
 #[tactic(auto, using(crate::proofs::Rules::no_rules))]
@@ -60,11 +64,9 @@ fn check_command<'a>(alloc: Global) -> Result<Command<'a>, AllocError>
 {
     let command = Command::new(alloc, "check")
         .about(
-            "Says whether a certificate proves that a session carries an object under a TSI and TOI, and how many datagrams may be missed",
+            "Says whether a certificate proves that a session carries an object, and how many datagrams may be missed",
         )
-        .after_help(
-            "Prints `yes`, for each block how many symbols it needs and has, how many datagrams carry the FTI (carriers), and how many may be missed: any (margin), and neighbouring ones (burst); and the places of the first loss that is too great (kill). Else `no` and the first reason. Packets of another TSI or TOI are passed over; places are those of the whole session.\nStatuses: 0 yes, 1 no or a fault, 2 the command line is refused.\n\nExample: alcrs check bulletin.session bulletin.txt bulletin.rsc --tsi 7 --toi 1",
-        );
+        .after_help(help::CHECK);
     let command = with_files(alloc, command, &[SESSION, CARRIED_OBJECT, CERTIFICATE])?;
     with_numbers(alloc, command, &IDENTIFIERS)
 }
@@ -74,11 +76,9 @@ fn twin_command<'a>(alloc: Global) -> Result<Command<'a>, AllocError>
 {
     let command = Command::new(alloc, "twin")
         .about(
-            "Writes another object that agrees with all packets of a TSI and TOI in a session, where a block of it is short",
+            "Where a block has too few symbols, writes another object of the same length that fits the datagrams too",
         )
-        .after_help(
-            "Prints the first block that is short and how many symbols it has and needs; `no twin` if none is, or `no` and the first reason against the session. Packets of another TSI or TOI are passed over.\nStatuses: 0 a twin was written, 1 none was or a fault, 2 the command line is refused.\n\nExample: alcrs twin thinned.session bulletin.txt bulletin.rsc other.txt --tsi 7 --toi 1",
-        );
+        .after_help(help::TWIN);
     let command = with_files(
         alloc,
         command,
@@ -86,7 +86,7 @@ fn twin_command<'a>(alloc: Global) -> Result<Command<'a>, AllocError>
             SESSION,
             CARRIED_OBJECT,
             CERTIFICATE,
-            ("OUT", "The other object to write"),
+            ("OUT", "The file to write the other object to"),
         ],
     )?;
     with_numbers(alloc, command, &IDENTIFIERS)
@@ -97,9 +97,7 @@ fn show_command<'a>(alloc: Global) -> Result<Command<'a>, AllocError>
 {
     let command = Command::new(alloc, "show")
         .about("Prints a line for each datagram of a session")
-        .after_help(
-            "Prints each datagram's place, TSI, TOI, FTI or that it has none, source block number and encoding symbol ID, or why it is no packet.\nStatuses: 0 all are packets, 1 some are not or a fault, 2 the command line is refused.\n\nExample: alcrs show bulletin.session",
-        );
+        .after_help(help::SHOW);
     with_files(alloc, command, &[SESSION])
 }
 
@@ -115,13 +113,13 @@ struct NumberOption<'a> {
 const IDENTIFIERS: [NumberOption<'static>; 2] = [
     NumberOption {
         name: "tsi",
-        help: "The transport session identifier, 0 to 4294967295",
+        help: "The transport session identifier (TSI), 0 to 4294967295",
         least: 0,
         most: 4_294_967_295,
     },
     NumberOption {
         name: "toi",
-        help: "The transport object identifier, 0 to 4294967295",
+        help: "The transport object identifier (TOI), 0 to 4294967295",
         least: 0,
         most: 4_294_967_295,
     },
@@ -131,19 +129,19 @@ const IDENTIFIERS: [NumberOption<'static>; 2] = [
 const SIZES: [NumberOption<'static>; 3] = [
     NumberOption {
         name: "symbol",
-        help: "The encoding symbol length in bytes, 1 to 65475",
+        help: "The length of an encoding symbol in bytes, 1 to 65475",
         least: 1,
         most: MOST_SYMBOL_BYTES as u64,
     },
     NumberOption {
         name: "block",
-        help: "The maximum source block length in symbols, 1 to 255",
+        help: "The most source symbols of a block, 1 to 255",
         least: 1,
         most: 255,
     },
     NumberOption {
         name: "max",
-        help: "The maximum number of encoding symbols of a block, 1 to 255, not below --block",
+        help: "The most encoding symbols of a block, 1 to 255, and not below --block",
         least: 1,
         most: 255,
     },
@@ -184,10 +182,8 @@ fn encode_command<'a>(alloc: Global) -> Result<Command<'a>, AllocError>
         (orders : _) × IsOrders orders × IsShaped (encode_shape orders) command) }
 {
     let command = Command::new(alloc, "encode")
-        .about("Writes the session file of an object: all encoding symbols of all its blocks")
-        .after_help(
-            "Prints how many datagrams there are.\nStatuses: 0 done, 1 a fault, 2 the command line is refused.\n\nExample: alcrs encode bulletin.txt bulletin.session --tsi 7 --toi 1 --symbol 64 --block 20 --max 30",
-        );
+        .about("Writes the session of an object: every encoding symbol of every block once")
+        .after_help(help::ENCODE);
     let command = with_files(
         alloc,
         command,
@@ -215,9 +211,7 @@ fn fti_every<'a>(alloc: Global) -> Arg<'a>
         .value_name("M")
         .value_parser(ValueParser::unsigned(1, 255))
         .default_value("1")
-        .help(
-            "The datagrams at the places that M divides carry the FTI, 1 to 255: each of them costs 12 bytes (a header of 32 in place of 20), so that a greater M saves bytes; with M above 1 a listener that misses all of them can't decode. The line `carriers` of check tells how many there are",
-        )
+        .help("Every M-th datagram, from the first on, has the FTI; M is 1 to 255")
 }
 
 // In which order the encoding symbols are sent.
@@ -230,19 +224,15 @@ fn order<'a>(alloc: Global) -> Arg<'a>
         .value_name("ORDER")
         .value_parser(ORDERS.as_slice())
         .default_value("blocks")
-        .help("Block after block, or one symbol of each block in turn")
+        .help("Block after block (blocks), or one symbol of each block in turn (rounds)")
 }
 
 fn certify_command<'a>(alloc: Global) -> Result<Command<'a>, AllocError>
     ensures { IfOk result (IsShaped certify_shape) }
 {
     let command = Command::new(alloc, "certify")
-        .about(
-            "Writes the certificate of an object, for the packets of a TSI and TOI: the polynomial of each byte column of each block",
-        )
-        .after_help(
-            "Prints how many blocks there are.\nStatuses: 0 done, 1 a fault, 2 the command line is refused.\n\nExample: alcrs certify bulletin.txt bulletin.rsc --tsi 7 --toi 1 --symbol 64 --block 20 --max 30",
-        );
+        .about("Writes the certificate of an object, for the datagrams of a TSI and TOI")
+        .after_help(help::CERTIFY);
     let command = with_files(
         alloc,
         command,
@@ -256,10 +246,8 @@ fn convert_command<'a>(alloc: Global) -> Result<Command<'a>, AllocError>
     ensures { IfOk result (IsShaped convert_shape) }
 {
     let command = Command::new(alloc, "convert")
-        .about("Writes a certificate anew, by rows and for the packets of a TSI and TOI")
-        .after_help(
-            "Reads a certificate of either layout. Prints how many blocks there are. A certificate that is for another TSI or TOI is refused.\nStatuses: 0 done, 1 a fault, 2 the command line is refused.\n\nExample: alcrs convert old.rsc bulletin.rsc --tsi 7 --toi 1",
-        );
+        .about("Writes a certificate anew, as RSC2, for the datagrams of a TSI and TOI")
+        .after_help(help::CONVERT);
     let command = with_files(
         alloc,
         command,
@@ -272,10 +260,8 @@ fn drop_command<'a>(alloc: Global) -> Result<Command<'a>, AllocError>
     ensures { IfOk result (IsShaped drop_shape) }
 {
     let command = Command::new(alloc, "drop")
-        .about("Writes a session file without the datagrams at some places")
-        .after_help(
-            "Prints how many datagrams are left.\nStatuses: 0 done, 1 a fault, 2 the command line is refused.\n\nExample: alcrs drop bulletin.session thinned.session 0 3 7",
-        );
+        .about("Writes a session without the datagrams at some places")
+        .after_help(help::DROP);
     with_files(alloc, command, &[SESSION, SESSION_TO_WRITE])?.arg(places(alloc))
 }
 
@@ -283,10 +269,8 @@ fn join_command<'a>(alloc: Global) -> Result<Command<'a>, AllocError>
     ensures { IfOk result (IsShaped join_shape) }
 {
     let command = Command::new(alloc, "join")
-        .about("Writes a session file of the datagrams of several")
-        .after_help(
-            "Prints how many datagrams there are: all of the first session, then all of the second, and so on, or, with --turns, one of each in turn, sessions that have ended being passed over.\nStatuses: 0 done, 1 a fault, 2 the command line is refused.\n\nExample: alcrs join both.session first.session second.session --turns",
-        );
+        .about("Writes the datagrams of several sessions as one session")
+        .after_help(help::JOIN);
     let command = with_files(alloc, command, &[SESSION_TO_WRITE])?;
     command.arg(sessions(alloc))?.arg(turns(alloc))
 }
@@ -295,10 +279,8 @@ fn decode_command<'a>(alloc: Global) -> Result<Command<'a>, AllocError>
     ensures { IfOk result (IsShaped decode_shape) }
 {
     let command = Command::new(alloc, "decode")
-        .about("Writes the object that the packets of a TSI and TOI in a session give")
-        .after_help(
-            "Prints `object` and its length in bytes, and writes it; else `empty`, or `missing`, the first block that is short and how many symbols it has and needs, or `fault` and why the packets are of no object. Packets of another TSI or TOI are passed over.\nStatuses: 0 the object was written, 1 a fault, 2 the command line is refused, 3 a block is short or no packet with the FTI came.\n\nExample: alcrs decode bulletin.session received.txt --tsi 7 --toi 1",
-        );
+        .about("Writes the object that the datagrams of a session give")
+        .after_help(help::DECODE);
     let command = with_files(alloc, command, &[SESSION, OBJECT_TO_WRITE])?;
     with_numbers(alloc, command, &IDENTIFIERS)
 }
@@ -308,11 +290,9 @@ fn follow_command<'a>(alloc: Global) -> Result<Command<'a>, AllocError>
 {
     let command = Command::new(alloc, "follow")
         .about(
-            "Takes the datagrams of a session one by one, as they come, and writes the object of a TSI and TOI as soon as they give it",
+            "Takes the datagrams of a session one by one, as they come, and writes the object as soon as they give it",
         )
-        .after_help(
-            "Prints `refused`, its place and why for each datagram that is of no object with those before it, and goes on without it; then `complete after` and how many datagrams were read, and `object` and its length in bytes, and reads no further; else, at the session's end, `empty`, or `missing`, the first block that is short and how many symbols it has and needs. Packets of another TSI or TOI are passed over. SESSION may be a pipe.\nStatuses: 0 the object was written, 1 a fault, 2 the command line is refused, 3 a block is short or no packet with the FTI came.\n\nExample: alcrs follow bulletin.session received.txt --tsi 7 --toi 1",
-        );
+        .after_help(help::FOLLOW);
     let command = with_files(alloc, command, &[SESSION, OBJECT_TO_WRITE])?;
     with_numbers(alloc, command, &IDENTIFIERS)
 }
@@ -326,7 +306,9 @@ fn places<'a>(alloc: Global) -> Arg<'a>
         .required(true)
         .num_args(1usize..)
         .value_parser(ValueParser::unsigned(0, u64::from(u32::MAX)))
-        .help("The places of the datagrams to leave out, counted from 0; repeats count once")
+        .help(
+            "The places of the datagrams to leave out, 0 to 4294967295; the first datagram is at place 0",
+        )
 }
 
 // The sessions to join, one or more.
@@ -337,7 +319,7 @@ fn sessions<'a>(alloc: Global) -> Arg<'a>
     Arg::new(alloc, "SESSION")
         .required(true)
         .num_args(1usize..)
-        .help("The session files to join, in this order; one may be named several times")
+        .help("The session files to join, in this order; a file may be named several times")
 }
 
 // Whether one datagram of each session is written in turn.
@@ -366,8 +348,9 @@ pub(crate) fn grammar<'a>(alloc: Global) -> Result<Command<'a>, AllocError>
     ensures { IfOk result HasGrammar }
 {
     let parser = Command::new(alloc, "alcrs")
+        .version(VERSION)
         .about(ABOUT)
-        .after_help(STATUSES)
+        .after_help(help::ALCRS)
         .subcommand_required(true);
     let parser = with_command(parser, encode_command(alloc))?;
     let parser = with_command(parser, certify_command(alloc))?;

@@ -3,11 +3,13 @@
 //! - `requests`: the commands with their values.
 //! - `usage`: why words are no request.
 //! - `grammar`: the commands, their arguments and their help, for clap.
+//! - `help`: what the help of each command says of its lines, statuses and use.
 //! - `matched`: the request of what clap matched.
 //! - `line`: the request of a command line's words.
 #![tactic(auto)]
 
 mod grammar;
+mod help;
 mod line;
 mod matched;
 mod requests;

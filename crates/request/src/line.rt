@@ -16,7 +16,7 @@ fn usage_of(error: Error) -> Usage
     ensures { IsUsageOf error result }
 {
     match error.kind() {
-        ErrorKind::DisplayHelp => Usage::Help(error),
+        ErrorKind::DisplayHelp | ErrorKind::DisplayVersion => Usage::Help(error),
         ErrorKind::OutOfMemory => Usage::NoMemory,
         _ => Usage::Line(error),
     }
@@ -25,7 +25,7 @@ fn usage_of(error: Error) -> Usage
 /// The request that the words of a command line make, the first of which is the program's name. It borrows its texts from
 /// them. Any words may be given.
 ///
-/// An error is `Help` where the words ask for help, `Line` where the grammar refuses them, and `NoMemory`; never `Value`.
+/// An error is `Help` where the words ask for help or the version, `Line` where the grammar refuses them, and `NoMemory`; never `Value`.
 pub fn request<'a>(alloc: Global, words: &'a [&'a str]) -> Result<Request<'a>, Usage>
     // The request that the grammar reads from the words where they have no fault, else why they are none; or no memory.
     ensures { (orders : _)

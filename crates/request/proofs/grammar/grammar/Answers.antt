@@ -9,14 +9,14 @@ use Rattle.request.proofs.Rules.{command_added, encode_added}
 use Rattle.request.proofs.grammar.grammar.Goals as goal
 
 abbrev none : App
-none = record { top = record (new_shape (codes "alcrs")) { subcommand_required = true }; subs = [] }
+none = record { top = record (new_shape (codes "alcrs")) { subcommand_required = true; has_version = true }; subs = [] }
 
 abbrev also : Shape → App → App
 also shape app = with_subcommand app shape
 
 pub returns : goal.returns
 returns c =
-    let top : app_of c.subcommand_required-parser.result ≡ none = rw (c.subcommand_required-parser.ensures, c.after_help.ensures, c.about.ensures) (ap (λ (app : App). record app { top = record (App.top app) { subcommand_required = true } }) c.new.ensures.app) in
+    let top : app_of c.subcommand_required-parser.result ≡ none = rw (c.subcommand_required-parser.ensures, c.after_help.ensures, c.about.ensures, c.version.ensures) (ap (λ (app : App). record app { top = record (App.top app) { subcommand_required = true; has_version = true } }) c.new.ensures.app) in
     let encode = encode_added c.subcommand_required-parser.result c.in_ok-parser.parser c.encode_command.result c.in_ok-parser.ensures c.encode_command.ensures in
     let certify = command_added c.in_ok-parser.parser c.in_ok-parser-2.parser c.certify_command.result certify_command c.in_ok-parser-2.ensures c.certify_command.ensures in
     let convert = command_added c.in_ok-parser-2.parser c.in_ok-parser-3.parser c.convert_command.result convert_command c.in_ok-parser-3.ensures c.convert_command.ensures in

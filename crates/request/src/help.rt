@@ -1,0 +1,102 @@
+//! What the help of each command says behind its arguments: the lines that it prints, with their units, its statuses, and
+//! how to call it. The files of the examples are those of samples/ and of the README's walk.
+
+pub(crate) const ALCRS: &str =
+    "Statuses: 0 done or yes, 1 no or a fault, 2 the command line is refused, 3 decode or follow has too little.
+`alcrs COMMAND --help` tells what a command prints. A command that fails prints `fault REASON`.
+
+Example: alcrs check bulletin.session bulletin.txt bulletin.rsc --tsi 7 --toi 1";
+
+pub(crate) const ENCODE: &str = "Prints `encoded D datagrams`.
+The FTI is the object's length, --symbol, --block and --max.
+A datagram with the FTI has 32 bytes before its symbol, and one without it 20.
+A listener who gets no datagram with the FTI can't decode.
+Statuses: 0 done, 1 a fault, 2 the command line is refused.
+
+Example: alcrs encode bulletin.txt bulletin.session --tsi 7 --toi 1 --symbol 250 --block 32 --max 40
+Example: alcrs encode note.txt sparse.session --tsi 7 --toi 2 --symbol 8 --block 8 --max 12 --fti-every 4";
+
+pub(crate) const CERTIFY: &str = "Prints `certified N blocks`.
+Statuses: 0 done, 1 a fault, 2 the command line is refused.
+
+Example: alcrs certify bulletin.txt bulletin.rsc --tsi 7 --toi 1 --symbol 250 --block 32 --max 40";
+
+pub(crate) const CONVERT: &str =
+    "Reads a certificate of either layout, RSC1 or RSC2. One that is for another TSI or TOI is refused.
+Prints `converted N blocks`.
+Statuses: 0 done, 1 a fault, 2 the command line is refused.
+
+Example: alcrs convert note.rsc1 note.rsc --tsi 7 --toi 2";
+
+pub(crate) const CHECK: &str = "Prints `no` and the first reason, or `yes` and these lines:
+  block B need K have H  for each block B: it needs K symbols, and has H different ones
+  carriers C             C datagrams have the FTI
+  margin M               any M datagrams may be missed
+  kill P P ..            the places of M + 1 datagrams that may not all be missed
+  burst N                any N neighbouring datagrams may be missed
+Blocks and places count from 0. Places are those of the whole session.
+Datagrams of another TSI or TOI are passed over.
+Statuses: 0 yes, 1 no or a fault, 2 the command line is refused.
+
+Example: alcrs check bulletin.session bulletin.txt bulletin.rsc --tsi 7 --toi 1";
+
+pub(crate) const DROP: &str = "A place that is named twice counts once.
+Prints `kept D datagrams`.
+Statuses: 0 done, 1 a fault, 2 the command line is refused.
+
+Example: alcrs drop note.session thin.session 0 1 2";
+
+pub(crate) const JOIN: &str =
+    "Writes all datagrams of the first session, then all of the second, and so on.
+With --turns it writes one datagram of each session in turn. A session that has ended is passed over.
+Prints `joined D datagrams`.
+Statuses: 0 done, 1 a fault, 2 the command line is refused.
+
+Example: alcrs join two.session bulletin.session note.session --turns";
+
+pub(crate) const DECODE: &str = "Prints one of these lines:
+  object L bytes                 the object was written, L bytes
+  missing block B have H need K  block B is the first that is short: it needs K symbols, and H different ones are there
+  empty                          no datagram has the FTI
+  fault REASON                   why the datagrams are of no object, or what failed
+Blocks and places count from 0. Places are those of the whole session.
+Datagrams of another TSI or TOI are passed over.
+Statuses: 0 the object was written, 1 a fault, 2 the command line is refused, 3 `missing` or `empty`.
+
+Example: alcrs decode bulletin.session received.txt --tsi 7 --toi 1";
+
+pub(crate) const FOLLOW: &str = "Prints a line for each datagram that it leaves out:
+  refused P REASON               the datagram at place P was left out, and why
+Once the object is there, prints two lines and reads no further:
+  complete after D datagrams     so many were read
+  object L bytes                 the object was written, L bytes
+At the session's end, prints one of these lines:
+  missing block B have H need K  block B is the first that is short: it needs K symbols, and H different ones came
+  empty                          no datagram with the FTI was taken
+Blocks and places count from 0. SESSION may be a pipe.
+Datagrams of another TSI or TOI are passed over.
+Statuses: 0 the object was written, 1 a fault, 2 the command line is refused, 3 `missing` or `empty`.
+
+Example: alcrs follow bulletin.session received.txt --tsi 7 --toi 1
+Example: cat bulletin.session | alcrs follow /dev/stdin received.txt --tsi 7 --toi 1";
+
+pub(crate) const TWIN: &str = "Prints one of these lines:
+  twin block B have H need K  the other object was written: block B needs K symbols, and has H different ones
+  no twin                     no block is short
+  no REASON                   `alcrs check` says no for another reason
+Blocks and places count from 0. Places are those of the whole session.
+Datagrams of another TSI or TOI are passed over.
+Statuses: 0 a twin was written, 1 none was, 2 the command line is refused.
+
+Example: alcrs twin thin.session note.txt note.rsc twin.txt --tsi 7 --toi 2";
+
+pub(crate) const SHOW: &str = "Prints one of these lines for each datagram:
+  P tsi T toi U length L symbol E block B max M sbn S esi J  it has the FTI
+  P tsi T toi U no fti symbol E sbn S esi J                  it hasn't
+  P REASON                                                   it is no packet
+P is its place. L is the object's length in bytes, E the symbol's.
+B is the most source symbols of a block, M the most encoding symbols.
+S is the block's number, J the symbol's in the block. Places, blocks and symbols count from 0.
+Statuses: 0 all are packets, 1 some are not, or a fault, 2 the command line is refused.
+
+Example: alcrs show bulletin.session";
