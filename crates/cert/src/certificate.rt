@@ -57,7 +57,8 @@ impl Model for Certificate {
 
     ghost Value = { CertificateValue };
 
-    ghost view = { λ z. record { fti = z.fti; name = z.name; coefficients = z.coefficients.items } };
+    ghost view = { λ z.
+        record { fti = z.fti; name = z.name; coefficients = z.coefficients.items } };
 
     ghost invariant = { λ z. IsCertificate
         (record { fti = z.fti; name = z.name; coefficients = z.coefficients.items }) };

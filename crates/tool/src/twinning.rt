@@ -29,7 +29,8 @@ pub(crate) fn twin<'a, F: Folder, W: Write>(
     identity: Identity,
 ) -> Result<u8, Fault<'a>>
     ensures ok { IfOk result (IsTwinned identity (F.files folder.old) (F.files folder.new)
-        session.now object.now certificate.now output.now (W.contents out.old) (W.contents out.new)) }
+        session.now object.now certificate.now output.now
+        (W.contents out.old) (W.contents out.new)) }
     ensures fault { IfErr result (Fails (IsUntwinned session.now object.now certificate.now
         output.now) (F.files folder.old) (F.files folder.new) output.now (W.failed out.new)
         (W.contents out.old) (W.contents out.new)) }
