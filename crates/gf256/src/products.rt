@@ -29,6 +29,32 @@ const ONE_TABLE: usize = 64;
 /// Outputs that are made of one table.
 const MOST_ROWS: usize = 128;
 
+/// A value at an address that 16 divides, as a number of 16 bytes beside it asks for that. A local array of
+/// vectors alone has none such: then one load in four crosses a line of the cache.
+#[derive(Drop)]
+struct Aligned<T> {
+    value: T,
+    _beside: u128,
+}
+
+impl<T> Aligned<T> {
+    #[inline(always)]
+    fn new(value: T) -> Aligned<T>
+        ensures { result.value ≡ value }
+    {
+        Aligned { value, _beside: 0 }
+    }
+}
+
+/// Coefficients: a row for each output, and in each row one for each source.
+#[derive(Clone, Copy)]
+struct Coefficients<'a> {
+    bytes: &'a [u8],
+    rows: usize,
+    count: usize,
+    ghost whole: { length bytes.now ≡ rows * count },
+}
+
 #[inline(always)]
 fn sum_lanes(a: u8x64, b: u8x64) -> u8x64
     ensures { (t : ℕ) → t < 64
@@ -473,9 +499,7 @@ fn add_some(
 // The same for more rows.
 fn add_rows(
     outputs: &mut [u8],
-    rows: usize,
-    coefficients: &[u8],
-    count: usize,
+    coefficients: &Coefficients<'_>,
     first: usize,
     sources: &[u8],
     taken: usize,
@@ -493,23 +517,24 @@ fn add_rows(
     requires size { size ≤ 6 }
     requires entries { entries ≡ 2 ^ size }
     requires table { groups * entries ≤ length table.old }
-    requires inside { first + taken ≤ count }
-    requires room { length outputs.old ≡ rows * width }
-    requires coefficients { length coefficients.now ≡ rows * count }
+    requires inside { first + taken ≤ coefficients.now.count }
+    requires room { length outputs.old ≡ coefficients.now.rows * width }
     requires reach { taken * stride + width < 2 ^ 64 }
-    ensures { (r j : ℕ) → r < rows → j < width
+    ensures { (r j : ℕ) → r < coefficients.now.rows → j < width
         → slice_index outputs.new (r * width + j)
         ≡ sum_of (slice_index outputs.old (r * width + j))
-        (byte_sum taken (λ i. product (slice_index coefficients.now (r * count + first + i))
+        (byte_sum taken (λ i. product
+        (slice_index coefficients.now.bytes.now (r * coefficients.now.count + first + i))
         (slice_index sources.now (i * stride + j)))) }
 {
+    let Coefficients { bytes, rows, count } = *coefficients;
     let mut row = 0;
     while row < rows {
         let some = MOST_ROWS.min(rows - row);
         add_some(
             &mut outputs[row * width..],
             some,
-            &coefficients[row * count..],
+            &bytes[row * count..],
             count,
             first,
             sources,
@@ -529,10 +554,8 @@ fn add_rows(
 // The same for any sources.
 fn add_by_groups(
     outputs: &mut [u8],
-    rows: usize,
-    coefficients: &[u8],
+    coefficients: &Coefficients<'_>,
     sources: &[u8],
-    count: usize,
     stride: usize,
     width: usize,
     table: &mut [u8x64],
@@ -546,15 +569,16 @@ fn add_by_groups(
     requires one { 0 < size }
     requires entries { entries ≡ 2 ^ size }
     requires table { most * entries ≤ length table.old }
-    requires outputs { length outputs.old ≡ rows * width }
-    requires coefficients { length coefficients.now ≡ rows * count }
-    requires reach { count * stride + width < 2 ^ 64 }
-    ensures { (r j : ℕ) → r < rows → j < width
+    requires outputs { length outputs.old ≡ coefficients.now.rows * width }
+    requires reach { coefficients.now.count * stride + width < 2 ^ 64 }
+    ensures { (r j : ℕ) → r < coefficients.now.rows → j < width
         → slice_index outputs.new (r * width + j)
         ≡ sum_of (slice_index outputs.old (r * width + j))
-        (byte_sum count (λ i. product (slice_index coefficients.now (r * count + i))
+        (byte_sum coefficients.now.count (λ i. product
+        (slice_index coefficients.now.bytes.now (r * coefficients.now.count + i))
         (slice_index sources.now (i * stride + j)))) }
 {
+    let count = coefficients.count;
     let mut first = 0;
     while first < count {
         let groups = most.min((count - first - 1) / size + 1);
@@ -562,9 +586,7 @@ fn add_by_groups(
         let from = (first * stride).min(sources.len());
         add_rows(
             outputs,
-            rows,
             coefficients,
-            count,
             first,
             &sources[from..],
             taken,
@@ -584,48 +606,42 @@ fn add_by_groups(
 // four would need more than one.
 fn add_by_tables(
     outputs: &mut [u8],
-    rows: usize,
-    coefficients: &[u8],
+    coefficients: &Coefficients<'_>,
     sources: &[u8],
-    count: usize,
     stride: usize,
     width: usize,
 )
-    requires outputs { length outputs.old ≡ rows * width }
-    requires coefficients { length coefficients.now ≡ rows * count }
-    requires reach { count * stride + width < 2 ^ 64 }
-    ensures { (r j : ℕ) → r < rows → j < width
+    requires outputs { length outputs.old ≡ coefficients.now.rows * width }
+    requires reach { coefficients.now.count * stride + width < 2 ^ 64 }
+    ensures { (r j : ℕ) → r < coefficients.now.rows → j < width
         → slice_index outputs.new (r * width + j)
         ≡ sum_of (slice_index outputs.old (r * width + j))
-        (byte_sum count (λ i. product (slice_index coefficients.now (r * count + i))
+        (byte_sum coefficients.now.count (λ i. product
+        (slice_index coefficients.now.bytes.now (r * coefficients.now.count + i))
         (slice_index sources.now (i * stride + j)))) }
 {
-    if rows < MANY_ROWS || count <= ONE_TABLE {
-        let mut table = [u8x64::splat(0); 256];
+    if coefficients.rows < MANY_ROWS || coefficients.count <= ONE_TABLE {
+        let mut table = Aligned::new([u8x64::splat(0); 256]);
         add_by_groups(
             outputs,
-            rows,
             coefficients,
             sources,
-            count,
             stride,
             width,
-            &mut table,
+            &mut table.value,
             16,
             4,
             16,
         );
     } else {
-        let mut table = [u8x64::splat(0); 512];
+        let mut table = Aligned::new([u8x64::splat(0); 512]);
         add_by_groups(
             outputs,
-            rows,
             coefficients,
             sources,
-            count,
             stride,
             width,
-            &mut table,
+            &mut table.value,
             8,
             6,
             64,
@@ -688,6 +704,11 @@ pub fn add_products(
     if rows == 1 {
         add_one(outputs, coefficients, sources, stride);
     } else {
-        add_by_tables(outputs, rows, coefficients, sources, count, stride, width);
+        let coefficients = Coefficients {
+            bytes: coefficients,
+            rows,
+            count,
+        };
+        add_by_tables(outputs, &coefficients, sources, stride, width);
     }
 }

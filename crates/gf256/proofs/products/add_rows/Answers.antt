@@ -11,13 +11,13 @@ use Rattle.gf256.proofs.products.add_rows.Goals as goal
 pub add_some-requires-clause-room : goal.add_some-requires-clause-room
 add_some-requires-clause-room c =
     let long = part_long c.loop-row.outputs (c.loop-row.row * c.args.width) in
-    let fit = rows_fit c.loop-row.row c.min-some.result c.args.rows c.args.width (omega arith) in
+    let fit = rows_fit c.loop-row.row c.min-some.result c.args.coefficients.now.rows c.args.width (omega arith) in
     omega arith
 
 pub add_some-requires-clause-coefficients : goal.add_some-requires-clause-coefficients
 add_some-requires-clause-coefficients c =
-    let long = part_long c.args.coefficients.now (c.loop-row.row * c.args.count) in
-    let fit = rows_fit c.loop-row.row c.min-some.result c.args.rows c.args.count (omega arith) in
+    let long = part_long c.args.coefficients.now.bytes.now (c.loop-row.row * c.args.coefficients.now.count) in
+    let fit = rows_fit c.loop-row.row c.min-some.result c.args.coefficients.now.rows c.args.coefficients.now.count (omega arith) in
     omega arith
 
 pub loop-row-preserved : goal.loop-row-preserved
@@ -25,7 +25,7 @@ loop-row-preserved c =
     let row : ℕ = c.loop-row.row in
     let e : ℕ = c.args.width in
     let long = part_long c.loop-row.outputs (c.loop-row.row * c.args.width) in
-    let start : c.loop-row.row * c.args.width ≤ length c.loop-row.outputs = (let fit = rows_fit c.loop-row.row 0 c.args.rows c.args.width (omega arith) in omega arith) in
+    let start : c.loop-row.row * c.args.width ≤ length c.loop-row.outputs = (let fit = rows_fit c.loop-row.row 0 c.args.coefficients.now.rows c.args.width (omega arith) in omega arith) in
     record {
       inside = omega arith;
       done = λ r j lr lj. elim (cases_lt r c.loop-row.row) [
@@ -33,11 +33,11 @@ loop-row-preserved c =
             put_below c.loop-row.outputs c.add_some.new.outputs _ (c.loop-row.row * c.args.width) (r * c.args.width + j) start (omega arith) ∙ c.loop-row.invariant.done r j l lj
         | inr g ↦
             let pos = from_row c.loop-row.row r c.args.width j g in
-            let lr_all : r < c.args.rows = omega arith in
-            let bound : (r - c.loop-row.row) * c.args.width + j < length c.loop-row.outputs - c.loop-row.row * c.args.width = (let b = from_row_within c.loop-row.row r c.args.rows c.args.width j g lr_all lj in omega arith) in
+            let lr_all : r < c.args.coefficients.now.rows = omega arith in
+            let bound : (r - c.loop-row.row) * c.args.width + j < length c.loop-row.outputs - c.loop-row.row * c.args.width = (let b = from_row_within c.loop-row.row r c.args.coefficients.now.rows c.args.width j g lr_all lj in omega arith) in
             let s : ℕ = r - c.loop-row.row in
-            let part = take (length c.args.coefficients.now - c.loop-row.row * c.args.count) (drop (c.loop-row.row * c.args.count) c.args.coefficients.now) in
-            let sum : ℕ = byte_sum c.args.taken (λ i. product (get_or part (s * c.args.count + c.args.first + i) 0) (get_or c.args.sources.now (i * c.args.stride + j) 0)) in
+            let part = take (length c.args.coefficients.now.bytes.now - c.loop-row.row * c.args.coefficients.now.count) (drop (c.loop-row.row * c.args.coefficients.now.count) c.args.coefficients.now.bytes.now) in
+            let sum : ℕ = byte_sum c.args.taken (λ i. product (get_or part (s * c.args.coefficients.now.count + c.args.first + i) 0) (get_or c.args.sources.now (i * c.args.stride + j) 0)) in
             let old : ℕ = get_or c.args.outputs.now (r * c.args.width + j) 0 in
             ap (λ p. get_or (put_mid (c.loop-row.row * c.args.width) (length c.loop-row.outputs - c.loop-row.row * c.args.width) c.loop-row.outputs c.add_some.new.outputs) p 0) pos
             ∙ put_at c.loop-row.outputs c.add_some.new.outputs _ (c.loop-row.row * c.args.width) (s * c.args.width + j) start (omega arith)
@@ -45,18 +45,18 @@ loop-row-preserved c =
             ∙ ap (λ v. bit_xor v sum) (get_or-chunk (c.loop-row.row * c.args.width) (length c.loop-row.outputs - c.loop-row.row * c.args.width) c.loop-row.outputs (s * c.args.width + j) 0 bound
             ∙ ap (λ p. get_or c.loop-row.outputs p 0) (sym pos) ∙ c.loop-row.invariant.left r j g lr_all lj)
             ∙ ap (bit_xor old) (sum_same c.args.taken _ _ (λ i h.
-            let here = from_row c.loop-row.row r c.args.count (c.args.first + i) g in
-            let within = from_row_within c.loop-row.row r c.args.rows c.args.count (c.args.first + i) g lr_all (omega arith) in
-            let bound2 : s * c.args.count + c.args.first + i < length c.args.coefficients.now - c.loop-row.row * c.args.count = omega arith in
-            let back : c.loop-row.row * c.args.count + (s * c.args.count + c.args.first + i) ≡ r * c.args.count + c.args.first + i = omega arith in
+            let here = from_row c.loop-row.row r c.args.coefficients.now.count (c.args.first + i) g in
+            let within = from_row_within c.loop-row.row r c.args.coefficients.now.rows c.args.coefficients.now.count (c.args.first + i) g lr_all (omega arith) in
+            let bound2 : s * c.args.coefficients.now.count + c.args.first + i < length c.args.coefficients.now.bytes.now - c.loop-row.row * c.args.coefficients.now.count = omega arith in
+            let back : c.loop-row.row * c.args.coefficients.now.count + (s * c.args.coefficients.now.count + c.args.first + i) ≡ r * c.args.coefficients.now.count + c.args.first + i = omega arith in
             ap (λ v. product v (get_or c.args.sources.now (i * c.args.stride + j) 0))
-            (get_or-chunk (c.loop-row.row * c.args.count) (length c.args.coefficients.now - c.loop-row.row * c.args.count) c.args.coefficients.now (s * c.args.count + c.args.first + i) 0 bound2
-            ∙ ap (λ p. get_or c.args.coefficients.now p 0) back)))
+            (get_or-chunk (c.loop-row.row * c.args.coefficients.now.count) (length c.args.coefficients.now.bytes.now - c.loop-row.row * c.args.coefficients.now.count) c.args.coefficients.now.bytes.now (s * c.args.coefficients.now.count + c.args.first + i) 0 bound2
+            ∙ ap (λ p. get_or c.args.coefficients.now.bytes.now p 0) back)))
       ];
       left = λ r j le lr lj.
           let g : c.loop-row.row ≤ r = omega arith in
           let pos = from_row c.loop-row.row r c.args.width j g in
-          let bound : (r - c.loop-row.row) * c.args.width + j < length c.loop-row.outputs - c.loop-row.row * c.args.width = (let b = from_row_within c.loop-row.row r c.args.rows c.args.width j g lr lj in omega arith) in
+          let bound : (r - c.loop-row.row) * c.args.width + j < length c.loop-row.outputs - c.loop-row.row * c.args.width = (let b = from_row_within c.loop-row.row r c.args.coefficients.now.rows c.args.width j g lr lj in omega arith) in
           let s : ℕ = r - c.loop-row.row in
           let past = rows_fit 0 c.min-some.result s c.args.width (omega arith) in
           ap (λ p. get_or (put_mid (c.loop-row.row * c.args.width) (length c.loop-row.outputs - c.loop-row.row * c.args.width) c.loop-row.outputs c.add_some.new.outputs) p 0) pos
