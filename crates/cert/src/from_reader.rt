@@ -81,10 +81,11 @@ fn report_from<R: Read>(
     }
 }
 
-/// The check of an identity's packets among the datagrams that are left of a reader, read one at a time: none before the
-/// certificate's name is compared with the identity and the object with the polynomials, and none behind the first reason at a place. One datagram is held at a time, and
-/// of the others the places and the ESIs of their symbols. What can't be read is told as a fault where no reason stands
-/// before it; `Io` that the reader has failed, which a sound one never does. Want of memory says nothing of the session.
+/// The check of an identity's packets among the datagrams that are left of a reader, read one at a time: none before
+/// the certificate's name is compared with the identity and the object with the polynomials, and none behind the first
+/// reason at a place. One datagram is held at a time, and of the others the places and the ESIs of their symbols. What
+/// can't be read is told as a fault where no reason stands before it; `Io` that the reader has failed, which a sound
+/// one never does. Want of memory says nothing of the session.
 pub fn check_from<R: Read>(
     alloc: Global,
     reader: &mut R,

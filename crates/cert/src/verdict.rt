@@ -23,8 +23,8 @@ pub struct Report {
 /// Why a certificate isn't one of an identity's packets in a session, and of an object. Places are those of all datagrams,
 /// whosever packets they are; they and blocks, columns and symbols count from 0.
 ///
-/// The first of these is told: `OtherCertificate`, `ObjectLength`, `NotObject`, the reason at the least place (`Packet` to `Symbol`, at one
-/// place in this order), `Empty`, `Thin`, `NoCarrier`.
+/// The first of these is told: `OtherCertificate`, `ObjectLength`, `NotObject`, the reason at the least place (`Packet`
+/// to `Symbol`, at one place in this order), `Empty`, `Thin`, `NoCarrier`.
 #[derive(Clone, Copy, Debug, PartialEq, Eq)]
 pub enum Reason {
     /// N12: the certificate has a name, and it isn't the identity.

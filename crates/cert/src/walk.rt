@@ -39,9 +39,9 @@ impl From<AllocError> for NoReport {
     }
 }
 
-/// A check on its way over datagrams: the certificate has no other identity's name, its polynomials give the object, and no datagram so far has a reason against it.
-/// None is kept, only the place and the ESI of its symbol, in its block's group, and a carrier's place. Packets of another
-/// identity are passed over, and their places are counted.
+/// A check on its way over datagrams: the certificate has no other identity's name, its polynomials give the object,
+/// and no datagram so far has a reason against it. None is kept, only the place and the ESI of its symbol, in its
+/// block's group, and a carrier's place. Packets of another identity are passed over, and their places are counted.
 #[derive(Drop)]
 pub(crate) struct Walk<'a> {
     symbols: CertifiedSymbols<'a>,
