@@ -1,8 +1,8 @@
 -- The first points of the code, and their powers.
-use Rattle.std.proofs.Common.{◌≡◌, ℕ, zero, suc, ◌+◌, ◌*◌, ◌<◌, ◌≤◌, List, [], ◌∷◌, ◌++◌, length, take, arith, ap, ◌∙◌, sym, refl, inl, inr, length-append, length-take, get_or-take}
+use Rattle.std.proofs.Common.{◌≡◌, ℕ, zero, suc, ◌+◌, ◌*◌, ◌<◌, ◌≤◌, List, [], ◌∷◌, ◌++◌, length, get_or, take, arith, ap, subst, ◌∙◌, sym, refl, inl, inr, length-append, length-take, get_or-take}
 use Rattle.std.specs.List.{AllByRecursion}
 use Rattle.std.proofs.lemmas.Bool.{cases_eq}
-use Rattle.std.proofs.lemmas.List.{get_or_append_left, get_or_push}
+use Rattle.std.proofs.lemmas.List.{get_or_append_left, get_or_push, get_or_read}
 use Rattle.lists.specs.Bytes.{IsByte}
 use Rattle.gf256.specs.Arithmetic.{product, point, alpha_to}
 use Rattle.gf256.specs.Powers.{alpha_to_sum}
@@ -29,6 +29,13 @@ points_front k n xs le h = record {
   count = (let c = h.count in simp length-take (omega arith));
   at = λ j lj. (let inside : j < n = omega arith in get_or-take k xs j 0 lj ∙ h.at j inside);
 }
+
+-- what is read of them
+pub point_read : (xs : List ℕ) (i x : ℕ) → ArePoints (length xs) xs → i < length xs → x ≡ get_or xs i x → x ≡ point i
+point_read xs i x h lt is = get_or_read xs i x lt is 0 ∙ h.at i lt
+
+pub byte_read : (xs : List ℕ) (i x : ℕ) → ArePoints (length xs) xs → i < length xs → x ≡ get_or xs i x → IsByte x
+byte_read xs i x h lt is = subst IsByte (sym (point_read xs i x h lt is)) (point_byte i)
 
 pub points_none : ArePoints 0 []
 points_none = record { count = refl; at = λ j lt. absurd (omega arith) }

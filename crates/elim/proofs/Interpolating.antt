@@ -6,11 +6,11 @@ use Rattle.gf256.specs.Arithmetic.{sum_of, product, point}
 use Rattle.gf256.specs.ByteField.{byte_field, point_byte}
 use Rattle.poly.specs.Polynomial.{value, power_over}
 use Rattle.gf256.specs.Sums.{row_times}
-use Rattle.elim.specs.Matrices.{identity_entry, AreElements, AreInverseSquares}
-use Rattle.elim.specs.Vandermonde.{vandermonde_entry}
-use Rattle.elim.specs.Grid.{Grid, entry, row_product, HasElements, HasEntries, HasShape}
-use Rattle.elim.specs.Generator.{Interpolates}
-use Rattle.elim.specs.CodePoints.{ArePoints}
+use Rattle.elim.specs.Matrices.{identity_entry, AreElements}
+use Rattle.elim.specs.Grid.{Grid, entry, row_product, HasElements, HasShape}
+use Rattle.elim.specs.Generator.{power_entry, Interpolates}
+use Rattle.elim.proofs.CodePoints.{power_of_point}
+use Rattle.elim.proofs.Basis.{power_byte, AreUnits}
 use Rattle.elim.proofs.RowTimes.{unit_swapped, dot_element, dot_same, dot_picks, row_times_twice}
 use Rattle.elim.proofs.Interpolation.{listed, length-listed, value_is}
 use Rattle.elim.proofs.Entries.{elements_by_row}
@@ -21,14 +21,7 @@ get_or-listed x zero i lt = absurd (omega arith)
 get_or-listed x (suc k) zero lt = refl
 get_or-listed x (suc k) (suc i) lt = get_or-listed (λ n. x (suc n)) k i (omega arith)
 
-module _ (k : ℕ) (points : List ℕ) (first : ArePoints k points) (square inverse : Grid ℕ)
-    (entries : HasEntries 0 k (length points) (vandermonde_entry product 0 1 points) square)
-    (square_elements : HasElements IsByte 0 square) (inverse_elements : HasElements IsByte 0 inverse)
-    (both : AreInverseSquares sum_of product 0 1 k (entry 0 square) (entry 0 inverse))
-    (rows : inverse.rows ≡ k) (cols : inverse.cols ≡ k) where
-  es : (i : ℕ) → AreElements IsByte (entry 0 square i)
-  es = elements_by_row IsByte 0 square square_elements
-
+module _ (k : ℕ) (inverse : Grid ℕ) (inverse_elements : HasElements IsByte 0 inverse) (units : AreUnits k k (entry 0 inverse)) (rows : inverse.rows ≡ k) (cols : inverse.cols ≡ k) where
   ei : (i : ℕ) → AreElements IsByte (entry 0 inverse i)
   ei = elements_by_row IsByte 0 inverse inverse_elements
 
@@ -52,23 +45,14 @@ module _ (k : ℕ) (points : List ℕ) (first : ArePoints k points) (square inve
   unfolding row
   value_at_point source bytes i li =
       let s : ℕ → ℕ = λ m. get_or source m 0 in
-      let in_points : i < length points = rw first.count li in
-      let power = λ (m : ℕ) (lm : m < k). (let e = entries.at m i lm in e in_points ∙ ap (λ (z : ℕ). power_over product 1 z m) (first.at i li)) in
       ap (λ (p : List ℕ). value p (point i)) (coefficients_are source)
       ∙ sym (value_is IsByte sum_of product 0 1 byte_field (row source) k (point i) (λ m. dot_element IsByte sum_of product 0 1 byte_field s (λ a. entry 0 inverse a m) k bytes (λ a. ei a m)) (point_byte i))
-      ∙ sym (dot_same IsByte sum_of product 0 1 byte_field (row source) (λ m. entry 0 square m i) (power_over product 1 (point i)) k power)
-      ∙ row_times_twice IsByte sum_of product 0 1 byte_field s (entry 0 inverse) (entry 0 square) k k i bytes ei es
-      ∙ dot_same IsByte sum_of product 0 1 byte_field s (λ a. row_times sum_of product 0 (entry 0 inverse a) (entry 0 square) k i) (identity_entry 0 1 i) k
-      (λ a la. both.left a i la li ∙ unit_swapped IsByte sum_of product 0 1 byte_field a i)
+      ∙ dot_same IsByte sum_of product 0 1 byte_field (row source) (power_over product 1 (point i)) (λ m. power_entry m i) k (λ m lm. power_of_point m i)
+      ∙ row_times_twice IsByte sum_of product 0 1 byte_field s (entry 0 inverse) power_entry k k i bytes ei power_byte
+      ∙ dot_same IsByte sum_of product 0 1 byte_field s (λ a. row_times sum_of product 0 (entry 0 inverse a) power_entry k i) (identity_entry 0 1 i) k
+      (λ a la. units a i la li ∙ unit_swapped IsByte sum_of product 0 1 byte_field a i)
       ∙ dot_picks IsByte sum_of product 0 1 byte_field s k i bytes li
 
--- the inverse of V of the first k points interpolates
-pub interpolates : (k : ℕ) (points : List ℕ) → ArePoints k points → (square inverse : Grid ℕ)
-    → HasShape k (length points) square → HasEntries 0 k (length points) (vandermonde_entry product 0 1 points) square → HasElements IsByte 0 square
-    → HasShape square.rows square.rows inverse → AreInverseSquares sum_of product 0 1 square.rows (entry 0 square) (entry 0 inverse) → HasElements IsByte 0 inverse
-    → Interpolates k inverse
-interpolates k points first square inverse square_shape entries square_elements inverse_shape both inverse_elements =
-    let rows : inverse.rows ≡ k = inverse_shape.rows ∙ square_shape.rows in
-    let cols : inverse.cols ≡ k = inverse_shape.cols ∙ square_shape.rows in
-    let inverses : AreInverseSquares sum_of product 0 1 k (entry 0 square) (entry 0 inverse) = rw square_shape.rows at both in
-    record { values = λ source len bytes i li. value_at_point k points first square inverse entries square_elements inverse_elements inverses rows cols source bytes i li }
+-- rows that are one at their own point and zero at the others interpolate
+pub interpolates : (k : ℕ) (inverse : Grid ℕ) → HasShape k k inverse → HasElements IsByte 0 inverse → AreUnits k k (entry 0 inverse) → Interpolates k inverse
+interpolates k inverse shape elements units = record { values = λ source len bytes i li. value_at_point k inverse elements units shape.rows shape.cols source bytes i li }

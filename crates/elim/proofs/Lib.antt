@@ -15,3 +15,4 @@ pub mod Interpolating
 pub mod Rising
 pub mod Replacing
 pub mod Recovering
+pub mod Basis

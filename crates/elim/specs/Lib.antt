@@ -7,3 +7,4 @@ pub mod Generator
 pub mod Erasures
 pub mod CodePoints
 pub mod Setting
+pub mod Lagrange

@@ -31,6 +31,11 @@ pub record IsRowAdded {F : Type 0} (add mul : F → F → F) (k n r : ℕ) (c : 
   pub here : (j : ℕ) → j < n → new r j ≡ add (old r j) (mul c (row j))
   pub others : (i j : ℕ) → i < k → j < n → i ≢ r → new i j ≡ old i j
 
+-- row r is c times this row
+pub record IsRowSet {F : Type 0} (mul : F → F → F) (k n r : ℕ) (c : F) (row : ℕ → F) (old new : ℕ → ℕ → F) : Type 0 where
+  pub here : (j : ℕ) → j < n → new r j ≡ mul c (row j)
+  pub others : (i j : ℕ) → i < k → j < n → i ≢ r → new i j ≡ old i j
+
 -- x and z solve each row's equation: the row of w with x is the row of r with z
 abbrev pub Solves : {F : Type 0} → (F → F → F) → (F → F → F) → F → ℕ → (ℕ → ℕ → F) → (ℕ → ℕ → F) → (ℕ → F) → (ℕ → F) → Type 0
 Solves add mul none k w r x z = (i : ℕ) → i < k → dot add mul none x (w i) k ≡ dot add mul none z (r i) k

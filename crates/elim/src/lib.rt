@@ -5,6 +5,7 @@
 //! - `combine`: the transposed matrix, the identity, products and Vandermonde matrices.
 //! - `eliminate`: the inverse, or that there is none.
 //! - `code`: the generator matrix, and what gives a polynomial's coefficients from its values.
+//! - `lagrange`: the polynomials that are one at one point and zero at the others.
 //! - `erasure`: what gives missing source symbols from repair symbols.
 #![tactic(auto)]
 
@@ -12,6 +13,7 @@ mod code;
 mod combine;
 mod eliminate;
 mod erasure;
+mod lagrange;
 mod matrix;
 
 pub use code::{generator, interpolator};

@@ -2,7 +2,7 @@
 ghost use Rattle.std.specs.Prelude.{◌≡◌, ◌≢◌, ◌<◌, ◌≤◌, ◌+◌, ◌*◌, ◌^◌, ℕ, IfOk, replicate, length, slice_index_or};
 ghost use Rattle.elim.specs.Grid.{Grid, entry, HasElements, HasShape, IsMatrix};
 ghost use Rattle.elim.specs.Setting.{IsSet};
-ghost use Rattle.elim.specs.Steps.{IsStep, IsSwapped, IsScaled, IsAdded, IsRowAdded};
+ghost use Rattle.elim.specs.Steps.{IsStep, IsSwapped, IsScaled, IsAdded, IsRowAdded, IsRowSet};
 
 use gf256::Field;
 use std::alloc::{AllocError, Global};
@@ -29,8 +29,8 @@ impl<F: Field> Model for Matrix<F> {
         (record { rows = m.rows; cols = m.cols; entries = m.entries.items }) };
 }
 
-// The entries of a matrix of zeros.
-fn zeros<F: Field>(alloc: Global, count: usize) -> Result<Vec<F>, AllocError>
+/// So many zeros.
+pub(crate) fn zeros<F: Field>(alloc: Global, count: usize) -> Result<Vec<F>, AllocError>
     ensures { IfOk result (λ v. v.items ≡ replicate count F.ZERO) }
 {
     let mut zeros = Vec::with_capacity(alloc, count)?;
@@ -126,6 +126,23 @@ impl<F: Field> Matrix<F> {
         let cols = self.cols();
         for j in 0..cols {
             let x = self.get(r, j);
+            self.set(r, j, c.mul(x));
+        }
+    }
+
+    /// Row `r` becomes `c` times this row.
+    pub(crate) fn set_row(&mut self, r: usize, c: F, row: &[F])
+        requires row { r < self.old.rows }
+        requires columns { length row.now ≡ self.old.cols }
+        requires scale { F.element c }
+        ensures { IsStep F.element F.ZERO
+            (IsRowSet F.product self.old.rows self.old.cols r c (λ j. slice_index_or row.now j F.ZERO))
+            self.old self.new }
+    {
+        let cols = self.cols();
+        for j in 0..cols {
+            let x = row[j];
+            x.is_element();
             self.set(r, j, c.mul(x));
         }
     }
