@@ -1,5 +1,5 @@
 -- Sending by passes over the blocks: one pass in order Blocks, one for each ESI in order Rounds.
-use Rattle.std.specs.Prelude.{◌≡◌, ℕ, ◌+◌, Bool, true, Option, List, map, flat_map}
+use Rattle.std.specs.Prelude.{◌≡◌, ℕ, ◌+◌, Bool, true, Option, List, length, map, flat_map}
 use Rattle.lists.specs.Below.{below}
 use Rattle.partition.specs.Fti.{Fti, block_count, encoding_count}
 use Rattle.partition.specs.declared.order.Order.{Order}
@@ -31,6 +31,10 @@ passes Rounds f = f.max_symbols
 abbrev pub at_once : Order → Fti → ℕ
 at_once Blocks f = encoding_count f 0
 at_once Rounds f = 1
+
+-- as many bytes as the greatest datagram
+abbrev pub IsDatagramRoom : Fti → List ℕ → Type 0
+IsDatagramRoom f bytes = length bytes ≡ 32 + f.symbol_length
 
 -- why the encoding symbols of the blocks that a reader had weren't all sent
 abbrev pub IsBlocksFault : SendFromFault → Fti → Option (List ℕ) → Bool → Bool → Bool → Type 0

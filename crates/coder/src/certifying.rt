@@ -128,10 +128,12 @@ pub(crate) fn write_block<W: Write>(
     requires block { b < block_count fti.now }
     requires interpolators { EachBlockHas (IsInterpolatorOf fti.now) fti.now interpolators.now }
     requires room { length rows.old ≡ source_count fti.now 0 * fti.now.symbol_length }
-    ensures ok { (object : List ℕ) → AreBytes object → AreSourcesOf fti.now object b sources.now
+    ensures ok { (object : List ℕ) → AreBytes object
+        → AreSourcesOf fti.now object b sources.now
         → OnOk result (WritesBlock object fti.now b
         (W.contents writer.old) (W.contents writer.new)) }
-    ensures err { (object : List ℕ) → AreBytes object → AreSourcesOf fti.now object b sources.now
+    ensures err { (object : List ℕ) → AreBytes object
+        → AreSourcesOf fti.now object b sources.now
         → OnErr result (BeginsBlock object fti.now b
         (W.contents writer.old) (W.contents writer.new)) }
     ensures fails { OnErr result (W.failed writer.new ≡ true) }

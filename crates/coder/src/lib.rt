@@ -21,7 +21,8 @@ mod sending_from;
 pub use certifying::{CertifyFault, certify, certify_to};
 pub use certifying_from::{CertifyFromFault, certify_from};
 pub use decoder::{
-    Answer, DecodeFault, FeedFault, Progress, Receiver, decode, decode_selection, one_answer,
+    Answer, DecodeFault, FeedFault, Gathered, ObjectSymbols, Progress, Receiver, WriteFault,
+    decode, decode_selection, gather, one_answer,
 };
 pub use laws::sent_checks_yes;
 pub use object::ObjectFault;

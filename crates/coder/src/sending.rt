@@ -7,14 +7,14 @@ ghost use Rattle.block_code.specs.Codes.{EachBlockHas};
 ghost use Rattle.block_code.specs.CodesOf.{IsCodeOf};
 ghost use Rattle.lists.specs.Bytes.{AreBytes};
 ghost use Rattle.coder.specs.Rows.{AreSourcesOf};
-ghost use Rattle.coder.specs.Passes.{run_of, pairs_in, pairs_of_pass, passes, at_once};
+ghost use Rattle.coder.specs.Passes.{IsDatagramRoom, run_of, pairs_in, pairs_of_pass, passes, at_once};
 ghost use Rattle.coder.specs.Sending.{pairs, items, items_from, fti_at, Sends, SendsSome, CanBeSent, IsSendFault, most_symbol_bytes, frame_bytes, session_bytes};
 
 use crate::rows::{block_of, encoding_symbols};
 use alc::{HEADER_SIZE, write};
 use block_code::{BlockCodes, Kind};
 use partition::{Fti, Order};
-use session::{MOST_BYTES, Write, write_one};
+use session::{Failed, MOST_BYTES, Write, write_one};
 use std::alloc::{AllocError, Global};
 use thiserror::Error;
 
@@ -82,11 +82,11 @@ fn send_symbol<W: Write>(
     symbol: &[u8],
     datagram: &mut [u8],
     writer: &mut W,
-) -> Result<(), SendFault>
+) -> Result<(), Failed>
     requires block { block < block_count t.now.fti }
     requires esi { esi < encoding_count t.now.fti block }
     requires symbol { length symbol.now ≡ t.now.fti.symbol_length }
-    requires datagram { length datagram.old ≡ 32 + t.now.fti.symbol_length }
+    requires datagram { IsDatagramRoom t.now.fti datagram.old }
     ensures sent { (object : List ℕ)
         → Agrees t.now.fti object (record { block = block; esi = esi; bytes = symbol.now })
         → OnOk result (Sends object t.now.fti t.now.tsi t.now.toi t.now.every
@@ -97,7 +97,7 @@ fn send_symbol<W: Write>(
         → OnErr result (SendsSome object t.now.fti t.now.tsi t.now.toi t.now.every
         (items_from place ((block, esi) ∷ []))
         (W.contents writer.old) (W.contents writer.new)) }
-    ensures io { IfErr result (λ e. (e ≡ SendFault.Io) × (W.failed writer.new ≡ true)) }
+    ensures fails { OnErr result (W.failed writer.new ≡ true) }
     ensures full { OnErr result
         (W.room writer.old < frame_bytes t.now.fti t.now.every place) }
     ensures fills { OnOk result
@@ -106,7 +106,7 @@ fn send_symbol<W: Write>(
     let size = write(t.tsi, t.toi, t.fti_at(place), block, esi, symbol, datagram);
     match write_one(writer, &datagram[..size]) {
         Ok(()) => Ok(()),
-        Err(_) => Err(SendFault::Io),
+        Err(_) => Err(Failed),
     }
 }
 
@@ -122,13 +122,13 @@ pub(crate) fn send_symbols<W: Write>(
     first: usize,
     count: usize,
     writer: &mut W,
-) -> Result<(), SendFault>
+) -> Result<(), Failed>
     requires codes { EachBlockHas (IsCodeOf t.now.fti) t.now.fti t.now.codes }
     requires place { place + count < 2 ^ 64 }
     requires block { block < block_count t.now.fti }
     requires within { first + count ≤ encoding_count t.now.fti block }
     requires symbols { length symbols.old ≡ count * t.now.fti.symbol_length }
-    requires datagram { length datagram.old ≡ 32 + t.now.fti.symbol_length }
+    requires datagram { IsDatagramRoom t.now.fti datagram.old }
     ensures sent { (object : List ℕ) → AreBytes object
         → AreSourcesOf t.now.fti object block sources.now
         → OnOk result (Sends object t.now.fti t.now.tsi t.now.toi t.now.every
@@ -139,7 +139,7 @@ pub(crate) fn send_symbols<W: Write>(
         → OnErr result (SendsSome object t.now.fti t.now.tsi t.now.toi t.now.every
         (items_from place (run_of block first count))
         (W.contents writer.old) (W.contents writer.new)) }
-    ensures io { IfErr result (λ e. (e ≡ SendFault.Io) × (W.failed writer.new ≡ true)) }
+    ensures fails { OnErr result (W.failed writer.new ≡ true) }
     ensures full { OnErr result (W.room writer.old
         < session_bytes t.now.fti t.now.every (items_from place (run_of block first count))) }
     ensures fills { OnOk result (W.room writer.old ≤ W.room writer.new
@@ -182,11 +182,11 @@ fn send_pass<W: Write>(
     symbols: &mut [u8],
     datagram: &mut [u8],
     writer: &mut W,
-) -> Result<u64, SendFault>
+) -> Result<u64, Failed>
     requires codes { EachBlockHas (IsCodeOf t.now.fti) t.now.fti t.now.codes }
     requires place { place ≤ 2 ^ 40 }
     requires room { length symbols.old ≡ at_once order t.now.fti * t.now.fti.symbol_length }
-    requires datagram { length datagram.old ≡ 32 + t.now.fti.symbol_length }
+    requires datagram { IsDatagramRoom t.now.fti datagram.old }
     ensures sent { OnOk result (Sends object.now t.now.fti t.now.tsi t.now.toi t.now.every
         (items_from place (pairs_of_pass order t.now.fti pass))
         (W.contents writer.old) (W.contents writer.new)) }
@@ -195,7 +195,7 @@ fn send_pass<W: Write>(
     ensures some { OnErr result (SendsSome object.now t.now.fti t.now.tsi t.now.toi
         t.now.every (items_from place (pairs_of_pass order t.now.fti pass))
         (W.contents writer.old) (W.contents writer.new)) }
-    ensures io { IfErr result (λ e. (e ≡ SendFault.Io) × (W.failed writer.new ≡ true)) }
+    ensures fails { OnErr result (W.failed writer.new ≡ true) }
     ensures full { OnErr result (W.room writer.old < session_bytes t.now.fti t.now.every
         (items_from place (pairs_of_pass order t.now.fti pass))) }
     ensures fills { OnOk result (W.room writer.old ≤ W.room writer.new + session_bytes t.now.fti
@@ -235,16 +235,16 @@ fn send_all<W: Write>(
     symbols: &mut [u8],
     datagram: &mut [u8],
     writer: &mut W,
-) -> Result<u64, SendFault>
+) -> Result<u64, Failed>
     requires codes { EachBlockHas (IsCodeOf t.now.fti) t.now.fti t.now.codes }
     requires room { length symbols.old ≡ at_once order t.now.fti * t.now.fti.symbol_length }
-    requires datagram { length datagram.old ≡ 32 + t.now.fti.symbol_length }
+    requires datagram { IsDatagramRoom t.now.fti datagram.old }
     ensures sent { OnOk result (Sends object.now t.now.fti t.now.tsi t.now.toi t.now.every
         (items order t.now.fti) (W.contents writer.old) (W.contents writer.new)) }
     ensures count { IfOk result (λ n. n ≡ length (pairs order t.now.fti)) }
     ensures some { OnErr result (SendsSome object.now t.now.fti t.now.tsi t.now.toi
         t.now.every (items order t.now.fti) (W.contents writer.old) (W.contents writer.new)) }
-    ensures io { IfErr result (λ e. (e ≡ SendFault.Io) × (W.failed writer.new ≡ true)) }
+    ensures fails { OnErr result (W.failed writer.new ≡ true) }
     ensures full { OnErr result (W.room writer.old
         < session_bytes t.now.fti t.now.every (items order t.now.fti)) }
     ensures fills { OnOk result (W.room writer.old ≤ W.room writer.new
@@ -314,12 +314,15 @@ pub fn encode<W: Write>(
         every,
         codes,
     };
-    send_all(
+    let Ok(count) = send_all(
         &transmission,
         object,
         order,
         &mut symbols,
         &mut datagram,
         writer,
-    )
+    ) else {
+        return Err(SendFault::Io);
+    };
+    Ok(count)
 }

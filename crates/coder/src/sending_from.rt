@@ -9,7 +9,7 @@ ghost use Rattle.coder.specs.ObjectRead.{ReadsObject, ReadsSome};
 ghost use Rattle.coder.specs.BlocksRead.{HasRead};
 ghost use Rattle.coder.specs.Sending.{pairs, items, Sends, SendsSome, most_symbol_bytes, session_bytes};
 ghost use Rattle.coder.specs.SentFrom.{IsSendFromFault};
-ghost use Rattle.coder.specs.Passes.{IsBlocksFault};
+ghost use Rattle.coder.specs.Passes.{IsDatagramRoom, IsBlocksFault};
 
 use crate::object::{ObjectFault, block_bytes, read_block, read_end};
 use crate::sending::{MOST_SYMBOL_BYTES, Transmission, send_symbols};
@@ -69,7 +69,7 @@ fn send_blocks<R: Read, W: Write>(
     requires codes { EachBlockHas (IsCodeOf t.now.fti) t.now.fti t.now.codes }
     requires sources { length sources.old ≡ source_count t.now.fti 0 * t.now.fti.symbol_length }
     requires room { length symbols.old ≡ encoding_count t.now.fti 0 * t.now.fti.symbol_length }
-    requires datagram { length datagram.old ≡ 32 + t.now.fti.symbol_length }
+    requires datagram { IsDatagramRoom t.now.fti datagram.old }
     ensures ok { OnOk result (HasRead t.now.fti (block_count t.now.fti)
         (R.remaining reader.old) (R.remaining reader.new)
         (λ object. Sends object t.now.fti t.now.tsi t.now.toi t.now.every
@@ -111,7 +111,7 @@ fn send_object<R: Read, W: Write>(
     requires codes { EachBlockHas (IsCodeOf t.now.fti) t.now.fti t.now.codes }
     requires sources { length sources.old ≡ source_count t.now.fti 0 * t.now.fti.symbol_length }
     requires room { length symbols.old ≡ encoding_count t.now.fti 0 * t.now.fti.symbol_length }
-    requires datagram { length datagram.old ≡ 32 + t.now.fti.symbol_length }
+    requires datagram { IsDatagramRoom t.now.fti datagram.old }
     ensures sent { OnOk result (ReadsObject t.now.fti (R.remaining reader.old)
         (λ object. Sends object t.now.fti t.now.tsi t.now.toi t.now.every
         (items Blocks t.now.fti) (W.contents writer.old) (W.contents writer.new))) }

@@ -1,6 +1,8 @@
 -- The answer to datagrams, from what was received.
 use Rattle.std.specs.Prelude.{◌==◌, Result, Ok, Err, IfOk, IfSome, None}
-use Rattle.std.proofs.Common.{◌≡◌, ℕ, suc, ◌<◌, true, List, [], ◌∷◌, Option, Some, length, get_or, arith, subst, refl, leb-true}
+use Rattle.std.specs.Borrow.{Bor}
+use Rattle.std.proofs.lemmas.List.{length-map}
+use Rattle.std.proofs.Common.{◌≡◌, ℕ, suc, ◌<◌, true, List, [], ◌∷◌, Option, Some, map, length, get_or, arith, subst, refl, leb-true}
 use Rattle.lists.specs.Bytes.{AreBytes}
 use Rattle.partition.specs.Fti.{Fti, IsValidFti, block_count}
 use Rattle.partition.proofs.Laws.{counts}
@@ -28,6 +30,10 @@ answers_came reception f (value.Fault i r) clean h = absurd h
 answers_came reception f (value.NotCode b) clean h = (f, clean, h)
 answers_came reception f (value.Missing b have need) clean h = (f, clean, h.0, h.1, h.2, h.3)
 answers_came reception f (value.Object object) clean h = (f, clean, h.0, h.1, h.2)
+
+-- what is so of each datagram
+pub bytes_of : (xs : List (Bor (List ℕ))) (P : ℕ → Type 0) → ((i : ℕ) → i < length xs → P i) → (i : ℕ) → i < length (map (λ (d : Bor (List ℕ)). d.now) xs) → P i
+bytes_of xs P h i l = h i (omega (arith, l, length-map xs (λ (d : Bor (List ℕ)). d.now)))
 
 -- each datagram of bytes has its reading
 pub read_all : (ds : List (List ℕ)) → ((i : ℕ) → i < length ds → AreBytes (get_or ds i [])) → ReadAll ds (readings_of ds)

@@ -10,8 +10,10 @@ pub mod Solved
 pub mod RowPlaces
 pub mod BlockRows
 pub mod Answering
+pub mod GatheredSymbols
 pub mod Listing
 pub mod ObjectSoFar
+pub mod Beginnings
 pub mod Promising
 pub mod Solving
 pub mod Unsound

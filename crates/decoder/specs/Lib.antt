@@ -19,3 +19,6 @@ pub mod Giving
 pub mod Putting
 pub mod Taking
 pub mod Differences
+pub mod SymbolsOf
+pub mod Gathering
+pub mod Written

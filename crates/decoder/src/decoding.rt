@@ -6,12 +6,13 @@ ghost use Rattle.block_code.specs.Codes.{EachBlockHas};
 ghost use Rattle.block_code.specs.CodesOf.{IsCodeOf};
 ghost use Rattle.reception.specs.Answer.{IsAnswer};
 ghost use Rattle.decoder.specs.Answers.{answer_value};
-ghost use Rattle.decoder.specs.Decoded.{AreWithin, IsEnoughAt, Answers, Stand};
+ghost use Rattle.decoder.specs.Decoded.{AreWithin, IsEnoughAt, IsShort, Answers, Stand};
+ghost use Rattle.decoder.specs.Gathering.{IsNoObject};
 ghost use Rattle.decoder.specs.Received.{bytes_at};
 
 use crate::answer::{Answer, DecodeFault};
 use crate::blocks::received_rows;
-use crate::counting::first_short;
+use crate::counting::{Short, first_short};
 use crate::received::{Received, Refusal, receive};
 use crate::unsolvable::first_unsolvable;
 use block_code::{BlockCodes, Kind};
@@ -19,8 +20,8 @@ use lists::are_bytes;
 use reception::Identity;
 use std::alloc::{AllocError, Global};
 
-// What the type says of each datagram.
-fn all_are_bytes(datagrams: &[&[u8]])
+/// What the type says of each datagram.
+pub(crate) fn all_are_bytes(datagrams: &[&[u8]])
     ensures { (i : ℕ) → i < length datagrams.now
         → AreBytes (slice_index_or (map (λ d. d.now) datagrams.now) i []) }
 {
@@ -55,6 +56,30 @@ fn decode_all(
     Ok(Answer::Object(object))
 }
 
+/// The answer where a block is short: the first such, if no full one is of no object.
+pub(crate) fn short_answer(
+    alloc: Global,
+    received: &Received<'_>,
+    codes: &BlockCodes,
+    short: Short,
+) -> Result<Answer, AllocError>
+    requires codes { EachBlockHas (IsCodeOf received.now.fti) received.now.fti codes.now }
+    requires within { AreWithin received.now.fti (bytes_at received.now.symbols) }
+    requires short { IsShort received.now.fti (bytes_at received.now.symbols) short }
+    ensures answers { IfOk result (λ a.
+        Answers received.now.fti (bytes_at received.now.symbols) (answer_value a)) }
+    ensures none { IfOk result IsNoObject }
+{
+    match first_unsolvable(alloc, received, codes)? {
+        Some(b) => Ok(Answer::Fault(DecodeFault::NotCode(b))),
+        None => Ok(Answer::Missing {
+            block: short.block,
+            have: short.have,
+            need: short.need,
+        }),
+    }
+}
+
 // What the symbols give.
 fn answer(alloc: Global, received: &Received<'_>) -> Result<Answer, AllocError>
     requires { Stand received.now.fti (bytes_at received.now.symbols) }
@@ -63,16 +88,9 @@ fn answer(alloc: Global, received: &Received<'_>) -> Result<Answer, AllocError>
 {
     received.fti.is_valid();
     let codes = BlockCodes::new(alloc, Kind::Generator, &received.fti)?;
-    let Some(short) = first_short(&received.symbols, &received.fti) else {
-        return decode_all(alloc, received, &codes);
-    };
-    match first_unsolvable(alloc, received, &codes)? {
-        Some(b) => Ok(Answer::Fault(DecodeFault::NotCode(b))),
-        None => Ok(Answer::Missing {
-            block: short.block,
-            have: short.have,
-            need: short.need,
-        }),
+    match first_short(&received.symbols, &received.fti) {
+        Some(short) => short_answer(alloc, received, &codes, short),
+        None => decode_all(alloc, received, &codes),
     }
 }
 

@@ -6,6 +6,7 @@
 //! - `recovering`: the source symbols of one block that has enough of them, by `rows`, `block` and `erasure`;
 //! - `blocks`: the same for a block of what was received; `padding`: whether its symbols can have the object's padding, told
 //!   before they are solved; `unsolvable`: the blocks whose symbols are those of no object;
+//! - `gathering`: the same for an object that is written block by block, so that it is never held;
 //! - `decoding`: the public call, and `selecting`: the same for a selection of a session's datagrams, with what a check's
 //!   yes promises of it;
 //! - `receiver`: the same for one datagram at a time: `feeding` takes one more, and `taking` gives the answer, or writes the
@@ -26,6 +27,7 @@ mod counting;
 mod decoding;
 mod erasure;
 mod feeding;
+mod gathering;
 mod giving;
 mod padding;
 mod pending_block;
@@ -44,5 +46,6 @@ mod unsolvable;
 
 pub use answer::{Answer, DecodeFault};
 pub use decoding::decode;
+pub use gathering::{Gathered, ObjectSymbols, WriteFault, gather};
 pub use receiver::{FeedFault, Progress, Receiver};
 pub use selecting::{decode_selection, one_answer};

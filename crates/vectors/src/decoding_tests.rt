@@ -1,7 +1,9 @@
 //! What datagrams give.
 use crate::ONE;
 use alc::PacketFault;
-use coder::{Answer, DecodeFault, decode, decode_selection, encode, one_answer};
+use coder::{
+    Answer, DecodeFault, Gathered, WriteFault, decode, decode_selection, encode, gather, one_answer,
+};
 use partition::{Fti, Order};
 use reception::{Identity, isolation};
 use session::{FrameFault, Pieces, Session, Sink};
@@ -388,6 +390,71 @@ fn texts_of_faults(rt: HostRuntime) -> Result<(), Fail> {
     ] {
         let shown = format!(in rt.alloc(); "{fault}")?;
         assert_eq!(rt; shown.as_str(), text);
+    }
+    Ok(())
+}
+
+// Whether these datagrams give an object, and writing it ends so.
+fn write_ends(
+    alloc: Global,
+    datagrams: &[&[u8]],
+    sink: &mut Sink,
+    wanted: Option<WriteFault>,
+) -> Result<bool, AllocError> {
+    match gather(alloc, datagrams, ONE)? {
+        Gathered::Symbols(symbols) => match symbols.write(alloc, sink) {
+            Ok(_) => Ok(wanted.is_none()),
+            Err(fault) => Ok(wanted == Some(fault)),
+        },
+        Gathered::Answer(_) => Ok(false),
+    }
+}
+
+// Three blocks, the last of them padded, of which some symbols are lost, and some come twice.
+#[test]
+fn an_object_is_written(rt: HostRuntime) -> Result<(), Fail> {
+    let alloc = rt.alloc();
+    let object = [1, 8, 0x40, 0x3A, 1, 2, 4, 1, 4];
+    let session = sent(alloc, &object, &Fti::new(9, 2, 2, 3)?)?;
+    let chosen = session.keep(alloc, &[6, 2, 1, 5, 3, 6, 1])?;
+    let datagrams = chosen.views(alloc)?;
+    assert!(rt; is_object(&decode(alloc, &datagrams, ONE)?, &object));
+    let mut sink = Sink::limited(alloc, 3, 9);
+    assert!(rt; write_ends(alloc, &datagrams, &mut sink, None)?);
+    assert_eq!(rt; sink.bytes(), object.as_slice());
+    for room in 0..9usize {
+        let mut full = Sink::limited(alloc, 3, room);
+        let io = Some(WriteFault::Io);
+        assert!(rt; write_ends(alloc, &datagrams, &mut full, io)?, "{room}");
+        assert_eq!(rt; full.bytes(), object.get(..room).unwrap_or(&[]));
+    }
+    Ok(())
+}
+
+// What is no object is told before anything is written: the second of two blocks has a repair symbol of another object.
+#[test]
+fn no_object_is_gathered(rt: HostRuntime) -> Result<(), Fail> {
+    let alloc = rt.alloc();
+    let fti = [0, 0, 0, 0, 0, 4, 0, 1, 2, 3];
+    let first = datagram(alloc, 1, fti, [0, 0, 0, 0], &[1])?;
+    let second = datagram(alloc, 1, fti, [0, 0, 0, 1], &[2])?;
+    let third = datagram(alloc, 1, fti, [0, 0, 1, 0], &[1])?;
+    let fourth = datagram(alloc, 1, fti, [0, 0, 1, 1], &[2])?;
+    let repair = datagram(alloc, 1, fti, [0, 0, 1, 2], &[5])?;
+    let datagrams = [
+        repair.as_slice(),
+        first.as_slice(),
+        third.as_slice(),
+        second.as_slice(),
+        fourth.as_slice(),
+    ];
+    match gather(alloc, &datagrams, ONE)? {
+        Gathered::Answer(answer) => assert!(rt; is_fault(&answer, DecodeFault::NotCode(1))),
+        Gathered::Symbols(_) => assert!(rt; false, "gathered"),
+    }
+    match gather(alloc, &datagrams[..3], ONE)? {
+        Gathered::Answer(answer) => assert!(rt; is_missing(&answer, 0, 1, 2)),
+        Gathered::Symbols(_) => assert!(rt; false, "gathered"),
     }
     Ok(())
 }

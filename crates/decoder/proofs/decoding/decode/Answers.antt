@@ -1,17 +1,13 @@
-use Rattle.std.proofs.Common.{◌<◌, ℕ, List, map, length, arith, refl}
+use Rattle.std.proofs.Common.{ℕ, List, map, refl}
 use Rattle.std.specs.Borrow.{Bor}
-use Rattle.std.proofs.lemmas.List.{length-map}
 use Rattle.reception.specs.Answer.{IsAnswer}
 use Rattle.reception.specs.Walks.{readings_of}
 use Rattle.decoder.specs.declared.answer.Answer.{Answer}
 use Rattle.decoder.specs.Answers.{answer_value}
 use Rattle.decoder.specs.Decoded.{Answers}
 use Rattle.decoder.specs.Received.{bytes_at}
-use Rattle.decoder.proofs.Answering.{answered, read_all, stand_of, if_ok}
+use Rattle.decoder.proofs.Answering.{answered, bytes_of, read_all, stand_of, if_ok}
 use Rattle.decoder.proofs.decoding.decode.Goals as goal
-
-bytes_of : (xs : List (Bor (List ℕ))) (P : ℕ → Type 0) → ((i : ℕ) → i < length xs → P i) → (i : ℕ) → i < length (map (λ (d : Bor (List ℕ)). d.now) xs) → P i
-bytes_of xs P h i l = h i (omega (arith, l, length-map xs (λ (d : Bor (List ℕ)). d.now)))
 
 pub answer-requires : goal.answer-requires
 answer-requires c =

@@ -1,0 +1,46 @@
+use Rattle.std.proofs.Common.{ℕ, List, map, refl}
+use Rattle.std.specs.Borrow.{Bor}
+use Rattle.reception.specs.Walks.{readings_of}
+use Rattle.decoder.specs.Received.{bytes_at}
+use Rattle.decoder.specs.Gathering.{IsGathered}
+use Rattle.decoder.specs.Written.{Gathers}
+use Rattle.decoder.proofs.Answering.{bytes_of, read_all, stand_of, if_ok}
+use Rattle.decoder.proofs.GatheredSymbols.{gathered_of}
+use Rattle.decoder.proofs.gathering.gather.Goals as goal
+
+pub gather_symbols-requires : goal.gather_symbols-requires
+gather_symbols-requires c =
+    let ds = map (λ (d : Bor (List ℕ)). d.now) c.args.datagrams.now in
+    stand_of c.args.identity ds c.in-Ok-Some.received.fti (bytes_at c.in-Ok-Some.received.symbols)
+    (rw c.in-Ok-Some.field-0-is at c.in-Ok-Some.ensures.received)
+
+pub returns-in-Ok-Some : goal.returns-in-Ok-Some
+returns-in-Ok-Some c =
+    let ds = map (λ (d : Bor (List ℕ)). d.now) c.args.datagrams.now in
+    let f = c.in-Ok-Some.received.fti in
+    let read = read_all ds (bytes_of c.args.datagrams.now _ c.all_are_bytes.ensures) in
+    if_ok (Gathers c.in-Ok-Some.received.fti (bytes_at c.in-Ok-Some.received.symbols)) (IsGathered c.args.identity (map (λ (d : Bor (List ℕ)). d.now) c.args.datagrams.now)) _
+    (λ g h. gathered_of c.args.identity ds f (bytes_at c.in-Ok-Some.received.symbols) read (rw c.in-Ok-Some.field-0-is at c.in-Ok-Some.ensures.received) g h)
+    c.gather_symbols.ensures
+
+pub returns-in-Ok-None : goal.returns-in-Ok-None
+returns-in-Ok-None c =
+    let ds = map (λ (d : Bor (List ℕ)). d.now) c.args.datagrams.now in (
+      record {
+        readings = readings_of ds;
+        read = read_all ds (bytes_of c.args.datagrams.now _ c.all_are_bytes.ensures);
+        answers = (rw c.in-Ok-None.field-0-is at c.in-Ok-None.ensures.nothing) refl;
+      },
+      tt,
+    )
+
+pub returns-in-Err-Fault : goal.returns-in-Err-Fault
+returns-in-Err-Fault c =
+    let ds = map (λ (d : Bor (List ℕ)). d.now) c.args.datagrams.now in (
+      rw c.in-Err-Fault.fault-is (record {
+        readings = readings_of ds;
+        read = read_all ds (bytes_of c.args.datagrams.now _ c.all_are_bytes.ensures);
+        answers = rw c.in-Err-Fault.field-0-is at c.in-Err-Fault.ensures.refusal;
+      }),
+      tt,
+    )

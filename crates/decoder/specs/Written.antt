@@ -1,0 +1,38 @@
+-- What writing an object block by block has made of the symbols that stand so.
+use Rattle.std.specs.Prelude.{◌≡◌, ℕ, Bool, true, List, length, Option}
+use Rattle.std.specs.Io.KnownBytes.{Appends}
+use Rattle.session.specs.Frames.{AppendsSome}
+use Rattle.partition.specs.Fti.{Fti}
+use Rattle.reception.specs.Symbols.{Symbol, FitsOnly}
+use Rattle.reception.specs.Answer as value
+use Rattle.decoder.specs.Answers.{answer_value}
+use Rattle.decoder.specs.Decoded.{Answers}
+use Rattle.decoder.specs.Received.{bytes_at, IsIndex}
+use Rattle.decoder.specs.Gathering.{IsNoObject}
+use Rattle.decoder.specs.SymbolsOf.{AreEnough}
+use Rattle.decoder.specs.declared.gathering.Gathered.{Gathered}
+use Rattle.decoder.specs.declared.gathering.Gathered.TheVariants as gathered
+use Rattle.decoder.specs.declared.gathering.WriteFault.{WriteFault}
+use Rattle.decoder.specs.declared.gathering.WriteFault.TheVariants.{NotCode, Io, NoMemory}
+
+-- the answer to the symbols that stand so, which is no object; or these symbols, of which each block has enough
+abbrev pub Gathers : Fti → (ℕ → ℕ → Option (List ℕ)) → Gathered → Type 0
+Gathers f at (gathered.Answer answer) = Answers f at (answer_value answer) × IsNoObject answer
+Gathers f at (gathered.Symbols s) = (s.received.fti ≡ f) × (bytes_at s.received.symbols ≡ at) × AreEnough s
+
+-- their object was written, of the FTI's transfer length
+pub record WritesObject (f : Fti) (at : ℕ → ℕ → Option (List ℕ)) (before after : Option (List ℕ)) : Type 0 where
+  pub object : List ℕ
+  pub count : length object ≡ f.transfer_length
+  pub answers : Answers f at (value.Object object)
+  pub gained : Appends before after object
+
+-- a beginning of their object was written, if they are of one
+abbrev pub BeginsObject : Fti → (ℕ → ℕ → Option (List ℕ)) → Option (List ℕ) → Option (List ℕ) → Type 0
+BeginsObject f at before after = (arrivals : List Symbol) (object : List ℕ) → IsIndex arrivals at → FitsOnly f arrivals object → AppendsSome before after object
+
+-- why it wasn't
+abbrev pub IsUnsaved : Fti → (ℕ → ℕ → Option (List ℕ)) → Bool → WriteFault → Type 0
+IsUnsaved f at failed (NotCode b) = Answers f at (value.NotCode b)
+IsUnsaved f at failed Io = failed ≡ true
+IsUnsaved f at failed NoMemory = Unit {0}

@@ -1,0 +1,214 @@
+//! Decoding into a writer: the object is written block by block, so that it is never held.
+ghost use Rattle.std.specs.Prelude.{◌≡◌, ◌<◌, ℕ, List, length, map, IfOk, IfErr, OnOk, OnErr};
+ghost use Rattle.session.specs.Frames.{AppendsSome};
+ghost use Rattle.partition.specs.Fti.{block_count};
+ghost use Rattle.block_code.specs.Codes.{EachBlockHas};
+ghost use Rattle.block_code.specs.CodesOf.{IsCodeOf};
+ghost use Rattle.reception.specs.declared.scope.Identity.{Identity as IdentityValue};
+ghost use Rattle.reception.specs.Answer.{Object, IsAnswer};
+ghost use Rattle.decoder.specs.Decoded.{AreWithin, IsEnoughAt, Stand};
+ghost use Rattle.decoder.specs.Received.{bytes_at};
+ghost use Rattle.decoder.specs.Receiving.{IsWrittenOf};
+ghost use Rattle.decoder.specs.SymbolsOf.{AreSymbolsOf, AreGathered};
+ghost use Rattle.decoder.specs.Gathering.{IsGathered, IsUnwritten};
+ghost use Rattle.decoder.specs.Written.{Gathers, WritesObject, BeginsObject, IsUnsaved};
+
+use crate::answer::{Answer, DecodeFault};
+use crate::blocks::received_rows;
+use crate::counting::{first_short, have};
+use crate::decoding::{all_are_bytes, short_answer};
+use crate::received::{Received, Refusal, receive};
+use crate::unsolvable::first_unsolvable;
+use block_code::{BlockCodes, Kind};
+use reception::Identity;
+use session::{Write, write_all};
+use std::alloc::{AllocError, Global};
+use thiserror::Error;
+
+/// The symbols of an object, in their datagrams. No block is short.
+#[derive(Drop)]
+pub struct ObjectSymbols<'a> {
+    pub(crate) received: Received<'a>,
+    pub(crate) codes: BlockCodes,
+}
+
+/// What datagrams give.
+#[derive(Drop)]
+pub enum Gathered<'a> {
+    /// No object.
+    Answer(Answer),
+    /// The symbols of an object.
+    Symbols(ObjectSymbols<'a>),
+}
+
+/// Why an object wasn't written.
+#[derive(Debug, Clone, Copy, PartialEq, Eq, Error)]
+pub enum WriteFault {
+    /// The block's symbols aren't those of any object.
+    #[error("R6 NotCode block {0}")]
+    NotCode(u32),
+    /// The writer has failed.
+    #[error("Io")]
+    Io,
+    /// Memory is wanting.
+    #[error("NoMemory")]
+    NoMemory,
+}
+
+impl From<AllocError> for WriteFault {
+    ghost use Rattle.std.specs.Prelude.{◌≡◌};
+    ghost use Rattle.decoder.specs.declared.gathering.WriteFault.TheVariants.{NoMemory};
+
+    ghost from_gives = { λ _ fault. fault ≡ NoMemory };
+
+    fn from(_: AllocError) -> Self {
+        WriteFault::NoMemory
+    }
+}
+
+// Whether some block is of no object, where no block is short. Any `k` symbols of a block are those of some polynomials, so
+// that only blocks with more have to be solved, and the last one, whose symbols have to fit the object's padding.
+fn has_unsolvable(
+    alloc: Global,
+    received: &Received<'_>,
+    codes: &BlockCodes,
+) -> Result<bool, AllocError>
+    requires codes { EachBlockHas (IsCodeOf received.now.fti) received.now.fti codes.now }
+    requires within { AreWithin received.now.fti (bytes_at received.now.symbols) }
+    requires enough { (b : ℕ) → b < block_count received.now.fti
+        → IsEnoughAt received.now.fti b (bytes_at received.now.symbols b) }
+{
+    let fti = &received.fti;
+    let last = fti.block_count() - 1;
+    let mut kept = None;
+    for b in 0..fti.block_count() {
+        if b < last && have(&received.symbols, b, fti.n(b)) == fti.k(b) {
+            continue;
+        }
+        if received_rows(alloc, received, codes, b, &mut kept)?.is_none() {
+            return Ok(true);
+        }
+    }
+    Ok(false)
+}
+
+// The symbols, where no block is short, or the least block that is of no object.
+fn enough<'a>(
+    alloc: Global,
+    received: Received<'a>,
+    codes: BlockCodes,
+) -> Result<Gathered<'a>, AllocError>
+    requires codes { EachBlockHas (IsCodeOf received.fti) received.fti codes }
+    requires within { AreWithin received.fti (bytes_at received.symbols) }
+    requires enough { (b : ℕ) → b < block_count received.fti
+        → IsEnoughAt received.fti b (bytes_at received.symbols b) }
+    ensures { IfOk result (Gathers received.entry.fti (bytes_at received.entry.symbols)) }
+{
+    if has_unsolvable(alloc, &received, &codes)? {
+        if let Some(b) = first_unsolvable(alloc, &received, &codes)? {
+            return Ok(Gathered::Answer(Answer::Fault(DecodeFault::NotCode(b))));
+        }
+    }
+    Ok(Gathered::Symbols(ObjectSymbols { received, codes }))
+}
+
+// What the symbols give.
+fn gather_symbols<'a>(alloc: Global, received: Received<'a>) -> Result<Gathered<'a>, AllocError>
+    requires { Stand received.fti (bytes_at received.symbols) }
+    ensures { IfOk result (Gathers received.entry.fti (bytes_at received.entry.symbols)) }
+{
+    received.fti.is_valid();
+    let codes = BlockCodes::new(alloc, Kind::Generator, &received.fti)?;
+    match first_short(&received.symbols, &received.fti) {
+        Some(short) => {
+            let answer = short_answer(alloc, &received, &codes, short)?;
+            Ok(Gathered::Answer(answer))
+        }
+        None => enough(alloc, received, codes),
+    }
+}
+
+/// What the datagrams say of the object that was sent under an identity, as `decode` answers, but for the object itself:
+/// where they give one it is the symbols of it. Want of memory is the only error.
+///
+/// A block whose symbols are those of no object is told here where it can be told without holding what is solved; only
+/// blocks that have more symbols than they need, and the last one, are solved for that.
+pub fn gather<'a>(
+    alloc: Global,
+    datagrams: &[&'a [u8]],
+    identity: Identity,
+) -> Result<Gathered<'a>, AllocError>
+    ensures { IfOk result (IsGathered identity (map (λ d. d.now) datagrams.now)) }
+{
+    all_are_bytes(datagrams);
+    match receive(alloc, datagrams, identity) {
+        Ok(Some(received)) => gather_symbols(alloc, received),
+        Ok(None) => Ok(Gathered::Answer(Answer::Empty)),
+        Err(Refusal::Fault(fault)) => Ok(Gathered::Answer(Answer::Fault(fault))),
+        Err(Refusal::NoMemory) => Err(AllocError),
+    }
+}
+
+// Solves the blocks one by one, and writes each before the next.
+fn write_blocks<W: Write>(
+    alloc: Global,
+    received: &Received<'_>,
+    codes: &BlockCodes,
+    writer: &mut W,
+) -> Result<(), WriteFault>
+    requires codes { EachBlockHas (IsCodeOf received.now.fti) received.now.fti codes.now }
+    requires within { AreWithin received.now.fti (bytes_at received.now.symbols) }
+    requires enough { (b : ℕ) → b < block_count received.now.fti
+        → IsEnoughAt received.now.fti b (bytes_at received.now.symbols b) }
+    ensures ok { OnOk result (WritesObject received.now.fti (bytes_at received.now.symbols)
+        (W.contents writer.old) (W.contents writer.new)) }
+    ensures fault { IfErr result (IsUnsaved received.now.fti (bytes_at received.now.symbols)
+        (W.failed writer.new)) }
+    ensures front { OnErr result (BeginsObject received.now.fti (bytes_at received.now.symbols)
+        (W.contents writer.old) (W.contents writer.new)) }
+    ensures full { IfErr result (λ e. e ≡ WriteFault.Io
+        → W.room writer.old < received.now.fti.transfer_length) }
+{
+    let fti = &received.fti;
+    let mut left = fti.transfer_length();
+    let mut kept = None;
+    for b in 0..fti.block_count() {
+        let Some(rows) = received_rows(alloc, received, codes, b, &mut kept)? else {
+            return Err(WriteFault::NotCode(b));
+        };
+        let used = left.min(rows.bytes.len() as u64);
+        let Ok(()) = write_all(writer, &rows.bytes[..used as usize]) else {
+            return Err(WriteFault::Io);
+        };
+        left -= used;
+    }
+    Ok(())
+}
+
+impl ObjectSymbols<'_> {
+    /// Writes the object, and answers its length in bytes. One block of it is held at a time.
+    ///
+    /// `NotCode` is the answer to the datagrams where the symbols are those of no object; a beginning may be written then.
+    /// `Io` comes only where the writer has failed, and never where it has room for the object. At `Io` and `NoMemory` the
+    /// writer has a beginning of the object.
+    pub fn write<W: Write>(&self, alloc: Global, writer: &mut W) -> Result<u64, WriteFault>
+        requires { AreGathered self.now }
+        ensures written { (who : IdentityValue) (ds : List (List ℕ)) → AreSymbolsOf who ds self.now
+            → IfOk result (IsWrittenOf who ds (W.contents writer.old) (W.contents writer.new)) }
+        ensures fault { (who : IdentityValue) (ds : List (List ℕ)) → AreSymbolsOf who ds self.now
+            → IfErr result (IsUnwritten who ds (W.failed writer.new)) }
+        ensures front { (who : IdentityValue) (ds : List (List ℕ)) (object : List ℕ)
+            → AreSymbolsOf who ds self.now → IsAnswer who ds (Object object)
+            → OnErr result (AppendsSome (W.contents writer.old) (W.contents writer.new) object) }
+        ensures full { IfErr result (λ e. e ≡ WriteFault.Io
+            → W.room writer.old < self.now.received.fti.transfer_length) }
+        ensures room { (who : IdentityValue) (ds : List (List ℕ)) (object : List ℕ)
+            → AreSymbolsOf who ds self.now → IsAnswer who ds (Object object)
+            → IfErr result (λ e. e ≡ WriteFault.Io → W.room writer.old < length object) }
+    {
+        match write_blocks(alloc, &self.received, &self.codes, writer) {
+            Ok(()) => Ok(self.received.fti.transfer_length()),
+            Err(fault) => Err(fault),
+        }
+    }
+}
