@@ -1,6 +1,7 @@
 pub mod Told
 pub mod Joins
 pub mod Delivered
+pub mod Decoded
 pub mod Ends
 pub mod Followed
 pub mod Found

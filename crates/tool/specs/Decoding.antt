@@ -3,7 +3,9 @@ use Rattle.std.specs.Prelude.{◌≡◌, ◌⊎◌, ℕ, Bool, List, [], ◌∷�
 use Rattle.std.specs.Io.KnownBytes.{Appends}
 use Rattle.reception.specs.declared.scope.Identity.{Identity}
 use Rattle.reception.specs.Answer.{IsAnswer}
+use Rattle.reception.specs.Answer as value
 use Rattle.decoder.specs.Answers.{answer_value}
+use Rattle.decoder.specs.Gathering.{IsNoObject}
 use Rattle.decoder.specs.declared.answer.Answer.{Answer}
 use Rattle.decoder.specs.declared.answer.Answer.TheVariants.{Empty, Fault as NoObject, Missing, Object}
 use Rattle.decoder.specs.declared.answer.DecodeFault.{DecodeFault}
@@ -46,22 +48,31 @@ answer_status (NoObject fault) = 1
 answer_status (Missing block have need) = 3
 answer_status (Object object) = 0
 
--- The object stands under the output's name, where there is one, and all other files are as before.
-abbrev pub MakesObject : Answer → List ℕ → Option Files → Option Files → Type 0
-MakesObject (Object object) output old new = Replaces old new output object.items
-MakesObject _ output old new = new ≡ old
+-- The object that the datagrams give stands under the output's name, all other files are as before, and its length was
+-- printed; the status.
+pub record WritesObject (who : Identity) (datagrams : List (List ℕ)) (old new : Option Files) (output : List ℕ) (before after : Option (List ℕ)) (status : ℕ) : Type 0 where
+  pub object : List ℕ
+  pub right : IsAnswer who datagrams (value.Object object)
+  pub made : Replaces old new output object
+  pub printed : Appends before after (line_of (object_text (length object)))
+  pub told : status ≡ 0
 
--- The answer to the session in this file was printed, and the object written; its status.
-pub record IsDecoded (who : Identity) (old new : Option Files) (session output : List ℕ) (before after : Option (List ℕ)) (status : ℕ) : Type 0 where
-  pub datagrams : List (List ℕ)
+-- They give none: what they give was printed, and the files are as before; the status.
+pub record TellsNoObject (who : Identity) (datagrams : List (List ℕ)) (old new : Option Files) (before after : Option (List ℕ)) (status : ℕ) : Type 0 where
   pub answer : Answer
-  pub sent : HoldsSession old session datagrams
   pub right : IsAnswer who datagrams (answer_value answer)
-  pub made : MakesObject answer output old new
-  pub told : status ≡ answer_status answer
+  pub none : IsNoObject answer
+  pub same : new ≡ old
   pub line : List ℕ
   pub spelled : IsAnswerLine answer line
   pub printed : Appends before after (line_of line)
+  pub told : status ≡ answer_status answer
+
+-- The session in this file was decoded.
+pub record IsDecoded (who : Identity) (old new : Option Files) (session output : List ℕ) (before after : Option (List ℕ)) (status : ℕ) : Type 0 where
+  pub datagrams : List (List ℕ)
+  pub sent : HoldsSession old session datagrams
+  pub given : WritesObject who datagrams old new output before after status ⊎ TellsNoObject who datagrams old new before after status
 
 -- Why not: the session wasn't read, the object isn't there, there was no memory, or the output has failed.
 abbrev pub IsNotDecoded : List ℕ → List ℕ → Option Files → Bool → Fault → Type 0

@@ -14,5 +14,6 @@ pub mod ShortBlocks
 pub mod Checks
 pub mod Following
 pub mod Listening
+pub mod Delivering
 pub mod Thinning
 pub mod ReadingObjects

@@ -1,5 +1,5 @@
 -- What the commands that write a file do, by what the files hold before and after.
-use Rattle.std.specs.Prelude.{◌≡◌, ◌<◌, ◌⊎◌, ℕ, Bool, true, false, List, ◌++◌, Option, None, Some, length, codes, decimal, ⊤}
+use Rattle.std.specs.Prelude.{◌≡◌, ◌<◌, ◌⊎◌, ℕ, Bool, true, List, ◌++◌, Option, None, Some, length, codes, decimal, ⊤}
 use Rattle.std.specs.Io.KnownBytes.{Appends}
 use Rattle.partition.specs.Fti.{Fti, fti_from, block_count}
 use Rattle.partition.specs.FtiFault.{fti_fault}

@@ -1,21 +1,25 @@
 //! The command `decode`.
-ghost use Rattle.std.specs.Prelude.{◌≡◌, ◌≤◌, IfOk, IfErr, OnOk, codes};
+ghost use Rattle.std.specs.Prelude.{◌≡◌, ◌≤◌, ℕ, List, IfOk, IfErr, OnOk, codes};
+ghost use Rattle.reception.specs.declared.scope.Identity.{Identity as IdentityValue};
+ghost use Rattle.decoder.specs.SymbolsOf.{AreSymbolsOf, AreGathered};
 ghost use Rattle.tool.specs.Decoding.{GainsFault, missing_text, object_text, IsAnswerLine, answer_status, IsDecoded, IsNotDecoded};
+ghost use Rattle.tool.specs.Delivering.{IsTold, IsDelivery, IsGiven, IsNotGiven};
+ghost use Rattle.tool.specs.Listening.{IsUntold, IsUnwritten};
 ghost use Rattle.tool.specs.Making.{Fails};
 
 use crate::fault::Fault;
 use crate::folder::Folder;
 use crate::input::read_session;
-use crate::output::write_output;
-use crate::print::Text;
+use crate::output::{create, give_up, keep};
+use crate::print::{Text, print_count};
 use crate::wording::put_packet_fault;
-use coder::{Answer, DecodeFault};
+use coder::{Answer, DecodeFault, Gathered, ObjectSymbols, WriteFault, gather};
 use reception::Identity;
 use session::Write;
 use std::alloc::{AllocError, Global};
 
 /// Writes the object that the identity's packets in the session give, prints what they give, and answers the status. The
-/// output is created only where there is an object, once its line is made.
+/// output is created only where there is an object, which is written block by block.
 pub(crate) fn decode<'a, F: Folder, W: Write>(
     alloc: Global,
     folder: &mut F,
@@ -32,17 +36,92 @@ pub(crate) fn decode<'a, F: Folder, W: Write>(
 {
     let session = read_session(alloc, folder, session)?;
     let datagrams = session.views(alloc)?;
-    let answer = coder::decode(alloc, &datagrams, identity)?;
-    let line = answer_line(alloc, &answer)?;
-    match &answer {
-        Answer::Object(object) => write_output(folder, output, object.as_slice())?,
-        Answer::Empty | Answer::Fault(_) | Answer::Missing { .. } => {}
+    match gather(alloc, &datagrams, identity)? {
+        Gathered::Answer(answer) => tell(alloc, out, &answer),
+        Gathered::Symbols(symbols) => deliver(alloc, folder, out, output, &symbols),
     }
-    line.print(out)?;
-    Ok(status_of(&answer))
 }
 
-pub(crate) fn status_of(answer: &Answer) -> u8
+/// Prints an answer's line, and answers the status.
+pub(crate) fn tell<'a, W: Write>(
+    alloc: Global,
+    out: &mut W,
+    answer: &Answer,
+) -> Result<u8, Fault<'a>>
+    ensures ok { IfOk result (IsTold answer.now (W.contents out.old) (W.contents out.new)) }
+    ensures fault { IfErr result (IsUntold (W.failed out.new)
+        (W.contents out.old) (W.contents out.new)) }
+{
+    answer_line(alloc, answer)?.print(out)?;
+    Ok(status_of(answer))
+}
+
+// What became of an object whose symbols are there.
+#[derive(Clone, Copy)]
+enum Delivery {
+    // It was written; its length in bytes.
+    Object(u64),
+    // The symbols of this block are of none.
+    NotCode(u32),
+}
+
+// Writes the object, prints its length, and answers the status.
+fn deliver<'a, F: Folder, W: Write>(
+    alloc: Global,
+    folder: &mut F,
+    out: &mut W,
+    output: &'a str,
+    symbols: &ObjectSymbols<'_>,
+) -> Result<u8, Fault<'a>>
+    requires { AreGathered symbols.now }
+    ensures ok { (who : IdentityValue) (ds : List (List ℕ)) → AreSymbolsOf who ds symbols.now
+        → IfOk result (IsGiven who ds (F.files folder.old) (F.files folder.new) output.now
+        (W.contents out.old) (W.contents out.new)) }
+    ensures fault { IfErr result (Fails (IsNotGiven output.now)
+        (F.files folder.old) (F.files folder.new) output.now
+        (W.failed out.new) (W.contents out.old) (W.contents out.new)) }
+{
+    match write_object(alloc, folder, output, symbols)? {
+        Delivery::Object(length) => {
+            print_count(out, "object", length, " bytes")?;
+            Ok(0)
+        }
+        Delivery::NotCode(block) => {
+            let answer = Answer::Fault(DecodeFault::NotCode(block));
+            tell(alloc, out, &answer)
+        }
+    }
+}
+
+// Writes the object, or gives the output up where a block's symbols are of none.
+fn write_object<'a, F: Folder>(
+    alloc: Global,
+    folder: &mut F,
+    output: &'a str,
+    symbols: &ObjectSymbols<'_>,
+) -> Result<Delivery, Fault<'a>>
+    requires { AreGathered symbols.now }
+    ensures made { (who : IdentityValue) (ds : List (List ℕ)) → AreSymbolsOf who ds symbols.now
+        → IfOk result (IsDelivery who ds (F.files folder.old) (F.files folder.new) output.now) }
+    ensures fault { IfErr result (IsUnwritten (F.files folder.old) (F.files folder.new)
+        output.now) }
+{
+    let mut file = create(folder, output)?;
+    match symbols.write(alloc, &mut file) {
+        Ok(length) => {
+            keep(folder, output, file)?;
+            Ok(Delivery::Object(length))
+        }
+        Err(WriteFault::NotCode(block)) => {
+            let _why = folder.give_up(file);
+            Ok(Delivery::NotCode(block))
+        }
+        Err(WriteFault::Io) => Err(give_up(folder, file, Fault::File(output))),
+        Err(WriteFault::NoMemory) => Err(give_up(folder, file, Fault::Memory)),
+    }
+}
+
+fn status_of(answer: &Answer) -> u8
     ensures { result ≡ answer_status answer.now }
 {
     match answer {
@@ -106,7 +185,7 @@ fn fault_line(alloc: Global, fault: DecodeFault) -> Result<Text, AllocError>
     Ok(line)
 }
 
-pub(crate) fn answer_line(alloc: Global, answer: &Answer) -> Result<Text, AllocError>
+fn answer_line(alloc: Global, answer: &Answer) -> Result<Text, AllocError>
     ensures { IfOk result (IsAnswerLine answer.now) }
 {
     match answer {

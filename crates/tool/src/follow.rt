@@ -9,7 +9,7 @@ ghost use Rattle.tool.specs.Listening.{HasHeardAll, HasMadeUp, IsUnheard, IsUnre
 ghost use Rattle.tool.specs.Lines.{line_of};
 
 use crate::console::Console;
-use crate::decode::{answer_line, status_of};
+use crate::decode::tell;
 use crate::fault::Fault;
 use crate::folder::Folder;
 use crate::input::open;
@@ -214,6 +214,5 @@ fn tell_lack<'a, W: Console>(
         (W.contents out.old) (W.contents out.new)) }
 {
     let answer = receiver.take(alloc)?;
-    answer_line(alloc, &answer)?.print(out)?;
-    Ok(status_of(&answer))
+    tell(alloc, out, &answer)
 }
