@@ -22,7 +22,7 @@ NAME = re.compile(r"[^\s(){}\[\],;.`]+")
 HEADING = "## What has to be read"
 
 # Relations that public calls only hand on to one another: what they say inside isn't needed to trust the calls.
-HANDED_ON = {"Rattle.decoder.specs.Stands"}
+HANDED_ON = {"Rattle.decoder.specs.Stands", "Rattle.decoder.specs.SymbolsOf"}
 
 
 class Module:
