@@ -1,13 +1,13 @@
 -- A block's coefficients as rows, and the symbols that are made of them.
-use Rattle.std.proofs.Common.{◌≡◌, ℕ, ◌+◌, ◌*◌, ◌<◌, ◌≤◌, List, ◌++◌, length, get_or, take, drop, refl, sym, ap, ◌∙◌, arith}
-use Rattle.std.proofs.lemmas.List.{get_or_append_left}
+use Rattle.std.proofs.Common.{◌≡◌, ℕ, ◌+◌, ◌-◌, ◌*◌, ◌<◌, ◌≤◌, List, ◌++◌, length, get_or, take, drop, refl, sym, ap, ◌∙◌, arith}
+use Rattle.std.proofs.lemmas.List.{get_or_append_left, length-take-le, length-drop}
 use Rattle.std.proofs.lemmas.Simd.{get_or-chunk}
 use Rattle.std.proofs.Math.Nat.{mul-le-mul_right}
 use Rattle.gf256.proofs.RowPlaces.{row_ends, rows_apart}
 use Rattle.evaluation.specs.Columns.{AreValues}
 use Rattle.partition.specs.Fti.{block_count, source_count, start_of, source_place}
 use Rattle.partition.proofs.Laws.{block_end}
-use Rattle.cert.specs.Certificate.{Certificate, IsCertificate, polynomial}
+use Rattle.cert.specs.Certificate.{Certificate, IsCertificate, polynomial, certified_byte}
 use Rattle.cert.specs.CoefficientRows.{AreRowsOf}
 use Rattle.cert.specs.BlockSymbols.{AreSymbols}
 use Rattle.cert.proofs.Polynomials.{length_polynomial, coefficient_at}
@@ -50,3 +50,33 @@ pub symbols_in_front : (z : Certificate) (b first count : ℕ) (symbols rest : L
 symbols_in_front z b first count symbols rest long are = λ r c lr lc.
     let ends = row_ends r count z.fti.symbol_length lr in
     get_or_append_left symbols rest 0 (r * z.fti.symbol_length + c) (omega (arith, ends, lc, long)) ∙ are r c lr lc
+
+-- of some symbols those from one on
+pub symbols_behind : (z : Certificate) (b first count place width : ℕ) (bytes : List ℕ) → width ≡ z.fti.symbol_length → place ≤ count
+    → AreSymbols z b first count bytes → AreSymbols z b (first + place) (count - place) (take (count * width - place * width) (drop (place * width) bytes))
+symbols_behind z b first count place width bytes width_is le are = λ r c lr lc.
+    let ends = row_ends r (count - place) z.fti.symbol_length lr in
+    let apart = rows_apart place r z.fti.symbol_length in
+    let split = rows_apart place (count - place) z.fti.symbol_length in
+    let back : place + (count - place) ≡ count = omega (arith, le) in
+    let whole : (place + (count - place)) * z.fti.symbol_length ≡ count * z.fti.symbol_length = ap (λ (m : ℕ). m * z.fti.symbol_length) back in
+    let size : count * width ≡ count * z.fti.symbol_length = ap (λ (w : ℕ). count * w) width_is in
+    let front : place * width ≡ place * z.fti.symbol_length = ap (λ (w : ℕ). place * w) width_is in
+    let inside : r * z.fti.symbol_length + c < count * width - place * width = omega (arith, ends, lc, split, whole, size, front) in
+    let at : place * width + (r * z.fti.symbol_length + c) ≡ (place + r) * z.fti.symbol_length + c = omega (arith, apart, front) in
+    let one : first + (place + r) ≡ first + place + r = omega arith in
+    get_or-chunk (place * width) (count * width - place * width) bytes (r * z.fti.symbol_length + c) 0 inside
+    ∙ ap (λ (p : ℕ). get_or bytes p 0) at
+    ∙ are (place + r) c (omega (arith, lr, le)) lc
+    ∙ ap (λ (j : ℕ). certified_byte z b j c) one
+
+-- as many bytes as these are
+pub length_behind : (count place width most : ℕ) (bytes : List ℕ) → length bytes ≡ most * width → count ≤ most → place ≤ count
+    → length (take (count * width - place * width) (drop (place * width) bytes)) ≡ (count - place) * width
+length_behind count place width most bytes long le within =
+    let split = rows_apart place (count - place) width in
+    let back : place + (count - place) ≡ count = omega (arith, within) in
+    let whole : (place + (count - place)) * width ≡ count * width = ap (λ (m : ℕ). m * width) back in
+    let room = mul-le-mul_right width le in
+    let rest = length-drop (place * width) bytes in
+    length-take-le (count * width - place * width) (drop (place * width) bytes) (omega (arith, rest, long, room)) ∙ omega (arith, split, whole)

@@ -1,5 +1,5 @@
 -- The first block is the greatest.
-use Rattle.std.specs.Prelude.{ℕ, ◌≤◌, ◌*◌, ◌/◌}
+use Rattle.std.specs.Prelude.{◌≡◌, ℕ, ◌≤◌, ◌+◌, ◌*◌, ◌/◌}
 use Rattle.std.proofs.Common.{inl, inr, arith}
 use Rattle.std.proofs.lemmas.Bool.{cases_lt}
 use Rattle.std.proofs.Math.Nat.{mul-le-mul_right, div-mul-le_self, le-div_iff_mul-le}
@@ -37,3 +37,7 @@ module _ (f : Fti) (valid : IsValidFti f) where
   -- the rows of any block fit into those of the greatest
   pub rows_of_block : (b : ℕ) → source_count f b * f.symbol_length ≤ source_count f 0 * f.symbol_length
   rows_of_block b = mul-le-mul_right f.symbol_length (most_source b)
+
+  -- nor are a block's source symbols and as many repair symbols as the greatest block has
+  pub with_repair : (b k n : ℕ) → k ≡ source_count f b → source_count f 0 + n ≤ encoding_count f 0 → k + n ≤ encoding_count f 0
+  with_repair b k n is le = omega (arith, is, le, most_source b)

@@ -1,14 +1,14 @@
 -- The kept symbols, one block more and one of them.
-use Rattle.std.proofs.Common.{◌≡◌, ℕ, ◌+◌, ◌-◌, ◌*◌, ◌<◌, ◌≤◌, List, ◌++◌, length, get_or, take, drop, ap, ◌∙◌, inl, inr, arith}
+use Rattle.std.proofs.Common.{◌≡◌, ℕ, ◌+◌, ◌-◌, ◌*◌, ◌<◌, ◌≤◌, List, ◌++◌, length, length-append, get_or, take, drop, ap, ◌∙◌, inl, inr, arith}
 use Rattle.std.proofs.lemmas.Bool.{cases_lt}
 use Rattle.std.proofs.lemmas.List.{get_or_append_left, get_or-append_right}
 use Rattle.std.proofs.lemmas.Simd.{get_or-chunk}
 use Rattle.gf256.proofs.RowPlaces.{row_ends}
-use Rattle.partition.specs.Fti.{source_count}
+use Rattle.partition.specs.Fti.{source_count, block_count}
 use Rattle.cert.specs.Certificate.{Certificate, certified_byte}
 use Rattle.cert.specs.CertifiedSymbol.{IsCertifiedSymbol}
 use Rattle.cert.specs.BlockSymbols.{AreSymbols}
-use Rattle.cert.specs.RepairSymbols.{AreKeptOf}
+use Rattle.cert.specs.RepairSymbols.{AreKeptOf, AreKept}
 
 module _ (z : Certificate) (n : ℕ) where
   -- the symbols of one block more, behind those of the blocks before
@@ -43,3 +43,20 @@ module _ (z : Certificate) (n : ℕ) where
       ∙ ap (λ (w : ℕ). get_or bytes (b * (n * w) + ((j - k) * w + c)) 0) width_is
       ∙ are (j - k) c lt lc
       ∙ ap (λ (i : ℕ). certified_byte z b i c) back
+
+-- the block behind those that are kept is kept
+pub next_kept : (z : Certificate) (n blocks k : ℕ) (bytes symbols : List ℕ) → AreKept z n blocks bytes → blocks < block_count z.fti → k ≡ source_count z.fti blocks
+    → AreSymbols z blocks (0 + k) (k + n - k) symbols → length symbols ≡ (k + n - k) * z.fti.symbol_length
+    → AreKept z n (blocks + 1) (bytes ++ symbols)
+next_kept z n blocks k bytes symbols kept lt k_is are long =
+    let many : k + n - k ≡ n = omega arith in
+    let first : 0 + k ≡ source_count z.fti blocks = omega (arith, k_is) in
+    let here : AreSymbols z blocks (source_count z.fti blocks) n symbols = rw (many, first) at are in
+    let size : length symbols ≡ n * z.fti.symbol_length = long ∙ ap (λ (m : ℕ). m * z.fti.symbol_length) many in
+    record {
+      valid = kept.valid;
+      most = kept.most;
+      within = omega (arith, lt);
+      room = omega (arith, kept.room, size, length-append bytes symbols);
+      symbols = one_block_more z n blocks bytes symbols kept.room kept.symbols here size;
+    }

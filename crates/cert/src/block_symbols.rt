@@ -1,5 +1,5 @@
 //! The symbols of a block that a certificate gives, many of them at once.
-ghost use Rattle.std.specs.Prelude.{◌≡◌, ◌↔◌, ◌<◌, ◌≤◌, ◌+◌, ◌*◌, IsTrue, length, IfOk};
+ghost use Rattle.std.specs.Prelude.{◌≡◌, ◌↔◌, ◌<◌, ◌≤◌, ◌+◌, ◌-◌, ◌*◌, IsTrue, length, IfOk};
 ghost use Rattle.partition.specs.Fti.{block_count, source_count, encoding_count};
 ghost use Rattle.cert.specs.Certificate.{IsCertificate};
 ghost use Rattle.cert.specs.CertifiedSymbol.{IsCertifiedSymbol};
@@ -93,13 +93,6 @@ impl<'a> BlockSymbols<'a> {
         })
     }
 
-    /// The certificate.
-    pub(crate) fn certificate(&self) -> &'a Certificate
-        ensures { result.now ≡ self.now.certificate }
-    {
-        self.certificate
-    }
-
     /// The certificate's FTI.
     pub(crate) fn fti(&self) -> Fti
         ensures value { result ≡ self.now.certificate.fti }
@@ -128,15 +121,16 @@ impl<'a> BlockSymbols<'a> {
         self.count = count;
     }
 
-    /// The symbols that were made last, one behind the other.
-    pub(crate) fn symbols(&self) -> &[u8]
+    /// Of the symbols that were made last those from one on, one behind the other.
+    pub(crate) fn symbols_from(&self, place: usize) -> &[u8]
+        requires { place ≤ self.now.count }
         ensures len { length result.now
-            ≡ self.now.count * self.now.certificate.fti.symbol_length }
-        ensures certified { AreSymbols self.now.certificate self.now.block self.now.first
-            self.now.count result.now }
+            ≡ (self.now.count - place) * self.now.certificate.fti.symbol_length }
+        ensures certified { AreSymbols self.now.certificate self.now.block
+            (self.now.first + place) (self.now.count - place) result.now }
     {
         let width = usize::from(self.certificate.fti().symbol_length());
-        &self.bytes[..self.count * width]
+        &self.bytes[place * width..self.count * width]
     }
 
     /// Whether the symbol of a block that has this ESI was made last.

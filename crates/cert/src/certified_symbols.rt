@@ -1,7 +1,7 @@
 //! The symbols that a certificate gives, made when they are asked for.
 //!
-//! All source symbols of a block are made at once, and so are all its repair symbols. Where the blocks of the repair symbols
-//! that are asked for come again and again, those of all blocks are made once and kept.
+//! The object's come first, block by block. With them a block's repair symbols are made and kept, as all of a block's symbols
+//! cost little more than some. Where they would be more bytes than the object, they are made when a datagram asks for them.
 ghost use Rattle.std.specs.Prelude.{◌≡◌, ◌↔◌, ◌<◌, ◌≤◌, ◌-◌, ◌*◌, IsTrue, IsNone, IfSome, IfOk};
 ghost use Rattle.partition.specs.Fti.{symbol_count, block_count, source_count, encoding_count};
 ghost use Rattle.cert.specs.Certificate.{IsCertificate};
@@ -22,12 +22,9 @@ use std::marker::Model;
 #[derive(Drop)]
 pub(crate) struct CertifiedSymbols<'a> {
     latest: BlockSymbols<'a>,
-    // The repair symbols of all blocks, once blocks came again and again.
+    // The repair symbols of the blocks so far, where all are few enough and there is room for them.
     kept: Option<RepairSymbols<'a>>,
-    // Whether they are few enough, and weren't made yet.
-    may_keep: bool,
     runs: Runs,
-    alloc: Global,
 }
 
 impl<'a> Model for CertifiedSymbols<'a> {
@@ -52,21 +49,38 @@ fn are_few(fti: &Fti) -> bool
     blocks * most <= fti.symbol_count()
 }
 
-// Makes a block's symbol with this ESI, and those that are likely to be asked for with it: all source symbols, or all repair
-// symbols unless it is alone.
-fn make(symbols: &mut BlockSymbols<'_>, block: u32, esi: u8, alone: bool)
+// Makes all source symbols of a block, and its repair symbols with them where they are the next to be kept.
+fn make_source<'a>(latest: &mut BlockSymbols<'a>, kept: &mut Option<RepairSymbols<'a>>, block: u32)
+    requires block { block < block_count latest.old.certificate.fti }
+    requires kept { IfSome kept.old (λ s. s.certificate ≡ latest.old.certificate) }
+    ensures certificate { latest.new.certificate ≡ latest.old.certificate }
+    ensures kept { IfSome kept.new (λ s. s.certificate ≡ latest.old.certificate) }
+    ensures block { latest.new.block ≡ block }
+    ensures first { latest.new.first ≡ 0 }
+    ensures count { source_count latest.old.certificate.fti block ≤ latest.new.count }
+{
+    if let Some(kept) = kept {
+        if kept.next_block() == block {
+            kept.make_next(latest);
+            return;
+        }
+    }
+    let k = latest.fti().k(block);
+    latest.make(block, 0, k);
+}
+
+// Makes a block's symbol with this ESI, and all its repair symbols with it unless it is alone.
+fn make_repair(symbols: &mut BlockSymbols<'_>, block: u32, esi: u8, alone: bool)
     requires block { block < block_count symbols.old.certificate.fti }
+    requires repair { source_count symbols.old.certificate.fti block ≤ esi }
     requires esi { esi < 255 }
     ensures certificate { symbols.new.certificate ≡ symbols.old.certificate }
-    ensures block { symbols.new.block ≡ block }
     ensures holds { Holds symbols.new block esi }
 {
     let fti = symbols.fti();
     let (k, n) = (fti.k(block), fti.n(block));
     let esi = usize::from(esi);
-    if esi < k {
-        symbols.make(block, 0, k);
-    } else if alone || esi >= n {
+    if alone || esi >= n {
         symbols.make(block, esi, 1);
     } else {
         symbols.make(block, k, n - k);
@@ -82,13 +96,15 @@ impl<'a> CertifiedSymbols<'a> {
         ensures { IfOk result (λ s. s ≡ certificate.now) }
     {
         let latest = BlockSymbols::new(alloc, certificate)?;
-        let may_keep = are_few(&certificate.fti());
+        let kept = if are_few(&certificate.fti()) {
+            RepairSymbols::new(alloc, certificate).ok()
+        } else {
+            None
+        };
         Ok(CertifiedSymbols {
             latest,
-            kept: None,
-            may_keep,
+            kept,
             runs: Runs::new(),
-            alloc,
         })
     }
 
@@ -100,21 +116,15 @@ impl<'a> CertifiedSymbols<'a> {
         self.latest.fti()
     }
 
-    // Takes note of a symbol that is asked for, and makes and keeps all repair symbols where blocks come again and again.
-    // Want of memory only leaves them to be made one by one.
+    // Takes note of a symbol that is asked for.
     fn take_note(&mut self, block: u32, esi: u8)
         requires block { block < block_count self.old.fti }
         ensures { self.new ≡ self.old }
     {
         let fti = self.latest.fti();
         let k = fti.k(block);
-        if usize::from(esi) < k {
-            return;
-        }
-        self.runs.take(block, fti.n(block) - k);
-        if self.may_keep && self.runs.are_short() {
-            self.may_keep = false;
-            self.kept = RepairSymbols::new(self.alloc, &mut self.latest).ok();
+        if usize::from(esi) >= k {
+            self.runs.take(block, fti.n(block) - k);
         }
     }
 
@@ -126,14 +136,18 @@ impl<'a> CertifiedSymbols<'a> {
         ensures none { IsNone result → IsCertifiedSymbol self.old block esi bytes.now }
         ensures some { IfSome result (IsFirstWrong self.old block esi bytes.now) }
     {
-        self.take_note(block, esi);
         if let Some(kept) = &self.kept {
             if let Some(symbol) = kept.get(block, esi) {
                 return first_difference(symbol, bytes);
             }
         }
+        self.take_note(block, esi);
         if !self.latest.holds(block, esi) {
-            make(&mut self.latest, block, esi, self.runs.are_short());
+            if usize::from(esi) < self.latest.fti().k(block) {
+                make_source(&mut self.latest, &mut self.kept, block);
+            } else {
+                make_repair(&mut self.latest, block, esi, self.runs.are_short());
+            }
         }
         first_difference(self.latest.symbol(esi), bytes)
     }

@@ -12,7 +12,7 @@
 //! The walk puts three parts together: `certified_symbols` makes each symbol that the certificate gives, `source` compares
 //! them with the object and `datagrams` with a datagram, whose place it puts into its block's group for `losses`, and that
 //! of a carrier behind the other carriers. `block_symbols` makes many symbols of a block at once, `repair_symbols` keeps
-//! those of all blocks, and `runs` tells when that pays. `differing` finds the first byte in which two rows differ, which
+//! those that datagrams are compared with, and `runs` tells how many pay where they aren't kept. `differing` finds the first byte in which two rows differ, which
 //! is how a column is told. `twins` makes the object that can't be told from the true one where a block is short
 //! (`specs/Twins`). `laws` says of the definitions that there is one verdict, and which reason and which column it has.
 //!

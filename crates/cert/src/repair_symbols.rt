@@ -1,20 +1,22 @@
-//! The repair symbols of all blocks that a certificate gives, kept for datagrams whose blocks come again and again.
-ghost use Rattle.std.specs.Prelude.{◌≡◌, ◌<◌, length, IfSome, IfOk, IsNone};
-ghost use Rattle.partition.specs.Fti.{block_count};
+//! The repair symbols that a certificate gives of the first blocks, kept for the datagrams.
+ghost use Rattle.std.specs.Prelude.{◌≡◌, ◌<◌, ◌+◌, length, IfSome, IfOk, IsNone};
+ghost use Rattle.partition.specs.Fti.{block_count, source_count};
 ghost use Rattle.cert.specs.CertifiedSymbol.{IsCertifiedSymbol};
+ghost use Rattle.cert.specs.BlockSymbols.{made_of};
 
 use crate::block_symbols::BlockSymbols;
 use crate::certificate::Certificate;
 use std::alloc::{AllocError, Global};
 use std::marker::Model;
 
-/// As many symbols of each block, from its first repair symbol on, as the greatest block has repair symbols. Contracts see
-/// of which certificate and how many.
+/// As many symbols of each of the first blocks, from the block's first repair symbol on, as the greatest block has repair
+/// symbols. Contracts see of which certificate, how many, and of how many blocks.
 #[derive(Drop)]
 pub(crate) struct RepairSymbols<'a> {
     certificate: &'a Certificate,
     // Of each block.
     count: usize,
+    blocks: u32,
     bytes: Vec<u8>,
 }
 
@@ -23,36 +25,55 @@ impl<'a> Model for RepairSymbols<'a> {
 
     ghost Value = { KeptSymbols };
 
-    ghost view = { λ s. kept_of s.certificate.now s.count };
+    ghost view = { λ s. kept_of s.certificate.now s.count s.blocks };
 
-    ghost invariant = { λ s. AreKept s.certificate.now s.count s.bytes.items };
+    ghost invariant = { λ s. AreKept s.certificate.now s.count s.blocks s.bytes.items };
 }
 
 impl<'a> RepairSymbols<'a> {
     ghost use Rattle.cert.specs.RepairSymbols.{Keeps};
 
-    /// Makes the symbols of all blocks, one block after the other.
+    /// Asks for room for all blocks, and keeps none yet.
     pub(crate) fn new(
         alloc: Global,
-        latest: &mut BlockSymbols<'a>,
+        certificate: &'a Certificate,
     ) -> Result<RepairSymbols<'a>, AllocError>
-        ensures certificate { latest.new.certificate ≡ latest.old.certificate }
-        ensures kept { IfOk result (λ s. s.certificate ≡ latest.old.certificate) }
+        ensures certificate { IfOk result (λ s. s.certificate ≡ certificate.now) }
+        ensures none { IfOk result (λ s. s.blocks ≡ 0) }
     {
-        let certificate = latest.certificate();
         let fti = certificate.fti();
         let count = fti.n(0) - fti.k(0);
         let size = count * usize::from(fti.symbol_length());
-        let mut bytes = Vec::with_capacity(alloc, fti.block_count() as usize * size)?;
-        for block in 0..fti.block_count() {
-            latest.make(block, fti.k(block), count);
-            bytes.extend_from_slice(latest.symbols())?;
-        }
+        let bytes = Vec::with_capacity(alloc, fti.block_count() as usize * size)?;
         Ok(RepairSymbols {
             certificate,
             count,
+            blocks: 0,
             bytes,
         })
+    }
+
+    /// The block behind those of which symbols are kept.
+    pub(crate) fn next_block(&self) -> u32
+        ensures { result ≡ self.now.blocks }
+    {
+        self.blocks
+    }
+
+    /// Makes all symbols of the next block at once, and keeps its repair symbols.
+    pub(crate) fn make_next(&mut self, latest: &mut BlockSymbols<'a>)
+        requires certificate { self.old.certificate ≡ latest.old.certificate }
+        requires block { self.old.blocks < block_count latest.old.certificate.fti }
+        ensures certificate { self.new.certificate ≡ self.old.certificate }
+        ensures made { latest.new ≡ made_of latest.old.certificate self.old.blocks 0
+            (source_count latest.old.certificate.fti self.old.blocks + self.old.count) }
+    {
+        let block = self.blocks;
+        let k = latest.fti().k(block);
+        latest.make(block, 0, k + self.count);
+        if let Ok(()) = self.bytes.extend_from_slice(latest.symbols_from(k)) {
+            self.blocks += 1;
+        }
     }
 
     /// The symbol of a block that has this ESI, where it is kept.
@@ -67,7 +88,7 @@ impl<'a> RepairSymbols<'a> {
         let fti = self.certificate.fti();
         let k = fti.k(block);
         let esi = usize::from(esi);
-        if esi < k || esi - k >= self.count {
+        if block >= self.blocks || esi < k || esi - k >= self.count {
             return None;
         }
         let width = usize::from(fti.symbol_length());
