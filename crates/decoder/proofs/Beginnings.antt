@@ -1,17 +1,16 @@
 -- What was put together of the blocks before one is a beginning of the object, if all that came is of one.
-use Rattle.std.specs.List.{AllByRecursion}
-use Rattle.std.proofs.Common.{◌≡◌, ℕ, ◌+◌, ◌-◌, ◌*◌, ◌<◌, ◌≤◌, List, ◌++◌, Option, Some, length, drop, take, get_or, length-append, arith, ap, ◌∙◌, sym, subst, inl, inr, suc}
+use Rattle.std.proofs.Common.{◌≡◌, ℕ, ◌+◌, ◌-◌, ◌*◌, ◌<◌, ◌≤◌, List, ◌++◌, Option, Some, length, drop, get_or, length-append, arith, ap, ◌∙◌, sym, subst, inl, inr, suc}
 use Rattle.std.proofs.lemmas.Bool.{cases_lt}
 use Rattle.std.proofs.Math.Nat.{mul-le-mul_right}
 use Rattle.std.proofs.Math.Seq.{take-length, get_or-append_right}
 use Rattle.std.proofs.lemmas.List.{get_or_append_left, get_or_past, get_or-drop, length-drop}
 use Rattle.std.specs.Io.KnownBytes.{Appends}
 use Rattle.session.specs.Frames.{AppendsSome}
-use Rattle.session.proofs.Writes.{then_some, front_some}
+use Rattle.session.proofs.Writes.{front_some}
 use Rattle.lists.proofs.Lists.{all_both, all_to}
 use Rattle.partition.specs.Fti.{Fti, IsValidFti, block_count, source_count, start_of, source_place, source_byte}
 use Rattle.partition.proofs.Laws.{counts, in_object, start_step, rising_to}
-use Rattle.reception.specs.Symbols.{Symbol, Agrees, Fits, FitsOnly}
+use Rattle.reception.specs.Symbols.{Symbol, Agrees, Fits}
 use Rattle.decoder.specs.Received.{IsIndex}
 use Rattle.decoder.specs.Written.{BeginsObject}
 use Rattle.decoder.proofs.ObjectSoFar.{SoFar}

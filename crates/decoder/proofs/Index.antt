@@ -2,7 +2,6 @@
 use Rattle.std.specs.Prelude.{◌||◌, ◌&&◌, ◌==◌, not}
 use Rattle.std.proofs.Common.{◌≡◌, ◌⊎◌, ℕ, Bool, true, false, List, [], ◌∷◌, ◌++◌, Option, Some, None, refl, sym, ap, subst, ◌∙◌, inl, inr, eqb, arith}
 use Rattle.std.specs.Ordering.{is_eq, nat_cmp}
-use Rattle.std.specs.Cmp.{both_tied}
 use Rattle.std.specs.List.{AllByRecursion}
 use Rattle.std.specs.Cmp.Lexicographic.{pointwise}
 use Rattle.std.proofs.lemmas.Bool.{cases_Bool, cases_order, or_parts, or_from, or_left, or_right, and_left, and_parts, eqb-true, eq-eqb, ne_eqb, le-ltb, lt-ltb, not-false}
@@ -11,7 +10,7 @@ use Rattle.alc.specs.PacketFault.{same}
 use Rattle.alc.proofs.Chosen.{same_is}
 use Rattle.reception.specs.Symbols.{Symbol, is_of, has_arrived}
 use Rattle.reception.specs.Answer.{clashes}
-use Rattle.decoder.specs.Received.{payload_id_cmp, HasBytes, IsIndex}
+use Rattle.decoder.specs.Received.{HasBytes, IsIndex}
 
 pub pointwise_same : (xs ys : List ℕ) → pointwise eqb xs ys ≡ same xs ys
 pointwise_same [] [] = refl
@@ -58,14 +57,6 @@ number_eq x y = elim (cases_order x y) [
   | inr (inl less) ↦ (rw (lt-ltb x y less, ne_eqb x y (λ e. omega (arith, e, less))) refl)
   | inr (inr more) ↦ (rw (le-ltb x y (omega (arith, more)), ne_eqb x y (λ e. omega (arith, e, more))) refl)
 ]
-
--- keys are equal where their blocks and ESIs are
-pub key_eq : (b j x y : ℕ) → (b == x && j == y) ≡ is_eq (payload_id_cmp (b, j) (x, y))
-key_eq b j x y = both_tied (b == x) (j == y) (nat_cmp b x) (nat_cmp j y) (number_eq b x) (number_eq j y)
-
--- another block or ESI is another key
-pub other_key : (b j x y : ℕ) → (b == x && j == y) ≡ false → is_eq (payload_id_cmp (b, j) (x, y)) ≡ false
-other_key b j x y other = sym (key_eq b j x y) ∙ other
 
 -- what is the case of one symbol that came, of all: the list has one more
 pub record Gains (arrivals more : List Symbol) (s : Symbol) : Type 1 where

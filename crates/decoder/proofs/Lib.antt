@@ -10,6 +10,7 @@ pub mod Solved
 pub mod RowPlaces
 pub mod BlockRows
 pub mod Answering
+pub mod Arrived
 pub mod GatheredSymbols
 pub mod Listing
 pub mod ObjectSoFar

@@ -1,24 +1,36 @@
 -- The encoding symbols that came, found by block and ESI.
-use Rattle.std.specs.Prelude.{◌≡◌, ℕ, true, false, List, Option, Some, None, option_map}
-use Rattle.std.specs.Borrow.{Bor}
+use Rattle.std.specs.Prelude.{◌≡◌, ℕ, true, false, List, [], ◌∷◌, Option, Some, None}
+use Rattle.std.specs.BTreeMap.{get}
+use Rattle.std.specs.Global.{Vec}
 use Rattle.std.specs.List.{AllByRecursion}
-use Rattle.std.specs.declared.cmp.Ordering.{Ordering}
-use Rattle.std.specs.Ordering.{nat_cmp, ordering_then}
-use Rattle.std.specs.BTreeMap.{BTreeMap, get}
+use Rattle.std.specs.Ordering.{nat_cmp}
 use Rattle.partition.specs.Fti.{Fti}
 use Rattle.reception.specs.declared.scope.Identity.{Identity}
 use Rattle.reception.specs.Symbols.{Symbol, is_of, has_arrived}
 use Rattle.reception.specs.Reception.{counted, symbols, IsClean}
 use Rattle.reception.specs.Walks.{readings_of}
 use Rattle.reception.specs.Answer.{Empty, AnswerTo, reception_of}
+use Rattle.decoder.specs.Kept.{with_esi}
+use Rattle.decoder.specs.declared.symbols.Arrival.{Arrival}
+use Rattle.decoder.specs.declared.symbols.Symbols.{Symbols}
 
--- by block, and in a block by ESI
-abbrev pub payload_id_cmp : ℕ × ℕ → ℕ × ℕ → Ordering
-payload_id_cmp x y = ordering_then (nat_cmp x.0 y.0) (nat_cmp x.1 y.1)
+-- with these symbols more, one after the other
+abbrev pub with_arrived : (ℕ → Option (List ℕ)) → List Arrival → ℕ → Option (List ℕ)
+with_arrived at [] = at
+with_arrived at (a ∷ arrivals) = with_arrived (with_esi at a.esi a.bytes.now) arrivals
 
--- the bytes that a map has at a block and an ESI
-abbrev pub bytes_at : BTreeMap (ℕ × ℕ) (Bor (List ℕ)) → ℕ → ℕ → Option (List ℕ)
-bytes_at m b j = option_map (λ s. s.now) (get payload_id_cmp m (b, j))
+-- the bytes of the symbol that came at an ESI, if one did
+abbrev pub arrived_at : List Arrival → ℕ → Option (List ℕ)
+arrived_at arrivals = with_arrived (λ j. None) arrivals
+
+-- of a block
+abbrev pub arrived_of : Option (Vec Arrival) → ℕ → Option (List ℕ)
+arrived_of None j = None
+arrived_of (Some v) j = arrived_at v.items j
+
+-- the bytes that stand at a block and an ESI
+abbrev pub bytes_at : Symbols → ℕ → ℕ → Option (List ℕ)
+bytes_at s b j = arrived_of (get nat_cmp s.blocks b) j
 
 -- the symbol came, and wherever it did with these bytes
 pub record HasBytes (arrivals : List Symbol) (b j : ℕ) (bytes : List ℕ) : Type 0 where

@@ -11,10 +11,11 @@ ghost use Rattle.decoder.specs.Rows.{byte_in, HasSizes};
 
 use crate::block::Block;
 use crate::padding::may_be_padded;
-use crate::received::{Received, Symbols};
+use crate::received::Received;
 use crate::recovering::recover;
 use crate::recovery::Recovery;
 use crate::rows::{Rows, is_zero};
+use crate::symbols::Symbols;
 use block_code::BlockCodes;
 use lists::are_bytes;
 use partition::Fti;
@@ -44,9 +45,15 @@ fn arrivals<'a>(
     ensures at { IfOk result
         (λ v. (j : ℕ) → j < n → bytes_of_esi v.items j ≡ bytes_at symbols.now b j) }
 {
-    let mut arrivals = Vec::with_capacity(alloc, n)?;
-    for esi in 0..n {
-        arrivals.push(symbols.get(&(b, esi as u8)).copied())?;
+    let mut arrivals = no_arrivals(alloc, n)?;
+    let Some(came) = symbols.of_block(b) else {
+        return Ok(arrivals);
+    };
+    for arrival in came {
+        let esi = usize::from(arrival.esi);
+        if esi < n {
+            arrivals[esi] = Some(arrival.bytes);
+        }
     }
     Ok(arrivals)
 }

@@ -1,13 +1,14 @@
 //! How many of a block's encoding symbols came.
-ghost use Rattle.std.specs.Prelude.{◌≡◌, ◌≤◌, ℕ, List, length, filter, is_some, IfSome, IfNone};
+ghost use Rattle.std.specs.Prelude.{◌≡◌, ◌<◌, ◌≤◌, ℕ, List, length, filter, is_some, IfSome, IfNone};
 ghost use Rattle.std.specs.List.{AllByRecursion};
 ghost use Rattle.lists.specs.Below.{below};
 ghost use Rattle.partition.specs.Fti.{source_count};
 ghost use Rattle.reception.specs.Symbols.{Symbol, arrived_count, AllFull, IsFirstShort};
 ghost use Rattle.reception.specs.Within.{IsWithin};
-ghost use Rattle.decoder.specs.Received.{bytes_at, IsIndex};
+ghost use Rattle.decoder.specs.Received.{bytes_at, arrived_at, IsIndex};
+ghost use Rattle.decoder.specs.Kept.{seen_at};
 
-use crate::received::Symbols;
+use crate::symbols::{Arrival, Symbols};
 use partition::Fti;
 
 /// A block that has fewer encoding symbols than it needs.
@@ -21,14 +22,29 @@ pub(crate) struct Short {
     pub(crate) need: usize,
 }
 
+// Whether the symbol at each ESI came.
+fn seen_of(arrivals: &[Arrival<'_>]) -> [bool; 256]
+    ensures { (j : ℕ) → j < 256 → seen_at result j ≡ is_some (arrived_at arrivals.now j) }
+{
+    let mut seen = [false; 256];
+    for arrival in arrivals {
+        seen[usize::from(arrival.esi)] = true;
+    }
+    seen
+}
+
 /// How many different ESIs below `n` came of a block.
 pub(crate) fn have(symbols: &Symbols<'_>, b: u32, n: usize) -> usize
     requires { n ≤ 255 }
     ensures { result ≡ length (filter (λ j. is_some (bytes_at symbols.now b j)) (below n)) }
 {
+    let Some(arrivals) = symbols.of_block(b) else {
+        return 0;
+    };
+    let seen = seen_of(arrivals);
     let mut count = 0;
     for j in 0..n {
-        if symbols.contains_key(&(b, j as u8)) {
+        if seen[j] {
             count += 1;
         }
     }

@@ -1,8 +1,8 @@
 //! The decoder: the object that datagrams give, or why they give none (RFC 5510, section 8).
 //!
 //! - `answer`: what a decoder answers;
-//! - `received`: the symbols of a list of datagrams, by block and ESI, or the first fault at a place, by the FTI of the
-//!   first carrier, which is found before; `counting`: how many of them each block has;
+//! - `symbols`: what came, by block and ESI; `received`: that of a list of datagrams, or the first fault at a place, by the
+//!   FTI of the first carrier, which is found before; `counting`: how many symbols each block has;
 //! - `recovering`: the source symbols of one block that has enough of them, by `rows`, `block` and `erasure`;
 //! - `blocks`: the same for a block of what was received; `padding`: whether its symbols can have the object's padding, told
 //!   before they are solved; `unsolvable`: the blocks whose symbols are those of no object;
@@ -41,6 +41,7 @@ mod selecting;
 mod solved_block;
 mod store;
 mod stored;
+mod symbols;
 mod taking;
 mod unsolvable;
 

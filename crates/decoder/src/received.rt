@@ -1,5 +1,5 @@
 //! The encoding symbols that came, by block and ESI.
-ghost use Rattle.std.specs.Prelude.{◌≡◌, ◌==◌, ◌&&◌, ℕ, List, Some, false, map, IsNone, IfSome, IfOk, IfErr, OnOk};
+ghost use Rattle.std.specs.Prelude.{◌≡◌, ◌==◌, ◌&&◌, ℕ, List, Some, true, false, map, IsNone, IfSome, IfOk, IfErr, OnOk};
 ghost use Rattle.alc.specs.Views.{packet_of};
 ghost use Rattle.reception.specs.Symbols.{Symbol};
 ghost use Rattle.reception.specs.Reception.{Faulty, symbol_of};
@@ -9,11 +9,11 @@ ghost use Rattle.decoder.specs.Refusals.{IsRefusal};
 ghost use Rattle.decoder.specs.Received.{bytes_at, IsIndex, AreReceived, IsNothing};
 
 use crate::answer::DecodeFault;
+use crate::symbols::Symbols;
 use alc::Packet;
 use partition::Fti;
 use reception::{Identity, Look, PlaceFault, Scope};
 use std::alloc::{AllocError, Global};
-use std::collections::BTreeMap;
 
 /// Why datagrams weren't received.
 #[derive(Clone, Copy)]
@@ -22,25 +22,28 @@ pub(crate) enum Refusal {
     NoMemory,
 }
 
-/// The symbols of a session: at a source block number and an ESI the bytes of the symbol, in its datagram.
-pub(crate) type Symbols<'a> = BTreeMap<(u32, u8), &'a [u8]>;
+// Why a symbol wasn't kept.
+#[derive(Clone, Copy)]
+enum Unkept {
+    Clash,
+    NoMemory,
+}
+
+impl From<AllocError> for Unkept {
+    ghost use Rattle.decoder.specs.declared.received.Unkept.TheVariants.{NoMemory};
+
+    ghost from_gives = { λ _ unkept. unkept ≡ NoMemory };
+
+    fn from(_: AllocError) -> Self {
+        Unkept::NoMemory
+    }
+}
 
 /// What came of an object.
 #[derive(Drop)]
 pub(crate) struct Received<'a> {
     pub(crate) fti: Fti,
     pub(crate) symbols: Symbols<'a>,
-}
-
-// Whether an earlier symbol of the packet's block and ESI has other bytes.
-fn is_clash(symbols: &Symbols<'_>, packet: &Packet<'_>) -> bool
-    ensures { (earlier : List Symbol) → IsIndex earlier (bytes_at symbols.now)
-        → result ≡ clashes earlier (symbol_of (packet_of packet.now)) }
-{
-    match symbols.get(&(packet.sbn, packet.esi)) {
-        Some(bytes) => *bytes != packet.symbol,
-        None => false,
-    }
 }
 
 /// The fault of the datagram at a place.
@@ -55,15 +58,26 @@ pub(crate) fn fault_at(place: usize, fault: PlaceFault) -> DecodeFault
     }
 }
 
-// Puts the packet's symbol at its block and ESI.
-fn keep<'a>(symbols: &mut Symbols<'a>, packet: &Packet<'a>) -> Result<(), AllocError>
+// Keeps the packet's symbol, unless an earlier one of its block and ESI has other bytes.
+fn keep<'a>(alloc: Global, symbols: &mut Symbols<'a>, packet: &Packet<'a>) -> Result<(), Unkept>
     ensures here { OnOk result
         (bytes_at symbols.new packet.now.sbn packet.now.esi ≡ Some packet.now.symbol.now) }
     ensures elsewhere { OnOk result
         ((b j : ℕ) → (packet.now.sbn == b && packet.now.esi == j) ≡ false
         → bytes_at symbols.new b j ≡ bytes_at symbols.old b j) }
+    ensures none { OnOk result ((earlier : List Symbol) → IsIndex earlier (bytes_at symbols.old)
+        → clashes earlier (symbol_of (packet_of packet.now)) ≡ false) }
+    ensures clash { IfErr result (λ unkept. unkept ≡ Unkept.Clash
+        → (earlier : List Symbol) → IsIndex earlier (bytes_at symbols.old)
+        → clashes earlier (symbol_of (packet_of packet.now)) ≡ true) }
 {
-    symbols.insert((packet.sbn, packet.esi), packet.symbol)?;
+    let Some(bytes) = symbols.get(packet.sbn, packet.esi) else {
+        symbols.put(alloc, packet)?;
+        return Ok(());
+    };
+    if *bytes != *packet.symbol {
+        return Err(Unkept::Clash);
+    }
     Ok(())
 }
 
@@ -81,7 +95,7 @@ pub(crate) fn receive<'a>(
     ensures refusal { IfErr result (IsRefusal identity (map (λ d. d.now) datagrams.now)) }
 {
     let mut scope = Scope::found_in(identity, datagrams);
-    let mut symbols = BTreeMap::new(alloc);
+    let mut symbols = Symbols::new(alloc);
     for place in 0..datagrams.len() {
         let packet = match scope.look(datagrams[place]) {
             Ok(Look::InRange(packet)) => packet,
@@ -90,12 +104,11 @@ pub(crate) fn receive<'a>(
             Ok(Look::Early) => continue,
             Err(fault) => return Err(Refusal::Fault(fault_at(place, fault))),
         };
-        if is_clash(&symbols, &packet) {
-            return Err(Refusal::Fault(DecodeFault::Clash(place)));
+        match keep(alloc, &mut symbols, &packet) {
+            Ok(()) => {}
+            Err(Unkept::Clash) => return Err(Refusal::Fault(DecodeFault::Clash(place))),
+            Err(Unkept::NoMemory) => return Err(Refusal::NoMemory),
         }
-        let Ok(()) = keep(&mut symbols, &packet) else {
-            return Err(Refusal::NoMemory);
-        };
     }
     match scope.fti {
         Some(fti) => Ok(Some(Received { fti, symbols })),

@@ -10,7 +10,8 @@ ghost use Rattle.decoder.specs.Received.{bytes_at, IsIndex};
 
 use crate::blocks::received_rows;
 use crate::counting::have;
-use crate::received::{Received, Symbols};
+use crate::received::Received;
+use crate::symbols::Symbols;
 use block_code::BlockCodes;
 use std::alloc::{AllocError, Global};
 
@@ -22,9 +23,9 @@ fn blocks_of(alloc: Global, symbols: &Symbols<'_>) -> Result<Vec<u32>, AllocErro
         → (j : ℕ) × (is_some (bytes_at symbols.now (slice_index v.items i) j) ≡ true)) }
 {
     let mut blocks = Vec::new(alloc);
-    for key in symbols.keys() {
-        if blocks.last() != Some(&key.0) {
-            blocks.push(key.0)?;
+    for block in symbols.blocks.keys() {
+        if symbols.has_some(*block) {
+            blocks.push(*block)?;
         }
     }
     Ok(blocks)

@@ -20,7 +20,7 @@ pub loop-place-init : goal.loop-place-init
 loop-place-init c =
     let ds = map (λ (d : Bor (List ℕ)). d.now) c.args.datagrams.now in
     subst (λ (s : Scope). Scanned (scope_in c.args.identity ds) ds s (bytes_at c.new-symbols.result) 0) (sym c.found_in-scope.ensures)
-    (starts (scope_in c.args.identity ds) ds (bytes_at c.new-symbols.result) (λ b j. rw c.new-symbols.ensures.empty refl))
+    (starts (scope_in c.args.identity ds) ds (bytes_at c.new-symbols.result) c.new-symbols.ensures)
 
 pub loop-place-preserved-in-Ok-Other : goal.loop-place-preserved-in-Ok-Other
 loop-place-preserved-in-Ok-Other c =
@@ -45,8 +45,8 @@ returns-in-Err-clause-refusal c =
     ∙ stops clash (scope_in c.args.identity ds) ds c.loop-place.place c.loop-place.scope c.loop-place.invariant.walked _ c.look.new.self (Err c.in-Err.fault)
     (some_mapped c.args.datagrams.now _ l) (borrowed_at c.args.datagrams.now c.loop-place.place _ l) (rw c.in-Err.is at c.look.ensures) (Faulty c.in-Err.fault) refl)
 
-pub returns-then-is_clash-clause-refusal : goal.returns-then-is_clash-clause-refusal
-returns-then-is_clash-clause-refusal c =
+pub returns-in-Err-Clash-clause-refusal : goal.returns-in-Err-Clash-clause-refusal
+returns-in-Err-Clash-clause-refusal c =
     let ds = map (λ (d : Bor (List ℕ)). d.now) c.args.datagrams.now in
     let known = scope_in c.args.identity ds in
     let l : c.loop-place.place < length c.args.datagrams.now = omega arith in
@@ -55,7 +55,7 @@ returns-then-is_clash-clause-refusal c =
     let here = borrowed_at c.args.datagrams.now c.loop-place.place _ l in
     let before = came_before known.identity ds c.loop-place.place in
     let k = known_at_last known ds c.loop-place.scope (bytes_at c.loop-place.symbols) c.loop-place.place c.loop-place.invariant _ c.look.new.self c.in-Ok-InRange.packet inside here at in
-    let says = sym (c.is_clash.ensures before (c.loop-place.invariant.index k.0 k.1)) ∙ c.if-is_clash.true in
+    let says = c.in-Err-Clash.ensures.clash c.in-Err-Clash.field-0-is before (c.loop-place.invariant.index k.0 k.1) in
     ap (λ (r : Reception Clash). r.wrong) (sym (found_reception clash c.args.identity ds))
     ∙ stops clash known ds c.loop-place.place c.loop-place.scope c.loop-place.invariant.walked _ c.look.new.self (Ok (look_at.InRange c.in-Ok-InRange.packet))
     inside here at (Judged Clashes) (clashed before (symbol_of (packet_of c.in-Ok-InRange.packet)) says)
@@ -70,7 +70,7 @@ loop-place-preserved c =
     let here = borrowed_at c.args.datagrams.now c.loop-place.place _ l in
     let before = came_before known.identity ds c.loop-place.place in
     let k = known_at_last known ds c.loop-place.scope (bytes_at c.loop-place.symbols) c.loop-place.place c.loop-place.invariant _ c.look.new.self c.in-Ok-InRange.packet inside here at in
-    let says = sym (c.is_clash.ensures before (c.loop-place.invariant.index k.0 k.1)) ∙ c.if-is_clash.false in
+    let says = c.in-Ok.ensures.none before (c.loop-place.invariant.index k.0 k.1) in
     receives known ds c.loop-place.scope (bytes_at c.loop-place.symbols) c.loop-place.place c.loop-place.invariant _ c.look.new.self c.in-Ok-InRange.packet
     inside here at (bytes_at c.keep.new.symbols) says c.in-Ok.ensures.here c.in-Ok.ensures.elsewhere
 

@@ -1,19 +1,20 @@
-use Rattle.std.proofs.Common.{◌∙◌, sym}
-use Rattle.decoder.proofs.Listing.{listed_none, listed_more, listed_same, last_stands}
+use Rattle.std.specs.Prelude.{is_some}
+use Rattle.std.proofs.Common.{ap}
+use Rattle.decoder.proofs.Listing.{listed_none, listed_more, listed_same}
 use Rattle.decoder.proofs.unsolvable.blocks_of.Goals as goal
 
-pub loop-key-init : goal.loop-key-init
-loop-key-init c =
-    rw (c.into_iter-key-iterator.ensures.into_iter_gives, c.new-blocks.ensures.items)
-    (listed_none c.args.symbols.now c.keys-key-items.result c.keys-key-items.ensures.has)
+pub loop-block-init : goal.loop-block-init
+loop-block-init c =
+    rw (c.into_iter-block-iterator.ensures.into_iter_gives, c.new-blocks.ensures.items)
+    (listed_none c.args.symbols.now c.keys-block-items.result c.keys-block-items.ensures.has)
 
-pub loop-key-preserved-in-Continue-1 : goal.loop-key-preserved-in-Continue-1
-loop-key-preserved-in-Continue-1 c =
+pub loop-block-preserved-in-Continue-1 : goal.loop-block-preserved-in-Continue-1
+loop-block-preserved-in-Continue-1 c =
+    let here = c.has_some.ensures.some c.if-has_some.true in
     rw c.in_ok-push.ensures.items
-    (listed_more c.args.symbols.now c.in-Some.key.now c.next.new.self _ (rw c.in-Some.ensures.steps at c.loop-key.invariant))
+    (listed_more c.args.symbols.now c.in-Some.block.now c.next.new.self _ (rw c.in-Some.ensures.steps at c.loop-block.invariant) here.0 here.1)
 
-pub loop-key-preserved : goal.loop-key-preserved
-loop-key-preserved c =
-    let last = rw c.deref.ensures.value at c.last.ensures.value in
-    listed_same c.args.symbols.now c.in-Some.key.now c.next.new.self _ (rw c.in-Some.ensures.steps at c.loop-key.invariant)
-    (last_stands _ c.last.result _ last (sym c.ne.ensures ∙ c.if-ne.false))
+pub loop-block-preserved : goal.loop-block-preserved
+loop-block-preserved c =
+    listed_same c.args.symbols.now c.in-Some.block.now c.next.new.self _ (rw c.in-Some.ensures.steps at c.loop-block.invariant)
+    (λ j. ap is_some (c.has_some.ensures.none c.if-has_some.false j))

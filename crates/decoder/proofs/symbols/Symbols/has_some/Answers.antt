@@ -1,0 +1,9 @@
+use Rattle.std.specs.Prelude.{is_some, not}
+use Rattle.std.proofs.Common.{◌∙◌, ap, sym}
+use Rattle.decoder.proofs.Arrived.{some_arrived, some_length}
+use Rattle.decoder.proofs.symbols.Symbols.has_some.Goals as goal
+
+pub returns-in-Some-clause-some : goal.returns-in-Some-clause-some
+returns-in-Some-clause-some c = λ some.
+    let there = some_arrived c.in-Some.arrivals.now (some_length c.in-Some.arrivals.now (ap not (sym c.is_empty.ensures) ∙ some)) in
+    (there.0, ap is_some (sym (c.in-Some.ensures.some there.0)) ∙ there.1)
