@@ -20,6 +20,17 @@ pub(crate) struct Symbols<'a> {
     pub(crate) blocks: BTreeMap<u32, Vec<Arrival<'a>>>,
 }
 
+// Where there is no room for one more, makes room for it and for a quarter of what came: twice as much would be more than
+// the datagrams' places take.
+fn make_room(arrivals: &mut Vec<Arrival<'_>>) -> Result<(), AllocError>
+    ensures { arrivals.new.items ≡ arrivals.old.items }
+{
+    if arrivals.len() == arrivals.capacity() {
+        arrivals.reserve_exact(arrivals.len() / 4 + 1)?;
+    }
+    Ok(())
+}
+
 impl<'a> Symbols<'a> {
     /// Nothing came.
     pub(crate) fn new(alloc: Global) -> Symbols<'a>
@@ -81,6 +92,7 @@ impl<'a> Symbols<'a> {
         };
         match self.blocks.get_mut(&packet.sbn) {
             Some(arrivals) => {
+                make_room(arrivals)?;
                 arrivals.push(arrival)?;
                 Ok(())
             }
