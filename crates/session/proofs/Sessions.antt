@@ -1,7 +1,7 @@
 -- Frames of a growing list of datagrams.
-use Rattle.std.proofs.Common.{◌≡◌, ℕ, zero, suc, ◌<◌, ◌≤◌, ◌+◌, length-append, List, [], ◌∷◌, ◌++◌, Option, map, drop, take, length, sym, ap, ◌∙◌, arith, get_or}
+use Rattle.std.proofs.Common.{◌≡◌, ℕ, zero, suc, ◌<◌, ◌≤◌, ◌+◌, length-append, List, [], ◌∷◌, ◌++◌, Option, drop, take, length, sym, ap, ◌∙◌, arith, get_or}
 use Rattle.std.proofs.lemmas.Grind.{flat_map-append}
-use Rattle.std.proofs.lemmas.List.{append-nil, map-append, take-append-drop}
+use Rattle.std.proofs.lemmas.List.{append-nil, take-append-drop, take_more}
 use Rattle.std.proofs.Math.Seq.{drop-cons}
 use Rattle.std.specs.Io.KnownBytes.{Appends}
 use Rattle.streams.proofs.Writes.{then_some, front_some}
@@ -19,26 +19,28 @@ pub frames_push : (ds : List (List ℕ)) (d : List ℕ) → frames (ds ++ d ∷ 
 frames_push ds d = flat_map-append frame ds (d ∷ []) ∙ ap (λ (l : List ℕ). frames ds ++ l) (append-nil (frame d))
 
 -- the frames of a list, split at a member
-frames_split : {X : Type 0} (f : X → List ℕ) (xs : List X) (i : ℕ) (x : X) → i < length xs → x ≡ get_or xs i x
-    → frames (map f xs) ≡ frames (map f (take i xs)) ++ (frame (f x) ++ frames (map f (drop (suc i) xs)))
-frames_split f xs i x l e =
-    let back : drop i xs ≡ x ∷ drop (suc i) xs = drop-cons xs i x l ∙ ap (λ y. y ∷ drop (suc i) xs) (sym e) in
-    let whole : xs ≡ take i xs ++ (x ∷ drop (suc i) xs) = sym (take-append-drop i xs) ∙ ap (λ ys. take i xs ++ ys) back in
-    ap (λ ys. frames (map f ys)) whole ∙ ap frames (map-append f (take i xs) (x ∷ drop (suc i) xs)) ∙ flat_map-append frame (map f (take i xs)) (f x ∷ map f (drop (suc i) xs))
+frames_split : (ds : List (List ℕ)) (i : ℕ) (d : List ℕ) → i < length ds → d ≡ get_or ds i [] → frames ds ≡ frames (take i ds) ++ (frame d ++ frames (drop (suc i) ds))
+frames_split ds i d l is =
+    let back : drop i ds ≡ d ∷ drop (suc i) ds = drop-cons ds i [] l ∙ ap (λ y. y ∷ drop (suc i) ds) (sym is) in
+    let whole : ds ≡ take i ds ++ (d ∷ drop (suc i) ds) = sym (take-append-drop i ds) ∙ ap (λ ys. take i ds ++ ys) back in
+    ap frames whole ∙ flat_map-append frame (take i ds) (d ∷ drop (suc i) ds)
 
 -- a beginning of a frame behind the frames before it
-pub some_behind : {X : Type 0} (f : X → List ℕ) (a b c : Option (List ℕ)) (xs : List X) (i : ℕ) (x : X) → i < length xs → x ≡ get_or xs i x
-    → Appends a b (frames (map f (take i xs))) → AppendsSome b c (frame (f x)) → AppendsSome a c (frames (map f xs))
-some_behind f a b c xs i x l e p q =
-    rw (frames_split f xs i x l e) (then_some a b c (frames (map f (take i xs))) _ p (front_some b c (frame (f x)) (frames (map f (drop (suc i) xs))) q))
+pub some_behind : (a b c : Option (List ℕ)) (ds : List (List ℕ)) (i : ℕ) (d : List ℕ) → i < length ds → d ≡ get_or ds i []
+    → Appends a b (frames (take i ds)) → AppendsSome b c (frame d) → AppendsSome a c (frames ds)
+some_behind a b c ds i d l is p q =
+    rw (frames_split ds i d l is) (then_some a b c (frames (take i ds)) _ p (front_some b c (frame d) (frames (drop (suc i) ds)) q))
 
 -- how many bytes the frames have up to a member, and with it
-pub front_size : {X : Type 0} (f : X → List ℕ) (xs : List X) (i : ℕ) (x : X) → i < length xs → x ≡ get_or xs i x
-    → length (frames (map f (take i xs))) + length (frame (f x)) ≤ length (frames (map f xs))
-front_size f xs i x l e =
-    let before : List ℕ = frames (map f (take i xs)) in
-    let behind : List ℕ = frames (map f (drop (suc i) xs)) in
-    let whole : length (frames (map f xs)) ≡ length (before ++ (frame (f x) ++ behind)) = ap length (frames_split f xs i x l e) in
-    let outer : length (before ++ (frame (f x) ++ behind)) ≡ length before + length (frame (f x) ++ behind) = length-append before (frame (f x) ++ behind) in
-    let inner : length (frame (f x) ++ behind) ≡ length (frame (f x)) + length behind = length-append (frame (f x)) behind in
+pub front_size : (ds : List (List ℕ)) (i : ℕ) (d : List ℕ) → i < length ds → d ≡ get_or ds i [] → length (frames (take i ds)) + length (frame d) ≤ length (frames ds)
+front_size ds i d l is =
+    let before : List ℕ = frames (take i ds) in
+    let behind : List ℕ = frames (drop (suc i) ds) in
+    let whole : length (frames ds) ≡ length (before ++ (frame d ++ behind)) = ap length (frames_split ds i d l is) in
+    let outer : length (before ++ (frame d ++ behind)) ≡ length before + length (frame d ++ behind) = length-append before (frame d ++ behind) in
+    let inner : length (frame d ++ behind) ≡ length (frame d) + length behind = length-append (frame d) behind in
     omega (arith, whole, outer, inner)
+
+-- the frames before a member, and its own
+pub frames_more : (ds : List (List ℕ)) (i : ℕ) (d : List ℕ) → i < length ds → d ≡ get_or ds i [] → frames (take (i + 1) ds) ≡ frames (take i ds) ++ frame d
+frames_more ds i d l is = ap frames (take_more ds i [] l ∙ ap (λ (y : List ℕ). take i ds ++ y ∷ []) (sym is)) ∙ frames_push (take i ds) d

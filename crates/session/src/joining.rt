@@ -3,7 +3,7 @@ ghost use Rattle.std.specs.Prelude.{◌≡◌, ◌++◌, OnOk, IfOk, IfErr, Matc
 ghost use Rattle.session.specs.Joined.{joined, longest as longest_of, round as round_of};
 
 use crate::frame::FrameFault;
-use crate::selection::push_copy;
+use crate::selection::put;
 use crate::session::Session;
 use std::alloc::Global;
 
@@ -19,29 +19,24 @@ fn longest(sessions: &[Session]) -> usize
 }
 
 // Puts copies of a session's datagrams last.
-fn push_all(alloc: Global, joined: &mut Session, session: &Session) -> Result<(), FrameFault>
+fn push_all(joined: &mut Session, session: &Session) -> Result<(), FrameFault>
     ensures { MatchResult result (λ _. joined.new ≡ joined.old ++ session.now)
         (λ e. e ≡ FrameFault.NoMemory) }
 {
     for place in 0..session.len() {
-        push_copy(alloc, joined, session.get(place))?;
+        put(joined, session.get(place))?;
     }
     Ok(())
 }
 
 // Puts a copy of the datagram at this place of each session that has one last.
-fn push_round(
-    alloc: Global,
-    joined: &mut Session,
-    sessions: &[Session],
-    place: usize,
-) -> Result<(), FrameFault>
+fn push_round(joined: &mut Session, sessions: &[Session], place: usize) -> Result<(), FrameFault>
     ensures ok { OnOk result (joined.new ≡ joined.old ++ round_of sessions.now place) }
     ensures fault { IfErr result (λ e. e ≡ FrameFault.NoMemory) }
 {
     for session in sessions {
         if place < session.len() {
-            push_copy(alloc, joined, session.get(place))?;
+            put(joined, session.get(place))?;
         }
     }
     Ok(())
@@ -58,11 +53,11 @@ impl Session {
         let mut joined = Session::new(alloc);
         if turns {
             for place in 0..longest(sessions) {
-                push_round(alloc, &mut joined, sessions, place)?;
+                push_round(&mut joined, sessions, place)?;
             }
         } else {
             for session in sessions {
-                push_all(alloc, &mut joined, session)?;
+                push_all(&mut joined, session)?;
             }
         }
         Ok(joined)

@@ -2,7 +2,9 @@
 ghost use Rattle.std.specs.Prelude.{◌≡◌, ◌==◌, ◌≤◌, ◌<◌, true, false, ◌∷◌, ◌++◌, [], ℕ, None, Some, length, map, OnOk, OnErr, IfErr, IfOk, IfSome, slice_index, slice_index_or};
 ghost use Rattle.std.specs.Io.KnownBytes.{Appends, IsAtEnd};
 ghost use Rattle.streams.specs.Pieces.{AppendsSome};
-ghost use Rattle.session.specs.Frames.{most_bytes, frames, AreDatagrams, IsFramed, IsSessionFault};
+ghost use Rattle.session.specs.Frames.{most_bytes, frames, IsDatagram, AreDatagrams, IsFramed, IsSessionFault};
+ghost use Rattle.session.specs.Bounds.{begin};
+ghost use Rattle.session.specs.Buffer.{AreEnds};
 
 use crate::frame::{FrameFault, read_next, write_one};
 use lists::are_bytes;
@@ -13,18 +15,36 @@ use streams::{Read, Write};
 /// A list of datagrams, each of at most 65,507 bytes.
 #[derive(Drop)]
 pub struct Session {
-    datagrams: Vec<Vec<u8>>,
+    // All datagrams, one behind the other.
+    bytes: Vec<u8>,
+    // Where each ends.
+    ends: Vec<usize>,
 }
 
 impl Model for Session {
-    ghost use Rattle.std.specs.Prelude.{List, ℕ, map};
+    ghost use Rattle.std.specs.Prelude.{List, ℕ, length};
     ghost use Rattle.session.specs.Frames.{AreDatagrams};
+    ghost use Rattle.session.specs.Buffer.{pieces, AreEnds};
 
     ghost Value = { List (List ℕ) };
 
-    ghost view = { λ s. map (λ v. v.items) s.datagrams.items };
+    ghost view = { λ s. pieces 0 s.ends.items s.bytes.items };
 
-    ghost invariant = { λ s. AreDatagrams (map (λ v. v.items) s.datagrams.items) };
+    ghost invariant = { λ s. AreEnds 0 s.ends.items (length s.bytes.items)
+        × AreDatagrams (pieces 0 s.ends.items s.bytes.items) };
+}
+
+// Where the datagram at place `i` begins and ends, of datagrams of so many bytes together.
+fn bounds_of(ends: &[usize], size: usize, i: usize) -> (usize, usize)
+    requires place { i < length ends.now }
+    requires ends { AreEnds 0 ends.now size }
+    ensures begin { result.0 ≡ begin 0 ends.now i }
+    ensures end { result.1 ≡ slice_index ends.now i }
+    ensures order { result.0 ≤ result.1 }
+    ensures within { result.1 ≤ size }
+{
+    let from = if i == 0 { 0 } else { ends[i - 1] };
+    (from, ends[i])
 }
 
 impl Session {
@@ -33,7 +53,8 @@ impl Session {
         ensures { result ≡ [] }
     {
         Session {
-            datagrams: Vec::new(alloc),
+            bytes: Vec::new(alloc),
+            ends: Vec::new(alloc),
         }
     }
 
@@ -42,14 +63,14 @@ impl Session {
         ensures value { result ≡ length self.now }
         ensures datagrams { AreDatagrams self.now }
     {
-        self.datagrams.len()
+        self.ends.len()
     }
 
     /// Whether there is none.
     pub fn is_empty(&self) -> bool
         ensures { result ≡ (length self.now == 0) }
     {
-        self.datagrams.is_empty()
+        self.ends.is_empty()
     }
 
     /// The datagram at place `i`.
@@ -57,7 +78,8 @@ impl Session {
         requires { i < length self.now }
         ensures { result.now ≡ slice_index_or self.now i [] }
     {
-        self.datagrams[i].as_slice()
+        let (from, to) = bounds_of(&self.ends, self.bytes.len(), i);
+        &self.bytes[from..to]
     }
 
     /// Puts a datagram last. One for which there is no memory is given back.
@@ -68,9 +90,25 @@ impl Session {
         ensures back { IfErr result (λ v. v ≡ datagram) }
     {
         are_bytes(datagram.as_slice());
-        match self.datagrams.push(datagram) {
+        match self.push_copy(datagram.as_slice()) {
             Ok(()) => Ok(()),
-            Err(refused) => Err(refused.value),
+            Err(_) => Err(datagram),
+        }
+    }
+
+    /// Puts a copy of a datagram last. Want of memory is the only error, and changes nothing.
+    pub(crate) fn push_copy(&mut self, datagram: &[u8]) -> Result<(), AllocError>
+        requires { IsDatagram datagram.now }
+        ensures ok { OnOk result (self.new ≡ self.old ++ datagram.now ∷ []) }
+        ensures err { OnErr result (self.new ≡ self.old) }
+    {
+        self.ends.push(self.bytes.len() + datagram.len())?;
+        match self.bytes.extend_from_slice(datagram) {
+            Ok(()) => Ok(()),
+            Err(fault) => {
+                self.ends.pop();
+                Err(fault)
+            }
         }
     }
 
@@ -107,8 +145,8 @@ impl Session {
         ensures full { OnErr result (W.room writer.old < length (frames self.now)) }
         ensures datagrams { AreDatagrams self.now }
     {
-        for datagram in &self.datagrams {
-            write_one(writer, datagram.as_slice())?;
+        for place in 0..self.len() {
+            write_one(writer, self.get(place))?;
         }
         Ok(())
     }
@@ -118,8 +156,8 @@ impl Session {
         ensures { IfOk result (λ views. map (λ v. v.now) views.items ≡ self.now) }
     {
         let mut views = Vec::with_capacity(alloc, self.len())?;
-        for datagram in &self.datagrams {
-            views.push(datagram.as_slice())?;
+        for place in 0..self.len() {
+            views.push(self.get(place))?;
         }
         Ok(views)
     }
