@@ -135,7 +135,8 @@ impl Receiver {
             → IfOk result (λ p. Tells p self.old.identity (with_datagram ds datagram.now)) }
         ensures fault { (ds : List (List ℕ)) → Stands self.old ds
             → IfErr result (IsFaultOf self.old.identity (with_datagram ds datagram.now)) }
-        ensures memory { (ds : List (List ℕ)) → Stands self.old ds → result ≡ Err FeedFault.NoMemory
+        ensures memory { (ds : List (List ℕ)) → Stands self.old ds
+            → result ≡ Err FeedFault.NoMemory
             → HasNoFaultBefore self.old.identity (with_datagram ds datagram.now) }
         ensures sound { (ds : List (List ℕ)) → Stands self.old ds
             → OnOk result (HasNoFault self.old.identity (with_datagram ds datagram.now)) }

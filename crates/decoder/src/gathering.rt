@@ -193,9 +193,11 @@ impl ObjectSymbols<'_> {
     /// writer has a beginning of the object.
     pub fn write<W: Write>(&self, alloc: Global, writer: &mut W) -> Result<u64, WriteFault>
         requires { AreGathered self.now }
-        ensures written { (who : IdentityValue) (ds : List (List ℕ)) → AreSymbolsOf who ds self.now
+        ensures written { (who : IdentityValue) (ds : List (List ℕ))
+            → AreSymbolsOf who ds self.now
             → IfOk result (IsWrittenOf who ds (W.contents writer.old) (W.contents writer.new)) }
-        ensures fault { (who : IdentityValue) (ds : List (List ℕ)) → AreSymbolsOf who ds self.now
+        ensures fault { (who : IdentityValue) (ds : List (List ℕ))
+            → AreSymbolsOf who ds self.now
             → IfErr result (IsUnwritten who ds (W.failed writer.new)) }
         ensures front { (who : IdentityValue) (ds : List (List ℕ)) (object : List ℕ)
             → AreSymbolsOf who ds self.now → IsAnswer who ds (Object object)

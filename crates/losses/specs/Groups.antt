@@ -64,6 +64,10 @@ pub record AreCarriers (carriers : List ℕ) (n : ℕ) : Type 0 where
   pub some : 0 < length carriers
   pub places : ArePlaces 0 n carriers
 
+-- some list has the groups' places and the carriers'
+abbrev pub AreOfAList : List Group → List ℕ → Type 0
+AreOfAList groups carriers = (n : ℕ) × AreGroups groups n × AreCarriers carriers n
+
 -- what holds in each list that has the groups' places and the carriers'
 abbrev pub InEachList : List Group → List ℕ → (Blocks ℕ → List ℕ → Type 0) → Type 0
 InEachList groups carriers P =

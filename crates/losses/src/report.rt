@@ -1,6 +1,6 @@
 //! Margin, kill and burst.
 ghost use Rattle.std.specs.Prelude.{◌≡◌, ℕ, ◌+◌, ◌<◌, IfOk, length};
-ghost use Rattle.losses.specs.Groups.{groups_of, AreGroups, AreCarriers, InEachList};
+ghost use Rattle.losses.specs.Groups.{groups_of, AreGroups, AreOfAList, InEachList};
 ghost use Rattle.losses.specs.Losses.{IsMargin, IsKill, IsBurst};
 ghost use Rattle.losses.specs.Lightest.{IsLightest};
 
@@ -63,7 +63,7 @@ pub fn figures_of(
     carriers: &[usize],
 ) -> Result<Figures, AllocError>
     requires some { 0 < length groups.now }
-    requires groups { (n : ℕ) × AreGroups (groups_of groups.now) n × AreCarriers carriers.now n }
+    requires groups { AreOfAList (groups_of groups.now) carriers.now }
     ensures margin { IfOk result (λ r. InEachList (groups_of groups.now) carriers.now
         (λ blocks xs. IsMargin blocks xs r.margin)) }
     ensures kill { IfOk result (λ r. InEachList (groups_of groups.now) carriers.now
