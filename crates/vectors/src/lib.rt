@@ -1,4 +1,4 @@
-//! Worked vectors, made outside, against each crate's public calls.
+//! Worked vectors, made outside, against the public calls of `session` and the crates above it, up to `coder`.
 #![tactic(auto)]
 
 #[cfg(test)]
@@ -10,21 +10,7 @@ mod converting_tests;
 #[cfg(test)]
 mod decoding_tests;
 #[cfg(test)]
-mod field_tests;
-#[cfg(test)]
 mod hostile_tests;
-#[cfg(test)]
-mod kernel_tests;
-#[cfg(test)]
-mod loss_tests;
-#[cfg(test)]
-mod matrix_tests;
-#[cfg(test)]
-mod packet_tests;
-#[cfg(test)]
-mod partition_tests;
-#[cfg(test)]
-mod polynomial_tests;
 #[cfg(test)]
 mod reading_tests;
 #[cfg(test)]

@@ -1,6 +1,6 @@
 use Rattle.std.proofs.Common.{◌≤◌, ◌+◌, arith}
 use Rattle.std.proofs.Math.Nat.{mul-le-mul_left}
-use Rattle.vectors.proofs.matrix_tests.rising.Goals as goal
+use Rattle.base_vectors.proofs.matrix_tests.rising.Goals as goal
 
 pub overflow_add-next : goal.overflow_add-next
 overflow_add-next c =

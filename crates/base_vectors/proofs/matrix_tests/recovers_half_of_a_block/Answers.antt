@@ -1,6 +1,6 @@
 use Rattle.std.proofs.Common.{◌≡◌, ℕ, ◌+◌, ◌*◌, ◌<◌, List, length, get_or, arith}
 use Rattle.elim.specs.Erasures.{AreErasures}
-use Rattle.vectors.proofs.matrix_tests.recovers_half_of_a_block.Goals as goal
+use Rattle.base_vectors.proofs.matrix_tests.recovers_half_of_a_block.Goals as goal
 
 -- the odd ones of twenty source symbols are missing, and the first ten repair symbols came
 halved : (k n : ℕ) (missing repair : List ℕ) → k ≡ 20 → n ≡ 30 → length missing ≡ 10 → length repair ≡ 10
