@@ -5,9 +5,12 @@
 //!
 //! - `powers`: the matrices of these powers.
 //! - `levels`: the values, in one level of sums or in two.
+//! - `interpolation`: the coefficients, from the values at all points.
 #![tactic(auto)]
 
+mod interpolation;
 mod levels;
 mod powers;
 
+pub use interpolation::coefficients;
 pub use levels::{evaluate, room};
