@@ -1,5 +1,6 @@
 -- The sizes that source blocks have: the first block's and the last block's.
-use Rattle.std.proofs.Common.{◌≡◌, ◌≢◌, ℕ, ◌-◌, ◌<◌, ◌≤◌, ◌*◌, ◌/◌, ◌⊎◌, ◌==◌, true, false, arith, ap, ◌∙◌, sym, subst, inl, inr, refl, Some, None}
+use Rattle.std.proofs.Common.{◌≡◌, ◌≢◌, ℕ, ◌-◌, ◌<◌, ◌≤◌, ◌*◌, ◌/◌, ◌⊎◌, ◌==◌, true, false, arith, ap, ◌∙◌, sym, subst, inl, inr, refl, Some, None, Result, Ok, Err}
+use Rattle.std.specs.Prelude.{IfOk}
 use Rattle.std.proofs.lemmas.Bool.{cases_lt, eq-eqb, ne_eqb}
 use Rattle.partition.specs.Fti.{Fti, IsValidFti, block_count, source_count, encoding_count, large_blocks}
 use Rattle.partition.proofs.Laws.{shares, large_count, other_count}
@@ -9,7 +10,12 @@ use Rattle.block_code.specs.declared.code.Code.{Code}
 use Rattle.block_code.specs.declared.codes.BlockCodes.{BlockCodes}
 use Rattle.block_code.specs.declared.codes.Kind.{Kind}
 use Rattle.block_code.specs.declared.codes.Kind.TheVariants.{Generator, Interpolator}
-use Rattle.block_code.specs.Codes.{code_for, EachBlockHas, IsEncoder, IsInterpolator, IsOfKind, IsOfBlock}
+use Rattle.block_code.specs.Codes.{code_for, EachBlockHas, IsEncoder, IsInterpolator, MakesCoefficients, IsOfKind, IsOfBlock}
+
+-- two facts of one value, and what follows from them
+pub both : {T E : Type 0} (A B C : T → Type 0) (r : Result T E) → ((x : T) → A x → B x → C x) → IfOk r A → IfOk r B → IfOk r C
+both A B C (Ok x) f a b = f x a b
+both A B C (Err e) f a b = tt
 
 -- a block is as large as the first or as the last
 two_sizes : (f : Fti) → IsValidFti f → (b : ℕ) → b < block_count f
@@ -31,6 +37,14 @@ encoder_from k n g made encodes = record { rows = made.rows; cols = made.cols; e
 
 pub interpolator_from : (k : ℕ) (g : Grid ℕ) → HasShape k k g → Interpolates k g → IsInterpolator k g
 interpolator_from k g shape made = record { rows = shape.rows; cols = shape.cols; interpolates = made }
+
+pub few_from : (k : ℕ) (g : Grid ℕ) → k < 160 → HasShape k k g → Interpolates k g → MakesCoefficients k g
+few_from k g few shape made =
+    record { rows = shape.rows; at_once = λ lt. interpolator_from k g shape made; by_values = λ le. absurd (omega (arith, few, le)) }
+
+pub many_from : (k : ℕ) (g : Grid ℕ) → 160 ≤ k → IsGenerator k 255 g → Encodes k 255 g → MakesCoefficients k g
+many_from k g many made encodes =
+    record { rows = made.rows; at_once = λ lt. absurd (omega (arith, many, lt)); by_values = λ le. encoder_from k 255 g made encodes }
 
 pub rows_of_kind : (kind : Kind) (k n : ℕ) (g : Grid ℕ) → IsOfKind kind k n g → g.rows ≡ k
 rows_of_kind Generator k n g h = h.rows

@@ -1,5 +1,5 @@
 -- A code for each size that a source block has. There are two sizes at most.
-use Rattle.std.specs.Prelude.{◌≡◌, ◌==◌, ℕ, ◌<◌, if◌then◌else◌, Option, Some, None}
+use Rattle.std.specs.Prelude.{◌≡◌, ◌==◌, ℕ, ◌<◌, ◌≤◌, if◌then◌else◌, Option, Some, None}
 use Rattle.partition.specs.Fti.{Fti, block_count, source_count, encoding_count}
 use Rattle.elim.specs.Grid.{Grid}
 use Rattle.elim.specs.Generator.{Encodes, Interpolates}
@@ -20,10 +20,20 @@ pub record IsInterpolator (k : ℕ) (g : Grid ℕ) : Type 0 where
   pub cols : g.cols ≡ k
   pub interpolates : Interpolates k g
 
+-- with so many source symbols, coefficients are made by way of the values at all 255 points
+abbrev pub least_by_values : ℕ
+least_by_values = 160
+
+-- a row of k source symbols times it is the coefficients of their polynomial, or its values at all points
+pub record MakesCoefficients (k : ℕ) (g : Grid ℕ) : Type 0 where
+  pub rows : g.rows ≡ k
+  pub at_once : k < least_by_values → IsInterpolator k g
+  pub by_values : least_by_values ≤ k → IsEncoder k 255 g
+
 -- the matrix of a block of k source symbols and n encoding symbols
 abbrev pub IsOfKind : Kind → ℕ → ℕ → Grid ℕ → Type 0
 IsOfKind Generator k n g = IsEncoder k n g
-IsOfKind Interpolator k n g = IsInterpolator k g
+IsOfKind Interpolator k n g = MakesCoefficients k g
 
 abbrev pub IsOfBlock : Kind → Fti → ℕ → Grid ℕ → Type 0
 IsOfBlock kind f b g = IsOfKind kind (source_count f b) (encoding_count f b) g

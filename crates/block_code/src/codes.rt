@@ -1,13 +1,17 @@
 //! A code for each size that a source block has.
 ghost use Rattle.std.specs.Prelude.{◌≡◌, ◌<◌, ◌≤◌, IfOk};
 ghost use Rattle.partition.specs.Fti.{block_count};
-ghost use Rattle.block_code.specs.Codes.{code_for, EachBlockHas, IsOfKind, IsOfBlock};
+ghost use Rattle.block_code.specs.Codes.{code_for, EachBlockHas, IsOfKind, IsOfBlock, MakesCoefficients};
 
 use crate::code::Code;
 use elim::{Matrix, generator, interpolator};
 use gf256::Gf;
 use partition::Fti;
 use std::alloc::{AllocError, Global};
+
+/// From so many source symbols on, a block's coefficients cost less by way of the values at all 255
+/// points, by measurement.
+pub const LEAST_BY_VALUES: usize = 160;
 
 /// A code for the first blocks, and one for the others if they are smaller.
 #[derive(Drop)]
@@ -21,8 +25,22 @@ pub struct BlockCodes {
 pub enum Kind {
     /// The encoding symbols.
     Generator,
-    /// The coefficients of their polynomials.
+    /// The coefficients of their polynomials. From [`LEAST_BY_VALUES`] source symbols on, the values of
+    /// these at all 255 points, by which `evaluation` makes the coefficients.
     Interpolator,
+}
+
+// The matrix that makes coefficients of `k` source symbols, or the values at all points.
+fn interpolation(alloc: Global, k: usize) -> Result<Matrix<Gf>, AllocError>
+    requires some { 0 < k }
+    requires few { k ≤ 255 }
+    ensures { IfOk result (MakesCoefficients k) }
+{
+    if k < LEAST_BY_VALUES {
+        interpolator(alloc, k)
+    } else {
+        generator(alloc, k, 255)
+    }
 }
 
 // The matrix for a block of `k` source symbols and `n` encoding symbols.
@@ -34,7 +52,7 @@ fn matrix(alloc: Global, kind: Kind, k: usize, n: usize) -> Result<Matrix<Gf>, A
 {
     match kind {
         Kind::Generator => generator(alloc, k, n),
-        Kind::Interpolator => interpolator(alloc, k),
+        Kind::Interpolator => interpolation(alloc, k),
     }
 }
 

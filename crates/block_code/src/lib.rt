@@ -8,4 +8,4 @@ mod code;
 mod codes;
 
 pub use code::{Code, columns};
-pub use codes::{BlockCodes, Kind};
+pub use codes::{BlockCodes, Kind, LEAST_BY_VALUES};
