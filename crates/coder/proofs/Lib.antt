@@ -3,6 +3,7 @@ pub mod EncodedRows
 pub mod InPasses
 pub mod Sent
 pub mod Places
+pub mod AllValues
 pub mod FirstRows
 pub mod SessionReadings
 pub mod SourcePlaces

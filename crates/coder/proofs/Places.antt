@@ -13,7 +13,7 @@ use Rattle.elim.proofs.RowProducts.{length-row_product}
 use Rattle.cert.specs.Certificate.{Certificate, unnamed, polynomial}
 use Rattle.cert.specs.Verdict.{GivesAt}
 use Rattle.cert.proofs.Polynomials.{length_polynomial, coefficient_at}
-use Rattle.block_code.specs.CodesOf.{IsInterpolatorOf}
+use Rattle.block_code.specs.Codes.{IsInterpolator}
 use Rattle.block_code.proofs.SourceRows.{row_of, length-row_of, get_or-row_of, bytes-row_of, product_at}
 
 module _ (f : Fti) where
@@ -37,7 +37,7 @@ module _ (f : Fti) where
       coefficient_at now x y i li ∙ same (source_place f x i y) (place_before valid x b i y lx li ly) ∙ sym (coefficient_at before x y i li))
 
   -- the coefficients at their places are the polynomial through the object's source symbols
-  pub gives_from_places : (object coefficients : List ℕ) (b : ℕ) (g : Grid ℕ) → AreBytes object → IsInterpolatorOf f b g
+  pub gives_from_places : (object coefficients : List ℕ) (b : ℕ) (g : Grid ℕ) → AreBytes object → IsInterpolator (source_count f b) g
       → ((y n : ℕ) → y < f.symbol_length → n < source_count f b
       → get_or coefficients (source_place f b n y) 0 ≡ row_times sum_of product 0 (λ i. source_byte f object b i y) (entry 0 g) (source_count f b) n)
       → (y i : ℕ) → y < f.symbol_length → i < source_count f b → GivesAt object (unnamed f coefficients) b y i

@@ -2,6 +2,7 @@ pub mod Sending
 pub mod Passes
 pub mod Rows
 pub mod Certified
+pub mod AllValues
 pub mod RowsWritten
 pub mod ObjectRead
 pub mod BlocksRead

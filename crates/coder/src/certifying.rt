@@ -4,14 +4,16 @@ ghost use Rattle.lists.specs.Bytes.{AreBytes};
 ghost use Rattle.partition.specs.Fti.{block_count, source_count, start_of};
 ghost use Rattle.cert.specs.Certificate.{IsIdentity, coefficient_count, unnamed, head_text};
 ghost use Rattle.cert.specs.Verdict.{GivesObject, GivesBlock};
-ghost use Rattle.block_code.specs.Codes.{EachBlockHas};
+ghost use Rattle.block_code.specs.Codes.{EachBlockHas, IsInterpolator};
 ghost use Rattle.block_code.specs.CodesOf.{IsInterpolatorOf};
+ghost use Rattle.coder.specs.AllValues.{IsRoom};
 ghost use Rattle.coder.specs.Certified.{CertifiesSent, BeginsRows, IsCertifiedTo, IsCertifyFault, IsCertifyToFault};
 ghost use Rattle.coder.specs.Rows.{AreSourcesOf};
 ghost use Rattle.coder.specs.RowsWritten.{RowsGive, WritesRows, WritesBlock, BeginsBlock};
 
+use crate::by_values::{certify_by_values, room};
 use crate::rows::{block_of, combine};
-use block_code::{BlockCodes, Code, Kind};
+use block_code::{BlockCodes, Code, Kind, LEAST_BY_VALUES};
 use cert::{Certificate, write_head};
 use lists::are_bytes;
 use partition::Fti;
@@ -48,11 +50,11 @@ fn interpolators(alloc: Global, object: &[u8], fti: &Fti) -> Result<BlockCodes, 
     }
 }
 
-// Makes a block's rows of coefficients of its source symbols, from the constant ones on, by the columns
-// of the matrix that makes them.
-fn certify_block(sources: &[u8], fti: &Fti, b: u32, interpolator: &Code, rows: &mut [u8])
+// Makes a block's rows of coefficients of its source symbols at once, by the columns of the matrix that
+// makes them.
+fn certify_at_once(sources: &[u8], fti: &Fti, b: u32, interpolator: &Code, rows: &mut [u8])
     requires block { b < block_count fti.now }
-    requires interpolator { IsInterpolatorOf fti.now b interpolator.now.matrix }
+    requires interpolator { IsInterpolator (source_count fti.now b) interpolator.now.matrix }
     requires room { length rows.old ≡ source_count fti.now b * fti.now.symbol_length }
     ensures len { length rows.new ≡ length rows.old }
     ensures bytes { AreBytes rows.new }
@@ -63,11 +65,45 @@ fn certify_block(sources: &[u8], fti: &Fti, b: u32, interpolator: &Code, rows: &
     are_bytes(rows);
 }
 
+// Makes a block's rows of coefficients of its source symbols, from the constant ones on.
+fn certify_block(
+    sources: &[u8],
+    fti: &Fti,
+    b: u32,
+    interpolator: &Code,
+    rows: &mut [u8],
+    work: &mut [u8],
+)
+    requires block { b < block_count fti.now }
+    requires interpolator { IsInterpolatorOf fti.now b interpolator.now.matrix }
+    requires room { length rows.old ≡ source_count fti.now b * fti.now.symbol_length }
+    requires work { IsRoom fti.now work.old }
+    ensures len { length rows.new ≡ length rows.old }
+    ensures bytes { AreBytes rows.new }
+    ensures gives { (object : List ℕ) → AreBytes object
+        → AreSourcesOf fti.now object b sources.now → RowsGive object fti.now b rows.new }
+{
+    fti.is_valid();
+    if fti.k(b) < LEAST_BY_VALUES {
+        certify_at_once(sources, fti, b, interpolator, rows);
+    } else {
+        certify_by_values(sources, fti, b, interpolator, rows, work);
+    }
+}
+
 // Puts a block's coefficients at their places.
-fn put_block(object: &[u8], fti: &Fti, b: u32, interpolator: &Code, coefficients: &mut [u8])
+fn put_block(
+    object: &[u8],
+    fti: &Fti,
+    b: u32,
+    interpolator: &Code,
+    coefficients: &mut [u8],
+    work: &mut [u8],
+)
     requires block { b < block_count fti.now }
     requires interpolator { IsInterpolatorOf fti.now b interpolator.now.matrix }
     requires room { length coefficients.old ≡ coefficient_count fti.now }
+    requires work { IsRoom fti.now work.old }
     ensures len { length coefficients.new ≡ length coefficients.old }
     ensures gives { GivesBlock object.now (unnamed fti.now coefficients.new) b }
     ensures before { (p : ℕ) → p < start_of fti.now b * fti.now.symbol_length
@@ -76,25 +112,33 @@ fn put_block(object: &[u8], fti: &Fti, b: u32, interpolator: &Code, coefficients
     let size = usize::from(fti.symbol_length());
     let from = fti.start(b) as usize * size;
     let rows = &mut coefficients[from..from + fti.k(b) * size];
-    certify_block(block_of(object, fti, b), fti, b, interpolator, rows);
+    certify_block(block_of(object, fti, b), fti, b, interpolator, rows, work);
 }
 
 // Puts the coefficients of all blocks at their places.
-fn certify_blocks(object: &[u8], fti: &Fti, interpolators: &BlockCodes, coefficients: &mut [u8])
+fn certify_blocks(
+    object: &[u8],
+    fti: &Fti,
+    interpolators: &BlockCodes,
+    coefficients: &mut [u8],
+    work: &mut [u8],
+)
     requires interpolators { EachBlockHas (IsInterpolatorOf fti.now) fti.now interpolators.now }
     requires room { length coefficients.old ≡ coefficient_count fti.now }
+    requires work { IsRoom fti.now work.old }
     ensures len { length coefficients.new ≡ length coefficients.old }
     ensures gives { GivesObject object.now (unnamed fti.now coefficients.new) }
 {
     for b in 0..fti.block_count() {
         let interpolator = interpolators.of(fti.k(b));
-        put_block(object, fti, b, interpolator, coefficients);
+        put_block(object, fti, b, interpolator, coefficients, work);
     }
 }
 
 /// The certificate of the object, without a name: one of each session that is sent of it, whatever
 /// its TSI, TOI, order and carriers of the FTI, and so is its form with the session's TSI and TOI.
-/// Memory is asked for two matrices at most, and for the coefficients.
+/// Memory is asked for two matrices at most, for the coefficients, and for 510 symbols to work in where
+/// the greatest block has many source symbols (`block_code::LEAST_BY_VALUES`).
 pub fn certify(alloc: Global, object: &[u8], fti: &Fti) -> Result<Certificate, CertifyFault>
     ensures fti { IfOk result (λ z. z.fti ≡ fti.now) }
     ensures name { IfOk result (λ z. z.name ≡ None) }
@@ -108,7 +152,10 @@ pub fn certify(alloc: Global, object: &[u8], fti: &Fti) -> Result<Certificate, C
     let Ok(mut coefficients) = Vec::from_elem(alloc, 0u8, fti.symbol_count() as usize * size) else {
         return Err(CertifyFault::NoMemory);
     };
-    certify_blocks(object, fti, &interpolators, &mut coefficients);
+    let Ok(mut work) = Vec::from_elem(alloc, 0u8, room(fti)) else {
+        return Err(CertifyFault::NoMemory);
+    };
+    certify_blocks(object, fti, &interpolators, &mut coefficients, &mut work);
     match Certificate::from_parts(*fti, coefficients) {
         Some(certificate) => Ok(certificate),
         None => unreachable!(),
@@ -116,18 +163,20 @@ pub fn certify(alloc: Global, object: &[u8], fti: &Fti) -> Result<Certificate, C
 }
 
 /// Makes a block's rows of coefficients of its source symbols, and writes them. `rows` has room for
-/// those of the greatest block.
+/// those of the greatest block, and `work` is room to work in.
 pub(crate) fn write_block<W: Write>(
     sources: &[u8],
     fti: &Fti,
     b: u32,
     interpolators: &BlockCodes,
     rows: &mut [u8],
+    work: &mut [u8],
     writer: &mut W,
 ) -> Result<(), Failed>
     requires block { b < block_count fti.now }
     requires interpolators { EachBlockHas (IsInterpolatorOf fti.now) fti.now interpolators.now }
     requires room { length rows.old ≡ source_count fti.now 0 * fti.now.symbol_length }
+    requires work { IsRoom fti.now work.old }
     ensures ok { (object : List ℕ) → AreBytes object
         → AreSourcesOf fti.now object b sources.now
         → OnOk result (WritesBlock object fti.now b
@@ -144,21 +193,23 @@ pub(crate) fn write_block<W: Write>(
 {
     let count = fti.k(b);
     let block = &mut rows[..count * usize::from(fti.symbol_length())];
-    certify_block(sources, fti, b, interpolators.of(count), block);
+    certify_block(sources, fti, b, interpolators.of(count), block, work);
     write_all(writer, block)
 }
 
 // Writes the rows of coefficients of all blocks, one block behind the other. `rows` has room for those
-// of the greatest.
+// of the greatest, and `work` is room to work in.
 fn write_rows<W: Write>(
     object: &[u8],
     fti: &Fti,
     interpolators: &BlockCodes,
     rows: &mut [u8],
+    work: &mut [u8],
     writer: &mut W,
 ) -> Result<(), Failed>
     requires interpolators { EachBlockHas (IsInterpolatorOf fti.now) fti.now interpolators.now }
     requires room { length rows.old ≡ source_count fti.now 0 * fti.now.symbol_length }
+    requires work { IsRoom fti.now work.old }
     ensures ok { OnOk result (WritesRows object.now fti.now (block_count fti.now)
         (W.contents writer.old) (W.contents writer.new)) }
     ensures err { OnErr result (BeginsRows object.now fti.now []
@@ -173,6 +224,7 @@ fn write_rows<W: Write>(
             b,
             interpolators,
             rows,
+            work,
             writer,
         )?;
     }
@@ -181,7 +233,8 @@ fn write_rows<W: Write>(
 
 /// Writes the text of such a certificate, but with this name: the object's identity in a session. The
 /// rows of one block are made at a time, so that beside the object memory is asked for two matrices at
-/// most and for the rows of the greatest block, and all of it before the first byte is written.
+/// most, for the rows of the greatest block and for room to work in as `certify` asks for it, and all of
+/// it before the first byte is written.
 ///
 /// `Io` comes only where the writer has failed, and never where it has room for the text. It has a
 /// beginning of it then, and nothing after the other faults. The identity's TSI is below 2^48, its TOI
@@ -207,10 +260,13 @@ pub fn certify_to<W: Write>(
     let Ok(mut rows) = Vec::from_elem(alloc, 0u8, fti.k(0) * size) else {
         return Err(CertifyFault::NoMemory);
     };
+    let Ok(mut work) = Vec::from_elem(alloc, 0u8, room(fti)) else {
+        return Err(CertifyFault::NoMemory);
+    };
     let Ok(()) = write_head(writer, &Some(identity), fti) else {
         return Err(CertifyFault::Io);
     };
-    let Ok(()) = write_rows(object, fti, &interpolators, &mut rows, writer) else {
+    let Ok(()) = write_rows(object, fti, &interpolators, &mut rows, &mut work, writer) else {
         return Err(CertifyFault::Io);
     };
     Ok(())

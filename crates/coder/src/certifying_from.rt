@@ -7,10 +7,12 @@ ghost use Rattle.block_code.specs.Codes.{EachBlockHas};
 ghost use Rattle.block_code.specs.CodesOf.{IsInterpolatorOf};
 ghost use Rattle.coder.specs.ObjectRead.{ReadsObject, ReadsSome};
 ghost use Rattle.coder.specs.BlocksRead.{HasRead};
+ghost use Rattle.coder.specs.AllValues.{IsRoom};
 ghost use Rattle.coder.specs.Certified.{BeginsRows, IsCertifiedTo};
 ghost use Rattle.coder.specs.CertifiedFrom.{IsCertifyFromFault};
 ghost use Rattle.coder.specs.RowsWritten.{WritesRows, IsRowsFault};
 
+use crate::by_values::room;
 use crate::certifying::write_block;
 use crate::object::{ObjectFault, block_bytes, read_block, read_end};
 use block_code::{BlockCodes, Kind};
@@ -65,18 +67,20 @@ impl From<AllocError> for CertifyFromFault {
 }
 
 // Reads the blocks, and writes the rows of coefficients of each before it reads the next. There is room
-// for the bytes and for the rows of the greatest block.
+// for the bytes and for the rows of the greatest block, and `work` is room to work in.
 fn write_rows<R: Read, W: Write>(
     reader: &mut R,
     fti: &Fti,
     interpolators: &BlockCodes,
     sources: &mut [u8],
     rows: &mut [u8],
+    work: &mut [u8],
     writer: &mut W,
 ) -> Result<(), CertifyFromFault>
     requires interpolators { EachBlockHas (IsInterpolatorOf fti.now) fti.now interpolators.now }
     requires sources { length sources.old ≡ source_count fti.now 0 * fti.now.symbol_length }
     requires room { length rows.old ≡ source_count fti.now 0 * fti.now.symbol_length }
+    requires work { IsRoom fti.now work.old }
     ensures ok { OnOk result (HasRead fti.now (block_count fti.now)
         (R.remaining reader.old) (R.remaining reader.new)
         (λ object. WritesRows object fti.now (block_count fti.now)
@@ -93,13 +97,13 @@ fn write_rows<R: Read, W: Write>(
     for b in 0..fti.block_count() {
         let block = &mut sources[..block_bytes(fti, b)];
         read_block(reader, block)?;
-        write_block(block, fti, b, interpolators, rows, writer)?;
+        write_block(block, fti, b, interpolators, rows, work, writer)?;
     }
     Ok(())
 }
 
 // Writes the whole text of the object that is read. There is room for the bytes and for the rows of the
-// greatest block.
+// greatest block, and `work` is room to work in.
 fn write_certificate<R: Read, W: Write>(
     reader: &mut R,
     fti: &Fti,
@@ -107,6 +111,7 @@ fn write_certificate<R: Read, W: Write>(
     interpolators: &BlockCodes,
     sources: &mut [u8],
     rows: &mut [u8],
+    work: &mut [u8],
     writer: &mut W,
 ) -> Result<(), CertifyFromFault>
     requires valid { IsValidFti fti.now }
@@ -114,6 +119,7 @@ fn write_certificate<R: Read, W: Write>(
     requires interpolators { EachBlockHas (IsInterpolatorOf fti.now) fti.now interpolators.now }
     requires sources { length sources.old ≡ source_count fti.now 0 * fti.now.symbol_length }
     requires room { length rows.old ≡ source_count fti.now 0 * fti.now.symbol_length }
+    requires work { IsRoom fti.now work.old }
     ensures certified { OnOk result (ReadsObject fti.now (R.remaining reader.old)
         (λ object. IsCertifiedTo object fti.now identity
         (W.contents writer.old) (W.contents writer.new))) }
@@ -125,14 +131,15 @@ fn write_certificate<R: Read, W: Write>(
         < length (head_text (Some identity) fti.now) + coefficient_count fti.now) }
 {
     write_head(writer, &Some(identity), fti)?;
-    write_rows(reader, fti, interpolators, sources, rows, writer)?;
+    write_rows(reader, fti, interpolators, sources, rows, work, writer)?;
     read_end(reader)?;
     Ok(())
 }
 
 /// Reads the object, all up to the reader's end, and writes what `certify_to` writes of it. One block is
-/// held at a time: memory is asked for two matrices at most, and for the bytes and the rows of the
-/// greatest block, and all of it before the first byte is written.
+/// held at a time: memory is asked for two matrices at most, for the bytes and the rows of the greatest
+/// block, and for room to work in as `certify` asks for it, and all of it before the first byte is
+/// written.
 ///
 /// `Object` tells that the object has another length than the FTI's, or that the reader has failed, which
 /// a sound one never does; `Write` comes only where the writer has failed, and never where it has room
@@ -162,6 +169,7 @@ pub fn certify_from<R: Read, W: Write>(
     let most = fti.k(0) * size;
     let mut sources = Vec::from_elem(alloc, 0u8, most)?;
     let mut rows = Vec::from_elem(alloc, 0u8, most)?;
+    let mut work = Vec::from_elem(alloc, 0u8, room(fti))?;
     write_certificate(
         reader,
         fti,
@@ -169,6 +177,7 @@ pub fn certify_from<R: Read, W: Write>(
         &interpolators,
         &mut sources,
         &mut rows,
+        &mut work,
         writer,
     )
 }

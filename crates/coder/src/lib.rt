@@ -2,7 +2,8 @@
 //!
 //! - `rows`: encoding symbols and coefficients of a block, as sums of the rows of its source symbols;
 //! - `sending`: the datagrams of an object's encoding symbols, in either order;
-//! - `certifying`: the polynomials of its byte columns;
+//! - `certifying`: the polynomials of its byte columns; `by_values`: those of large blocks, by the values at
+//!   all points;
 //! - `object`: an object that comes from a reader, block by block; `sending_from`: its session in order
 //!   `Blocks`; `certifying_from`: its certificate;
 //! - `laws`: what encoding, certifying and checking give together.
@@ -10,6 +11,7 @@
 //! Decoding is a crate of its own, `decoder`, whose calls can be named from here, too.
 #![tactic(auto)]
 
+mod by_values;
 mod certifying;
 mod certifying_from;
 mod laws;

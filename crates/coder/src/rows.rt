@@ -31,8 +31,8 @@ pub(crate) fn block_of<'a>(object: &'a [u8], fti: &Fti, b: u32) -> &'a [u8]
     bytes_from(object, size, fti.start(b) as usize)
 }
 
-// As many bytes as there is room for, and zeros behind them.
-fn copy_padded(out: &mut [u8], bytes: &[u8])
+/// As many bytes as there is room for, and zeros behind them.
+pub(crate) fn copy_padded(out: &mut [u8], bytes: &[u8])
     ensures { (p : ℕ) → p < length out.new
         → slice_index out.new p ≡ slice_index bytes.now p }
 {

@@ -18,3 +18,12 @@ returns-clause-certifies c =
     subst (GivesObject c.args.object.now) (sym c.in-Some.ensures.parts)
     (subst (λ (l : List ℕ). GivesObject c.args.object.now (unnamed c.args.fti.now l)) (sym front) c.certify_blocks.ensures.gives) in
     certifies_sent z c.args.object.now c.in-Some.ensures.certificate (ap (λ (x : Certificate). x.name) c.in-Some.ensures.parts) form gives
+
+pub returns-clause-gives : goal.returns-clause-gives
+returns-clause-gives c =
+    let z = c.in-Some.certificate in
+    let front = take_front c.in-Ok.coefficients.len c.certify_blocks.new.coefficients (drop (length c.certify_blocks.new.coefficients) c.in-Ok.coefficients.items) (sym (c.certify_blocks.ensures.len ∙ c.deref_mut.ensures.len)) in
+    let gives : GivesObject c.args.object.now z =
+    subst (GivesObject c.args.object.now) (sym c.in-Some.ensures.parts)
+    (subst (λ (l : List ℕ). GivesObject c.args.object.now (unnamed c.args.fti.now l)) (sym front) c.certify_blocks.ensures.gives) in
+    gives
