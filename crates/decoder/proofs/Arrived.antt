@@ -1,108 +1,133 @@
 -- Symbols that came, one more, and whether any did.
-use Rattle.std.specs.Prelude.{is_some, not, option_map, ◌==◌, ◌&&◌}
+use Rattle.std.specs.Prelude.{is_some, not, option_map, ◌==◌, ◌&&◌, IsNone, IfSome}
+use Rattle.std.specs.Option.{unwrap_or}
 use Rattle.std.specs.Borrow.{Bor}
 use Rattle.std.specs.BTreeMap.{BTreeMap, get}
 use Rattle.std.specs.Global.{Vec}
+use Rattle.std.specs.List.{All}
 use Rattle.std.specs.Ordering.{nat_cmp, is_eq}
-use Rattle.std.proofs.Common.{◌≡◌, ◌≢◌, ℕ, ◌+◌, ◌<◌, Bool, true, false, List, [], ◌∷◌, ◌++◌, Option, Some, None, length, get_or, set, take, refl, sym, ap, ◌∙◌, inl, inr, arith}
+use Rattle.std.proofs.Common.{◌≡◌, ◌≢◌, ℕ, suc, ◌+◌, ◌<◌, ◌≤◌, Bool, true, false, List, [], ◌∷◌, ◌++◌, Option, Some, None, length, get_or, set, take, refl, sym, ap, ◌∙◌, inl, inr, arith}
 use Rattle.std.proofs.lemmas.Bool.{cases_eq, eq-eqb, ne_eqb}
 use Rattle.std.proofs.lemmas.Grind.{get_or-set_at}
 use Rattle.std.proofs.lemmas.List.{take_more, get_or-set_other}
 use Rattle.decoder.specs.Blocks.{bytes_of_esi}
-use Rattle.decoder.specs.Kept.{with_esi, seen_at}
-use Rattle.decoder.specs.Received.{with_arrived, arrived_at, arrived_of}
-use Rattle.decoder.specs.declared.symbols.Arrival.{Arrival}
+use Rattle.decoder.specs.Kept.{with_esi, with_arrived, arrived_at, seen_at}
+use Rattle.decoder.specs.Received.{arrived_of}
+use Rattle.decoder.specs.declared.arrivals.Arrival.{Arrival}
 use Rattle.decoder.proofs.Index.{number_eq}
 use Rattle.decoder.proofs.Kept.{with_here, with_other}
 
-with_arrived_more : (at : ℕ → Option (List ℕ)) (xs : List Arrival) (a : Arrival) → with_arrived at (xs ++ a ∷ []) ≡ with_esi (with_arrived at xs) a.esi a.bytes.now
-with_arrived_more at [] a = refl
-with_arrived_more at (x ∷ xs) a = with_arrived_more (with_esi at x.esi x.bytes.now) xs a
+module _ {S : Type 0} (held : S → List ℕ) where
+  with_arrived_more : (at : ℕ → Option (List ℕ)) (xs : List (Arrival S)) (a : Arrival S) → with_arrived held at (xs ++ a ∷ []) ≡ with_esi (with_arrived held at xs) a.esi (held a.symbol)
+  with_arrived_more at [] a = refl
+  with_arrived_more at (x ∷ xs) a = with_arrived_more (with_esi at x.esi (held x.symbol)) xs a
 
--- one symbol more came at its ESI
-pub arrived_more : (xs : List Arrival) (a : Arrival) → arrived_at (xs ++ a ∷ []) ≡ with_esi (arrived_at xs) a.esi a.bytes.now
-arrived_more xs a = with_arrived_more (λ j. None) xs a
+  -- one symbol more came at its ESI
+  pub arrived_more : (xs : List (Arrival S)) (a : Arrival S) → arrived_at held (xs ++ a ∷ []) ≡ with_esi (arrived_at held xs) a.esi (held a.symbol)
+  arrived_more xs a = with_arrived_more (λ j. None) xs a
 
--- and so of those that were looked at
-pub arrived_front : (xs : List Arrival) (i : ℕ) (d : Arrival) → i < length xs → (j : ℕ)
-    → arrived_at (take (i + 1) xs) j ≡ with_esi (arrived_at (take i xs)) (get_or xs i d).esi (get_or xs i d).bytes.now j
-arrived_front xs i d li j = ap (λ (g : ℕ → Option (List ℕ)). g j) (ap arrived_at (take_more xs i d li) ∙ arrived_more (take i xs) (get_or xs i d))
+  -- and so of those that were looked at
+  pub arrived_front : (xs : List (Arrival S)) (i : ℕ) (a : Arrival S) → i < length xs → a ≡ get_or xs i a → (j : ℕ)
+      → arrived_at held (take (i + 1) xs) j ≡ with_esi (arrived_at held (take i xs)) a.esi (held a.symbol) j
+  arrived_front xs i a li is j =
+      ap (λ (g : ℕ → Option (List ℕ)). g j)
+      (ap (arrived_at held) (take_more xs i a li) ∙ ap (λ (x : Arrival S). arrived_at held (take i xs ++ x ∷ [])) (sym is) ∙ arrived_more (take i xs) a)
 
-module _ (xs : List Arrival) (i : ℕ) (d : Arrival) (li : i < length xs) (esi : ℕ) (found : Option (Bor (List ℕ))) where
-  -- the symbol that is looked at is found
-  pub found_here : (get_or xs i d).esi ≡ esi → found ≡ Some (get_or xs i d).bytes → option_map (λ s. s.now) found ≡ arrived_at (take (i + 1) xs) esi
-  found_here same is =
-      ap (option_map (λ (s : Bor (List ℕ)). s.now)) is
-      ∙ sym (with_here (arrived_at (take i xs)) (get_or xs i d).esi esi (get_or xs i d).bytes.now same)
-      ∙ sym (arrived_front xs i d li esi)
+  module _ (xs : List (Arrival S)) (i : ℕ) (a : Arrival S) (li : i < length xs) (is : a ≡ get_or xs i a) where
+    -- the symbol that is looked at is found
+    pub found_here : (esi : ℕ) (found : Option (Bor (List ℕ))) (y : Bor (List ℕ)) → a.esi ≡ esi → found ≡ Some y → y.now ≡ held a.symbol
+        → option_map (λ s. s.now) found ≡ arrived_at held (take (i + 1) xs) esi
+    found_here esi found y same is_y bytes =
+        ap (option_map (λ (s : Bor (List ℕ)). s.now)) is_y ∙ ap Some bytes
+        ∙ sym (with_here (arrived_at held (take i xs)) a.esi esi (held a.symbol) same)
+        ∙ sym (arrived_front xs i a li is esi)
 
-  -- or one before it
-  pub found_before : (old : Option (Bor (List ℕ))) → (get_or xs i d).esi ≢ esi → found ≡ old → option_map (λ s. s.now) old ≡ arrived_at (take i xs) esi
-      → option_map (λ s. s.now) found ≡ arrived_at (take (i + 1) xs) esi
-  found_before old other is before =
-      ap (option_map (λ (s : Bor (List ℕ)). s.now)) is ∙ before
-      ∙ sym (with_other (arrived_at (take i xs)) (get_or xs i d).esi esi (get_or xs i d).bytes.now other)
-      ∙ sym (arrived_front xs i d li esi)
+    -- or one before it
+    pub found_before : (esi : ℕ) (found old : Option (Bor (List ℕ))) → a.esi ≢ esi → found ≡ old → option_map (λ s. s.now) old ≡ arrived_at held (take i xs) esi
+        → option_map (λ s. s.now) found ≡ arrived_at held (take (i + 1) xs) esi
+    found_before esi found old other is_old before =
+        ap (option_map (λ (s : Bor (List ℕ)). s.now)) is_old ∙ before
+        ∙ sym (with_other (arrived_at held (take i xs)) a.esi esi (held a.symbol) other)
+        ∙ sym (arrived_front xs i a li is esi)
 
-module _ (xs : List Arrival) (i : ℕ) (d : Arrival) (li : i < length xs) (m : ℕ) (esi : m ≡ (get_or xs i d).esi) (j : ℕ) where
-  -- an ESI is marked as that of the symbol that is looked at
-  pub marked : (seen : List Bool) → m < length seen → seen_at seen j ≡ is_some (arrived_at (take i xs) j) → seen_at (set seen m true) j ≡ is_some (arrived_at (take (i + 1) xs) j)
-  marked seen lm before = rw (arrived_front xs i d li j, ← esi) (elim (cases_eq m j) [
-    | inl e ↦ rw (with_here (arrived_at (take i xs)) m j (get_or xs i d).bytes.now e) (get_or-set_at seen m j true false (sym e) lm)
-    | inr ne ↦ rw (with_other (arrived_at (take i xs)) m j (get_or xs i d).bytes.now ne) (get_or-set_other seen m j true false (λ e. ne (sym e)) ∙ before)
+    module _ (m : ℕ) (esi : m ≡ a.esi) (j : ℕ) where
+      -- an ESI is marked as that of the symbol that is looked at
+      pub marked : (seen : List Bool) → m < length seen → seen_at seen j ≡ is_some (arrived_at held (take i xs) j) → seen_at (set seen m true) j ≡ is_some (arrived_at held (take (i + 1) xs) j)
+      marked seen lm before = rw (arrived_front xs i a li is j, ← esi) (elim (cases_eq m j) [
+        | inl e ↦ rw (with_here (arrived_at held (take i xs)) m j (held a.symbol) e) (get_or-set_at seen m j true false (sym e) lm)
+        | inr ne ↦ rw (with_other (arrived_at held (take i xs)) m j (held a.symbol) ne) (get_or-set_other seen m j true false (λ e. ne (sym e)) ∙ before)
+      ])
+
+      -- the symbol that is looked at is put at its ESI
+      pub placed : (arr : List (Option (Bor (List ℕ)))) (y : Bor (List ℕ)) → m < length arr → y.now ≡ held a.symbol → bytes_of_esi arr j ≡ arrived_at held (take i xs) j
+          → bytes_of_esi (set arr m (Some y)) j ≡ arrived_at held (take (i + 1) xs) j
+      placed arr y lm bytes before = rw (arrived_front xs i a li is j, ← esi) (elim (cases_eq m j) [
+        | inl e ↦
+            (ap (option_map (λ (s : Bor (List ℕ)). s.now)) (get_or-set_at arr m j (Some y) None (sym e) lm) ∙ ap Some bytes
+            ∙ sym (with_here (arrived_at held (take i xs)) m j (held a.symbol) e))
+        | inr ne ↦
+            (ap (option_map (λ (s : Bor (List ℕ)). s.now)) (get_or-set_other arr m j (Some y) None (λ e. ne (sym e))) ∙ before
+            ∙ sym (with_other (arrived_at held (take i xs)) m j (held a.symbol) ne))
+      ])
+
+      -- it is none of this ESI
+      pub passed_over : m ≢ j → arrived_at held (take i xs) j ≡ arrived_at held (take (i + 1) xs) j
+      passed_over ne = rw (arrived_front xs i a li is j, ← esi) (sym (with_other (arrived_at held (take i xs)) m j (held a.symbol) ne))
+
+  -- a symbol stays, whatever comes behind it
+  with_some : (at : ℕ → Option (List ℕ)) (xs : List (Arrival S)) (j : ℕ) → is_some (at j) ≡ true → is_some (with_arrived held at xs j) ≡ true
+  with_some at [] j some = some
+  with_some at (x ∷ xs) j some = with_some (with_esi at x.esi (held x.symbol)) xs j (elim (cases_eq x.esi j) [
+    | inl e ↦ ap is_some (with_here at x.esi j (held x.symbol) e)
+    | inr ne ↦ (ap is_some (with_other at x.esi j (held x.symbol) ne) ∙ some)
   ])
 
-  -- the symbol that is looked at is put at its ESI
-  pub placed : (arr : List (Option (Bor (List ℕ)))) → m < length arr → bytes_of_esi arr j ≡ arrived_at (take i xs) j
-      → bytes_of_esi (set arr m (Some (get_or xs i d).bytes)) j ≡ arrived_at (take (i + 1) xs) j
-  placed arr lm before = rw (arrived_front xs i d li j, ← esi) (elim (cases_eq m j) [
-    | inl e ↦
-        (ap (option_map (λ (s : Bor (List ℕ)). s.now)) (get_or-set_at arr m j (Some (get_or xs i d).bytes) None (sym e) lm)
-        ∙ sym (with_here (arrived_at (take i xs)) m j (get_or xs i d).bytes.now e))
-    | inr ne ↦
-        (ap (option_map (λ (s : Bor (List ℕ)). s.now)) (get_or-set_other arr m j (Some (get_or xs i d).bytes) None (λ e. ne (sym e))) ∙ before
-        ∙ sym (with_other (arrived_at (take i xs)) m j (get_or xs i d).bytes.now ne))
-  ])
+  -- where something came, it stands at its ESI
+  pub some_arrived : (xs : List (Arrival S)) → 0 < length xs → (j : ℕ) × (is_some (arrived_at held xs j) ≡ true)
+  some_arrived [] some = absurd (omega (arith, some))
+  some_arrived (x ∷ xs) some = (x.esi, with_some (with_esi (λ j. None) x.esi (held x.symbol)) xs x.esi (ap is_some (with_here (λ j. None) x.esi x.esi (held x.symbol) refl)))
 
-  -- it is none of this ESI
-  pub passed_over : m ≢ j → arrived_at (take i xs) j ≡ arrived_at (take (i + 1) xs) j
-  passed_over ne = rw (arrived_front xs i d li j, ← esi) (sym (with_other (arrived_at (take i xs)) m j (get_or xs i d).bytes.now ne))
+  -- the symbol that came last stands at its ESI
+  pub more_here : (xs more : List (Arrival S)) (a : Arrival S) → more ≡ xs ++ a ∷ [] → arrived_at held more a.esi ≡ Some (held a.symbol)
+  more_here xs more a is =
+      ap (λ (l : List (Arrival S)). arrived_at held l a.esi) is
+      ∙ ap (λ (g : ℕ → Option (List ℕ)). g a.esi) (arrived_more xs a)
+      ∙ with_here (arrived_at held xs) a.esi a.esi (held a.symbol) refl
 
--- a symbol stays, whatever comes behind it
-with_some : (at : ℕ → Option (List ℕ)) (xs : List Arrival) (j : ℕ) → is_some (at j) ≡ true → is_some (with_arrived at xs j) ≡ true
-with_some at [] j some = some
-with_some at (x ∷ xs) j some = with_some (with_esi at x.esi x.bytes.now) xs j (elim (cases_eq x.esi j) [
-  | inl e ↦ ap is_some (with_here at x.esi j x.bytes.now e)
-  | inr ne ↦ (ap is_some (with_other at x.esi j x.bytes.now ne) ∙ some)
-])
+  -- no symbol stands where none has its ESI
+  with_past : (at : ℕ → Option (List ℕ)) (n : ℕ) (xs : List (Arrival S)) → All (λ a. a.esi < n) xs → (j : ℕ) → n ≤ j → at j ≡ None → with_arrived held at xs j ≡ None
+  with_past at n [] all j lj none = none
+  with_past at n (x ∷ xs) all j lj none =
+      with_past (with_esi at x.esi (held x.symbol)) n xs (λ k d lk. all (suc k) d (omega (arith, lk))) j lj
+      (with_other at x.esi j (held x.symbol) (λ e. let l = all 0 x (omega arith) in omega (arith, l, e, lj)) ∙ none)
 
--- where something came, it stands at its ESI
-pub some_arrived : (xs : List Arrival) → 0 < length xs → (j : ℕ) × (is_some (arrived_at xs j) ≡ true)
-some_arrived [] some = absurd (omega (arith, some))
-some_arrived (x ∷ xs) some = (x.esi, with_some (with_esi (λ j. None) x.esi x.bytes.now) xs x.esi (ap is_some (with_here (λ j. None) x.esi x.esi x.bytes.now refl)))
+  pub none_past : (n : ℕ) (xs : List (Arrival S)) → All (λ a. a.esi < n) xs → (j : ℕ) → n ≤ j → arrived_at held xs j ≡ None
+  none_past n xs all j lj = with_past (λ j. None) n xs all j lj refl
 
-pub some_length : (xs : List Arrival) → not (length xs == 0) ≡ true → 0 < length xs
+pub some_length : {A : Type 0} (xs : List A) → not (length xs == 0) ≡ true → 0 < length xs
 some_length [] some = absurd (cc)
 some_length (x ∷ xs) some = omega arith
 
--- the symbol that came last stands at its ESI
-pub more_here : (xs more : List Arrival) (a : Arrival) → more ≡ xs ++ a ∷ [] → arrived_at more a.esi ≡ Some a.bytes.now
-more_here xs more a is =
-    ap (λ (l : List Arrival). arrived_at l a.esi) is
-    ∙ ap (λ (g : ℕ → Option (List ℕ)). g a.esi) (arrived_more xs a)
-    ∙ with_here (arrived_at xs) a.esi a.esi a.bytes.now refl
+abbrev Slice : Type 0
+Slice = Arrival (Bor (List ℕ))
+
+-- the symbols of a block, or none where it has none
+pub arrived_or : (at : ℕ → Option (List ℕ)) (o : Option (Bor (List Slice))) (d came : Bor (List Slice)) → came ≡ unwrap_or o d → d.now ≡ [] → (IsNone o → (j : ℕ) → at j ≡ None)
+    → IfSome o (λ v. (j : ℕ) → arrived_at (λ s. s.now) v.now j ≡ at j) → (j : ℕ) → arrived_at (λ s. s.now) came.now j ≡ at j
+arrived_or at None d came is empty none some j = ap (λ (l : List Slice). arrived_at (λ s. s.now) l j) (ap (λ (b : Bor (List Slice)). b.now) is ∙ empty) ∙ sym (none refl j)
+arrived_or at (Some v) d came is empty none some j = ap (λ (b : Bor (List Slice)). arrived_at (λ s. s.now) b.now j) is ∙ some j
 
 -- in a map in which a block has one symbol more, all else is as before
-pub more_elsewhere : (m new : BTreeMap ℕ (Vec Arrival)) (block : ℕ) (v w : Vec Arrival) (a : Arrival) → get nat_cmp m block ≡ Some v → get nat_cmp new block ≡ Some w
+pub more_elsewhere : (m new : BTreeMap ℕ (Vec Slice)) (block : ℕ) (v w : Vec Slice) (a : Slice) → get nat_cmp m block ≡ Some v → get nat_cmp new block ≡ Some w
     → ((q : ℕ) → is_eq (nat_cmp block q) ≡ false → get nat_cmp new q ≡ get nat_cmp m q) → w.items ≡ v.items ++ a ∷ []
     → (b j : ℕ) → (block == b && a.esi == j) ≡ false → arrived_of (get nat_cmp new b) j ≡ arrived_of (get nat_cmp m b) j
 more_elsewhere m new block v w a was is others items b j other = elim (cases_eq block b) [
-  | inr ne ↦ ap (λ (o : Option (Vec Arrival)). arrived_of o j) (others b (sym (number_eq block b) ∙ ne_eqb block b ne))
+  | inr ne ↦ ap (λ (o : Option (Vec Slice)). arrived_of o j) (others b (sym (number_eq block b) ∙ ne_eqb block b ne))
   | inl same ↦ elim (cases_eq a.esi j) [
     | inl e ↦ absurd (let t = rw (eq-eqb block b same, eq-eqb a.esi j e) at other in cc)
     | inr ne ↦ rw (← same, was, is) (
-        ap (λ (l : List Arrival). arrived_at l j) items
-        ∙ ap (λ (g : ℕ → Option (List ℕ)). g j) (arrived_more v.items a)
-        ∙ with_other (arrived_at v.items) a.esi j a.bytes.now ne)
+        ap (λ (l : List Slice). arrived_at (λ s. s.now) l j) items
+        ∙ ap (λ (g : ℕ → Option (List ℕ)). g j) (arrived_more (λ s. s.now) v.items a)
+        ∙ with_other (arrived_at (λ s. s.now) v.items) a.esi j a.symbol.now ne)
   ]
 ]

@@ -1,14 +1,13 @@
 -- Symbols that are kept at their ESIs: one more, and how many stand.
 use Rattle.std.specs.Prelude.{filter}
 use Rattle.std.proofs.Math.Path.{fun_ext}
-use Rattle.std.proofs.Common.{◌≡◌, ◌≢◌, ℕ, zero, suc, ◌+◌, ◌<◌, ◌≤◌, Bool, true, false, List, [], ◌∷◌, ◌++◌, Option, Some, None, length, get_or, take, refl, sym, ap, ◌∙◌, inl, inr, arith}
+use Rattle.std.proofs.Common.{◌≡◌, ◌≢◌, ℕ, zero, suc, ◌+◌, ◌<◌, ◌≤◌, Bool, true, false, List, [], ◌∷◌, ◌++◌, Option, Some, length, get_or, refl, sym, ap, ◌∙◌, inl, inr, arith}
 use Rattle.std.proofs.lemmas.Bool.{cases_Bool, cases_eq, cases_lt, eq-eqb, ne_eqb}
-use Rattle.std.proofs.lemmas.List.{get_or_past, take_more}
+use Rattle.std.proofs.lemmas.List.{get_or_past}
 use Rattle.lists.specs.Below.{below}
 use Rattle.lists.proofs.Below.{all_below}
 use Rattle.lists.proofs.Lists.{at_old, at_end, filter_same}
-use Rattle.decoder.specs.declared.stored.KeptSymbol.{KeptSymbol}
-use Rattle.decoder.specs.Kept.{kept_at, with_kept, with_esi}
+use Rattle.decoder.specs.Kept.{with_esi}
 use Rattle.decoder.proofs.Counts.{one_more_held, none_more_held}
 use Rattle.decoder.proofs.Those.{none_below}
 
@@ -42,19 +41,6 @@ with_same at j y stands = fun_ext (λ i. elim (cases_eq j i) [
   | inl e ↦ (with_here at j i y e ∙ sym (ap at (sym e) ∙ stands))
   | inr ne ↦ with_other at j i y ne
 ])
-
-with_kept_more : (at : ℕ → Option (List ℕ)) (xs : List KeptSymbol) (s : KeptSymbol) → with_kept at (xs ++ s ∷ []) ≡ with_esi (with_kept at xs) s.esi s.symbol.items
-with_kept_more at [] s = refl
-with_kept_more at (x ∷ xs) s = with_kept_more (with_esi at x.esi x.symbol.items) xs s
-
--- one symbol more is kept at its ESI
-pub kept_more : (xs : List KeptSymbol) (s : KeptSymbol) → kept_at (xs ++ s ∷ []) ≡ with_esi (kept_at xs) s.esi s.symbol.items
-kept_more xs s = with_kept_more (λ j. None) xs s
-
--- and so of those that were looked at
-pub kept_front : (xs : List KeptSymbol) (i : ℕ) (s : KeptSymbol) → i < length xs → s ≡ get_or xs i s → kept_at (take (i + 1) xs) ≡ with_esi (kept_at (take i xs)) s.esi s.symbol.items
-kept_front xs i s li is =
-    ap kept_at (take_more xs i s li) ∙ ap (λ (x : KeptSymbol). kept_at (take i xs ++ x ∷ [])) (sym is) ∙ kept_more (take i xs) s
 
 -- none passes
 pub count_none : (t : ℕ → Bool) (n : ℕ) → ((i : ℕ) → t i ≡ false) → length (filter t (below n)) ≡ 0

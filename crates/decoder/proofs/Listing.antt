@@ -1,6 +1,7 @@
 -- The blocks of which something came, listed one by one.
 use Rattle.std.specs.Prelude.{is_some}
 use Rattle.std.proofs.Common.{◌≡◌, ◌⊎◌, ℕ, ◌<◌, Bool, true, false, Option, Some, None, List, [], ◌∷◌, ◌++◌, refl, sym, ◌∙◌, inl, inr, arith, length, length-append, get_or}
+use Rattle.std.specs.Borrow.{Bor}
 use Rattle.std.specs.BTreeMap.{get}
 use Rattle.std.specs.Global.{Vec}
 use Rattle.std.specs.Ordering.{nat_cmp, eq_by_cmp}
@@ -8,7 +9,7 @@ use Rattle.std.specs.Set.{is_member}
 use Rattle.std.proofs.lemmas.Bool.{cases_eq, cases_lt, ne_eqb}
 use Rattle.std.proofs.lemmas.List.{get_or_append_left, get_or_push}
 use Rattle.decoder.specs.Received.{bytes_at, arrived_of}
-use Rattle.decoder.specs.declared.symbols.Arrival.{Arrival}
+use Rattle.decoder.specs.declared.arrivals.Arrival.{Arrival}
 use Rattle.decoder.specs.declared.symbols.Symbols.{Symbols}
 use Rattle.decoder.proofs.Index.{number_eq}
 
@@ -26,7 +27,7 @@ pub record AreListed (s : Symbols) (left : List ℕ) (blocks : List ℕ) : Type 
   pub some : (i : ℕ) → i < length blocks → (j : ℕ) × (is_some (bytes_at s (get_or blocks i 0) j) ≡ true)
 
 -- where something came of a block, the block is a key
-of_key : (o : Option (Vec Arrival)) (j : ℕ) → is_some (arrived_of o j) ≡ true → is_some o ≡ true
+of_key : (o : Option (Vec (Arrival (Bor (List ℕ))))) (j : ℕ) → is_some (arrived_of o j) ≡ true → is_some o ≡ true
 of_key None j h = h
 of_key (Some v) j h = refl
 

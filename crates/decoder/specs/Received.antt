@@ -1,5 +1,6 @@
 -- The encoding symbols that came, found by block and ESI.
-use Rattle.std.specs.Prelude.{◌≡◌, ℕ, true, false, List, [], ◌∷◌, Option, Some, None}
+use Rattle.std.specs.Prelude.{◌≡◌, ℕ, true, false, List, Option, Some, None}
+use Rattle.std.specs.Borrow.{Bor}
 use Rattle.std.specs.BTreeMap.{get}
 use Rattle.std.specs.Global.{Vec}
 use Rattle.std.specs.List.{AllByRecursion}
@@ -10,23 +11,14 @@ use Rattle.reception.specs.Symbols.{Symbol, is_of, has_arrived}
 use Rattle.reception.specs.Reception.{counted, symbols, IsClean}
 use Rattle.reception.specs.Walks.{readings_of}
 use Rattle.reception.specs.Answer.{Empty, AnswerTo, reception_of}
-use Rattle.decoder.specs.Kept.{with_esi}
-use Rattle.decoder.specs.declared.symbols.Arrival.{Arrival}
+use Rattle.decoder.specs.Kept.{arrived_at}
+use Rattle.decoder.specs.declared.arrivals.Arrival.{Arrival}
 use Rattle.decoder.specs.declared.symbols.Symbols.{Symbols}
 
--- with these symbols more, one after the other
-abbrev pub with_arrived : (ℕ → Option (List ℕ)) → List Arrival → ℕ → Option (List ℕ)
-with_arrived at [] = at
-with_arrived at (a ∷ arrivals) = with_arrived (with_esi at a.esi a.bytes.now) arrivals
-
--- the bytes of the symbol that came at an ESI, if one did
-abbrev pub arrived_at : List Arrival → ℕ → Option (List ℕ)
-arrived_at arrivals = with_arrived (λ j. None) arrivals
-
--- of a block
-abbrev pub arrived_of : Option (Vec Arrival) → ℕ → Option (List ℕ)
+-- the bytes of the symbol that came of a block at an ESI, if one did
+abbrev pub arrived_of : Option (Vec (Arrival (Bor (List ℕ)))) → ℕ → Option (List ℕ)
 arrived_of None j = None
-arrived_of (Some v) j = arrived_at v.items j
+arrived_of (Some v) j = arrived_at (λ s. s.now) v.items j
 
 -- the bytes that stand at a block and an ESI
 abbrev pub bytes_at : Symbols → ℕ → ℕ → Option (List ℕ)

@@ -5,18 +5,22 @@ use Rattle.lists.specs.Below.{below}
 use Rattle.partition.specs.Fti.{Fti, source_count, encoding_count}
 use Rattle.decoder.specs.Decoded.{AreRows}
 use Rattle.decoder.specs.Rows.{HasSizes}
-use Rattle.decoder.specs.Kept.{kept_at, seen_at}
+use Rattle.decoder.specs.Kept.{arrived_at, seen_at}
 use Rattle.decoder.specs.declared.stored.Pending.{Pending}
 use Rattle.decoder.specs.declared.stored.Solved.{Solved}
 use Rattle.decoder.specs.declared.stored.Stored.{Stored}
 use Rattle.decoder.specs.declared.stored.Stored.TheVariants as stored
+
+-- the bytes of the symbol that came of the block at an ESI, if one did
+abbrev pub arrived_in : Pending → ℕ → Option (List ℕ)
+arrived_in p = arrived_at (λ v. v.items) p.symbols.items
 
 -- the symbols themselves, each once, at ESIs that the block has
 pub record IsPending (f : Fti) (b : ℕ) (p : Pending) (at : ℕ → Option (List ℕ)) : Type 0 where
   pub need : p.need ≡ source_count f b
   pub esis : All (λ s. s.esi < encoding_count f b) p.symbols.items
   pub once : length p.symbols.items ≡ length (filter (λ j. is_some (at j)) (below (encoding_count f b)))
-  pub symbols : (j : ℕ) → kept_at p.symbols.items j ≡ at j
+  pub symbols : (j : ℕ) → arrived_in p j ≡ at j
 
 -- the source symbols that give them, and which ESIs were seen
 pub record IsSolved (f : Fti) (b : ℕ) (s : Solved) (at : ℕ → Option (List ℕ)) : Type 0 where

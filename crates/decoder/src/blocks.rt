@@ -9,54 +9,17 @@ ghost use Rattle.decoder.specs.Received.{bytes_at};
 ghost use Rattle.decoder.specs.Recoveries.{IsKeptOf};
 ghost use Rattle.decoder.specs.Rows.{byte_in, HasSizes};
 
+use crate::arrivals::symbols_below;
 use crate::block::Block;
 use crate::padding::may_be_padded;
 use crate::received::Received;
 use crate::recovering::recover;
 use crate::recovery::Recovery;
 use crate::rows::{Rows, is_zero};
-use crate::symbols::Symbols;
 use block_code::BlockCodes;
 use lists::are_bytes;
 use partition::Fti;
 use std::alloc::{AllocError, Global};
-
-/// Nothing at `n` ESIs.
-pub(crate) fn no_arrivals<'a>(alloc: Global, n: usize) -> Result<Vec<Option<&'a [u8]>>, AllocError>
-    ensures len { IfOk result (λ v. length v.items ≡ n) }
-    ensures none { IfOk result (λ v. (j : ℕ) → bytes_of_esi v.items j ≡ None) }
-{
-    let mut arrivals = Vec::with_capacity(alloc, n)?;
-    for _esi in 0..n {
-        arrivals.push(None)?;
-    }
-    Ok(arrivals)
-}
-
-// The symbols of a block at its ESIs, those that came.
-fn arrivals<'a>(
-    alloc: Global,
-    symbols: &Symbols<'a>,
-    b: u32,
-    n: usize,
-) -> Result<Vec<Option<&'a [u8]>>, AllocError>
-    requires { n ≤ 255 }
-    ensures len { IfOk result (λ v. length v.items ≡ n) }
-    ensures at { IfOk result
-        (λ v. (j : ℕ) → j < n → bytes_of_esi v.items j ≡ bytes_at symbols.now b j) }
-{
-    let mut arrivals = no_arrivals(alloc, n)?;
-    let Some(came) = symbols.of_block(b) else {
-        return Ok(arrivals);
-    };
-    for arrival in came {
-        let esi = usize::from(arrival.esi);
-        if esi < n {
-            arrivals[esi] = Some(arrival.bytes);
-        }
-    }
-    Ok(arrivals)
-}
 
 // Whether a block's rows are zero past the object's end.
 fn are_padded(fti: &Fti, b: u32, rows: &Rows) -> bool
@@ -138,6 +101,7 @@ pub(crate) fn received_rows(
     ensures keeps { IsKeptOf codes.now kept.new }
 {
     let fti = &received.fti;
-    let arrivals = arrivals(alloc, &received.symbols, b, fti.n(b))?;
+    let came = received.symbols.of_block(b).unwrap_or(&[]);
+    let arrivals = symbols_below(alloc, came, fti.n(b))?;
     block_rows(alloc, fti, codes, b, &arrivals, kept)
 }

@@ -5,10 +5,10 @@ ghost use Rattle.lists.specs.Below.{below};
 ghost use Rattle.partition.specs.Fti.{source_count};
 ghost use Rattle.reception.specs.Symbols.{Symbol, arrived_count, AllFull, IsFirstShort};
 ghost use Rattle.reception.specs.Within.{IsWithin};
-ghost use Rattle.decoder.specs.Received.{bytes_at, arrived_at, IsIndex};
-ghost use Rattle.decoder.specs.Kept.{seen_at};
+ghost use Rattle.decoder.specs.Received.{bytes_at, IsIndex};
 
-use crate::symbols::{Arrival, Symbols};
+use crate::arrivals::seen_of;
+use crate::symbols::Symbols;
 use partition::Fti;
 
 /// A block that has fewer encoding symbols than it needs.
@@ -20,17 +20,6 @@ pub(crate) struct Short {
     pub(crate) have: usize,
     /// How many source symbols it has.
     pub(crate) need: usize,
-}
-
-// Whether the symbol at each ESI came.
-fn seen_of(arrivals: &[Arrival<'_>]) -> [bool; 256]
-    ensures { (j : ℕ) → j < 256 → seen_at result j ≡ is_some (arrived_at arrivals.now j) }
-{
-    let mut seen = [false; 256];
-    for arrival in arrivals {
-        seen[usize::from(arrival.esi)] = true;
-    }
-    seen
 }
 
 /// How many different ESIs below `n` came of a block.

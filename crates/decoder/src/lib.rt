@@ -1,6 +1,7 @@
 //! The decoder: the object that datagrams give, or why they give none (RFC 5510, section 8).
 //!
 //! - `answer`: what a decoder answers;
+//! - `arrivals`: the symbols that came of a block, as slices of their datagrams or as copies;
 //! - `symbols`: what came, by block and ESI; `received`: that of a list of datagrams, or the first fault at a place, by the
 //!   FTI of the first carrier, which is found before; `counting`: how many symbols each block has;
 //! - `recovering`: the source symbols of one block that has enough of them, by `rows`, `block` and `erasure`;
@@ -21,6 +22,7 @@
 #![tactic(auto)]
 
 mod answer;
+mod arrivals;
 mod block;
 mod blocks;
 mod counting;

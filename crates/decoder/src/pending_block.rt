@@ -1,65 +1,37 @@
 //! A block that has fewer symbols than it needs.
 ghost use Rattle.std.specs.Prelude.{◌≡◌, ◌<◌, ◌≤◌, ◌+◌, ℕ, [], ◌∷◌, ◌++◌, None, length, is_some, option_map, IfOk, OnOk, IfErr, OnErr, IfSome, IsNone};
-ghost use Rattle.std.specs.List.{All};
+ghost use Rattle.std.specs.Global.{Vec};
 ghost use Rattle.decoder.specs.Blocks.{bytes_of_esi, HaveLength};
-ghost use Rattle.decoder.specs.Kept.{kept_at, seen_at, with_esi};
+ghost use Rattle.decoder.specs.Kept.{arrived_at, with_esi};
 ghost use Rattle.decoder.specs.Putting.{MayPut, MayStand, IsPutFault};
-ghost use Rattle.decoder.specs.Stored.{IsPending, IsSolved};
+ghost use Rattle.decoder.specs.declared.arrivals.Arrival.{Arrival};
+ghost use Rattle.decoder.specs.Stored.{IsPending, IsSolved, arrived_in};
 
-use crate::blocks::{block_rows, no_arrivals};
+use crate::arrivals::{Arrival, push, seen_of, symbol_at, symbols_below};
+use crate::blocks::block_rows;
 use crate::recovery::Recovery;
-use crate::stored::{KeptSymbol, Pending, PutFault, Solved};
+use crate::stored::{Pending, PutFault, Solved};
 use alc::Packet;
 use block_code::BlockCodes;
 use partition::Fti;
 use std::alloc::{AllocError, Global};
 
-// The symbol that is kept at an ESI, if one is.
-fn symbol_at(symbols: &[KeptSymbol], esi: u8) -> Option<&[u8]>
-    ensures { option_map (λ s. s.now) result ≡ kept_at symbols.now esi }
-{
-    let mut found = None;
-    for kept in symbols {
-        if kept.esi == esi {
-            found = Some(kept.symbol.as_slice());
-        }
-    }
-    found
-}
-
 // The symbols that came and one more, each at its ESI of `n`.
-fn arrivals_with<'a>(
+fn symbols_with<'a>(
     alloc: Global,
-    symbols: &'a [KeptSymbol],
+    arrivals: &'a [Arrival<Vec<u8>>],
     n: usize,
     esi: u8,
     symbol: &'a [u8],
 ) -> Result<Vec<Option<&'a [u8]>>, AllocError>
-    requires esi { esi < n }
-    requires esis { All (λ s. s.esi < n) symbols.now }
+    requires { esi < n }
     ensures len { IfOk result (λ v. length v.items ≡ n) }
-    ensures at { IfOk result (λ v. (j : ℕ)
-        → bytes_of_esi v.items j ≡ with_esi (kept_at symbols.now) esi symbol.now j) }
+    ensures at { IfOk result (λ v. (j : ℕ) → j < n → bytes_of_esi v.items j
+        ≡ with_esi (arrived_at (λ s. s.items) arrivals.now) esi symbol.now j) }
 {
-    let mut arrivals = no_arrivals(alloc, n)?;
-    for kept in symbols {
-        arrivals[usize::from(kept.esi)] = Some(kept.symbol.as_slice());
-    }
-    arrivals[usize::from(esi)] = Some(symbol);
-    Ok(arrivals)
-}
-
-// At each ESI whether its symbol came.
-fn seen_of(alloc: Global, arrivals: &[Option<&[u8]>]) -> Result<Vec<bool>, AllocError>
-    ensures len { IfOk result (λ v. length v.items ≡ length arrivals.now) }
-    ensures at { IfOk result
-        (λ v. (j : ℕ) → seen_at v.items j ≡ is_some (bytes_of_esi arrivals.now j)) }
-{
-    let mut seen = Vec::with_capacity(alloc, arrivals.len())?;
-    for j in 0..arrivals.len() {
-        seen.push(arrivals[j].is_some())?;
-    }
-    Ok(seen)
+    let mut symbols = symbols_below(alloc, arrivals, n)?;
+    symbols[usize::from(esi)] = Some(symbol);
+    Ok(symbols)
 }
 
 impl Pending {
@@ -78,14 +50,14 @@ impl Pending {
     // Keeps a copy of a symbol, where it isn't the last that is needed.
     fn keep(&mut self, alloc: Global, esi: u8, symbol: &[u8]) -> Result<(), AllocError>
         requires { length self.old.symbols.items + 1 < self.old.need }
-        ensures kept { OnOk result ((s : KeptSymbol) × (s.esi ≡ esi)
+        ensures kept { OnOk result ((s : Arrival (Vec ℕ)) × (s.esi ≡ esi)
             × (s.symbol.items ≡ symbol.now)
             × (self.new.symbols.items ≡ self.old.symbols.items ++ s ∷ [])) }
         ensures need { self.new.need ≡ self.old.need }
         ensures stays { OnErr result (self.new.symbols.items ≡ self.old.symbols.items) }
     {
         let copy = symbol.to_vec(alloc)?;
-        self.symbols.push(KeptSymbol { esi, symbol: copy })?;
+        push(&mut self.symbols, Arrival { esi, symbol: copy })?;
         Ok(())
     }
 
@@ -100,24 +72,25 @@ impl Pending {
     ) -> Result<Solved, PutFault>
         requires given { MayPut fti.now codes.now packet.now kept.old }
         requires pending { IsPending fti.now packet.now.sbn self.now
-            (kept_at self.now.symbols.items) }
-        requires sizes { HaveLength fti.now.symbol_length (kept_at self.now.symbols.items) }
-        requires free { kept_at self.now.symbols.items packet.now.esi ≡ None }
+            (arrived_in self.now) }
+        requires sizes { HaveLength fti.now.symbol_length (arrived_in self.now) }
+        requires free { arrived_in self.now packet.now.esi ≡ None }
         requires last { self.now.need ≤ length self.now.symbols.items + 1 }
         ensures keeps { MayPut fti.now codes.now packet.now kept.new }
         ensures solved { IfOk result (λ s. IsSolved fti.now packet.now.sbn s
-            (with_esi (kept_at self.now.symbols.items) packet.now.esi packet.now.symbol.now)) }
+            (with_esi (arrived_in self.now) packet.now.esi packet.now.symbol.now)) }
         ensures fault { IfErr result (IsPutFault fti.now packet.now.sbn
-            (kept_at self.now.symbols.items) packet.now.esi packet.now.symbol.now) }
+            (arrived_in self.now) packet.now.esi packet.now.symbol.now) }
     {
         let n = fti.n(packet.sbn);
-        let Ok(arrivals) = arrivals_with(alloc, &self.symbols, n, packet.esi, packet.symbol) else {
+        let Ok(symbols) = symbols_with(alloc, &self.symbols, n, packet.esi, packet.symbol) else {
             return Err(PutFault::NoMemory);
         };
-        let Ok(seen) = seen_of(alloc, &arrivals) else {
+        let Ok(mut seen) = seen_of(&self.symbols)[..n].to_vec(alloc) else {
             return Err(PutFault::NoMemory);
         };
-        match block_rows(alloc, fti, codes, packet.sbn, &arrivals, kept) {
+        seen[usize::from(packet.esi)] = true;
+        match block_rows(alloc, fti, codes, packet.sbn, &symbols, kept) {
             Ok(Some(rows)) => Ok(Solved { rows, seen }),
             Ok(None) => Err(PutFault::NotCode),
             Err(_) => Err(PutFault::NoMemory),
@@ -135,19 +108,19 @@ impl Pending {
     ) -> Result<Option<Solved>, PutFault>
         requires given { MayPut fti.now codes.now packet.now kept.old }
         requires pending { IsPending fti.now packet.now.sbn self.old
-            (kept_at self.old.symbols.items) }
-        requires sizes { HaveLength fti.now.symbol_length (kept_at self.old.symbols.items) }
+            (arrived_in self.old) }
+        requires sizes { HaveLength fti.now.symbol_length (arrived_in self.old) }
         ensures keeps { MayPut fti.now codes.now packet.now kept.new }
         ensures waits { IfOk result (λ o. IsNone o → IsPending fti.now packet.now.sbn self.new
-            (with_esi (kept_at self.old.symbols.items) packet.now.esi packet.now.symbol.now)) }
+            (with_esi (arrived_in self.old) packet.now.esi packet.now.symbol.now)) }
         ensures solved { IfOk result (λ o. IfSome o (λ s. IsSolved fti.now packet.now.sbn s
-            (with_esi (kept_at self.old.symbols.items) packet.now.esi packet.now.symbol.now))) }
-        ensures may { OnOk result (MayStand (kept_at self.old.symbols.items)
+            (with_esi (arrived_in self.old) packet.now.esi packet.now.symbol.now))) }
+        ensures may { OnOk result (MayStand (arrived_in self.old)
             packet.now.esi packet.now.symbol.now) }
         ensures fault { IfErr result (IsPutFault fti.now packet.now.sbn
-            (kept_at self.old.symbols.items) packet.now.esi packet.now.symbol.now) }
+            (arrived_in self.old) packet.now.esi packet.now.symbol.now) }
         ensures stays { OnErr result (IsPending fti.now packet.now.sbn self.new
-            (kept_at self.old.symbols.items)) }
+            (arrived_in self.old)) }
     {
         match symbol_at(&self.symbols, packet.esi) {
             Some(symbol) => {

@@ -2,20 +2,14 @@
 ghost use Rattle.std.specs.Prelude.{◌<◌, ◌≤◌, length};
 ghost use Rattle.decoder.specs.Kept.{seen_count};
 
+use crate::arrivals::Arrival;
 use crate::rows::Rows;
-
-/// A symbol that came, and its ESI.
-#[derive(Drop)]
-pub(crate) struct KeptSymbol {
-    pub(crate) esi: u8,
-    pub(crate) symbol: Vec<u8>,
-}
 
 /// The symbols that came of a block that has fewer than it needs.
 #[derive(Drop)]
 pub(crate) struct Pending {
     /// In the order in which they came.
-    pub(crate) symbols: Vec<KeptSymbol>,
+    pub(crate) symbols: Vec<Arrival<Vec<u8>>>,
     /// How many source symbols the block has.
     pub(crate) need: usize,
     ghost few: { length symbols.items < need },

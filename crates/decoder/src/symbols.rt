@@ -1,34 +1,18 @@
 //! The encoding symbols that came, by block and ESI.
-ghost use Rattle.std.specs.Prelude.{◌≡◌, ◌==◌, ◌&&◌, ℕ, Some, None, true, false, is_some, option_map, IsNone, IfSome, IfOk, OnOk};
+ghost use Rattle.std.specs.Prelude.{◌≡◌, ◌==◌, ◌&&◌, ℕ, Some, None, true, false, is_some, option_map, IsNone, IfSome, OnOk};
 ghost use Rattle.alc.specs.Views.{packet_of};
-ghost use Rattle.decoder.specs.Received.{bytes_at, arrived_at};
+ghost use Rattle.decoder.specs.Kept.{arrived_at};
+ghost use Rattle.decoder.specs.Received.{bytes_at};
 
+use crate::arrivals::{Arrival, push, symbol_at};
 use alc::Packet;
 use std::alloc::{AllocError, Global};
 use std::collections::BTreeMap;
 
-/// A symbol that came, in its datagram.
-#[derive(Clone, Copy)]
-pub(crate) struct Arrival<'a> {
-    pub(crate) esi: u8,
-    pub(crate) bytes: &'a [u8],
-}
-
 /// The symbols of a session: by source block number those of a block, in the order in which they came.
 #[derive(Drop)]
 pub(crate) struct Symbols<'a> {
-    pub(crate) blocks: BTreeMap<u32, Vec<Arrival<'a>>>,
-}
-
-// Where there is no room for one more, makes room for it and for a quarter of what came: twice as much would be more than
-// the datagrams' places take.
-fn make_room(arrivals: &mut Vec<Arrival<'_>>) -> Result<(), AllocError>
-    ensures { arrivals.new.items ≡ arrivals.old.items }
-{
-    if arrivals.len() == arrivals.capacity() {
-        arrivals.reserve_exact(arrivals.len() / 4 + 1)?;
-    }
-    Ok(())
+    pub(crate) blocks: BTreeMap<u32, Vec<Arrival<&'a [u8]>>>,
 }
 
 impl<'a> Symbols<'a> {
@@ -42,10 +26,10 @@ impl<'a> Symbols<'a> {
     }
 
     /// The symbols of a block, where some came.
-    pub(crate) fn of_block(&self, block: u32) -> Option<&[Arrival<'a>]>
+    pub(crate) fn of_block(&self, block: u32) -> Option<&[Arrival<&'a [u8]>]>
         ensures none { IsNone result → (j : ℕ) → bytes_at self.now block j ≡ None }
         ensures some { IfSome result
-            (λ v. (j : ℕ) → arrived_at v.now j ≡ bytes_at self.now block j) }
+            (λ v. (j : ℕ) → arrived_at (λ s. s.now) v.now j ≡ bytes_at self.now block j) }
     {
         match self.blocks.get(&block) {
             Some(arrivals) => Some(arrivals.as_slice()),
@@ -54,16 +38,10 @@ impl<'a> Symbols<'a> {
     }
 
     /// The bytes of the symbol at a block and an ESI, if it came.
-    pub(crate) fn get(&self, block: u32, esi: u8) -> Option<&'a [u8]>
+    pub(crate) fn get(&self, block: u32, esi: u8) -> Option<&[u8]>
         ensures { option_map (λ s. s.now) result ≡ bytes_at self.now block esi }
     {
-        let mut found = None;
-        for arrival in self.of_block(block)? {
-            if arrival.esi == esi {
-                found = Some(arrival.bytes);
-            }
-        }
-        found
+        symbol_at(self.of_block(block)?, esi)
     }
 
     /// Whether something came of a block.
@@ -88,12 +66,11 @@ impl<'a> Symbols<'a> {
     {
         let arrival = Arrival {
             esi: packet.esi,
-            bytes: packet.symbol,
+            symbol: packet.symbol,
         };
         match self.blocks.get_mut(&packet.sbn) {
             Some(arrivals) => {
-                make_room(arrivals)?;
-                arrivals.push(arrival)?;
+                push(arrivals, arrival)?;
                 Ok(())
             }
             None => {

@@ -1,9 +1,9 @@
 use Rattle.std.specs.Prelude.{Option}
 use Rattle.std.proofs.Common.{◌≡◌, ℕ, List, subst, rules}
 use Rattle.std.proofs.Math.Path.{fun_ext}
-use Rattle.decoder.specs.Kept.{kept_at, with_esi}
+use Rattle.decoder.specs.Kept.{with_esi}
 use Rattle.decoder.specs.Putting.{IsPutFault}
-use Rattle.decoder.specs.Stored.{IsPending, IsSolved}
+use Rattle.decoder.specs.Stored.{IsPending, IsSolved, arrived_in}
 use Rattle.decoder.proofs.stored.Stored.put.Goals as goal
 
 pub returns-in_err-solved-in-Pending-clause-fault : goal.returns-in_err-solved-in-Pending-clause-fault
@@ -11,7 +11,7 @@ returns-in_err-solved-in-Pending-clause-fault c = λ at h.
     let p = c.in-Pending.pending in
     let k = c.args.packet.now in
     let own : IsPending c.args.fti.now k.sbn p at = (rw c.in-Pending.is at h) in
-    let same : kept_at p.symbols.items ≡ at = fun_ext own.symbols in
+    let same : arrived_in p ≡ at = fun_ext own.symbols in
     let d : IsPutFault c.args.fti.now k.sbn at k.esi k.symbol.now c.in_err-solved-in-Pending.field-0.0 =
     subst (λ (g : ℕ → Option (List ℕ)). IsPutFault c.args.fti.now k.sbn g k.esi k.symbol.now c.in_err-solved-in-Pending.field-0.0) same c.in_err-solved-in-Pending.ensures.fault in
     search rules
@@ -33,5 +33,5 @@ returns-clause-put c = λ at h.
     let p = c.in-Pending.pending in
     let k = c.args.packet.now in
     let own : IsPending c.args.fti.now k.sbn p at = (rw c.in-Pending.is at h) in
-    let same : kept_at p.symbols.items ≡ at = fun_ext own.symbols in
+    let same : arrived_in p ≡ at = fun_ext own.symbols in
     subst (λ (g : ℕ → Option (List ℕ)). IsSolved c.args.fti.now k.sbn c.in-Some.solved (with_esi g k.esi k.symbol.now)) same (rw c.in-Some.is at c.in_ok-solved-in-Pending.ensures.solved)

@@ -5,5 +5,6 @@ use Rattle.decoder.proofs.symbols.Symbols.has_some.Goals as goal
 
 pub returns-in-Some-clause-some : goal.returns-in-Some-clause-some
 returns-in-Some-clause-some c = λ some.
-    let there = some_arrived c.in-Some.arrivals.now (some_length c.in-Some.arrivals.now (ap not (sym c.is_empty.ensures) ∙ some)) in
+    let came = c.in-Some.arrivals.now in
+    let there = some_arrived (λ s. s.now) came (some_length came (ap not (sym c.is_empty.ensures) ∙ some)) in
     (there.0, ap is_some (sym (c.in-Some.ensures.some there.0)) ∙ there.1)

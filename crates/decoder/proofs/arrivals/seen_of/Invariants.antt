@@ -1,0 +1,10 @@
+use Rattle.std.specs.Prelude.{is_some}
+use Rattle.std.proofs.Common.{◌≡◌, ℕ, ◌<◌, length, take}
+use Rattle.decoder.specs.Kept.{arrived_at, seen_at}
+use Rattle.decoder.proofs.arrivals.seen_of.Given as goal
+
+abbrev pub invariant-loop-arrival : goal.invariant-loop-arrival
+invariant-loop-arrival g l = record {
+  len : length l.seen ≡ 256;
+  at : (j : ℕ) → j < 256 → seen_at l.seen j ≡ is_some (arrived_at g.S.SymbolBytes.held (take l.arrival-index l.arrivals) j);
+}

@@ -1,0 +1,110 @@
+//! The encoding symbols that came of a source block, in the order in which they came.
+ghost use Rattle.std.specs.Prelude.{◌≡◌, ◌<◌, ◌≤◌, ◌++◌, ◌∷◌, ℕ, List, [], None, length, is_some, option_map, IfOk, OnOk, OnErr};
+ghost use Rattle.decoder.specs.Blocks.{bytes_of_esi};
+ghost use Rattle.decoder.specs.Kept.{arrived_at, seen_at};
+
+use std::alloc::{AllocError, Global};
+
+/// What holds the bytes of a symbol: a slice of its datagram, or a copy of it.
+pub(crate) trait SymbolBytes: Drop {
+    ghost held: { Self → List ℕ };
+
+    fn bytes(&self) -> &[u8]
+        ensures { result.now ≡ held self.now };
+}
+
+impl SymbolBytes for &[u8] {
+    ghost held = { λ s. s.now };
+
+    fn bytes(&self) -> &[u8] {
+        self
+    }
+}
+
+impl SymbolBytes for Vec<u8> {
+    ghost held = { λ s. s.items };
+
+    fn bytes(&self) -> &[u8] {
+        self.as_slice()
+    }
+}
+
+/// A symbol that came, and its ESI.
+#[derive(Drop)]
+pub(crate) struct Arrival<S> {
+    pub(crate) esi: u8,
+    pub(crate) symbol: S,
+}
+
+/// Puts a symbol behind the others. Where there is no room for one more, makes room for it and for a quarter of what came:
+/// twice as much would be more than the datagrams' places take.
+pub(crate) fn push<S: SymbolBytes>(
+    arrivals: &mut Vec<Arrival<S>>,
+    arrival: Arrival<S>,
+) -> Result<(), AllocError>
+    ensures pushed { OnOk result (arrivals.new.items ≡ arrivals.old.items ++ arrival ∷ []) }
+    ensures stays { OnErr result (arrivals.new.items ≡ arrivals.old.items) }
+{
+    if arrivals.len() == arrivals.capacity() {
+        arrivals.reserve_exact(arrivals.len() / 4 + 1)?;
+    }
+    arrivals.push(arrival)?;
+    Ok(())
+}
+
+/// The bytes of the symbol at an ESI, if it came.
+pub(crate) fn symbol_at<S: SymbolBytes>(arrivals: &[Arrival<S>], esi: u8) -> Option<&[u8]>
+    ensures { option_map (λ s. s.now) result ≡ arrived_at S.held arrivals.now esi }
+{
+    let mut found = None;
+    for arrival in arrivals {
+        if arrival.esi == esi {
+            found = Some(arrival.symbol.bytes());
+        }
+    }
+    found
+}
+
+/// Whether the symbol at each ESI came.
+pub(crate) fn seen_of<S: SymbolBytes>(arrivals: &[Arrival<S>]) -> [bool; 256]
+    ensures { (j : ℕ) → j < 256
+        → seen_at result j ≡ is_some (arrived_at S.held arrivals.now j) }
+{
+    let mut seen = [false; 256];
+    for arrival in arrivals {
+        seen[usize::from(arrival.esi)] = true;
+    }
+    seen
+}
+
+// Nothing at `n` ESIs.
+fn nothing_at<'a>(alloc: Global, n: usize) -> Result<Vec<Option<&'a [u8]>>, AllocError>
+    ensures len { IfOk result (λ v. length v.items ≡ n) }
+    ensures none { IfOk result (λ v. (j : ℕ) → bytes_of_esi v.items j ≡ None) }
+{
+    let mut symbols = Vec::with_capacity(alloc, n)?;
+    for _esi in 0..n {
+        symbols.push(None)?;
+    }
+    Ok(symbols)
+}
+
+/// The symbols at the first `n` ESIs, those that came.
+pub(crate) fn symbols_below<'a, S: SymbolBytes>(
+    alloc: Global,
+    arrivals: &'a [Arrival<S>],
+    n: usize,
+) -> Result<Vec<Option<&'a [u8]>>, AllocError>
+    ensures len { IfOk result (λ v. length v.items ≡ n) }
+    ensures at { IfOk result (λ v. (j : ℕ) → j < n
+        → bytes_of_esi v.items j ≡ arrived_at S.held arrivals.now j) }
+{
+    let mut symbols = nothing_at(alloc, n)?;
+    for arrival in arrivals {
+        let esi = usize::from(arrival.esi);
+        if esi < n {
+            symbols[esi] = Some(arrival.symbol.bytes());
+        }
+    }
+    Ok(symbols)
+}
