@@ -11,7 +11,7 @@ use Rattle.std.proofs.lemmas.Bool.{cases_eq, eq-eqb, ne_eqb}
 use Rattle.std.proofs.lemmas.Grind.{get_or-set_at}
 use Rattle.std.proofs.lemmas.List.{take_more, get_or-set_other}
 use Rattle.decoder.specs.Blocks.{bytes_of_esi}
-use Rattle.decoder.specs.Kept.{with_esi, with_arrived, arrived_at, seen_at}
+use Rattle.decoder.specs.Arrivals.{with_esi, with_arrived, arrived_at, seen_at}
 use Rattle.decoder.specs.Received.{arrived_of}
 use Rattle.decoder.specs.declared.arrivals.Arrival.{Arrival}
 use Rattle.decoder.proofs.Index.{number_eq}

@@ -40,7 +40,7 @@ use Rattle.reception.proofs.Walking.{Walked, came_before, one_behind, stops, goe
 use Rattle.reception.proofs.Within.{within}
 use Rattle.decoder.specs.Columns.{ColumnExplained}
 use Rattle.decoder.specs.Decoded.{IsEnoughAt}
-use Rattle.decoder.specs.Kept.{with_symbol}
+use Rattle.decoder.specs.Arrivals.{with_symbol}
 use Rattle.decoder.specs.Holds.{kept_of, is_solved, solved_count}
 use Rattle.decoder.specs.Putting.{MayStand, IsClash, IsNoCode, IsPutFault}
 use Rattle.decoder.specs.declared.stored.PutFault.{PutFault}

@@ -8,7 +8,7 @@ use Rattle.lists.specs.Below.{below}
 use Rattle.partition.specs.Fti.{Fti, block_count, encoding_count}
 use Rattle.decoder.specs.Decoded.{AreWithin}
 use Rattle.decoder.specs.Holds.{Holds, HoldsBlocks, kept_of, is_solved, solved_count}
-use Rattle.decoder.specs.Kept.{with_esi, with_symbol}
+use Rattle.decoder.specs.Arrivals.{with_esi, with_symbol}
 use Rattle.decoder.specs.Stored.{IsStored}
 use Rattle.decoder.specs.declared.stored.Stored.{Stored}
 use Rattle.decoder.specs.declared.store.Store.{Store}

@@ -1,4 +1,4 @@
--- Symbols that are kept at their ESIs: one more, and how many stand.
+-- Symbols that stand at ESIs: one more, and how many there are.
 use Rattle.std.specs.Prelude.{filter}
 use Rattle.std.proofs.Math.Path.{fun_ext}
 use Rattle.std.proofs.Common.{◌≡◌, ◌≢◌, ℕ, zero, suc, ◌+◌, ◌<◌, ◌≤◌, Bool, true, false, List, [], ◌∷◌, ◌++◌, Option, Some, length, get_or, refl, sym, ap, ◌∙◌, inl, inr, arith}
@@ -7,7 +7,7 @@ use Rattle.std.proofs.lemmas.List.{get_or_past}
 use Rattle.lists.specs.Below.{below}
 use Rattle.lists.proofs.Below.{all_below}
 use Rattle.lists.proofs.Lists.{at_old, at_end, filter_same}
-use Rattle.decoder.specs.Kept.{with_esi}
+use Rattle.decoder.specs.Arrivals.{with_esi}
 use Rattle.decoder.proofs.Counts.{one_more_held, none_more_held}
 use Rattle.decoder.proofs.Those.{none_below}
 

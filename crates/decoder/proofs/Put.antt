@@ -11,7 +11,7 @@ use Rattle.lists.specs.Below.{below}
 use Rattle.partition.specs.Fti.{Fti, source_count, encoding_count}
 use Rattle.decoder.specs.Blocks.{bytes_of_esi}
 use Rattle.decoder.specs.Decoded.{IsEnoughAt}
-use Rattle.decoder.specs.Kept.{arrived_at, seen_at, seen_count, with_esi}
+use Rattle.decoder.specs.Arrivals.{arrived_at, seen_at, seen_count, with_esi}
 use Rattle.decoder.specs.Stored.{IsPending, arrived_in}
 use Rattle.decoder.specs.declared.arrivals.Arrival.{Arrival}
 use Rattle.decoder.specs.declared.stored.Pending.{Pending}

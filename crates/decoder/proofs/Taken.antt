@@ -22,7 +22,7 @@ use Rattle.reception.proofs.Within.{within}
 use Rattle.decoder.specs.Columns.{ColumnExplained}
 use Rattle.decoder.specs.Decoded.{IsEnoughAt, AreRows, Answers, IsShort}
 use Rattle.decoder.specs.Received.{IsIndex, AreReceived}
-use Rattle.decoder.specs.Kept.{seen_at}
+use Rattle.decoder.specs.Arrivals.{seen_at}
 use Rattle.decoder.specs.Stored.{IsStored}
 use Rattle.decoder.specs.Holds.{Holds, kept_of, is_solved}
 use Rattle.decoder.specs.Stands.{Stands, Keeps, HoldsSymbols}

@@ -9,7 +9,7 @@ pub mod Unsolvable
 pub mod Promised
 pub mod Refusals
 pub mod Recoveries
-pub mod Kept
+pub mod Arrivals
 pub mod Stored
 pub mod Holds
 pub mod Stands

@@ -6,7 +6,7 @@ use Rattle.block_code.specs.Codes.{EachBlockHas}
 use Rattle.block_code.specs.CodesOf.{IsCodeOf}
 use Rattle.block_code.specs.declared.codes.BlockCodes.{BlockCodes}
 use Rattle.decoder.specs.Decoded.{IsEnoughAt, IsUnexplained}
-use Rattle.decoder.specs.Kept.{with_esi}
+use Rattle.decoder.specs.Arrivals.{with_esi}
 use Rattle.decoder.specs.Recoveries.{IsKeptOf}
 use Rattle.decoder.specs.declared.recovery.Recovery.{Recovery}
 use Rattle.decoder.specs.declared.stored.PutFault.{PutFault}

@@ -11,7 +11,7 @@ use Rattle.reception.specs.Symbols.{Symbol, is_of, has_arrived}
 use Rattle.reception.specs.Reception.{counted, symbols, IsClean}
 use Rattle.reception.specs.Walks.{readings_of}
 use Rattle.reception.specs.Answer.{Empty, AnswerTo, reception_of}
-use Rattle.decoder.specs.Kept.{arrived_at}
+use Rattle.decoder.specs.Arrivals.{arrived_at}
 use Rattle.decoder.specs.declared.arrivals.Arrival.{Arrival}
 use Rattle.decoder.specs.declared.symbols.Symbols.{Symbols}
 

@@ -5,7 +5,7 @@ use Rattle.lists.specs.Below.{below}
 use Rattle.partition.specs.Fti.{Fti, source_count, encoding_count}
 use Rattle.decoder.specs.Decoded.{AreRows}
 use Rattle.decoder.specs.Rows.{HasSizes}
-use Rattle.decoder.specs.Kept.{arrived_at, seen_at}
+use Rattle.decoder.specs.Arrivals.{arrived_at, seen_at}
 use Rattle.decoder.specs.declared.stored.Pending.{Pending}
 use Rattle.decoder.specs.declared.stored.Solved.{Solved}
 use Rattle.decoder.specs.declared.stored.Stored.{Stored}

@@ -1,7 +1,7 @@
 //! The encoding symbols that came of a source block, in the order in which they came.
-ghost use Rattle.std.specs.Prelude.{◌≡◌, ◌<◌, ◌≤◌, ◌++◌, ◌∷◌, ℕ, List, [], None, length, is_some, option_map, IfOk, OnOk, OnErr};
+ghost use Rattle.std.specs.Prelude.{◌≡◌, ◌<◌, ◌≤◌, ◌++◌, ◌∷◌, ℕ, List, [], length, is_some, option_map, IfOk, OnOk, OnErr};
 ghost use Rattle.decoder.specs.Blocks.{bytes_of_esi};
-ghost use Rattle.decoder.specs.Kept.{arrived_at, seen_at};
+ghost use Rattle.decoder.specs.Arrivals.{arrived_at, seen_at};
 
 use std::alloc::{AllocError, Global};
 
@@ -77,18 +77,6 @@ pub(crate) fn seen_of<S: SymbolBytes>(arrivals: &[Arrival<S>]) -> [bool; 256]
     seen
 }
 
-// Nothing at `n` ESIs.
-fn nothing_at<'a>(alloc: Global, n: usize) -> Result<Vec<Option<&'a [u8]>>, AllocError>
-    ensures len { IfOk result (λ v. length v.items ≡ n) }
-    ensures none { IfOk result (λ v. (j : ℕ) → bytes_of_esi v.items j ≡ None) }
-{
-    let mut symbols = Vec::with_capacity(alloc, n)?;
-    for _esi in 0..n {
-        symbols.push(None)?;
-    }
-    Ok(symbols)
-}
-
 /// The symbols at the first `n` ESIs, those that came.
 pub(crate) fn symbols_below<'a, S: SymbolBytes>(
     alloc: Global,
@@ -99,7 +87,7 @@ pub(crate) fn symbols_below<'a, S: SymbolBytes>(
     ensures at { IfOk result (λ v. (j : ℕ) → j < n
         → bytes_of_esi v.items j ≡ arrived_at S.held arrivals.now j) }
 {
-    let mut symbols = nothing_at(alloc, n)?;
+    let mut symbols = vec![in alloc; None; n]?;
     for arrival in arrivals {
         let esi = usize::from(arrival.esi);
         if esi < n {

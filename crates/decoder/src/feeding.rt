@@ -3,7 +3,7 @@ ghost use Rattle.std.specs.Prelude.{◌≡◌, ◌≢◌, ◌<◌, ◌+◌, ◌�
 ghost use Rattle.partition.specs.Fti.{block_count, encoding_count};
 ghost use Rattle.reception.specs.Answer.{reception_of};
 ghost use Rattle.reception.specs.Walks.{readings_of};
-ghost use Rattle.decoder.specs.Kept.{with_symbol};
+ghost use Rattle.decoder.specs.Arrivals.{with_symbol};
 ghost use Rattle.decoder.specs.Putting.{MayStand, IsPutFault};
 ghost use Rattle.decoder.specs.Stands.{Stands, IsFed};
 ghost use Rattle.decoder.specs.Receiving.{with_datagram, Tells, IsFaultOf, HasNoFault, HasNoFaultBefore, ComesEarly};

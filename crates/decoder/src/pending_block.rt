@@ -2,7 +2,7 @@
 ghost use Rattle.std.specs.Prelude.{◌≡◌, ◌<◌, ◌≤◌, ◌+◌, ℕ, [], ◌∷◌, ◌++◌, None, length, is_some, option_map, IfOk, OnOk, IfErr, OnErr, IfSome, IsNone};
 ghost use Rattle.std.specs.Global.{Vec};
 ghost use Rattle.decoder.specs.Blocks.{bytes_of_esi, HaveLength};
-ghost use Rattle.decoder.specs.Kept.{arrived_at, with_esi};
+ghost use Rattle.decoder.specs.Arrivals.{arrived_at, with_esi};
 ghost use Rattle.decoder.specs.Putting.{MayPut, MayStand, IsPutFault};
 ghost use Rattle.decoder.specs.declared.arrivals.Arrival.{Arrival};
 ghost use Rattle.decoder.specs.Stored.{IsPending, IsSolved, arrived_in};

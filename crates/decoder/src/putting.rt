@@ -3,7 +3,7 @@ ghost use Rattle.std.specs.Prelude.{◌≡◌, ◌≢◌, ◌<◌, ◌≤◌, �
 ghost use Rattle.partition.specs.Fti.{block_count, encoding_count};
 ghost use Rattle.decoder.specs.Blocks.{HaveLength};
 ghost use Rattle.decoder.specs.Holds.{Holds, HoldsBlocks, Solves, kept_of};
-ghost use Rattle.decoder.specs.Kept.{with_esi, with_symbol};
+ghost use Rattle.decoder.specs.Arrivals.{with_esi, with_symbol};
 ghost use Rattle.decoder.specs.Putting.{MayPut, MayStand, IsPutFault};
 ghost use Rattle.decoder.specs.Stored.{IsStored};
 

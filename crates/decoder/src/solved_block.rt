@@ -4,7 +4,7 @@ ghost use Rattle.partition.specs.Fti.{block_count, source_count, encoding_count}
 ghost use Rattle.block_code.specs.Codes.{EachBlockHas};
 ghost use Rattle.block_code.specs.CodesOf.{IsCodeOf};
 ghost use Rattle.decoder.specs.Blocks.{HaveLength};
-ghost use Rattle.decoder.specs.Kept.{with_esi};
+ghost use Rattle.decoder.specs.Arrivals.{with_esi};
 ghost use Rattle.decoder.specs.Putting.{MayStand, IsPutFault};
 ghost use Rattle.decoder.specs.Rows.{HasSizes};
 ghost use Rattle.decoder.specs.Stored.{IsSolved};

@@ -1,6 +1,6 @@
 //! What is kept of a source block.
 ghost use Rattle.std.specs.Prelude.{◌<◌, ◌≤◌, length};
-ghost use Rattle.decoder.specs.Kept.{seen_count};
+ghost use Rattle.decoder.specs.Arrivals.{seen_count};
 
 use crate::arrivals::Arrival;
 use crate::rows::Rows;

@@ -1,7 +1,7 @@
 //! The encoding symbols that came, by block and ESI.
 ghost use Rattle.std.specs.Prelude.{◌≡◌, ◌==◌, ◌&&◌, ℕ, Some, None, true, false, is_some, option_map, IsNone, IfSome, OnOk};
 ghost use Rattle.alc.specs.Views.{packet_of};
-ghost use Rattle.decoder.specs.Kept.{arrived_at};
+ghost use Rattle.decoder.specs.Arrivals.{arrived_at};
 ghost use Rattle.decoder.specs.Received.{bytes_at};
 
 use crate::arrivals::{Arrival, push, symbol_at};

@@ -1,6 +1,6 @@
 use Rattle.std.specs.Prelude.{is_some}
 use Rattle.std.proofs.Common.{◌≡◌, ℕ, ◌<◌, length, take}
-use Rattle.decoder.specs.Kept.{arrived_at, seen_at}
+use Rattle.decoder.specs.Arrivals.{arrived_at, seen_at}
 use Rattle.decoder.proofs.arrivals.seen_of.Given as goal
 
 abbrev pub invariant-loop-arrival : goal.invariant-loop-arrival

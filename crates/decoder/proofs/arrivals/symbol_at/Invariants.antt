@@ -1,6 +1,6 @@
 use Rattle.std.specs.Prelude.{option_map}
 use Rattle.std.proofs.Common.{◌≡◌, take}
-use Rattle.decoder.specs.Kept.{arrived_at}
+use Rattle.decoder.specs.Arrivals.{arrived_at}
 use Rattle.decoder.proofs.arrivals.symbol_at.Given as goal
 
 abbrev pub invariant-loop-arrival : goal.invariant-loop-arrival

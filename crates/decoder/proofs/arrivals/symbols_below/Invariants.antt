@@ -1,6 +1,6 @@
 use Rattle.std.proofs.Common.{◌≡◌, ◌<◌, ℕ, length, take}
 use Rattle.decoder.specs.Blocks.{bytes_of_esi}
-use Rattle.decoder.specs.Kept.{arrived_at}
+use Rattle.decoder.specs.Arrivals.{arrived_at}
 use Rattle.decoder.proofs.arrivals.symbols_below.Given as goal
 
 abbrev pub invariant-loop-arrival : goal.invariant-loop-arrival

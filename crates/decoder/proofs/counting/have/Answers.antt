@@ -1,7 +1,7 @@
 use Rattle.std.specs.Prelude.{is_some}
 use Rattle.std.proofs.Common.{◌≡◌, ◌∙◌, ◌+◌, ℕ, sym, ap, arith, add-one, refl}
 use Rattle.lists.specs.Below.{below}
-use Rattle.decoder.specs.Kept.{seen_at}
+use Rattle.decoder.specs.Arrivals.{seen_at}
 use Rattle.decoder.specs.Received.{bytes_at}
 use Rattle.decoder.proofs.Counts.{one_more_held, none_more_held}
 use Rattle.decoder.proofs.Kept.{count_none}

@@ -3,7 +3,7 @@ use Rattle.std.proofs.Common.{◌≡◌, ◌∙◌, ℕ, List, None, sym, subst,
 use Rattle.std.proofs.Math.Path.{fun_ext}
 use Rattle.partition.specs.Fti.{Fti}
 use Rattle.decoder.specs.Holds.{Holds}
-use Rattle.decoder.specs.Kept.{with_symbol}
+use Rattle.decoder.specs.Arrivals.{with_symbol}
 use Rattle.decoder.specs.Putting.{IsPutFault}
 use Rattle.decoder.proofs.feeding.put.Goals as goal
 

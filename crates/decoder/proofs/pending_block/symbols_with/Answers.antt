@@ -1,6 +1,6 @@
 use Rattle.std.proofs.Common.{◌∙◌}
 use Rattle.std.proofs.lemmas.List.{length-set}
-use Rattle.decoder.specs.Kept.{arrived_at}
+use Rattle.decoder.specs.Arrivals.{arrived_at}
 use Rattle.decoder.proofs.Put.{symbols_set}
 use Rattle.decoder.proofs.pending_block.symbols_with.Goals as goal
 

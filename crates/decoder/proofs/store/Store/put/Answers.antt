@@ -1,5 +1,5 @@
 use Rattle.std.proofs.Common.{◌∙◌, ◌+◌, ℕ, sym, ap, arith}
-use Rattle.decoder.specs.Kept.{with_symbol}
+use Rattle.decoder.specs.Arrivals.{with_symbol}
 use Rattle.decoder.proofs.Holding.{holds_same, one_more_solved, counts_few, err_of}
 use Rattle.decoder.proofs.store.Store.put.Goals as goal
 

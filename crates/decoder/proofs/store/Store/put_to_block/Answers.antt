@@ -4,7 +4,7 @@ use Rattle.std.specs.Ordering.{nat_cmp}
 use Rattle.std.proofs.Common.{◌≡◌, ◌∙◌, Some, sym, subst, rules}
 use Rattle.std.proofs.lemmas.Bool.{ne_eqb}
 use Rattle.decoder.specs.Holds.{kept_of}
-use Rattle.decoder.specs.Kept.{with_esi}
+use Rattle.decoder.specs.Arrivals.{with_esi}
 use Rattle.decoder.specs.Stored.{IsStored}
 use Rattle.decoder.proofs.Holding.{blocks_more, blocks_same, within_more, on_ok, on_err}
 use Rattle.decoder.proofs.Index.{number_eq}

@@ -3,7 +3,7 @@ use Rattle.std.proofs.Common.{◌≡◌, ◌∙◌, List, ℕ, Some, None, sym, 
 use Rattle.std.specs.Borrow.{Bor}
 use Rattle.std.specs.Global.{Vec}
 use Rattle.std.specs.Cmp.Lexicographic.{same_text}
-use Rattle.decoder.specs.Kept.{arrived_at}
+use Rattle.decoder.specs.Arrivals.{arrived_at}
 use Rattle.decoder.specs.Stored.{arrived_in}
 use Rattle.decoder.specs.declared.arrivals.Arrival.{Arrival}
 use Rattle.decoder.proofs.Put.{pending_same, pending_more}

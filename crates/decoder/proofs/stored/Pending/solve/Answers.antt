@@ -2,7 +2,7 @@ use Rattle.std.specs.Prelude.{Option}
 use Rattle.std.proofs.Common.{◌≡◌, ◌∙◌, ℕ, true, List, length, set, take, refl, sym, ap, subst, arith, rules}
 use Rattle.std.proofs.lemmas.List.{length-set, length-take-le}
 use Rattle.decoder.specs.Decoded.{IsEnoughAt, IsUnexplained, AreRows}
-use Rattle.decoder.specs.Kept.{with_esi}
+use Rattle.decoder.specs.Arrivals.{with_esi}
 use Rattle.decoder.specs.Stored.{arrived_in}
 use Rattle.decoder.proofs.Put.{enough_with, seen_enough, symbols_are, seen_are}
 use Rattle.decoder.proofs.stored.Pending.solve.Goals as goal

@@ -2,7 +2,7 @@ use Rattle.std.specs.Prelude.{is_some, Option, IsTrue, Bool}
 use Rattle.std.proofs.Common.{◌≡◌, ◌∙◌, ◌<◌, ℕ, true, false, List, Some, None, length, refl, sym, ap, arith, inl, inr}
 use Rattle.std.proofs.lemmas.List.{length-set, get_or_read}
 use Rattle.partition.proofs.Laws.{counts}
-use Rattle.decoder.specs.Kept.{seen_at, with_esi}
+use Rattle.decoder.specs.Arrivals.{seen_at, with_esi}
 use Rattle.decoder.specs.Putting.{MayStand, IsClash}
 use Rattle.decoder.proofs.Kept.{with_here, with_other}
 use Rattle.decoder.proofs.Put.{seen_no_fewer, seen_with, enough_seen, enough_more}

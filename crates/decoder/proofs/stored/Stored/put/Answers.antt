@@ -1,7 +1,7 @@
 use Rattle.std.specs.Prelude.{Option}
 use Rattle.std.proofs.Common.{◌≡◌, ℕ, List, subst, rules}
 use Rattle.std.proofs.Math.Path.{fun_ext}
-use Rattle.decoder.specs.Kept.{with_esi}
+use Rattle.decoder.specs.Arrivals.{with_esi}
 use Rattle.decoder.specs.Putting.{IsPutFault}
 use Rattle.decoder.specs.Stored.{IsPending, IsSolved, arrived_in}
 use Rattle.decoder.proofs.stored.Stored.put.Goals as goal
