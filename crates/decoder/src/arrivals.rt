@@ -9,6 +9,7 @@ use std::alloc::{AllocError, Global};
 pub(crate) trait SymbolBytes: Drop {
     ghost held: { Self → List ℕ };
 
+    /// The symbol's bytes.
     fn bytes(&self) -> &[u8]
         ensures { result.now ≡ held self.now };
 }

@@ -71,8 +71,7 @@ impl Pending {
         kept: &mut Option<Recovery>,
     ) -> Result<Solved, PutFault>
         requires given { MayPut fti.now codes.now packet.now kept.old }
-        requires pending { IsPending fti.now packet.now.sbn self.now
-            (arrived_in self.now) }
+        requires pending { IsPending fti.now packet.now.sbn self.now (arrived_in self.now) }
         requires sizes { HaveLength fti.now.symbol_length (arrived_in self.now) }
         requires free { arrived_in self.now packet.now.esi ≡ None }
         requires last { self.now.need ≤ length self.now.symbols.items + 1 }
@@ -107,16 +106,15 @@ impl Pending {
         kept: &mut Option<Recovery>,
     ) -> Result<Option<Solved>, PutFault>
         requires given { MayPut fti.now codes.now packet.now kept.old }
-        requires pending { IsPending fti.now packet.now.sbn self.old
-            (arrived_in self.old) }
+        requires pending { IsPending fti.now packet.now.sbn self.old (arrived_in self.old) }
         requires sizes { HaveLength fti.now.symbol_length (arrived_in self.old) }
         ensures keeps { MayPut fti.now codes.now packet.now kept.new }
         ensures waits { IfOk result (λ o. IsNone o → IsPending fti.now packet.now.sbn self.new
             (with_esi (arrived_in self.old) packet.now.esi packet.now.symbol.now)) }
         ensures solved { IfOk result (λ o. IfSome o (λ s. IsSolved fti.now packet.now.sbn s
             (with_esi (arrived_in self.old) packet.now.esi packet.now.symbol.now))) }
-        ensures may { OnOk result (MayStand (arrived_in self.old)
-            packet.now.esi packet.now.symbol.now) }
+        ensures may { OnOk result
+            (MayStand (arrived_in self.old) packet.now.esi packet.now.symbol.now) }
         ensures fault { IfErr result (IsPutFault fti.now packet.now.sbn
             (arrived_in self.old) packet.now.esi packet.now.symbol.now) }
         ensures stays { OnErr result (IsPending fti.now packet.now.sbn self.new
