@@ -10,7 +10,7 @@ use Rattle.block_code.specs.declared.code.Code.{Code}
 use Rattle.block_code.specs.declared.codes.BlockCodes.{BlockCodes}
 use Rattle.block_code.specs.declared.codes.Kind.{Kind}
 use Rattle.block_code.specs.declared.codes.Kind.TheVariants.{Generator, Interpolator}
-use Rattle.block_code.specs.Codes.{code_for, EachBlockHas, IsEncoder, IsInterpolator, MakesCoefficients, IsOfKind, IsOfBlock}
+use Rattle.block_code.specs.Codes.{code_for, EachBlockHas, IsEncoder, IsInterpolator, MakesCoefficients, IsOfKind, IsOfBlock, least_by_values}
 
 -- two facts of one value, and what follows from them
 pub both : {T E : Type 0} (A B C : T → Type 0) (r : Result T E) → ((x : T) → A x → B x → C x) → IfOk r A → IfOk r B → IfOk r C
@@ -38,11 +38,11 @@ encoder_from k n g made encodes = record { rows = made.rows; cols = made.cols; e
 pub interpolator_from : (k : ℕ) (g : Grid ℕ) → HasShape k k g → Interpolates k g → IsInterpolator k g
 interpolator_from k g shape made = record { rows = shape.rows; cols = shape.cols; interpolates = made }
 
-pub few_from : (k : ℕ) (g : Grid ℕ) → k < 160 → HasShape k k g → Interpolates k g → MakesCoefficients k g
+pub few_from : (k : ℕ) (g : Grid ℕ) → k < least_by_values → HasShape k k g → Interpolates k g → MakesCoefficients k g
 few_from k g few shape made =
     record { rows = shape.rows; at_once = λ lt. interpolator_from k g shape made; by_values = λ le. absurd (omega (arith, few, le)) }
 
-pub many_from : (k : ℕ) (g : Grid ℕ) → 160 ≤ k → IsGenerator k 255 g → Encodes k 255 g → MakesCoefficients k g
+pub many_from : (k : ℕ) (g : Grid ℕ) → least_by_values ≤ k → IsGenerator k 255 g → Encodes k 255 g → MakesCoefficients k g
 many_from k g many made encodes =
     record { rows = made.rows; at_once = λ lt. absurd (omega (arith, many, lt)); by_values = λ le. encoder_from k 255 g made encodes }
 

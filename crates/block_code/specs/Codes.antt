@@ -22,7 +22,7 @@ pub record IsInterpolator (k : ℕ) (g : Grid ℕ) : Type 0 where
 
 -- with so many source symbols, coefficients are made by way of the values at all 255 points
 abbrev pub least_by_values : ℕ
-least_by_values = 160
+least_by_values = 180
 
 -- a row of k source symbols times it is the coefficients of their polynomial, or its values at all points
 pub record MakesCoefficients (k : ℕ) (g : Grid ℕ) : Type 0 where

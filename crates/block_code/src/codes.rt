@@ -11,7 +11,7 @@ use std::alloc::{AllocError, Global};
 
 /// From so many source symbols on, a block's coefficients cost less by way of the values at all 255
 /// points, by measurement.
-pub const LEAST_BY_VALUES: usize = 160;
+pub const LEAST_BY_VALUES: usize = 180;
 
 /// A code for the first blocks, and one for the others if they are smaller.
 #[derive(Drop)]

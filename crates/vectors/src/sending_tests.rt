@@ -5,6 +5,7 @@ use crate::certificate_tests::text;
 use crate::check_tests::FIRST_ALONE;
 use cert::{Certificate, Verdict, check};
 use coder::{CertifyFault, SendFault, certify, encode};
+use gf256::point;
 use partition::{Fti, Order};
 use reception::Identity;
 use session::{Pieces, Session, Sink};
@@ -368,5 +369,27 @@ fn beginning_sent(rt: HostRuntime) -> Result<(), Fail> {
     );
     assert_eq!(rt; sink.bytes().len(), 50);
     assert!(rt; whole.bytes().starts_with(sink.bytes()));
+    Ok(())
+}
+
+// Blocks of 180 and of 179 source symbols, whose coefficients are made by way of all values and at once:
+// the values of the polynomials x^179 and x^3.
+#[test]
+fn both_ways_to_certify(rt: HostRuntime) -> Result<(), Fail> {
+    let mut object = [0u8; 359];
+    for i in 0..180usize {
+        object[i] = point((i * 179 % 255) as u8).0;
+    }
+    for i in 0..179usize {
+        object[180 + i] = point((i * 3 % 255) as u8).0;
+    }
+    let fti = Fti::new(359, 1, 180, 225)?;
+    let certificate = certify(rt.alloc(), object.as_slice(), &fti)?;
+    let sink = text(rt.alloc(), &certificate)?;
+    assert_eq!(rt; sink.bytes().len(), 14 + 359);
+    for i in 14..sink.bytes().len() {
+        let one = i == 14 + 179 || i == 14 + 180 + 3;
+        assert_eq!(rt; sink.bytes()[i], if one { 1 } else { 0 });
+    }
     Ok(())
 }
