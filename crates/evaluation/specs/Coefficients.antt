@@ -1,5 +1,5 @@
 -- Coefficients that are told by the values at all 255 points.
-use Rattle.std.specs.Prelude.{◌≡◌, ◌<◌, ◌+◌, ◌-◌, ◌*◌, ℕ, List, slice_index}
+use Rattle.std.specs.Prelude.{◌≡◌, ◌<◌, ◌+◌, ◌*◌, ℕ, List, slice_index}
 use Rattle.gf256.specs.Arithmetic.{point}
 use Rattle.poly.specs.Polynomial.{value, IsPolynomial}
 use Rattle.evaluation.specs.Columns.{IsColumn}
@@ -12,8 +12,3 @@ HasValues p values width c = (i : ℕ) → i < 255 → slice_index values (i * w
 abbrev pub AreCoefficients : List ℕ → ℕ → ℕ → List ℕ → Type 0
 AreCoefficients values width k rows =
     (c : ℕ) (p : List ℕ) → c < width → IsPolynomial k p → HasValues p values width c → IsColumn rows k width c p
-
--- k rows, the last one first
-abbrev pub AreReversed : List ℕ → ℕ → ℕ → List ℕ → Type 0
-AreReversed rows k width reversed =
-    (j c : ℕ) → j < k → c < width → slice_index reversed (j * width + c) ≡ slice_index rows ((k - 1 - j) * width + c)

@@ -1,5 +1,5 @@
 -- Polynomials in parts, and the sums that make their values.
-use Rattle.std.specs.Prelude.{◌≡◌, ◌<◌, ◌+◌, ◌*◌, ℕ, List, slice_index}
+use Rattle.std.specs.Prelude.{◌≡◌, ◌<◌, ◌+◌, ◌-◌, ◌*◌, ℕ, List, slice_index}
 use Rattle.gf256.specs.Arithmetic.{product, alpha_to}
 use Rattle.gf256.specs.ByteSums.{byte_sum}
 
@@ -32,3 +32,8 @@ AreParts coefficients width first sums =
 abbrev pub IsPart : List ℕ → ℕ → ℕ → ℕ → List ℕ → Type 0
 IsPart coefficients width first v rows =
     (w c : ℕ) → w < 17 → c < width → slice_index rows (w * width + c) ≡ part (coefficient coefficients width c) 15 17 v (first + w)
+
+-- k rows, the last one first
+abbrev pub AreReversed : List ℕ → ℕ → ℕ → List ℕ → Type 0
+AreReversed rows k width reversed =
+    (j c : ℕ) → j < k → c < width → slice_index reversed (j * width + c) ≡ slice_index rows ((k - 1 - j) * width + c)

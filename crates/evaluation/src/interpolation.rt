@@ -1,6 +1,7 @@
 //! The coefficients, by the values at all 255 points.
 ghost use Rattle.std.specs.Prelude.{◌≡◌, ◌<◌, ◌≤◌, ◌*◌, length};
-ghost use Rattle.evaluation.specs.Coefficients.{AreCoefficients, AreReversed};
+ghost use Rattle.evaluation.specs.Coefficients.{AreCoefficients};
+ghost use Rattle.evaluation.specs.Parts.{AreReversed};
 
 use crate::levels::evaluate;
 
