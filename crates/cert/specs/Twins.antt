@@ -14,7 +14,7 @@ use Rattle.cert.specs.Certificate.{Certificate}
 use Rattle.reception.specs.Reception.{ReadAll, counted, symbols}
 use Rattle.cert.specs.Verdict.{IsVerdict}
 
--- the different ESIs among these, rising
+-- the different ESIs among these, rising; 255, which no block has, is none
 abbrev pub different_esis : List ℕ → List ℕ
 different_esis arrived_esis = filter (is_among arrived_esis) (below 255)
 

@@ -251,6 +251,7 @@ impl Certificate {
         // All that was left is the certificate's text.
         ensures ok { IfOk result (λ z.
             IfSome (R.remaining reader.old) (λ x. x ≡ certificate_text z)) }
+        ensures certificate { IfOk result IsCertificate }
         ensures end { OnOk result (IsAtEnd (R.remaining reader.new)) }
         ensures fault { IfErr result (λ e.
             IsCertFault e (R.remaining reader.old) (R.failed reader.new)) }

@@ -1,6 +1,6 @@
 -- Rows of coefficients, block after block, and the certificate that they are in the end.
 use Rattle.std.specs.Prelude.{Result, Ok, Err, OnOk, OnErr}
-use Rattle.std.proofs.Common.{◌≡◌, ℕ, ◌+◌, ◌-◌, ◌*◌, List, [], ◌++◌, Option, Some, length, get_or, refl, sym, ap, subst, ◌∙◌, arith, inl, inr, append_assoc, length-append}
+use Rattle.std.proofs.Common.{◌≡◌, ◌<◌, ◌≤◌, ℕ, ◌+◌, ◌-◌, ◌*◌, List, [], ◌++◌, Option, Some, length, get_or, refl, sym, ap, subst, ◌∙◌, arith, inl, inr, append_assoc, length-append}
 use Rattle.std.proofs.lemmas.Bool.{cases_eq}
 use Rattle.std.proofs.lemmas.List.{append-nil, take_all, get_or_append_left, get_or-append_right}
 use Rattle.std.specs.Io.KnownBytes.{Appends}
@@ -99,9 +99,10 @@ module _ (object : List ℕ) (f : Fti) where
       }
 
       -- or a beginning of it
-      pub block_begun : BeginsBlock object f n b c → BeginsRows object f [] a c
-      block_begun some = record {
+      pub block_begun : n < block_count f → BeginsBlock object f n b c → BeginsRows object f [] a c
+      block_begun less some = record {
         blocks = n + 1;
+        inside = omega (arith, less);
         rows = done.rows ++ some.rows;
         first = next_rows n done.rows some.rows done.first some.are.count some.are.bytes some.are.gives;
         gained = then_some a b c done.rows some.rows done.gained some.gained;
@@ -111,15 +112,16 @@ module _ (object : List ℕ) (f : Fti) where
   none_written a = record { rows = []; first = no_rows; gained = appends_none a }
 
   pub behind_head : (head : List ℕ) (a b c : Option (List ℕ)) → Appends a b head → BeginsRows object f [] b c → BeginsRows object f head a c
-  behind_head head a b c p q = record { blocks = q.blocks; rows = q.rows; first = q.first; gained = then_some a b c head q.rows p q.gained }
+  behind_head head a b c p q = record { blocks = q.blocks; inside = q.inside; rows = q.rows; first = q.first; gained = then_some a b c head q.rows p q.gained }
 
   pub head_begun : (head : List ℕ) (a b : Option (List ℕ)) → AppendsSome a b head → BeginsRows object f head a b
-  head_begun head a b some = record { blocks = 0; rows = []; first = no_rows; gained = front_some a b head [] some }
+  head_begun head a b some = record { blocks = 0; inside = omega arith; rows = []; first = no_rows; gained = front_some a b head [] some }
 
 -- all of the first rows were written
-pub rows_begun : (object : List ℕ) (f : Fti) (n : ℕ) (a b : Option (List ℕ)) → WritesRows object f n a b → BeginsRows object f [] a b
-rows_begun object f n a b done = record {
+pub rows_begun : (object : List ℕ) (f : Fti) (n : ℕ) (a b : Option (List ℕ)) → n ≤ block_count f → WritesRows object f n a b → BeginsRows object f [] a b
+rows_begun object f n a b inside done = record {
   blocks = n;
+  inside = inside;
   rows = done.rows;
   first = done.first;
   gained = (length done.rows, rw (take_all (length done.rows) done.rows (omega arith)) done.gained);

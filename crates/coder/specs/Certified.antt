@@ -2,7 +2,7 @@
 use Rattle.std.specs.Prelude.{◌≡◌, ◌≢◌, ◌⊎◌, ℕ, ◌<◌, ◌≤◌, ◌*◌, ◌^◌, Bool, true, List, ◌++◌, length, Option, Some, None}
 use Rattle.std.specs.Io.KnownBytes.{Appends}
 use Rattle.lists.specs.Bytes.{AreBytes}
-use Rattle.partition.specs.Fti.{Fti, start_of}
+use Rattle.partition.specs.Fti.{Fti, block_count, start_of}
 use Rattle.alc.specs.Reading.{Reading}
 use Rattle.reception.specs.declared.scope.Identity.{Identity}
 use Rattle.reception.specs.Reception.{ReadAll}
@@ -54,9 +54,10 @@ pub record AreFirstRows (object : List ℕ) (f : Fti) (n : ℕ) (rows : List ℕ
   pub bytes : AreBytes rows
   pub gives : (b : ℕ) (later : List ℕ) → b < n → GivesBlock object (unnamed f (rows ++ later)) b
 
--- a beginning of the rows of some blocks was written, and what stands before them
+-- a beginning of the rows of the first blocks was written, and what stands before them
 pub record BeginsRows (object : List ℕ) (f : Fti) (head : List ℕ) (old new : Option (List ℕ)) : Type 0 where
   pub blocks : ℕ
+  pub inside : blocks ≤ block_count f
   pub rows : List ℕ
   pub first : AreFirstRows object f blocks rows
   pub gained : AppendsSome old new (head ++ rows)

@@ -5,11 +5,12 @@ use Rattle.partition.specs.Fti.{Fti}
 use Rattle.reception.specs.declared.scope.Identity.{Identity}
 use Rattle.alc.specs.Reading.{Reading}
 use Rattle.reception.specs.Symbols.{FitsOnly}
-use Rattle.reception.specs.Reception.{ReadAll}
+use Rattle.reception.specs.Reception.{ReadAll, asked}
 use Rattle.reception.specs.Walks.{readings_of}
 use Rattle.reception.specs.Answer as value
-use Rattle.reception.specs.Answer.{IsAnswer, AnswerTo, reception_of}
+use Rattle.reception.specs.Answer.{IsAnswer, AnswerTo, reception_of, clash}
 use Rattle.reception.proofs.OneAnswer.{same_readings}
+use Rattle.reception.proofs.Within.{within}
 use Rattle.decoder.specs.Answers.{answer_value}
 use Rattle.decoder.specs.Decoded.{Answers}
 use Rattle.decoder.specs.Received.{AreReceived}
@@ -27,7 +28,14 @@ module _ (who : Identity) (ds : List (List ℕ)) (f : Fti) (at : ℕ → ℕ →
 
   pub gathered_of : (g : Gathered) → Gathers f at g → IsGathered who ds g
   gathered_of (gathered.Answer a) h = (answer_of (answer_value a) h.0, h.1)
-  gathered_of (gathered.Symbols s) h = record { read = read; received = rw (h.0, h.1) received; enough = h.2 }
+  gathered_of (gathered.Symbols s) h = (
+    record { read = read; received = rw (h.0, h.1) received; enough = h.2 },
+    record {
+      fti = f;
+      known = received.clean.some;
+      full = h.3 (reception_of who (readings_of ds)).symbols received.index (within clash (asked who) (readings_of ds) f received.clean);
+    },
+  )
 
   pub unwritten_of : (failed : Bool) (e : WriteFault) → IsUnsaved f at failed e → IsUnwritten who ds failed e
   unwritten_of failed (NotCode b) h = answer_of (value.NotCode b) h

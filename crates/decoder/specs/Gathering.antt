@@ -4,6 +4,7 @@ use Rattle.reception.specs.declared.scope.Identity.{Identity}
 use Rattle.reception.specs.Answer as value
 use Rattle.reception.specs.Answer.{IsAnswer}
 use Rattle.decoder.specs.Answers.{answer_value}
+use Rattle.decoder.specs.Receiving.{LeaveNoneShort}
 use Rattle.decoder.specs.SymbolsOf.{AreSymbolsOf}
 use Rattle.decoder.specs.declared.answer.Answer.{Answer}
 use Rattle.decoder.specs.declared.answer.Answer.TheVariants.{Object}
@@ -17,10 +18,10 @@ abbrev pub IsNoObject : Answer → Type 0
 IsNoObject (Object object) = ⊥
 IsNoObject answer = Unit {0}
 
--- the answer to the datagrams, which is no object; or the symbols that they have of one
+-- the answer to the datagrams, which is no object; or the symbols that they have of one, and then no block is short
 abbrev pub IsGathered : Identity → List (List ℕ) → Gathered → Type 0
 IsGathered who datagrams (gathered.Answer answer) = IsAnswer who datagrams (answer_value answer) × IsNoObject answer
-IsGathered who datagrams (gathered.Symbols symbols) = AreSymbolsOf who datagrams symbols
+IsGathered who datagrams (gathered.Symbols symbols) = AreSymbolsOf who datagrams symbols × LeaveNoneShort who datagrams
 
 -- why the object that datagrams have symbols of wasn't written, by whether the writer has failed
 abbrev pub IsUnwritten : Identity → List (List ℕ) → Bool → WriteFault → Type 0

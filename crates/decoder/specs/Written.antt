@@ -1,9 +1,11 @@
 -- What writing an object block by block has made of the symbols that stand so.
 use Rattle.std.specs.Prelude.{◌≡◌, ℕ, Bool, true, List, length, Option}
+use Rattle.std.specs.List.{AllByRecursion}
 use Rattle.std.specs.Io.KnownBytes.{Appends}
 use Rattle.session.specs.Frames.{AppendsSome}
 use Rattle.partition.specs.Fti.{Fti}
-use Rattle.reception.specs.Symbols.{Symbol, FitsOnly}
+use Rattle.reception.specs.Symbols.{Symbol, AllFull, FitsOnly}
+use Rattle.reception.specs.Within.{IsWithin}
 use Rattle.reception.specs.Answer as value
 use Rattle.decoder.specs.Answers.{answer_value}
 use Rattle.decoder.specs.Decoded.{Answers}
@@ -15,10 +17,14 @@ use Rattle.decoder.specs.declared.gathering.Gathered.TheVariants as gathered
 use Rattle.decoder.specs.declared.gathering.WriteFault.{WriteFault}
 use Rattle.decoder.specs.declared.gathering.WriteFault.TheVariants.{NotCode, Io, NoMemory}
 
+-- they leave no block short
+abbrev pub AreFull : Fti → (ℕ → ℕ → Option (List ℕ)) → Type 0
+AreFull f at = (arrivals : List Symbol) → IsIndex arrivals at → AllByRecursion (IsWithin f) arrivals → AllFull f arrivals
+
 -- the answer to the symbols that stand so, which is no object; or these symbols, of which each block has enough
 abbrev pub Gathers : Fti → (ℕ → ℕ → Option (List ℕ)) → Gathered → Type 0
 Gathers f at (gathered.Answer answer) = Answers f at (answer_value answer) × IsNoObject answer
-Gathers f at (gathered.Symbols s) = (s.received.fti ≡ f) × (bytes_at s.received.symbols ≡ at) × AreEnough s
+Gathers f at (gathered.Symbols s) = (s.received.fti ≡ f) × (bytes_at s.received.symbols ≡ at) × AreEnough s × AreFull f at
 
 -- their object was written, of the FTI's transfer length
 pub record WritesObject (f : Fti) (at : ℕ → ℕ → Option (List ℕ)) (before after : Option (List ℕ)) : Type 0 where

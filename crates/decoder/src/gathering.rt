@@ -11,7 +11,7 @@ ghost use Rattle.decoder.specs.Received.{bytes_at};
 ghost use Rattle.decoder.specs.Receiving.{IsWrittenOf};
 ghost use Rattle.decoder.specs.SymbolsOf.{AreSymbolsOf, AreGathered};
 ghost use Rattle.decoder.specs.Gathering.{IsGathered, IsUnwritten};
-ghost use Rattle.decoder.specs.Written.{Gathers, WritesObject, BeginsObject, IsUnsaved};
+ghost use Rattle.decoder.specs.Written.{AreFull, Gathers, WritesObject, BeginsObject, IsUnsaved};
 
 use crate::answer::{Answer, DecodeFault};
 use crate::blocks::received_rows;
@@ -102,6 +102,7 @@ fn enough<'a>(
     requires within { AreWithin received.fti (bytes_at received.symbols) }
     requires enough { (b : ℕ) → b < block_count received.fti
         → IsEnoughAt received.fti b (bytes_at received.symbols b) }
+    requires full { AreFull received.fti (bytes_at received.symbols) }
     ensures { IfOk result (Gathers received.entry.fti (bytes_at received.entry.symbols)) }
 {
     if has_unsolvable(alloc, &received, &codes)? {

@@ -153,6 +153,8 @@ module _ (turns : Bool) (old new : List (Option (List ℕ))) (before now : Optio
   pub no_memory : (sound failed : List Bool) (writer_failed : Bool) → IsUnjoined turns NoMemory old sound failed before now room writer_failed
   no_memory sound failed writer_failed = record {
     lists = lists;
+    many = has.many;
+    each = has.each;
     begins = begun;
     some = all_some before now (frames (joined turns lists)) has.written.gained;
     because = inr (inr refl);
@@ -163,6 +165,8 @@ module _ (turns : Bool) (old new : List (Option (List ℕ))) (before now : Optio
       → IsUnjoined turns fault old sound failed before after room writer_failed
   unread fault p sound failed left after writer_failed why l = record {
     lists = lists;
+    many = has.many;
+    each = has.each;
     begins = begun;
     some = subst (λ (a : Option (List ℕ)). AppendsSome before a (frames (joined turns lists))) (sym why.same) (all_some before now (frames (joined turns lists)) has.written.gained);
     because = inl (record {
@@ -187,6 +191,8 @@ module _ (turns : Bool) (old new : List (Option (List ℕ))) (before now : Optio
       let beyond : room < length (frames (joined turns lists) ++ frame d) = omega (arith, size, fits, full) in
       record {
         lists = gaining p d;
+        many = length-set lists p ds ∙ has.many;
+        each = each_set (λ i ds. AreShort ds) lists p ds [] l (short_more (get_or lists p []) d (has.each p) why.short) (λ i n. has.each i);
         begins = λ i. begins (get_or old i None) (get_or (set new p left) i None) (frames (get_or (gaining p d) i [])) (consumed_set p left ds l m one i);
         some = subst (λ bytes. AppendsSome before after bytes) (sym whole) (then_some before now after (frames (joined turns lists)) (frame d) has.written.gained why.some);
         because = inr (inl (why.io, why.fails, subst (λ bytes. room < length bytes) (sym whole) beyond));

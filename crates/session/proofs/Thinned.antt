@@ -14,7 +14,7 @@ use Rattle.lists.specs.Selection.{rest, rest_from, is_among, first_outside}
 use Rattle.session.specs.Frames.{frame, frames, most_bytes, AreShort, IsNoFrame, StopsAt, IsReadFault}
 use Rattle.session.specs.declared.frame.FrameFault.{FrameFault}
 use Rattle.session.specs.declared.frame.FrameFault.TheVariants as fault
-use Rattle.session.specs.Thinning.{frames_left, IsReadUp, IsThinned, IsReadWithout, WritesSome, HasNoRoom, IsUnthinned}
+use Rattle.session.specs.Thinning.{frames_left, IsReadTo, IsReadUp, IsThinned, IsReadWithout, WritesSome, HasNoRoom, IsUnthinned}
 use Rattle.session.specs.ThinningSteps.{IsSetOf, HasCopied}
 use Rattle.session.proofs.Sessions.{frames_push}
 
@@ -69,7 +69,8 @@ rest_push {X = X} lost xs x n v many e =
     let z : 0 + length xs ≡ n = omega (arith, many) in
     left_suc lost 0 xs x ∙ ap (λ (k : ℕ). rest lost xs ++ cond {A = List X} (lost k) [] (x ∷ [])) z ∙ ap (λ (w : Bool). rest lost xs ++ cond {A = List X} w [] (x ∷ [])) e
 
-short_push : (ds : List (List ℕ)) (d : List ℕ) → AreShort ds → length d ≤ most_bytes → AreShort (ds ++ d ∷ [])
+-- one more datagram
+pub short_push : (ds : List (List ℕ)) (d : List ℕ) → AreShort ds → length d ≤ most_bytes → AreShort (ds ++ d ∷ [])
 short_push [] d each l zero = l
 short_push [] d each l (suc i) = omega arith
 short_push (x ∷ xs) d each l zero = each 0
@@ -115,7 +116,7 @@ module _ (places : List ℕ) (a mid b m : Option (List ℕ)) (room room_now n k 
   pub some : WritesSome places a b m
   some =
       let left = frames_left places h.datagrams in
-      (h.datagrams, mid, h.consumed, (length left, subst (λ (x : List ℕ). Appends b m x) (sym (take_all (length left) left (omega arith))) h.gained))
+      (h.datagrams, mid, record { consumed = h.consumed; each = h.each }, (length left, subst (λ (x : List ℕ). Appends b m x) (sym (take_all (length left) left (omega arith))) h.gained))
 
   -- the reader has ended
   read_up : IsAtEnd mid → IsReadUp a mid h.datagrams
@@ -152,6 +153,9 @@ module _ (places : List ℕ) (a mid b m : Option (List ℕ)) (room room_now n k 
 
     read_on : Consumes a next (frames more)
     read_on = subst (λ (x : List ℕ). Consumes a next x) (sym (frames_push h.datagrams d)) (then_consumes a mid next (frames h.datagrams) (frame d) h.consumed one)
+
+    read_to : length d ≤ most_bytes → IsReadTo a next more
+    read_to short = record { consumed = read_on; each = short_push h.datagrams d h.each short }
 
     counted : length more ≡ n + 1
     counted = let l = length-append h.datagrams (d ∷ []) in omega (arith, l, h.many)
@@ -196,9 +200,9 @@ module _ (places : List ℕ) (a mid b m : Option (List ℕ)) (room room_now n k 
       }
 
       -- a beginning of it was
-      pub unwritten : (m2 : Option (List ℕ)) → AppendsSome m m2 (frame d) → WritesSome places a b m2
-      unwritten m2 begun =
-          (more, next, read_on, subst (λ (x : List ℕ). AppendsSome b m2 x) (sym bytes_left) (then_some b m m2 (frames_left places h.datagrams) (frame d) h.gained begun))
+      pub unwritten : (m2 : Option (List ℕ)) → length d ≤ most_bytes → AppendsSome m m2 (frame d) → WritesSome places a b m2
+      unwritten m2 short begun =
+          (more, next, read_to short, subst (λ (x : List ℕ). AppendsSome b m2 x) (sym bytes_left) (then_some b m m2 (frames_left places h.datagrams) (frame d) h.gained begun))
 
-      pub no_room : room_now < length (frame d) → HasNoRoom places a room
-      no_room full = (more, next, read_on, omega (arith, size_left, full, h.fits))
+      pub no_room : length d ≤ most_bytes → room_now < length (frame d) → HasNoRoom places a room
+      no_room short full = (more, next, read_to short, omega (arith, size_left, full, h.fits))

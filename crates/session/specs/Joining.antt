@@ -32,6 +32,8 @@ pub record BlamesReader (fault : FrameFault) (old : List (Option (List ℕ))) (s
 -- beginning of the frames of what was read, joined, was written.
 pub record IsUnjoined (turns : Bool) (fault : FrameFault) (old : List (Option (List ℕ))) (sound failed : List Bool) (before after : Option (List ℕ)) (room : ℕ) (writer_failed : Bool) : Type 0 where
   pub lists : List (List (List ℕ))
+  pub many : length lists ≡ length old
+  pub each : (i : ℕ) → AreShort (slice_index_or lists i [])
   pub begins : (i : ℕ) → IfSome (slice_index_or old i None) (λ x. (rest : List ℕ) × (x ≡ frames (slice_index_or lists i []) ++ rest))
   pub some : AppendsSome before after (frames (joined turns lists))
   pub because : BlamesReader fault old sound failed ⊎ ((fault ≡ Io) × (writer_failed ≡ true) × (room < length (frames (joined turns lists)))) ⊎ (fault ≡ NoMemory)

@@ -25,21 +25,26 @@ pub record IsThinned (places : List ℕ) (old new before after : Option (List �
   pub written : Appends before after (frames_left places datagrams)
   pub counted : count ≡ length (rest (is_among places) datagrams)
 
--- they were read, and haven't this place; no place before it is told
+-- they were read, and haven't this place, the first of the places that they haven't
 abbrev pub IsReadWithout : List ℕ → Option (List ℕ) → Option (List ℕ) → ℕ → Type 0
 IsReadWithout places old new place =
     (datagrams : List (List ℕ)) × IsReadUp old new datagrams × (first_outside (length datagrams) places ≡ Some place)
 
+-- these datagrams' frames were read
+pub record IsReadTo (old left : Option (List ℕ)) (datagrams : List (List ℕ)) : Type 0 where
+  pub consumed : Consumes old left (frames datagrams)
+  pub each : AreShort datagrams
+
 -- some datagrams were read, and a beginning of what is left of them written
 abbrev pub WritesSome : List ℕ → Option (List ℕ) → Option (List ℕ) → Option (List ℕ) → Type 0
 WritesSome places old before after =
-    (datagrams : List (List ℕ)) × (left : Option (List ℕ)) × Consumes old left (frames datagrams)
+    (datagrams : List (List ℕ)) × (left : Option (List ℕ)) × IsReadTo old left datagrams
     × AppendsSome before after (frames_left places datagrams)
 
 -- the writer had no room for what is left of some datagrams that were read
 abbrev pub HasNoRoom : List ℕ → Option (List ℕ) → ℕ → Type 0
 HasNoRoom places old room =
-    (datagrams : List (List ℕ)) × (left : Option (List ℕ)) × Consumes old left (frames datagrams)
+    (datagrams : List (List ℕ)) × (left : Option (List ℕ)) × IsReadTo old left datagrams
     × (room < length (frames_left places datagrams))
 
 -- Why not all was read and written: the reader's bytes, or that it isn't sound and has failed; the writer has failed, which

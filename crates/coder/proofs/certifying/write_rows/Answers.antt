@@ -12,7 +12,8 @@ loop-b-init g c = record { written = none_written c.args.object.now c.args.fti.n
 pub returns-in_err-write_block-clause-err : goal.returns-in_err-write_block-clause-err
 returns-in_err-write_block-clause-err g c =
     let object = c.args.object.now in
-    on_err _ (block_begun object c.args.fti.now c.block_count-b-end.ensures.valid c.loop-b.b _ _ _ c.loop-b.invariant.written
+    let inside : c.loop-b.b < block_count c.args.fti.now = omega (arith, c.loop-b-test.true, c.block_count-b-end.ensures.value) in
+    on_err _ (block_begun object c.args.fti.now c.block_count-b-end.ensures.valid c.loop-b.b _ _ _ c.loop-b.invariant.written inside
     (c.in_err-write_block.ensures.err object (bytes_fit object c.type_inv.object) c.block_of.ensures))
 
 pub returns-in_err-write_block-clause-full : goal.returns-in_err-write_block-clause-full

@@ -1,3 +1,4 @@
+use Rattle.std.proofs.Common.{arith}
 use Rattle.partition.specs.Fti.{block_count}
 use Rattle.cert.proofs.DatagramSteps.{passed_on}
 use Rattle.coder.specs.declared.certifying_from.CertifyFromFault.TheVariants.{Object, Write}
@@ -28,7 +29,7 @@ returns-in_err-read_end-clause-fault g c =
     passed_on c.from_residual-in_err-read_end.result (Object e) _ c.from_residual-in_err-read_end.ensures.1 (
       end_fault f c.requires.valid _ _ _ c.in_ok-write_rows.ensures.ok e _ _ _ c.in_err-read_end.ensures.more c.in_err-read_end.ensures.io c.in_ok-write_rows.ensures.stays,
       so_far f c.requires.valid (block_count f) _ _ _ c.in_ok-write_rows.ensures.ok _
-          (λ object done. behind_head object f _ _ _ _ c.in_ok-write_head.ensures.ok (rows_begun object f (block_count f) _ _ done)),
+          (λ object done. behind_head object f _ _ _ _ c.in_ok-write_head.ensures.ok (rows_begun object f (block_count f) _ _ (omega arith) done)),
     )
 
 pub returns-clause-certified : goal.returns-clause-certified

@@ -28,7 +28,8 @@ slice_bounds-block-end-in-loop-b g c =
 pub returns-in_err-read_block-clause-err : goal.returns-in_err-read_block-clause-err
 returns-in_err-read_block-clause-err g c =
     let f = c.args.fti.now in
-    on_err _ (so_far f c.block_count-b-end.ensures.valid c.loop-b.b _ _ _ c.loop-b.invariant.read _ (λ object done. rows_begun object f c.loop-b.b _ _ done))
+    let inside : c.loop-b.b ≤ block_count f = omega (arith, c.loop-b-test.true, c.block_count-b-end.ensures.value) in
+    on_err _ (so_far f c.block_count-b-end.ensures.valid c.loop-b.b _ _ _ c.loop-b.invariant.read _ (λ object done. rows_begun object f c.loop-b.b _ _ inside done))
 
 pub returns-in_err-read_block-clause-fault : goal.returns-in_err-read_block-clause-fault
 returns-in_err-read_block-clause-fault g c =
@@ -49,7 +50,7 @@ returns-in_err-write_block-clause-err g c =
     let room : c.block_bytes.result ≤ length c.loop-b.sources = omega (arith, c.block_bytes.ensures, rows_of_block f valid c.loop-b.b, c.requires.sources, c.loop-b.auto.sources) in
     let long : length c.read_block.new.bytes ≡ block_bytes f c.loop-b.b = c.in_ok-read_block.ensures.len ∙ length-take-le c.block_bytes.result c.loop-b.sources room ∙ c.block_bytes.ensures in
     on_err _ (some_read f valid c.loop-b.b _ _ _ c.loop-b.invariant.read inside _ c.read_block.new.bytes long c.in_ok-read_block.ensures.bytes c.in_ok-read_block.ensures.read _
-    (λ object bytes are done. block_begun object f valid c.loop-b.b _ _ _ done (c.in_err-write_block.ensures.err object bytes are)))
+    (λ object bytes are done. block_begun object f valid c.loop-b.b _ _ _ done inside (c.in_err-write_block.ensures.err object bytes are)))
 
 pub returns-in_err-write_block-clause-full : goal.returns-in_err-write_block-clause-full
 returns-in_err-write_block-clause-full g c =

@@ -8,6 +8,9 @@ short_answer-requires-clause-within c = are_within c.args.received.fti (bytes_at
 pub enough-requires-clause-within : goal.enough-requires-clause-within
 enough-requires-clause-within c = are_within c.args.received.fti (bytes_at c.args.received.symbols) c.requires
 
+pub enough-requires-clause-full : goal.enough-requires-clause-full
+enough-requires-clause-full c = λ arrivals index within. rw c.in-None.is at (c.first_short.ensures.full arrivals index within)
+
 pub enough-requires-clause-enough : goal.enough-requires-clause-enough
 enough-requires-clause-enough c =
     let s = c.requires in

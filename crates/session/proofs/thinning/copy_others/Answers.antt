@@ -36,17 +36,19 @@ returns-in_err-write_one-clause-fault g c = λ places set.
     let p = err_from_is_err_and c.from_residual-in_err-write_one.result c.from_residual-in_err-write_one.ensures.1 in
     let one = rw c.in-Some.is at c.in_ok-datagram.ensures.some in
     let stays = sym (set c.loop-datagram.counts.read) ∙ sym c.contains.ensures ∙ c.if-not-contains.true in
+    let short = rw c.in-Some.is at c.in_ok-datagram.ensures.short in
     let full = rw c.as_slice.ensures.value at c.in_err-write_one.ensures.full in
     rw (p.1, p.2, c.in_err-write_one.ensures.io.0)
-    (inr (c.in_err-write_one.ensures.io.1, no_room places _ _ _ _ _ _ _ _ (c.loop-datagram.invariant.copied places set) _ c.in-Some.datagram.items one stays full))
+    (inr (c.in_err-write_one.ensures.io.1, no_room places _ _ _ _ _ _ _ _ (c.loop-datagram.invariant.copied places set) _ c.in-Some.datagram.items one stays short full))
 
 pub returns-in_err-write_one-clause-some : goal.returns-in_err-write_one-clause-some
 returns-in_err-write_one-clause-some g c = λ places set.
     let p = err_from_is_err_and c.from_residual-in_err-write_one.result c.from_residual-in_err-write_one.ensures.1 in
     let one = rw c.in-Some.is at c.in_ok-datagram.ensures.some in
     let stays = sym (set c.loop-datagram.counts.read) ∙ sym c.contains.ensures ∙ c.if-not-contains.true in
+    let short = rw c.in-Some.is at c.in_ok-datagram.ensures.short in
     let begun = rw c.as_slice.ensures.value at c.in_err-write_one.ensures.err in
-    rw p.1 (unwritten places _ _ _ _ _ _ _ _ (c.loop-datagram.invariant.copied places set) _ c.in-Some.datagram.items one stays _ begun)
+    rw p.1 (unwritten places _ _ _ _ _ _ _ _ (c.loop-datagram.invariant.copied places set) _ c.in-Some.datagram.items one stays _ short begun)
 
 pub overflow_add-counts : goal.overflow_add-counts
 overflow_add-counts g c =
