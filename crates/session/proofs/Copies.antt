@@ -1,18 +1,18 @@
 -- Frames that are copied, one more.
-use Rattle.std.proofs.Common.{◌≡◌, ◌<◌, ◌≤◌, ◌+◌, ℕ, zero, suc, Bool, false, List, [], ◌∷◌, ◌++◌, Option, length, get_or, set, refl, sym, ap, ◌∙◌, arith, append_assoc, inl, inr, subst}
+use Rattle.std.proofs.Common.{◌≡◌, ◌<◌, ◌+◌, ℕ, Bool, false, List, [], ◌∷◌, ◌++◌, Option, length, get_or, set, refl, sym, ap, ◌∙◌, arith, append_assoc, inl, inr, subst}
 use Rattle.std.specs.Prelude.{Some, None, IfSome}
 use Rattle.std.proofs.lemmas.List.{append-nil, length-append, length-set, length_push, take_all, get_or-set_same, get_or-set_other}
 use Rattle.std.specs.Io.KnownBytes.{Appends, Consumes}
 use Rattle.streams.proofs.Writes.{then_appends, then_some}
 use Rattle.streams.specs.Pieces.{AppendsSome}
-use Rattle.session.specs.Frames.{frame, frames, most_bytes, AreShort, IsNoFrame, IsReadFault, IsSessionFault, StopsAt}
+use Rattle.session.specs.Frames.{frame, frames, AreShort, IsNoFrame, IsReadFault, IsSessionFault, StopsAt}
 use Rattle.session.specs.Joined.{joined}
 use Rattle.session.specs.Joining.{IsUnjoined}
 use Rattle.session.specs.Copying.{HasJoined, IsCopied, IsOver, IsUnread, IsUnwritten, IsWritten}
 use Rattle.session.specs.declared.frame.FrameFault.{FrameFault}
 use Rattle.session.specs.declared.frame.FrameFault.TheVariants.{CutLength, CutDatagram, TooLong, Io, NoMemory, NoSuchPlace}
 use Rattle.session.proofs.Joins.{each_set, same_or_not}
-use Rattle.session.proofs.Sessions.{frames_push}
+use Rattle.session.proofs.Sessions.{frames_push, short_push}
 
 nothing_more : (a : Option (List ℕ)) → Appends a a []
 nothing_more None = tt
@@ -39,12 +39,6 @@ begins (Some a) (Some b) xs p = (b, p)
 -- all that was written is a beginning of it
 all_some : (a b : Option (List ℕ)) (xs : List ℕ) → Appends a b xs → AppendsSome a b xs
 all_some a b xs p = (length xs, subst (λ (l : List ℕ). Appends a b l) (sym (take_all (length xs) xs (omega arith))) p)
-
-short_more : (ds : List (List ℕ)) (d : List ℕ) → AreShort ds → length d ≤ most_bytes → AreShort (ds ++ d ∷ [])
-short_more [] d h l zero = l
-short_more [] d h l (suc i) = omega arith
-short_more (x ∷ xs) d h l zero = h 0
-short_more (x ∷ xs) d h l (suc i) = short_more xs d (λ j. h (suc j)) l i
 
 -- a fault of a reader behind the frames that it gave
 stops_at : (fault : FrameFault) (a b : Option (List ℕ)) (ds : List (List ℕ)) → Consumes a b (frames ds) → AreShort ds
@@ -118,7 +112,7 @@ module _ (turns : Bool) (old new : List (Option (List ℕ))) (before now : Optio
         many = length-set lists p (get_or lists p [] ++ d ∷ []) ∙ has.many;
         consumed = consumed_set p left (get_or lists p [] ++ d ∷ []) l m
             (consumes_more (get_or old p None) (get_or new p None) left (get_or lists p []) d (has.consumed p) one.consumed);
-        each = each_set (λ i ds. AreShort ds) lists p (get_or lists p [] ++ d ∷ []) [] l (short_more (get_or lists p []) d (has.each p) one.short) (λ i n. has.each i);
+        each = each_set (λ i ds. AreShort ds) lists p (get_or lists p [] ++ d ∷ []) [] l (short_push (get_or lists p []) d (has.each p) one.short) (λ i n. has.each i);
         written = subst (λ bytes. IsWritten before after room room_then bytes) (sym whole) (record {
           gained = then_appends before now after (frames (joined turns lists)) (frame d) has.written.gained one.written.gained;
           fits = omega (arith, size, fits_before, fits_one);
@@ -192,7 +186,7 @@ module _ (turns : Bool) (old new : List (Option (List ℕ))) (before now : Optio
       record {
         lists = gaining p d;
         many = length-set lists p ds ∙ has.many;
-        each = each_set (λ i ds. AreShort ds) lists p ds [] l (short_more (get_or lists p []) d (has.each p) why.short) (λ i n. has.each i);
+        each = each_set (λ i ds. AreShort ds) lists p ds [] l (short_push (get_or lists p []) d (has.each p) why.short) (λ i n. has.each i);
         begins = λ i. begins (get_or old i None) (get_or (set new p left) i None) (frames (get_or (gaining p d) i [])) (consumed_set p left ds l m one i);
         some = subst (λ bytes. AppendsSome before after bytes) (sym whole) (then_some before now after (frames (joined turns lists)) (frame d) has.written.gained why.some);
         because = inr (inl (why.io, why.fails, subst (λ bytes. room < length bytes) (sym whole) beyond));

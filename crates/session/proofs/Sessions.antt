@@ -6,7 +6,7 @@ use Rattle.std.proofs.Math.Seq.{drop-cons}
 use Rattle.std.specs.Io.KnownBytes.{Appends}
 use Rattle.streams.proofs.Writes.{then_some, front_some}
 use Rattle.streams.specs.Pieces.{AppendsSome}
-use Rattle.session.specs.Frames.{frame, frames, IsDatagram, AreDatagrams}
+use Rattle.session.specs.Frames.{frame, frames, most_bytes, AreShort, IsDatagram, AreDatagrams}
 
 -- one datagram more
 pub datagrams_push : (ds : List (List ℕ)) (d : List ℕ) → AreDatagrams ds → IsDatagram d → AreDatagrams (ds ++ d ∷ [])
@@ -14,6 +14,12 @@ datagrams_push [] d h l zero = l
 datagrams_push [] d h l (suc i) = record { short = omega arith; bytes = λ j. omega arith }
 datagrams_push (x ∷ xs) d h l zero = h 0
 datagrams_push (x ∷ xs) d h l (suc i) = datagrams_push xs d (λ j. h (suc j)) l i
+
+pub short_push : (ds : List (List ℕ)) (d : List ℕ) → AreShort ds → length d ≤ most_bytes → AreShort (ds ++ d ∷ [])
+short_push [] d h l zero = l
+short_push [] d h l (suc i) = omega arith
+short_push (x ∷ xs) d h l zero = h 0
+short_push (x ∷ xs) d h l (suc i) = short_push xs d (λ j. h (suc j)) l i
 
 pub frames_push : (ds : List (List ℕ)) (d : List ℕ) → frames (ds ++ d ∷ []) ≡ frames ds ++ frame d
 frames_push ds d = flat_map-append frame ds (d ∷ []) ∙ ap (λ (l : List ℕ). frames ds ++ l) (append-nil (frame d))

@@ -1,6 +1,6 @@
 -- Frames that are copied but for those at some places, one more each.
 use Rattle.std.specs.Prelude.{Bool, true, false, ◌||◌, ◌==◌, cond, Option, Some, None, IfSome}
-use Rattle.std.proofs.Common.{◌≡◌, ◌<◌, ◌≤◌, ◌+◌, ℕ, zero, suc, List, [], ◌∷◌, ◌++◌, length, length-append, take, get_or, refl, sym, ap, subst, ◌∙◌, inl, inr, arith}
+use Rattle.std.proofs.Common.{◌≡◌, ◌<◌, ◌≤◌, ◌+◌, ℕ, suc, List, [], ◌∷◌, ◌++◌, length, length-append, take, get_or, refl, sym, ap, subst, ◌∙◌, inl, inr, arith}
 use Rattle.std.proofs.lemmas.List.{take_more, take_all, append-nil}
 use Rattle.std.proofs.lemmas.List.Folds.{list_any-append}
 use Rattle.std.specs.Io.KnownBytes.{Appends, Consumes, IsAtEnd}
@@ -16,7 +16,7 @@ use Rattle.session.specs.declared.frame.FrameFault.{FrameFault}
 use Rattle.session.specs.declared.frame.FrameFault.TheVariants as fault
 use Rattle.session.specs.Thinning.{frames_left, IsReadTo, IsReadUp, IsThinned, IsReadWithout, WritesSome, HasNoRoom, IsUnthinned}
 use Rattle.session.specs.ThinningSteps.{IsSetOf, HasCopied}
-use Rattle.session.proofs.Sessions.{frames_push}
+use Rattle.session.proofs.Sessions.{frames_push, short_push}
 
 or_none : (a b : Bool) → (a || (b || false)) ≡ (b || a)
 or_none true true = refl
@@ -68,13 +68,6 @@ pub rest_push : {X : Type 0} (lost : ℕ → Bool) (xs : List X) (x : X) (n : �
 rest_push {X = X} lost xs x n v many e =
     let z : 0 + length xs ≡ n = omega (arith, many) in
     left_suc lost 0 xs x ∙ ap (λ (k : ℕ). rest lost xs ++ cond {A = List X} (lost k) [] (x ∷ [])) z ∙ ap (λ (w : Bool). rest lost xs ++ cond {A = List X} w [] (x ∷ [])) e
-
--- one more datagram
-pub short_push : (ds : List (List ℕ)) (d : List ℕ) → AreShort ds → length d ≤ most_bytes → AreShort (ds ++ d ∷ [])
-short_push [] d each l zero = l
-short_push [] d each l (suc i) = omega arith
-short_push (x ∷ xs) d each l zero = each 0
-short_push (x ∷ xs) d each l (suc i) = short_push xs d (λ j. each (suc j)) l i
 
 stops : (e : FrameFault) (a mid : Option (List ℕ)) (ds : List (List ℕ)) → Consumes a mid (frames ds) → AreShort ds → IfSome mid (IsNoFrame e) → IfSome a (StopsAt e)
 stops e None mid ds c each h = tt

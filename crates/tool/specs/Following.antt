@@ -1,7 +1,7 @@
 -- What following a session prints and makes.
-use Rattle.std.specs.Prelude.{◌≡◌, ◌+◌, ◌-◌, ◌^◌, ◌⊎◌, ℕ, Bool, true, List, [], ◌∷◌, ◌++◌, Option, None, length, codes, decimal}
+use Rattle.std.specs.Prelude.{◌≡◌, ◌≢◌, ◌+◌, ◌-◌, ◌^◌, ◌⊎◌, ℕ, Bool, true, List, [], ◌∷◌, ◌++◌, Option, None, length, codes, decimal}
 use Rattle.std.specs.Io.KnownBytes.{Consumes, IsAtEnd, Appends}
-use Rattle.session.specs.Frames.{frames, IsReadFault}
+use Rattle.session.specs.Frames.{frames, AreShort, IsReadFault}
 use Rattle.session.specs.declared.frame.FrameFault.{FrameFault}
 use Rattle.session.specs.declared.frame.FrameFault.TheVariants.{Io as FrameIo, NoMemory as NoFrameMemory, NoSuchPlace}
 use Rattle.reception.specs.declared.scope.Identity.{Identity}
@@ -52,10 +52,17 @@ IsRefused who taken d Full = length taken ≡ 2 ^ 64 - 1
 IsRefused who taken d Early = ComesEarly who taken d
 IsRefused who taken d NoMemory = ⊥
 
+-- No reason to refuse a datagram behind those that were taken: they have no fault with it, there is room to count it, and it
+-- doesn't come before the first carrier.
+pub record MayBeTaken (who : Identity) (taken : List (List ℕ)) (d : List ℕ) : Type 0 where
+  pub sound : HasNoFault who (with_datagram taken d)
+  pub counted : length taken ≢ 2 ^ 64 - 1
+  pub timely : ¬ ComesEarly who taken d
+
 -- a datagram was taken, which leaves some block short, and nothing is told
 abbrev pub IsTaken : Identity → List (List ℕ) → List ℕ → List (List ℕ) → List ℕ → Type 0
 IsTaken who before d after text =
-    (after ≡ with_datagram before d) × HasNoFault who (with_datagram before d) × ¬ LeaveNoneShort who (with_datagram before d) × (text ≡ [])
+    (after ≡ with_datagram before d) × MayBeTaken who before d × ¬ LeaveNoneShort who (with_datagram before d) × (text ≡ [])
 
 -- it was refused, and its line is told
 abbrev pub IsLeftOut : Identity → ℕ → List (List ℕ) → List ℕ → List (List ℕ) → List ℕ → Type 0
@@ -77,6 +84,7 @@ Come who place before (d ∷ ds) after text =
 -- Just the frames of these datagrams were read, and they came one by one.
 pub record AreRead (who : Identity) (opened left : Option (List ℕ)) (datagrams taken : List (List ℕ)) (text : List ℕ) : Type 0 where
   pub consumed : Consumes opened left (frames datagrams)
+  pub each : AreShort datagrams
   pub come : Come who 0 [] datagrams taken text
 
 -- So many were read, of which the last makes up the object with those that were taken before.
@@ -85,7 +93,9 @@ pub record MakeUp (who : Identity) (opened left : Option (List ℕ)) (count : �
   pub before : List (List ℕ)
   pub last : List ℕ
   pub consumed : Consumes opened left (frames (with_datagram datagrams last))
+  pub each : AreShort (with_datagram datagrams last)
   pub come : Come who 0 [] datagrams before text
+  pub may : MayBeTaken who before last
   pub all : taken ≡ with_datagram before last
   pub none_short : LeaveNoneShort who taken
   pub many : count ≡ length datagrams + 1

@@ -2,7 +2,7 @@
 use Rattle.std.specs.Prelude.{◌≡◌, ℕ, List, Option, Some, None, ⊤, IfSome}
 use Rattle.session.specs.Frames.{IsFramed, StopsAt}
 use Rattle.session.specs.declared.frame.FrameFault.TheVariants.{Io as FrameIo, NoMemory as NoFrameMemory, NoSuchPlace}
-use Rattle.cert.specs.Certificate.{Certificate, certificate_text, text_fault}
+use Rattle.cert.specs.Certificate.{Certificate, IsCertificate, certificate_text, text_fault}
 use Rattle.cert.specs.declared.certificate.CertFault.TheVariants.{Io as CertificateIo, NoMemory as NoCertificateMemory}
 use Rattle.tool.specs.Folder.{Files, Holds}
 use Rattle.tool.specs.declared.fault.Fault.{Fault}
@@ -19,8 +19,9 @@ Opens files name opened = Holds files name (λ bytes. opened ≡ Some bytes)
 abbrev pub HoldsBytes : Option Files → List ℕ → List ℕ → Type 0
 HoldsBytes files name bytes = Holds files name (λ held. held ≡ bytes)
 
+-- the certificate stands there; no other has its text
 abbrev pub HoldsCertificate : Option Files → List ℕ → Certificate → Type 0
-HoldsCertificate files name z = Holds files name (λ held. held ≡ certificate_text z)
+HoldsCertificate files name z = IsCertificate z × Holds files name (λ held. held ≡ certificate_text z)
 
 -- Why a file didn't open: it isn't there, or the folder doesn't tell its files, or there is no memory.
 abbrev pub IsNotOpened : Option Files → List ℕ → Fault → Type 0

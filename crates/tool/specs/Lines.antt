@@ -1,5 +1,5 @@
 -- Printed lines.
-use Rattle.std.specs.Prelude.{◌≡◌, ℕ, zero, suc, Bool, true, List, [], ◌∷◌, ◌++◌, Option, Some, None, length, slice_index_or, flat_map, ◌⊎◌, codes, decimal, Ok, Err, ⊤}
+use Rattle.std.specs.Prelude.{◌≡◌, ◌≤◌, ℕ, zero, suc, Bool, true, List, [], ◌∷◌, ◌++◌, Option, Some, None, length, slice_index_or, flat_map, ◌⊎◌, codes, decimal, Ok, Err, ⊤}
 use Rattle.std.specs.Io.KnownBytes.{Appends}
 use Rattle.partition.specs.Fti.{Fti as CarriedFti}
 use Rattle.alc.specs.Packet.{Packet as Sent}
@@ -148,4 +148,4 @@ PrintsDatagrams datagrams n before after = (text : List ℕ) × IsShownText data
 -- the lines of the first of them were printed before a fault, or it is that the output has failed
 abbrev pub PrintsSome : List (List ℕ) → Fault → Bool → Option (List ℕ) → Option (List ℕ) → Type 0
 PrintsSome datagrams Output failed before after = failed ≡ true
-PrintsSome datagrams fault failed before after = (n : ℕ) × PrintsDatagrams datagrams n before after
+PrintsSome datagrams fault failed before after = (n : ℕ) × (n ≤ length datagrams) × PrintsDatagrams datagrams n before after

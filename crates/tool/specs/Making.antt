@@ -1,14 +1,14 @@
 -- What the commands that write a file do, by what the files hold before and after.
 use Rattle.std.specs.Prelude.{◌≡◌, ◌<◌, ◌⊎◌, ℕ, Bool, true, List, ◌++◌, Option, None, Some, length, codes, decimal, ⊤}
 use Rattle.std.specs.Io.KnownBytes.{Appends}
-use Rattle.partition.specs.Fti.{Fti, fti_from, block_count}
+use Rattle.partition.specs.Fti.{Fti, IsValidFti, fti_from, block_count}
 use Rattle.partition.specs.FtiFault.{fti_fault}
 use Rattle.session.specs.Frames.{frames}
 use Rattle.lists.specs.Selection.{rest, is_among, first_outside}
 use Rattle.session.specs.declared.frame.FrameFault.TheVariants.{Io as FrameIo, NoSuchPlace}
 use Rattle.reception.specs.declared.scope.Identity.{Identity}
 use Rattle.cert.specs.declared.certificate.CertFault.TheVariants.{Io as CertificateIo, OtherIdentity}
-use Rattle.cert.specs.Certificate.{Certificate, is_for, named_as, certificate_text}
+use Rattle.cert.specs.Certificate.{Certificate, IsCertificate, is_for, named_as, certificate_text}
 use Rattle.cert.specs.Converting.{IsOfOther}
 use Rattle.cert.specs.Verdict.{GivesObject}
 use Rattle.coder.specs.Sending.{pairs, CanBeSent, IsSessionOf, most_symbol_bytes}
@@ -37,6 +37,7 @@ PrintsCount name count of before after = Appends before after (line_of (count_li
 -- A session of an object of these bytes, of so many datagrams, stands under the output's name, and all other files are as
 -- before.
 pub record MakesSession (old new : Option Files) (bytes : List ℕ) (f : Fti) (output : List ℕ) (sending : Sending) (count : ℕ) : Type 0 where
+  pub valid : IsValidFti f
   pub can : CanBeSent bytes f
   pub datagrams : List (List ℕ)
   pub sent : IsSessionOf bytes f sending.identifiers.tsi sending.identifiers.toi sending.fti_every sending.order datagrams
@@ -56,6 +57,7 @@ pub record IsEncoded (old new : Option Files) (object output : List ℕ) (sendin
 -- object, and in this form of those of the identity. All other files are as before.
 pub record MakesCertificate (who : Identity) (old new : Option Files) (bytes : List ℕ) (f : Fti) (output : List ℕ) : Type 0 where
   pub polynomials : Certificate
+  pub form : IsCertificate polynomials
   pub fti : polynomials.fti ≡ f
   pub gives : GivesObject bytes polynomials
   pub certifies : CertifiesSent bytes polynomials

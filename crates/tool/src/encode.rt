@@ -69,6 +69,7 @@ fn send_read<'a, F: Folder, R: Read>(
         ⊎ IsUnsent output.now fti.now.symbol_length (F.files folder.old) fault) }
     ensures stays { OnErr result (F.files folder.new ≡ F.files folder.old) }
 {
+    fti.is_valid();
     let mut file = create(folder, output)?;
     let sent = coder::encode_from(
         alloc,
@@ -114,6 +115,7 @@ fn send_held<'a, F: Folder>(
         (IsUnsent output.now fti.now.symbol_length (F.files folder.old)) }
     ensures stays { OnErr result (F.files folder.new ≡ F.files folder.old) }
 {
+    fti.is_valid();
     let mut file = create(folder, output)?;
     let Identifiers { tsi, toi } = sending.identifiers;
     let every = u32::from(sending.fti_every);

@@ -1,7 +1,7 @@
 //! The command `follow`.
-ghost use Rattle.std.specs.Prelude.{◌≡◌, ◌<◌, ◌++◌, ℕ, List, [], None, IfOk, IfErr, IfSome, IfNone, OnOk, OnErr};
+ghost use Rattle.std.specs.Prelude.{◌≡◌, ◌<◌, ◌≤◌, ◌++◌, ℕ, List, [], None, length, IfOk, IfErr, IfSome, IfNone, OnOk, OnErr};
 ghost use Rattle.std.specs.Io.KnownBytes.{Appends, Consumes, IsAtEnd};
-ghost use Rattle.session.specs.Frames.{frame};
+ghost use Rattle.session.specs.Frames.{frame, most_bytes};
 ghost use Rattle.decoder.specs.Stands.{Stands};
 ghost use Rattle.decoder.specs.Receiving.{LeaveNoneShort};
 ghost use Rattle.tool.specs.Following.{refusal_words, refusal_line, IsFollowed, IsNotFollowed};
@@ -90,6 +90,7 @@ fn listen<'a, R: Read, W: Console>(
 fn next<'a, R: Read>(alloc: Global, frames: &mut R) -> Result<Option<Vec<u8>>, Fault<'a>>
     ensures some { IfOk result (λ o. IfSome o (λ d.
         Consumes (R.remaining frames.old) (R.remaining frames.new) (frame d.items))) }
+    ensures short { IfOk result (λ o. IfSome o (λ d. length d.items ≤ most_bytes)) }
     ensures none { IfOk result (λ o.
         o ≡ None → IsAtEnd (R.remaining frames.old) × IsAtEnd (R.remaining frames.new)) }
     ensures nothing { IfOk result (λ o.

@@ -1,5 +1,5 @@
 use Rattle.std.proofs.Common.{◌∙◌, ap, arith}
-use Rattle.partition.specs.Fti.{Fti, source_count, encoding_count}
+use Rattle.partition.specs.Fti.{Fti, source_count}
 use Rattle.partition.proofs.Laws.{source_encoding}
 use Rattle.cert.proofs.GreatestBlock.{most_symbols}
 use Rattle.cert.proofs.certified_symbols.make_source.Goals as goal

@@ -1,8 +1,8 @@
-use Rattle.std.proofs.Common.{◌∙◌, ◌++◌, Err, ap, arith}
+use Rattle.std.proofs.Common.{◌∙◌, ◌≢◌, ◌-◌, ◌^◌, ◌++◌, Err, ap, arith, length}
 use Rattle.decoder.specs.Receiving.{with_datagram}
 use Rattle.decoder.specs.declared.receiver.FeedFault.TheVariants.{Fault, Full, Early}
 use Rattle.session.proofs.Writes.{then_appends}
-use Rattle.tool.specs.Following.{refusal_line}
+use Rattle.tool.specs.Following.{refusal_line, MayBeTaken}
 use Rattle.tool.specs.Lines.{line_of}
 use Rattle.tool.proofs.Followed.{read_last, read_taken, read_refused, many_more}
 use Rattle.tool.proofs.Ends.{line_untold, passed_on}
@@ -14,16 +14,25 @@ returns-in-Ok-Complete-clause-complete g c =
     let read = c.loop-datagram.invariant.read in
     let d = c.in-Some.datagram.items in
     let one = rw c.in-Some.is at c.in_ok-datagram.ensures.some in
+    let brief = rw c.in-Some.is at c.in_ok-datagram.ensures.short in
     let stands = rw c.as_slice.ensures.value at (c.in-Ok-Complete.ensures.accepted read.1 read.4) in
     let who = c.args.receiver.now.identity in
     let same = c.loop-datagram.invariant.identity in
     let full = rw (c.in-Ok-Complete.field-0-is, c.as_slice.ensures.value, same) at (c.in-Ok-Complete.ensures.progress read.1 read.4) in
+    let sound = rw (c.as_slice.ensures.value, same) at (c.in-Ok-Complete.ensures.sound read.1 read.4) in
+    let is = c.in-Ok-Complete.is in
+    let counted : length read.1 ≢ 2 ^ 64 - 1 = λ e. let f = (c.feed.ensures.full read.1 read.4).1 e in cc in
+    let may : MayBeTaken who read.1 d = record {
+      sound = sound;
+      counted = counted;
+      timely = λ early. let f = (rw (c.as_slice.ensures.value, same) at (c.feed.ensures.early read.1 read.4)).1 (counted, early) in cc;
+    } in
     let next = c.in-Some-checked_add.ensures in (
       with_datagram read.1 d,
       read.2,
       stands,
       read_last who (g.R.Read.remaining c.args.frames.now) (g.R.Read.remaining c.loop-datagram.frames) (g.R.Read.remaining c.next.new.frames) read.0 read.1 read.2 c.loop-datagram.count d read.6
-          read.3 one c.in-Some-checked_add.read (omega (arith, next)) full,
+          read.3 one brief c.in-Some-checked_add.read (omega (arith, next)) may full,
       read.7,
     )
 
@@ -32,6 +41,7 @@ loop-datagram-preserved g c =
     let read = c.loop-datagram.invariant.read in
     let d = c.in-Some.datagram.items in
     let one = rw c.in-Some.is at c.in_ok-datagram.ensures.some in
+    let brief = rw c.in-Some.is at c.in_ok-datagram.ensures.short in
     let next = c.in-Some-checked_add.ensures in
     let opened = g.R.Read.remaining c.args.frames.now in
     let a = g.R.Read.remaining c.loop-datagram.frames in
@@ -45,6 +55,13 @@ loop-datagram-preserved g c =
       | in-Ok-More w ↦
           (let stands = rw c.as_slice.ensures.value at (w.in-Ok-More.ensures.accepted read.1 read.4) in
           let sound = rw (c.as_slice.ensures.value, same) at (w.in-Ok-More.ensures.sound read.1 read.4) in
+          let is = w.in-Ok-More.is in
+          let counted : length read.1 ≢ 2 ^ 64 - 1 = λ e. let f = (c.feed.ensures.full read.1 read.4).1 e in cc in
+          let may : MayBeTaken who read.1 d = record {
+            sound = sound;
+            counted = counted;
+            timely = λ early. let f = (rw (c.as_slice.ensures.value, same) at (c.feed.ensures.early read.1 read.4)).1 (counted, early) in cc;
+          } in
           let short = rw (w.in-Ok-More.field-0-is, c.as_slice.ensures.value, same) at (w.in-Ok-More.ensures.progress read.1 read.4) in
           rw w.out-is record {
             read = (
@@ -54,7 +71,7 @@ loop-datagram-preserved g c =
               many,
               stands,
               short,
-              read_taken who opened a b read.0 read.1 read.2 count d read.6 read.3 one sound short,
+              read_taken who opened a b read.0 read.1 read.2 count d read.6 read.3 one brief may short,
               read.7,
             );
             identity = c.feed.ensures.identity ∙ same;
@@ -71,7 +88,7 @@ loop-datagram-preserved g c =
               many,
               stands,
               read.5,
-              read_refused who opened a b read.0 read.1 read.2 count d read.6 read.3 one Full full,
+              read_refused who opened a b read.0 read.1 read.2 count d read.6 read.3 one brief Full full,
               then_appends _ _ _ read.2 (line_of (refusal_line count Full)) read.7 w.in_ok-tell_refusal-in-Err-Full.ensures.ok,
             );
             identity = c.feed.ensures.identity ∙ same;
@@ -88,7 +105,7 @@ loop-datagram-preserved g c =
               many,
               stands,
               read.5,
-              read_refused who opened a b read.0 read.1 read.2 count d read.6 read.3 one Early early,
+              read_refused who opened a b read.0 read.1 read.2 count d read.6 read.3 one brief Early early,
               then_appends _ _ _ read.2 (line_of (refusal_line count Early)) read.7 w.in_ok-tell_refusal-in-Err-Early.ensures.ok,
             );
             identity = c.feed.ensures.identity ∙ same;
@@ -105,7 +122,7 @@ loop-datagram-preserved g c =
               many,
               stands,
               read.5,
-              read_refused who opened a b read.0 read.1 read.2 count d read.6 read.3 one (Fault w.in-Err-Fault.fault) fault,
+              read_refused who opened a b read.0 read.1 read.2 count d read.6 read.3 one brief (Fault w.in-Err-Fault.fault) fault,
               then_appends _ _ _ read.2 (line_of (refusal_line count (Fault w.in-Err-Fault.fault))) read.7 w.in_ok-tell_refusal-in-Err-Fault.ensures.ok,
             );
             identity = c.feed.ensures.identity ∙ same;

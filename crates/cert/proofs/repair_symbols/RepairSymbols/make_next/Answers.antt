@@ -1,4 +1,4 @@
-use Rattle.std.proofs.Common.{◌≡◌, ◌+◌, ◌-◌, ◌*◌, ◌<◌, ◌∙◌, ℕ, length, sym, ap, arith}
+use Rattle.std.proofs.Common.{◌≡◌, ◌+◌, ◌-◌, ◌*◌, ◌<◌, ◌∙◌, length, sym, ap, arith}
 use Rattle.partition.specs.Fti.{Fti, source_count, block_count}
 use Rattle.cert.specs.Certificate.{Certificate}
 use Rattle.cert.specs.BlockSymbols.{AreSymbols}
