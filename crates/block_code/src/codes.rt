@@ -82,7 +82,7 @@ impl BlockCodes {
         })
     }
 
-    /// The code of a block with `k` source symbols.
+    /// The code of a block with `k` source symbols, which some block of the FTI has.
     pub fn of(&self, k: usize) -> &Code
         ensures { result.now ≡ code_for k self.now.large self.now.small }
     {

@@ -35,8 +35,8 @@ struct Coefficients<'a> {
     ghost fit: { AreBytes bytes.now },
 }
 
-/// How many bytes of room [`evaluate`] needs for up to `k` coefficients: 255 rows, or none where one
-/// level is enough. These must be fewer than 2^64.
+/// How many bytes of room [`evaluate`] needs for up to `k` coefficients: 255 rows, or none for
+/// fewer than 80. These must be fewer than 2^64.
 pub fn room(k: usize, width: usize) -> usize
     requires narrow { 255 * width < 2 ^ 64 }
     ensures none { k < 80 → result ≡ 0 }

@@ -1,5 +1,5 @@
 -- What a list of datagrams says to one who asks for an identity's packets: which of them count, whose FTI holds, which
--- symbols came, and what is wrong at a place. All that stands above sees the datagrams through this file alone.
+-- symbols came, and what is wrong at a place. A check and a decoder see lists of datagrams through this file.
 use Rattle.std.specs.Prelude.{◌≡◌, ℕ, ◌+◌, Bool, true, ◌&&◌, ◌==◌, not, false, cond, if◌then◌else◌, List, [], ◌∷◌, ◌++◌, length, is_some, Option, Some, None, Result, Ok, Err}
 use Rattle.partition.specs.Fti.{Fti, has_symbol}
 use Rattle.alc.specs.Packet.{Packet}

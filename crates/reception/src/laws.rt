@@ -25,8 +25,8 @@ pub fn empty_answer()
     ensures { (who : Identity) (datagrams : List (List ℕ)) → TellsEmpty who datagrams }
 {}
 
-/// A receiver of one object isn't disturbed by packets of others: the answer to the packets of an identity, in a list of
-/// packets, is the answer to the list, with the places that they have there.
+/// A receiver of one object isn't disturbed by packets of others: an answer to the packets of an identity, in a list of
+/// datagrams, and to what is no packet, taken alone, is the answer to the list, with the places that they have there.
 pub fn isolation()
     ensures { (who : Identity) (datagrams : List (List ℕ)) → IsIsolated who datagrams }
 {}

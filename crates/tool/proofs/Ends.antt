@@ -92,9 +92,10 @@ module _ (who : Identity) (files : Option Files) (session output : List ℕ) (op
     told : (d : Option (List ℕ)) → Appends b d (line_of (complete_line count)) → TellsComplete who files session a d
     told d printed = (count, made.0, made.1, completed, then_appends a b d made.1 (line_of (complete_line count)) made.4 printed)
 
-    pub is_undelivered : (new : Option Files) (failed : Bool) (d : Option (List ℕ)) (fault : Fault) → IsUndelivered files new output count failed b d fault
+    pub is_undelivered : (new : Option Files) (failed : Bool) (d : Option (List ℕ)) (fault : Fault) → IsUndelivered who files new output made.0 count failed b d fault
         → IsNotFollowed who files new session output failed a d fault
-    is_undelivered new failed d Output h = h
+    is_undelivered new failed d Output (h, inl same) = (h, inl same)
+    is_undelivered new failed d Output (h, inr (printed, status, done)) = (h, inr (printed, status, is_delivered new printed status done))
     is_undelivered new failed d Memory h = (inr (inr (told d h.1)), h.0.1)
     is_undelivered new failed d (Open name) h = (inr (h.0.0, told d h.1), h.0.1)
     is_undelivered new failed d (File name) h = (inr (h.0.0, told d h.1), h.0.1)

@@ -126,16 +126,16 @@ not_output files [] why = why
 not_output files (name ∷ names) (inl why) = why
 not_output files (name ∷ names) (inr why) = not_output files names why
 
-pub unread_fails : (files : Option Files) (names : List (List ℕ)) (output : List ℕ) (failed : Bool) (before : Option (List ℕ)) (fault : Fault)
-    → IsOneUnread files names fault → Fails (IsNotJoined output names) files files output failed before before fault
-unread_fails files names output failed before (Open name) why = record { because = inl why; leaves = refl; silent = refl }
-unread_fails files names output failed before (File name) why = record { because = inl why; leaves = refl; silent = refl }
-unread_fails files names output failed before Memory why = record { because = inl why; leaves = refl; silent = refl }
-unread_fails files names output failed before (Frame f) why = record { because = inl why; leaves = refl; silent = refl }
-unread_fails files names output failed before (Certificate f) why = record { because = inl why; leaves = refl; silent = refl }
-unread_fails files names output failed before (Fti f) why = record { because = inl why; leaves = refl; silent = refl }
-unread_fails files names output failed before (Send f) why = record { because = inl why; leaves = refl; silent = refl }
-unread_fails files names output failed before Output why = absurd (not_output files names why)
+pub unread_fails : (files : Option Files) (names : List (List ℕ)) (output : List ℕ) (done : Option (List ℕ) → ℕ → Type 0) (failed : Bool) (before : Option (List ℕ)) (fault : Fault)
+    → IsOneUnread files names fault → Fails (IsNotJoined output names) done files files failed before before fault
+unread_fails files names output done failed before (Open name) why = record { because = inl why; leaves = refl; silent = refl }
+unread_fails files names output done failed before (File name) why = record { because = inl why; leaves = refl; silent = refl }
+unread_fails files names output done failed before Memory why = record { because = inl why; leaves = refl; silent = refl }
+unread_fails files names output done failed before (Frame f) why = record { because = inl why; leaves = refl; silent = refl }
+unread_fails files names output done failed before (Certificate f) why = record { because = inl why; leaves = refl; silent = refl }
+unread_fails files names output done failed before (Fti f) why = record { because = inl why; leaves = refl; silent = refl }
+unread_fails files names output done failed before (Send f) why = record { because = inl why; leaves = refl; silent = refl }
+unread_fails files names output done failed before Output why = absurd (not_output files names why)
 
 -- what was written to a new output and kept
 pub kept_whole : (old middle new : Option Files) (output bytes : List ℕ) (blank written : Option (List ℕ)) → IsBlank old blank → Appends blank written bytes

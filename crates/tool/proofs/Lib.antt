@@ -10,3 +10,4 @@ pub mod Pieces
 pub mod Shown
 pub mod Twinned
 pub mod ObjectBytes
+pub mod Unprinted

@@ -170,4 +170,4 @@ IsBrokenOff who files session output failed before after fault =
 -- the same, and what the files are
 abbrev pub IsNotFollowed : Identity → Option Files → Option Files → List ℕ → List ℕ → Bool → Option (List ℕ) → Option (List ℕ) → Fault → Type 0
 IsNotFollowed who old new session output failed before after fault =
-    IsBrokenOff who old session output failed before after fault × LeavesFiles old new output fault
+    IsBrokenOff who old session output failed before after fault × LeavesFiles (IsFollowed who old new session output before) old new fault

@@ -1,5 +1,5 @@
 -- What the parts of following a session do.
-use Rattle.std.specs.Prelude.{◌≡◌, ◌++◌, ◌⊎◌, ℕ, Bool, true, false, List, Option, length}
+use Rattle.std.specs.Prelude.{◌≡◌, ◌++◌, ℕ, Bool, true, false, List, Option, length}
 use Rattle.std.specs.Io.KnownBytes.{IsAtEnd, Appends}
 use Rattle.session.specs.Frames.{IsReadFault}
 use Rattle.session.specs.declared.frame.FrameFault.{FrameFault}
@@ -16,7 +16,7 @@ use Rattle.tool.specs.declared.fault.Fault.TheVariants.{Memory, Frame, Output}
 use Rattle.tool.specs.Folder.{Files, Replaces}
 use Rattle.tool.specs.Lines.{line_of, IsPrintFault, IsSilent}
 use Rattle.tool.specs.Decoding.{IsAnswerLine, answer_status, object_text}
-use Rattle.tool.specs.Making.{IsUnmade}
+use Rattle.tool.specs.Making.{IsUnmade, LeavesFiles}
 use Rattle.tool.specs.Following.{complete_line, AreRead, MakeUp}
 
 -- the datagrams that were read gave the receiver the object; how many were
@@ -80,10 +80,10 @@ IsDelivered who old new output taken count before after status =
     × Appends before after (line_of (complete_line count) ++ line_of (object_text (length object))) × (status ≡ 0)
 
 -- why not: the first line was printed, and the object isn't there; or the output has failed
-abbrev pub IsUndelivered : Option Files → Option Files → List ℕ → ℕ → Bool → Option (List ℕ) → Option (List ℕ) → Fault → Type 0
-IsUndelivered old new output count failed before after Output =
-    (failed ≡ true) × ((new ≡ old) ⊎ ((bytes : List ℕ) × Replaces old new output bytes))
-IsUndelivered old new output count failed before after fault =
+abbrev pub IsUndelivered : Identity → Option Files → Option Files → List ℕ → List (List ℕ) → ℕ → Bool → Option (List ℕ) → Option (List ℕ) → Fault → Type 0
+IsUndelivered who old new output taken count failed before after Output =
+    (failed ≡ true) × LeavesFiles (IsDelivered who old new output taken count before) old new Output
+IsUndelivered who old new output taken count failed before after fault =
     IsUnwritten old new output fault × Appends before after (line_of (complete_line count))
 
 -- the answer to these datagrams, which is no fault, was printed; its status

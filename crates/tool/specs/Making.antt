@@ -105,10 +105,11 @@ IsUnwritten files (CertificateFault CertificateIo) = files ≡ None
 IsUnwritten files (Frame FrameIo) = files ≡ None
 IsUnwritten files _ = ⊥
 
--- After a fault the files are as before. Only where printing has failed the output may be there by then, and no other.
-abbrev pub LeavesFiles : Option Files → Option Files → List ℕ → Fault → Type 0
-LeavesFiles old new output Output = (new ≡ old) ⊎ ((bytes : List ℕ) × Replaces old new output bytes)
-LeavesFiles old new output fault = new ≡ old
+-- After a fault the files are as before. Only where printing has failed they may be as they are where all is done, by what
+-- would have been printed, and the status.
+abbrev pub LeavesFiles : (Option (List ℕ) → ℕ → Type 0) → Option Files → Option Files → Fault → Type 0
+LeavesFiles done old new Output = (new ≡ old) ⊎ ((printed : Option (List ℕ)) × (status : ℕ) × done printed status)
+LeavesFiles done old new fault = new ≡ old
 
 -- an object of these bytes has no FTI of these sizes
 abbrev pub IsUnsized : Option Files → List ℕ → Sizes → Fault → Type 0
@@ -128,10 +129,10 @@ IsOutside files session places (Frame (NoSuchPlace place)) =
 IsOutside files session places _ = ⊥
 
 -- After a fault of a command that writes a file: why, by the files before and whether printing has failed; what the files
--- are; and what was printed.
-pub record Fails (why : Option Files → Bool → Fault → Type 0) (old new : Option Files) (output : List ℕ) (failed : Bool) (before after : Option (List ℕ)) (fault : Fault) : Type 0 where
+-- are, by what would have been done; and what was printed.
+pub record Fails (why : Option Files → Bool → Fault → Type 0) (done : Option (List ℕ) → ℕ → Type 0) (old new : Option Files) (failed : Bool) (before after : Option (List ℕ)) (fault : Fault) : Type 0 where
   pub because : why old failed fault
-  pub leaves : LeavesFiles old new output fault
+  pub leaves : LeavesFiles done old new fault
   pub silent : IsSilent fault failed before after
 
 -- why no session was made of an object that was read

@@ -166,23 +166,29 @@ abbrev pub IsUndone : Option Files → Option Files → Request → Bool → Opt
 IsUndone old new (Check session object certificate asked) failed before after fault =
     IsUnchecked (identity_of asked) old session.now object.now certificate.now failed fault × (new ≡ old) × IsSilent fault failed before after
 IsUndone old new (Twin session object certificate output asked) failed before after fault =
-    Fails (IsUntwinned session.now object.now certificate.now output.now) old new output.now failed before after fault
+    Fails (IsUntwinned session.now object.now certificate.now output.now)
+    (IsTwinned (identity_of asked) old new session.now object.now certificate.now output.now before) old new failed before after fault
 IsUndone old new (Show session) failed before after fault =
     IsUnshown old session.now failed fault × (new ≡ old) × IsShownInPart old session.now fault failed before after
 IsUndone old new (Encode object output sending) failed before after fault =
-    Fails (IsNotEncoded object.now output.now sending) old new output.now failed before after fault
+    Fails (IsNotEncoded object.now output.now sending) (IsEncoded old new object.now output.now sending before) old new failed before after fault
 IsUndone old new (Certify object output asked sizes) failed before after fault =
-    Fails (IsNotCertified object.now output.now sizes) old new output.now failed before after fault
+    Fails (IsNotCertified object.now output.now sizes)
+    (IsCertified (identity_of asked) old new object.now output.now sizes before) old new failed before after fault
 IsUndone old new (Convert certificate output asked) failed before after fault =
-    Fails (IsNotConverted (identity_of asked) certificate.now output.now) old new output.now failed before after fault
+    Fails (IsNotConverted (identity_of asked) certificate.now output.now)
+    (IsConverted (identity_of asked) old new certificate.now output.now before) old new failed before after fault
 IsUndone old new (Decode session output asked) failed before after fault =
-    Fails (IsNotDecoded session.now output.now) old new output.now failed before after fault
+    Fails (IsNotDecoded session.now output.now)
+    (IsDecoded (identity_of asked) old new session.now output.now before) old new failed before after fault
 IsUndone old new (Follow session output asked) failed before after fault =
     IsNotFollowed (identity_of asked) old new session.now output.now failed before after fault
 IsUndone old new (Drop session output places) failed before after fault =
-    Fails (IsNotDropped session.now output.now places.items) old new output.now failed before after fault
+    Fails (IsNotDropped session.now output.now places.items)
+    (IsDropped old new session.now output.now places.items before) old new failed before after fault
 IsUndone old new (Join output sessions turns) failed before after fault =
-    Fails (IsNotJoined output.now (map (λ session. session.now) sessions.items)) old new output.now failed before after fault
+    Fails (IsNotJoined output.now (map (λ session. session.now) sessions.items))
+    (IsJoined old new output.now (map (λ session. session.now) sessions.items) turns before) old new failed before after fault
 
 -- The request wasn't done. Behind what was printed before, the fault was told, or it is that the output has failed.
 pub record HasFault (old new : Option Files) (request : Request) (failed : Bool) (before after : Option (List ℕ)) (status : ℕ) : Type 0 where

@@ -35,7 +35,9 @@ pub(crate) fn certify<'a, F: Folder, W: Write>(
     ensures ok { IfOk result (IsCertified identity (F.files folder.old) (F.files folder.new)
         object.now output.now sizes.now (W.contents out.old) (W.contents out.new)) }
     ensures fault { IfErr result (Fails (IsNotCertified object.now output.now sizes.now)
-        (F.files folder.old) (F.files folder.new) output.now
+        (IsCertified identity (F.files folder.old) (F.files folder.new)
+        object.now output.now sizes.now (W.contents out.old))
+        (F.files folder.old) (F.files folder.new)
         (W.failed out.new) (W.contents out.old) (W.contents out.new)) }
 {
     let mut input = open(folder, object)?;
@@ -130,7 +132,9 @@ pub(crate) fn convert<'a, F: Folder, W: Write>(
     ensures ok { IfOk result (IsConverted identity (F.files folder.old) (F.files folder.new)
         certificate.now output.now (W.contents out.old) (W.contents out.new)) }
     ensures fault { IfErr result (Fails (IsNotConverted identity certificate.now output.now)
-        (F.files folder.old) (F.files folder.new) output.now
+        (IsConverted identity (F.files folder.old) (F.files folder.new)
+        certificate.now output.now (W.contents out.old))
+        (F.files folder.old) (F.files folder.new)
         (W.failed out.new) (W.contents out.old) (W.contents out.new)) }
 {
     let mut input = open(folder, certificate)?;

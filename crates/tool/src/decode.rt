@@ -31,7 +31,9 @@ pub(crate) fn decode<'a, F: Folder, W: Write>(
     ensures ok { IfOk result (IsDecoded identity (F.files folder.old) (F.files folder.new)
         session.now output.now (W.contents out.old) (W.contents out.new)) }
     ensures fault { IfErr result (Fails (IsNotDecoded session.now output.now)
-        (F.files folder.old) (F.files folder.new) output.now
+        (IsDecoded identity (F.files folder.old) (F.files folder.new)
+        session.now output.now (W.contents out.old))
+        (F.files folder.old) (F.files folder.new)
         (W.failed out.new) (W.contents out.old) (W.contents out.new)) }
 {
     let session = read_session(alloc, folder, session)?;
@@ -77,8 +79,11 @@ fn deliver<'a, F: Folder, W: Write>(
     ensures ok { (who : IdentityValue) (ds : List (List ℕ)) → AreSymbolsOf who ds symbols.now
         → IfOk result (IsGiven who ds (F.files folder.old) (F.files folder.new) output.now
         (W.contents out.old) (W.contents out.new)) }
-    ensures fault { IfErr result (Fails (IsNotGiven output.now)
-        (F.files folder.old) (F.files folder.new) output.now
+    ensures fault { (who : IdentityValue) (ds : List (List ℕ)) → AreSymbolsOf who ds symbols.now
+        → IfErr result (Fails (IsNotGiven output.now)
+        (IsGiven who ds (F.files folder.old) (F.files folder.new) output.now
+        (W.contents out.old))
+        (F.files folder.old) (F.files folder.new)
         (W.failed out.new) (W.contents out.old) (W.contents out.new)) }
 {
     match write_object(alloc, folder, output, symbols)? {

@@ -23,7 +23,9 @@ pub(crate) fn drop_places<'a, F: Folder, W: Write>(
     ensures ok { IfOk result (IsDropped (F.files folder.old) (F.files folder.new)
         session.now output.now places.now (W.contents out.old) (W.contents out.new)) }
     ensures fault { IfErr result (Fails (IsNotDropped session.now output.now places.now)
-        (F.files folder.old) (F.files folder.new) output.now
+        (IsDropped (F.files folder.old) (F.files folder.new)
+        session.now output.now places.now (W.contents out.old))
+        (F.files folder.old) (F.files folder.new)
         (W.failed out.new) (W.contents out.old) (W.contents out.new)) }
 {
     let kept = thin_out(alloc, folder, session, output, places)?;

@@ -31,7 +31,9 @@ pub(crate) fn encode<'a, F: Folder, W: Write>(
     ensures ok { IfOk result (IsEncoded (F.files folder.old) (F.files folder.new)
         object.now output.now sending.now (W.contents out.old) (W.contents out.new)) }
     ensures fault { IfErr result (Fails (IsNotEncoded object.now output.now sending.now)
-        (F.files folder.old) (F.files folder.new) output.now
+        (IsEncoded (F.files folder.old) (F.files folder.new)
+        object.now output.now sending.now (W.contents out.old))
+        (F.files folder.old) (F.files folder.new)
         (W.failed out.new) (W.contents out.old) (W.contents out.new)) }
 {
     let mut input = open(folder, object)?;

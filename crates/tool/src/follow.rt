@@ -168,8 +168,9 @@ fn deliver<'a, F: Folder, W: Console>(
         (F.files folder.new) output.now taken count (W.contents out.old) (W.contents out.new)) }
     ensures fault { (taken : List (List ℕ)) → Stands receiver.now taken
         → LeaveNoneShort receiver.now.identity taken
-        → IfErr result (IsUndelivered (F.files folder.old) (F.files folder.new) output.now
-        count (W.failed out.new) (W.contents out.old) (W.contents out.new)) }
+        → IfErr result (IsUndelivered receiver.now.identity (F.files folder.old)
+        (F.files folder.new) output.now taken count (W.failed out.new)
+        (W.contents out.old) (W.contents out.new)) }
 {
     print_count(out, "complete after", count, " datagrams")?;
     out.pass_on()?;

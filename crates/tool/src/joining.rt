@@ -27,7 +27,9 @@ pub(crate) fn join<'a, F: Folder, W: Write>(
         (W.contents out.old) (W.contents out.new)) }
     ensures fault { IfErr result (Fails
         (IsNotJoined output.now (map (λ session. session.now) sessions.now))
-        (F.files folder.old) (F.files folder.new) output.now
+        (IsJoined (F.files folder.old) (F.files folder.new) output.now
+        (map (λ session. session.now) sessions.now) turns (W.contents out.old))
+        (F.files folder.old) (F.files folder.new)
         (W.failed out.new) (W.contents out.old) (W.contents out.new)) }
 {
     let mut inputs = open_all(alloc, folder, sessions)?;

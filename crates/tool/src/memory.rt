@@ -72,7 +72,7 @@ impl MemoryFolder {
         }
     }
 
-    /// All that were put in and kept, in that order.
+    /// All that were put in, in that order. What `keep_file` adds stands under its name; where, no clause says.
     pub fn files(&self) -> &[(String, Vec<u8>)]
         ensures { result.now ≡ self.now.files.items }
     {

@@ -32,7 +32,9 @@ pub(crate) fn twin<'a, F: Folder, W: Write>(
         session.now object.now certificate.now output.now
         (W.contents out.old) (W.contents out.new)) }
     ensures fault { IfErr result (Fails (IsUntwinned session.now object.now certificate.now
-        output.now) (F.files folder.old) (F.files folder.new) output.now (W.failed out.new)
+        output.now) (IsTwinned identity (F.files folder.old) (F.files folder.new)
+        session.now object.now certificate.now output.now (W.contents out.old))
+        (F.files folder.old) (F.files folder.new) (W.failed out.new)
         (W.contents out.old) (W.contents out.new)) }
 {
     let session = read_session(alloc, folder, session)?;

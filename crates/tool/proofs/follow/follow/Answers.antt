@@ -2,8 +2,8 @@ use Rattle.std.proofs.Common.{◌∙◌, subst, sym}
 use Rattle.std.proofs.lemmas.Result.{IfOk-weaker, IfErr-weaker}
 use Rattle.reception.specs.declared.scope.Identity.{Identity}
 use Rattle.decoder.specs.Receiving.{LeaveNoneShort}
-use Rattle.std.specs.Prelude.{IfOk}
-use Rattle.tool.specs.Listening.{IsDelivered, TellsAnswer}
+use Rattle.std.specs.Prelude.{IfOk, IfErr}
+use Rattle.tool.specs.Listening.{IsDelivered, IsUndelivered, TellsAnswer}
 use Rattle.tool.proofs.Ends.{is_delivered, is_lack, is_undelivered, is_unsaid, passed_on, unheard}
 use Rattle.tool.proofs.follow.follow.Goals as goal
 
@@ -39,7 +39,8 @@ returns-in-Some-clause-fault g c =
     (g.F.Input.Read.remaining c.in_ok-frames.frames) (g.F.Input.Read.sound c.in_ok-frames.frames) c.in_ok-frames.ensures.input
     c.listen.new.receiver (g.F.Input.Read.remaining c.listen.new.frames) (g.W.Write.contents c.args.out.now) (g.W.Write.contents c.listen.new.out) c.in-Some.count made
     (g.F.Folder.files c.deliver.new.folder) (g.W.Write.failed c.deliver.new.out) (g.W.Write.contents c.deliver.new.out) fault done)
-    (c.deliver.ensures.fault made.0 made.2 full)
+    (subst (λ (who : Identity). IfErr c.deliver.result (IsUndelivered who files (g.F.Folder.files c.deliver.new.folder) c.args.output.now made.0 c.in-Some.count
+    (g.W.Write.failed c.deliver.new.out) (g.W.Write.contents c.listen.new.out) (g.W.Write.contents c.deliver.new.out))) same (c.deliver.ensures.fault made.0 made.2 full))
 
 pub returns-clause-ok : goal.returns-clause-ok
 returns-clause-ok g c =
