@@ -105,8 +105,8 @@ IsUnwritten files (CertificateFault CertificateIo) = files ≡ None
 IsUnwritten files (Frame FrameIo) = files ≡ None
 IsUnwritten files _ = ⊥
 
--- After a fault the files are as before. Only where printing has failed they may be as they are where all is done, by what
--- would have been printed, and the status.
+-- After a fault the files are as before. Only where printing has failed they may be as the command leaves them when it is
+-- done: something would have been printed then, and a status answered.
 abbrev pub LeavesFiles : (Option (List ℕ) → ℕ → Type 0) → Option Files → Option Files → Fault → Type 0
 LeavesFiles done old new Output = (new ≡ old) ⊎ ((printed : Option (List ℕ)) × (status : ℕ) × done printed status)
 LeavesFiles done old new fault = new ≡ old

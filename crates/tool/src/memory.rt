@@ -2,6 +2,7 @@
 ghost use Rattle.std.specs.Prelude.{◌≡◌, ◌<◌, ◌≤◌, ◌-◌, ◌++◌, ◌∷◌, [], None, Some, true, false, length, drop, string_bytes, IsOk, IfOk, IfErr, IfSome, IfNone, OnOk, OnErr};
 ghost use Rattle.std.specs.Option.{option_map};
 ghost use Rattle.tool.specs.Files.{files_of, AddsFile};
+ghost use Rattle.tool.specs.Folder.{IsBlank, IsRefused, Replaces};
 
 use crate::folder::{FileFault, Folder};
 use session::{Failed, Read, Sink};
@@ -72,7 +73,7 @@ impl MemoryFolder {
         }
     }
 
-    /// All that were put in, in that order. What `keep_file` adds stands under its name; where, no clause says.
+    /// All that were put in and kept, in that order.
     pub fn files(&self) -> &[(String, Vec<u8>)]
         ensures { result.now ≡ self.now.files.items }
     {
@@ -119,18 +120,39 @@ impl Folder for MemoryFolder {
         Some((input.bytes.len() - input.at) as u64)
     }
 
-    fn create_file(&mut self, _name: &str) -> Result<Sink, FileFault> {
+    fn create_file(&mut self, _name: &str) -> Result<Sink, FileFault>
+        ensures blank { IfOk result (λ file.
+            IsBlank (Some (files_of self.old.files.items)) (Some file.bytes.items)) }
+        ensures fault { IfErr result (IsRefused (Some (files_of self.old.files.items))) }
+        ensures stays { Some (files_of self.new.files.items)
+            ≡ Some (files_of self.old.files.items) }
+        ensures same { self.new.files.items ≡ self.old.files.items }
+    {
         Ok(Sink::new(self.alloc))
     }
 
-    fn keep_file(&mut self, name: &str, output: Sink) -> Result<(), FileFault> {
+    fn keep_file(&mut self, name: &str, output: Sink) -> Result<(), FileFault>
+        ensures kept { OnOk result (Replaces (Some (files_of self.old.files.items))
+            (Some (files_of self.new.files.items)) name.now output.bytes.items) }
+        ensures fault { IfErr result (IsRefused (Some (files_of self.old.files.items))) }
+        ensures stays { OnErr result (Some (files_of self.new.files.items)
+            ≡ Some (files_of self.old.files.items)) }
+        ensures behind { OnOk result
+            (AddsFile self.old.files.items self.new.files.items name.now output.bytes.items) }
+        ensures same { OnErr result (self.new.files.items ≡ self.old.files.items) }
+    {
         match self.put(name, output.into_bytes()) {
             Ok(()) => Ok(()),
             Err(_) => Err(FileFault::NoMemory),
         }
     }
 
-    fn give_up(&mut self, _output: Sink) -> FileFault {
+    fn give_up(&mut self, _output: Sink) -> FileFault
+        ensures fault { IsRefused (Some (files_of self.old.files.items)) result }
+        ensures stays { Some (files_of self.new.files.items)
+            ≡ Some (files_of self.old.files.items) }
+        ensures same { self.new.files.items ≡ self.old.files.items }
+    {
         FileFault::NoMemory
     }
 }
