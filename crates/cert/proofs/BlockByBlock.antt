@@ -49,9 +49,6 @@ pub record Passes (count left : ℕ) (a b : Option (List ℕ)) : Type 0 where
   pub counted : length passed + left ≡ count
   pub consumed : Consumes a b passed
 
-pub none_passed : (count : ℕ) (a : Option (List ℕ)) → Passes count count a a
-none_passed count a = record { passed = []; bytes = λ i. omega arith; counted = omega arith; consumed = nothing_read a }
-
 module _ (count left : ℕ) (a b c : Option (List ℕ)) (piece : List ℕ) (done : Passes count left a b) (bytes : AreBytes piece) (more : Consumes b c piece) where
   pub piece_passed : length piece ≤ left → Passes count (left - length piece) a c
   piece_passed few = record {
@@ -60,9 +57,6 @@ module _ (count left : ℕ) (a b c : Option (List ℕ)) (piece : List ℕ) (done
     counted = omega (arith, done.counted, few, length-append done.passed piece);
     consumed = then_consumes a b c done.passed piece done.consumed more;
   }
-
-pub just_passed : (count : ℕ) (a b : Option (List ℕ)) → Passes count 0 a b → IsAtEnd b → IfSome a (λ x. AreBytes x × (length x ≡ count))
-just_passed count a b done end = to_some a (λ x is. (rw is done.bytes, omega (arith, ap length is, done.counted))) (all_read a b done.passed done.consumed end)
 
 -- ---- blocks that are converted
 

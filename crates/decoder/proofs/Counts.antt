@@ -1,5 +1,5 @@
 -- How many of a block's symbols came, counted at their ESIs.
-use Rattle.std.specs.Prelude.{filter, is_some, option_map, ◌==◌, ◌-◌}
+use Rattle.std.specs.Prelude.{filter, is_some, ◌==◌, ◌-◌}
 use Rattle.std.proofs.Common.{◌≡◌, ℕ, suc, zero, ◌+◌, ◌<◌, ◌≤◌, Bool, true, false, List, [], ◌∷◌, Option, Some, None, refl, sym, ap, subst, ◌∙◌, arith, length, length-append, add-zero, add-suc}
 use Rattle.std.specs.List.{AllByRecursion}
 use Rattle.std.proofs.lemmas.Bool.{and_parts, or_from, eqb-true, false_from_ne_true}
@@ -61,8 +61,3 @@ pub counted_held : (f : Fti) (arrivals : List Symbol) (at : ℕ → ℕ → Opti
     → n ≡ encoding_count f b → n ≤ 255 → count ≡ length (filter (λ j. is_some (at b j)) (below n)) → count ≡ arrived_count arrivals b
 counted_held f arrivals at b n count index within is few counts =
     counts ∙ ap (λ (x : ℕ). length (filter (λ j. is_some (at b j)) (below x))) is ∙ sym (held_is f arrivals at b index within (omega (arith, is, few)))
-
--- something stands there whatever is made of it
-pub same_some : {A B : Type 0} (g : A → B) (o : Option A) → is_some (option_map g o) ≡ is_some o
-same_some g None = refl
-same_some g (Some x) = refl

@@ -1,9 +1,8 @@
 -- Symbols that stand at ESIs: one more, and how many there are.
 use Rattle.std.specs.Prelude.{filter}
 use Rattle.std.proofs.Math.Path.{fun_ext}
-use Rattle.std.proofs.Common.{◌≡◌, ◌≢◌, ℕ, zero, suc, ◌+◌, ◌<◌, ◌≤◌, Bool, true, false, List, [], ◌∷◌, ◌++◌, Option, Some, length, get_or, refl, sym, ap, ◌∙◌, inl, inr, arith}
+use Rattle.std.proofs.Common.{◌≡◌, ◌≢◌, ℕ, zero, suc, ◌+◌, ◌<◌, Bool, true, false, List, [], ◌∷◌, ◌++◌, Option, Some, length, get_or, refl, sym, ap, ◌∙◌, inl, inr, arith}
 use Rattle.std.proofs.lemmas.Bool.{cases_Bool, cases_eq, cases_lt, eq-eqb, ne_eqb}
-use Rattle.std.proofs.lemmas.List.{get_or_past}
 use Rattle.lists.specs.Below.{below}
 use Rattle.lists.proofs.Below.{all_below}
 use Rattle.lists.proofs.Lists.{at_old, at_end, filter_same}
@@ -19,14 +18,6 @@ pushed read d want xs y n len before here i li = elim (cases_lt i n) [
   | inr past ↦
       (let last : i ≡ n = omega (arith, past, li) in
       ap read (at_end xs y d i (omega (arith, len, last))) ∙ here ∙ ap want (sym last))
-]
-
--- and so everywhere, where it is so past the list's end
-pub everywhere : {A B : Type 0} (read : A → B) (d : A) (want : ℕ → B) (xs : List A) (n : ℕ) → length xs ≡ n
-    → ((i : ℕ) → i < n → read (get_or xs i d) ≡ want i) → ((i : ℕ) → n ≤ i → read d ≡ want i) → (i : ℕ) → read (get_or xs i d) ≡ want i
-everywhere read d want xs n len before past i = elim (cases_lt i n) [
-  | inl lt ↦ before i lt
-  | inr more ↦ (ap read (get_or_past xs i d (omega (arith, more, len))) ∙ past i more)
 ]
 
 pub with_here : (at : ℕ → Option (List ℕ)) (j i : ℕ) (y : List ℕ) → j ≡ i → with_esi at j y i ≡ Some y

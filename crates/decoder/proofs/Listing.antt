@@ -73,10 +73,3 @@ module _ (s : Symbols) where
       all = passed blocks (λ b stands. stands) (λ j h. absurd (let n = none j in cc));
       some = listed.some;
     }
-
--- where no key is left, all are listed
-pub listed_all : (s : Symbols) (blocks : List ℕ) → AreListed s [] blocks → (b j : ℕ) → is_some (bytes_at s b j) ≡ true → Stands blocks b
-listed_all s blocks listed b j h = elim (listed.all b j h) [
-  | inr stands ↦ stands
-  | inl member ↦ absurd (cc)
-]

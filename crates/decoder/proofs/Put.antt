@@ -42,15 +42,6 @@ pending_none f b p at need is none = record {
   symbols = λ j. ap (λ (l : List Copy). arrived_at (λ v. v.items) l j) is ∙ sym (none j);
 }
 
--- what is kept of the same symbols
-pub pending_stays : (f : Fti) (b : ℕ) (p q : Pending) (at : ℕ → Option (List ℕ)) → q.need ≡ p.need → q.symbols.items ≡ p.symbols.items → IsPending f b p at → IsPending f b q at
-pending_stays f b p q at need is h = record {
-  need = need ∙ h.need;
-  esis = rw is h.esis;
-  once = ap length is ∙ h.once;
-  symbols = λ j. ap (λ (l : List Copy). arrived_at (λ v. v.items) l j) is ∙ h.symbols j;
-}
-
 -- the same where the symbol stands already
 pub pending_same : (f : Fti) (b : ℕ) (p : Pending) (at : ℕ → Option (List ℕ)) (j : ℕ) (y : List ℕ) → at j ≡ Some y → IsPending f b p at → IsPending f b p (with_esi at j y)
 pending_same f b p at j y stands h = subst (IsPending f b p) (sym (with_same at j y stands)) h

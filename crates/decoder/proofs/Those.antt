@@ -4,20 +4,10 @@ use Rattle.std.specs.Borrow.{Bor}
 use Rattle.std.proofs.Common.{◌≡◌, ℕ, zero, suc, ◌+◌, ◌<◌, ◌≤◌, Bool, true, false, List, [], ◌∷◌, ◌++◌, length, get_or, arith, ap, ◌∙◌, sym, refl, inl, inr, subst}
 use Rattle.std.proofs.lemmas.Bool.{cases_Bool, cases_eq, cases_lt}
 use Rattle.std.proofs.lemmas.List.{get_or_append_left, get_or_push, length-append}
-use Rattle.elim.proofs.Rising.{rising_none, rising_more}
+use Rattle.elim.proofs.Rising.{rising_more}
 use Rattle.lists.specs.Below.{below}
 use Rattle.decoder.specs.Erasures.{AreThose}
 use Rattle.decoder.proofs.Counts.{one_more_held, none_more_held}
-
-pub those_none : (t : ℕ → Bool) (from : ℕ) → AreThose t from from []
-those_none t from = record {
-  least = λ i l. absurd (omega (arith, l));
-  most = λ i l. absurd (omega (arith, l));
-  pass = λ i l. absurd (omega (arith, l));
-  all = λ j a b h. absurd (omega (arith, a, b));
-  rise = rising_none;
-  count = omega arith;
-}
 
 -- a member of a list that has one more
 behind : (P : ℕ → Type 0) (xs : List ℕ) (v : ℕ) → ((i : ℕ) → i < length xs → P (get_or xs i 0)) → P v → (i : ℕ) → i < length (xs ++ v ∷ []) → P (get_or (xs ++ v ∷ []) i 0)

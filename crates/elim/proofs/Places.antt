@@ -1,6 +1,6 @@
 -- Places of entries in the list of all.
 use Rattle.std.proofs.Common.{◌≡◌, ℕ, ◌+◌, ◌-◌, ◌*◌, ◌<◌, List, length, get_or, set, inl, inr, get_or-set_same, get_or-set_other}
-use Rattle.std.proofs.lemmas.Bool.{cases_eq, cases_lt}
+use Rattle.std.proofs.lemmas.Bool.{cases_lt}
 use Rattle.std.proofs.lemmas.Nat.{mul-add-lt, same_from_place}
 use Rattle.std.proofs.lemmas.List.{get_or-replicate, length-replicate, get_or_past, get_or-drop, length-drop}
 use Rattle.std.proofs.lemmas.Nat.{row_fits}
@@ -20,12 +20,6 @@ pub set_other : {F : Type 0} (l : List F) (cols i j a b : ℕ) (v none : F) → 
     → get_or (set l (i * cols + j) v) (a * cols + b) none ≡ get_or l (a * cols + b) none
 set_other l cols i j a b v none hj hb apart =
     get_or-set_other l (i * cols + j) (a * cols + b) v none (λ e. let s = same_from_place a b i j cols hb hj e in apart s.0 s.1)
-
-pub elements_set : {F : Type 0} (element : F → Type 0) (l : List F) (n : ℕ) (v none : F) → n < length l → element v → ((i : ℕ) → element (get_or l i none)) → (i : ℕ) → element (get_or (set l n v) i none)
-elements_set element l n v none lt ev h i = elim (cases_eq i n) [
-  | inl e ↦ rw (e, get_or-set_same l n v none lt) ev
-  | inr ne ↦ rw (get_or-set_other l n i v none ne) (h i)
-]
 
 pub none_everywhere : {F : Type 0} (n : ℕ) (none : F) (i : ℕ) → get_or (replicate n none) i none ≡ none
 none_everywhere n none i = elim (cases_lt i n) [

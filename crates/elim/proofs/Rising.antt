@@ -4,9 +4,6 @@ use Rattle.std.proofs.lemmas.Bool.{cases_eq, cases_lt}
 use Rattle.std.proofs.lemmas.List.{get_or_append_left, get_or_push}
 use Rattle.elim.specs.Erasures.{AreRising}
 
-pub rising_none : AreRising []
-rising_none i j lt lj = absurd (omega arith)
-
 -- a greater number more
 pub rising_more : (xs : List ℕ) (v : ℕ) → ((i : ℕ) → i < length xs → get_or xs i 0 < v) → AreRising xs → AreRising (xs ++ v ∷ [])
 rising_more xs v greater rise i j lt lj =

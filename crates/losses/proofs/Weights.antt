@@ -18,9 +18,6 @@ use Rattle.losses.specs.Numbers.{has, present}
 use Rattle.losses.specs.declared.groups.Member.{Member}
 use Rattle.losses.specs.Number.{Number}
 
-total_at : (f g : ℕ → ℕ) (xs : List ℕ) → AllByRecursion (λ x. f x ≡ g x) xs → total f xs ≡ total g xs
-total_at f g xs h = total_same f g xs h
-
 module _ (counts : List ℕ) (qs : List Member) (known : (j : ℕ) → j < 256 → get_or counts j 0 ≡ esi_copies qs j) where
   pub came_is : present_esis counts ≡ esis qs
   came_is = filter_same (λ j. nat_lt 0 (slice_index counts j)) (λ j. nat_lt 0 (esi_copies qs j)) (below 256) (all_to (λ j. j < 256) _ (λ j l. ap (nat_lt 0) (known j l)) (below 256) (below_all 256 256 (omega arith)))
@@ -141,9 +138,6 @@ places_suc v (suc i) (q ∷ qs) l =
     ]
 
 -- the places so far
-pub places_none : (v : Member → Bool) (qs : List Member) → [] ≡ map (λ (q : Member). q.place) (filter v (take 0 qs))
-places_none v qs = refl
-
 pub places_more : (v : Member → Bool) (i : ℕ) (qs : List Member) → i < length qs
     → map (λ (q : Member). q.place) (filter v (take (i + 1) qs)) ≡ map (λ (q : Member). q.place) (filter v (take i qs)) ++ cond (v (get_or qs i (member 0 0))) ((get_or qs i (member 0 0)).place ∷ []) []
 places_more v i qs l = let e : i + 1 ≡ suc i = omega arith in ap (λ (n : ℕ). map (λ (q : Member). q.place) (filter v (take n qs))) e ∙ places_suc v i qs l

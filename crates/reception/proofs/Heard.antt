@@ -1,11 +1,10 @@
 -- A walk that asks of datagrams only which FTI the first carrier has, and one with that FTI after it.
-use Rattle.std.proofs.Common.{◌≡◌, ℕ, ◌+◌, ◌<◌, ◌≤◌, List, [], Option, Some, None, Result, Ok, Err, true, refl, sym, ap, ◌∙◌, arith, length, map, take, drop, get_or}
+use Rattle.std.proofs.Common.{◌≡◌, ℕ, ◌+◌, ◌<◌, List, [], Option, Some, None, Result, Ok, Err, true, refl, sym, ap, ◌∙◌, length, map, take, drop, get_or}
 use Rattle.std.specs.Prelude.{is_some}
 use Rattle.std.specs.Borrow.{Bor}
-use Rattle.std.proofs.lemmas.List.{get_or-map, length-map, take_all, take-append-drop}
+use Rattle.std.proofs.lemmas.List.{get_or-map, take-append-drop}
 use Rattle.partition.specs.Fti.{Fti}
 use Rattle.alc.specs.Reading.{Reading}
-use Rattle.alc.specs.Computed.{read_of}
 use Rattle.reception.specs.declared.scope.Identity.{Identity}
 use Rattle.reception.specs.declared.scope.Scope.{Scope}
 use Rattle.reception.specs.declared.scope.PlaceFault.{PlaceFault}
@@ -25,11 +24,6 @@ Heard who ds place scope = scope_from (asked who) (counted who (take place (read
 pub heard_more : (who : Identity) (ds : List (List ℕ)) (place : ℕ) (scope : Scope) → Heard who ds place scope → (d : List ℕ) (new : Scope) → place < length ds → d ≡ get_or ds place [] → IsHeard d scope new → Heard who ds (place + 1) new
 heard_more who ds place scope h d new inside here is =
     scope_now (asked who) ds place inside is.reading (reading_here ds place d is.reading is.reading inside here is.reads) scope h ∙ sym is.scope
-
--- to the end
-pub heard_all : (who : Identity) (ds : List (List ℕ)) (place : ℕ) (scope : Scope) → Heard who ds place scope → length ds ≤ place → scope ≡ scope_in who ds
-heard_all who ds place scope h l =
-    sym h ∙ ap (λ (rs : List Reading). scope_from (asked who) (counted who rs)) (take_all place (readings_of ds) (omega (arith, l, length-map ds read_of)))
 
 -- to the first carrier
 pub heard_enough : (who : Identity) (ds : List (List ℕ)) (place : ℕ) (scope : Scope) → Heard who ds place scope → (f : Fti) → scope.fti ≡ Some f → scope ≡ scope_in who ds

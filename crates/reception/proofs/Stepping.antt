@@ -55,10 +55,6 @@ settled known xs = by (scope_from known xs).fti refl
     by (Some f) e = known_stays (scope_from known xs) f xs e
     by None e = ap (λ (k : Scope). scope_from k xs) (learns_nothing known xs e)
 
-pub no_symbols_timely : (f : Option Fti) → Timely f []
-no_symbols_timely (Some f) = tt
-no_symbols_timely None = refl
-
 -- ---- what comes to be known changes nothing of what came before
 
 module _ {R : Type 0} (judge : Judge R) where

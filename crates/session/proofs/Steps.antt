@@ -4,7 +4,7 @@ use Rattle.std.specs.Prelude.{None, Result, Ok, Err, IfErr, IsErrAnd}
 use Rattle.std.proofs.lemmas.List.{length-map, length_push, map-set, get_or-map, get_or-set_same, get_or-set_other, get_or_past, set-get_or, drop_more, drop-set-lt, length-set, get_or_default}
 use Rattle.std.specs.Io.KnownBytes.{IsAtEnd}
 use Rattle.session.specs.Joined.{joined, longest, one_after_other, rounds}
-use Rattle.session.specs.Joining.{IsJoined, IsUnjoined}
+use Rattle.session.specs.Joining.{IsUnjoined}
 use Rattle.session.specs.Copying.{HasJoined, IsAfterRounds, IsAtReader, IsCopied, IsInRound, IsOver, IsUnread, IsUnwritten, steps_left}
 use Rattle.session.specs.declared.frame.FrameFault.{FrameFault}
 use Rattle.session.proofs.Joins.{next_turn, next_whole, same_or_not}
@@ -201,16 +201,6 @@ module _ (r p : ℕ) (ended : List Bool) (new : List (Option (List ℕ))) (lists
         | inl m ↦ inl (omega (arith, m))
         | inr m ↦ inr (omega (arith, m))
       ]
-
-pub all_joined : (turns : Bool) (old new : List (Option (List ℕ))) (before after : Option (List ℕ)) (room room_then count : ℕ) (lists : List (List (List ℕ)))
-    → HasJoined turns old new before after room room_then count lists → ((i : ℕ) → IsAtEnd (get_or new i None)) → IsJoined turns old new before after count
-all_joined turns old new before after room room_then count lists has ends = record {
-  lists = lists;
-  many = has.many;
-  read = λ i. record { consumed = has.consumed i; each = has.each i; end = ends i };
-  written = has.written.gained;
-  counted = has.counted;
-}
 
 -- ---- before the first step
 

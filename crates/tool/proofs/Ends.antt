@@ -16,23 +16,11 @@ use Rattle.decoder.specs.declared.receiver.Receiver.{Receiver}
 use Rattle.tool.specs.declared.fault.Fault.{Fault}
 use Rattle.tool.specs.declared.fault.Fault.TheVariants.{Open, File, Memory, Frame, Certificate, Fti, Send, Output}
 use Rattle.tool.specs.Folder.{Files, HoldsInput}
-use Rattle.tool.specs.Inputs.{Opens, IsNotOpened}
+use Rattle.tool.specs.Inputs.{Opens}
 use Rattle.tool.specs.Lines.{line_of}
 use Rattle.tool.specs.Decoding.{object_text}
 use Rattle.tool.specs.Following.{complete_line, IsCompleted, TellsComplete, IsCutOff, IsFollowed, IsNotFollowed}
 use Rattle.tool.specs.Listening.{HasMadeUp, HasHeardAll, HasHeardSome, IsCutBehind, IsUnheard, IsDelivered, IsUndelivered, IsUntold, TellsAnswer}
-
--- the session didn't open
-pub not_opened : (who : Identity) (files : Option Files) (session output : List ℕ) (failed : Bool) (before : Option (List ℕ)) (fault : Fault) → IsNotOpened files session fault
-    → IsNotFollowed who files files session output failed before before fault
-not_opened who files session output failed before (Open name) h = (inl (h, refl), refl)
-not_opened who files session output failed before (File name) h = absurd h
-not_opened who files session output failed before Memory h = (inl refl, refl)
-not_opened who files session output failed before (Frame e) h = absurd h
-not_opened who files session output failed before (Certificate e) h = absurd h
-not_opened who files session output failed before (Fti e) h = absurd h
-not_opened who files session output failed before (Send e) h = absurd h
-not_opened who files session output failed before Output h = absurd h
 
 -- the file that an input was opened of
 pub opens : (files : Option Files) (name : List ℕ) (opened : Option (List ℕ)) (sound : Bool) → HoldsInput files name opened sound → Opens files name opened

@@ -22,10 +22,6 @@ pub nothing_consumed : (a : Option (List ℕ)) → Consumes a a []
 nothing_consumed None = tt
 nothing_consumed (Some xs) = refl
 
--- no datagrams leave a block short, as no FTI is known
-pub none_leave_short : (who : Identity) → ¬ LeaveNoneShort who []
-none_leave_short who full = let known = full.known in cc
-
 come_more : (who : Identity) (place : ℕ) (before ds taken : List (List ℕ)) (text d : List ℕ) (after : List (List ℕ)) (line : List ℕ) → Come who place before ds taken text
     → Comes who (place + length ds) taken d after line → Come who place before (ds ++ d ∷ []) after (text ++ line)
 come_more who place before [] taken text d after line come comes =

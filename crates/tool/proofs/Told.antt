@@ -30,10 +30,6 @@ failed_told (Fti f) failed before after e = inl e
 failed_told (Send f) failed before after e = inl e
 failed_told Output failed before after e = e
 
-pub line_told : (fault : Fault) (failed : Bool) (before after : Option (List ℕ)) → (fault ≡ Output → ⊥)
-    → (text : List ℕ) × IsFaultText fault text × Appends before after (line_of (codes "fault " ++ text)) → TellsFault fault failed before after
-line_told fault failed before after other line = not_output fault failed before after other (inr (line.0, inl line.1, line.2))
-
 -- that there was no memory for it
 pub memory_told : (fault : Fault) (failed : Bool) (before middle after : Option (List ℕ)) → (fault ≡ Output → ⊥) → middle ≡ before
     → (failed ≡ true) ⊎ Appends middle after (codes "fault memory\n") → TellsFault fault failed before after
