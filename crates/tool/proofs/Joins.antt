@@ -3,7 +3,7 @@ use Rattle.std.proofs.Common.{◌≡◌, ◌≢◌, ◌<◌, ◌+◌, ◌∙◌,
 use Rattle.std.specs.Prelude.{Some, None, IfSome}
 use Rattle.std.specs.Io.KnownBytes.{Appends}
 use Rattle.std.specs.Borrow.{Bor}
-use Rattle.std.proofs.lemmas.List.{append-nil, get_or-map, length-map, map-append, take_more}
+use Rattle.std.proofs.lemmas.List.{append-nil, get_or-map, length-map, map-append, take-map, take_more}
 use Rattle.session.specs.Frames.{frames, IsSessionFault}
 use Rattle.session.specs.Joining.{IsReadWhole, IsUnjoined}
 use Rattle.session.specs.declared.frame.FrameFault.{FrameFault}
@@ -11,7 +11,7 @@ use Rattle.session.specs.declared.frame.FrameFault.TheVariants.{CutLength, CutDa
 use Rattle.tool.specs.declared.fault.Fault.{Fault}
 use Rattle.tool.specs.declared.fault.Fault.TheVariants.{Open, File, Memory, Frame, Certificate, Fti, Send, Output}
 use Rattle.tool.specs.Folder.{Files, HoldsInput, IsBlank, Replaces}
-use Rattle.tool.specs.Inputs.{HoldsSession, Opens, IsNotOpened, IsSessionUnread}
+use Rattle.tool.specs.Inputs.{HoldsSession, Opens, IsThere, IsNotOpened, IsSessionUnread}
 use Rattle.tool.specs.Joining.{HoldSessions, IsNotJoined, IsOneUnread}
 use Rattle.tool.specs.Making.{Fails}
 use Rattle.tool.specs.Opening.{AreOpen}
@@ -36,11 +36,18 @@ unopened files name (Fti f) why = absurd why
 unopened files name (Send f) why = absurd why
 unopened files name Output why = absurd why
 
-pub one_unopened : (files : Option Files) (names : List (List ℕ)) (i : ℕ) (fault : Fault) → i < length names → IsNotOpened files (get_or names i []) fault
-    → IsOneUnread files names fault
-one_unopened files [] i fault l why = absurd (omega arith)
-one_unopened files (n ∷ ns) zero fault l why = inl (unopened files n fault why)
-one_unopened files (n ∷ ns) (suc i) fault l why = inr (one_unopened files ns i fault (omega arith) why)
+-- a file that did
+is_there : (files : Option Files) (name : List ℕ) (opened : Option (List ℕ)) → Opens files name opened → IsThere files name
+is_there None name opened opens = tt
+is_there (Some held) name opened opens = (opens.0, opens.1, tt)
+
+-- the first that didn't
+pub one_unopened : (files : Option Files) (names : List (List ℕ)) (i : ℕ) (opened : List (Option (List ℕ))) (fault : Fault) → i < length names
+    → AreOpen files (take i names) opened → IsNotOpened files (get_or names i []) fault → IsOneUnread files names fault
+one_unopened files [] i opened fault l are why = absurd (omega arith)
+one_unopened files (n ∷ ns) zero opened fault l are why = inl (unopened files n fault why)
+one_unopened files (n ∷ ns) (suc i) [] fault l are why = absurd are
+one_unopened files (n ∷ ns) (suc i) (o ∷ os) fault l are why = inr (is_there files n o are.0, one_unopened files ns i os fault (omega arith) are.1 why)
 
 -- all of one file's bytes were its frames
 holds_session : (files : Option Files) (name : List ℕ) (opened left : Option (List ℕ)) (datagrams : List (List ℕ)) → Opens files name opened
@@ -89,7 +96,8 @@ unread_at files [] [] i failed fault are l io memory why = absurd (omega (arith,
 unread_at files [] (o ∷ os) i failed fault are l io memory why = absurd are
 unread_at files (n ∷ ns) [] i failed fault are l io memory why = absurd are
 unread_at files (n ∷ ns) (o ∷ os) zero failed fault are l io memory why = inl (frame_unread files n o failed fault are.0 io memory why)
-unread_at files (n ∷ ns) (o ∷ os) (suc i) failed fault are l io memory why = inr (unread_at files ns os i failed fault are.1 (omega (arith, l)) io memory why)
+unread_at files (n ∷ ns) (o ∷ os) (suc i) failed fault are l io memory why =
+    inr (is_there files n o are.0, unread_at files ns os i failed fault are.1 (omega (arith, l)) io memory why)
 
 pub unjoined : (files : Option Files) (names : List (List ℕ)) (opened : List (Option (List ℕ))) (turns : Bool) (fault : FrameFault) (sound failed : List Bool)
     (before after : Option (List ℕ)) (room : ℕ) (writer_failed : Bool) → AreOpen files names opened
@@ -105,9 +113,11 @@ unjoined files names opened turns fault sound failed before after room writer_fa
 -- ---- by the names that are borrowed
 
 module _ (files : Option Files) (names : List (Bor (List ℕ))) (i : ℕ) (d : Bor (List ℕ)) (l : i < length names) where
-  pub name_unopened : (fault : Fault) → IsNotOpened files (get_or names i d).now fault → IsOneUnread files (map (λ name. name.now) names) fault
-  name_unopened fault why =
-      one_unopened files (map (λ name. name.now) names) i fault (let e = length-map names (λ name. name.now) in omega (arith, e, l))
+  pub name_unopened : (opened : List (Option (List ℕ))) (fault : Fault) → AreOpen files (map (λ name. name.now) (take i names)) opened → IsNotOpened files (get_or names i d).now fault
+      → IsOneUnread files (map (λ name. name.now) names) fault
+  name_unopened opened fault are why =
+      one_unopened files (map (λ name. name.now) names) i opened fault (let e = length-map names (λ name. name.now) in omega (arith, e, l))
+      (subst (λ (ns : List (List ℕ)). AreOpen files ns opened) (sym (take-map (λ name. name.now) i names)) are)
       (subst (λ name. IsNotOpened files name fault) (sym (get_or-map (λ name. name.now) names i d [] l)) why)
 
   pub name_opened : {X : Type 0} (remaining : X → Option (List ℕ)) (inputs : List X) (input : X) (sound : Bool)
@@ -124,7 +134,7 @@ module _ (files : Option Files) (names : List (Bor (List ℕ))) (i : ℕ) (d : B
 not_output : (files : Option Files) (names : List (List ℕ)) → IsOneUnread files names Output → ⊥
 not_output files [] why = why
 not_output files (name ∷ names) (inl why) = why
-not_output files (name ∷ names) (inr why) = not_output files names why
+not_output files (name ∷ names) (inr why) = not_output files names why.1
 
 pub unread_fails : (files : Option Files) (names : List (List ℕ)) (output : List ℕ) (done : Option (List ℕ) → ℕ → Type 0) (failed : Bool) (before : Option (List ℕ)) (fault : Fault)
     → IsOneUnread files names fault → Fails (IsNotJoined output names) done files files failed before before fault

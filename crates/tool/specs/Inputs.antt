@@ -19,9 +19,20 @@ Opens files name opened = Holds files name (λ bytes. opened ≡ Some bytes)
 abbrev pub HoldsBytes : Option Files → List ℕ → List ℕ → Type 0
 HoldsBytes files name bytes = Holds files name (λ held. held ≡ bytes)
 
+-- a file stands there, whatever it holds
+abbrev pub IsThere : Option Files → List ℕ → Type 0
+IsThere files name = Holds files name (λ bytes. ⊤)
+
 -- the certificate stands there; no other has its text
 abbrev pub HoldsCertificate : Option Files → List ℕ → Certificate → Type 0
 HoldsCertificate files name z = IsCertificate z × Holds files name (λ held. held ≡ certificate_text z)
+
+-- some session, or some certificate, stands there
+abbrev pub HasSession : Option Files → List ℕ → Type 0
+HasSession files name = (datagrams : List (List ℕ)) × HoldsSession files name datagrams
+
+abbrev pub HasCertificate : Option Files → List ℕ → Type 0
+HasCertificate files name = (z : Certificate) × HoldsCertificate files name z
 
 -- Why a file didn't open: it isn't there, or the folder doesn't tell its files, or there is no memory.
 abbrev pub IsNotOpened : Option Files → List ℕ → Fault → Type 0

@@ -4,7 +4,7 @@ use Rattle.session.specs.Frames.{frames}
 use Rattle.session.specs.Joined.{joined}
 use Rattle.tool.specs.declared.fault.Fault.{Fault}
 use Rattle.tool.specs.Folder.{Files, Replaces}
-use Rattle.tool.specs.Inputs.{HoldsSession, IsSessionUnread}
+use Rattle.tool.specs.Inputs.{HoldsSession, IsThere, IsSessionUnread}
 use Rattle.tool.specs.Lines.{IsPrintFault}
 use Rattle.tool.specs.Making.{PrintsCount, IsUnmade, IsUnwritten}
 
@@ -24,10 +24,10 @@ pub record IsJoined (old new : Option Files) (output : List ℕ) (sessions : Lis
   pub printed : PrintsCount (codes "joined") (length (joined turns lists)) (codes " datagrams") before after
   pub told : status ≡ 0
 
--- one of the sessions wasn't read
+-- one of the sessions wasn't read, and those before it are there
 abbrev pub IsOneUnread : Option Files → List (List ℕ) → Fault → Type 0
 IsOneUnread files [] fault = ⊥
-IsOneUnread files (name ∷ names) fault = IsSessionUnread files name fault ⊎ IsOneUnread files names fault
+IsOneUnread files (name ∷ names) fault = IsSessionUnread files name fault ⊎ (IsThere files name × IsOneUnread files names fault)
 
 abbrev pub IsNotJoined : List ℕ → List (List ℕ) → Option Files → Bool → Fault → Type 0
 IsNotJoined output sessions files failed fault =

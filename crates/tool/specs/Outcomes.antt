@@ -20,7 +20,7 @@ use Rattle.request.specs.declared.requests.Request.TheVariants.{Check, Twin, Sho
 use Rattle.tool.specs.declared.fault.Fault.{Fault}
 use Rattle.tool.specs.declared.fault.Fault.TheVariants.{Frame}
 use Rattle.tool.specs.Folder.{Files, Replaces}
-use Rattle.tool.specs.Inputs.{HoldsSession, Opens, HoldsBytes, HoldsCertificate, IsNotOpened, IsSessionUnread, IsObjectUnread, IsCertificateUnread}
+use Rattle.tool.specs.Inputs.{HoldsSession, Opens, HoldsBytes, HoldsCertificate, IsThere, HasSession, HasCertificate, IsNotOpened, IsSessionUnread, IsObjectUnread, IsCertificateUnread}
 use Rattle.tool.specs.Lines.{IsPrintFault, IsSilent, TellsFault, Prints, PrintsTwin, PrintsDatagrams, PrintsSome}
 use Rattle.tool.specs.Decoding.{IsDecoded, IsNotDecoded}
 use Rattle.tool.specs.Following.{IsFollowed, IsNotFollowed}
@@ -65,11 +65,14 @@ IsFrameUnread who files session object certificate (Frame NoFrameMemory) = ⊥
 IsFrameUnread who files session object certificate (Frame fault) = IsCut who files session object certificate fault
 IsFrameUnread who files session object certificate fault = ⊥
 
--- Why there is none: the session didn't open, the object or the certificate wasn't read, then a frame of the session wasn't,
--- or there was no memory, or the output has failed.
+-- Why there is none: the session didn't open; or it is there and the object wasn't read; or both are there and the
+-- certificate wasn't read; or all three were and a frame of the session wasn't; or there was no memory, or the output has
+-- failed.
 abbrev pub IsUnchecked : Identity → Option Files → List ℕ → List ℕ → List ℕ → Bool → Fault → Type 0
 IsUnchecked who files session object certificate failed fault =
-    IsNotOpened files session fault ⊎ IsObjectUnread files object fault ⊎ IsCertificateUnread files certificate fault
+    IsNotOpened files session fault
+    ⊎ (IsThere files session × IsObjectUnread files object fault)
+    ⊎ (IsThere files session × IsThere files object × IsCertificateUnread files certificate fault)
     ⊎ IsFrameUnread who files session object certificate fault ⊎ IsPrintFault failed fault
 
 -- 0 where there is a twin to be written
@@ -100,11 +103,15 @@ pub record IsTwinned (who : Identity) (old new : Option Files) (session object c
   pub printed : PrintsTwin verdict before after
   pub made : MakesTwin who verdict polynomials.fti datagrams bytes output old new
 
--- Why not: a file wasn't read, or the output isn't there, or there was no memory, or the output has failed.
+-- Why not: a file wasn't read, and those before it were; or all three were, and the output wasn't made; or there was no
+-- memory, or standard output has failed.
 abbrev pub IsUntwinned : List ℕ → List ℕ → List ℕ → List ℕ → Option Files → Bool → Fault → Type 0
 IsUntwinned session object certificate output files failed fault =
-    IsSessionUnread files session fault ⊎ IsObjectUnread files object fault ⊎ IsCertificateUnread files certificate fault
-    ⊎ IsUnmade files output fault ⊎ IsPrintFault failed fault
+    IsSessionUnread files session fault
+    ⊎ (HasSession files session × IsObjectUnread files object fault)
+    ⊎ (HasSession files session × IsThere files object × IsCertificateUnread files certificate fault)
+    ⊎ (HasSession files session × IsThere files object × HasCertificate files certificate × IsUnmade files output fault)
+    ⊎ IsPrintFault failed fault
 
 abbrev pub IsSomePacket : List ℕ → Type 0
 IsSomePacket datagram = (p : Packet) × IsPacket datagram p
