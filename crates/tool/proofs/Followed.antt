@@ -9,7 +9,7 @@ use Rattle.reception.specs.declared.scope.Identity.{Identity}
 use Rattle.decoder.specs.Receiving.{with_datagram, LeaveNoneShort}
 use Rattle.decoder.specs.declared.receiver.FeedFault.{FeedFault}
 use Rattle.tool.specs.Lines.{line_of}
-use Rattle.tool.specs.Following.{refusal_line, IsRefused, MayBeTaken, Comes, Come, AreRead, MakeUp}
+use Rattle.tool.specs.Following.{refusal_line, IsNotTaken, MayBeTaken, Comes, Come, AreRead, MakeUp}
 
 nothing_more : (a : Option (List ℕ)) → Appends a a []
 nothing_more None = tt
@@ -49,7 +49,7 @@ module _ (who : Identity) (opened a b : Option (List ℕ)) (ds taken : List (Lis
       (read_more (with_datagram taken d) [] (inl (refl, may, lacks, refl)))
 
   -- one more that was refused
-  pub read_refused : (fault : FeedFault) → IsRefused who taken d fault → AreRead who opened b (with_datagram ds d) taken (text ++ line_of (refusal_line count fault))
+  pub read_refused : (fault : FeedFault) → IsNotTaken who taken d fault → AreRead who opened b (with_datagram ds d) taken (text ++ line_of (refusal_line count fault))
   read_refused fault refused = read_more taken (line_of (refusal_line count fault)) (inr (refl, (fault, refused, refl)))
 
   -- the one that makes up the object

@@ -46,11 +46,11 @@ complete_line count = named (codes "complete after") (decimal count) ++ codes " 
 
 -- Why a datagram isn't taken behind those that were: the decoder's answer to them and it is a fault; they are as many as
 -- can be counted; or it comes before the first carrier.
-abbrev pub IsRefused : Identity → List (List ℕ) → List ℕ → FeedFault → Type 0
-IsRefused who taken d (NoObject fault) = IsAnswer who (with_datagram taken d) (fault_value fault)
-IsRefused who taken d Full = length taken ≡ 2 ^ 64 - 1
-IsRefused who taken d Early = ComesEarly who taken d
-IsRefused who taken d NoMemory = ⊥
+abbrev pub IsNotTaken : Identity → List (List ℕ) → List ℕ → FeedFault → Type 0
+IsNotTaken who taken d (NoObject fault) = IsAnswer who (with_datagram taken d) (fault_value fault)
+IsNotTaken who taken d Full = length taken ≡ 2 ^ 64 - 1
+IsNotTaken who taken d Early = ComesEarly who taken d
+IsNotTaken who taken d NoMemory = ⊥
 
 -- No reason to refuse a datagram behind those that were taken: they have no fault with it, there is room to count it, and it
 -- doesn't come before the first carrier.
@@ -67,7 +67,7 @@ IsTaken who before d after text =
 -- it was refused, and its line is told
 abbrev pub IsLeftOut : Identity → ℕ → List (List ℕ) → List ℕ → List (List ℕ) → List ℕ → Type 0
 IsLeftOut who place before d after text =
-    (after ≡ before) × ((fault : FeedFault) × IsRefused who before d fault × (text ≡ line_of (refusal_line place fault)))
+    (after ≡ before) × ((fault : FeedFault) × IsNotTaken who before d fault × (text ≡ line_of (refusal_line place fault)))
 
 -- the datagram at a place came to those that were taken before
 abbrev pub Comes : Identity → ℕ → List (List ℕ) → List ℕ → List (List ℕ) → List ℕ → Type 0
@@ -113,18 +113,18 @@ IsCompleted who files session count taken text =
 
 -- By the answer to those that were taken: the datagrams that came, the lines, the files, and the status. There is no fault
 -- among these answers.
-abbrev pub IsOutcome : Identity → Answer → List (List ℕ) → Option Files → Option Files → List ℕ → List ℕ → List ℕ → ℕ → Type 0
-IsOutcome who Empty taken old new session output text status =
+abbrev pub IsFollowedTo : Identity → Answer → List (List ℕ) → Option Files → Option Files → List ℕ → List ℕ → List ℕ → ℕ → Type 0
+IsFollowedTo who Empty taken old new session output text status =
     ((left : Option (List ℕ)) × (datagrams : List (List ℕ)) × (lines : List ℕ) × IsHeard who old session left datagrams taken lines
     × IsAtEnd left × (text ≡ lines ++ line_of (codes "empty"))) × (new ≡ old) × (status ≡ 3)
-IsOutcome who (Missing block have need) taken old new session output text status =
+IsFollowedTo who (Missing block have need) taken old new session output text status =
     ((left : Option (List ℕ)) × (datagrams : List (List ℕ)) × (lines : List ℕ) × IsHeard who old session left datagrams taken lines
     × IsAtEnd left × (text ≡ lines ++ line_of (missing_text block have need))) × (new ≡ old) × (status ≡ 3)
-IsOutcome who (Object object) taken old new session output text status =
+IsFollowedTo who (Object object) taken old new session output text status =
     ((count : ℕ) × (lines : List ℕ) × IsCompleted who old session count taken lines
     × (text ≡ (lines ++ line_of (complete_line count)) ++ line_of (object_text (length object))))
     × Replaces old new output object × (status ≡ 0)
-IsOutcome who _ taken old new session output text status = ⊥
+IsFollowedTo who _ taken old new session output text status = ⊥
 
 -- The session in this file was followed: what was printed, the object where the datagrams gave it, and the status.
 pub record IsFollowed (who : Identity) (old new : Option Files) (session output : List ℕ) (before after : Option (List ℕ)) (status : ℕ) : Type 0 where
@@ -132,7 +132,7 @@ pub record IsFollowed (who : Identity) (old new : Option Files) (session output 
   pub answer : Answer
   pub text : List ℕ
   pub right : IsAnswer who taken answer
-  pub outcome : IsOutcome who answer taken old new session output text status
+  pub outcome : IsFollowedTo who answer taken old new session output text status
   pub printed : Appends before after text
 
 -- behind datagrams that came, of which the lines were printed, comes no frame
