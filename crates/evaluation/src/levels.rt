@@ -4,8 +4,9 @@ ghost use Rattle.lists.specs.Bytes.{AreBytes};
 ghost use Rattle.evaluation.specs.Columns.{AreValues};
 ghost use Rattle.evaluation.specs.Parts.{AreSums, IsPart, AreParts};
 
+use crate::multiples::Multiples;
 use crate::powers::write_powers;
-use gf256::add_products;
+use crate::sums::write_sums;
 
 /// How many parts the coefficients are split into: part v has those whose numbers leave the rest v.
 const PARTS: usize = 15;
@@ -14,9 +15,9 @@ const PARTS: usize = 15;
 const POWERS: usize = 17;
 
 /// Fewer coefficients, or no more values than these, are not worth two levels, by measurement.
-const LEAST_COUNT: usize = 80;
+const LEAST_COUNT: usize = 40;
 
-const FEW_VALUES: usize = 32;
+const FEW_VALUES: usize = 24;
 
 /// So many powers have room of their own, which is cleared for each block.
 const FEW_POWERS: usize = 512;
@@ -36,11 +37,11 @@ struct Coefficients<'a> {
 }
 
 /// How many bytes of room [`evaluate`] needs for up to `k` coefficients: 255 rows, or none for
-/// fewer than 80. These must be fewer than 2^64.
+/// fewer than 40. These must be fewer than 2^64.
 pub fn room(k: usize, width: usize) -> usize
     requires narrow { 255 * width < 2 ^ 64 }
-    ensures none { k < 80 → result ≡ 0 }
-    ensures rows { 80 ≤ k → result ≡ 255 * width }
+    ensures none { k < 40 → result ≡ 0 }
+    ensures rows { 40 ≤ k → result ≡ 255 * width }
 {
     if k < LEAST_COUNT { 0 } else { 255 * width }
 }
@@ -67,7 +68,7 @@ pub fn evaluate(
     requires points { n ≤ 255 }
     requires symbols { length symbols.old ≡ n * width }
     requires coefficients { length coefficients.now ≡ k * width }
-    requires sums { 80 ≤ k → 255 * width ≤ length sums.old }
+    requires sums { 40 ≤ k → 255 * width ≤ length sums.old }
     ensures { AreValues coefficients.now k width first n symbols.new }
 {
     let coefficients = Coefficients {
@@ -76,46 +77,60 @@ pub fn evaluate(
         width,
         first,
     };
-    clear(symbols);
+    let multiples = Multiples::new();
     if k < LEAST_COUNT || n <= FEW_VALUES {
-        add_values(symbols, n, &coefficients);
+        write_values(symbols, n, &coefficients, &multiples);
     } else {
         let sums = &mut sums[..255 * width];
-        write_parts(sums, &coefficients);
-        add_parts(symbols, n, &coefficients, sums);
+        write_parts(sums, &coefficients, &multiples);
+        sum_parts(symbols, n, &coefficients, sums, &multiples);
     }
 }
 
-fn clear(bytes: &mut [u8])
-    ensures len { length bytes.new ≡ length bytes.old }
-    ensures zeros { (p : ℕ) → slice_index bytes.new p ≡ 0 }
-{
-    bytes.fill(0);
-}
-
 // In one level: each value is the sum of the coefficients times their powers.
-fn add_values(symbols: &mut [u8], n: usize, coefficients: &Coefficients<'_>)
-    requires few { (n ≤ 255) × (n * coefficients.now.k ≤ 20145) }
+fn write_values(
+    symbols: &mut [u8],
+    n: usize,
+    coefficients: &Coefficients<'_>,
+    multiples: &Multiples,
+)
+    requires few { (n ≤ 255) × (n * coefficients.now.k ≤ 9945) }
     requires symbols { length symbols.old ≡ n * coefficients.now.width }
-    requires zeros { (p : ℕ) → slice_index symbols.old p ≡ 0 }
     ensures { AreSums coefficients.now.bytes.now coefficients.now.k coefficients.now.width
         coefficients.now.first n symbols.new }
 {
     let count = n * coefficients.k;
     // For a small block, clearing room for the most powers would take longer than its products.
     if count <= FEW_POWERS {
-        add_by_powers(symbols, n, coefficients, &mut [0u8; FEW_POWERS][..count]);
+        write_by_powers(
+            symbols,
+            n,
+            coefficients,
+            &mut [0u8; FEW_POWERS][..count],
+            multiples,
+        );
     } else {
-        add_by_powers(symbols, n, coefficients, &mut [0u8; 20145][..count]);
+        write_by_powers(
+            symbols,
+            n,
+            coefficients,
+            &mut [0u8; 9945][..count],
+            multiples,
+        );
     }
 }
 
 // The same, with room for the powers.
-fn add_by_powers(symbols: &mut [u8], n: usize, coefficients: &Coefficients<'_>, powers: &mut [u8])
+fn write_by_powers(
+    symbols: &mut [u8],
+    n: usize,
+    coefficients: &Coefficients<'_>,
+    powers: &mut [u8],
+    multiples: &Multiples,
+)
     requires points { n ≤ 255 }
     requires symbols { length symbols.old ≡ n * coefficients.now.width }
     requires powers { length powers.old ≡ n * coefficients.now.k }
-    requires zeros { (p : ℕ) → slice_index symbols.old p ≡ 0 }
     ensures { AreSums coefficients.now.bytes.now coefficients.now.k coefficients.now.width
         coefficients.now.first n symbols.new }
 {
@@ -126,12 +141,12 @@ fn add_by_powers(symbols: &mut [u8], n: usize, coefficients: &Coefficients<'_>, 
         first,
     } = *coefficients;
     write_powers(powers, n, k, 0, 1, first, 1);
-    add_products(symbols, n, powers, bytes, k, width, width);
+    write_sums(symbols, n, multiples, powers, bytes, k, width, width);
 }
 
 // The first level: for each part and each of 17 powers of alpha, from the first point on, the sum of
 // the part's coefficients times their powers.
-fn write_parts(sums: &mut [u8], coefficients: &Coefficients<'_>)
+fn write_parts(sums: &mut [u8], coefficients: &Coefficients<'_>, multiples: &Multiples)
     requires parts { 15 ≤ coefficients.now.k }
     requires room { length sums.old ≡ 255 * coefficients.now.width }
     ensures len { length sums.new ≡ length sums.old }
@@ -141,12 +156,17 @@ fn write_parts(sums: &mut [u8], coefficients: &Coefficients<'_>)
     let size = POWERS * coefficients.width;
     for v in 0..PARTS {
         let from = v * size;
-        write_part(&mut sums[from..from + size], v, coefficients);
+        write_part(&mut sums[from..from + size], v, coefficients, multiples);
     }
 }
 
 // The sums of one part.
-fn write_part(sums: &mut [u8], v: usize, coefficients: &Coefficients<'_>)
+fn write_part(
+    sums: &mut [u8],
+    v: usize,
+    coefficients: &Coefficients<'_>,
+    multiples: &Multiples,
+)
     requires part { v < 15 }
     requires narrow { 256 * coefficients.now.width < 2 ^ 64 }
     requires parts { 15 ≤ coefficients.now.k }
@@ -164,10 +184,10 @@ fn write_part(sums: &mut [u8], v: usize, coefficients: &Coefficients<'_>)
     let mut matrix = [0u8; 289];
     let powers = &mut matrix[..POWERS * count];
     write_powers(powers, POWERS, count, v, PARTS, first, 1);
-    clear(sums);
-    add_products(
+    write_sums(
         sums,
         POWERS,
+        multiples,
         powers,
         &bytes[v * width..],
         count,
@@ -178,11 +198,16 @@ fn write_part(sums: &mut [u8], v: usize, coefficients: &Coefficients<'_>)
 
 // The second level: 17 rows of values side by side are the sum of the parts, each times a power of
 // alpha.
-fn add_parts(symbols: &mut [u8], n: usize, coefficients: &Coefficients<'_>, sums: &[u8])
+fn sum_parts(
+    symbols: &mut [u8],
+    n: usize,
+    coefficients: &Coefficients<'_>,
+    sums: &[u8],
+    multiples: &Multiples,
+)
     requires points { n ≤ 255 }
     requires symbols { length symbols.old ≡ n * coefficients.now.width }
     requires room { length sums.now ≡ 255 * coefficients.now.width }
-    requires zeros { (p : ℕ) → slice_index symbols.old p ≡ 0 }
     requires parts { AreParts coefficients.now.bytes.now coefficients.now.width
         coefficients.now.first sums.now }
     ensures { AreSums coefficients.now.bytes.now coefficients.now.k coefficients.now.width
@@ -197,8 +222,26 @@ fn add_parts(symbols: &mut [u8], n: usize, coefficients: &Coefficients<'_>, sums
     write_powers(powers, whole + 1, PARTS, 0, 1, 0, POWERS);
     let (front, back) = symbols.split_at_mut(whole * size);
     let (front_powers, back_powers) = powers.split_at(whole * PARTS);
-    add_products(front, whole, front_powers, sums, PARTS, size, size);
+    write_sums(
+        front,
+        whole,
+        multiples,
+        front_powers,
+        sums,
+        PARTS,
+        size,
+        size,
+    );
     if rest > 0 {
-        add_products(back, 1, back_powers, sums, PARTS, size, rest * width);
+        write_sums(
+            back,
+            1,
+            multiples,
+            back_powers,
+            sums,
+            PARTS,
+            size,
+            rest * width,
+        );
     }
 }

@@ -9,8 +9,11 @@
 #![tactic(auto)]
 
 mod interpolation;
+mod lanes;
 mod levels;
+mod multiples;
 mod powers;
+mod sums;
 
 pub use interpolation::coefficients;
 pub use levels::{evaluate, room};

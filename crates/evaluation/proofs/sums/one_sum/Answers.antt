@@ -1,0 +1,17 @@
+use Rattle.std.proofs.Common.{ℕ, ◌≡◌, ◌+◌, ◌*◌, ◌/◌, ◌%◌, get_or, ap, ◌∙◌, arith}
+use Rattle.std.proofs.lemmas.Simd.{get_or-replicate}
+use Rattle.gf256.specs.Arithmetic.{product}
+use Rattle.evaluation.proofs.Halves.{sum_next}
+use Rattle.evaluation.proofs.sums.one_sum.Goals as goal
+
+pub loop-i-init : goal.loop-i-init
+loop-i-init c = λ t lt. get_or-replicate {A = ℕ} 64 t 0 0 lt
+
+pub loop-i-preserved : goal.loop-i-preserved
+loop-i-preserved c = λ t lt.
+    let place : c.loop-i.i * c.args.stride + c.args.at + t ≡ c.loop-i.i * c.args.stride + (c.args.at + t) = omega arith in
+    let is = c.lanes_from-v.ensures t lt ∙ ap (λ p. get_or c.args.sources.now p 0) place in
+    sum_next (λ i. product (get_or c.args.coefficients.now i 0) (get_or c.args.sources.now (i * c.args.stride + (c.args.at + t)) 0)) c.loop-i.i _ _ _
+    (c.sum_lanes-sum.ensures t lt) (c.loop-i.invariant t lt)
+    (c.times-product.ensures t (get_or c.args.sources.now (c.loop-i.i * c.args.stride + (c.args.at + t)) 0) lt (c.type_inv.sources (c.loop-i.i * c.args.stride + (c.args.at + t))).fits
+    (c.low_halves.ensures.value t lt ∙ ap (λ v. v % 16) is) (c.high_halves.ensures.value t lt ∙ ap (λ v. v / 16) is))
