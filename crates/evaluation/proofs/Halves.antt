@@ -1,5 +1,5 @@
 -- Products looked up by the halves of bytes, and the tables of them.
-use Rattle.std.proofs.Common.{◌≡◌, ℕ, zero, suc, ◌+◌, ◌-◌, ◌*◌, ◌/◌, ◌%◌, ◌^◌, ◌<◌, Bool, true, false, cond, leb, List, map, length, get_or, replicate, bit_xor, refl, sym, ap, ◌∙◌, arith, w8, Fits}
+use Rattle.std.proofs.Common.{◌≡◌, ℕ, zero, suc, ◌+◌, ◌-◌, ◌*◌, ◌/◌, ◌%◌, ◌^◌, ◌<◌, Bool, true, false, cond, leb, List, map, length, get_or, replicate, bit_xor, refl, sym, ap, ◌∙◌, arith, w8}
 use Rattle.std.specs.Prelude.{◌==◌, nat_lt}
 use Rattle.std.proofs.lemmas.Simd.{length-zip2, get_or-zip2, length-replicate, get_or-replicate, tops_compared, length-sel_l, get_or-sel_l}
 use lib.Lanes.{zip2, sel_l, top}
@@ -8,7 +8,7 @@ use Rattle.gf256.specs.Arithmetic.{sum_of, product, product_over, doubled_times,
 use Rattle.gf256.specs.ByteSums.{byte_sum}
 use Rattle.gf256.specs.Sums.{row_sum}
 use Rattle.gf256.specs.Computing.{all_under, same_under, small_under}
-use Rattle.gf256.specs.ProductLaws.{product_sum, product_comm, product_swap, product_zero, product_one, product_two, product_byte, zero_product}
+use Rattle.gf256.specs.ProductLaws.{product_sum, product_comm, product_swap, product_zero, product_one, product_two, product_byte}
 use Rattle.gf256.proofs.SliceSums.{sum_same}
 use Rattle.gf256.proofs.SliceLanes.{Block, lane_fits, zip_long, zip_lane}
 use Rattle.evaluation.specs.Multiples.{half, AreMultiples, column_sum}

@@ -161,12 +161,7 @@ fn write_parts(sums: &mut [u8], coefficients: &Coefficients<'_>, multiples: &Mul
 }
 
 // The sums of one part.
-fn write_part(
-    sums: &mut [u8],
-    v: usize,
-    coefficients: &Coefficients<'_>,
-    multiples: &Multiples,
-)
+fn write_part(sums: &mut [u8], v: usize, coefficients: &Coefficients<'_>, multiples: &Multiples)
     requires part { v < 15 }
     requires narrow { 256 * coefficients.now.width < 2 ^ 64 }
     requires parts { 15 ≤ coefficients.now.k }

@@ -16,6 +16,8 @@ const SIZE: usize = 32;
 #[derive(Drop)]
 pub(crate) struct Multiples {
     bytes: [u8; 8192],
+    // So that the tables lie at addresses that 16 divides, and no load of one crosses a line of the cache.
+    _beside: u128,
     ghost products: { AreMultiples bytes 256 },
 }
 
@@ -92,7 +94,7 @@ impl Multiples {
         for c in 1..256usize {
             put_products(&mut bytes, c);
         }
-        Multiples { bytes }
+        Multiples { bytes, _beside: 0 }
     }
 
     /// The products of an element with bytes whose halves are given.

@@ -82,6 +82,63 @@ fn four_sums(
     (one, two, three, four)
 }
 
+// The same for five rows.
+#[inline(always)]
+fn five_sums(
+    multiples: &Multiples,
+    first: &[u8],
+    second: &[u8],
+    third: &[u8],
+    fourth: &[u8],
+    fifth: &[u8],
+    sources: &[u8],
+    stride: usize,
+    at: usize,
+) -> (u8x64, u8x64, u8x64, u8x64, u8x64)
+    requires second { length second.now ≡ length first.now }
+    requires third { length third.now ≡ length first.now }
+    requires fourth { length fourth.now ≡ length first.now }
+    requires fifth { length fifth.now ≡ length first.now }
+    requires reach { length first.now * stride + at < 2 ^ 64 }
+    ensures first { (t : ℕ) → t < 64
+        → slice_index result.0 t
+        ≡ column_sum first.now sources.now (length first.now) stride (at + t) }
+    ensures second { (t : ℕ) → t < 64
+        → slice_index result.1 t
+        ≡ column_sum second.now sources.now (length first.now) stride (at + t) }
+    ensures third { (t : ℕ) → t < 64
+        → slice_index result.2 t
+        ≡ column_sum third.now sources.now (length first.now) stride (at + t) }
+    ensures fourth { (t : ℕ) → t < 64
+        → slice_index result.3 t
+        ≡ column_sum fourth.now sources.now (length first.now) stride (at + t) }
+    ensures fifth { (t : ℕ) → t < 64
+        → slice_index result.4 t
+        ≡ column_sum fifth.now sources.now (length first.now) stride (at + t) }
+{
+    let mut one = u8x64::splat(0);
+    let mut two = u8x64::splat(0);
+    let mut three = u8x64::splat(0);
+    let mut four = u8x64::splat(0);
+    let mut five = u8x64::splat(0);
+    for i in 0..first.len() {
+        let v = lanes_from(sources, i * stride + at);
+        let low = low_halves(v);
+        let high = high_halves(v);
+        let of_first = multiples.times(first[i], low, high);
+        one = sum_lanes(one, of_first);
+        let of_second = multiples.times(second[i], low, high);
+        two = sum_lanes(two, of_second);
+        let of_third = multiples.times(third[i], low, high);
+        three = sum_lanes(three, of_third);
+        let of_fourth = multiples.times(fourth[i], low, high);
+        four = sum_lanes(four, of_fourth);
+        let of_fifth = multiples.times(fifth[i], low, high);
+        five = sum_lanes(five, of_fifth);
+    }
+    (one, two, three, four, five)
+}
+
 // Puts the first lanes into a row, from a column on.
 #[inline(always)]
 fn put_row(outputs: &mut [u8], width: usize, r: usize, at: usize, used: usize, v: u8x64)
@@ -138,19 +195,95 @@ fn write_four(
     let third = row(coefficients, r + 2, count);
     let fourth = row(coefficients, r + 3, count);
     let (one, two, three, four) = four_sums(
-        multiples,
-        first,
-        second,
-        third,
-        fourth,
-        sources,
-        stride,
-        at,
+        multiples, first, second, third, fourth, sources, stride, at,
     );
     put_row(outputs, width, r, at, used, one);
     put_row(outputs, width, r + 1, at, used, two);
     put_row(outputs, width, r + 2, at, used, three);
     put_row(outputs, width, r + 3, at, used, four);
+}
+
+// The sums in some columns of the first five rows.
+#[inline(always)]
+fn write_five(
+    outputs: &mut [u8],
+    multiples: &Multiples,
+    coefficients: &[u8],
+    count: usize,
+    sources: &[u8],
+    stride: usize,
+    width: usize,
+    at: usize,
+    used: usize,
+)
+    requires narrow { used ≤ 64 }
+    requires columns { at + used ≤ width }
+    requires outputs { 5 * width ≤ length outputs.old }
+    requires coefficients { 5 * count ≤ length coefficients.now }
+    requires reach { count * stride + width < 2 ^ 64 }
+    ensures within { (s t : ℕ) → s < 5 → t < used
+        → slice_index outputs.new (s * width + (at + t))
+        ≡ row_sum coefficients.now count (λ i y. slice_index sources.now (i * stride + y)) s (at + t) }
+    ensures kept { (s j : ℕ) → j < width → (s < 5 → j < at)
+        → slice_index outputs.new (s * width + j) ≡ slice_index outputs.old (s * width + j) }
+{
+    let first = row(coefficients, 0, count);
+    let second = row(coefficients, 1, count);
+    let third = row(coefficients, 2, count);
+    let fourth = row(coefficients, 3, count);
+    let fifth = row(coefficients, 4, count);
+    let (one, two, three, four, five) = five_sums(
+        multiples, first, second, third, fourth, fifth, sources, stride, at,
+    );
+    put_row(outputs, width, 0, at, used, one);
+    put_row(outputs, width, 1, at, used, two);
+    put_row(outputs, width, 2, at, used, three);
+    put_row(outputs, width, 3, at, used, four);
+    put_row(outputs, width, 4, at, used, five);
+}
+
+// The sums in some columns of the first five rows, where groups of four would leave one alone; answers how many
+// rows are done.
+#[inline(always)]
+fn write_front(
+    outputs: &mut [u8],
+    rows: usize,
+    multiples: &Multiples,
+    coefficients: &[u8],
+    count: usize,
+    sources: &[u8],
+    stride: usize,
+    width: usize,
+    at: usize,
+    used: usize,
+) -> usize
+    requires narrow { used ≤ 64 }
+    requires columns { at + used ≤ width }
+    requires outputs { length outputs.old ≡ rows * width }
+    requires coefficients { length coefficients.now ≡ rows * count }
+    requires reach { count * stride + width < 2 ^ 64 }
+    ensures some { result ≤ rows }
+    ensures within { (s t : ℕ) → s < result → t < used
+        → slice_index outputs.new (s * width + (at + t))
+        ≡ row_sum coefficients.now count (λ i y. slice_index sources.now (i * stride + y)) s (at + t) }
+    ensures before { (s j : ℕ) → j < at
+        → slice_index outputs.new (s * width + j) ≡ slice_index outputs.old (s * width + j) }
+{
+    if rows < 5 || rows % 4 != 1 {
+        return 0;
+    }
+    write_five(
+        outputs,
+        multiples,
+        coefficients,
+        count,
+        sources,
+        stride,
+        width,
+        at,
+        used,
+    );
+    5
 }
 
 // The sums in some columns.
@@ -177,10 +310,23 @@ fn write_columns(
     ensures before { (r j : ℕ) → j < at
         → slice_index outputs.new (r * width + j) ≡ slice_index outputs.old (r * width + j) }
 {
-    for q in 0..rows / 4 {
+    let done = write_front(
+        outputs,
+        rows,
+        multiples,
+        coefficients,
+        count,
+        sources,
+        stride,
+        width,
+        at,
+        used,
+    );
+    let groups = (rows - done) / 4;
+    for q in 0..groups {
         write_four(
             outputs,
-            4 * q,
+            done + 4 * q,
             multiples,
             coefficients,
             count,
@@ -191,14 +337,8 @@ fn write_columns(
             used,
         );
     }
-    for r in rows / 4 * 4..rows {
-        let sum = one_sum(
-            multiples,
-            row(coefficients, r, count),
-            sources,
-            stride,
-            at,
-        );
+    for r in done + 4 * groups..rows {
+        let sum = one_sum(multiples, row(coefficients, r, count), sources, stride, at);
         put_row(outputs, width, r, at, used, sum);
     }
 }

@@ -1,4 +1,3 @@
-use Rattle.std.proofs.Common.{◌+◌, ◌*◌}
 use Rattle.evaluation.proofs.LevelBytes.{one_level}
 use Rattle.evaluation.proofs.levels.write_by_powers.Goals as goal
 

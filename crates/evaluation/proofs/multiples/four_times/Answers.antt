@@ -1,4 +1,4 @@
-use Rattle.std.proofs.Common.{◌≡◌, ◌%◌, length, get_or, ◌∙◌, ◌++◌, arith}
+use Rattle.std.proofs.Common.{◌%◌, get_or, ◌∙◌, ◌++◌, arith}
 use Rattle.std.proofs.lemmas.List.FromFn.{get_or-map-range_with_len}
 use Rattle.std.proofs.lemmas.List.{get_or_append_left}
 use Rattle.evaluation.proofs.multiples.four_times.Goals as goal

@@ -1,25 +1,24 @@
-use Rattle.std.proofs.Common.{◌≡◌, ◌<◌, ◌≤◌, ◌+◌, ◌*◌, ◌/◌, get_or, length, ap, ◌∙◌, inl, inr, arith}
+use Rattle.std.proofs.Common.{◌≡◌, ◌≤◌, ◌+◌, ◌*◌, length, ◌∙◌, inl, inr, arith}
 use Rattle.std.proofs.lemmas.Bool.{cases_lt}
-use Rattle.gf256.proofs.RowPlaces.{row_ends}
 use Rattle.std.proofs.Math.Nat.{mul-le-mul_right}
 use Rattle.evaluation.proofs.Halves.{of_row}
 use Rattle.evaluation.proofs.sums.write_columns.Goals as goal
 
 pub write_four-requires-clause-outputs : goal.write_four-requires-clause-outputs
 write_four-requires-clause-outputs c =
-    let fit = mul-le-mul_right c.args.width (let le : 4 * c.loop-q.q + 4 ≤ c.args.rows = omega (arith, c.loop-q-test.true) in le) in
+    let fit = mul-le-mul_right c.args.width (let le : c.write_front-done.result + 4 * c.loop-q.q + 4 ≤ c.args.rows = omega (arith, c.loop-q-test.true, c.write_front-done.ensures.some) in le) in
     omega (arith, fit, c.requires.outputs, c.loop-q.auto.outputs)
 
 pub write_four-requires-clause-coefficients : goal.write_four-requires-clause-coefficients
 write_four-requires-clause-coefficients c =
-    let fit = mul-le-mul_right c.args.count (let le : 4 * c.loop-q.q + 4 ≤ c.args.rows = omega (arith, c.loop-q-test.true) in le) in
+    let fit = mul-le-mul_right c.args.count (let le : c.write_front-done.result + 4 * c.loop-q.q + 4 ≤ c.args.rows = omega (arith, c.loop-q-test.true, c.write_front-done.ensures.some) in le) in
     omega (arith, fit, c.requires.coefficients)
 
 pub loop-q-preserved : goal.loop-q-preserved
 loop-q-preserved c = record {
   within = λ r t lr lt.
       let column = c.requires.columns in
-      elim (cases_lt r (4 * c.loop-q.q)) [
+      elim (cases_lt r (c.write_front-done.result + 4 * c.loop-q.q)) [
         | inl l ↦
             c.write_four.ensures.kept r (c.args.at + t) (omega (arith, lt, column)) (λ le. absurd (omega (arith, le, l)))
             ∙ c.loop-q.invariant.within r t l lt
