@@ -170,8 +170,8 @@ fn evaluates_as_defined(
 fn evaluates_at_all_points(rt: HostRuntime) -> Result<(), Fail> {
     assert!(rt; evaluates_as_defined(rt.alloc(), 0, 0, 3, 5)?);
     assert!(rt; evaluates_as_defined(rt.alloc(), 1, 0, 255, 3)?);
-    assert!(rt; evaluates_as_defined(rt.alloc(), 39, 0, 100, 7)?);
-    assert!(rt; evaluates_as_defined(rt.alloc(), 40, 0, 100, 7)?);
+    assert!(rt; evaluates_as_defined(rt.alloc(), 49, 0, 100, 7)?);
+    assert!(rt; evaluates_as_defined(rt.alloc(), 50, 0, 100, 7)?);
     assert!(rt; evaluates_as_defined(rt.alloc(), 128, 0, 170, 65)?);
     assert!(rt; evaluates_as_defined(rt.alloc(), 255, 0, 255, 3)?);
     assert!(rt; evaluates_as_defined(rt.alloc(), 90, 0, 10, 2)?);

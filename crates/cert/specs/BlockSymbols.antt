@@ -11,7 +11,7 @@ AreSymbols z b first count bytes =
 
 -- room for 255 rows of sums, where the greatest block, which is the first, has many coefficients
 abbrev pub IsRoom : Fti → List ℕ → Type 0
-IsRoom f sums = 40 ≤ source_count f 0 → 255 * f.symbol_length ≤ length sums
+IsRoom f sums = 50 ≤ source_count f 0 → 255 * f.symbol_length ≤ length sums
 
 -- which symbols were made last, and of what
 pub record MadeSymbols : Type 0 where

@@ -25,7 +25,7 @@ fn put_symbols(
     requires near { first ≤ 255 }
     requires few { count ≤ 255 }
     requires bytes { count * certificate.now.fti.symbol_length ≤ length bytes.old }
-    requires sums { 40 ≤ source_count certificate.now.fti block
+    requires sums { 50 ≤ source_count certificate.now.fti block
         → 255 * certificate.now.fti.symbol_length ≤ length sums.old }
     ensures { AreSymbols certificate.now block first count bytes.new }
 {

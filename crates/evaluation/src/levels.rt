@@ -15,9 +15,9 @@ const PARTS: usize = 15;
 const POWERS: usize = 17;
 
 /// Fewer coefficients, or no more values than these, are not worth two levels, by measurement.
-const LEAST_COUNT: usize = 40;
+const LEAST_COUNT: usize = 50;
 
-const FEW_VALUES: usize = 24;
+const FEW_VALUES: usize = 32;
 
 /// So many powers have room of their own, which is cleared for each block.
 const FEW_POWERS: usize = 512;
@@ -37,11 +37,11 @@ struct Coefficients<'a> {
 }
 
 /// How many bytes of room [`evaluate`] needs for up to `k` coefficients: 255 rows, or none for
-/// fewer than 40. These must be fewer than 2^64.
+/// fewer than 50. These must be fewer than 2^64.
 pub fn room(k: usize, width: usize) -> usize
     requires narrow { 255 * width < 2 ^ 64 }
-    ensures none { k < 40 → result ≡ 0 }
-    ensures rows { 40 ≤ k → result ≡ 255 * width }
+    ensures none { k < 50 → result ≡ 0 }
+    ensures rows { 50 ≤ k → result ≡ 255 * width }
 {
     if k < LEAST_COUNT { 0 } else { 255 * width }
 }
@@ -68,7 +68,7 @@ pub fn evaluate(
     requires points { n ≤ 255 }
     requires symbols { length symbols.old ≡ n * width }
     requires coefficients { length coefficients.now ≡ k * width }
-    requires sums { 40 ≤ k → 255 * width ≤ length sums.old }
+    requires sums { 50 ≤ k → 255 * width ≤ length sums.old }
     ensures { AreValues coefficients.now k width first n symbols.new }
 {
     let coefficients = Coefficients {
@@ -94,7 +94,7 @@ fn write_values(
     coefficients: &Coefficients<'_>,
     multiples: &Multiples,
 )
-    requires few { (n ≤ 255) × (n * coefficients.now.k ≤ 9945) }
+    requires few { (n ≤ 255) × (n * coefficients.now.k ≤ 12495) }
     requires symbols { length symbols.old ≡ n * coefficients.now.width }
     ensures { AreSums coefficients.now.bytes.now coefficients.now.k coefficients.now.width
         coefficients.now.first n symbols.new }
@@ -114,7 +114,7 @@ fn write_values(
             symbols,
             n,
             coefficients,
-            &mut [0u8; 9945][..count],
+            &mut [0u8; 12495][..count],
             multiples,
         );
     }
