@@ -2,7 +2,7 @@
 ghost use Rattle.std.specs.Prelude.{◌≡◌, ◌≤◌, ◌<◌, ◌+◌, ◌*◌, ◌^◌, length, IfOk};
 
 use crate::field_tests::defined_product;
-use evaluation::{evaluate, room};
+use evaluation::evaluate;
 use gf256::{add_products, point};
 use std::alloc::{AllocError, Global};
 use std::test::Fail;
@@ -149,8 +149,7 @@ fn evaluates_as_defined(
 {
     let coefficients = mixed(alloc, k * width, 4)?;
     let mut symbols = mixed(alloc, n * width, 5)?;
-    let mut sums = mixed(alloc, room(k, width), 6)?;
-    evaluate(&mut symbols, first, n, &coefficients, k, width, &mut sums);
+    evaluate(&mut symbols, first, n, &coefficients, k, width);
     for j in 0..n {
         let power = point(((first + j) % 255) as u8).0;
         for c in 0..width {

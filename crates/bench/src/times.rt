@@ -64,9 +64,8 @@ fn print_values(rt: &HostRuntime, k: usize, n: usize) -> io::Result<()>
     requires points { n ≤ 255 }
 {
     let mut values = Vec::from_elem(rt.alloc(), 0u8, n * WIDTH)?;
-    let mut room = Vec::from_elem(rt.alloc(), 0u8, 255 * WIDTH)?;
     let coefficients = Vec::from_elem(rt.alloc(), 0x53u8, k * WIDTH)?;
-    let least = fastest_values(rt, &mut values, n, &coefficients, k, &mut room)?;
+    let least = fastest_values(rt, &mut values, n, &coefficients, k)?;
     let rate = rate((k * WIDTH) as u64, least);
     println!(rt; "{k} coefficients at {n} points: {rate} MB/s")
 }
@@ -77,18 +76,16 @@ fn fastest_values(
     n: usize,
     coefficients: &[u8],
     k: usize,
-    room: &mut [u8],
 ) -> io::Result<u128>
     requires few { k ≤ 255 }
     requires points { n ≤ 255 }
     requires values { length values.old ≡ n * WIDTH }
     requires coefficients { length coefficients.now ≡ k * WIDTH }
-    requires room { length room.old ≡ 255 * WIDTH }
 {
     let mut least = u128::MAX;
     for _ in 0..ROUNDS {
         let start = Instant::now(rt)?;
-        evaluate(values, 0, n, coefficients, k, WIDTH, room);
+        evaluate(values, 0, n, coefficients, k, WIDTH);
         least = least.min(start.elapsed(rt)?.as_nanos());
     }
     Ok(least)

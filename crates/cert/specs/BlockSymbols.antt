@@ -1,6 +1,6 @@
 -- The symbols of a block that a certificate gives, one behind the other.
 use Rattle.std.specs.Prelude.{◌≡◌, ℕ, ◌<◌, ◌≤◌, ◌+◌, ◌*◌, List, length, slice_index}
-use Rattle.partition.specs.Fti.{Fti, source_count, encoding_count}
+use Rattle.partition.specs.Fti.{encoding_count}
 use Rattle.cert.specs.Certificate.{Certificate, IsCertificate, certified_byte}
 
 -- so many symbols of block b, from ESI `first` on
@@ -8,10 +8,6 @@ abbrev pub AreSymbols : Certificate → ℕ → ℕ → ℕ → List ℕ → Typ
 AreSymbols z b first count bytes =
     (r c : ℕ) → r < count → c < z.fti.symbol_length
     → slice_index bytes (r * z.fti.symbol_length + c) ≡ certified_byte z b (first + r) c
-
--- room for 255 rows of sums, where the greatest block, which is the first, has many coefficients
-abbrev pub IsRoom : Fti → List ℕ → Type 0
-IsRoom f sums = 50 ≤ source_count f 0 → 255 * f.symbol_length ≤ length sums
 
 -- which symbols were made last, and of what
 pub record MadeSymbols : Type 0 where

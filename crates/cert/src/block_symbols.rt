@@ -1,32 +1,22 @@
 //! The symbols of a block that a certificate gives, many of them at once.
 ghost use Rattle.std.specs.Prelude.{◌≡◌, ◌↔◌, ◌<◌, ◌≤◌, ◌+◌, ◌-◌, ◌*◌, IsTrue, length, IfOk};
-ghost use Rattle.partition.specs.Fti.{block_count, source_count, encoding_count};
+ghost use Rattle.partition.specs.Fti.{block_count, encoding_count};
 ghost use Rattle.cert.specs.Certificate.{IsCertificate};
 ghost use Rattle.cert.specs.CertifiedSymbol.{IsCertifiedSymbol};
 ghost use Rattle.cert.specs.BlockSymbols.{AreSymbols, Holds};
 
 use crate::certificate::Certificate;
-use evaluation::{evaluate, room};
+use evaluation::evaluate;
 use partition::Fti;
 use std::alloc::{AllocError, Global};
 use std::marker::Model;
 
-// Makes the front of these bytes `count` symbols of a block, from ESI `first` on. `sums` is room for what `evaluate` needs;
-// what it has afterwards means nothing.
-fn put_symbols(
-    certificate: &Certificate,
-    block: u32,
-    first: usize,
-    count: usize,
-    bytes: &mut [u8],
-    sums: &mut [u8],
-)
+// Makes the front of these bytes `count` symbols of a block, from ESI `first` on.
+fn put_symbols(certificate: &Certificate, block: u32, first: usize, count: usize, bytes: &mut [u8])
     requires block { block < block_count certificate.now.fti }
     requires near { first ≤ 255 }
     requires few { count ≤ 255 }
     requires bytes { count * certificate.now.fti.symbol_length ≤ length bytes.old }
-    requires sums { 50 ≤ source_count certificate.now.fti block
-        → 255 * certificate.now.fti.symbol_length ≤ length sums.old }
     ensures { AreSymbols certificate.now block first count bytes.new }
 {
     let fti = certificate.fti();
@@ -39,7 +29,6 @@ fn put_symbols(
         certificate.rows(block),
         k,
         width,
-        sums,
     );
 }
 
@@ -52,20 +41,17 @@ pub(crate) struct BlockSymbols<'a> {
     first: usize,
     count: usize,
     bytes: Vec<u8>,
-    // Room to work in.
-    sums: Vec<u8>,
 }
 
 impl<'a> Model for BlockSymbols<'a> {
-    ghost use Rattle.cert.specs.BlockSymbols.{MadeSymbols, made_of, AreMade, IsRoom};
+    ghost use Rattle.cert.specs.BlockSymbols.{MadeSymbols, made_of, AreMade};
 
     ghost Value = { MadeSymbols };
 
     ghost view = { λ s. made_of s.certificate.now s.block s.first s.count };
 
     ghost invariant = { λ s.
-        AreMade (made_of s.certificate.now s.block s.first s.count) s.bytes.items
-        × IsRoom s.certificate.now.fti s.sums.items };
+        AreMade (made_of s.certificate.now s.block s.first s.count) s.bytes.items };
 }
 
 impl<'a> BlockSymbols<'a> {
@@ -80,16 +66,13 @@ impl<'a> BlockSymbols<'a> {
     {
         let fti = certificate.fti();
         let width = usize::from(fti.symbol_length());
-        let k = fti.k(0);
         let bytes = Vec::from_elem(alloc, 0u8, fti.n(0) * width)?;
-        let sums = Vec::from_elem(alloc, 0u8, room(k, width))?;
         Ok(BlockSymbols {
             certificate,
             block: 0,
             first: 0,
             count: 0,
             bytes,
-            sums,
         })
     }
 
@@ -108,14 +91,7 @@ impl<'a> BlockSymbols<'a> {
         requires few { count ≤ encoding_count self.old.certificate.fti 0 }
         ensures { self.new ≡ made_of self.old.certificate block first count }
     {
-        put_symbols(
-            self.certificate,
-            block,
-            first,
-            count,
-            &mut self.bytes,
-            &mut self.sums,
-        );
+        put_symbols(self.certificate, block, first, count, &mut self.bytes);
         self.block = block;
         self.first = first;
         self.count = count;

@@ -13,6 +13,6 @@ pub record IsExtended (object : List ℕ) (f : Fti) (b : ℕ) (rows : List ℕ) 
   pub values : HasValues polynomial rows f.symbol_length c
   pub sources : (i : ℕ) → i < source_count f b → value polynomial (point i) ≡ source_byte f object b i c
 
--- room for these rows and as many sums, where any block is made by way of them
+-- room for these rows, where any block is made by way of them
 abbrev pub IsRoom : Fti → List ℕ → Type 0
-IsRoom f bytes = least_by_values ≤ source_count f 0 → 510 * f.symbol_length ≤ length bytes
+IsRoom f bytes = least_by_values ≤ source_count f 0 → 255 * f.symbol_length ≤ length bytes

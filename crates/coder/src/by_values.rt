@@ -17,18 +17,18 @@ use partition::Fti;
 /// How many points there are.
 const POINTS: usize = 255;
 
-/// How many bytes of room certifying takes beside the rows of coefficients: a row of values and one of
-/// sums for each point, or none where no block is so large.
+/// How many bytes of room certifying takes beside the rows of coefficients: a row of values for each
+/// point, or none where no block is so large.
 pub(crate) fn room(fti: &Fti) -> usize
     ensures few { source_count fti.now 0 < least_by_values → result ≡ 0 }
     ensures many { least_by_values ≤ source_count fti.now 0
-        → result ≡ 510 * fti.now.symbol_length }
+        → result ≡ 255 * fti.now.symbol_length }
 {
     let size = usize::from(fti.symbol_length());
     if fti.k(0) < LEAST_BY_VALUES {
         0
     } else {
-        2 * POINTS * size
+        POINTS * size
     }
 }
 
@@ -64,15 +64,15 @@ pub(crate) fn certify_by_values(
     requires block { b < block_count fti.now }
     requires code { IsEncoder (source_count fti.now b) 255 code.now.matrix }
     requires room { length rows.old ≡ source_count fti.now b * fti.now.symbol_length }
-    requires work { 510 * fti.now.symbol_length ≤ length work.old }
+    requires work { 255 * fti.now.symbol_length ≤ length work.old }
     ensures len { length rows.new ≡ length rows.old }
     ensures bytes { AreBytes rows.new }
     ensures gives { (object : List ℕ) → AreBytes object
         → AreSourcesOf fti.now object b sources.now → RowsGive object fti.now b rows.new }
 {
     let size = usize::from(fti.symbol_length());
-    let (values, sums) = work.split_at_mut(POINTS * size);
+    let values = &mut work[..POINTS * size];
     write_values(sources, fti, b, code, values);
-    coefficients(rows, fti.k(b), values, size, sums);
+    coefficients(rows, fti.k(b), values, size);
     are_bytes(rows);
 }

@@ -137,7 +137,7 @@ fn certify_blocks(
 
 /// The certificate of the object, without a name: one of each session that is sent of it, whatever
 /// its TSI, TOI, order and carriers of the FTI, and so is its form with the session's TSI and TOI.
-/// Memory is asked for two matrices at most, for the coefficients, and for 510 symbols to work in where
+/// Memory is asked for two matrices at most, for the coefficients, and for 255 symbols to work in where
 /// the greatest block has many source symbols (`block_code::LEAST_BY_VALUES`).
 pub fn certify(alloc: Global, object: &[u8], fti: &Fti) -> Result<Certificate, CertifyFault>
     ensures fti { IfOk result (λ z. z.fti ≡ fti.now) }

@@ -5,13 +5,10 @@ use Rattle.std.proofs.lemmas.Simd.{length-zip2, get_or-zip2, length-replicate, g
 use lib.Lanes.{zip2, sel_l, top}
 use mir.Val.{bits, hbits}
 use Rattle.gf256.specs.Arithmetic.{sum_of, product, product_over, doubled_times, doubled}
-use Rattle.gf256.specs.ByteSums.{byte_sum}
-use Rattle.gf256.specs.Sums.{row_sum}
 use Rattle.gf256.specs.Computing.{all_under, same_under, small_under}
 use Rattle.gf256.specs.ProductLaws.{product_sum, product_comm, product_swap, product_zero, product_one, product_two, product_byte}
-use Rattle.gf256.proofs.SliceSums.{sum_same}
 use Rattle.gf256.proofs.SliceLanes.{Block, lane_fits, zip_long, zip_lane}
-use Rattle.evaluation.specs.Multiples.{half, AreMultiples, column_sum}
+use Rattle.evaluation.specs.Multiples.{half, AreMultiples}
 
 -- ---- doubling
 
@@ -78,13 +75,6 @@ of_halves c x h =
     sym (product_sum c (x % 16) (16 * (x / 16)) (omega arith) (omega arith))
     ∙ ap (product c) (same_under 256 (λ x. sum_of (x % 16) (16 * (x / 16))) (λ x. x) halves_test x h)
 
--- ---- one more item of a sum
-
-pub sum_next : (f : ℕ → ℕ) (q sum item new : ℕ) → new ≡ bit_xor sum item → sum ≡ byte_sum q f → item ≡ f q → new ≡ byte_sum (q + 1) f
-sum_next f q sum item new e1 e2 e3 =
-    let n : q + 1 ≡ suc q = omega arith in
-    e1 ∙ ap (λ v. bit_xor v item) e2 ∙ ap (bit_xor (byte_sum q f)) e3 ∙ sym (ap (λ k. byte_sum k f) n)
-
 -- ---- a byte's product in the tables
 
 half_low : (n : ℕ) → n < 16 → half n ≡ n
@@ -100,12 +90,3 @@ tabled bytes c x are hc hx =
     ap (λ v. sum_of v (get_or bytes (c * 32 + 16 + x / 16) 0)) (are c (x % 16) hc (omega arith) ∙ ap (product c) (half_low (x % 16) (omega arith)))
     ∙ ap (sum_of (product c (x % 16))) (ap (λ p. get_or bytes p 0) place ∙ are c (16 + x / 16) hc (omega arith) ∙ ap (product c) (half_high (x / 16) (omega arith)))
     ∙ of_halves c x hx
-
--- ---- a row of coefficients
-
-pub of_row : (coefficients row sources : List ℕ) (r count long stride y : ℕ) → long ≡ count → ((i : ℕ) → i < count → get_or row i 0 ≡ get_or coefficients (r * count + i) 0)
-    → column_sum row sources long stride y ≡ row_sum coefficients count (λ i y. get_or sources (i * stride + y) 0) r y
-of_row coefficients row sources r count long stride y e same =
-    ap (λ n. column_sum row sources n stride y) e
-    ∙ sum_same count (λ i. product (get_or row i 0) (get_or sources (i * stride + y) 0)) (λ i. product (get_or coefficients (r * count + i) 0) (get_or sources (i * stride + y) 0))
-    (λ i lt. ap (λ v. product v (get_or sources (i * stride + y) 0)) (same i lt))

@@ -1,9 +1,6 @@
 -- Sums over a round of the powers of alpha, and the coefficients that they pick from values at all points.
-use Rattle.std.proofs.Common.{◌≡◌, ◌≢◌, ℕ, zero, suc, ◌+◌, ◌-◌, ◌*◌, ◌<◌, ◌≤◌, List, length, get_or, map, refl, sym, ap, ◌∙◌, inl, inr, arith}
-use Rattle.std.specs.List.{range_with_len}
+use Rattle.std.proofs.Common.{◌≡◌, ◌≢◌, ℕ, zero, suc, ◌+◌, ◌-◌, ◌*◌, ◌<◌, ◌≤◌, List, get_or, refl, sym, ap, ◌∙◌, inl, inr, arith}
 use Rattle.std.proofs.lemmas.Bool.{cases_eq, cases_lt}
-use Rattle.std.proofs.lemmas.List.{get_or-map, length-map}
-use Rattle.std.proofs.lemmas.List.FromFn.{get_or-range_with_len, length-range_with_len}
 use Rattle.std.proofs.lemmas.Nat.{xor_comm}
 use Rattle.std.specs.Int.Bits.{xor_assoc, xor_self, xor_zero_r}
 use Rattle.gf256.specs.Arithmetic.{sum_of, product, alpha_to}
@@ -12,7 +9,6 @@ use Rattle.gf256.specs.Powers.{alpha_to_byte, alpha_to_sum, alpha_to_apart, one_
 use Rattle.gf256.specs.ByteSums.{byte_sum}
 use Rattle.gf256.proofs.SliceSums.{sum_fits, sum_same, sum_zero, sum_parts}
 use Rattle.poly.specs.Polynomial.{value, IsPolynomial}
-use Rattle.evaluation.specs.Columns.{IsColumn}
 use Rattle.evaluation.proofs.ByteSums.{sum_scaled, sums_swapped, alpha_to_rounds, powers_times, value_is_sum}
 
 -- ---- sums of powers over a round
@@ -78,7 +74,7 @@ no_sum m some few ne =
 -- ---- the coefficient that is picked
 
 -- a sum with one item alone
-sum_one : (n t : ℕ) (f : ℕ → ℕ) → t < n → ((i : ℕ) → i < n → i ≢ t → f i ≡ 0) → byte_sum n f ≡ f t
+pub sum_one : (n t : ℕ) (f : ℕ → ℕ) → t < n → ((i : ℕ) → i < n → i ≢ t → f i ≡ 0) → byte_sum n f ≡ f t
 sum_one zero t f lt zeros = absurd (omega arith)
 sum_one (suc n) t f lt zeros = elim (cases_eq t n) [
   | inl e ↦
@@ -119,17 +115,14 @@ picked p f k j form few lt is =
     ∙ ap (product (get_or p (k - 1 - j) 0)) (ap (λ m. byte_sum 255 (λ i. alpha_to (i * m))) whole ∙ round_sum)
     ∙ product_one (get_or p (k - 1 - j) 0) (small (k - 1 - j))
 
--- ---- a column as a list
-
-pub column_of : List ℕ → ℕ → ℕ → ℕ → List ℕ
-column_of rows k width c = map (λ i. get_or rows (i * width + c) 0) (range_with_len 0 k)
-
-pub is_column : (rows : List ℕ) (k width c : ℕ) → IsColumn rows k width c (column_of rows k width c)
-unfolding column_of
-is_column rows k width c = record {
-  count = length-map (range_with_len 0 k) (λ i. get_or rows (i * width + c) 0) ∙ length-range_with_len 0 k;
-  bytes = λ i lt.
-      let inside : i < length (range_with_len 0 k) = omega (arith, length-range_with_len 0 k) in
-      let place : get_or (range_with_len 0 k) i 0 ≡ i = get_or-range_with_len 0 k i 0 lt ∙ (let e : 0 + i ≡ i = omega arith in e) in
-      get_or-map (λ i. get_or rows (i * width + c) 0) (range_with_len 0 k) i 0 0 inside ∙ ap (λ n. get_or rows (n * width + c) 0) place;
-}
+-- the power 254 * t is as the power 255 - t
+pub turned_back : (i t k : ℕ) → t < k → k ≤ 255 → alpha_to (i * (0 + t * 254)) ≡ alpha_to (i * (256 - k + (k - 1 - t)))
+turned_back i t k lt few =
+    let rest : 256 - k + (k - 1 - t) ≡ 255 - t = omega (arith, lt, few) in
+    let s : 0 + t * 254 + 255 ≡ 255 - t + 255 * t = omega (arith, lt, few) in
+    let left : i * (0 + t * 254 + 255) ≡ i * (0 + t * 254) + 255 * i = grind arith in
+    let right : i * (255 - t + 255 * t) ≡ i * (255 - t) + 255 * (i * t) = grind arith in
+    sym (alpha_to_rounds (i * (0 + t * 254)) i)
+    ∙ ap alpha_to (sym left ∙ ap (λ n. i * n) s ∙ right)
+    ∙ alpha_to_rounds (i * (255 - t)) (i * t)
+    ∙ ap (λ n. alpha_to (i * n)) (sym rest)

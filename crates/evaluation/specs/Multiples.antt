@@ -2,7 +2,6 @@
 use Rattle.std.specs.Prelude.{◌≡◌, ◌<◌, ◌+◌, ◌-◌, ◌*◌, ℕ, List, cond, slice_index}
 use lib.Dec.{ltb}
 use Rattle.gf256.specs.Arithmetic.{product}
-use Rattle.gf256.specs.ByteSums.{byte_sum}
 
 -- the low halves of bytes, and then the high ones
 abbrev pub half : ℕ → ℕ
@@ -11,8 +10,3 @@ half t = cond (ltb t 16) t (16 * (t - 16))
 -- the products of each of the first n elements with the halves of bytes
 abbrev pub AreMultiples : List ℕ → ℕ → Type 0
 AreMultiples bytes n = (c t : ℕ) → c < n → t < 32 → slice_index bytes (c * 32 + t) ≡ product c (half t)
-
--- a sum of products at one column
-abbrev pub column_sum : List ℕ → List ℕ → ℕ → ℕ → ℕ → ℕ
-column_sum coefficients sources count stride y =
-    byte_sum count (λ i. product (slice_index coefficients i) (slice_index sources (i * stride + y)))

@@ -115,3 +115,17 @@ pub(crate) fn put_entry(bytes: &mut [u8], at: usize, v: u8x32)
 {
     v.copy_to_slice(&mut bytes[at..]);
 }
+
+/// Puts the first lanes into a row, from a column on.
+#[inline(always)]
+pub(crate) fn put_row(rows: &mut [u8], width: usize, r: usize, at: usize, used: usize, v: u8x64)
+    requires narrow { used ≤ 64 }
+    requires columns { at + used ≤ width }
+    requires room { r * width + (at + used) ≤ length rows.old }
+    ensures here { (t : ℕ) → t < used
+        → slice_index rows.new (r * width + (at + t)) ≡ slice_index v t }
+    ensures kept { (s j : ℕ) → j < width → (s ≡ r → j < at)
+        → slice_index rows.new (s * width + j) ≡ slice_index rows.old (s * width + j) }
+{
+    put_lanes(rows, r * width + at, used, v);
+}

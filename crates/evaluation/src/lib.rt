@@ -5,18 +5,18 @@
 //!
 //! - `lanes`: bytes as lanes of vectors.
 //! - `multiples`: products of bytes, looked up by their halves.
-//! - `sums`: rows that are sums of multiples of other rows.
+//! - `transform`: the values at all elements, of 64 columns at a time.
 //! - `powers`: the matrices of powers of alpha.
-//! - `levels`: the values, in one level of sums or in two.
+//! - `values`: the values at some points, by the transform or as sums of products.
 //! - `interpolation`: the coefficients, from the values at all points.
 #![tactic(auto)]
 
 mod interpolation;
 mod lanes;
-mod levels;
 mod multiples;
 mod powers;
-mod sums;
+mod transform;
+mod values;
 
 pub use interpolation::coefficients;
-pub use levels::{evaluate, room};
+pub use values::evaluate;

@@ -1,7 +1,7 @@
 //! Matrices of powers of alpha.
 ghost use Rattle.std.specs.Prelude.{◌≡◌, ◌<◌, ◌≤◌, ◌*◌, ◌^◌, length};
 ghost use Rattle.gf256.specs.Arithmetic.{alpha_to};
-ghost use Rattle.evaluation.specs.Parts.{ArePowers};
+ghost use Rattle.evaluation.specs.Sums.{ArePowers};
 
 use gf256::point;
 
@@ -14,29 +14,18 @@ fn power(exponent: usize) -> u8
     point((exponent % 255) as u8).0
 }
 
-/// Fills a matrix row by row: in row r and column i alpha to the power `(i * step + first) * (from +
-/// r * by)`.
-pub(crate) fn write_powers(
-    matrix: &mut [u8],
-    rows: usize,
-    columns: usize,
-    first: usize,
-    step: usize,
-    from: usize,
-    by: usize,
-)
-    requires room { length matrix.old ≡ rows * columns }
-    requires few_rows { rows ≤ 255 }
-    requires few_columns { columns ≤ 255 }
+/// Fills a matrix row by row: in row j and column i alpha to the power `i * (first + j * step)`.
+pub(crate) fn write_powers(matrix: &mut [u8], n: usize, k: usize, first: usize, step: usize)
+    requires room { length matrix.old ≡ n * k }
+    requires rows { n ≤ 255 }
+    requires few { k ≤ 255 }
     requires near { first ≤ 255 }
-    requires low { step ≤ 255 }
-    requires few_before { from ≤ 255 }
-    requires small { by ≤ 255 }
-    ensures { ArePowers matrix.new rows columns first step from by }
+    requires small { step ≤ 255 }
+    ensures { ArePowers matrix.new n k first step }
 {
-    for r in 0..rows {
-        for i in 0..columns {
-            matrix[r * columns + i] = power((i * step + first) * (from + r * by));
+    for j in 0..n {
+        for i in 0..k {
+            matrix[j * k + i] = power(i * (first + j * step));
         }
     }
 }

@@ -3,6 +3,3 @@ use Rattle.cert.proofs.block_symbols.BlockSymbols.new.Goals as goal
 
 pub n-requires : goal.n-requires
 n-requires c = some_block c.fti-fti.result c.symbol_length.ensures.valid
-
-pub k-k-requires : goal.k-k-requires
-k-k-requires c = some_block c.fti-fti.result c.symbol_length.ensures.valid

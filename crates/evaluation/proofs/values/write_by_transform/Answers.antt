@@ -1,0 +1,16 @@
+use Rattle.std.proofs.Common.{◌≡◌, ◌+◌, ◌-◌, ◌*◌, get_or, sym, ap, ◌∙◌, inl, inr, arith}
+use Rattle.std.proofs.lemmas.Bool.{cases_lt}
+use Rattle.evaluation.specs.Sums.{sum_at}
+use Rattle.evaluation.proofs.values.write_by_transform.Goals as goal
+
+pub loop-t-preserved : goal.loop-t-preserved
+loop-t-preserved c = record {
+  done = λ j y lj ly lt. elim (cases_lt y (64 * c.loop-t.t)) [
+    | inl l ↦ c.write_columns.ensures.before j y l ∙ c.loop-t.invariant.done j y lj ly l
+    | inr g ↦
+        let e : 64 * c.loop-t.t + (y - 64 * c.loop-t.t) ≡ y = omega arith in
+        let here = c.write_columns.ensures.within j (y - 64 * c.loop-t.t) lj (omega arith) in
+        ap (λ p. get_or c.write_columns.new.symbols (j * c.args.coefficients.now.width + p) 0) (sym e) ∙ here
+        ∙ ap (λ p. sum_at c.args.coefficients.now.bytes.now c.args.coefficients.now.k c.args.coefficients.now.width p (c.args.points.now.first + j * c.args.points.now.step)) e
+  ];
+}
