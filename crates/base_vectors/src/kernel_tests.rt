@@ -82,35 +82,38 @@ fn sums_as_defined(alloc: Global, shape: Shape) -> Result<bool, AllocError>
     Ok(true)
 }
 
-// The numbers of a product of rows that stand side by side.
-fn side_by_side(rows: usize, count: usize, width: usize) -> Shape
-    requires { count * width < 2 ^ 32 }
-    ensures rows { result.rows ≡ rows }
-    ensures count { result.count ≡ count }
-    ensures stride { result.stride ≡ width }
-    ensures width { result.width ≡ width }
-{
-    Shape {
+// Whether that is so of rows that stand side by side.
+fn sums_side_by_side(alloc: Global, rows: u8, count: u16, width: u8) -> Result<bool, AllocError> {
+    let rows = usize::from(rows);
+    let count = usize::from(count);
+    let width = usize::from(width);
+    let shape = Shape {
         rows,
         count,
         stride: width,
         width,
         bytes: count * width,
-    }
+    };
+    sums_as_defined(alloc, shape)
 }
 
 #[test]
 fn sums_products(rt: HostRuntime) -> Result<(), Fail> {
-    assert!(rt; sums_as_defined(rt.alloc(), side_by_side(0, 3, 5))?);
-    assert!(rt; sums_as_defined(rt.alloc(), side_by_side(3, 0, 5))?);
-    assert!(rt; sums_as_defined(rt.alloc(), side_by_side(3, 5, 0))?);
-    assert!(rt; sums_as_defined(rt.alloc(), side_by_side(1, 1, 1))?);
-    assert!(rt; sums_as_defined(rt.alloc(), side_by_side(2, 3, 63))?);
-    assert!(rt; sums_as_defined(rt.alloc(), side_by_side(33, 5, 64))?);
-    assert!(rt; sums_as_defined(rt.alloc(), side_by_side(65, 64, 65))?);
-    assert!(rt; sums_as_defined(rt.alloc(), side_by_side(3, 65, 130))?);
-    assert!(rt; sums_as_defined(rt.alloc(), side_by_side(2, 255, 17))?);
-    assert!(rt; sums_as_defined(rt.alloc(), side_by_side(1, 300, 9))?);
+    for (rows, count, width) in [
+        (0u8, 3u16, 5u8),
+        (3, 0, 5),
+        (3, 5, 0),
+        (1, 1, 1),
+        (2, 3, 63),
+        (33, 5, 64),
+        (65, 64, 65),
+        (3, 65, 130),
+        (2, 255, 17),
+        (1, 300, 9),
+    ] {
+        let right = sums_side_by_side(rt.alloc(), rows, count, width)?;
+        assert!(rt; right, "{rows} rows of {count}, {width} wide");
+    }
     Ok(())
 }
 
@@ -135,18 +138,15 @@ fn sums_products_of_sources_apart(rt: HostRuntime) -> Result<(), Fail> {
 // Whether each row is the polynomials' values at its point.
 fn evaluates_as_defined(
     alloc: Global,
-    k: usize,
-    first: usize,
-    n: usize,
-    width: usize,
-) -> Result<bool, AllocError>
-    requires few { k ≤ 255 }
-    requires near { first ≤ 255 }
-    requires points { n ≤ 255 }
-    requires narrow { width ≤ 100 }
-    requires coefficients { k * width < 2 ^ 32 }
-    requires symbols { n * width < 2 ^ 32 }
-{
+    k: u8,
+    first: u8,
+    n: u8,
+    width: u8,
+) -> Result<bool, AllocError> {
+    let k = usize::from(k);
+    let first = usize::from(first);
+    let n = usize::from(n);
+    let width = usize::from(width);
     let coefficients = mixed(alloc, k * width, 4)?;
     let mut symbols = mixed(alloc, n * width, 5)?;
     evaluate(&mut symbols, first, n, &coefficients, k, width);
@@ -165,26 +165,33 @@ fn evaluates_as_defined(
     Ok(true)
 }
 
+// Few products, and then transforms of 64, 128 and 256 coefficients.
 #[test]
 fn evaluates_at_all_points(rt: HostRuntime) -> Result<(), Fail> {
-    assert!(rt; evaluates_as_defined(rt.alloc(), 0, 0, 3, 5)?);
-    assert!(rt; evaluates_as_defined(rt.alloc(), 1, 0, 255, 3)?);
-    assert!(rt; evaluates_as_defined(rt.alloc(), 49, 0, 100, 7)?);
-    assert!(rt; evaluates_as_defined(rt.alloc(), 50, 0, 100, 7)?);
-    assert!(rt; evaluates_as_defined(rt.alloc(), 128, 0, 170, 65)?);
-    assert!(rt; evaluates_as_defined(rt.alloc(), 255, 0, 255, 3)?);
-    assert!(rt; evaluates_as_defined(rt.alloc(), 90, 0, 10, 2)?);
-    assert!(rt; evaluates_as_defined(rt.alloc(), 20, 20, 12, 5)?);
-    assert!(rt; evaluates_as_defined(rt.alloc(), 100, 100, 60, 3)?);
-    assert!(rt; evaluates_as_defined(rt.alloc(), 100, 254, 32, 3)?);
+    for (k, first, n, width) in [
+        (0u8, 0u8, 3u8, 5u8),
+        (1, 0, 255, 3),
+        (90, 0, 10, 2),
+        (20, 20, 12, 5),
+        (128, 240, 16, 65),
+        (9, 0, 255, 3),
+        (50, 0, 100, 7),
+        (64, 254, 40, 64),
+        (65, 0, 100, 7),
+        (128, 0, 170, 65),
+        (129, 100, 60, 3),
+        (255, 0, 255, 3),
+    ] {
+        let right = evaluates_as_defined(rt.alloc(), k, first, n, width)?;
+        assert!(rt; right, "{k} coefficients at {n} points from {first} on");
+    }
     Ok(())
 }
 
 // Whether byte i of column c comes to place c of row i.
-fn turns(alloc: Global, count: usize, width: usize) -> Result<bool, AllocError>
-    requires rows { count * width < 2 ^ 32 }
-    requires columns { width * count < 2 ^ 32 }
-{
+fn turns(alloc: Global, count: u8, width: u8) -> Result<bool, AllocError> {
+    let count = usize::from(count);
+    let width = usize::from(width);
     let columns = mixed(alloc, width * count, 7)?;
     let mut rows = mixed(alloc, count * width, 8)?;
     rows_from_columns(&mut rows, &columns, count, width);
@@ -200,11 +207,11 @@ fn turns(alloc: Global, count: usize, width: usize) -> Result<bool, AllocError>
 
 #[test]
 fn turns_columns_into_rows(rt: HostRuntime) -> Result<(), Fail> {
-    assert!(rt; turns(rt.alloc(), 0, 5)?);
-    assert!(rt; turns(rt.alloc(), 3, 5)?);
-    assert!(rt; turns(rt.alloc(), 15, 40)?);
-    assert!(rt; turns(rt.alloc(), 16, 16)?);
-    assert!(rt; turns(rt.alloc(), 17, 31)?);
-    assert!(rt; turns(rt.alloc(), 48, 33)?);
+    for (count, width) in [(0u8, 5u8), (3, 5), (15, 40), (16, 16), (17, 31), (48, 33)] {
+        assert!(rt;
+            turns(rt.alloc(), count, width)?,
+            "{count} rows, {width} wide"
+        );
+    }
     Ok(())
 }
