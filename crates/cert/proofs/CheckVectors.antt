@@ -2,7 +2,7 @@
 -- symbol, of a byte each; the certificate's polynomial is z.
 use Rattle.std.specs.Prelude.{◌≡◌, ℕ, List, [], ◌∷◌, map, count_by, Option, Some, None, Ok, Err, refl}
 use Rattle.lists.specs.Below.{below}
-use Rattle.gf256.specs.Arithmetic.{product, product_over, doubled, doubled_times, alpha_to}
+use Rattle.gf256.specs.Arithmetic.{product, product_over, doubled, alpha_to}
 use Rattle.poly.specs.Polynomial.{value_over}
 use Rattle.partition.specs.Fti.{Fti, fti_from, ceiling, symbol_count, block_count, encoding_count, source_count, large_blocks, start_of}
 use Rattle.alc.specs.Reading.{Reading}
@@ -48,7 +48,7 @@ pub none : map reason (
     ∷ (plain 0 (1 ∷ []) ∷ plain 1 (2 ∷ []) ∷ [])
     ∷ [])
     ≡ None ∷ None ∷ None ∷ []
-unfolding product product_over doubled doubled_times alpha_to value_over ceiling symbol_count block_count encoding_count source_count large_blocks start_of polynomial below
+unfolding product product_over doubled alpha_to value_over ceiling symbol_count block_count encoding_count source_count large_blocks start_of polynomial below
 none = refl
 
 -- the first at the least place; with no carrier too
@@ -61,7 +61,7 @@ pub told : map reason (
     ∷ (foreign ∷ plain 2 (5 ∷ []) ∷ [])
     ∷ [])
     ≡ Some (NoPacket 1 TooShort) ∷ Some (OtherFti 0) ∷ Some (SymbolLength 1) ∷ Some (SymbolLength 1) ∷ Some (Range 1) ∷ Some (Symbol 1 0) ∷ []
-unfolding product product_over doubled doubled_times alpha_to value_over ceiling symbol_count block_count encoding_count source_count large_blocks start_of polynomial below
+unfolding product product_over doubled alpha_to value_over ceiling symbol_count block_count encoding_count source_count large_blocks start_of polynomial below
 told = refl
 
 abbrev session : List Reading

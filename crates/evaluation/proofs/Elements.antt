@@ -1,80 +1,35 @@
 -- What the transforms make of rows of coefficients: the values.
-use Rattle.std.proofs.Common.{◌≡◌, ◌≢◌, ℕ, zero, suc, ◌+◌, ◌*◌, ◌/◌, ◌%◌, ◌^◌, ◌<◌, ◌≤◌, Bool, true, false, cond, List, [], length, get_or, refl, sym, ap, subst, ◌∙◌, inl, inr, arith}
+use Rattle.std.proofs.Common.{◌≡◌, ◌≢◌, ℕ, zero, suc, ◌+◌, ◌-◌, ◌*◌, ◌/◌, ◌%◌, ◌^◌, ◌<◌, ◌≤◌, Bool, true, false, cond, List, [], map, replicate, length, get_or, refl, sym, ap, subst, ◌∙◌, inl, inr, arith}
 use Rattle.std.specs.Prelude.{◌==◌}
 use Rattle.std.specs.List.{range_with_len}
 use Rattle.std.proofs.lemmas.Bool.{cases_eq, cases_lt, eq-eqb}
 use Rattle.std.proofs.lemmas.Bool.Decides.{Decides-eqb}
-use Rattle.std.proofs.lemmas.List.{length-map}
+use Rattle.std.specs.Int.{bit_at}
+use Rattle.std.proofs.lemmas.List.{length-map, get_or-replicate, length-replicate, get_or_past}
+use Rattle.std.proofs.lemmas.Nat.Bits.{bit_at-pow_same, bit_at-pow_other, bit_at-zero, bit_at_above}
 use Rattle.std.proofs.lemmas.List.FromFn.{get_or-map-range_with_len, length-range_with_len}
 use Rattle.gf256.specs.Arithmetic.{product, alpha_to}
 use Rattle.gf256.specs.ProductLaws.{product_comm, product_zero}
-use Rattle.gf256.specs.Computing.{passes, small_under}
-use Rattle.gf256.specs.Powers.{doublings, doublings_are_powers, one_is_power}
+use Rattle.gf256.specs.Computing.{small_under}
 use Rattle.gf256.specs.Slices.{lane, below}
 use Rattle.gf256.proofs.SliceSums.{sum_same, sum_short, sum_zero}
 use Rattle.gf256.proofs.SliceLanes.{below_past, below_within}
 use Rattle.evaluation.specs.Sums.{coefficient, sum_at}
 use Rattle.evaluation.specs.Transform.{AreWeighted, AreTurned, AreLoaded, row, transformed, places, place_of}
-use Rattle.evaluation.proofs.ByteSums.{alpha_to_rest, alpha_to_rounds}
+use Rattle.evaluation.proofs.ByteSums.{alpha_to_rounds}
 use Rattle.evaluation.proofs.Rounds.{sum_one}
 use Rattle.evaluation.proofs.Weights.{one_times}
-use Rattle.evaluation.proofs.Transforms.{unit_row, units, row_is, are_powers, test_6_0, test_6_1, test_7_0, test_7_1, test_7_2, test_7_3, test_8_0, test_8_1, test_8_2, test_8_3, test_8_4, test_8_5, test_8_6, test_8_7}
+use Rattle.evaluation.proofs.Planes.{HasPlanes, ArePlanes, planes_transformed, transformed_planes}
+use Rattle.evaluation.proofs.Transforms.{unit_planes, all_unit_planes, powers_rise, passed}
 
--- ---- the weights after a transform
+-- ---- the unit matrix
 
-tests_6 : (c : ℕ) → c < 2 → are_powers (32 * c) (doublings 255 1) (transformed 6 (units (32 * c))) ≡ true
-tests_6 zero lt = test_6_0
-tests_6 (suc zero) lt = test_6_1
-tests_6 (suc (suc c)) lt = absurd (omega arith)
+-- 32 of its columns, from one on
+unfoldable pub unit_row : ℕ → ℕ → List ℕ
+unit_row from p = map (λ i. cond (from + i == p) 1 0) (range_with_len 0 32)
 
-tests_7 : (c : ℕ) → c < 4 → are_powers (32 * c) (doublings 255 1) (transformed 7 (units (32 * c))) ≡ true
-tests_7 zero lt = test_7_0
-tests_7 (suc zero) lt = test_7_1
-tests_7 (suc (suc zero)) lt = test_7_2
-tests_7 (suc (suc (suc zero))) lt = test_7_3
-tests_7 (suc (suc (suc (suc c)))) lt = absurd (omega arith)
-
-tests_8 : (c : ℕ) → c < 8 → are_powers (32 * c) (doublings 255 1) (transformed 8 (units (32 * c))) ≡ true
-tests_8 zero lt = test_8_0
-tests_8 (suc zero) lt = test_8_1
-tests_8 (suc (suc zero)) lt = test_8_2
-tests_8 (suc (suc (suc zero))) lt = test_8_3
-tests_8 (suc (suc (suc (suc zero)))) lt = test_8_4
-tests_8 (suc (suc (suc (suc (suc zero))))) lt = test_8_5
-tests_8 (suc (suc (suc (suc (suc (suc zero)))))) lt = test_8_6
-tests_8 (suc (suc (suc (suc (suc (suc (suc zero))))))) lt = test_8_7
-tests_8 (suc (suc (suc (suc (suc (suc (suc (suc c)))))))) lt = absurd (omega arith)
-
--- 2^b coefficients, 32 in each matrix
-tests : (b c : ℕ) → 6 ≤ b → b ≤ 8 → 32 * c < 2 ^ b → are_powers (32 * c) (doublings 255 1) (transformed b (units (32 * c))) ≡ true
-tests b c least most lt = elim (cases_eq b 6) [
-  | inl e ↦ (let few : 2 ^ b ≡ 64 = ap (λ b. 2 ^ b) e in
-      subst (λ b. are_powers (32 * c) (doublings 255 1) (transformed b (units (32 * c))) ≡ true) (sym e) (tests_6 c (omega (arith, lt, few))))
-  | inr n6 ↦ elim (cases_eq b 7) [
-    | inl e ↦ (let few : 2 ^ b ≡ 128 = ap (λ b. 2 ^ b) e in
-        subst (λ b. are_powers (32 * c) (doublings 255 1) (transformed b (units (32 * c))) ≡ true) (sym e) (tests_7 c (omega (arith, lt, few))))
-    | inr n7 ↦
-        let e : b ≡ 8 = omega (arith, least, most, n6, n7) in
-        let few : 2 ^ b ≡ 256 = ap (λ b. 2 ^ b) e in
-        subst (λ b. are_powers (32 * c) (doublings 255 1) (transformed b (units (32 * c))) ≡ true) (sym e) (tests_8 c (omega (arith, lt, few)))
-  ]
-]
-
-power_at : (e : ℕ) → get_or (doublings 255 1) (e % 255) 0 ≡ alpha_to e
-power_at e =
-    ap (λ v. get_or (doublings 255 v) (e % 255) 0) one_is_power
-    ∙ doublings_are_powers 255 0 (e % 255) (omega arith)
-    ∙ (let same : 0 + e % 255 ≡ e % 255 = omega arith in ap alpha_to same) ∙ alpha_to_rest e
-
--- of a matrix that passed
-of_test : (from : ℕ) (m : List (List ℕ)) → are_powers from (doublings 255 1) m ≡ true → (j i : ℕ) → j < 255 → i < 32 → lane m (get_or places j 0) i ≡ alpha_to ((from + i) * j)
-unfolding are_powers row_is
-of_test from m passed j i lj li =
-    let row_passed = passes 255 (λ j. row_is from j (doublings 255 1) (row m (get_or places j 0))) passed j lj in
-    (Decides-eqb _ _).0 (passes 32 (λ i. get_or (row m (get_or places j 0)) i 0 == get_or (doublings 255 1) ((from + i) * j % 255) 0) row_passed i li)
-    ∙ power_at ((from + i) * j)
-
--- ---- before it
+unfoldable pub units : ℕ → List (List ℕ)
+units from = map (λ p. unit_row from p) (range_with_len 0 256)
 
 unit_at : (from p i : ℕ) → p < 256 → i < 32 → lane (units from) p i ≡ cond (from + i == p) 1 0
 unfolding units unit_row
@@ -113,6 +68,71 @@ is_none i p ne = elim (i == p) as (λ v. (i == p) ≡ v → one_if v ≡ 0) [ tr
 
 nothing_times : (x : ℕ) → x < 256 → product 0 x ≡ 0
 nothing_times x h = product_comm 0 x (omega arith) h ∙ product_zero x
+
+bit_below : (b : Bool) → one_if b < 2 ^ 1
+bit_below true = omega arith
+bit_below false = omega arith
+
+nothing_at : (n i : ℕ) → get_or {A = ℕ} (replicate n 0) i 0 ≡ 0
+nothing_at n i = elim (cases_lt i n) [
+  | inl lt ↦ get_or-replicate n i 0 0 lt
+  | inr le ↦ get_or_past (replicate n 0) i 0 (rw (length-replicate {A = ℕ} n 0) le)
+]
+
+no_higher : (p d : ℕ) → get_or (unit_planes p) (suc d) 0 ≡ 0
+unfolding unit_planes
+no_higher p d = nothing_at 7 d
+
+eight_planes : (p : ℕ) → length (unit_planes p) ≡ 8
+unfolding unit_planes
+eight_planes p = refl
+
+pow_le : (b : ℕ) → b ≤ 8 → 2 ^ b ≤ 256
+pow_le b le = let small = small_under 9 257 (λ b. 2 ^ b) refl b (omega arith) in omega (arith, small)
+
+pub place_small : (j : ℕ) → j < 255 → get_or places j 0 < 256
+unfolding places
+place_small = small_under 255 256 (λ j. get_or places j 0) refl
+
+-- its columns side by side
+unit_lane : (p i : ℕ) → p < 256 → lane (units (32 * (i / 32))) p (i % 32) ≡ one_if (i == p)
+unit_lane p i lp =
+    let whole : 32 * (i / 32) + i % 32 ≡ i = omega arith in
+    unit_at (32 * (i / 32)) p (i % 32) lp (omega arith) ∙ ap (λ n. one_if (n == p)) whole
+
+unit_bits : (p i d : ℕ) → d < 8 → bit_at (get_or (unit_planes p) d 0) i ≡ bit_at (one_if (i == p)) d
+unfolding unit_planes
+unit_bits p i zero ld = elim (cases_eq i p) [
+  | inl e ↦ rw e (bit_at-pow_same p) ∙ sym (ap (λ v. bit_at v 0) (is_one i p e))
+  | inr ne ↦ bit_at-pow_other p i ne ∙ sym (ap (λ v. bit_at v 0) (is_none i p ne))
+]
+unit_bits p i (suc d) ld =
+    let nothing : get_or (unit_planes p) (suc d) 0 ≡ 0 = no_higher p d in
+    ap (λ v. bit_at v i) nothing ∙ bit_at-zero i ∙ sym (bit_at_above (one_if (i == p)) 1 (suc d) (bit_below (i == p)) (omega arith))
+
+unit_planes_are : ArePlanes (λ c. units (32 * c)) all_unit_planes
+unfolding all_unit_planes
+unit_planes_are = record {
+  rows = λ c. units_rows (32 * c);
+  columns = λ c p lp. units_columns (32 * c) p lp;
+  bytes = λ c p i lp li. (let small = bit_small (32 * c + i == p) in rw (unit_at (32 * c) p i lp li) small);
+  long = length-map (range_with_len 0 256) unit_planes ∙ length-range_with_len 0 256;
+  planes = λ p lp. subst (HasPlanes (λ i. lane (units (32 * (i / 32))) p (i % 32))) (sym (get_or-map-range_with_len unit_planes 0 256 p p [] lp (omega arith))) (record {
+    long = eight_planes p;
+    bits = λ d i ld li. unit_bits p i d ld ∙ sym (ap (λ v. bit_at v d) (unit_lane p i lp));
+  });
+}
+
+-- ---- the weights after a transform
+
+pub weight_after : (b i j : ℕ) → 6 ≤ b → b ≤ 8 → i < 2 ^ b → j < 255 → lane (transformed b (units (32 * (i / 32)))) (get_or places j 0) (i % 32) ≡ alpha_to (i * j)
+weight_after b i j least most li lj =
+    let are = transformed_planes (λ c. units (32 * c)) all_unit_planes unit_planes_are b (omega arith) (omega arith) in
+    let u = planes_transformed b all_unit_planes in
+    let p = get_or places j 0 in
+    let within : 2 ^ b ≤ 256 = pow_le b most in
+    powers_rise (λ i. lane (transformed b (units (32 * (i / 32)))) p (i % 32)) (row u p) (2 ^ b - 1) j (are.planes p (place_small j lj))
+    (λ i li. are.bytes (i / 32) p (i % 32) (place_small j lj) (omega arith)) (omega (arith, within, li)) (passed b j least most lj) i (omega (arith, li))
 
 module _ (bytes : List ℕ) (fits : (i : ℕ) → get_or bytes i 0 < 256) (k width at count : ℕ) where
   pub source : ℕ → ℕ → ℕ
@@ -155,10 +175,6 @@ module _ (bytes : List ℕ) (fits : (i : ℕ) → get_or bytes i 0 < 256) (k wid
     ]);
   }
 
-pub place_small : (j : ℕ) → j < 255 → get_or places j 0 < 256
-unfolding places
-place_small = small_under 255 256 (λ j. get_or places j 0) refl
-
 -- rounds in an exponent
 same_power : (i e : ℕ) → alpha_to (i * (e % 255)) ≡ alpha_to (i * e)
 same_power i e =
@@ -176,11 +192,7 @@ valued bytes fits k width at b old new least most enough load turned e t lt =
     are.sums (get_or places (e % 255) 0) t (place_small (e % 255) lj) lt
     ∙ sum_same (2 ^ b) (λ i. product (lane (transformed b (units (32 * (i / 32)))) (get_or places (e % 255) 0) (i % 32)) (below k i (coefficient bytes width (at + t) i)))
     (λ i. product (alpha_to (i * e)) (below k i (coefficient bytes width (at + t) i))) (λ i li.
-    let whole : 32 * (i / 32) + i % 32 ≡ i = omega arith in
-    let within : 32 * (i / 32) < 2 ^ b = omega (arith, li, whole) in
-    ap (λ v. product v (below k i (coefficient bytes width (at + t) i)))
-    (of_test (32 * (i / 32)) (transformed b (units (32 * (i / 32)))) (tests b (i / 32) least most within) (e % 255) (i % 32) lj (omega arith)
-    ∙ ap (λ n. alpha_to (n * (e % 255))) whole ∙ same_power i e))
+    ap (λ v. product v (below k i (coefficient bytes width (at + t) i))) (weight_after b i (e % 255) least most li lj ∙ same_power i e))
     ∙ sum_short (2 ^ b) k (λ i. product (alpha_to (i * e)) (below k i (coefficient bytes width (at + t) i))) enough
     (λ i le. ap (product (alpha_to (i * e))) (below_past k i (coefficient bytes width (at + t) i) le) ∙ product_zero (alpha_to (i * e)))
     ∙ sum_same k (λ i. product (alpha_to (i * e)) (below k i (coefficient bytes width (at + t) i))) (λ i. product (alpha_to (i * e)) (coefficient bytes width (at + t) i))

@@ -4,7 +4,7 @@ use Rattle.std.specs.Prelude.{◌==◌, nat_lt}
 use Rattle.std.proofs.lemmas.Simd.{length-zip2, get_or-zip2, length-replicate, get_or-replicate, tops_compared, length-sel_l, get_or-sel_l}
 use lib.Lanes.{zip2, sel_l, top}
 use mir.Val.{bits, hbits}
-use Rattle.gf256.specs.Arithmetic.{sum_of, product, product_over, doubled_times, doubled}
+use Rattle.gf256.specs.Arithmetic.{sum_of, product, product_over, doubled}
 use Rattle.gf256.specs.Computing.{all_under, same_under, small_under}
 use Rattle.gf256.specs.ProductLaws.{product_sum, product_comm, product_swap, product_zero, product_one, product_two, product_byte}
 use Rattle.gf256.proofs.SliceLanes.{Block, lane_fits, zip_long, zip_lane}
@@ -38,7 +38,7 @@ doubled_lane v fits t lt =
 -- ---- an element's products from those of its half
 
 odd_test : all_under 256 (λ c. sum_of (product 2 (c / 2)) (c % 2) == c) ≡ true
-unfolding product product_over doubled_times doubled
+unfolding product product_over doubled
 odd_test = refl
 
 half_test : all_under 32 (λ t. nat_lt (half t) 256) ≡ true

@@ -16,10 +16,10 @@ use Rattle.evaluation.proofs.ByteSums.{sum_scaled}
 -- ---- one row
 
 -- a list in the place of another
-put_here : (w : List (List ℕ)) (p : ℕ) (r : List ℕ) → p < length w → get_or (set w p r) p [] ≡ r
+pub put_here : (w : List (List ℕ)) (p : ℕ) (r : List ℕ) → p < length w → get_or (set w p r) p [] ≡ r
 put_here w p r lt = get_or-set_same w p r [] lt
 
-put_there : (w : List (List ℕ)) (p x : ℕ) (r : List ℕ) → x ≢ p → get_or (set w p r) x [] ≡ get_or w x []
+pub put_there : (w : List (List ℕ)) (p x : ℕ) (r : List ℕ) → x ≢ p → get_or (set w p r) x [] ≡ get_or w x []
 put_there w p x r ne = get_or-set_other w p x r [] ne
 
 -- a weight that is the sum of one and a multiple of another
