@@ -340,7 +340,10 @@ fn with_command<'a>(
 ) -> Result<Command<'a>, AllocError>
     ensures { IfOk result (AddsCommand parser.entry command.entry) }
 {
-    parser.subcommand(command?)
+    match command {
+        Ok(command) => parser.subcommand(command),
+        Err(error) => Err(error),
+    }
 }
 
 /// The grammar of the whole command line.
