@@ -206,21 +206,30 @@ fn fault_line(alloc: Global, fault: Fault<'_>) -> Result<Text, AllocError>
 {
     let mut line = Text::new(alloc);
     line.text("fault ")?;
-    match fault {
-        Fault::Open(name) => {
-            line.text("open ")?;
-            line.text(name)?;
-        }
-        Fault::File(name) => {
-            line.text("file ")?;
-            line.text(name)?;
-        }
-        Fault::Memory => line.text("memory")?,
-        Fault::Frame(fault) => put_frame_fault(&mut line, fault)?,
-        Fault::Certificate(fault) => put_certificate_fault(&mut line, fault)?,
-        Fault::Fti(fault) => put_fti_fault(&mut line, fault)?,
-        Fault::Send(fault) => put_send_fault(&mut line, fault)?,
-        Fault::Output => {}
-    }
+    put_fault(&mut line, fault)?;
     Ok(line)
+}
+
+// Puts the words of a fault behind what stands in the line.
+fn put_fault(line: &mut Text, fault: Fault<'_>) -> Result<(), AllocError>
+    ensures { OnOk result
+        ((text : List ℕ) × IsFaultText fault.entry text × (line.new ≡ line.old ++ text)) }
+{
+    match fault {
+        Fault::Open(name) => put_named(line, "open ", name),
+        Fault::File(name) => put_named(line, "file ", name),
+        Fault::Memory => line.text("memory"),
+        Fault::Frame(fault) => put_frame_fault(line, fault),
+        Fault::Certificate(fault) => put_certificate_fault(line, fault),
+        Fault::Fti(fault) => put_fti_fault(line, fault),
+        Fault::Send(fault) => put_send_fault(line, fault),
+        Fault::Output => Ok(()),
+    }
+}
+
+fn put_named(line: &mut Text, word: &str, name: &str) -> Result<(), AllocError>
+    ensures { OnOk result (line.new ≡ line.old ++ (word.now ++ name.now)) }
+{
+    line.text(word)?;
+    line.text(name)
 }
