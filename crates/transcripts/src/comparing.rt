@@ -130,7 +130,7 @@ pub(crate) fn compare(
 ) -> Result<(), Wrong> {
     let mut untold = match Untold::new(outcome) {
         Ok(untold) => untold,
-        Err(fault) => return Err(Wrong { place: 0, fault }),
+        Err(fault) => return Err(fault.here()),
     };
     for (place, line) in lines.iter().enumerate().skip(1) {
         match take(alloc, &mut untold, given, line) {
@@ -142,7 +142,6 @@ pub(crate) fn compare(
     if untold.is_nothing() {
         Ok(())
     } else {
-        let fault = Fault::More;
-        Err(Wrong { place: 0, fault })
+        Err(Fault::More.here())
     }
 }

@@ -7,6 +7,7 @@ pub(crate) enum Fault {
     UnknownBeginning,
     Misplaced,
     WrongHex,
+    NoName,
     GivenTwice,
     NotGiven,
     Otherwise,
@@ -22,12 +23,21 @@ impl Fault {
             Fault::UnknownBeginning => "this begins like no line of a transcript",
             Fault::Misplaced => "this belongs to no file and no command",
             Fault::WrongHex => "this is no row of bytes in hex",
+            Fault::NoName => "this names no file",
             Fault::GivenTwice => "a file of this name is given before",
             Fault::NotGiven => "this names a file that isn't given before",
             Fault::Otherwise => "this is wanted, and something else came",
             Fault::More => "of this command more came than is told",
             Fault::NoText => "what this command prints is no UTF-8",
             Fault::NoMemory => "there is no memory for this",
+        }
+    }
+
+    /// The same of the line that names the file or the command.
+    pub(crate) fn here(self) -> Wrong {
+        Wrong {
+            place: 0,
+            fault: self,
         }
     }
 }

@@ -40,16 +40,15 @@ pub(crate) fn give(
     name: &str,
     lines: &[&str],
 ) -> Result<(), Wrong> {
-    if name.is_empty() || given.get(name).is_some() {
-        let fault = Fault::GivenTwice;
-        return Err(Wrong { place: 0, fault });
+    if name.is_empty() {
+        return Err(Fault::NoName.here());
+    }
+    if given.get(name).is_some() {
+        return Err(Fault::GivenTwice.here());
     }
     let bytes = bytes_of(alloc, lines)?;
     match given.put(name, bytes) {
         Ok(()) => Ok(()),
-        Err(_) => Err(Wrong {
-            place: 0,
-            fault: Fault::NoMemory,
-        }),
+        Err(_) => Err(Fault::NoMemory.here()),
     }
 }

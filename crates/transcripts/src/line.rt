@@ -21,22 +21,25 @@ pub(crate) enum Line<'a> {
     Bytes(&'a str),
 }
 
-/// Reads a line. Behind its mark stand a blank and its text, or, where that is empty, nothing.
+/// Reads a line: its mark, and its text behind a blank. A line without text is its mark alone.
 pub(crate) fn read_line(line: &str) -> Option<Line<'_>> {
-    if line.is_empty() || line.starts_with('#') {
-        return Some(Line::Comment);
-    }
-    if let Some(bytes) = line.strip_prefix("  ") {
-        return Some(Line::Bytes(bytes));
-    }
-    let (mark, text) = line.split_once(' ').unwrap_or((line, ""));
+    let mut letters = line.chars();
+    let mark = match letters.next() {
+        None | Some('#') => return Some(Line::Comment),
+        Some(mark) => mark,
+    };
+    let text = match letters.next() {
+        None | Some(' ') => letters.as_str(),
+        Some(_) => return None,
+    };
     match mark {
-        "<" => Some(Line::Given(text)),
-        "$" => Some(Line::Command(text)),
-        "|" => Some(Line::Output(text)),
-        "!" => Some(Line::Refusal(text)),
-        "=" => Some(Line::Status(text)),
-        ">" => Some(Line::Created(text)),
+        '<' => Some(Line::Given(text)),
+        '$' => Some(Line::Command(text)),
+        '|' => Some(Line::Output(text)),
+        '!' => Some(Line::Refusal(text)),
+        '=' => Some(Line::Status(text)),
+        '>' => Some(Line::Created(text)),
+        ' ' => Some(Line::Bytes(text)),
         _ => None,
     }
 }

@@ -10,12 +10,13 @@ mod outcome;
 mod telling;
 
 use comparing::compare;
+use fault::Fault;
 use given::give;
 use line::{Line, read_line};
 use outcome::run;
 use std::process::ExitCode;
 use std::{env, fs, io};
-use telling::{Place, tell, tell_misplaced, tell_outcome};
+use telling::{Place, tell, tell_counts, tell_outcome};
 use tool::MemoryFolder;
 
 // Whether the file of this place can be given, which is then done.
@@ -70,7 +71,7 @@ fn try_lines(rt: &HostRuntime, name: &str, lines: &[&str]) -> io::Result<bool> {
             Some(Line::Comment) => true,
             _ if commands > 0 || !given.files().is_empty() => true,
             _ => {
-                tell_misplaced(rt, &at)?;
+                tell(rt, &at, Fault::Misplaced.here())?;
                 false
             }
         };
@@ -78,12 +79,8 @@ fn try_lines(rt: &HostRuntime, name: &str, lines: &[&str]) -> io::Result<bool> {
             wrong = wrong.saturating_add(1);
         }
     }
-    if wrong == 0 && commands > 0 {
-        println!(rt; "{name}: {commands} commands as they should be")?;
-        return Ok(true);
-    }
-    println!(rt; "{name}: {commands} commands, {wrong} wrong")?;
-    Ok(false)
+    tell_counts(rt, name, commands, wrong)?;
+    Ok(wrong == 0 && commands > 0)
 }
 
 // Whether all commands of the transcripts that are named on the command line answer as wanted.

@@ -40,11 +40,18 @@ fn text_of(bytes: &[u8]) -> Result<&str, Fault> {
     }
 }
 
-// The words of a command line, in which `""` is a word of no letters.
+// A word as it stands in a command line: `""` is one of no letters.
+fn word_of(text: &str) -> &str {
+    match text.as_bytes() {
+        [b'"', b'"'] => "",
+        _ => text,
+    }
+}
+
 fn words_of(alloc: Global, line: &str) -> Result<Vec<&str>, AllocError> {
     let mut words = Vec::new(alloc);
     for word in line.split_whitespace() {
-        words.push(if word == "\"\"" { "" } else { word })?;
+        words.push(word_of(word))?;
     }
     Ok(words)
 }

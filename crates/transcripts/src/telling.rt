@@ -1,5 +1,5 @@
 //! What is printed where something is wrong.
-use crate::fault::{Fault, Wrong};
+use crate::fault::Wrong;
 use crate::outcome::Outcome;
 use std::io;
 
@@ -23,12 +23,6 @@ pub(crate) fn tell(rt: &HostRuntime, at: &Place<'_>, wrong: Wrong) -> io::Result
     }
 }
 
-/// Tells a line that belongs to nothing.
-pub(crate) fn tell_misplaced(rt: &HostRuntime, at: &Place<'_>) -> io::Result<()> {
-    let fault = Fault::Misplaced;
-    tell(rt, at, Wrong { place: 0, fault })
-}
-
 /// Tells the whole answer to a command.
 pub(crate) fn tell_outcome(rt: &HostRuntime, outcome: &Outcome) -> io::Result<()> {
     let status = outcome.status;
@@ -36,7 +30,7 @@ pub(crate) fn tell_outcome(rt: &HostRuntime, outcome: &Outcome) -> io::Result<()
     print!(rt; "{}", outcome.output().unwrap_or("(no text)\n"))?;
     print!(rt; "{}", outcome.refusal().unwrap_or("(no text)\n"))?;
     for (name, bytes) in outcome.created() {
-        println!(rt; "It created {name}:")?;
+        print!(rt; "It created {name}:")?;
         tell_bytes(rt, bytes.as_slice())?;
     }
     Ok(())
@@ -44,7 +38,23 @@ pub(crate) fn tell_outcome(rt: &HostRuntime, outcome: &Outcome) -> io::Result<()
 
 fn tell_bytes(rt: &HostRuntime, bytes: &[u8]) -> io::Result<()> {
     for byte in bytes {
-        print!(rt; "{byte:02X}")?;
+        print!(rt; " {byte:02X}")?;
     }
     println!(rt;)
+}
+
+/// Tells how many commands a transcript has, and how many of them and of its other lines are wrong.
+pub(crate) fn tell_counts(
+    rt: &HostRuntime,
+    name: &str,
+    commands: usize,
+    wrong: usize,
+) -> io::Result<()> {
+    if commands == 0 {
+        println!(rt; "{name}: no command")
+    } else if wrong == 0 {
+        println!(rt; "{name}: {commands} commands as they should be")
+    } else {
+        println!(rt; "{name}: {commands} commands, {wrong} wrong")
+    }
 }
