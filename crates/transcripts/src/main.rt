@@ -1,4 +1,8 @@
 //! Runs the commands of transcripts over files in memory, and tells those that answer otherwise than written there.
+//!
+//! A transcript gives files and has commands run, each in a new folder of the files that are given before it. Behind a
+//! command stand all lines that it prints, its exit status and each file that it creates. `line` tells the lines by how they
+//! begin; `comparing` takes them one by one from what came, and nothing may be left.
 #![tactic(auto)]
 
 mod bytes;

@@ -40,18 +40,11 @@ fn text_of(bytes: &[u8]) -> Result<&str, Fault> {
     }
 }
 
-// A word as it stands in a command line: `""` is one of no letters.
-fn word_of(text: &str) -> &str {
-    match text.as_bytes() {
-        [b'"', b'"'] => "",
-        _ => text,
-    }
-}
-
+// The words of a command line. `""` stands for a word of no letters.
 fn words_of(alloc: Global, line: &str) -> Result<Vec<&str>, AllocError> {
     let mut words = Vec::new(alloc);
     for word in line.split_whitespace() {
-        words.push(word_of(word))?;
+        words.push(word.strip_prefix("\"\"").unwrap_or(word))?;
     }
     Ok(words)
 }
