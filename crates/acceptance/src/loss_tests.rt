@@ -1,4 +1,4 @@
-//! The losses that a report tells, against worked sessions and a plain program that tries every loss.
+//! The losses that a report tells, against a plain program that tries every loss.
 use crate::command::check;
 use crate::sessions::{Packet, certificate_of, session_of_packets};
 use std::alloc::Global;
@@ -339,32 +339,5 @@ fn every_loss_of_some_carriers(rt: HostRuntime) -> Result<(), Fail> {
     assert!(rt; yes > 1000);
     let yes = try_sessions(&rt, rt.alloc(), &TWO_BLOCKS, 2, 5)?;
     assert!(rt; yes > 1000);
-    Ok(())
-}
-
-#[test]
-fn copies(rt: HostRuntime) -> Result<(), Fail> {
-    let alloc = rt.alloc();
-    for (kinds, lines) in [
-        (
-            &[0usize, 0, 1, 1, 2, 2][..],
-            "carriers 6\nmargin 3\nkill 0 1 2 3\nburst 3\n",
-        ),
-        (
-            &[0, 1, 2, 0, 1, 2],
-            "carriers 6\nmargin 3\nkill 0 1 3 4\nburst 4\n",
-        ),
-        (&[0, 1, 2], "carriers 3\nmargin 1\nkill 0 1\nburst 1\n"),
-    ] {
-        let mut places = Vec::new(alloc);
-        for kind in kinds {
-            places.push(Place {
-                kind: *kind,
-                carries: true,
-            })?;
-        }
-        let told = printed(alloc, &ONE_BLOCK, places.as_slice())?;
-        assert!(rt; told.as_str().ends_with(lines), "{told}");
-    }
     Ok(())
 }
