@@ -11,3 +11,4 @@ pub mod Shown
 pub mod Twinned
 pub mod ObjectBytes
 pub mod Unprinted
+pub mod Ran
