@@ -2,6 +2,7 @@
 ghost use Rattle.std.specs.Prelude.{◌≡◌, ◌<◌, ◌≤◌, ◌+◌, ◌*◌, ℕ, IfOk, length, slice_index};
 ghost use Rattle.elim.specs.Grid.{HasShape};
 
+use crate::is_shown_as;
 use elim::{ElimError, Matrix, generator, invert, product, recovery, vandermonde};
 use gf256::{Field, Gf};
 use std::alloc::{AllocError, Global};
@@ -34,14 +35,43 @@ fn begins_with_identity(m: &Matrix<Gf>, k: usize) -> bool
     true
 }
 
+/// Whether the matrix has two rows of three, and these.
+fn is_two_by_three(m: &Matrix<Gf>, rows: [[u8; 3]; 2]) -> bool {
+    if m.rows() != 2 || m.cols() != 3 {
+        return false;
+    }
+    for i in 0..2 {
+        for j in 0..3 {
+            if m.get(i, j) != Gf(rows[i][j]) {
+                return false;
+            }
+        }
+    }
+    true
+}
+
+/// Whether the matrix whose product with `m` is the identity is `wanted`.
+fn has_inverse(
+    alloc: Global,
+    m: &Matrix<Gf>,
+    wanted: [[u8; 2]; 2],
+) -> Result<bool, ElimError>
+    requires { HasShape 2 2 m.now }
+{
+    let inverse = invert(alloc, m)?;
+    let [[a, b], [c, d]] = wanted;
+    Ok(
+        inverse.get(0, 0) == Gf(a)
+            && inverse.get(0, 1) == Gf(b)
+            && inverse.get(1, 0) == Gf(c)
+            && inverse.get(1, 1) == Gf(d),
+    )
+}
+
 #[test]
 fn inverts_by_a_change_of_rows(rt: HostRuntime) -> Result<(), Fail> {
     let swap = two_by_two(rt.alloc(), [[0, 1], [1, 0]])?;
-    let inverse = invert(rt.alloc(), &swap)?;
-    assert_eq!(rt; inverse.get(0, 0), Gf(0));
-    assert_eq!(rt; inverse.get(0, 1), Gf(1));
-    assert_eq!(rt; inverse.get(1, 0), Gf(1));
-    assert_eq!(rt; inverse.get(1, 1), Gf(0));
+    assert!(rt; has_inverse(rt.alloc(), &swap, [[0, 1], [1, 0]])?);
     Ok(())
 }
 
@@ -55,10 +85,12 @@ fn finds_a_singular_matrix(rt: HostRuntime) -> Result<(), Fail> {
 
 #[test]
 fn names_its_errors(rt: HostRuntime) -> Result<(), Fail> {
-    let singular = format!(in rt.alloc(); "{}", ElimError::Singular)?;
-    assert_eq!(rt; singular.as_str(), "E1 Singular");
-    let no_memory = format!(in rt.alloc(); "{}", ElimError::from(AllocError))?;
-    assert_eq!(rt; no_memory.as_str(), "E2 NoMemory");
+    for (error, name) in [
+        (ElimError::Singular, "E1 Singular"),
+        (ElimError::from(AllocError), "E2 NoMemory"),
+    ] {
+        assert!(rt; is_shown_as(rt.alloc(), error, name)?, "{name}");
+    }
     Ok(())
 }
 
@@ -68,26 +100,14 @@ fn multiplies_a_vandermonde_matrix(rt: HostRuntime) -> Result<(), Fail> {
     let powers = vandermonde(rt.alloc(), &points, 2)?;
     let m = two_by_two(rt.alloc(), [[1, 1], [0, 2]])?;
     let made = product(rt.alloc(), &m, &powers)?;
-    let rows: [[u8; 3]; 2] = [[0, 3, 5], [2, 4, 8]];
-    for i in 0..2 {
-        for j in 0..3 {
-            assert_eq!(rt; made.get(i, j), Gf(rows[i][j]), "at {i} {j}");
-        }
-    }
+    assert!(rt; is_two_by_three(&made, [[0, 3, 5], [2, 4, 8]]));
     Ok(())
 }
 
 #[test]
 fn generates_two_of_three(rt: HostRuntime) -> Result<(), Fail> {
     let generator = generator(rt.alloc(), 2, 3)?;
-    assert_eq!(rt; generator.rows(), 2);
-    assert_eq!(rt; generator.cols(), 3);
-    let rows: [[u8; 3]; 2] = [[1, 0, 2], [0, 1, 3]];
-    for i in 0..2 {
-        for j in 0..3 {
-            assert_eq!(rt; generator.get(i, j), Gf(rows[i][j]), "at {i} {j}");
-        }
-    }
+    assert!(rt; is_two_by_three(&generator, [[1, 0, 2], [0, 1, 3]]));
     Ok(())
 }
 
