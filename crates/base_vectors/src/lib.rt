@@ -17,10 +17,9 @@ mod partition_tests;
 mod polynomial_tests;
 
 #[cfg(test)]
-use std::{
-    alloc::{AllocError, Global},
-    fmt::Display,
-};
+use std::alloc::{AllocError, Global};
+#[cfg(test)]
+use std::fmt::Display;
 
 // Whether a value's text is this.
 #[cfg(test)]

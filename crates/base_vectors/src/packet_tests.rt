@@ -114,7 +114,10 @@ fn packets_without_fti(rt: HostRuntime) {
     other_type[16] = 0x41;
     assert!(rt; is_plain(&other_type, 0, 0, &[1]));
     for size in 16..21usize {
-        assert!(rt; has_fault(&PLAIN[..size], PacketFault::PayloadLength), "{size} bytes");
+        assert!(rt;
+            has_fault(&PLAIN[..size], PacketFault::PayloadLength),
+            "{size} bytes"
+        );
     }
     let greatest = [
         0x10, 0xA0, 4, 5, 0, 0, 0, 0, 0, 0, 0, 1, 0, 0, 0, 1, 255, 255, 255, 255, 7, 8, 9,

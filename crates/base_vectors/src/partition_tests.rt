@@ -61,7 +61,7 @@ fn faults(rt: HostRuntime) -> Result<(), Fail> {
             Ok(_) => false,
             Err(fault) => is_shown_as(rt.alloc(), fault, text)?,
         };
-        assert!(rt; told, "{text} of {l} {e} {b} {max_n}");
+        assert!(rt; told, "{text} of {l} bytes");
     }
     let fti = Fti::new(16_777_216, 1, 1, 1)?;
     assert!(rt; fti.block_count() == 1 << 24);
