@@ -36,23 +36,30 @@ fn multiplies(rt: HostRuntime) {
         (0xFF, 0x00, 0x00),
     ];
     for (a, b, product) in products {
-        assert_eq!(rt; Gf(a).mul(Gf(b)), Gf(product), "{a} times {b}");
+        assert!(rt; Gf(a).mul(Gf(b)) == Gf(product), "{a} times {b}");
     }
 }
 
 #[test]
 fn adds_by_exclusive_or(rt: HostRuntime) {
-    assert_eq!(rt; Gf(0x53).add(Gf(0xCA)), Gf(0x99));
-    assert_eq!(rt; Gf(0x53).add(Gf::ZERO), Gf(0x53));
-    assert_eq!(rt; Gf::default(), Gf::ZERO);
+    assert!(rt; Gf(0x53).add(Gf(0xCA)) == Gf(0x99));
+    assert!(rt; Gf(0x53).add(Gf::ZERO) == Gf(0x53));
+    assert!(rt; Gf::default() == Gf::ZERO);
+}
+
+fn has_inverse(a: u8, inverse: u8) -> bool {
+    match Gf(a).inv() {
+        Some(found) => found == Gf(inverse),
+        None => false,
+    }
 }
 
 #[test]
 fn inverts(rt: HostRuntime) {
-    assert_eq!(rt; Gf::ZERO.inv(), None);
+    assert!(rt; Gf::ZERO.inv().is_none());
     let inverses: [(u8, u8); 4] = [(0x01, 0x01), (0x02, 0x8E), (0x03, 0xF4), (0x05, 0xA7)];
     for (a, inverse) in inverses {
-        assert_eq!(rt; Gf(a).inv(), Some(Gf(inverse)), "of {a}");
+        assert!(rt; has_inverse(a, inverse), "of {a}");
     }
     assert!(rt; Gf::ONE.is_element());
 }
@@ -65,26 +72,25 @@ fn takes_powers_of_alpha(rt: HostRuntime) {
         0x60, 0xC0,
     ];
     for esi in 0..32u8 {
-        assert_eq!(rt; point(esi), Gf(powers[usize::from(esi)]), "power {esi}");
+        assert!(rt; point(esi) == Gf(powers[usize::from(esi)]), "power {esi}");
     }
-    assert_eq!(rt; point(1), Gf::alpha());
-    assert_eq!(rt; point(254), Gf(0x8E));
-    assert_eq!(rt; point(254).mul(Gf::alpha()), Gf::ONE);
+    assert!(rt; point(1) == Gf::alpha());
+    assert!(rt; point(254) == Gf(0x8E));
+    assert!(rt; point(254).mul(Gf::alpha()) == Gf::ONE);
 }
 
 #[test]
 fn adds_a_scaled_row(rt: HostRuntime) {
     let mut bytes = [0x01, 0x02, 0xFF];
     add_scaled(&mut bytes, Gf(0x02), &[0x80, 0x01, 0xFF]);
-    assert_eq!(rt; bytes, [0x1C, 0x00, 0x1C]);
+    assert!(rt; bytes == [0x1C, 0x00, 0x1C]);
 
     let mut row = [Gf(0x01), Gf(0x02), Gf(0xFF)];
     Gf::add_scaled_row(&mut row, Gf(0x02), &[Gf(0x80), Gf(0x01), Gf(0xFF)]);
-    assert_eq!(rt; row, [Gf(0x1C), Gf(0x00), Gf(0x1C)]);
+    assert!(rt; row == [Gf(0x1C), Gf(0x00), Gf(0x1C)]);
 
-    let mut none: [u8; 0] = [];
-    add_scaled(&mut none, Gf(0x02), &[]);
-    assert_eq!(rt; none, []);
+    // Rows of no bytes may be added too.
+    add_scaled(&mut [], Gf(0x02), &[]);
 }
 
 #[test]
@@ -103,7 +109,7 @@ fn adds_a_scaled_row_of_blocks(rt: HostRuntime) {
         0x86, 0x8C, 0x82, 0x98, 0x6D, 0x7F, 0x82, 0x7B, 0x7D, 0x9C, 0x69, 0x98, 0x6D, 0x6F, 0x92,
         0x90, 0x6D, 0x67, 0xC2, 0xB8, 0x4D, 0xB4,
     ];
-    assert_eq!(rt; bytes, sums);
+    assert!(rt; bytes == sums);
 }
 
 // Whether the front of a row of elements gains what a row of the same bytes does, and the rest of it stays.
@@ -170,11 +176,7 @@ fn scales_as_defined(length: usize) -> bool
 
 #[test]
 fn scales_rows_of_each_length(rt: HostRuntime) {
-    assert!(rt; scales_as_defined(0));
-    assert!(rt; scales_as_defined(1));
-    assert!(rt; scales_as_defined(31));
-    assert!(rt; scales_as_defined(32));
-    assert!(rt; scales_as_defined(33));
-    assert!(rt; scales_as_defined(64));
-    assert!(rt; scales_as_defined(65));
+    for length in [0, 1, 31, 32, 33, 64, 65] {
+        assert!(rt; scales_as_defined(length), "length {length}");
+    }
 }

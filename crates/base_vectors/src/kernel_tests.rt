@@ -37,7 +37,7 @@ fn place(row: usize, size: usize, column: usize) -> usize {
 }
 
 /// A product's numbers.
-#[derive(Clone, Copy, Debug)]
+#[derive(Clone, Copy)]
 struct Shape {
     rows: usize,
     count: usize,

@@ -15,3 +15,21 @@ mod packet_tests;
 mod partition_tests;
 #[cfg(test)]
 mod polynomial_tests;
+
+#[cfg(test)]
+use std::alloc::{AllocError, Global};
+#[cfg(test)]
+use std::fmt::Display;
+
+// Whether a value's text is this.
+#[cfg(test)]
+pub(crate) fn is_shown_as<T: Display + Drop>(
+    alloc: Global,
+    value: T,
+    text: &str,
+) -> Result<bool, AllocError> {
+    match value.to_string(alloc) {
+        Ok(shown) => Ok(shown.as_str() == text),
+        Err(error) => Err(error),
+    }
+}

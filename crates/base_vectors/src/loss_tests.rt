@@ -9,7 +9,7 @@ fn repeats_count_once(rt: HostRuntime) -> Result<(), Fail> {
         members.push(Member { place, esi })?;
     }
     let group = Group { need: 2, members };
-    assert_eq!(rt; group.different(), 3);
+    assert!(rt; group.different() == 3);
     Ok(())
 }
 
@@ -17,6 +17,6 @@ fn repeats_count_once(rt: HostRuntime) -> Result<(), Fail> {
 fn no_symbols(rt: HostRuntime) -> Result<(), Fail> {
     let members = Vec::new(rt.alloc());
     let group = Group { need: 1, members };
-    assert_eq!(rt; group.different(), 0);
+    assert!(rt; group.different() == 0);
     Ok(())
 }

@@ -2,6 +2,7 @@
 ghost use Rattle.std.specs.Prelude.{◌≡◌, ◌<◌, ◌≤◌, ◌+◌, ◌*◌, ℕ, IfOk, length, slice_index};
 ghost use Rattle.elim.specs.Grid.{HasShape};
 
+use crate::is_shown_as;
 use elim::{ElimError, Matrix, generator, invert, product, recovery, vandermonde};
 use gf256::{Field, Gf};
 use std::alloc::{AllocError, Global};
@@ -34,14 +35,39 @@ fn begins_with_identity(m: &Matrix<Gf>, k: usize) -> bool
     true
 }
 
+/// Whether the matrix has two rows of three, and these.
+fn is_two_by_three(m: &Matrix<Gf>, rows: [[u8; 3]; 2]) -> bool {
+    if m.rows() != 2 || m.cols() != 3 {
+        return false;
+    }
+    for i in 0..2 {
+        for j in 0..3 {
+            if m.get(i, j) != Gf(rows[i][j]) {
+                return false;
+            }
+        }
+    }
+    true
+}
+
+/// Whether the matrix whose product with `m` is the identity is `wanted`.
+fn has_inverse(alloc: Global, m: &Matrix<Gf>, wanted: [[u8; 2]; 2]) -> Result<bool, ElimError>
+    requires { HasShape 2 2 m.now }
+{
+    let inverse = invert(alloc, m)?;
+    let [[a, b], [c, d]] = wanted;
+    Ok(
+        inverse.get(0, 0) == Gf(a)
+            && inverse.get(0, 1) == Gf(b)
+            && inverse.get(1, 0) == Gf(c)
+            && inverse.get(1, 1) == Gf(d),
+    )
+}
+
 #[test]
 fn inverts_by_a_change_of_rows(rt: HostRuntime) -> Result<(), Fail> {
     let swap = two_by_two(rt.alloc(), [[0, 1], [1, 0]])?;
-    let inverse = invert(rt.alloc(), &swap)?;
-    assert_eq!(rt; inverse.get(0, 0), Gf(0));
-    assert_eq!(rt; inverse.get(0, 1), Gf(1));
-    assert_eq!(rt; inverse.get(1, 0), Gf(1));
-    assert_eq!(rt; inverse.get(1, 1), Gf(0));
+    assert!(rt; has_inverse(rt.alloc(), &swap, [[0, 1], [1, 0]])?);
     Ok(())
 }
 
@@ -55,10 +81,12 @@ fn finds_a_singular_matrix(rt: HostRuntime) -> Result<(), Fail> {
 
 #[test]
 fn names_its_errors(rt: HostRuntime) -> Result<(), Fail> {
-    let singular = format!(in rt.alloc(); "{}", ElimError::Singular)?;
-    assert_eq!(rt; singular.as_str(), "E1 Singular");
-    let no_memory = format!(in rt.alloc(); "{}", ElimError::from(AllocError))?;
-    assert_eq!(rt; no_memory.as_str(), "E2 NoMemory");
+    for (error, name) in [
+        (ElimError::Singular, "E1 Singular"),
+        (ElimError::from(AllocError), "E2 NoMemory"),
+    ] {
+        assert!(rt; is_shown_as(rt.alloc(), error, name)?, "{name}");
+    }
     Ok(())
 }
 
@@ -68,26 +96,14 @@ fn multiplies_a_vandermonde_matrix(rt: HostRuntime) -> Result<(), Fail> {
     let powers = vandermonde(rt.alloc(), &points, 2)?;
     let m = two_by_two(rt.alloc(), [[1, 1], [0, 2]])?;
     let made = product(rt.alloc(), &m, &powers)?;
-    let rows: [[u8; 3]; 2] = [[0, 3, 5], [2, 4, 8]];
-    for i in 0..2 {
-        for j in 0..3 {
-            assert_eq!(rt; made.get(i, j), Gf(rows[i][j]), "at {i} {j}");
-        }
-    }
+    assert!(rt; is_two_by_three(&made, [[0, 3, 5], [2, 4, 8]]));
     Ok(())
 }
 
 #[test]
 fn generates_two_of_three(rt: HostRuntime) -> Result<(), Fail> {
     let generator = generator(rt.alloc(), 2, 3)?;
-    assert_eq!(rt; generator.rows(), 2);
-    assert_eq!(rt; generator.cols(), 3);
-    let rows: [[u8; 3]; 2] = [[1, 0, 2], [0, 1, 3]];
-    for i in 0..2 {
-        for j in 0..3 {
-            assert_eq!(rt; generator.get(i, j), Gf(rows[i][j]), "at {i} {j}");
-        }
-    }
+    assert!(rt; is_two_by_three(&generator, [[1, 0, 2], [0, 1, 3]]));
     Ok(())
 }
 
@@ -158,8 +174,39 @@ fn recovers_one_of_two(rt: HostRuntime) -> Result<(), Fail> {
     let repair = rising(rt.alloc(), 2, 1, 1)?;
     let recovery = recovery(rt.alloc(), &generator, &missing, &repair)?;
     // the inverse of 2
-    assert_eq!(rt; recovery.get(0, 0), Gf(0x8e));
+    assert!(rt; recovery.get(0, 0) == Gf(0x8e));
     Ok(())
+}
+
+/// The 30 symbols of the block whose source symbols are those 20.
+fn word(alloc: Global, generator: &Matrix<Gf>, odd: bool) -> Result<Matrix<Gf>, AllocError>
+    requires { HasShape 20 30 generator.now }
+    ensures { IfOk result (HasShape 1 30) }
+{
+    let symbols = source_symbols(alloc, odd)?;
+    product(alloc, &symbols, generator)
+}
+
+/// What the odd source symbols add to the repair symbols.
+fn odd_sums(alloc: Global, generator: &Matrix<Gf>) -> Result<Matrix<Gf>, AllocError>
+    requires { HasShape 20 30 generator.now }
+    ensures { IfOk result (HasShape 1 10) }
+{
+    let sent = word(alloc, generator, true)?;
+    let known = word(alloc, generator, false)?;
+    repair_sums(alloc, &sent, &known)
+}
+
+/// Whether a row has the ten odd source symbols.
+fn has_odd_symbols(row: &Matrix<Gf>) -> bool
+    requires { HasShape 1 10 row.now }
+{
+    for i in 0..10 {
+        if row.get(0, i) != Gf(7 * (2 * i as u8 + 1) + 3) {
+            return false;
+        }
+    }
+    true
 }
 
 #[test]
@@ -167,15 +214,9 @@ fn recovers_half_of_a_block(rt: HostRuntime) -> Result<(), Fail> {
     let generator = generator(rt.alloc(), 20, 30)?;
     let missing = rising(rt.alloc(), 1, 2, 10)?;
     let repair = rising(rt.alloc(), 20, 1, 10)?;
-    let sent = source_symbols(rt.alloc(), true)?;
-    let arrivals = source_symbols(rt.alloc(), false)?;
-    let word = product(rt.alloc(), &sent, &generator)?;
-    let known = product(rt.alloc(), &arrivals, &generator)?;
-    let sums = repair_sums(rt.alloc(), &word, &known)?;
     let recovery = recovery(rt.alloc(), &generator, &missing, &repair)?;
+    let sums = odd_sums(rt.alloc(), &generator)?;
     let made = product(rt.alloc(), &sums, &recovery)?;
-    for i in 0..10 {
-        assert_eq!(rt; made.get(0, i), sent.get(0, 2 * i + 1), "at {i}");
-    }
+    assert!(rt; has_odd_symbols(&made));
     Ok(())
 }

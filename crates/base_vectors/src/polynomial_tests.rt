@@ -12,14 +12,23 @@ fn multiplies_roots(rt: HostRuntime) {
     ];
     for (points, coefficients) in cases {
         assert!(rt; points.len() < 255);
-        assert_eq!(rt; Poly::from_roots(points).coefficients(), coefficients);
+        let right = Poly::from_roots(points).coefficients() == coefficients;
+        assert!(rt; right, "of {} points", points.len());
     }
 }
 
 #[test]
 fn takes_254_roots(rt: HostRuntime) {
     let polynomial = Poly::from_roots(&[Gf(0x01); 254]);
-    assert_eq!(rt; polynomial.coefficients().len(), 255);
+    assert!(rt; polynomial.coefficients().len() == 255);
+}
+
+// Whether the polynomial of these coefficients has this value at `x`.
+fn has_value(coefficients: &[Gf], x: u8, value: u8) -> bool {
+    match Poly::from_slice(coefficients) {
+        Some(polynomial) => polynomial.eval(Gf(x)) == Gf(value),
+        None => false,
+    }
 }
 
 #[test]
@@ -37,12 +46,7 @@ fn evaluates(rt: HostRuntime) {
         (&[], 0x02, 0x00),
     ];
     for (coefficients, x, value) in cases {
-        let polynomial = Poly::from_slice(coefficients);
-        let value_at = match &polynomial {
-            Some(polynomial) => Some(polynomial.eval(Gf(x))),
-            None => None,
-        };
-        assert_eq!(rt; value_at, Some(Gf(value)), "at {x}");
+        assert!(rt; has_value(coefficients, x, value), "{value} at {x}");
     }
 }
 

@@ -23,3 +23,21 @@ mod session_tests;
 // Whose packets most vectors are.
 #[cfg(test)]
 pub(crate) const ONE: reception::Identity = reception::Identity { tsi: 1, toi: 1 };
+
+#[cfg(test)]
+use std::alloc::{AllocError, Global};
+#[cfg(test)]
+use std::fmt::Display;
+
+// Whether a value's text is this.
+#[cfg(test)]
+pub(crate) fn is_shown_as<T: Display + Drop>(
+    alloc: Global,
+    value: T,
+    text: &str,
+) -> Result<bool, AllocError> {
+    match value.to_string(alloc) {
+        Ok(shown) => Ok(shown.as_str() == text),
+        Err(error) => Err(error),
+    }
+}

@@ -1,142 +1,115 @@
-//! Objects that are read block by block.
-use crate::converting_tests::{IDENTITY, fti, object};
-use coder::{
-    CertifyFromFault, ObjectFault, SendFromFault, certify_from, certify_to, encode, encode_from,
-};
+//! Objects that are read and sent block by block.
+ghost use Rattle.std.specs.Prelude.{◌<◌, ◌≤◌};
+
+use crate::ONE;
+use crate::converting_tests::{LENGTH, front, fti, is_at_end, object_and_more};
+use coder::{CertifyFromFault, ObjectFault, SendFromFault, certify_from, encode, encode_from};
 use partition::{Fti, Order};
-use session::{Pieces, Read, Sink, fill};
+use session::{Pieces, Sink};
 use std::alloc::Global;
 use std::test::Fail;
 
-// Nothing is left of what was read.
-fn is_at_end<R: Read>(reader: &mut R) -> bool {
-    let mut byte = [0u8; 1];
-    fill(reader, &mut byte) == Ok(0)
+// Whether as many datagrams are sent of an object that comes in pieces as of one that is there, and the same.
+fn is_sent_alike(
+    alloc: Global,
+    object: &[u8],
+    tsi: u32,
+    fti: &Fti,
+    every: u32,
+    most: usize,
+    count: u64,
+) -> bool
+    requires every { 1 ≤ every }
+    requires most { 0 < most }
+{
+    let mut whole = Sink::new(alloc);
+    let sent = encode(alloc, object, tsi, 1, fti, every, Order::Blocks, &mut whole);
+    sent == Ok(count) && is_sent_from(alloc, object, tsi, fti, every, most, count, whole.bytes())
 }
 
-#[test]
-fn certified_from_a_reader(rt: HostRuntime) -> Result<(), Fail> {
-    let object = object(rt.alloc())?;
-    let mut whole = Sink::new(rt.alloc());
-    certify_to(rt.alloc(), object.as_slice(), &fti()?, IDENTITY, &mut whole)?;
-    let mut reader = Pieces::new(object.as_slice(), 1000);
-    let mut sink = Sink::new(rt.alloc());
-    certify_from(rt.alloc(), &mut reader, &fti()?, IDENTITY, &mut sink)?;
-    assert!(rt; sink.bytes() == whole.bytes());
-    assert!(rt; is_at_end(&mut reader));
-    Ok(())
+// Whether so many datagrams are sent of an object that comes in pieces, and this is their file.
+fn is_sent_from(
+    alloc: Global,
+    object: &[u8],
+    tsi: u32,
+    fti: &Fti,
+    every: u32,
+    most: usize,
+    count: u64,
+    file: &[u8],
+) -> bool
+    requires every { 1 ≤ every }
+    requires most { 0 < most }
+{
+    let mut sink = Sink::new(alloc);
+    let mut reader = Pieces::new(object, most);
+    let sent = encode_from(alloc, &mut reader, tsi, 1, fti, every, &mut sink);
+    sent == Ok(count) && sink.bytes() == file && is_at_end(&mut reader)
 }
 
+// The object's 2703 source symbols in blocks of 97 or 96 have twice as many encoding symbols.
 #[test]
 fn sent_from_a_reader(rt: HostRuntime) -> Result<(), Fail> {
-    let object = object(rt.alloc())?;
+    let fti = fti()?;
+    let object = object_and_more(rt.alloc())?;
+    let object = front(&object, LENGTH);
     for every in [1, 2, 255] {
-        let mut whole = Sink::new(rt.alloc());
-        let count = encode(
-            rt.alloc(),
-            object.as_slice(),
-            7,
-            1,
-            &fti()?,
-            every,
-            Order::Blocks,
-            &mut whole,
-        )?;
-        let mut reader = Pieces::new(object.as_slice(), 1000);
-        let mut sink = Sink::new(rt.alloc());
-        let sent = encode_from(rt.alloc(), &mut reader, 7, 1, &fti()?, every, &mut sink)?;
-        assert_eq!(rt; sent, count);
-        assert!(rt; sink.bytes() == whole.bytes());
-        assert!(rt; is_at_end(&mut reader));
+        let right = is_sent_alike(rt.alloc(), object, 7, &fti, every, 1000, 5406);
+        assert!(rt; right, "every {every}");
     }
     Ok(())
 }
 
-// What certifying and sending these bytes say.
-fn refusals(
-    alloc: Global,
-    bytes: &[u8],
-    fti: &Fti,
-) -> (Result<(), CertifyFromFault>, Result<u64, SendFromFault>) {
-    let mut text = Sink::new(alloc);
-    let certified = certify_from(
-        alloc,
-        &mut Pieces::new(bytes, 500),
-        fti,
-        IDENTITY,
-        &mut text,
-    );
-    let mut session = Sink::new(alloc);
-    let sent = encode_from(
-        alloc,
-        &mut Pieces::new(bytes, 500),
-        7,
-        1,
-        fti,
-        1,
-        &mut session,
-    );
-    (certified, sent)
+// The objects whose sessions are worked out in transcripts, and one with blocks of one symbol and a last symbol of one byte.
+#[test]
+fn small_objects_from_a_reader(rt: HostRuntime) -> Result<(), Fail> {
+    let three_blocks = [0x01, 0x08, 0x40, 0x3A, 1, 2, 4, 1, 4, 0x10];
+    for (object, tsi, e, b, max_n, every, count) in [
+        (&[1u8, 2][..], 1, 1, 2, 3, 1, 3),
+        (&[1, 2], 1, 1, 2, 3, 2, 3),
+        (&[1, 2], 1, 1, 2, 3, 3, 3),
+        (&three_blocks, 1, 1, 4, 6, 1, 14),
+        (&three_blocks, 1, 1, 4, 6, 4, 14),
+        (&[7, 8, 9], 1, 2, 2, 3, 1, 3),
+        (&[1, 2, 3, 4, 5], 7, 2, 1, 3, 1, 9),
+    ] {
+        let fti = Fti::new(object.len() as u64, e, b, max_n)?;
+        let right = is_sent_alike(rt.alloc(), object, tsi, &fti, every, 1, count);
+        assert!(rt; right, "{} bytes, every {every}", object.len());
+    }
+    Ok(())
 }
 
-// The first bytes, or all where there are fewer.
-fn front(bytes: &[u8], length: usize) -> &[u8] {
-    bytes.split_at(length.min(bytes.len())).0
+// What certifying bytes in pieces says.
+fn certifying(alloc: Global, bytes: &[u8], fti: &Fti) -> Result<(), CertifyFromFault> {
+    let mut sink = Sink::new(alloc);
+    certify_from(alloc, &mut Pieces::new(bytes, 500), fti, ONE, &mut sink)
+}
+
+// What sending them says.
+fn sending(alloc: Global, bytes: &[u8], fti: &Fti) -> Result<u64, SendFromFault> {
+    let mut sink = Sink::new(alloc);
+    encode_from(alloc, &mut Pieces::new(bytes, 500), 7, 1, fti, 1, &mut sink)
 }
 
 // An object that is shorter or longer than its length said, wherever it ends.
 #[test]
 fn another_length(rt: HostRuntime) -> Result<(), Fail> {
-    let mut object = object(rt.alloc())?;
-    for length in [0, 1, 3588, 3589, 3590, 100002] {
-        let front = front(&object, length);
-        let (certified, sent) = refusals(rt.alloc(), front, &fti()?);
-        assert_eq!(rt;
-            certified,
-            Err(CertifyFromFault::Object(ObjectFault::Length))
+    let fti = fti()?;
+    let object = object_and_more(rt.alloc())?;
+    for length in [0, 1, 3588, 3589, 3590, 100002, 100004] {
+        let bytes = front(&object, length);
+        let certified = certifying(rt.alloc(), bytes, &fti);
+        assert!(rt;
+            certified == Err(CertifyFromFault::Object(ObjectFault::Length)),
+            "{length}"
         );
-        assert_eq!(rt; sent, Err(SendFromFault::Object(ObjectFault::Length)));
+        let sent = sending(rt.alloc(), bytes, &fti);
+        assert!(rt;
+            sent == Err(SendFromFault::Object(ObjectFault::Length)),
+            "{length}"
+        );
     }
-    object.push(0)?;
-    let (certified, sent) = refusals(rt.alloc(), object.as_slice(), &fti()?);
-    assert_eq!(rt;
-        certified,
-        Err(CertifyFromFault::Object(ObjectFault::Length))
-    );
-    assert_eq!(rt; sent, Err(SendFromFault::Object(ObjectFault::Length)));
-    Ok(())
-}
-
-// Blocks of one symbol, and a last symbol of one byte.
-#[test]
-fn smallest_blocks(rt: HostRuntime) -> Result<(), Fail> {
-    let bytes = [1u8, 2, 3, 4, 5];
-    let fti = Fti::new(5, 2, 1, 3)?;
-    let mut whole = Sink::new(rt.alloc());
-    let count = encode(rt.alloc(), &bytes, 7, 1, &fti, 1, Order::Blocks, &mut whole)?;
-    let mut sink = Sink::new(rt.alloc());
-    let sent = encode_from(
-        rt.alloc(),
-        &mut Pieces::new(&bytes, 1),
-        7,
-        1,
-        &fti,
-        1,
-        &mut sink,
-    )?;
-    assert_eq!(rt; (count, sent), (9, 9));
-    assert!(rt; sink.bytes() == whole.bytes());
-    let mut text = Sink::new(rt.alloc());
-    certify_to(rt.alloc(), &bytes, &fti, IDENTITY, &mut text)?;
-    let mut read = Sink::new(rt.alloc());
-    certify_from(
-        rt.alloc(),
-        &mut Pieces::new(&bytes, 3),
-        &fti,
-        IDENTITY,
-        &mut read,
-    )?;
-    assert!(rt; read.bytes() == text.bytes());
     Ok(())
 }
 
@@ -144,10 +117,8 @@ fn smallest_blocks(rt: HostRuntime) -> Result<(), Fail> {
 #[test]
 fn symbol_too_long(rt: HostRuntime) -> Result<(), Fail> {
     let fti = Fti::new(5, 65476, 1, 3)?;
-    let (_, sent) = refusals(rt.alloc(), &[0u8; 5], &fti);
-    assert_eq!(rt; sent, Err(SendFromFault::SymbolTooLong));
+    assert!(rt; sending(rt.alloc(), &[0; 5], &fti) == Err(SendFromFault::SymbolTooLong));
     let fti = Fti::new(5, 65475, 1, 3)?;
-    let (_, sent) = refusals(rt.alloc(), &[0u8; 5], &fti);
-    assert_eq!(rt; sent, Ok(3));
+    assert!(rt; sending(rt.alloc(), &[0; 5], &fti) == Ok(3));
     Ok(())
 }

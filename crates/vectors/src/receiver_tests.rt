@@ -1,8 +1,10 @@
 //! A receiver beside the decoder, at each datagram of sessions that lose, repeat and spoil some, in any order.
 ghost use Rattle.std.specs.Prelude.{◌≤◌};
+ghost use Rattle.decoder.specs.Stands.{IsFed};
 
 use crate::ONE;
 use crate::check_tests::FIRST_ALONE;
+use crate::decoding_tests::{Said, says};
 use alc::PacketFault;
 use coder::{Answer, DecodeFault, FeedFault, Progress, Receiver, decode, encode};
 use partition::{Fti, Order};
@@ -95,27 +97,78 @@ fn agrees(fed: &Result<Progress, FeedFault>, taken: &Answer, decoded: &Answer) -
     }
 }
 
+fn feed(alloc: Global, receiver: &mut Receiver, datagram: &[u8]) -> Result<Progress, FeedFault>
+    requires { IsFed receiver.old }
+    ensures { IsFed receiver.new }
+{
+    match receiver.feed(alloc, datagram) {
+        Ok(progress) => Ok(progress),
+        Err(fault) => Err(fault),
+    }
+}
+
+fn takes(
+    alloc: Global,
+    receiver: &Receiver,
+    fed: &Result<Progress, FeedFault>,
+    decoded: &Answer,
+) -> bool {
+    match receiver.take(alloc) {
+        Ok(taken) => agrees(fed, &taken, decoded),
+        Err(_) => false,
+    }
+}
+
+// Whether a receiver that was just fed agrees with the decoder of these datagrams.
+fn agrees_of(
+    alloc: Global,
+    receiver: &Receiver,
+    fed: &Result<Progress, FeedFault>,
+    datagrams: &[&[u8]],
+) -> bool {
+    match decode(alloc, datagrams, ONE) {
+        Ok(decoded) => takes(alloc, receiver, fed, &decoded),
+        Err(_) => false,
+    }
+}
+
+// Whether they agree once one more datagram is fed, which joins those that were accepted, if it is.
+fn agrees_at<'a>(
+    alloc: Global,
+    receiver: &mut Receiver,
+    accepted: &mut Vec<&'a [u8]>,
+    datagram: &'a [u8],
+) -> bool
+    requires { IsFed receiver.old }
+    ensures { IsFed receiver.new }
+{
+    let fed = feed(alloc, receiver, datagram);
+    let agreed = accepted.push(datagram).is_ok()
+        && agrees_of(alloc, receiver, &fed, accepted.as_slice());
+    if fed.is_err() {
+        accepted.pop();
+    }
+    agreed
+}
+
+fn has_object(alloc: Global, receiver: &Receiver) -> bool {
+    match receiver.take(alloc) {
+        Ok(Answer::Object(_)) => true,
+        _ => false,
+    }
+}
+
 // Whether they agree at each of these datagrams, and whether the object was there at the end.
-fn compare(alloc: Global, datagrams: &[Vec<u8>]) -> Result<(bool, bool), Fail> {
+fn compare(alloc: Global, datagrams: &[Vec<u8>]) -> (bool, bool) {
     let mut receiver = Receiver::new(ONE);
     let mut accepted = Vec::new(alloc);
+    let mut agreed = true;
     for datagram in datagrams {
-        let fed = receiver.feed(alloc, datagram.as_slice());
-        accepted.push(datagram.as_slice())?;
-        let decoded = decode(alloc, &accepted, ONE)?;
-        let taken = receiver.take(alloc)?;
-        if !agrees(&fed, &taken, &decoded) {
-            return Ok((false, false));
-        }
-        if fed.is_err() {
-            accepted.pop();
+        if agreed {
+            agreed = agrees_at(alloc, &mut receiver, &mut accepted, datagram.as_slice());
         }
     }
-    let complete = match receiver.take(alloc)? {
-        Answer::Object(_) => true,
-        _ => false,
-    };
-    Ok((true, complete))
+    (agreed, has_object(alloc, &receiver))
 }
 
 // Whether a receiver says what the decoder does in all orders, and has the object in some.
@@ -128,7 +181,7 @@ fn agree(alloc: Global, length: usize, fti: &Fti, every: u32) -> Result<bool, Fa
     let mut some = false;
     for _ in 0..ORDERS {
         let datagrams = disturbed(alloc, &mut random, &session)?;
-        let (agreed, complete) = compare(alloc, datagrams.as_slice())?;
+        let (agreed, complete) = compare(alloc, datagrams.as_slice());
         if !agreed {
             return Ok(false);
         }
@@ -137,24 +190,21 @@ fn agree(alloc: Global, length: usize, fti: &Fti, every: u32) -> Result<bool, Fa
     Ok(some)
 }
 
+// A pair, a note and three blocks; and where not all datagrams are carriers: a packet without FTI that comes before the
+// first carrier is refused.
 #[test]
-fn of_a_pair(rt: HostRuntime) -> Result<(), Fail> {
-    let fti = Fti::new(2, 1, 2, 3)?;
-    assert!(rt; agree(rt.alloc(), 2, &fti, 1)?);
-    Ok(())
-}
-
-#[test]
-fn of_a_note(rt: HostRuntime) -> Result<(), Fail> {
-    let fti = Fti::new(29, 8, 8, 12)?;
-    assert!(rt; agree(rt.alloc(), 29, &fti, 1)?);
-    Ok(())
-}
-
-#[test]
-fn of_three_blocks(rt: HostRuntime) -> Result<(), Fail> {
-    let fti = Fti::new(10, 1, 4, 6)?;
-    assert!(rt; agree(rt.alloc(), 10, &fti, 1)?);
+fn of_small_objects(rt: HostRuntime) -> Result<(), Fail> {
+    for (length, e, b, max_n, every) in [
+        (2, 1, 2, 3, 1),
+        (29, 8, 8, 12, 1),
+        (10, 1, 4, 6, 1),
+        (10, 1, 4, 6, 4),
+        (29, 8, 8, 12, 3),
+    ] {
+        let fti = Fti::new(length, e, b, max_n)?;
+        let right = agree(rt.alloc(), length as usize, &fti, every)?;
+        assert!(rt; right, "{length} bytes, every {every}");
+    }
     Ok(())
 }
 
@@ -165,46 +215,70 @@ fn of_a_bulletin(rt: HostRuntime) -> Result<(), Fail> {
     Ok(())
 }
 
-// A packet without FTI that comes before the first carrier is refused.
-#[test]
-fn of_some_carriers(rt: HostRuntime) -> Result<(), Fail> {
-    let fti = Fti::new(10, 1, 4, 6)?;
-    assert!(rt; agree(rt.alloc(), 10, &fti, 4)?);
-    let fti = Fti::new(29, 8, 8, 12)?;
-    assert!(rt; agree(rt.alloc(), 29, &fti, 3)?);
-    Ok(())
+// The datagram at place 1 with TOI 2.
+fn second_of_another() -> [u8; 21] {
+    let mut datagram = [0; 21];
+    datagram.copy_from_slice(&FIRST_ALONE[37..58]);
+    datagram[15] = 2;
+    datagram
+}
+
+// The same with a byte more.
+fn longer_second() -> [u8; 22] {
+    let mut datagram = [0; 22];
+    datagram[..21].copy_from_slice(&FIRST_ALONE[37..58]);
+    datagram
+}
+
+// Whether feeding says this.
+fn is_told(
+    alloc: Global,
+    receiver: &mut Receiver,
+    datagram: &[u8],
+    wanted: Result<Progress, FeedFault>,
+) -> bool
+    requires { IsFed receiver.old }
+    ensures { IsFed receiver.new }
+{
+    feed(alloc, receiver, datagram) == wanted
 }
 
 #[test]
 fn early(rt: HostRuntime) -> Result<(), Fail> {
     let alloc = rt.alloc();
-    let carrier = &FIRST_ALONE[2..35];
-    let second = &FIRST_ALONE[37..58];
-    let repair = &FIRST_ALONE[60..81];
-    let mut longer = second.to_vec(alloc)?;
-    longer.push(0)?;
-    // With TOI 2.
-    let mut other = [0; 21];
-    other.copy_from_slice(second);
-    other[15] = 2;
-    let no_packet = DecodeFault::Packet(1, PacketFault::TooShort);
-    let wrong_length = DecodeFault::SymbolLength(2);
+    let early = Err(FeedFault::Early);
+    let no_packet = Err(FeedFault::Fault(DecodeFault::Packet(1, PacketFault::TooShort)));
+    let wrong_length = Err(FeedFault::Fault(DecodeFault::SymbolLength(2)));
     let mut receiver = Receiver::new(ONE);
-    for row in [
-        (second, Err(FeedFault::Early)),
-        (longer.as_slice(), Err(FeedFault::Early)),
-        (&other, Ok(Progress::More)),
-        (&[], Err(FeedFault::Fault(no_packet))),
-        (carrier, Ok(Progress::More)),
-        (longer.as_slice(), Err(FeedFault::Fault(wrong_length))),
-        (repair, Ok(Progress::Complete)),
-    ] {
-        let (datagram, told) = row;
-        assert_eq!(rt; receiver.feed(alloc, datagram), told);
-    }
-    match receiver.take(alloc)? {
-        Answer::Object(object) => assert_eq!(rt; object.as_slice(), [1, 2].as_slice()),
-        _ => assert!(rt; false, "no object"),
-    }
+    assert!(rt; is_told(alloc, &mut receiver, &FIRST_ALONE[37..58], early));
+    assert!(rt; is_told(alloc, &mut receiver, &longer_second(), early));
+    assert!(rt;
+        is_told(
+            alloc,
+            &mut receiver,
+            &second_of_another(),
+            Ok(Progress::More)
+        )
+    );
+    assert!(rt; is_told(alloc, &mut receiver, &[], no_packet));
+    assert!(rt;
+        is_told(
+            alloc,
+            &mut receiver,
+            &FIRST_ALONE[2..35],
+            Ok(Progress::More)
+        )
+    );
+    assert!(rt; is_told(alloc, &mut receiver, &longer_second(), wrong_length));
+    assert!(rt;
+        is_told(
+            alloc,
+            &mut receiver,
+            &FIRST_ALONE[60..81],
+            Ok(Progress::Complete)
+        )
+    );
+    let answer = receiver.take(alloc)?;
+    assert!(rt; says(&answer, Said::Object(&[1, 2])));
     Ok(())
 }
