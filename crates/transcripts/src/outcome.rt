@@ -44,7 +44,7 @@ fn text_of(bytes: &[u8]) -> Result<&str, Fault> {
 fn words_of(alloc: Global, line: &str) -> Result<Vec<&str>, AllocError> {
     let mut words = Vec::new(alloc);
     for word in line.split_whitespace() {
-        words.push(word.strip_prefix("\"\"").unwrap_or(word))?;
+        words.push(if word == "\"\"" { "" } else { word })?;
     }
     Ok(words)
 }
