@@ -164,7 +164,7 @@ fn write_columns(
     store(symbols, points, coefficients.width, tile, at, used);
 }
 
-// As many coefficients as the transform takes: a power of two.
+// The transform takes 2 ^ exponent coefficients: the least of 64, 128 and 256 that k are not above.
 fn exponent(k: usize) -> usize
     requires { k ≤ 255 }
     ensures least { 6 ≤ result }

@@ -2,6 +2,7 @@
 use Rattle.std.proofs.Common.{zero, suc, ap, subst, IfOk, Result, arith, refl, sym, map, take, length, false, ℕ, List, [], ◌∷◌, ◌++◌, ◌≡◌, ◌<◌, ◌+◌, ◌∙◌}
 use Rattle.std.specs.List.{slice_index_or}
 use Rattle.std.proofs.lemmas.List.{append-nil, append_assoc}
+use Rattle.std.proofs.lemmas.Result.{IfOk-at_ok, IfOk-weaker}
 use Rattle.std.specs.Borrow.{Bor}
 use Rattle.clap.specs.Words.{AddsArg, App, Rule, Shape, Text, app_of, rule_of, shape_of, with_subcommand}
 use Rattle.clap.specs.declared.builder.arg.Arg.{Arg}
@@ -46,19 +47,28 @@ one_added old new a rule added local is = record {
   local = rw (added.globals, local) (grind arith);
 }
 
--- ---- a parser with commands added in turn
+-- ---- a parser with commands added in turn, where all were made
 
-pub command_added : {E : Type 0} (old new : Command) (made : Result Command E) (shape : Shape)
-    → AddsCommand old made new → IfOk made (IsShaped shape)
-    → app_of new ≡ with_subcommand (app_of old) shape
-command_added old new made shape added shaped =
-    let sub : IsShaped shape added.0 = subst (λ m. IfOk m (IsShaped shape)) added.1 shaped in
-    added.2 sub.local ∙ ap (with_subcommand (app_of old)) sub.shaped
+-- the parser has this grammar, with some words for the orders
+abbrev pub Has : (Bor (List (Bor Text)) → App) → Command → Type 0
+Has app parser = (orders : Bor (List (Bor Text))) × IsOrders orders × (app_of parser ≡ app orders)
 
 -- the first of them is `encode`
-pub encode_added : {E : Type 0} (old new : Command) (made : Result Command E)
-    → AddsCommand old made new → IfOk made (λ command. (orders : Bor (List (Bor Text))) × IsOrders orders × IsShaped (encode_command orders) command)
-    → (orders : Bor (List (Bor Text))) × IsOrders orders × (app_of new ≡ with_subcommand (app_of old) (encode_command orders))
-encode_added old new made added shaped =
-    let sub : (orders : Bor (List (Bor Text))) × IsOrders orders × IsShaped (encode_command orders) added.0 = subst (λ m. IfOk m (λ command. (orders : Bor (List (Bor Text))) × IsOrders orders × IsShaped (encode_command orders) command)) added.1 shaped in
-    (sub.0, sub.1, added.2 sub.2.local ∙ ap (with_subcommand (app_of old)) sub.2.shaped)
+pub encode_added : {E : Type 0} (parser command new : Result Command E) (app : App)
+    → IfOk parser (λ old. app_of old ≡ app)
+    → IfOk command (λ sub. (orders : Bor (List (Bor Text))) × IsOrders orders × IsShaped (encode_command orders) sub)
+    → IfOk new (AddsCommand parser command)
+    → IfOk new (Has (λ orders. with_subcommand app (encode_command orders)))
+encode_added parser command new app has shaped = IfOk-weaker new (AddsCommand parser command) _ (λ _ (old, sub, from, made, added).
+    let top = IfOk-at_ok (λ p. app_of p ≡ app) from has in
+    let (orders, names, is) = IfOk-at_ok _ made shaped in
+    (orders, names, added is.local ∙ (ap (λ a. with_subcommand a (shape_of sub)) top ∙ ap (with_subcommand app) is.shaped)))
+
+pub command_added : {E : Type 0} (parser command new : Result Command E) (app : Bor (List (Bor Text)) → App) (shape : Shape)
+    → IfOk parser (Has app) → IfOk command (IsShaped shape)
+    → IfOk new (AddsCommand parser command)
+    → IfOk new (Has (λ orders. with_subcommand (app orders) shape))
+command_added parser command new app shape has shaped = IfOk-weaker new (AddsCommand parser command) _ (λ _ (old, sub, from, made, added).
+    let (orders, names, top) = IfOk-at_ok (Has app) from has in
+    let is = IfOk-at_ok (IsShaped shape) made shaped in
+    (orders, names, added is.local ∙ (ap (λ a. with_subcommand a (shape_of sub)) top ∙ ap (with_subcommand (app orders)) is.shaped)))

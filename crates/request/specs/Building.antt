@@ -22,7 +22,7 @@ pub record AddsRules (old : Command) (rules : List Rule) (new : Command) : Type 
   pub shape : shape_of new ≡ record (shape_of old) { rules = (shape_of old).rules ++ rules }
   pub local : (fields_of new).has_globals ≡ (fields_of old).has_globals
 
--- the parser with the command that was made, last
-abbrev pub AddsCommand : {E : Type 0} → Command → Result Command E → Command → Type 0
-AddsCommand old made new =
-    (sub : Command) × (made ≡ Ok sub) × ((fields_of sub).has_globals ≡ false → app_of new ≡ with_subcommand (app_of old) (shape_of sub))
+-- the parser with the command last, where both were made
+abbrev pub AddsCommand : {E : Type 0} → Result Command E → Result Command E → Command → Type 0
+AddsCommand parser command new =
+    (old sub : Command) × (parser ≡ Ok old) × (command ≡ Ok sub) × ((fields_of sub).has_globals ≡ false → app_of new ≡ with_subcommand (app_of old) (shape_of sub))

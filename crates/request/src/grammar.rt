@@ -333,17 +333,14 @@ fn turns<'a>(alloc: Global) -> Arg<'a>
         .help("One datagram of each session in turn, not one session after the other")
 }
 
-// The parser with a command last.
+// The parser with a command last, where both were made.
 fn with_command<'a>(
-    parser: Command<'a>,
+    parser: Result<Command<'a>, AllocError>,
     command: Result<Command<'a>, AllocError>,
 ) -> Result<Command<'a>, AllocError>
     ensures { IfOk result (AddsCommand parser.entry command.entry) }
 {
-    match command {
-        Ok(command) => parser.subcommand(command),
-        Err(error) => Err(error),
-    }
+    parser?.subcommand(command?)
 }
 
 /// The grammar of the whole command line.
@@ -355,14 +352,14 @@ pub(crate) fn grammar<'a>(alloc: Global) -> Result<Command<'a>, AllocError>
         .about(ABOUT)
         .after_help(help::ALCRS)
         .subcommand_required(true);
-    let parser = with_command(parser, encode_command(alloc))?;
-    let parser = with_command(parser, certify_command(alloc))?;
-    let parser = with_command(parser, convert_command(alloc))?;
-    let parser = with_command(parser, check_command(alloc))?;
-    let parser = with_command(parser, drop_command(alloc))?;
-    let parser = with_command(parser, join_command(alloc))?;
-    let parser = with_command(parser, decode_command(alloc))?;
-    let parser = with_command(parser, follow_command(alloc))?;
-    let parser = with_command(parser, twin_command(alloc))?;
+    let parser = with_command(Ok(parser), encode_command(alloc));
+    let parser = with_command(parser, certify_command(alloc));
+    let parser = with_command(parser, convert_command(alloc));
+    let parser = with_command(parser, check_command(alloc));
+    let parser = with_command(parser, drop_command(alloc));
+    let parser = with_command(parser, join_command(alloc));
+    let parser = with_command(parser, decode_command(alloc));
+    let parser = with_command(parser, follow_command(alloc));
+    let parser = with_command(parser, twin_command(alloc));
     with_command(parser, show_command(alloc))
 }

@@ -2,6 +2,7 @@ use Rattle.std.specs.Prelude.{slice_index}
 use Rattle.std.proofs.Common.{◌≡◌, ◌∙◌, ◌<◌, ◌≤◌, ◌+◌, ◌-◌, ◌*◌, ℕ, length, drop, sym, ap, arith, get_or-take}
 use Rattle.std.proofs.Math.Nat.{mul-le-mul_right, mul_comm}
 use Rattle.std.proofs.lemmas.List.{get_or-drop}
+use Rattle.std.proofs.lemmas.Grind.{common_steps}
 use Rattle.gf256.proofs.RowPlaces.{row_ends, rows_apart, put_at, part_long}
 use Rattle.partition.specs.Fti.{start_of, source_count, source_place, symbol_count}
 use borrow.Rule.Slice.PartMut.{put_mid}
@@ -66,3 +67,6 @@ returns-clause-turned c = λ i y li ly.
     ∙ get_or-take (length c.args.text.now - c.start.result * c.from-width.result) (drop at c.args.text.now) (y * c.k.result + i) 0 inside2
     ∙ get_or-drop at c.args.text.now (y * c.k.result + i) 0
     ∙ ap (slice_index c.args.text.now) (sym there)
+
+pub returns-clause-before : goal.returns-clause-before
+returns-clause-before c = grind (arith, common_steps) steps 2000000

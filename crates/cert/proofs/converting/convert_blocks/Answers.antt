@@ -1,4 +1,5 @@
 use Rattle.std.proofs.Common.{◌≡◌, ◌<◌, ◌*◌, ◌∙◌, length, refl, arith}
+use Rattle.std.proofs.lemmas.Grind.{common_steps}
 use Rattle.partition.specs.Fti.{block_count, source_count}
 use Rattle.cert.specs.declared.converting.ConvertFault.TheVariants.{Certificate as OfCertificate}
 use Rattle.cert.proofs.DatagramSteps.{passed_on}
@@ -38,3 +39,6 @@ loop-b-preserved g c =
       room = room_left f valid b _ _ _ c.loop-b.invariant.room (rw (c.as_slice.ensures.value, r_long) at c.in_ok-write_all.ensures.fills);
       stays = c.in_ok-told.ensures.stays ∙ c.loop-b.invariant.stays;
     }
+
+pub returns-in_err-write_all-clause-fault : goal.returns-in_err-write_all-clause-fault
+returns-in_err-write_all-clause-fault g c = grind (arith, common_steps) steps 2000000

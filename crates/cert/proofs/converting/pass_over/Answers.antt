@@ -1,4 +1,5 @@
 use Rattle.std.proofs.Common.{◌≡◌, ◌∙◌, length, take, arith, length-take-le}
+use Rattle.std.proofs.lemmas.Grind.{common_steps}
 use Rattle.cert.proofs.BlockByBlock.{piece_passed}
 use Rattle.cert.proofs.converting.pass_over.Goals as goal
 
@@ -12,3 +13,12 @@ loop-got-preserved g c =
           (piece_passed c.args.count c.loop-got.left _ _ _ piece c.loop-got.invariant.passes c.are_bytes.ensures c.in-Ok.ensures.bytes (omega (arith, long, c.if-got-left.false)));
       stays = c.in-Ok.ensures.stays ∙ c.loop-got.invariant.stays;
     }
+
+pub returns-then-got-left-clause-size : goal.returns-then-got-left-clause-size
+returns-then-got-left-clause-size g c = grind (arith, common_steps) steps 2000000
+
+pub returns-then-left-eq0-clause-ok : goal.returns-then-left-eq0-clause-ok
+returns-then-left-eq0-clause-ok g c = grind (arith, common_steps) steps 2000000
+
+pub returns-else-left-eq0-clause-size : goal.returns-else-left-eq0-clause-size
+returns-else-left-eq0-clause-size g c = grind (arith, common_steps) steps 2000000

@@ -1,6 +1,7 @@
 use Rattle.std.proofs.Common.{◌≡◌, ◌∙◌, ◌+◌, ◌++◌, ℕ, List, take, length, sym, ap, arith}
 use Rattle.std.proofs.Math.Seq.{take-append-add}
 use Rattle.std.proofs.lemmas.List.{take_all}
+use Rattle.std.proofs.lemmas.Grind.{common_steps}
 use Rattle.streams.proofs.Fills.{then_consumes}
 use Rattle.cert.specs.CertificateReading.{head_length}
 use Rattle.cert.proofs.Texts.{head_length_front, length_known}
@@ -27,3 +28,6 @@ returns-clause-most g c =
     ap head_length parts ∙ head_length_front front (take c.in_ok-more.more behind) (omega (arith, long)) in
     let which = length_known front in
     omega (arith, same, which, c.head_length.ensures, c.if-head_length-eq-LENGTH.false, c.in_ok-more.ensures.bound, c.split_at_mut-front.ensures.back_len, c.requires)
+
+pub returns-then-got-lt-LENGTH-clause-bytes : goal.returns-then-got-lt-LENGTH-clause-bytes
+returns-then-got-lt-LENGTH-clause-bytes g c = grind (arith, common_steps) steps 2000000

@@ -1,4 +1,5 @@
 use Rattle.std.proofs.Common.{◌∙◌, ◌++◌, ◌∷◌, [], ℕ, List, get_or, map, sym, ap, arith, below_more}
+use Rattle.std.proofs.lemmas.Grind.{common_steps}
 use Rattle.lists.specs.Below.{below}
 use Rattle.losses.specs.Groups.{Group, groups_of, group_at}
 use Rattle.losses.specs.Members.{different_outside}
@@ -26,3 +27,9 @@ loop-block-preserved c =
           ∙ sym (map_below_more (line_in (groups_of c.args.groups.now)) c.loop-block.block);
       enough = below_more _ _ c.loop-block.invariant.enough (omega (arith, need, have, c.if-have-need.false));
     }
+
+pub returns-then-have-need-clause-no_report : goal.returns-then-have-need-clause-no_report
+returns-then-have-need-clause-no_report c = grind (arith, common_steps) steps 2000000
+
+pub returns-clause-enough : goal.returns-clause-enough
+returns-clause-enough c = grind (arith, common_steps) steps 2000000

@@ -1,5 +1,6 @@
 use Rattle.std.proofs.Common.{◌≡◌, ◌<◌, ◌≤◌, ◌+◌, ◌-◌, ◌*◌, ◌∙◌, ℕ, length, get_or, ap, arith}
 use Rattle.std.proofs.lemmas.List.{get_or_append_left, get_or-append_right}
+use Rattle.std.proofs.lemmas.Grind.{common_steps}
 use Rattle.gf256.specs.Arithmetic.{product}
 use Rattle.gf256.proofs.SliceSums.{sum_same}
 use Rattle.gf256.proofs.RowPlaces.{row_ends, rows_apart}
@@ -40,3 +41,6 @@ returns-clause-extended c = λ object bytes are y ly.
     ∙ sum_same (source_count f b) _ (λ i. product (get_or c.deref.result.now (j * source_count f b + i) 0) (source_byte f object b i y))
     (λ i li. ap (λ (v : ℕ). product v (source_byte f object b i y)) (part_at c.deref.result.now (source_count f b) c.k-k.result j i k past lj li))
     ∙ column_product g c.deref.result.now (λ i. source_byte f object b i y) (source_count f b) j laid_out.small laid_out code.rows column (λ i. bytes _))
+
+pub combine-requires-clause-coefficients : goal.combine-requires-clause-coefficients
+combine-requires-clause-coefficients c = grind (arith, common_steps) steps 2000000

@@ -1,4 +1,5 @@
 use Rattle.std.proofs.Common.{◌≡◌, ◌<◌, ◌≤◌, ◌+◌, ◌-◌, ◌*◌, ◌∙◌, ℕ, length, get_or, sym, ap, arith}
+use Rattle.std.proofs.lemmas.Grind.{common_steps}
 use Rattle.std.proofs.Math.Nat.{mul-le-mul_right}
 use Rattle.gf256.proofs.RowPlaces.{row_ends, rows_apart, put_at}
 use Rattle.partition.specs.Fti.{start_of, source_count, source_place, symbol_count}
@@ -41,3 +42,6 @@ returns-clause-gives c =
     sym
     (ap (λ (p : ℕ). get_or (put_mid (c.start.result * c.from-size.result) (c.start.result * c.from-size.result + c.k.result * c.from-size.result - c.start.result * c.from-size.result) c.args.coefficients.now c.certify_block.new.rows) p 0) place
     ∙ put_at c.args.coefficients.now c.certify_block.new.rows _ at (n * f.symbol_length + y) start inside))
+
+pub returns-clause-before : goal.returns-clause-before
+returns-clause-before c = grind (arith, common_steps) steps 2000000

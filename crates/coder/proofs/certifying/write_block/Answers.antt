@@ -1,4 +1,5 @@
-use Rattle.std.proofs.Common.{◌≡◌, ◌≤◌, ◌*◌, ◌∙◌, length, arith, length-take-le}
+use Rattle.std.proofs.Common.{◌≡◌, ◌≤◌, ◌*◌, ◌∙◌, length, arith, length-take-le, rules}
+use Rattle.std.proofs.lemmas.Grind.{common_steps}
 use Rattle.partition.specs.Fti.{source_count}
 use Rattle.cert.proofs.GreatestBlock.{rows_of_block}
 use Rattle.block_code.proofs.RowAdding.{products}
@@ -48,3 +49,12 @@ returns-clause-err g c = λ object bytes sources.
       are = record { count = long; bytes = c.certify_block.ensures.bytes; gives = c.certify_block.ensures.gives object bytes sources };
       gained = wrote;
     }) c.write_all.ensures.err
+
+pub certify_block-requires-clause-interpolator : goal.certify_block-requires-clause-interpolator
+certify_block-requires-clause-interpolator g c = search rules
+
+pub returns-clause-full : goal.returns-clause-full
+returns-clause-full g c = grind (arith, common_steps) steps 2000000
+
+pub returns-clause-fills : goal.returns-clause-fills
+returns-clause-fills g c = grind (arith, common_steps) steps 2000000

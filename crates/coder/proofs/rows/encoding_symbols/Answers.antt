@@ -1,5 +1,6 @@
 use Rattle.std.proofs.Common.{◌≡◌, ◌≤◌, ℕ, ◌+◌, ◌-◌, ◌*◌, length, get_or, ap, sym, ◌∙◌, inl, inr, arith}
 use Rattle.std.proofs.lemmas.Bool.{cases_lt}
+use Rattle.std.proofs.lemmas.Grind.{common_steps}
 use Rattle.gf256.proofs.RowPlaces.{rows_fit, rows_apart}
 use Rattle.partition.specs.Fti.{source_count, encoding_count}
 use Rattle.block_code.specs.Columns.{AreColumns}
@@ -65,3 +66,6 @@ returns-clause-symbols c = λ object bytes are r lr.
           (λ i li. part_column c.deref.result.now (source_count f c.args.b) c.k-k.result c.args.first m c.args.count r i k ge lr li arrived_esis)
           (λ y hy. c.combine.ensures.sums object are (r - m) y (omega arith) hy)
     ]
+
+pub slice_bounds-coefficients-end : goal.slice_bounds-coefficients-end
+slice_bounds-coefficients-end c = grind (arith, common_steps) steps 2000000

@@ -1,4 +1,5 @@
 use Rattle.std.proofs.Common.{◌≡◌, length, ap, arith, ◌∙◌, sym}
+use Rattle.std.proofs.lemmas.Grind.{common_steps}
 use Rattle.std.specs.Prelude.{flat_map}
 use Rattle.lists.specs.Below.{below}
 use Rattle.partition.proofs.Laws.{encoding_most}
@@ -48,3 +49,12 @@ loop-block-preserved g c =
       room = behind_room t.fti t.every c.args.place c.loop-block.next (flat_map sent (below b)) (sent b) c.loop-block.invariant.next _ _ _ _ (flat_next sent b)
           c.loop-block.invariant.room (rw c.run-first.ensures.pairs at c.in_ok-send_symbols.ensures.fills);
     }
+
+pub slice_bounds-room-end : goal.slice_bounds-room-end
+slice_bounds-room-end g c = grind (arith, common_steps) steps 2000000
+
+pub slice_bounds-room-end-in-loop-block : goal.slice_bounds-room-end-in-loop-block
+slice_bounds-room-end-in-loop-block g c = grind (arith, common_steps) steps 2000000
+
+pub send_symbols-requires-clause-symbols : goal.send_symbols-requires-clause-symbols
+send_symbols-requires-clause-symbols g c = grind (arith, common_steps) steps 2000000

@@ -1,5 +1,6 @@
 use Rattle.std.proofs.Common.{◌<◌, ◌∙◌, length, arith}
 use Rattle.std.proofs.lemmas.List.{length-set}
+use Rattle.std.proofs.lemmas.Grind.{common_steps}
 use Rattle.decoder.proofs.Arrived.{placed, passed_over}
 use Rattle.decoder.proofs.arrivals.symbols_below.Goals as goal
 use Rattle.decoder.proofs.arrivals.symbols_below.Goals.{then-esi-n, else-esi-n}
@@ -26,3 +27,9 @@ loop-arrival-preserved g c =
                 ∙ passed_over held came i a c.loop-arrival-test.true c.arrival-item.is c.from-esi.result c.from-esi.ensures j (λ e. omega (arith, e, lj, w.if-esi-n.false));
           })
     ]
+
+pub loop-arrival-init : goal.loop-arrival-init
+loop-arrival-init g c = grind (arith, common_steps) steps 2000000
+
+pub returns-clause-at : goal.returns-clause-at
+returns-clause-at g c = grind (arith, common_steps) steps 2000000

@@ -1,4 +1,5 @@
 use Rattle.std.proofs.Common.{◌≡◌, ◌<◌, ◌+◌, ◌*◌, ◌∙◌, ℕ, List, Some, ap, refl, arith}
+use Rattle.std.proofs.lemmas.Grind.{common_steps}
 use Rattle.std.specs.Prelude.{slice_index}
 use Rattle.lists.specs.Bytes.{AreBytes}
 use Rattle.block_code.specs.CodesOf.{IsCodeOf}
@@ -50,3 +51,6 @@ returns-else-are_padded-clause-none c = λ _.
     λ i y. ap (λ (s : ℕ). slice_index c.in-Some.rows.bytes.items (i * s + y)) (sizes.bytes_are ∙ is) in
     let w = c.are_padded.ensures.other c.if-are_padded.false in
     λ explained. w.5 (padding_zero f c.args.b (bytes_of_esi c.args.arrivals.now) g c.from.result (omega (arith, code.rows, c.k.ensures.value, c.k.ensures.byte)) inside code is rows.bytes.items (byte_in rows) made_is only explained w.0 w.1 w.2 w.3 w.4)
+
+pub recover-requires-clause-enough : goal.recover-requires-clause-enough
+recover-requires-clause-enough c = grind (arith, common_steps) steps 2000000

@@ -2,6 +2,7 @@ use Rattle.std.specs.Prelude.{Some, None, option_map, slice_index, is_some, ◌|
 use Rattle.std.proofs.Common.{◌≡◌, ◌+◌, ◌-◌, ◌<◌, ◌∙◌, ℕ, List, length, sym, ap, arith}
 use Rattle.std.specs.Borrow.{Bor}
 use Rattle.std.proofs.lemmas.List.{length-drop, get_or-drop}
+use Rattle.std.proofs.lemmas.Grind.{elements}
 use Rattle.partition.specs.Fti.{source_count}
 use Rattle.partition.proofs.Laws.{counts, source_encoding}
 use Rattle.decoder.specs.Blocks.{bytes_of_esi, byte_of}
@@ -60,3 +61,6 @@ returns c = λ no.
     (length c.args.arrivals.now) esis those c.requires.count (let least = source_encoding f valid c.args.b in omega (arith, least, c.requires.count)) (omega (arith, few.2, c.requires.count)) c.requires.enough none
     (λ z. o.2 (ap (λ (l : List ℕ). slice_index l o.0) c.deref-2.ensures.value ∙ c.in_ok-sum.ensures.sums o.0 (omega (arith, o.1, ap length c.deref-2.ensures.value, c.in_ok-sum.ensures.len))
     ∙ ap (λ (l : List ℕ). weighted_sum (weight l) (λ j. byte_of (at j) (from + o.0)) l) c.deref.ensures.value ∙ z))
+
+pub weighted_from-requires-clause-esis : goal.weighted_from-requires-clause-esis
+weighted_from-requires-clause-esis c = grind (arith, elements) steps 2000000

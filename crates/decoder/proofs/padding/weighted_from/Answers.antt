@@ -4,6 +4,7 @@ use Rattle.std.specs.Borrow.{Bor}
 use Rattle.std.specs.Simd.Lanes.{zip2}
 use Rattle.std.proofs.lemmas.List.{take_more, length-drop, get_or-drop, with_items_is}
 use Rattle.std.proofs.lemmas.Simd.{get_or-zip2, length-zip2}
+use Rattle.std.proofs.lemmas.Grind.{common_steps}
 use Rattle.std.specs.Int.Bits.{xor_zero_r}
 use Rattle.gf256.specs.ProductLaws.{product_zero}
 use Rattle.gf256.specs.Arithmetic.{sum_of, product}
@@ -63,3 +64,12 @@ loop-esi-preserved c =
             (sym (ap (λ (o : Option (List ℕ)). byte_of o (from + y)) (here ∙ ap (option_map (λ (s : Bor (List ℕ)). s.now)) w.in_default.is)));
       }
     ]
+
+pub loop-esi-init : goal.loop-esi-init
+loop-esi-init c = grind (arith, common_steps) steps 2000000
+
+pub add_scaled-requires : goal.add_scaled-requires
+add_scaled-requires c = grind (arith, common_steps) steps 2000000
+
+pub returns-clause-sums : goal.returns-clause-sums
+returns-clause-sums c = grind (arith, common_steps) steps 2000000

@@ -3,6 +3,7 @@ use Rattle.std.specs.Prelude.{slice_index}
 use Rattle.std.proofs.Math.Nat.{mul-le-mul_right}
 use Rattle.std.proofs.lemmas.Bool.{cases_lt}
 use Rattle.std.proofs.lemmas.List.{get_or_append_left, get_or-append-add, get_or-drop, length-drop}
+use Rattle.std.proofs.lemmas.Grind.{elements}
 use Rattle.gf256.proofs.RowPlaces.{row_ends}
 use Rattle.elim.specs.Grid.{Grid, entry}
 use Rattle.block_code.specs.Columns.{AreColumns}
@@ -64,3 +65,6 @@ loop-m-preserved c =
             ∙ ap (entry 0 g i) (c.from.ensures ∙ ap (slice_index c.args.esis.now) (sym e)))
       ];
     }
+
+pub slice_bounds-extend_from_slice-end : goal.slice_bounds-extend_from_slice-end
+slice_bounds-extend_from_slice-end c = grind (arith, elements) steps 2000000

@@ -1,6 +1,7 @@
 use Rattle.std.proofs.Common.{◌≡◌, ◌+◌, ◌*◌, ◌<◌, ◌∙◌, ℕ, List, length, take, drop, ap, sym, refl, arith}
 use Rattle.std.specs.Prelude.{slice_index, is_some}
 use Rattle.std.proofs.lemmas.List.{length-drop}
+use Rattle.std.proofs.lemmas.Grind.{common_steps}
 use Rattle.gf256.specs.Arithmetic.{sum_of}
 use Rattle.decoder.specs.Rows.{byte_in}
 use Rattle.decoder.specs.Blocks.{bytes_of_esi, byte_of, given}
@@ -115,3 +116,6 @@ returns-clause-none c =
           ∙ ap (sum_of (byte_of (at (slice_index c.split_at.result.1.now q.0)) q.1)) e ∙ sum_itself (byte_of (at (slice_index c.split_at.result.1.now q.0)) q.1)))
           can)
     ]
+
+pub erasure_of-requires-clause-within : goal.erasure_of-requires-clause-within
+erasure_of-requires-clause-within c = grind (arith, common_steps) steps 2000000

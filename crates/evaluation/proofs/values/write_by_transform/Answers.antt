@@ -1,4 +1,4 @@
-use Rattle.std.proofs.Common.{◌≡◌, ◌+◌, ◌-◌, ◌*◌, get_or, sym, ap, ◌∙◌, inl, inr, arith}
+use Rattle.std.proofs.Common.{◌≡◌, ◌+◌, ◌-◌, ◌*◌, get_or, sym, ap, ◌∙◌, inl, inr, arith, rules}
 use Rattle.std.proofs.lemmas.Bool.{cases_lt}
 use Rattle.evaluation.specs.Sums.{sum_at}
 use Rattle.evaluation.proofs.values.write_by_transform.Goals as goal
@@ -14,3 +14,6 @@ loop-t-preserved c = record {
         ∙ ap (λ p. sum_at c.args.coefficients.now.bytes.now c.args.coefficients.now.k c.args.coefficients.now.width p (c.args.points.now.first + j * c.args.points.now.step)) e
   ];
 }
+
+pub returns : goal.returns
+returns c = search rules

@@ -1,4 +1,5 @@
 use Rattle.std.proofs.Common.{◌≡◌, ◌+◌, ◌*◌, get_or, length, ap, arith}
+use Rattle.std.proofs.lemmas.Grind.{common_steps}
 use Rattle.gf256.specs.Arithmetic.{product}
 use Rattle.gf256.proofs.SliceSums.{listed_next}
 use Rattle.gf256.proofs.RowFronts.{plus_front}
@@ -13,3 +14,6 @@ loop-i-preserved c = record {
       (c.loop-i.invariant.sums j lj)
       (ap (product (get_or c.args.coefficients.now c.loop-i.i 0)) (c.source-part.ensures.bytes j lj));
 }
+
+pub loop-i-init : goal.loop-i-init
+loop-i-init c = grind (arith, common_steps) steps 2000000

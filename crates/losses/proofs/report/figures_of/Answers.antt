@@ -1,4 +1,5 @@
 use Rattle.std.proofs.Common.{◌<◌, ◌+◌, ◌-◌, ℕ, List, length, ap, sym, ◌∙◌, arith, subst}
+use Rattle.std.proofs.lemmas.Grind.{common_steps}
 use Rattle.losses.specs.Costs.{cheap_places}
 use Rattle.losses.specs.Losses.{IsKill}
 use Rattle.losses.specs.declared.groups.Member.{Member}
@@ -64,3 +65,9 @@ returns-clause-burst c = λ n are carriers.
       | then-span-block b ↦ rw b.burst-is (burst_carriers (groups_of c.args.groups.now) c.args.carriers.now n are carriers l.burst w.narrow w.wide (omega (arith, b)))
       | else-span-block b ↦ rw b.burst-is (burst_blocks (groups_of c.args.groups.now) c.args.carriers.now n are carriers l.burst w.narrow w.wide (omega (arith, b)))
     ]
+
+pub offset_bounds-groups-block : goal.offset_bounds-groups-block
+offset_bounds-groups-block c = grind (arith, common_steps) steps 2000000
+
+pub bounds-groups-block : goal.bounds-groups-block
+bounds-groups-block c = grind (arith, common_steps) steps 2000000

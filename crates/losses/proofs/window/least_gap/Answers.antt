@@ -1,5 +1,6 @@
 use Rattle.std.proofs.Common.{◌≡◌, ℕ, ◌+◌, ◌-◌, ◌<◌, ◌≤◌, true, false, nat_lt, length, get_or, ap, arith, inl, inr, refl}
 use Rattle.std.proofs.lemmas.Bool.{ltb-true, ltb-false}
+use Rattle.std.proofs.lemmas.Grind.{common_steps}
 use Rattle.losses.proofs.Windows.{IsFound, different_le, done_all, done_early, filled_is, given_copies, lost_copies, more_least, place_le, short_some}
 use Rattle.losses.specs.Members.{different_outside}
 use Rattle.losses.specs.Windows.{IsShortWindow, member, place_at}
@@ -119,3 +120,9 @@ returns-then-left-need c =
     let same : c.loop-left.end ≡ length c.args.members.now = omega (arith, last, n) in
     let d = ap (λ (z : ℕ). different_outside c.args.members.now c.loop-start.start z) same in
     done_early c.args.members.now c.args.need c.requires.placed c.requires.enough c.loop-start.start c.loop-start.least c.requires.some (omega (arith, d, f, w, t)) c.loop-start.invariant.least c.loop-start.invariant.found
+
+pub overflow_sub-count : goal.overflow_sub-count
+overflow_sub-count c = grind (arith, common_steps) steps 2000000
+
+pub overflow_add-count : goal.overflow_add-count
+overflow_add-count c = grind (arith, common_steps) steps 2000000

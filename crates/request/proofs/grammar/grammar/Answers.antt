@@ -1,37 +1,47 @@
-use Rattle.std.proofs.Common.{ap, codes, [], true, ◌≡◌, ◌∙◌}
+use Rattle.std.proofs.Common.{ap, codes, Ok, [], true, ◌≡◌, List}
 use Rattle.std.proofs.lemmas.Result.{IfOk-weaker}
-use Rattle.clap.specs.Words.{App, Shape, app_of, with_subcommand}
+use Rattle.std.specs.Borrow.{Bor}
+use Rattle.clap.specs.Words.{App, Shape, Text, app_of, with_subcommand}
 use Rattle.clap.specs.Simple.{new_shape}
-use Rattle.clap.specs.declared.builder.command.Command.{Command}
-use Rattle.request.specs.Building.{AddsCommand, HasGrammar}
-use Rattle.request.specs.Grammar.{certify_command, convert_command, check_command, drop_command, join_command, decode_command, follow_command, twin_command, show_command}
-use Rattle.request.proofs.Rules.{command_added, encode_added}
+use Rattle.request.specs.Building.{HasGrammar}
+use Rattle.request.specs.Grammar.{encode_command, certify_command, convert_command, check_command, drop_command, join_command, decode_command, follow_command, twin_command, show_command}
+use Rattle.request.proofs.Rules.{Has, command_added, encode_added}
 use Rattle.request.proofs.grammar.grammar.Goals as goal
 
 abbrev none : App
 none = record { top = record (new_shape (codes "alcrs")) { subcommand_required = true; has_version = true }; subs = [] }
 
-abbrev also : Shape → App → App
-also shape app = with_subcommand app shape
+abbrev Made : Type 0
+Made = Bor (List (Bor Text)) → App
+
+-- a grammar with one command more
+abbrev also : Shape → Made → Made
+also shape app orders = with_subcommand (app orders) shape
 
 pub returns : goal.returns
 returns c =
     let top : app_of c.subcommand_required-parser.result ≡ none = rw (c.subcommand_required-parser.ensures, c.after_help.ensures, c.about.ensures, c.version.ensures) (ap (λ (app : App). record app { top = record (App.top app) { subcommand_required = true; has_version = true } }) c.new.ensures.app) in
-    let encode = encode_added c.subcommand_required-parser.result c.in_ok-parser.parser c.encode_command.result c.in_ok-parser.ensures c.encode_command.ensures in
-    let certify = command_added c.in_ok-parser.parser c.in_ok-parser-2.parser c.certify_command.result certify_command c.in_ok-parser-2.ensures c.certify_command.ensures in
-    let convert = command_added c.in_ok-parser-2.parser c.in_ok-parser-3.parser c.convert_command.result convert_command c.in_ok-parser-3.ensures c.convert_command.ensures in
-    let check = command_added c.in_ok-parser-3.parser c.in_ok-parser-4.parser c.check_command.result check_command c.in_ok-parser-4.ensures c.check_command.ensures in
-    let drop = command_added c.in_ok-parser-4.parser c.in_ok-parser-5.parser c.drop_command.result drop_command c.in_ok-parser-5.ensures c.drop_command.ensures in
-    let join = command_added c.in_ok-parser-5.parser c.in_ok-parser-6.parser c.join_command.result join_command c.in_ok-parser-6.ensures c.join_command.ensures in
-    let decode = command_added c.in_ok-parser-6.parser c.in_ok-parser-7.parser c.decode_command.result decode_command c.in_ok-parser-7.ensures c.decode_command.ensures in
-    let follow = command_added c.in_ok-parser-7.parser c.in_ok-parser-8.parser c.follow_command.result follow_command c.in_ok-parser-8.ensures c.follow_command.ensures in
-    let twin = command_added c.in_ok-parser-8.parser c.in_ok-parser-9.parser c.twin_command.result twin_command c.in_ok-parser-9.ensures c.twin_command.ensures in
-    let last = λ (new : Command) (added : AddsCommand c.in_ok-parser-9.parser c.show_command.result new).
-    command_added c.in_ok-parser-9.parser new c.show_command.result show_command added c.show_command.ensures in
-    IfOk-weaker c.with_command-10.result (AddsCommand c.in_ok-parser-9.parser c.show_command.result) HasGrammar (λ new added. record {
-      orders = encode.0;
-      names = encode.1;
-      app = last new added ∙ ap (also show_command) (twin ∙ ap (also twin_command) (follow ∙ ap (also follow_command) (decode ∙ ap (also decode_command)
-          (join ∙ ap (also join_command) (drop ∙ ap (also drop_command) (check ∙ ap (also check_command) (convert ∙ ap (also convert_command)
-          (certify ∙ ap (also certify_command) (encode.2 ∙ ap (also _) top)))))))));
-    }) c.with_command-10.ensures
+    let encode : Made = λ orders. with_subcommand none (encode_command orders) in
+    let certify : Made = also certify_command encode in
+    let convert : Made = also convert_command certify in
+    let check : Made = also check_command convert in
+    let drop : Made = also drop_command check in
+    let join : Made = also join_command drop in
+    let decode : Made = also decode_command join in
+    let follow : Made = also follow_command decode in
+    let twin : Made = also twin_command follow in
+    let has_1 = encode_added (Ok c.subcommand_required-parser.result) c.encode_command.result c.with_command-parser.result none top c.encode_command.ensures c.with_command-parser.ensures in
+    let has_2 = command_added c.with_command-parser.result c.certify_command.result c.with_command-parser-2.result encode certify_command has_1 c.certify_command.ensures c.with_command-parser-2.ensures in
+    let has_3 = command_added c.with_command-parser-2.result c.convert_command.result c.with_command-parser-3.result certify convert_command has_2 c.convert_command.ensures c.with_command-parser-3.ensures in
+    let has_4 = command_added c.with_command-parser-3.result c.check_command.result c.with_command-parser-4.result convert check_command has_3 c.check_command.ensures c.with_command-parser-4.ensures in
+    let has_5 = command_added c.with_command-parser-4.result c.drop_command.result c.with_command-parser-5.result check drop_command has_4 c.drop_command.ensures c.with_command-parser-5.ensures in
+    let has_6 = command_added c.with_command-parser-5.result c.join_command.result c.with_command-parser-6.result drop join_command has_5 c.join_command.ensures c.with_command-parser-6.ensures in
+    let has_7 = command_added c.with_command-parser-6.result c.decode_command.result c.with_command-parser-7.result join decode_command has_6 c.decode_command.ensures c.with_command-parser-7.ensures in
+    let has_8 = command_added c.with_command-parser-7.result c.follow_command.result c.with_command-parser-8.result decode follow_command has_7 c.follow_command.ensures c.with_command-parser-8.ensures in
+    let has_9 = command_added c.with_command-parser-8.result c.twin_command.result c.with_command-parser-9.result follow twin_command has_8 c.twin_command.ensures c.with_command-parser-9.ensures in
+    let has_10 = command_added c.with_command-parser-9.result c.show_command.result c.with_command.result twin show_command has_9 c.show_command.ensures c.with_command.ensures in
+    IfOk-weaker c.with_command.result (Has (also show_command twin)) HasGrammar (λ _ (orders, names, app). record {
+      orders = orders;
+      names = names;
+      app = app;
+    }) has_10

@@ -1,4 +1,5 @@
-use Rattle.std.proofs.Common.{rules, ℕ, Bor, List, []}
+use Rattle.std.proofs.Common.{rules, ℕ, Bor, List, [], arith}
+use Rattle.std.proofs.lemmas.Grind.{common_steps}
 use Rattle.request.specs.Grammar.{number}
 use Rattle.request.specs.declared.grammar.NumberOption.{NumberOption}
 use Rattle.request.proofs.Rules.{rule_added}
@@ -15,3 +16,6 @@ loop-option-preserved c =
     rule_added (λ (option : NumberOption). number option.name.now option.least option.most) c.args.options.now c.loop-option.option-index no_option
     c.args.command c.loop-option.command c.in_ok-command.command c.number.result
     c.loop-option.invariant c.in_ok-command.ensures (search rules) (search rules) (search rules)
+
+pub returns : goal.returns
+returns c = grind (arith, common_steps) steps 2000000

@@ -1,5 +1,6 @@
 use Rattle.std.proofs.Common.{◌≡◌, ◌+◌, ◌++◌, ◌∷◌, [], false, map, get_or, set, sym, ◌∙◌, refl, arith, subst}
 use Rattle.std.proofs.lemmas.List.{length-set, length-map, map-set}
+use Rattle.std.proofs.lemmas.Grind.{common_steps}
 use Rattle.session.specs.Joining.{IsUnjoined}
 use Rattle.session.specs.Copying.{HasJoined, IsAtReader}
 use Rattle.session.proofs.Copies.{no_memory}
@@ -125,3 +126,6 @@ loop-place-preserved g c =
       size = same ∙ size;
       within = omega (arith, same, l);
     }
+
+pub returns-clause-ok : goal.returns-clause-ok
+returns-clause-ok g c = grind (arith, common_steps) steps 2000000

@@ -1,3 +1,5 @@
+use Rattle.std.proofs.Common.{arith}
+use Rattle.std.proofs.lemmas.Grind.{elements}
 use Rattle.tool.proofs.check.put_reason.Goals as goal
 
 pub returns-in_ok-named-in-NotObject-2 : goal.returns-in_ok-named-in-NotObject-2
@@ -18,3 +20,12 @@ returns-in_ok-named-in-Symbol c =
 pub returns-in_ok-named-in-Thin-2 : goal.returns-in_ok-named-in-Thin-2
 returns-in_ok-named-in-Thin-2 c =
     rw c.in-Thin.is (rw c.in_ok-named-in-Thin.ensures at (rw c.in_ok-named-in-Thin-2.ensures at c.named-in-Thin-3.ensures))
+
+pub returns-in_ok-text-in-Packet : goal.returns-in_ok-text-in-Packet
+returns-in_ok-text-in-Packet c = grind (arith, elements) steps 2000000
+
+pub returns-in-SymbolLength : goal.returns-in-SymbolLength
+returns-in-SymbolLength c = grind (arith, elements) steps 2000000
+
+pub returns-in-NoCarrier : goal.returns-in-NoCarrier
+returns-in-NoCarrier c = grind (arith, elements) steps 2000000

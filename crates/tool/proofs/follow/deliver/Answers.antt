@@ -1,3 +1,5 @@
+use Rattle.std.proofs.Common.{arith}
+use Rattle.std.proofs.lemmas.Grind.{elements}
 use Rattle.tool.specs.declared.fault.Fault.TheVariants.{Output}
 use Rattle.tool.specs.Lines.{line_of}
 use Rattle.tool.specs.Decoding.{object_text}
@@ -24,3 +26,6 @@ returns-in_err-print_count-2-clause-fault g c taken stands full =
           (λ printed appended. delivered c.args.receiver.now.identity files new c.args.output.now taken c.args.count c.in_ok-length.length (c.in_ok-length.ensures.made taken stands full)
           (g.W.Write.contents c.args.out.now) (g.W.Write.contents c.print_count.new.out) passed printed c.in_ok-print_count.ensures.ok c.in_ok-pass_on.ensures.stays appended),
     )
+
+pub returns-in_err-length-clause-fault : goal.returns-in_err-length-clause-fault
+returns-in_err-length-clause-fault g c = grind (arith, elements) steps 2000000

@@ -2,6 +2,7 @@ use Rattle.std.proofs.Common.{◌≡◌, ◌∙◌, ℕ, List, true, false, arit
 use Rattle.std.specs.Prelude.{◌==◌, nat_lt}
 use Rattle.std.specs.List.{list_any}
 use Rattle.std.proofs.lemmas.Bool.{eqb-true, eqb-false, lt-ltb, le-ltb}
+use Rattle.std.proofs.lemmas.Grind.{common_steps}
 use Rattle.lists.specs.Below.{below}
 use Rattle.losses.specs.declared.groups.Group.{Group as GroupOf}
 use Rattle.losses.specs.Groups.{groups_of, AreCarriers}
@@ -128,3 +129,6 @@ returns-clause-certified c = λ datagrams h. (
       full = enough_full c.args.self.now.scope.identity z.fti (readings_of datagrams) (groups_of c.args.self.now.groups.items) h.grouped enough;
       carrier = carrier_came c.args.self.now datagrams h (sym c.is_empty.ensures ∙ c.if-is_empty.false);
     })
+
+pub block_lines-requires : goal.block_lines-requires
+block_lines-requires c = grind (arith, common_steps) steps 2000000

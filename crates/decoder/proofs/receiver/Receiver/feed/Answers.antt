@@ -1,4 +1,5 @@
 use Rattle.std.proofs.Common.{◌∙◌, refl, sym, subst, arith}
+use Rattle.std.proofs.lemmas.Grind.{common_steps}
 use Rattle.reception.specs.Answer.{IsAnswer}
 use Rattle.decoder.specs.Receiving.{IsFaultOf, with_datagram}
 use Rattle.decoder.proofs.Fed.{faulty, in_block, in_esis, held, accepted, passed_over, refused, refusal_told, none_before, not_early_fault, not_early_other, not_early_packet, comes_early}
@@ -139,3 +140,6 @@ returns-clause-early c = λ ds stands. (
       (not_early_packet c.args.self.now ds stands c.args.datagram.now c.are_bytes.ensures c.scope-scope.result c.look.new.self (c.scope-scope.ensures ds stands)
       c.in-Ok-InRange.packet (rw (c.in-Ok-InRange.is, c.in-Ok-InRange.field-0-is) at c.look.ensures) comes.1),
 )
+
+pub put-requires-clause-symbol : goal.put-requires-clause-symbol
+put-requires-clause-symbol c = grind (arith, common_steps) steps 2000000

@@ -1,6 +1,7 @@
 use Rattle.std.proofs.Common.{◌+◌, ◌*◌, ◌∙◌, ℕ, List, get_or, ap, arith, inl, inr}
 use Rattle.std.proofs.lemmas.Bool.{cases_lt}
 use Rattle.std.proofs.lemmas.List.{with_items_is}
+use Rattle.std.proofs.lemmas.Grind.{common_steps}
 use Rattle.block_code.proofs.RowAdding.{row_before}
 use Rattle.decoder.proofs.rows.Rows.put.Goals as goal
 
@@ -14,3 +15,9 @@ returns-clause-elsewhere c = λ m y ne ly.
       | inr past ↦ c.put.ensures.behind (m * s + y) (omega (arith, row_before s c.args.i m (omega (arith, past, ne)), c.requires.row))
     ]
     ∙ old
+
+pub invariant_of-self : goal.invariant_of-self
+invariant_of-self c = grind (arith, common_steps) steps 2000000
+
+pub returns-clause-here : goal.returns-clause-here
+returns-clause-here c = grind (arith, common_steps) steps 2000000

@@ -1,4 +1,4 @@
-use Rattle.std.proofs.Common.{◌∙◌, arith}
+use Rattle.std.proofs.Common.{◌∙◌, arith, rules}
 use Rattle.partition.specs.Fti.{start_of}
 use Rattle.partition.proofs.Laws.{in_object, some_source}
 use Rattle.block_code.proofs.RowAdding.{products}
@@ -17,3 +17,6 @@ overflow_sub-left c =
     let e = products c.start.result c.from-size.result (start_of f c.args.b) f.symbol_length c.start.ensures.value (c.from-size.ensures ∙ c.symbol_length.ensures.value) in
     let w = in_object f c.symbol_length.ensures.valid c.args.b 0 c.requires.number (omega (arith, some_source f c.symbol_length.ensures.valid c.args.b)) in
     omega (arith, e, w, c.transfer_length.ensures.value)
+
+pub returns : goal.returns
+returns c = search rules

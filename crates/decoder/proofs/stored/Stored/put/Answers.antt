@@ -1,5 +1,6 @@
 use Rattle.std.specs.Prelude.{Option}
-use Rattle.std.proofs.Common.{◌≡◌, ℕ, List, subst, rules}
+use Rattle.std.proofs.Common.{◌≡◌, ℕ, List, subst, rules, arith}
+use Rattle.std.proofs.lemmas.Grind.{elements, moves}
 use Rattle.std.proofs.Math.Path.{fun_ext}
 use Rattle.decoder.specs.Arrivals.{with_esi}
 use Rattle.decoder.specs.Putting.{IsPutFault}
@@ -35,3 +36,9 @@ returns-clause-put c = λ at h.
     let own : IsPending c.args.fti.now k.sbn p at = (rw c.in-Pending.is at h) in
     let same : arrived_in p ≡ at = fun_ext own.symbols in
     subst (λ (g : ℕ → Option (List ℕ)). IsSolved c.args.fti.now k.sbn c.in-Some.solved (with_esi g k.esi k.symbol.now)) same (rw c.in-Some.is at c.in_ok-solved-in-Pending.ensures.solved)
+
+pub put-requires-clause-pending : goal.put-requires-clause-pending
+put-requires-clause-pending c = grind (arith, elements) steps 2000000
+
+pub returns-in_default-clause-put : goal.returns-in_default-clause-put
+returns-in_default-clause-put c = grind (arith, moves) steps 2000000
