@@ -1,5 +1,5 @@
 -- A command with arguments added in turn.
-use Rattle.std.proofs.Common.{zero, suc, ap, subst, IfOk, Result, arith, refl, sym, map, take, length, false, ℕ, List, [], ◌∷◌, ◌++◌, ◌≡◌, ◌<◌, ◌+◌, ◌∙◌}
+use Rattle.std.proofs.Common.{zero, suc, ap, IfOk, Result, arith, refl, sym, map, take, length, false, ℕ, List, [], ◌∷◌, ◌++◌, ◌≡◌, ◌<◌, ◌+◌, ◌∙◌}
 use Rattle.std.specs.List.{slice_index_or}
 use Rattle.std.proofs.lemmas.List.{append-nil, append_assoc}
 use Rattle.std.proofs.lemmas.Result.{IfOk-at_ok, IfOk-weaker}
@@ -7,7 +7,7 @@ use Rattle.std.specs.Borrow.{Bor}
 use Rattle.clap.specs.Words.{AddsArg, App, Rule, Shape, Text, app_of, rule_of, shape_of, with_subcommand}
 use Rattle.clap.specs.declared.builder.arg.Arg.{Arg}
 use Rattle.clap.specs.declared.builder.command.Command.{Command}
-use Rattle.request.specs.Building.{AddsCommand, AddsRules, IsShaped}
+use Rattle.request.specs.Building.{AddsCommand, AddsRules, AddsShape, IsShaped}
 use Rattle.request.specs.Grammar.{IsOrders, encode_command}
 
 one_more : {X : Type 0} (f : X → Rule) (xs : List X) (i : ℕ) (d : X) → i < length xs
@@ -72,3 +72,10 @@ command_added parser command new app shape has shaped = IfOk-weaker new (AddsCom
     let (orders, names, top) = IfOk-at_ok (Has app) from has in
     let is = IfOk-at_ok (IsShaped shape) made shaped in
     (orders, names, added is.local ∙ (ap (λ a. with_subcommand a (shape_of sub)) top ∙ ap (with_subcommand (app orders)) is.shaped)))
+
+pub outline_added : {E : Type 0} (parser new : Result Command E) (app : Bor (List (Bor Text)) → App) (shape : Shape)
+    → IfOk parser (Has app) → IfOk new (AddsShape parser shape)
+    → IfOk new (Has (λ orders. with_subcommand (app orders) shape))
+outline_added parser new app shape has = IfOk-weaker new (AddsShape parser shape) _ (λ _ (old, from, added).
+    let (orders, names, top) = IfOk-at_ok (Has app) from has in
+    (orders, names, added ∙ ap (λ a. with_subcommand a shape) top))

@@ -1,8 +1,8 @@
 //! The grammar: the commands, their arguments and their help.
 ghost use Rattle.std.specs.Prelude.{◌≡◌, ◌∷◌, [], map, false, IfOk};
 ghost use Rattle.clap.specs.Words.{rule_of};
-ghost use Rattle.request.specs.Grammar.{file as file_rule, number as number_rule, fti_every as fti_every_rule, order as order_rule, places as places_rule, sessions as sessions_rule, turns as turns_rule, encode_command as encode_shape, certify_command as certify_shape, convert_command as convert_shape, check_command as check_shape, drop_command as drop_shape, join_command as join_shape, decode_command as decode_shape, follow_command as follow_shape, twin_command as twin_shape, show_command as show_shape, IsOrders};
-ghost use Rattle.request.specs.Building.{HasGrammar, IsShaped, AddsRules, AddsCommand};
+ghost use Rattle.request.specs.Grammar.{file as file_rule, number as number_rule, fti_every as fti_every_rule, order as order_rule, places as places_rule, sessions as sessions_rule, turns as turns_rule, encode_command as encode_shape, drop_command as drop_shape, join_command as join_shape, IsOrders};
+ghost use Rattle.request.specs.Building.{HasGrammar, IsShaped, AddsRules, AddsCommand, AddsShape, outline_shape};
 
 use crate::help;
 use crate::requests::MOST_SYMBOL_BYTES;
@@ -42,6 +42,143 @@ const CERTIFICATE_TO_WRITE: FileArgument<'static> = ("OUT", "The certificate to 
 
 const OBJECT_TO_WRITE: FileArgument<'static> = ("OUT", "The file to write the object to");
 
+/// An option with a whole number in a range.
+struct NumberOption<'a> {
+    name: &'a str,
+    help: &'a str,
+    least: u64,
+    most: u64,
+}
+
+const TSI: NumberOption<'static> = NumberOption {
+    name: "tsi",
+    help: "The transport session identifier (TSI), 0 to 4294967295",
+    least: 0,
+    most: 4_294_967_295,
+};
+
+const TOI: NumberOption<'static> = NumberOption {
+    name: "toi",
+    help: "The transport object identifier (TOI), 0 to 4294967295",
+    least: 0,
+    most: 4_294_967_295,
+};
+
+const SYMBOL: NumberOption<'static> = NumberOption {
+    name: "symbol",
+    help: "The length of an encoding symbol in bytes, 1 to 65475",
+    least: 1,
+    most: MOST_SYMBOL_BYTES as u64,
+};
+
+const BLOCK: NumberOption<'static> = NumberOption {
+    name: "block",
+    help: "The most source symbols of a block, 1 to 255",
+    least: 1,
+    most: 255,
+};
+
+const MAX: NumberOption<'static> = NumberOption {
+    name: "max",
+    help: "The most encoding symbols of a block, 1 to 255, and not below --block",
+    least: 1,
+    most: 255,
+};
+
+/// A command's name, its help, and the files and numbers that it has to be given first.
+struct Outline<'a> {
+    name: &'a str,
+    about: &'a str,
+    after_help: &'a str,
+    files: &'a [FileArgument<'a>],
+    numbers: &'a [NumberOption<'a>],
+}
+
+const ENCODE: Outline<'static> = Outline {
+    name: "encode",
+    about: "Writes the session of an object: every encoding symbol of every block once",
+    after_help: help::ENCODE,
+    files: &[("OBJECT", "The file to send"), SESSION_TO_WRITE],
+    numbers: &[TSI, TOI, SYMBOL, BLOCK, MAX],
+};
+
+const CERTIFY: Outline<'static> = Outline {
+    name: "certify",
+    about: "Writes the certificate of an object, for the datagrams of a TSI and TOI",
+    after_help: help::CERTIFY,
+    files: &[("OBJECT", "The file to certify"), CERTIFICATE_TO_WRITE],
+    numbers: &[TSI, TOI, SYMBOL, BLOCK, MAX],
+};
+
+const CONVERT: Outline<'static> = Outline {
+    name: "convert",
+    about: "Writes a certificate anew, as RSC2, for the datagrams of a TSI and TOI",
+    after_help: help::CONVERT,
+    files: &[("IN", "The certificate to read"), CERTIFICATE_TO_WRITE],
+    numbers: &[TSI, TOI],
+};
+
+const CHECK: Outline<'static> = Outline {
+    name: "check",
+    about: "Says whether a certificate proves that a session carries an object, and how many datagrams may be missed",
+    after_help: help::CHECK,
+    files: &[SESSION, CARRIED_OBJECT, CERTIFICATE],
+    numbers: &[TSI, TOI],
+};
+
+const DROP: Outline<'static> = Outline {
+    name: "drop",
+    about: "Writes a session without the datagrams at some places",
+    after_help: help::DROP,
+    files: &[SESSION, SESSION_TO_WRITE],
+    numbers: &[],
+};
+
+const JOIN: Outline<'static> = Outline {
+    name: "join",
+    about: "Writes the datagrams of several sessions as one session",
+    after_help: help::JOIN,
+    files: &[SESSION_TO_WRITE],
+    numbers: &[],
+};
+
+const DECODE: Outline<'static> = Outline {
+    name: "decode",
+    about: "Writes the object that the datagrams of a session give",
+    after_help: help::DECODE,
+    files: &[SESSION, OBJECT_TO_WRITE],
+    numbers: &[TSI, TOI],
+};
+
+const FOLLOW: Outline<'static> = Outline {
+    name: "follow",
+    about: "Takes the datagrams of a session one by one, as they come, and writes the object as soon as they give it",
+    after_help: help::FOLLOW,
+    files: &[SESSION, OBJECT_TO_WRITE],
+    numbers: &[TSI, TOI],
+};
+
+const TWIN: Outline<'static> = Outline {
+    name: "twin",
+    about: "Where a block has too few symbols, writes another object of the same length that fits the datagrams too",
+    after_help: help::TWIN,
+    files: &[
+        SESSION,
+        CARRIED_OBJECT,
+        CERTIFICATE,
+        ("OUT", "The file to write the other object to"),
+    ],
+    numbers: &[TSI, TOI],
+};
+
+const SHOW: Outline<'static> = Outline {
+    name: "show",
+    about: "Prints a line for each datagram of a session",
+    after_help: help::SHOW,
+    files: &[SESSION],
+    numbers: &[],
+};
+
 // The command with these arguments last, in this order, each of which has to be given.
 #[tactic(auto, using(crate::proofs::Rules::no_rules))]
 fn with_files<'a>(
@@ -58,94 +195,6 @@ fn with_files<'a>(
     }
     Ok(command)
 }
-
-fn check_command<'a>(alloc: Global) -> Result<Command<'a>, AllocError>
-    ensures { IfOk result (IsShaped check_shape) }
-{
-    let command = Command::new(alloc, "check")
-        .about(
-            "Says whether a certificate proves that a session carries an object, and how many datagrams may be missed",
-        )
-        .after_help(help::CHECK);
-    let command = with_files(alloc, command, &[SESSION, CARRIED_OBJECT, CERTIFICATE])?;
-    with_numbers(alloc, command, &IDENTIFIERS)
-}
-
-fn twin_command<'a>(alloc: Global) -> Result<Command<'a>, AllocError>
-    ensures { IfOk result (IsShaped twin_shape) }
-{
-    let command = Command::new(alloc, "twin")
-        .about(
-            "Where a block has too few symbols, writes another object of the same length that fits the datagrams too",
-        )
-        .after_help(help::TWIN);
-    let command = with_files(
-        alloc,
-        command,
-        &[
-            SESSION,
-            CARRIED_OBJECT,
-            CERTIFICATE,
-            ("OUT", "The file to write the other object to"),
-        ],
-    )?;
-    with_numbers(alloc, command, &IDENTIFIERS)
-}
-
-fn show_command<'a>(alloc: Global) -> Result<Command<'a>, AllocError>
-    ensures { IfOk result (IsShaped show_shape) }
-{
-    let command = Command::new(alloc, "show")
-        .about("Prints a line for each datagram of a session")
-        .after_help(help::SHOW);
-    with_files(alloc, command, &[SESSION])
-}
-
-/// An option with a whole number in a range.
-struct NumberOption<'a> {
-    name: &'a str,
-    help: &'a str,
-    least: u64,
-    most: u64,
-}
-
-// Whose packets.
-const IDENTIFIERS: [NumberOption<'static>; 2] = [
-    NumberOption {
-        name: "tsi",
-        help: "The transport session identifier (TSI), 0 to 4294967295",
-        least: 0,
-        most: 4_294_967_295,
-    },
-    NumberOption {
-        name: "toi",
-        help: "The transport object identifier (TOI), 0 to 4294967295",
-        least: 0,
-        most: 4_294_967_295,
-    },
-];
-
-// The numbers of an FTI.
-const SIZES: [NumberOption<'static>; 3] = [
-    NumberOption {
-        name: "symbol",
-        help: "The length of an encoding symbol in bytes, 1 to 65475",
-        least: 1,
-        most: MOST_SYMBOL_BYTES as u64,
-    },
-    NumberOption {
-        name: "block",
-        help: "The most source symbols of a block, 1 to 255",
-        least: 1,
-        most: 255,
-    },
-    NumberOption {
-        name: "max",
-        help: "The most encoding symbols of a block, 1 to 255, and not below --block",
-        least: 1,
-        most: 255,
-    },
-];
 
 fn number<'a>(alloc: Global, option: &NumberOption<'a>) -> Arg<'a>
     ensures rule { rule_of result
@@ -177,28 +226,14 @@ fn with_numbers<'a>(
     Ok(command)
 }
 
-fn encode_command<'a>(alloc: Global) -> Result<Command<'a>, AllocError>
-    ensures { IfOk result (λ command.
-        (orders : _) × IsOrders orders × IsShaped (encode_shape orders) command) }
+fn outlined<'a>(alloc: Global, outline: &Outline<'a>) -> Result<Command<'a>, AllocError>
+    ensures { IfOk result (IsShaped (outline_shape outline.now)) }
 {
-    let command = Command::new(alloc, "encode")
-        .about("Writes the session of an object: every encoding symbol of every block once")
-        .after_help(help::ENCODE);
-    let command = with_files(
-        alloc,
-        command,
-        &[("OBJECT", "The file to send"), SESSION_TO_WRITE],
-    )?;
-    let command = with_numbers(alloc, command, &IDENTIFIERS)?;
-    let command = with_numbers(alloc, command, &SIZES)?;
-    with_fti_every(alloc, command)?.arg(order(alloc))
-}
-
-// The command with `--fti-every` last.
-fn with_fti_every<'a>(alloc: Global, command: Command<'a>) -> Result<Command<'a>, AllocError>
-    ensures { IfOk result (AddsRules command.entry (fti_every_rule ∷ [])) }
-{
-    command.arg(fti_every(alloc))
+    let command = Command::new(alloc, outline.name)
+        .about(outline.about)
+        .after_help(outline.after_help);
+    let command = with_files(alloc, command, outline.files)?;
+    with_numbers(alloc, command, outline.numbers)
 }
 
 // Which datagrams carry the FTI.
@@ -227,74 +262,13 @@ fn order<'a>(alloc: Global) -> Arg<'a>
         .help("Block after block (blocks), or one symbol of each block in turn (rounds)")
 }
 
-fn certify_command<'a>(alloc: Global) -> Result<Command<'a>, AllocError>
-    ensures { IfOk result (IsShaped certify_shape) }
+// `encode`, whose options say how it is sent too.
+fn encode_command<'a>(alloc: Global) -> Result<Command<'a>, AllocError>
+    ensures { IfOk result (λ command.
+        (orders : _) × IsOrders orders × IsShaped (encode_shape orders) command) }
 {
-    let command = Command::new(alloc, "certify")
-        .about("Writes the certificate of an object, for the datagrams of a TSI and TOI")
-        .after_help(help::CERTIFY);
-    let command = with_files(
-        alloc,
-        command,
-        &[("OBJECT", "The file to certify"), CERTIFICATE_TO_WRITE],
-    )?;
-    let command = with_numbers(alloc, command, &IDENTIFIERS)?;
-    with_numbers(alloc, command, &SIZES)
-}
-
-fn convert_command<'a>(alloc: Global) -> Result<Command<'a>, AllocError>
-    ensures { IfOk result (IsShaped convert_shape) }
-{
-    let command = Command::new(alloc, "convert")
-        .about("Writes a certificate anew, as RSC2, for the datagrams of a TSI and TOI")
-        .after_help(help::CONVERT);
-    let command = with_files(
-        alloc,
-        command,
-        &[("IN", "The certificate to read"), CERTIFICATE_TO_WRITE],
-    )?;
-    with_numbers(alloc, command, &IDENTIFIERS)
-}
-
-fn drop_command<'a>(alloc: Global) -> Result<Command<'a>, AllocError>
-    ensures { IfOk result (IsShaped drop_shape) }
-{
-    let command = Command::new(alloc, "drop")
-        .about("Writes a session without the datagrams at some places")
-        .after_help(help::DROP);
-    with_files(alloc, command, &[SESSION, SESSION_TO_WRITE])?.arg(places(alloc))
-}
-
-fn join_command<'a>(alloc: Global) -> Result<Command<'a>, AllocError>
-    ensures { IfOk result (IsShaped join_shape) }
-{
-    let command = Command::new(alloc, "join")
-        .about("Writes the datagrams of several sessions as one session")
-        .after_help(help::JOIN);
-    let command = with_files(alloc, command, &[SESSION_TO_WRITE])?;
-    command.arg(sessions(alloc))?.arg(turns(alloc))
-}
-
-fn decode_command<'a>(alloc: Global) -> Result<Command<'a>, AllocError>
-    ensures { IfOk result (IsShaped decode_shape) }
-{
-    let command = Command::new(alloc, "decode")
-        .about("Writes the object that the datagrams of a session give")
-        .after_help(help::DECODE);
-    let command = with_files(alloc, command, &[SESSION, OBJECT_TO_WRITE])?;
-    with_numbers(alloc, command, &IDENTIFIERS)
-}
-
-fn follow_command<'a>(alloc: Global) -> Result<Command<'a>, AllocError>
-    ensures { IfOk result (IsShaped follow_shape) }
-{
-    let command = Command::new(alloc, "follow")
-        .about(
-            "Takes the datagrams of a session one by one, as they come, and writes the object as soon as they give it",
-        )
-        .after_help(help::FOLLOW);
-    let command = with_files(alloc, command, &[SESSION, OBJECT_TO_WRITE])?;
-    with_numbers(alloc, command, &IDENTIFIERS)
+    let command = outlined(alloc, &ENCODE)?;
+    command.arg(fti_every(alloc))?.arg(order(alloc))
 }
 
 // The places to leave out, one or more.
@@ -309,6 +283,13 @@ fn places<'a>(alloc: Global) -> Arg<'a>
         .help(
             "The places of the datagrams to leave out, 0 to 4294967295; the first datagram is at place 0",
         )
+}
+
+// `drop`, with the places to leave out.
+fn drop_command<'a>(alloc: Global) -> Result<Command<'a>, AllocError>
+    ensures { IfOk result (IsShaped drop_shape) }
+{
+    outlined(alloc, &DROP)?.arg(places(alloc))
 }
 
 // The sessions to join, one or more.
@@ -333,6 +314,14 @@ fn turns<'a>(alloc: Global) -> Arg<'a>
         .help("One datagram of each session in turn, not one session after the other")
 }
 
+// `join`, with the sessions.
+fn join_command<'a>(alloc: Global) -> Result<Command<'a>, AllocError>
+    ensures { IfOk result (IsShaped join_shape) }
+{
+    let command = outlined(alloc, &JOIN)?;
+    command.arg(sessions(alloc))?.arg(turns(alloc))
+}
+
 // The parser with a command last, where both were made.
 fn with_command<'a>(
     parser: Result<Command<'a>, AllocError>,
@@ -341,6 +330,17 @@ fn with_command<'a>(
     ensures { IfOk result (AddsCommand parser.entry command.entry) }
 {
     parser?.subcommand(command?)
+}
+
+// The parser with an outlined command last, where both were made.
+fn with_outlined<'a>(
+    alloc: Global,
+    parser: Result<Command<'a>, AllocError>,
+    outline: &Outline<'a>,
+) -> Result<Command<'a>, AllocError>
+    ensures { IfOk result (AddsShape parser.entry (outline_shape outline.now)) }
+{
+    with_command(parser, outlined(alloc, outline))
 }
 
 /// The grammar of the whole command line.
@@ -353,13 +353,13 @@ pub(crate) fn grammar<'a>(alloc: Global) -> Result<Command<'a>, AllocError>
         .after_help(help::ALCRS)
         .subcommand_required(true);
     let parser = with_command(Ok(parser), encode_command(alloc));
-    let parser = with_command(parser, certify_command(alloc));
-    let parser = with_command(parser, convert_command(alloc));
-    let parser = with_command(parser, check_command(alloc));
+    let parser = with_outlined(alloc, parser, &CERTIFY);
+    let parser = with_outlined(alloc, parser, &CONVERT);
+    let parser = with_outlined(alloc, parser, &CHECK);
     let parser = with_command(parser, drop_command(alloc));
     let parser = with_command(parser, join_command(alloc));
-    let parser = with_command(parser, decode_command(alloc));
-    let parser = with_command(parser, follow_command(alloc));
-    let parser = with_command(parser, twin_command(alloc));
-    with_command(parser, show_command(alloc))
+    let parser = with_outlined(alloc, parser, &DECODE);
+    let parser = with_outlined(alloc, parser, &FOLLOW);
+    let parser = with_outlined(alloc, parser, &TWIN);
+    with_outlined(alloc, parser, &SHOW)
 }

@@ -1,5 +1,6 @@
-use Rattle.std.proofs.Common.{◌≡◌, ℕ, arith, ap, ◌∙◌, inl, inr}
+use Rattle.std.proofs.Common.{◌≡◌, ℕ, arith, rules, ap, ◌∙◌, inl, inr}
 use Rattle.std.proofs.lemmas.Bool.{cases_eq}
+use Rattle.std.proofs.lemmas.Grind.{common_steps}
 use Rattle.gf256.specs.Sums.{row_times}
 use Rattle.elim.specs.Grid.{entry}
 use Rattle.elim.proofs.combine.product.Goals as goal
@@ -16,3 +17,18 @@ loop-i-preserved g c =
       ];
       left = λ p q le lp lq. c.loop-m.invariant.left p q (omega (arith, le)) lp lq;
     }
+
+pub get-requires-clause-row : goal.get-requires-clause-row
+get-requires-clause-row g c = search rules
+
+pub get-requires-clause-column : goal.get-requires-clause-column
+get-requires-clause-column g c = search rules
+
+pub add_row_of-requires-clause-other : goal.add_row_of-requires-clause-other
+add_row_of-requires-clause-other g c = search rules
+
+pub add_row_of-requires-clause-columns : goal.add_row_of-requires-clause-columns
+add_row_of-requires-clause-columns g c = search rules
+
+pub loop-m-preserved : goal.loop-m-preserved
+loop-m-preserved g c = grind (arith, common_steps) steps 2000000

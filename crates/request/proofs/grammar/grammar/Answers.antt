@@ -5,7 +5,7 @@ use Rattle.clap.specs.Words.{App, Shape, Text, app_of, with_subcommand}
 use Rattle.clap.specs.Simple.{new_shape}
 use Rattle.request.specs.Building.{HasGrammar}
 use Rattle.request.specs.Grammar.{encode_command, certify_command, convert_command, check_command, drop_command, join_command, decode_command, follow_command, twin_command, show_command}
-use Rattle.request.proofs.Rules.{Has, command_added, encode_added}
+use Rattle.request.proofs.Rules.{Has, command_added, encode_added, outline_added}
 use Rattle.request.proofs.grammar.grammar.Goals as goal
 
 abbrev none : App
@@ -31,16 +31,16 @@ returns c =
     let follow : Made = also follow_command decode in
     let twin : Made = also twin_command follow in
     let has_1 = encode_added (Ok c.subcommand_required-parser.result) c.encode_command.result c.with_command-parser.result none top c.encode_command.ensures c.with_command-parser.ensures in
-    let has_2 = command_added c.with_command-parser.result c.certify_command.result c.with_command-parser-2.result encode certify_command has_1 c.certify_command.ensures c.with_command-parser-2.ensures in
-    let has_3 = command_added c.with_command-parser-2.result c.convert_command.result c.with_command-parser-3.result certify convert_command has_2 c.convert_command.ensures c.with_command-parser-3.ensures in
-    let has_4 = command_added c.with_command-parser-3.result c.check_command.result c.with_command-parser-4.result convert check_command has_3 c.check_command.ensures c.with_command-parser-4.ensures in
-    let has_5 = command_added c.with_command-parser-4.result c.drop_command.result c.with_command-parser-5.result check drop_command has_4 c.drop_command.ensures c.with_command-parser-5.ensures in
-    let has_6 = command_added c.with_command-parser-5.result c.join_command.result c.with_command-parser-6.result drop join_command has_5 c.join_command.ensures c.with_command-parser-6.ensures in
-    let has_7 = command_added c.with_command-parser-6.result c.decode_command.result c.with_command-parser-7.result join decode_command has_6 c.decode_command.ensures c.with_command-parser-7.ensures in
-    let has_8 = command_added c.with_command-parser-7.result c.follow_command.result c.with_command-parser-8.result decode follow_command has_7 c.follow_command.ensures c.with_command-parser-8.ensures in
-    let has_9 = command_added c.with_command-parser-8.result c.twin_command.result c.with_command-parser-9.result follow twin_command has_8 c.twin_command.ensures c.with_command-parser-9.ensures in
-    let has_10 = command_added c.with_command-parser-9.result c.show_command.result c.with_command.result twin show_command has_9 c.show_command.ensures c.with_command.ensures in
-    IfOk-weaker c.with_command.result (Has (also show_command twin)) HasGrammar (λ _ (orders, names, app). record {
+    let has_2 = outline_added c.with_command-parser.result c.with_outlined-parser.result encode certify_command has_1 c.with_outlined-parser.ensures in
+    let has_3 = outline_added c.with_outlined-parser.result c.with_outlined-parser-2.result certify convert_command has_2 c.with_outlined-parser-2.ensures in
+    let has_4 = outline_added c.with_outlined-parser-2.result c.with_outlined-parser-3.result convert check_command has_3 c.with_outlined-parser-3.ensures in
+    let has_5 = command_added c.with_outlined-parser-3.result c.drop_command.result c.with_command-parser-2.result check drop_command has_4 c.drop_command.ensures c.with_command-parser-2.ensures in
+    let has_6 = command_added c.with_command-parser-2.result c.join_command.result c.with_command-parser-3.result drop join_command has_5 c.join_command.ensures c.with_command-parser-3.ensures in
+    let has_7 = outline_added c.with_command-parser-3.result c.with_outlined-parser-4.result join decode_command has_6 c.with_outlined-parser-4.ensures in
+    let has_8 = outline_added c.with_outlined-parser-4.result c.with_outlined-parser-5.result decode follow_command has_7 c.with_outlined-parser-5.ensures in
+    let has_9 = outline_added c.with_outlined-parser-5.result c.with_outlined-parser-6.result follow twin_command has_8 c.with_outlined-parser-6.ensures in
+    let has_10 = outline_added c.with_outlined-parser-6.result c.with_outlined.result twin show_command has_9 c.with_outlined.ensures in
+    IfOk-weaker c.with_outlined.result (Has (also show_command twin)) HasGrammar (λ _ (orders, names, app). record {
       orders = orders;
       names = names;
       app = app;

@@ -1,6 +1,9 @@
-use Rattle.std.proofs.Common.{arith}
+use Rattle.std.proofs.Common.{arith, rules}
 use Rattle.std.proofs.lemmas.Grind.{common_steps, elements}
 use Rattle.elim.proofs.matrix.Matrix.get.Goals as goal
+
+pub index-requires : goal.index-requires
+index-requires g c = search rules
 
 pub returns-clause-value : goal.returns-clause-value
 returns-clause-value g c = grind (arith, common_steps) steps 2000000
