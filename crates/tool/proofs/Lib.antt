@@ -12,3 +12,4 @@ pub mod Twinned
 pub mod ObjectBytes
 pub mod Unprinted
 pub mod Ran
+pub mod Verdicts

@@ -17,3 +17,6 @@ pub mod Listening
 pub mod Delivering
 pub mod Thinning
 pub mod ReadingObjects
+pub mod TwinsTold
+pub mod Telling
+pub mod FilesMade

@@ -2,6 +2,7 @@
 ghost use Rattle.std.specs.Prelude.{◌≡◌, ◌⊎◌, length, IfOk, IfErr, OnOk, OnErr};
 ghost use Rattle.cert.specs.Certificate.{IsIdentity};
 ghost use Rattle.coder.specs.ObjectRead.{ReadsObject};
+ghost use Rattle.tool.specs.FilesMade.{CertifiesFile, IsUncertifiedFile};
 ghost use Rattle.tool.specs.Making.{IsCertified, MakesCertificate, IsNotCertified, IsUncertified, IsConverted, IsNotConverted, Fails};
 ghost use Rattle.tool.specs.ReadingObjects.{IsObjectBroken};
 
@@ -21,7 +22,6 @@ use std::alloc::Global;
 
 /// Writes the object's certificate for the packets of an identity, a block at a time, and answers the status. An object
 /// whose length is known beforehand is read so too.
-#[tactic(auto, using(crate::proofs::ObjectBytes::makes_no_fti))]
 pub(crate) fn certify<'a, F: Folder, W: Write>(
     alloc: Global,
     folder: &mut F,
@@ -40,22 +40,42 @@ pub(crate) fn certify<'a, F: Folder, W: Write>(
         (F.files folder.old) (F.files folder.new)
         (W.failed out.new) (W.contents out.old) (W.contents out.new)) }
 {
+    let count = certify_file(alloc, folder, object, output, identity, sizes)?;
+    print_count(out, "certified", count, " blocks")?;
+    Ok(0)
+}
+
+// Makes the certificate of the object in a file; tells how many blocks.
+#[tactic(auto, using(crate::proofs::ObjectBytes::makes_no_fti))]
+fn certify_file<'a, F: Folder>(
+    alloc: Global,
+    folder: &mut F,
+    object: &'a str,
+    output: &'a str,
+    identity: Identity,
+    sizes: &Sizes,
+) -> Result<u32, Fault<'a>>
+    requires { IsIdentity identity }
+    ensures ok { IfOk result (CertifiesFile identity (F.files folder.old) (F.files folder.new)
+        object.now output.now sizes.now) }
+    ensures fault { IfErr result (IsUncertifiedFile object.now output.now sizes.now
+        (F.files folder.old)) }
+    ensures stays { OnErr result (F.files folder.new ≡ F.files folder.old) }
+{
     let mut input = open(folder, object)?;
-    let count = match folder.length_of(&input) {
+    match folder.length_of(&input) {
         Some(length) => {
             let fti = fti_of(sizes, length)?;
             certify_read(alloc, folder, &mut input, &fti, object, output, identity)?;
-            fti.block_count()
+            Ok(fti.block_count())
         }
         None => {
             let bytes = read_rest(alloc, &mut input, object)?;
             let fti = fti_of(sizes, bytes.len() as u64)?;
             certify_held(alloc, folder, bytes.as_slice(), &fti, output, identity)?;
-            fti.block_count()
+            Ok(fti.block_count())
         }
-    };
-    print_count(out, "certified", count, " blocks")?;
-    Ok(0)
+    }
 }
 
 // Makes the certificate of an object that is read block by block.

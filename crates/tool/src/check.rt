@@ -2,8 +2,9 @@
 ghost use Rattle.std.specs.Prelude.{◌≡◌, ◌≤◌, ◌++◌, decimal, IfOk, IfErr, OnOk};
 ghost use Rattle.cert.specs.FromReader.{IsCheckedFrom};
 ghost use Rattle.tool.specs.Checks.{IsNotChecked};
-ghost use Rattle.tool.specs.Outcomes.{IsChecked, IsUnchecked};
+ghost use Rattle.tool.specs.Outcomes.{IsChecked, IsUnchecked, status_of as verdict_status};
 ghost use Rattle.tool.specs.Lines.{line_of, named, block_line, kill_line, losses_text, report_text, GainsReason, IsNoLine, IsSilent};
+ghost use Rattle.tool.specs.Telling.{IsVerdictText};
 
 use crate::fault::Fault;
 use crate::folder::Folder;
@@ -37,21 +38,33 @@ pub(crate) fn check<'a, F: Folder, W: Write>(
     let mut frames = open(folder, session)?;
     let object = read_object(alloc, folder, object)?;
     let certificate = read_certificate(alloc, folder, certificate)?;
-    match verdict_of(
+    let verdict = verdict_of(
         alloc,
         &mut frames,
         object.as_slice(),
         &certificate,
         identity,
-    )? {
-        Verdict::Yes(report) => {
-            report_lines(alloc, &report)?.print(out)?;
-            Ok(0)
-        }
-        Verdict::No(reason) => {
-            reason_line(alloc, reason)?.print(out)?;
-            Ok(1)
-        }
+    )?;
+    verdict_text(alloc, &verdict)?.print(out)?;
+    Ok(status_of(&verdict))
+}
+
+fn status_of(verdict: &Verdict) -> u8
+    ensures { result ≡ verdict_status verdict.now }
+{
+    match verdict {
+        Verdict::Yes(_) => 0,
+        Verdict::No(_) => 1,
+    }
+}
+
+// The lines of a verdict, without the last line feed.
+fn verdict_text(alloc: Global, verdict: &Verdict) -> Result<Text, AllocError>
+    ensures { IfOk result (IsVerdictText verdict.now) }
+{
+    match verdict {
+        Verdict::Yes(report) => report_lines(alloc, report),
+        Verdict::No(reason) => reason_line(alloc, *reason),
     }
 }
 

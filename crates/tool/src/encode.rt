@@ -2,6 +2,7 @@
 ghost use Rattle.std.specs.Prelude.{◌≡◌, ◌⊎◌, length, IfOk, IfErr, OnErr};
 ghost use Rattle.coder.specs.ObjectRead.{ReadsObject};
 ghost use Rattle.partition.specs.declared.order.Order.TheVariants.{Blocks};
+ghost use Rattle.tool.specs.FilesMade.{EncodesFile, IsUnsentFile};
 ghost use Rattle.tool.specs.Making.{IsEncoded, MakesSession, IsNotEncoded, IsUnsent, Fails};
 ghost use Rattle.tool.specs.ReadingObjects.{IsObjectBroken};
 
@@ -19,7 +20,6 @@ use std::alloc::Global;
 
 /// Writes the object's session, and answers the status. An object whose length is known beforehand is read block by block,
 /// where its session is written so.
-#[tactic(auto, using(crate::proofs::ObjectBytes::makes_no_fti))]
 pub(crate) fn encode<'a, F: Folder, W: Write>(
     alloc: Global,
     folder: &mut F,
@@ -36,20 +36,38 @@ pub(crate) fn encode<'a, F: Folder, W: Write>(
         (F.files folder.old) (F.files folder.new)
         (W.failed out.new) (W.contents out.old) (W.contents out.new)) }
 {
+    let count = encode_file(alloc, folder, object, output, sending)?;
+    print_count(out, "encoded", count, " datagrams")?;
+    Ok(0)
+}
+
+// Makes the session of the object in a file; tells how many datagrams.
+#[tactic(auto, using(crate::proofs::ObjectBytes::makes_no_fti))]
+fn encode_file<'a, F: Folder>(
+    alloc: Global,
+    folder: &mut F,
+    object: &'a str,
+    output: &'a str,
+    sending: &Sending,
+) -> Result<u64, Fault<'a>>
+    ensures ok { IfOk result (EncodesFile (F.files folder.old) (F.files folder.new)
+        object.now output.now sending.now) }
+    ensures fault { IfErr result (IsUnsentFile object.now output.now sending.now
+        (F.files folder.old)) }
+    ensures stays { OnErr result (F.files folder.new ≡ F.files folder.old) }
+{
     let mut input = open(folder, object)?;
-    let count = match (folder.length_of(&input), sending.order) {
+    match (folder.length_of(&input), sending.order) {
         (Some(length), Order::Blocks) => {
             let fti = fti_of(&sending.sizes, length)?;
-            send_read(alloc, folder, &mut input, &fti, object, output, sending)?
+            send_read(alloc, folder, &mut input, &fti, object, output, sending)
         }
         _ => {
             let bytes = read_rest(alloc, &mut input, object)?;
             let fti = fti_of(&sending.sizes, bytes.len() as u64)?;
-            send_held(alloc, folder, bytes.as_slice(), &fti, output, sending)?
+            send_held(alloc, folder, bytes.as_slice(), &fti, output, sending)
         }
-    };
-    print_count(out, "encoded", count, " datagrams")?;
-    Ok(0)
+    }
 }
 
 // Makes the session of an object that is read block by block; tells how many datagrams.
