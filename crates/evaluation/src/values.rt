@@ -164,7 +164,7 @@ fn write_columns(
     store(symbols, points, coefficients.width, tile, at, used);
 }
 
-// The transform takes 2 ^ exponent coefficients: the least of 64, 128 and 256 that k are not above.
+// The exponent of two of how many coefficients the transform takes for k: the least of 64, 128 and 256 that is enough.
 fn exponent(k: usize) -> usize
     requires { k ≤ 255 }
     ensures least { 6 ≤ result }

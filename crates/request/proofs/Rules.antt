@@ -40,13 +40,6 @@ rule_added f xs i d old c new a so_far added local rule lt =
       local = rw (added.globals, so_far.local, local) (grind arith);
     }
 
--- an argument alone
-pub one_added : (old new : Command) (a : Arg) (rule : Rule) → AddsArg old a new → a.global ≡ false → rule_of a ≡ rule → AddsRules old (rule ∷ []) new
-one_added old new a rule added local is = record {
-  shape = ap (λ (app : App). app.top) (added.shape local) ∙ ap (λ r. record (shape_of old) { rules = (shape_of old).rules ++ r ∷ [] }) is;
-  local = rw (added.globals, local) (grind arith);
-}
-
 -- ---- a parser with commands added in turn, where all were made
 
 -- the parser has this grammar, with some words for the orders

@@ -16,14 +16,13 @@ use crate::fault::Fault;
 use crate::folder::Folder;
 use crate::follow::follow;
 use crate::joining::join;
-use crate::print::Text;
 use crate::show::show;
 use crate::twinning::twin;
-use crate::wording::{put_certificate_fault, put_frame_fault, put_fti_fault, put_send_fault};
+use crate::wording::fault_line;
 use reception::Identity;
 use request::{Identifiers, Request};
 use session::{Write, write_all};
-use std::alloc::{AllocError, Global};
+use std::alloc::Global;
 
 // Whose packets a command asks for.
 fn identity_of(identifiers: &Identifiers) -> Identity
@@ -198,38 +197,4 @@ pub(crate) fn tell_memory<W: Write>(out: &mut W)
         ⊎ Appends (W.contents out.old) (W.contents out.new) (codes "fault memory\n") }
 {
     let _ = write_all(out, b"fault memory\n");
-}
-
-fn fault_line(alloc: Global, fault: Fault<'_>) -> Result<Text, AllocError>
-    ensures { IfOk result (λ line.
-        (text : List ℕ) × IsFaultText fault.entry text × (line ≡ codes "fault " ++ text)) }
-{
-    let mut line = Text::new(alloc);
-    line.text("fault ")?;
-    put_fault(&mut line, fault)?;
-    Ok(line)
-}
-
-// Puts the words of a fault behind what stands in the line.
-fn put_fault(line: &mut Text, fault: Fault<'_>) -> Result<(), AllocError>
-    ensures { OnOk result
-        ((text : List ℕ) × IsFaultText fault.entry text × (line.new ≡ line.old ++ text)) }
-{
-    match fault {
-        Fault::Open(name) => put_named(line, "open ", name),
-        Fault::File(name) => put_named(line, "file ", name),
-        Fault::Memory => line.text("memory"),
-        Fault::Frame(fault) => put_frame_fault(line, fault),
-        Fault::Certificate(fault) => put_certificate_fault(line, fault),
-        Fault::Fti(fault) => put_fti_fault(line, fault),
-        Fault::Send(fault) => put_send_fault(line, fault),
-        Fault::Output => Ok(()),
-    }
-}
-
-fn put_named(line: &mut Text, word: &str, name: &str) -> Result<(), AllocError>
-    ensures { OnOk result (line.new ≡ line.old ++ (word.now ++ name.now)) }
-{
-    line.text(word)?;
-    line.text(name)
 }

@@ -1,17 +1,19 @@
 //! The words of faults.
-ghost use Rattle.std.specs.Prelude.{◌≡◌, ◌++◌, OnOk};
+ghost use Rattle.std.specs.Prelude.{◌≡◌, ◌++◌, ℕ, List, codes, IfOk, OnOk};
+ghost use Rattle.tool.specs.Lines.{IsFaultText};
 ghost use Rattle.tool.specs.Words.{fti_words, packet_words, frame_words, certificate_words, send_words};
 
+use crate::fault::Fault;
 use crate::print::Text;
 use alc::PacketFault;
 use cert::CertFault;
 use coder::SendFault;
 use partition::FtiError;
 use session::FrameFault;
-use std::alloc::AllocError;
+use std::alloc::{AllocError, Global};
 
-/// Puts the words of a fault of an FTI last.
-pub(crate) fn put_fti_fault(line: &mut Text, fault: FtiError) -> Result<(), AllocError>
+// Puts the words of a fault of an FTI last.
+fn put_fti_fault(line: &mut Text, fault: FtiError) -> Result<(), AllocError>
     ensures { OnOk result (line.new ≡ line.old ++ fti_words fault) }
 {
     match fault {
@@ -46,8 +48,8 @@ pub(crate) fn put_packet_fault(line: &mut Text, fault: PacketFault) -> Result<()
     }
 }
 
-/// Puts the words of a fault of a session last.
-pub(crate) fn put_frame_fault(line: &mut Text, fault: FrameFault) -> Result<(), AllocError>
+// Puts the words of a fault of a session last.
+fn put_frame_fault(line: &mut Text, fault: FrameFault) -> Result<(), AllocError>
     ensures { OnOk result (line.new ≡ line.old ++ frame_words fault) }
 {
     match fault {
@@ -63,8 +65,8 @@ pub(crate) fn put_frame_fault(line: &mut Text, fault: FrameFault) -> Result<(), 
     }
 }
 
-/// Puts the words of a fault of a certificate last.
-pub(crate) fn put_certificate_fault(line: &mut Text, fault: CertFault) -> Result<(), AllocError>
+// Puts the words of a fault of a certificate last.
+fn put_certificate_fault(line: &mut Text, fault: CertFault) -> Result<(), AllocError>
     ensures { OnOk result (line.new ≡ line.old ++ certificate_words fault) }
 {
     match fault {
@@ -80,8 +82,8 @@ pub(crate) fn put_certificate_fault(line: &mut Text, fault: CertFault) -> Result
     }
 }
 
-/// Puts the words of a fault of sending last.
-pub(crate) fn put_send_fault(line: &mut Text, fault: SendFault) -> Result<(), AllocError>
+// Puts the words of a fault of sending last.
+fn put_send_fault(line: &mut Text, fault: SendFault) -> Result<(), AllocError>
     ensures { OnOk result (line.new ≡ line.old ++ send_words fault) }
 {
     match fault {
@@ -90,4 +92,39 @@ pub(crate) fn put_send_fault(line: &mut Text, fault: SendFault) -> Result<(), Al
         SendFault::Io => line.text("O3 Io"),
         SendFault::NoMemory => line.text("O4 NoMemory"),
     }
+}
+
+/// The line of a fault of a command, by its words; of a failed output, which is told nowhere, any.
+pub(crate) fn fault_line(alloc: Global, fault: Fault<'_>) -> Result<Text, AllocError>
+    ensures { IfOk result (λ line.
+        (text : List ℕ) × IsFaultText fault.entry text × (line ≡ codes "fault " ++ text)) }
+{
+    let mut line = Text::new(alloc);
+    line.text("fault ")?;
+    put_fault(&mut line, fault)?;
+    Ok(line)
+}
+
+// Puts the words of a fault behind what stands in the line.
+fn put_fault(line: &mut Text, fault: Fault<'_>) -> Result<(), AllocError>
+    ensures { OnOk result
+        ((text : List ℕ) × IsFaultText fault.entry text × (line.new ≡ line.old ++ text)) }
+{
+    match fault {
+        Fault::Open(name) => put_named(line, "open ", name),
+        Fault::File(name) => put_named(line, "file ", name),
+        Fault::Memory => line.text("memory"),
+        Fault::Frame(fault) => put_frame_fault(line, fault),
+        Fault::Certificate(fault) => put_certificate_fault(line, fault),
+        Fault::Fti(fault) => put_fti_fault(line, fault),
+        Fault::Send(fault) => put_send_fault(line, fault),
+        Fault::Output => Ok(()),
+    }
+}
+
+fn put_named(line: &mut Text, word: &str, name: &str) -> Result<(), AllocError>
+    ensures { OnOk result (line.new ≡ line.old ++ (word.now ++ name.now)) }
+{
+    line.text(word)?;
+    line.text(name)
 }
