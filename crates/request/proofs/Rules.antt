@@ -1,16 +1,16 @@
 -- A command with arguments added in turn.
-use Rattle.std.proofs.Common.{zero, suc, ap, IfOk, Result, arith, refl, sym, map, take, length, false, ℕ, List, [], ◌∷◌, ◌++◌, ◌≡◌, ◌<◌, ◌+◌, ◌∙◌}
+use Rattle.std.proofs.Common.{zero, suc, ap, arith, refl, sym, map, take, length, false, ℕ, List, [], ◌∷◌, ◌++◌, ◌≡◌, ◌<◌, ◌+◌, ◌∙◌}
 use Rattle.std.specs.List.{slice_index_or}
 use Rattle.std.proofs.lemmas.List.{append-nil, append_assoc}
-use Rattle.std.proofs.lemmas.Result.{IfOk-at_ok, IfOk-weaker}
-use Rattle.std.specs.Borrow.{Bor}
 use Rattle.clap.specs.Words.{AddsArg, App, Rule, Shape, Text, app_of, rule_of, shape_of, with_subcommand}
+use Rattle.clap.specs.Simple.{new_shape}
 use Rattle.clap.specs.declared.builder.arg.Arg.{Arg}
 use Rattle.clap.specs.declared.builder.command.Command.{Command}
-use Rattle.request.specs.Building.{AddsCommand, AddsRules, AddsShape, IsShaped}
-use Rattle.request.specs.Grammar.{IsOrders, encode_command}
+use Rattle.request.specs.Grammar.{command}
+use Rattle.request.specs.Building.{AddsCommands, AddsRules, IsShaped, with_commands}
+use Rattle.clap.specs.declared.builder.command.Command.TheViews.{out-Command as fields_of}
 
-one_more : {X : Type 0} (f : X → Rule) (xs : List X) (i : ℕ) (d : X) → i < length xs
+one_more : {X Y : Type 0} (f : X → Y) (xs : List X) (i : ℕ) (d : X) → i < length xs
     → map f (take (suc i) xs) ≡ map f (take i xs) ++ f (slice_index_or xs i d) ∷ []
 one_more f [] i d lt = absurd (omega arith)
 one_more f (x ∷ xs) zero d lt = refl
@@ -40,35 +40,35 @@ rule_added f xs i d old c new a so_far added local rule lt =
       local = rw (added.globals, so_far.local, local) (grind arith);
     }
 
--- ---- a parser with commands added in turn, where all were made
+-- a new command with arguments of three kinds
+pub shaped : (name : Text) (new c1 c2 c3 : Command) (firsts seconds thirds : List Rule) → shape_of new ≡ new_shape name → (fields_of new).has_globals ≡ false
+    → AddsRules new firsts c1 → AddsRules c1 seconds c2 → AddsRules c2 thirds c3 → IsShaped (command name (firsts ++ (seconds ++ thirds))) c3
+shaped name new c1 c2 c3 firsts seconds thirds is local first second third = record {
+  shaped = third.shape
+      ∙ (ap (λ (s : Shape). record s { rules = s.rules ++ thirds }) (second.shape
+      ∙ ap (λ (s : Shape). record s { rules = s.rules ++ seconds }) (first.shape
+      ∙ ap (λ (s : Shape). record s { rules = s.rules ++ firsts }) is))
+      ∙ ap (λ rs. record (new_shape name) { rules = rs }) (append_assoc firsts seconds thirds));
+  local = third.local ∙ (second.local ∙ (first.local ∙ local));
+}
 
--- the parser has this grammar, with some words for the orders
-abbrev pub Has : (Bor (List (Bor Text)) → App) → Command → Type 0
-Has app parser = (orders : Bor (List (Bor Text))) × IsOrders orders × (app_of parser ≡ app orders)
+-- ---- a parser with commands added in turn
 
--- the first of them is `encode`
-pub encode_added : {E : Type 0} (parser command new : Result Command E) (app : App)
-    → IfOk parser (λ old. app_of old ≡ app)
-    → IfOk command (λ sub. (orders : Bor (List (Bor Text))) × IsOrders orders × IsShaped (encode_command orders) sub)
-    → IfOk new (AddsCommand parser command)
-    → IfOk new (Has (λ orders. with_subcommand app (encode_command orders)))
-encode_added parser command new app has shaped = IfOk-weaker new (AddsCommand parser command) _ (λ _ (old, sub, from, made, added).
-    let top = IfOk-at_ok (λ p. app_of p ≡ app) from has in
-    let (orders, names, is) = IfOk-at_ok _ made shaped in
-    (orders, names, added is.local ∙ (ap (λ a. with_subcommand a (shape_of sub)) top ∙ ap (with_subcommand app) is.shaped)))
+one_command : (app : App) (shapes : List Shape) (shape : Shape) → with_commands app (shapes ++ shape ∷ []) ≡ with_subcommand (with_commands app shapes) shape
+one_command app [] shape = refl
+one_command app (s ∷ shapes) shape = one_command (with_subcommand app s) shapes shape
 
-pub command_added : {E : Type 0} (parser command new : Result Command E) (app : Bor (List (Bor Text)) → App) (shape : Shape)
-    → IfOk parser (Has app) → IfOk command (IsShaped shape)
-    → IfOk new (AddsCommand parser command)
-    → IfOk new (Has (λ orders. with_subcommand (app orders) shape))
-command_added parser command new app shape has shaped = IfOk-weaker new (AddsCommand parser command) _ (λ _ (old, sub, from, made, added).
-    let (orders, names, top) = IfOk-at_ok (Has app) from has in
-    let is = IfOk-at_ok (IsShaped shape) made shaped in
-    (orders, names, added is.local ∙ (ap (λ a. with_subcommand a (shape_of sub)) top ∙ ap (with_subcommand (app orders)) is.shaped)))
-
-pub outline_added : {E : Type 0} (parser new : Result Command E) (app : Bor (List (Bor Text)) → App) (shape : Shape)
-    → IfOk parser (Has app) → IfOk new (AddsShape parser shape)
-    → IfOk new (Has (λ orders. with_subcommand (app orders) shape))
-outline_added parser new app shape has = IfOk-weaker new (AddsShape parser shape) _ (λ _ (old, from, added).
-    let (orders, names, top) = IfOk-at_ok (Has app) from has in
-    (orders, names, added ∙ ap (λ a. with_subcommand a shape) top))
+-- and one more, that of the next place
+pub command_added : {X : Type 0} (f : X → Shape) (xs : List X) (i : ℕ) (d : X) (old parser sub new : Command)
+    → AddsCommands old (map f (take i xs)) parser
+    → ((fields_of sub).has_globals ≡ false → app_of new ≡ with_subcommand (app_of parser) (shape_of sub))
+    → IsShaped (f (slice_index_or xs i d)) sub → i < length xs
+    → AddsCommands old (map f (take (i + 1) xs)) new
+command_added f xs i d old parser sub new so_far added is lt =
+    let next : i + 1 ≡ suc i = omega arith in
+    let app = app_of old in
+    added is.local
+    ∙ (ap (λ a. with_subcommand a (shape_of sub)) so_far
+    ∙ (ap (λ s. with_subcommand (with_commands app (map f (take i xs))) s) is.shaped
+    ∙ (sym (one_command app (map f (take i xs)) (f (slice_index_or xs i d)))
+    ∙ (ap (λ ss. with_commands app ss) (sym (one_more f xs i d lt)) ∙ ap (λ n. with_commands app (map f (take n xs))) (sym next)))))

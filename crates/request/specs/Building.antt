@@ -1,10 +1,12 @@
 -- How a parser comes to have the grammar.
-use Rattle.std.specs.Prelude.{◌≡◌, ◌++◌, List, Result, Ok, false, map}
+use Rattle.std.specs.Prelude.{◌≡◌, ◌++◌, ◌∷◌, [], List, false, map}
 use Rattle.std.specs.Borrow.{Bor}
-use Rattle.clap.specs.Words.{Rule, Shape, Text, app_of, shape_of, with_subcommand}
+use Rattle.clap.specs.Words.{App, Rule, Shape, Text, app_of, shape_of, with_subcommand}
 use Rattle.clap.specs.declared.builder.command.Command.{Command}
 use Rattle.clap.specs.declared.builder.command.Command.TheViews.{out-Command as fields_of}
-use Rattle.request.specs.Grammar.{IsOrders, command, file, grammar_of, number}
+use Rattle.request.specs.Grammar.{IsOrders, command, file, grammar_of, number, places, sessions, turns}
+use Rattle.request.specs.declared.grammar.OwnArgument.{OwnArgument}
+use Rattle.request.specs.declared.grammar.OwnArgument.TheVariants.{Places, Sessions, Turns}
 use Rattle.request.specs.declared.grammar.Outline.{Outline}
 
 -- the parser has this grammar
@@ -23,17 +25,21 @@ pub record AddsRules (old : Command) (rules : List Rule) (new : Command) : Type 
   pub shape : shape_of new ≡ record (shape_of old) { rules = (shape_of old).rules ++ rules }
   pub local : (fields_of new).has_globals ≡ (fields_of old).has_globals
 
--- the parser with the command last, where both were made
-abbrev pub AddsCommand : {E : Type 0} → Result Command E → Result Command E → Command → Type 0
-AddsCommand parser command new =
-    (old sub : Command) × (parser ≡ Ok old) × (command ≡ Ok sub) × ((fields_of sub).has_globals ≡ false → app_of new ≡ with_subcommand (app_of old) (shape_of sub))
+-- the parser with commands of these shapes last
+abbrev pub with_commands : App → List Shape → App
+with_commands app [] = app
+with_commands app (shape ∷ shapes) = with_commands (with_subcommand app shape) shapes
 
--- the parser with a command of this shape last, where the parser was made
-abbrev pub AddsShape : {E : Type 0} → Result Command E → Shape → Command → Type 0
-AddsShape parser shape new = (old : Command) × (parser ≡ Ok old) × (app_of new ≡ with_subcommand (app_of old) shape)
+abbrev pub AddsCommands : Command → List Shape → Command → Type 0
+AddsCommands old shapes new = app_of new ≡ with_commands (app_of old) shapes
+
+abbrev pub own_rule : OwnArgument → Rule
+own_rule Places = places
+own_rule Sessions = sessions
+own_rule Turns = turns
 
 -- the command that an outline tells of
 abbrev pub outline_shape : Outline → Shape
 outline_shape outline = command outline.name.now
     (map (λ argument. file argument.0.now) outline.files.now
-    ++ map (λ option. number option.name.now option.least option.most) outline.numbers.now)
+    ++ (map (λ option. number option.name.now option.least option.most) outline.numbers.now ++ map own_rule outline.own.now))

@@ -1,8 +1,8 @@
 //! The grammar: the commands, their arguments and their help.
 ghost use Rattle.std.specs.Prelude.{◌≡◌, ◌∷◌, [], map, false, IfOk};
 ghost use Rattle.clap.specs.Words.{rule_of};
-ghost use Rattle.request.specs.Grammar.{file as file_rule, number as number_rule, fti_every as fti_every_rule, order as order_rule, places as places_rule, sessions as sessions_rule, turns as turns_rule, encode_command as encode_shape, drop_command as drop_shape, join_command as join_shape, IsOrders};
-ghost use Rattle.request.specs.Building.{HasGrammar, IsShaped, AddsRules, AddsCommand, AddsShape, outline_shape};
+ghost use Rattle.request.specs.Grammar.{file as file_rule, number as number_rule, fti_every as fti_every_rule, order as order_rule, places as places_rule, sessions as sessions_rule, turns as turns_rule, encode_command as encode_shape, IsOrders};
+ghost use Rattle.request.specs.Building.{HasGrammar, IsShaped, AddsRules, AddsCommands, own_rule, outline_shape};
 
 use crate::help;
 use crate::requests::MOST_SYMBOL_BYTES;
@@ -85,99 +85,117 @@ const MAX: NumberOption<'static> = NumberOption {
     most: 255,
 };
 
-/// A command's name, its help, and the files and numbers that it has to be given first.
+/// An argument of one command alone.
+#[derive(Clone, Copy)]
+enum OwnArgument {
+    /// The places to leave out, one or more.
+    Places,
+    /// The sessions to join, one or more.
+    Sessions,
+    /// Whether one datagram of each session is written in turn.
+    Turns,
+}
+
+/// A command's name, its help and its arguments, in their order.
 struct Outline<'a> {
     name: &'a str,
     about: &'a str,
     after_help: &'a str,
     files: &'a [FileArgument<'a>],
     numbers: &'a [NumberOption<'a>],
+    own: &'a [OwnArgument],
 }
 
+// `encode`, but for the options that say how it is sent.
 const ENCODE: Outline<'static> = Outline {
     name: "encode",
     about: "Writes the session of an object: every encoding symbol of every block once",
     after_help: help::ENCODE,
     files: &[("OBJECT", "The file to send"), SESSION_TO_WRITE],
     numbers: &[TSI, TOI, SYMBOL, BLOCK, MAX],
+    own: &[],
 };
 
-const CERTIFY: Outline<'static> = Outline {
-    name: "certify",
-    about: "Writes the certificate of an object, for the datagrams of a TSI and TOI",
-    after_help: help::CERTIFY,
-    files: &[("OBJECT", "The file to certify"), CERTIFICATE_TO_WRITE],
-    numbers: &[TSI, TOI, SYMBOL, BLOCK, MAX],
-};
-
-const CONVERT: Outline<'static> = Outline {
-    name: "convert",
-    about: "Writes a certificate anew, as RSC2, for the datagrams of a TSI and TOI",
-    after_help: help::CONVERT,
-    files: &[("IN", "The certificate to read"), CERTIFICATE_TO_WRITE],
-    numbers: &[TSI, TOI],
-};
-
-const CHECK: Outline<'static> = Outline {
-    name: "check",
-    about: "Says whether a certificate proves that a session carries an object, and how many datagrams may be missed",
-    after_help: help::CHECK,
-    files: &[SESSION, CARRIED_OBJECT, CERTIFICATE],
-    numbers: &[TSI, TOI],
-};
-
-const DROP: Outline<'static> = Outline {
-    name: "drop",
-    about: "Writes a session without the datagrams at some places",
-    after_help: help::DROP,
-    files: &[SESSION, SESSION_TO_WRITE],
-    numbers: &[],
-};
-
-const JOIN: Outline<'static> = Outline {
-    name: "join",
-    about: "Writes the datagrams of several sessions as one session",
-    after_help: help::JOIN,
-    files: &[SESSION_TO_WRITE],
-    numbers: &[],
-};
-
-const DECODE: Outline<'static> = Outline {
-    name: "decode",
-    about: "Writes the object that the datagrams of a session give",
-    after_help: help::DECODE,
-    files: &[SESSION, OBJECT_TO_WRITE],
-    numbers: &[TSI, TOI],
-};
-
-const FOLLOW: Outline<'static> = Outline {
-    name: "follow",
-    about: "Takes the datagrams of a session one by one, as they come, and writes the object as soon as they give it",
-    after_help: help::FOLLOW,
-    files: &[SESSION, OBJECT_TO_WRITE],
-    numbers: &[TSI, TOI],
-};
-
-const TWIN: Outline<'static> = Outline {
-    name: "twin",
-    about: "Where a block has too few symbols, writes another object of the same length that fits the datagrams too",
-    after_help: help::TWIN,
-    files: &[
-        SESSION,
-        CARRIED_OBJECT,
-        CERTIFICATE,
-        ("OUT", "The file to write the other object to"),
-    ],
-    numbers: &[TSI, TOI],
-};
-
-const SHOW: Outline<'static> = Outline {
-    name: "show",
-    about: "Prints a line for each datagram of a session",
-    after_help: help::SHOW,
-    files: &[SESSION],
-    numbers: &[],
-};
+// The commands behind it.
+const OUTLINES: [Outline<'static>; 9] = [
+    Outline {
+        name: "certify",
+        about: "Writes the certificate of an object, for the datagrams of a TSI and TOI",
+        after_help: help::CERTIFY,
+        files: &[("OBJECT", "The file to certify"), CERTIFICATE_TO_WRITE],
+        numbers: &[TSI, TOI, SYMBOL, BLOCK, MAX],
+        own: &[],
+    },
+    Outline {
+        name: "convert",
+        about: "Writes a certificate anew, as RSC2, for the datagrams of a TSI and TOI",
+        after_help: help::CONVERT,
+        files: &[("IN", "The certificate to read"), CERTIFICATE_TO_WRITE],
+        numbers: &[TSI, TOI],
+        own: &[],
+    },
+    Outline {
+        name: "check",
+        about: "Says whether a certificate proves that a session carries an object, and how many datagrams may be missed",
+        after_help: help::CHECK,
+        files: &[SESSION, CARRIED_OBJECT, CERTIFICATE],
+        numbers: &[TSI, TOI],
+        own: &[],
+    },
+    Outline {
+        name: "drop",
+        about: "Writes a session without the datagrams at some places",
+        after_help: help::DROP,
+        files: &[SESSION, SESSION_TO_WRITE],
+        numbers: &[],
+        own: &[OwnArgument::Places],
+    },
+    Outline {
+        name: "join",
+        about: "Writes the datagrams of several sessions as one session",
+        after_help: help::JOIN,
+        files: &[SESSION_TO_WRITE],
+        numbers: &[],
+        own: &[OwnArgument::Sessions, OwnArgument::Turns],
+    },
+    Outline {
+        name: "decode",
+        about: "Writes the object that the datagrams of a session give",
+        after_help: help::DECODE,
+        files: &[SESSION, OBJECT_TO_WRITE],
+        numbers: &[TSI, TOI],
+        own: &[],
+    },
+    Outline {
+        name: "follow",
+        about: "Takes the datagrams of a session one by one, as they come, and writes the object as soon as they give it",
+        after_help: help::FOLLOW,
+        files: &[SESSION, OBJECT_TO_WRITE],
+        numbers: &[TSI, TOI],
+        own: &[],
+    },
+    Outline {
+        name: "twin",
+        about: "Where a block has too few symbols, writes another object of the same length that fits the datagrams too",
+        after_help: help::TWIN,
+        files: &[
+            SESSION,
+            CARRIED_OBJECT,
+            CERTIFICATE,
+            ("OUT", "The file to write the other object to"),
+        ],
+        numbers: &[TSI, TOI],
+        own: &[],
+    },
+    Outline {
+        name: "show",
+        about: "Prints a line for each datagram of a session",
+        after_help: help::SHOW,
+        files: &[SESSION],
+        numbers: &[],
+        own: &[],
+    },
+];
 
 // The command with these arguments last, in this order, each of which has to be given.
 #[tactic(auto, using(crate::proofs::Rules::no_rules))]
@@ -226,6 +244,69 @@ fn with_numbers<'a>(
     Ok(command)
 }
 
+// The places to leave out, one or more.
+fn places<'a>(alloc: Global) -> Arg<'a>
+    ensures rule { rule_of result ≡ places_rule }
+    ensures local { result.global ≡ false }
+{
+    Arg::new(alloc, "PLACE")
+        .required(true)
+        .num_args(1usize..)
+        .value_parser(ValueParser::unsigned(0, u64::from(u32::MAX)))
+        .help(
+            "The places of the datagrams to leave out, 0 to 4294967295; the first datagram is at place 0",
+        )
+}
+
+// The sessions to join, one or more.
+fn sessions<'a>(alloc: Global) -> Arg<'a>
+    ensures rule { rule_of result ≡ sessions_rule }
+    ensures local { result.global ≡ false }
+{
+    Arg::new(alloc, "SESSION")
+        .required(true)
+        .num_args(1usize..)
+        .help("The session files to join, in this order; a file may be named several times")
+}
+
+// Whether one datagram of each session is written in turn.
+fn turns<'a>(alloc: Global) -> Arg<'a>
+    ensures rule { rule_of result ≡ turns_rule }
+    ensures local { result.global ≡ false }
+{
+    Arg::new(alloc, "turns")
+        .long("turns")
+        .action(ArgAction::SetTrue)
+        .help("One datagram of each session in turn, not one session after the other")
+}
+
+fn own_argument<'a>(alloc: Global, which: OwnArgument) -> Arg<'a>
+    ensures rule { rule_of result ≡ own_rule which }
+    ensures local { result.global ≡ false }
+{
+    match which {
+        OwnArgument::Places => places(alloc),
+        OwnArgument::Sessions => sessions(alloc),
+        OwnArgument::Turns => turns(alloc),
+    }
+}
+
+// The command with these arguments last, in this order.
+#[tactic(auto, using(crate::proofs::Rules::no_rules))]
+fn with_own<'a>(
+    alloc: Global,
+    command: Command<'a>,
+    own: &[OwnArgument],
+) -> Result<Command<'a>, AllocError>
+    ensures { IfOk result (AddsRules command.entry (map own_rule own.now)) }
+{
+    let mut command = command;
+    for which in own {
+        command = command.arg(own_argument(alloc, *which))?;
+    }
+    Ok(command)
+}
+
 fn outlined<'a>(alloc: Global, outline: &Outline<'a>) -> Result<Command<'a>, AllocError>
     ensures { IfOk result (IsShaped (outline_shape outline.now)) }
 {
@@ -233,7 +314,8 @@ fn outlined<'a>(alloc: Global, outline: &Outline<'a>) -> Result<Command<'a>, All
         .about(outline.about)
         .after_help(outline.after_help);
     let command = with_files(alloc, command, outline.files)?;
-    with_numbers(alloc, command, outline.numbers)
+    let command = with_numbers(alloc, command, outline.numbers)?;
+    with_own(alloc, command, outline.own)
 }
 
 // Which datagrams carry the FTI.
@@ -271,76 +353,19 @@ fn encode_command<'a>(alloc: Global) -> Result<Command<'a>, AllocError>
     command.arg(fti_every(alloc))?.arg(order(alloc))
 }
 
-// The places to leave out, one or more.
-fn places<'a>(alloc: Global) -> Arg<'a>
-    ensures rule { rule_of result ≡ places_rule }
-    ensures local { result.global ≡ false }
-{
-    Arg::new(alloc, "PLACE")
-        .required(true)
-        .num_args(1usize..)
-        .value_parser(ValueParser::unsigned(0, u64::from(u32::MAX)))
-        .help(
-            "The places of the datagrams to leave out, 0 to 4294967295; the first datagram is at place 0",
-        )
-}
-
-// `drop`, with the places to leave out.
-fn drop_command<'a>(alloc: Global) -> Result<Command<'a>, AllocError>
-    ensures { IfOk result (IsShaped drop_shape) }
-{
-    outlined(alloc, &DROP)?.arg(places(alloc))
-}
-
-// The sessions to join, one or more.
-fn sessions<'a>(alloc: Global) -> Arg<'a>
-    ensures rule { rule_of result ≡ sessions_rule }
-    ensures local { result.global ≡ false }
-{
-    Arg::new(alloc, "SESSION")
-        .required(true)
-        .num_args(1usize..)
-        .help("The session files to join, in this order; a file may be named several times")
-}
-
-// Whether one datagram of each session is written in turn.
-fn turns<'a>(alloc: Global) -> Arg<'a>
-    ensures rule { rule_of result ≡ turns_rule }
-    ensures local { result.global ≡ false }
-{
-    Arg::new(alloc, "turns")
-        .long("turns")
-        .action(ArgAction::SetTrue)
-        .help("One datagram of each session in turn, not one session after the other")
-}
-
-// `join`, with the sessions.
-fn join_command<'a>(alloc: Global) -> Result<Command<'a>, AllocError>
-    ensures { IfOk result (IsShaped join_shape) }
-{
-    let command = outlined(alloc, &JOIN)?;
-    command.arg(sessions(alloc))?.arg(turns(alloc))
-}
-
-// The parser with a command last, where both were made.
-fn with_command<'a>(
-    parser: Result<Command<'a>, AllocError>,
-    command: Result<Command<'a>, AllocError>,
-) -> Result<Command<'a>, AllocError>
-    ensures { IfOk result (AddsCommand parser.entry command.entry) }
-{
-    parser?.subcommand(command?)
-}
-
-// The parser with an outlined command last, where both were made.
-fn with_outlined<'a>(
+// The parser with these commands last, in this order.
+fn with_commands<'a>(
     alloc: Global,
-    parser: Result<Command<'a>, AllocError>,
-    outline: &Outline<'a>,
+    parser: Command<'a>,
+    outlines: &[Outline<'a>],
 ) -> Result<Command<'a>, AllocError>
-    ensures { IfOk result (AddsShape parser.entry (outline_shape outline.now)) }
+    ensures { IfOk result (AddsCommands parser.entry (map outline_shape outlines.now)) }
 {
-    with_command(parser, outlined(alloc, outline))
+    let mut parser = parser;
+    for outline in outlines {
+        parser = parser.subcommand(outlined(alloc, outline)?)?;
+    }
+    Ok(parser)
 }
 
 /// The grammar of the whole command line.
@@ -352,14 +377,6 @@ pub(crate) fn grammar<'a>(alloc: Global) -> Result<Command<'a>, AllocError>
         .about(ABOUT)
         .after_help(help::ALCRS)
         .subcommand_required(true);
-    let parser = with_command(Ok(parser), encode_command(alloc));
-    let parser = with_outlined(alloc, parser, &CERTIFY);
-    let parser = with_outlined(alloc, parser, &CONVERT);
-    let parser = with_outlined(alloc, parser, &CHECK);
-    let parser = with_command(parser, drop_command(alloc));
-    let parser = with_command(parser, join_command(alloc));
-    let parser = with_outlined(alloc, parser, &DECODE);
-    let parser = with_outlined(alloc, parser, &FOLLOW);
-    let parser = with_outlined(alloc, parser, &TWIN);
-    with_outlined(alloc, parser, &SHOW)
+    let parser = parser.subcommand(encode_command(alloc)?)?;
+    with_commands(alloc, parser, &OUTLINES)
 }
