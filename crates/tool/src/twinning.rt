@@ -33,7 +33,8 @@ fn read_inputs<'a, F: Folder>(
     object: &'a str,
     certificate: &'a str,
 ) -> Result<Inputs, Fault<'a>>
-    ensures ok { IfOk result (AreInputs (F.files folder.now) session.now object.now certificate.now) }
+    ensures ok { IfOk result (AreInputs (F.files folder.now) session.now object.now
+        certificate.now) }
     ensures fault { IfErr result (AreUnread (F.files folder.now) session.now object.now
         certificate.now) }
 {
