@@ -2,16 +2,17 @@
 use Rattle.std.proofs.Common.{◌≡◌, ◌<◌, ◌+◌, ℕ, Bool, false, List, [], ◌∷◌, ◌++◌, Option, length, get_or, set, refl, sym, ap, ◌∙◌, arith, append_assoc, inl, inr, subst}
 use Rattle.std.specs.Prelude.{Some, None, IfSome}
 use Rattle.std.proofs.lemmas.List.{append-nil, length-append, length-set, length_push, take_all, get_or-set_same, get_or-set_other}
-use Rattle.std.specs.Io.KnownBytes.{Appends, Consumes}
+use Rattle.std.specs.Io.KnownBytes.{Appends, Consumes, IsAtEnd}
 use Rattle.streams.proofs.Writes.{then_appends, then_some}
 use Rattle.streams.specs.Pieces.{AppendsSome}
-use Rattle.session.specs.Frames.{frame, frames, AreShort, IsNoFrame, IsReadFault, IsSessionFault, StopsAt}
+use Rattle.session.specs.Frames.{frame, frames, AreShort, HasRead, IsNoFrame, IsReadFault, IsSessionFault, StopsAt}
 use Rattle.session.specs.Joined.{joined}
-use Rattle.session.specs.Joining.{IsUnjoined}
+use Rattle.session.specs.Turns.{taken}
+use Rattle.session.specs.Joining.{IsJoined, IsUnjoined}
 use Rattle.session.specs.Copying.{HasJoined, IsCopied, IsOver, IsUnread, IsUnwritten, IsWritten}
 use Rattle.session.specs.declared.frame.FrameFault.{FrameFault}
 use Rattle.session.specs.declared.frame.FrameFault.TheVariants.{CutLength, CutDatagram, TooLong, Io, NoMemory, NoSuchPlace}
-use Rattle.session.proofs.Joins.{each_set, same_or_not}
+use Rattle.session.proofs.Joins.{each_set, same_or_not, same_joined}
 use Rattle.session.proofs.Sessions.{frames_push, short_push}
 
 nothing_more : (a : Option (List ℕ)) → Appends a a []
@@ -29,12 +30,6 @@ consumes_more (Some a) None c ds d p q = absurd p
 consumes_more (Some a) (Some b) None ds d p q = absurd q
 consumes_more (Some a) (Some b) (Some c) ds d p q =
     p ∙ ap (λ (l : List ℕ). frames ds ++ l) q ∙ sym (append_assoc (frames ds) (frame d) c) ∙ ap (λ (l : List ℕ). l ++ c) (sym (frames_push ds d))
-
--- what was read is a beginning
-begins : (a b : Option (List ℕ)) (xs : List ℕ) → Consumes a b xs → IfSome a (λ x. (rest : List ℕ) × (x ≡ xs ++ rest))
-begins None b xs p = tt
-begins (Some a) None xs p = absurd p
-begins (Some a) (Some b) xs p = (b, p)
 
 -- all that was written is a beginning of it
 all_some : (a b : Option (List ℕ)) (xs : List ℕ) → Appends a b xs → AppendsSome a b xs
@@ -65,7 +60,7 @@ session_fault (NoSuchPlace place) a b c failed ds p short why = why
 
 -- nothing was read or written
 pub none_joined : (turns : Bool) (old : List (Option (List ℕ))) (before : Option (List ℕ)) (room : ℕ) (lists : List (List (List ℕ)))
-    → length lists ≡ length old → ((i : ℕ) → get_or lists i [] ≡ []) → joined turns lists ≡ []
+    → length lists ≡ length old → ((i : ℕ) → get_or lists i [] ≡ []) → taken turns lists ≡ []
     → HasJoined turns old old before before room room 0 lists
 none_joined turns old before room lists many empty nothing = record {
   many = many;
@@ -82,7 +77,7 @@ module _ (turns : Bool) (old new : List (Option (List ℕ))) (before now : Optio
 
   -- where another reader's frame is the next of what is joined
   abbrev pub IsNext : ℕ → Type 0
-  IsNext p = (d : List ℕ) → joined turns (gaining p d) ≡ joined turns lists ++ d ∷ []
+  IsNext p = (d : List ℕ) → taken turns (gaining p d) ≡ taken turns lists ++ d ∷ []
 
   consumed_set : (p : ℕ) (left : Option (List ℕ)) (ds : List (List ℕ)) → p < length lists → p < length new → Consumes (get_or old p None) left (frames ds)
       → (i : ℕ) → Consumes (get_or old i None) (get_or (set new p left) i None) (frames (get_or (set lists p ds) i []))
@@ -92,8 +87,22 @@ module _ (turns : Bool) (old new : List (Option (List ℕ))) (before now : Optio
     | inr n ↦ rw (get_or-set_other new p i left None n, get_or-set_other lists p i ds [] n) (has.consumed i)
   ]
 
-  begun : (i : ℕ) → IfSome (get_or old i None) (λ x. (rest : List ℕ) × (x ≡ frames (get_or lists i []) ++ rest))
-  begun i = begins (get_or old i None) (get_or new i None) (frames (get_or lists i [])) (has.consumed i)
+  begun : (i : ℕ) → (left : Option (List ℕ)) × HasRead (get_or old i None) left (get_or lists i [])
+  begun i = (get_or new i None, record { consumed = has.consumed i; each = has.each i })
+
+  some_joined : (after : Option (List ℕ)) → AppendsSome before after (frames (taken turns lists)) → AppendsSome before after (frames (joined turns lists))
+  some_joined after some = subst (λ ds. AppendsSome before after (frames ds)) (sym (same_joined turns lists)) some
+
+  -- all was read and written
+  pub all_joined : ((i : ℕ) → IsAtEnd (get_or new i None)) → IsJoined turns old new before now count
+  all_joined ends = record {
+    lists = lists;
+    many = has.many;
+    read = λ i. record { consumed = has.consumed i; each = has.each i };
+    ends = ends;
+    written = subst (λ ds. Appends before now (frames ds)) (sym (same_joined turns lists)) has.written.gained;
+    counted = has.counted ∙ ap length (sym (same_joined turns lists));
+  }
 
   -- one frame more
   pub copied : (p : ℕ) (left after : Option (List ℕ)) (room_then : ℕ) (one : IsCopied (get_or new p None) left now after room_now room_then)
@@ -101,20 +110,20 @@ module _ (turns : Bool) (old new : List (Option (List ℕ))) (before now : Optio
       → HasJoined turns old (set new p left) before after room room_then (count + 1) (gaining p one.datagram)
   copied p left after room_then one l m next =
       let d : List ℕ = one.datagram in
-      let whole : frames (joined turns (gaining p d)) ≡ frames (joined turns lists) ++ frame d = ap frames (next d) ∙ frames_push (joined turns lists) d in
-      let size : length (frames (joined turns lists) ++ frame d) ≡ length (frames (joined turns lists)) + length (frame d) = length-append (frames (joined turns lists)) (frame d) in
+      let whole : frames (taken turns (gaining p d)) ≡ frames (taken turns lists) ++ frame d = ap frames (next d) ∙ frames_push (taken turns lists) d in
+      let size : length (frames (taken turns lists) ++ frame d) ≡ length (frames (taken turns lists)) + length (frame d) = length-append (frames (taken turns lists)) (frame d) in
       let fits_before = has.written.fits in
       let fits_one = one.written.fits in
-      let more : length (joined turns lists ++ d ∷ []) ≡ length (joined turns lists) + 1 = length_push (joined turns lists) d in
+      let more : length (taken turns lists ++ d ∷ []) ≡ length (taken turns lists) + 1 = length_push (taken turns lists) d in
       let counted = has.counted in
-      let counted_then : count + 1 ≡ length (joined turns lists ++ d ∷ []) = omega (arith, more, counted) in
+      let counted_then : count + 1 ≡ length (taken turns lists ++ d ∷ []) = omega (arith, more, counted) in
       record {
         many = length-set lists p (get_or lists p [] ++ d ∷ []) ∙ has.many;
         consumed = consumed_set p left (get_or lists p [] ++ d ∷ []) l m
             (consumes_more (get_or old p None) (get_or new p None) left (get_or lists p []) d (has.consumed p) one.consumed);
         each = each_set (λ i ds. AreShort ds) lists p (get_or lists p [] ++ d ∷ []) [] l (short_push (get_or lists p []) d (has.each p) one.short) (λ i n. has.each i);
         written = subst (λ bytes. IsWritten before after room room_then bytes) (sym whole) (record {
-          gained = then_appends before now after (frames (joined turns lists)) (frame d) has.written.gained one.written.gained;
+          gained = then_appends before now after (frames (taken turns lists)) (frame d) has.written.gained one.written.gained;
           fits = omega (arith, size, fits_before, fits_one);
         });
         counted = counted_then ∙ ap length (sym (next d));
@@ -131,8 +140,8 @@ module _ (turns : Bool) (old new : List (Option (List ℕ))) (before now : Optio
       | inr n ↦ rw (get_or-set_other new p i left None n) (has.consumed i)
     ];
     each = has.each;
-    written = subst (λ (a : Option (List ℕ)). IsWritten before a room room_then (frames (joined turns lists))) (sym one.same)
-        (subst (λ (n : ℕ). IsWritten before now room n (frames (joined turns lists))) (sym one.room) has.written);
+    written = subst (λ (a : Option (List ℕ)). IsWritten before a room room_then (frames (taken turns lists))) (sym one.same)
+        (subst (λ (n : ℕ). IsWritten before now room n (frames (taken turns lists))) (sym one.room) has.written);
     counted = has.counted;
   }
     where
@@ -148,9 +157,8 @@ module _ (turns : Bool) (old new : List (Option (List ℕ))) (before now : Optio
   no_memory sound failed writer_failed = record {
     lists = lists;
     many = has.many;
-    each = has.each;
-    begins = begun;
-    some = all_some before now (frames (joined turns lists)) has.written.gained;
+    read = begun;
+    some = some_joined now (all_some before now (frames (taken turns lists)) has.written.gained);
     because = inr (inr refl);
   }
 
@@ -160,9 +168,9 @@ module _ (turns : Bool) (old new : List (Option (List ℕ))) (before now : Optio
   unread fault p sound failed left after writer_failed why l = record {
     lists = lists;
     many = has.many;
-    each = has.each;
-    begins = begun;
-    some = subst (λ (a : Option (List ℕ)). AppendsSome before a (frames (joined turns lists))) (sym why.same) (all_some before now (frames (joined turns lists)) has.written.gained);
+    read = begun;
+    some = subst (λ (a : Option (List ℕ)). AppendsSome before a (frames (joined turns lists))) (sym why.same)
+        (some_joined now (all_some before now (frames (taken turns lists)) has.written.gained));
     because = inl (record {
       place = p;
       inside = l;
@@ -177,17 +185,23 @@ module _ (turns : Bool) (old new : List (Option (List ℕ))) (before now : Optio
   unwritten fault p sound failed left after writer_failed why l m next =
       let d : List ℕ = why.datagram in
       let ds : List (List ℕ) = get_or lists p [] ++ d ∷ [] in
-      let whole : frames (joined turns (gaining p d)) ≡ frames (joined turns lists) ++ frame d = ap frames (next d) ∙ frames_push (joined turns lists) d in
-      let size : length (frames (joined turns lists) ++ frame d) ≡ length (frames (joined turns lists)) + length (frame d) = length-append (frames (joined turns lists)) (frame d) in
+      let whole : frames (taken turns (gaining p d)) ≡ frames (taken turns lists) ++ frame d = ap frames (next d) ∙ frames_push (taken turns lists) d in
+      let size : length (frames (taken turns lists) ++ frame d) ≡ length (frames (taken turns lists)) + length (frame d) = length-append (frames (taken turns lists)) (frame d) in
       let one = consumes_more (get_or old p None) (get_or new p None) left (get_or lists p []) d (has.consumed p) why.consumed in
       let fits = has.written.fits in
       let full = why.full in
-      let beyond : room < length (frames (joined turns lists) ++ frame d) = omega (arith, size, fits, full) in
+      let beyond : room < length (frames (taken turns lists) ++ frame d) = omega (arith, size, fits, full) in
+      let joined_then : frames (joined turns (gaining p d)) ≡ frames (taken turns lists) ++ frame d = ap frames (same_joined turns (gaining p d)) ∙ whole in
       record {
         lists = gaining p d;
         many = length-set lists p ds ∙ has.many;
-        each = each_set (λ i ds. AreShort ds) lists p ds [] l (short_push (get_or lists p []) d (has.each p) why.short) (λ i n. has.each i);
-        begins = λ i. begins (get_or old i None) (get_or (set new p left) i None) (frames (get_or (gaining p d) i [])) (consumed_set p left ds l m one i);
-        some = subst (λ bytes. AppendsSome before after bytes) (sym whole) (then_some before now after (frames (joined turns lists)) (frame d) has.written.gained why.some);
-        because = inr (inl (why.io, why.fails, subst (λ bytes. room < length bytes) (sym whole) beyond));
+        read = λ i. (
+          get_or (set new p left) i None,
+          record {
+            consumed = consumed_set p left ds l m one i;
+            each = each_set (λ j xs. AreShort xs) lists p ds [] l (short_push (get_or lists p []) d (has.each p) why.short) (λ j n. has.each j) i;
+          },
+        );
+        some = subst (λ bytes. AppendsSome before after bytes) (sym joined_then) (then_some before now after (frames (taken turns lists)) (frame d) has.written.gained why.some);
+        because = inr (inl (why.io, why.fails, subst (λ bytes. room < length bytes) (sym joined_then) beyond));
       }

@@ -1,5 +1,5 @@
 -- Lists that are joined, one member more.
-use Rattle.std.proofs.Common.{◌≡◌, ◌≢◌, ◌<◌, ◌≤◌, ◌+◌, ◌⊎◌, ℕ, zero, suc, true, false, eqb, leb, List, [], ◌∷◌, ◌++◌, length, take, get_or, set, refl, sym, ap, ◌∙◌, arith, append_assoc, inl, inr, subst}
+use Rattle.std.proofs.Common.{◌≡◌, ◌≢◌, ◌<◌, ◌≤◌, ◌+◌, ◌⊎◌, ℕ, zero, suc, Bool, true, false, eqb, leb, List, [], ◌∷◌, ◌++◌, length, take, get_or, set, refl, sym, ap, ◌∙◌, arith, append_assoc, length-append, inl, inr, subst}
 use Rattle.std.specs.Prelude.{flat_map}
 use Rattle.std.specs.Option.{option_to_list}
 use Rattle.std.proofs.Math.Nat.{max-le, le-max_left, le-max_right}
@@ -7,7 +7,9 @@ use Rattle.std.proofs.lemmas.Bool.{eqb-true, eqb-false, leb-true, leb-false}
 use Rattle.std.proofs.lemmas.Grind.{flat_map-append}
 use Rattle.std.proofs.lemmas.List.{append-nil, take_more, get_or_append_left, get_or_push, length_push, get_or-set_same, get_or-set_other}
 use Rattle.std.proofs.lemmas.Option.{slice_get-get_or, slice_get_past}
-use Rattle.session.specs.Joined.{at_round, round, rounds, longest, in_turns, one_after_other}
+use Rattle.lists.specs.Below.{below}
+use Rattle.session.specs.Joined.{round, joined}
+use Rattle.session.specs.Turns.{at_round, rounds, longest, in_turns, one_after_other, taken}
 
 pub at_place : {X : Type 0} (r : ℕ) (xs : List X) (d : X) → r < length xs → at_round r xs ≡ get_or xs r d ∷ []
 at_place r xs d l = ap option_to_list (slice_get-get_or xs r d l)
@@ -150,3 +152,22 @@ next_turn {X = X} lists p x r l size before behind =
       where
         lt_of : (a b : ℕ) → a ≤ b → a ≢ b → a < b
         lt_of a b le n = omega (arith, le, n)
+
+-- ---- up to any place behind the longest list's end
+
+rounds_below : {X : Type 0} (lists : List (List X)) (n : ℕ) → flat_map (round lists) (below n) ≡ rounds lists n
+unfolding below
+rounds_below lists zero = refl
+rounds_below {X = X} lists (suc n) =
+    flat_map-append (round lists) (below n) (n ∷ []) ∙ ap (λ (ys : List X). flat_map (round lists) (below n) ++ ys) (append-nil (round lists n))
+    ∙ ap (λ (ys : List X). ys ++ round lists n) (rounds_below lists n)
+
+longest_total : {X : Type 0} (lists : List (List X)) → longest lists ≤ length (one_after_other lists)
+longest_total [] = omega arith
+longest_total (xs ∷ lists) =
+    let l = length-append xs (one_after_other lists) in
+    max-le (omega (arith, l)) (let h = longest_total lists in omega (arith, h, l))
+
+pub same_joined : {X : Type 0} (turns : Bool) (lists : List (List X)) → joined turns lists ≡ taken turns lists
+same_joined false lists = refl
+same_joined true lists = rounds_below lists (length (one_after_other lists)) ∙ enough lists (length (one_after_other lists)) (longest_total lists)

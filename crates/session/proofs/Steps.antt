@@ -3,7 +3,7 @@ use Rattle.std.proofs.Common.{◌≡◌, ◌≢◌, ◌<◌, ◌≤◌, ◌+◌,
 use Rattle.std.specs.Prelude.{None, Result, Ok, Err, IfErr, IsErrAnd}
 use Rattle.std.proofs.lemmas.List.{length-map, length_push, map-set, get_or-map, get_or-set_same, get_or-set_other, get_or_past, set-get_or, drop_more, drop-set-lt, length-set, get_or_default}
 use Rattle.std.specs.Io.KnownBytes.{IsAtEnd}
-use Rattle.session.specs.Joined.{joined, longest, one_after_other, rounds}
+use Rattle.session.specs.Turns.{taken, longest, one_after_other, rounds}
 use Rattle.session.specs.Joining.{IsUnjoined}
 use Rattle.session.specs.Copying.{HasJoined, IsAfterRounds, IsAtReader, IsCopied, IsInRound, IsOver, IsUnread, IsUnwritten, steps_left}
 use Rattle.session.specs.declared.frame.FrameFault.{FrameFault}
@@ -62,11 +62,26 @@ module _ {X : Type 0} (remaining : X → Option (List ℕ)) (sound failed : X �
       unwritten turns (map remaining old) (map remaining now) before mid room room_now count lists has fault p (map sound old) (map failed (set now p y)) (remaining y) after writer_failed
       (rw here why) in_lists in_now next
 
+-- a place is before another or not
+before_or_behind : (i n : ℕ) → (i < n) ⊎ (n ≤ i)
+before_or_behind i zero = inr (omega arith)
+before_or_behind zero (suc n) = inl (omega arith)
+before_or_behind (suc i) (suc n) = elim (before_or_behind i n) [
+  | inl m ↦ inl (omega (arith, m))
+  | inr m ↦ inr (omega (arith, m))
+]
+
 -- ---- one reader after the other
 
 module _ (new : List (Option (List ℕ))) (lists : List (List (List ℕ))) (p : ℕ) (at : IsAtReader p new lists) where
-  pub whole_next : p < length lists → (d : List ℕ) → joined false (set lists p (get_or lists p [] ++ d ∷ [])) ≡ joined false lists ++ d ∷ []
+  pub whole_next : p < length lists → (d : List ℕ) → taken false (set lists p (get_or lists p [] ++ d ∷ [])) ≡ taken false lists ++ d ∷ []
   whole_next l d = next_whole lists p d l at.behind
+
+  pub whole_ends : length new ≤ p → (i : ℕ) → IsAtEnd (get_or new i None)
+  whole_ends l i = elim (before_or_behind i p) [
+    | inl m ↦ at.before i m
+    | inr m ↦ subst (λ o. IsAtEnd o) (sym (get_or_past new i None (omega (arith, l, m)))) tt
+  ]
 
   pub whole_copied : (left : Option (List ℕ)) (ds : List (List ℕ)) → IsAtReader p (set new p left) (set lists p ds)
   whole_copied left ds = record {
@@ -127,7 +142,7 @@ module _ (r p : ℕ) (ended : List Bool) (new : List (Option (List ℕ))) (lists
     size_here : length (get_or lists p []) ≡ r
     size_here = subst (λ (b : Bool). IsAfterRounds r b (get_or new p None) (get_or lists p [])) going (in_round.behind p (omega arith))
 
-    pub turn_next : p < length lists → (d : List ℕ) → joined true (set lists p (get_or lists p [] ++ d ∷ [])) ≡ joined true lists ++ d ∷ []
+    pub turn_next : p < length lists → (d : List ℕ) → taken true (set lists p (get_or lists p [] ++ d ∷ [])) ≡ taken true lists ++ d ∷ []
     turn_next l d =
         next_turn lists p d r l size_here (λ i m. at_most (r + 1) (get_or ended i true) (get_or new i None) (get_or lists i []) (in_round.before i m))
         (λ i m. at_most r (get_or ended i true) (get_or new i None) (get_or lists i []) (in_round.behind i (omega (arith, m))))
@@ -173,34 +188,18 @@ module _ (r p : ℕ) (ended : List Bool) (new : List (Option (List ℕ))) (lists
   pub next_round : length ended ≤ p → IsInRound (r + 1) 0 ended new lists
   next_round l = record {
     before = λ i k. absurd (omega (arith, k));
-    behind = λ i k. elim (within i p) [
+    behind = λ i k. elim (before_or_behind i p) [
       | inl m ↦ in_round.before i m
       | inr m ↦ ended_later r (r + 1) (get_or ended i true) (get_or new i None) (get_or lists i []) (get_or_past ended i true (omega (arith, l, m))) (omega arith) (in_round.behind i m)
     ];
   }
-    where
-      within : (i n : ℕ) → (i < n) ⊎ (n ≤ i)
-      within i zero = inr (omega arith)
-      within zero (suc n) = inl (omega arith)
-      within (suc i) (suc n) = elim (within i n) [
-        | inl m ↦ inl (omega (arith, m))
-        | inr m ↦ inr (omega (arith, m))
-      ]
 
   -- all have ended
   pub all_over : length ended ≤ p → ((i : ℕ) → i < p → get_or ended i true ≡ true) → (i : ℕ) → IsAtEnd (get_or new i None)
-  all_over l all i = elim (within i p) [
+  all_over l all i = elim (before_or_behind i p) [
     | inl m ↦ ended_end (r + 1) (get_or ended i true) (get_or new i None) (get_or lists i []) (all i m) (in_round.before i m)
     | inr m ↦ ended_end r (get_or ended i true) (get_or new i None) (get_or lists i []) (get_or_past ended i true (omega (arith, l, m))) (in_round.behind i m)
   ]
-    where
-      within : (i n : ℕ) → (i < n) ⊎ (n ≤ i)
-      within i zero = inr (omega arith)
-      within zero (suc n) = inl (omega arith)
-      within (suc i) (suc n) = elim (within i n) [
-        | inl m ↦ inl (omega (arith, m))
-        | inr m ↦ inr (omega (arith, m))
-      ]
 
 -- ---- before the first step
 
@@ -220,7 +219,7 @@ none_longest : {X : Type 0} (xs : List X) → longest (blank xs) ≡ 0
 none_longest [] = refl
 none_longest (x ∷ xs) = let e = none_longest xs in rw e refl
 
-none_yet : {X : Type 0} (turns : Bool) (xs : List X) → joined turns (blank xs) ≡ []
+none_yet : {X : Type 0} (turns : Bool) (xs : List X) → taken turns (blank xs) ≡ []
 none_yet true xs = ap (rounds (blank xs)) (none_longest xs)
 none_yet false xs = none_whole xs
 

@@ -11,10 +11,10 @@ use Rattle.std.proofs.lemmas.Bool.{cases_order, eq-eqb, ne_eqb, le-ltb, lt-ltb}
 use Rattle.std.specs.Ordering.{nat_cmp, is_eq}
 use Rattle.std.specs.BTreeSet.{BTreeSet, contains}
 use Rattle.lists.specs.Selection.{rest, rest_from, is_among, first_outside}
-use Rattle.session.specs.Frames.{frame, frames, most_bytes, AreShort, IsNoFrame, StopsAt, IsReadFault}
+use Rattle.session.specs.Frames.{frame, frames, most_bytes, HasRead, IsReadFault}
 use Rattle.session.specs.declared.frame.FrameFault.{FrameFault}
 use Rattle.session.specs.declared.frame.FrameFault.TheVariants as fault
-use Rattle.session.specs.Thinning.{frames_left, IsReadTo, IsReadUp, IsThinned, IsReadWithout, WritesSome, HasNoRoom, IsUnthinned}
+use Rattle.session.specs.Thinning.{frames_left, ReadsSome, IsThinned, WritesSome, IsUnthinned}
 use Rattle.session.specs.ThinningSteps.{IsSetOf, HasCopied}
 use Rattle.session.proofs.Sessions.{frames_push, short_push}
 
@@ -69,11 +69,6 @@ rest_push {X = X} lost xs x n v many e =
     let z : 0 + length xs ≡ n = omega (arith, many) in
     left_suc lost 0 xs x ∙ ap (λ (k : ℕ). rest lost xs ++ cond {A = List X} (lost k) [] (x ∷ [])) z ∙ ap (λ (w : Bool). rest lost xs ++ cond {A = List X} w [] (x ∷ [])) e
 
-stops : (e : FrameFault) (a mid : Option (List ℕ)) (ds : List (List ℕ)) → Consumes a mid (frames ds) → AreShort ds → IfSome mid (IsNoFrame e) → IfSome a (StopsAt e)
-stops e None mid ds c each h = tt
-stops e (Some x) None ds c each h = absurd c
-stops e (Some x) (Some y) ds c each h = record { datagrams = ds; front = frames ds; rest = y; framed = record { whole = refl; each = each }; whole = c; stops = h }
-
 nothing_consumed : (a : Option (List ℕ)) → Consumes a a []
 nothing_consumed None = tt
 nothing_consumed (Some x) = refl
@@ -95,12 +90,15 @@ begins places a b room = record {
 }
 
 module _ (places : List ℕ) (a mid b m : Option (List ℕ)) (room room_now n k : ℕ) (h : HasCopied places a mid b m room room_now n k) where
+  was_read : HasRead a mid h.datagrams
+  was_read = record { consumed = h.consumed; each = h.each }
+
   -- no more was read
   pub unread : (e : FrameFault) (sound : Bool) (new : Option (List ℕ)) (failed writer_failed : Bool) → IsReadFault e mid new failed → (e ≡ fault.Io → sound ≡ false)
       → IsUnthinned e places sound a new failed room writer_failed
-  unread fault.CutLength sound new failed writer_failed r io = stops fault.CutLength a mid h.datagrams h.consumed h.each r.0
-  unread fault.CutDatagram sound new failed writer_failed r io = stops fault.CutDatagram a mid h.datagrams h.consumed h.each r.0
-  unread fault.TooLong sound new failed writer_failed r io = stops fault.TooLong a mid h.datagrams h.consumed h.each r.0
+  unread fault.CutLength sound new failed writer_failed r io = (h.datagrams, mid, was_read, r)
+  unread fault.CutDatagram sound new failed writer_failed r io = (h.datagrams, mid, was_read, r)
+  unread fault.TooLong sound new failed writer_failed r io = (h.datagrams, mid, was_read, r)
   unread fault.Io sound new failed writer_failed r io = inl (io refl, r)
   unread fault.NoMemory sound new failed writer_failed r io = tt
   unread (fault.NoSuchPlace p) sound new failed writer_failed r io = absurd r
@@ -109,23 +107,22 @@ module _ (places : List ℕ) (a mid b m : Option (List ℕ)) (room room_now n k 
   pub some : WritesSome places a b m
   some =
       let left = frames_left places h.datagrams in
-      (h.datagrams, mid, record { consumed = h.consumed; each = h.each }, (length left, subst (λ (x : List ℕ). Appends b m x) (sym (take_all (length left) left (omega arith))) h.gained))
+      (h.datagrams, mid, was_read, (length left, subst (λ (x : List ℕ). Appends b m x) (sym (take_all (length left) left (omega arith))) h.gained))
 
   -- the reader has ended
-  read_up : IsAtEnd mid → IsReadUp a mid h.datagrams
-  read_up over = record { consumed = h.consumed; each = h.each; end = over }
-
   pub thinned : IsAtEnd mid → first_outside n places ≡ None → IsThinned places a mid b m k
   thinned over inside = record {
     datagrams = h.datagrams;
-    read = read_up over;
+    read = was_read;
+    end = over;
     inside = ap (λ (l : ℕ). first_outside l places) h.many ∙ inside;
     written = h.gained;
     counted = sym h.left;
   }
 
-  pub without : (place : ℕ) → IsAtEnd mid → first_outside n places ≡ Some place → IsReadWithout places a mid place
-  without place over outside = (h.datagrams, read_up over, ap (λ (l : ℕ). first_outside l places) h.many ∙ outside)
+  pub without : (place : ℕ) (sound failed : Bool) (writer_room : ℕ) (writer_failed : Bool) → IsAtEnd mid → first_outside n places ≡ Some place
+      → IsUnthinned (fault.NoSuchPlace place) places sound a mid failed writer_room writer_failed
+  without place sound failed writer_room writer_failed over outside = (over, h.datagrams, was_read, ap (λ (l : ℕ). first_outside l places) h.many ∙ outside)
 
   -- nothing more was there
   pub at_end : (next : Option (List ℕ)) → Consumes mid next [] → HasCopied places a next b m room room_now n k
@@ -147,7 +144,7 @@ module _ (places : List ℕ) (a mid b m : Option (List ℕ)) (room room_now n k 
     read_on : Consumes a next (frames more)
     read_on = subst (λ (x : List ℕ). Consumes a next x) (sym (frames_push h.datagrams d)) (then_consumes a mid next (frames h.datagrams) (frame d) h.consumed one)
 
-    read_to : length d ≤ most_bytes → IsReadTo a next more
+    read_to : length d ≤ most_bytes → HasRead a next more
     read_to short = record { consumed = read_on; each = short_push h.datagrams d h.each short }
 
     counted : length more ≡ n + 1
@@ -197,5 +194,5 @@ module _ (places : List ℕ) (a mid b m : Option (List ℕ)) (room room_now n k 
       unwritten m2 short begun =
           (more, next, read_to short, subst (λ (x : List ℕ). AppendsSome b m2 x) (sym bytes_left) (then_some b m m2 (frames_left places h.datagrams) (frame d) h.gained begun))
 
-      pub no_room : length d ≤ most_bytes → room_now < length (frame d) → HasNoRoom places a room
+      pub no_room : length d ≤ most_bytes → room_now < length (frame d) → ReadsSome a (λ ds left. room < length (frames_left places ds))
       no_room short full = (more, next, read_to short, omega (arith, size_left, full, h.fits))

@@ -3,7 +3,7 @@ use Rattle.std.specs.Prelude.{◌≡◌, ◌≤◌, ◌<◌, ◌+◌, ℕ, suc, 
 use Rattle.std.specs.Io.KnownBytes.{Appends, Consumes, IsAtEnd}
 use Rattle.streams.specs.Pieces.{AppendsSome}
 use Rattle.session.specs.Frames.{frame, frames, most_bytes, AreShort, IsReadFault}
-use Rattle.session.specs.Joined.{joined}
+use Rattle.session.specs.Turns.{taken}
 use Rattle.session.specs.declared.frame.FrameFault.{FrameFault}
 use Rattle.session.specs.declared.frame.FrameFault.TheVariants.{Io}
 
@@ -52,8 +52,8 @@ pub record HasJoined (turns : Bool) (old new : List (Option (List ℕ))) (before
   pub many : length lists ≡ length old
   pub consumed : (i : ℕ) → Consumes (slice_index_or old i None) (slice_index_or new i None) (frames (slice_index_or lists i []))
   pub each : (i : ℕ) → AreShort (slice_index_or lists i [])
-  pub written : IsWritten before after room_before room_after (frames (joined turns lists))
-  pub counted : count ≡ length (joined turns lists)
+  pub written : IsWritten before after room_before room_after (frames (taken turns lists))
+  pub counted : count ≡ length (taken turns lists)
 
 -- a reader that has given a datagram in each of n rounds, or has ended before
 abbrev pub IsAfterRounds : ℕ → Bool → Option (List ℕ) → List (List ℕ) → Type 0

@@ -1,32 +1,13 @@
 -- Lists joined into one.
-use Rattle.std.specs.Prelude.{ℕ, zero, suc, max, Bool, List, [], ◌∷◌, ◌++◌, length, flat_map, slice_get, if◌then◌else◌}
+use Rattle.std.specs.Prelude.{ℕ, Bool, true, false, List, length, flat_map, slice_get}
 use Rattle.std.specs.Option.{option_to_list}
-
--- the member at place r of a list that has one
-abbrev pub at_round : {X : Type 0} → ℕ → List X → List X
-at_round r xs = option_to_list (slice_get xs r)
+use Rattle.lists.specs.Below.{below}
 
 -- round r: the members at place r, list by list
 abbrev pub round : {X : Type 0} → List (List X) → ℕ → List X
-round lists r = flat_map (at_round r) lists
+round lists r = flat_map (λ xs. option_to_list (slice_get xs r)) lists
 
--- the first n rounds
-abbrev pub rounds : {X : Type 0} → List (List X) → ℕ → List X
-rounds lists zero = []
-rounds lists (suc n) = rounds lists n ++ round lists n
-
--- how many members the longest has
-abbrev pub longest : {X : Type 0} → List (List X) → ℕ
-longest [] = 0
-longest (xs ∷ lists) = max (length xs) (longest lists)
-
--- one member of each list in turn, lists that have ended being passed over
-abbrev pub in_turns : {X : Type 0} → List (List X) → List X
-in_turns lists = rounds lists (longest lists)
-
--- one list after the other
-abbrev pub one_after_other : {X : Type 0} → List (List X) → List X
-one_after_other lists = flat_map (λ xs. xs) lists
-
+-- one list after the other; or in turns, round by round: those behind the end of the longest list are empty
 abbrev pub joined : {X : Type 0} → Bool → List (List X) → List X
-joined turns lists = if turns then in_turns lists else one_after_other lists
+joined false lists = flat_map (λ xs. xs) lists
+joined true lists = flat_map (round lists) (below (length (flat_map (λ xs. xs) lists)))

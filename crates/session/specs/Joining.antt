@@ -1,23 +1,18 @@
 -- Readers of frames that are joined in a writer.
-use Rattle.std.specs.Prelude.{◌≡◌, ◌<◌, ◌⊎◌, ℕ, Bool, true, false, List, [], ◌++◌, Option, None, length, slice_index_or, IfSome}
-use Rattle.std.specs.Io.KnownBytes.{Appends, Consumes, IsAtEnd}
+use Rattle.std.specs.Prelude.{◌≡◌, ◌<◌, ◌⊎◌, ℕ, Bool, true, false, List, [], Option, None, length, slice_index_or}
+use Rattle.std.specs.Io.KnownBytes.{Appends, IsAtEnd}
 use Rattle.streams.specs.Pieces.{AppendsSome}
-use Rattle.session.specs.Frames.{frames, AreShort, IsSessionFault}
+use Rattle.session.specs.Frames.{frames, HasRead, IsSessionFault}
 use Rattle.session.specs.Joined.{joined}
 use Rattle.session.specs.declared.frame.FrameFault.{FrameFault}
 use Rattle.session.specs.declared.frame.FrameFault.TheVariants.{Io, NoMemory}
-
--- all that a reader had left was these datagrams' frames
-pub record IsReadWhole (old new : Option (List ℕ)) (datagrams : List (List ℕ)) : Type 0 where
-  pub consumed : Consumes old new (frames datagrams)
-  pub each : AreShort datagrams
-  pub end : IsAtEnd new
 
 -- All that the readers had left was read, a list of datagrams of each, and their frames, joined, were written; their number.
 pub record IsJoined (turns : Bool) (old new : List (Option (List ℕ))) (before after : Option (List ℕ)) (count : ℕ) : Type 0 where
   pub lists : List (List (List ℕ))
   pub many : length lists ≡ length old
-  pub read : (i : ℕ) → IsReadWhole (slice_index_or old i None) (slice_index_or new i None) (slice_index_or lists i [])
+  pub read : (i : ℕ) → HasRead (slice_index_or old i None) (slice_index_or new i None) (slice_index_or lists i [])
+  pub ends : (i : ℕ) → IsAtEnd (slice_index_or new i None)
   pub written : Appends before after (frames (joined turns lists))
   pub counted : count ≡ length (joined turns lists)
 
@@ -33,7 +28,6 @@ pub record BlamesReader (fault : FrameFault) (old : List (Option (List ℕ))) (s
 pub record IsUnjoined (turns : Bool) (fault : FrameFault) (old : List (Option (List ℕ))) (sound failed : List Bool) (before after : Option (List ℕ)) (room : ℕ) (writer_failed : Bool) : Type 0 where
   pub lists : List (List (List ℕ))
   pub many : length lists ≡ length old
-  pub each : (i : ℕ) → AreShort (slice_index_or lists i [])
-  pub begins : (i : ℕ) → IfSome (slice_index_or old i None) (λ x. (rest : List ℕ) × (x ≡ frames (slice_index_or lists i []) ++ rest))
+  pub read : (i : ℕ) → (left : Option (List ℕ)) × HasRead (slice_index_or old i None) left (slice_index_or lists i [])
   pub some : AppendsSome before after (frames (joined turns lists))
   pub because : BlamesReader fault old sound failed ⊎ ((fault ≡ Io) × (writer_failed ≡ true) × (room < length (frames (joined turns lists)))) ⊎ (fault ≡ NoMemory)

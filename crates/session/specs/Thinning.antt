@@ -1,9 +1,9 @@
 -- Frames that are read, and what is left of them without some places written.
-use Rattle.std.specs.Prelude.{◌≡◌, ◌<◌, ◌⊎◌, ℕ, Bool, true, false, List, Option, None, Some, length, ⊤, IfSome}
-use Rattle.std.specs.Io.KnownBytes.{Appends, Consumes, IsAtEnd}
+use Rattle.std.specs.Prelude.{◌≡◌, ◌<◌, ◌⊎◌, ℕ, Bool, true, false, List, Option, None, Some, length, ⊤}
+use Rattle.std.specs.Io.KnownBytes.{Appends, IsAtEnd}
 use Rattle.streams.specs.Pieces.{AppendsSome}
 use Rattle.lists.specs.Selection.{rest, is_among, first_outside}
-use Rattle.session.specs.Frames.{frames, AreShort, StopsAt}
+use Rattle.session.specs.Frames.{frames, HasRead, IsReadFault}
 use Rattle.session.specs.declared.frame.FrameFault.{FrameFault}
 use Rattle.session.specs.declared.frame.FrameFault.TheVariants.{Io, NoMemory, NoSuchPlace}
 
@@ -11,47 +11,30 @@ use Rattle.session.specs.declared.frame.FrameFault.TheVariants.{Io, NoMemory, No
 abbrev pub frames_left : List ℕ → List (List ℕ) → List ℕ
 frames_left places datagrams = frames (rest (is_among places) datagrams)
 
--- All that the reader had left were these datagrams' frames.
-pub record IsReadUp (old new : Option (List ℕ)) (datagrams : List (List ℕ)) : Type 0 where
-  pub consumed : Consumes old new (frames datagrams)
-  pub each : AreShort datagrams
-  pub end : IsAtEnd new
-
--- They were read, they have all the places, and the frames of the others were written; their number.
+-- All that the reader had left were these datagrams' frames. They have all the places, and the frames of the others were
+-- written; their number.
 pub record IsThinned (places : List ℕ) (old new before after : Option (List ℕ)) (count : ℕ) : Type 0 where
   pub datagrams : List (List ℕ)
-  pub read : IsReadUp old new datagrams
+  pub read : HasRead old new datagrams
+  pub end : IsAtEnd new
   pub inside : first_outside (length datagrams) places ≡ None
   pub written : Appends before after (frames_left places datagrams)
   pub counted : count ≡ length (rest (is_among places) datagrams)
 
--- they were read, and haven't this place, the first of the places that they haven't
-abbrev pub IsReadWithout : List ℕ → Option (List ℕ) → Option (List ℕ) → ℕ → Type 0
-IsReadWithout places old new place =
-    (datagrams : List (List ℕ)) × IsReadUp old new datagrams × (first_outside (length datagrams) places ≡ Some place)
+-- some datagrams' frames were read, and this holds of them and of what the reader had left then
+abbrev pub ReadsSome : Option (List ℕ) → (List (List ℕ) → Option (List ℕ) → Type 0) → Type 0
+ReadsSome old Holds = (datagrams : List (List ℕ)) × (left : Option (List ℕ)) × HasRead old left datagrams × Holds datagrams left
 
--- these datagrams' frames were read
-pub record IsReadTo (old left : Option (List ℕ)) (datagrams : List (List ℕ)) : Type 0 where
-  pub consumed : Consumes old left (frames datagrams)
-  pub each : AreShort datagrams
-
--- some datagrams were read, and a beginning of what is left of them written
+-- a beginning of what is left of them was written
 abbrev pub WritesSome : List ℕ → Option (List ℕ) → Option (List ℕ) → Option (List ℕ) → Type 0
-WritesSome places old before after =
-    (datagrams : List (List ℕ)) × (left : Option (List ℕ)) × IsReadTo old left datagrams
-    × AppendsSome before after (frames_left places datagrams)
+WritesSome places old before after = ReadsSome old (λ ds left. AppendsSome before after (frames_left places ds))
 
--- the writer had no room for what is left of some datagrams that were read
-abbrev pub HasNoRoom : List ℕ → Option (List ℕ) → ℕ → Type 0
-HasNoRoom places old room =
-    (datagrams : List (List ℕ)) × (left : Option (List ℕ)) × IsReadTo old left datagrams
-    × (room < length (frames_left places datagrams))
-
--- Why not all was read and written: the reader's bytes, or that it isn't sound and has failed; the writer has failed, which
--- has no room; a place that isn't there; or want of memory.
+-- Why not all was read and written: the first place that the datagrams don't have; the reader has failed, which isn't sound,
+-- or the writer, which had no room for what is left of them; want of memory; or no frame stands behind them.
 abbrev pub IsUnthinned : FrameFault → List ℕ → Bool → Option (List ℕ) → Option (List ℕ) → Bool → ℕ → Bool → Type 0
-IsUnthinned (NoSuchPlace place) places sound old new failed room writer_failed = IsReadWithout places old new place
+IsUnthinned (NoSuchPlace place) places sound old new failed room writer_failed =
+    IsAtEnd new × (ds : List (List ℕ)) × HasRead old new ds × (first_outside (length ds) places ≡ Some place)
 IsUnthinned Io places sound old new failed room writer_failed =
-    ((sound ≡ false) × (failed ≡ true)) ⊎ ((writer_failed ≡ true) × HasNoRoom places old room)
+    ((sound ≡ false) × (failed ≡ true)) ⊎ ((writer_failed ≡ true) × ReadsSome old (λ ds left. room < length (frames_left places ds)))
 IsUnthinned NoMemory places sound old new failed room writer_failed = ⊤
-IsUnthinned fault places sound old new failed room writer_failed = IfSome old (StopsAt fault)
+IsUnthinned fault places sound old new failed room writer_failed = ReadsSome old (λ ds left. IsReadFault fault left new failed)

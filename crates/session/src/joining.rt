@@ -1,6 +1,7 @@
 //! Sessions joined into one.
 ghost use Rattle.std.specs.Prelude.{◌≡◌, ◌++◌, OnOk, IfOk, IfErr, MatchResult};
-ghost use Rattle.session.specs.Joined.{joined, longest as longest_of, round as round_of};
+ghost use Rattle.session.specs.Joined.{joined, round as round_of};
+ghost use Rattle.session.specs.Turns.{longest as longest_of};
 
 use crate::frame::FrameFault;
 use crate::selection::put;

@@ -2,8 +2,8 @@ use Rattle.std.proofs.Common.{◌≡◌, ◌<◌, ◌+◌, ◌++◌, ◌∷◌, 
 use Rattle.std.proofs.lemmas.List.{length-set, length-map, map-set, get_or_default}
 use Rattle.session.specs.Joining.{IsUnjoined}
 use Rattle.session.specs.Copying.{HasJoined, IsInRound}
-use Rattle.session.proofs.Copies.{no_memory}
-use Rattle.session.proofs.Steps.{blank, start, told, step_copied, step_over, step_sound, step_fault, turn_next, turn_copied, turn_over, first_round, ended_more, in_lists, read_here}
+use Rattle.session.proofs.Copies.{all_joined, no_memory}
+use Rattle.session.proofs.Steps.{blank, start, told, step_copied, step_over, step_sound, step_fault, turn_next, turn_copied, turn_over, all_over, first_round, ended_more, in_lists, read_here}
 use Rattle.session.proofs.copying.join_in_turns.Goals as goal
 use Rattle.session.proofs.copying.join_in_turns.Goals.{then-branch+in-Some, else-branch}
 
@@ -132,3 +132,12 @@ pub returns-clause-fault : goal.returns-clause-fault
 returns-clause-fault g c =
     let state = c.loop-round.invariant.joined in
     no_memory true _ _ _ _ _ _ _ state.0 state.1 _ _ _
+
+pub returns-then-over-clause-ok : goal.returns-then-over-clause-ok
+returns-then-over-clause-ok g c =
+    let state = c.loop-place.invariant.joined in
+    let flags = c.loop-place.invariant.flags in
+    let size = c.loop-place.invariant.size in
+    all_joined true _ _ _ _ _ _ _ state.0 state.1
+    (all_over c.loop-round._round c.loop-place.place c.loop-place.ended.items (map g.R.Read.remaining c.loop-place.readers) state.0 state.2
+    (let t = c.loop-place-test.false in omega (arith, t, size, flags)) (c.loop-place.invariant.over c.if-over.true))

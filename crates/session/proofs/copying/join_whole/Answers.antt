@@ -1,10 +1,9 @@
 use Rattle.std.proofs.Common.{◌≡◌, ◌+◌, ◌++◌, ◌∷◌, [], false, map, get_or, set, sym, ◌∙◌, refl, arith, subst}
 use Rattle.std.proofs.lemmas.List.{length-set, length-map, map-set}
-use Rattle.std.proofs.lemmas.Grind.{common_steps}
 use Rattle.session.specs.Joining.{IsUnjoined}
 use Rattle.session.specs.Copying.{HasJoined, IsAtReader}
-use Rattle.session.proofs.Copies.{no_memory}
-use Rattle.session.proofs.Steps.{blank, is_blank, start, told, step_copied, step_over, step_sound, step_fault, whole_next, whole_copied, whole_over, fewer_left, one_over, in_lists, read_here}
+use Rattle.session.proofs.Copies.{all_joined, no_memory}
+use Rattle.session.proofs.Steps.{blank, is_blank, start, told, step_copied, step_over, step_sound, step_fault, whole_next, whole_copied, whole_over, whole_ends, fewer_left, one_over, in_lists, read_here}
 use Rattle.session.proofs.copying.join_whole.Goals as goal
 
 pub loop-place-init : goal.loop-place-init
@@ -128,4 +127,8 @@ loop-place-preserved g c =
     }
 
 pub returns-clause-ok : goal.returns-clause-ok
-returns-clause-ok g c = grind (arith, common_steps) steps 2000000
+returns-clause-ok g c =
+    let state = c.loop-place.invariant.joined in
+    let many = length-map c.loop-place.readers g.R.Read.remaining in
+    all_joined false _ _ _ _ _ _ _ state.0 state.1
+    (whole_ends (map g.R.Read.remaining c.loop-place.readers) state.0 c.loop-place.place state.2 (let over = c.loop-place-test.false in omega (arith, many, over)))

@@ -1,4 +1,4 @@
-use Rattle.std.proofs.Common.{◌∙◌, sym}
+use Rattle.std.proofs.Common.{false, ◌∙◌, sym}
 use Rattle.session.proofs.Thinned.{begins, some, thinned, without}
 use Rattle.session.proofs.thinning.thin_frames.Goals as goal
 
@@ -8,7 +8,7 @@ returns-in_default-clause-some g c =
 
 pub returns-in-Some-clause-fault : goal.returns-in-Some-clause-fault
 returns-in-Some-clause-fault g c =
-    without c.args.places.now _ _ _ _ _ _ _ _ (c.in_ok-counts.ensures.copied c.args.places.now c.in-Ok.ensures) c.in-Some.place c.in_ok-counts.ensures.end (sym c.outside.ensures ∙ c.in-Some.is)
+    without c.args.places.now _ _ _ _ _ _ _ _ (c.in_ok-counts.ensures.copied c.args.places.now c.in-Ok.ensures) c.in-Some.place false false 0 false c.in_ok-counts.ensures.end (sym c.outside.ensures ∙ c.in-Some.is)
 
 pub returns-in-Some-clause-some : goal.returns-in-Some-clause-some
 returns-in-Some-clause-some g c =

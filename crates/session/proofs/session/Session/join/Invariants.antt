@@ -1,5 +1,5 @@
 use Rattle.std.proofs.Common.{◌≡◌, take}
-use Rattle.session.specs.Joined.{one_after_other, rounds}
+use Rattle.session.specs.Turns.{one_after_other, rounds}
 use Rattle.session.proofs.session.Session.join.Given as goal
 
 abbrev pub invariant-loop-place : goal.invariant-loop-place
