@@ -98,12 +98,10 @@ FaultHolds d Psi = ¬ (slice_index d 0 % 4 ≡ 0)
 FaultHolds d Codepoint = ¬ (slice_index d 3 ≡ 5)
 FaultHolds d NoIdentity = (s_of d + h_of d ≡ 0) ⊎ (o_of d + h_of d ≡ 0)
 FaultHolds d HeaderLength = (slice_index d 2 < fixed_words d) ⊎ (length d < header_end d)
-FaultHolds d Extension = (es : List (List ℕ)) × (rest : List ℕ) × StopsAt d es rest × StopsBy Extension es rest
-FaultHolds d FtiLength = (es : List (List ℕ)) × (rest : List ℕ) × StopsAt d es rest × StopsBy FtiLength es rest
-FaultHolds d TwoFti = (es : List (List ℕ)) × (rest : List ℕ) × StopsAt d es rest × StopsBy TwoFti es rest
 FaultHolds d (FtiValue x) = (es : List (List ℕ)) × (f : Fti) × WalkEnds d es × Carries es f × (fti_fault f ≡ Some x)
 FaultHolds d PayloadLength =
     (es : List (List ℕ)) × (fti : Option Fti) × WalkEnds d es × CarriesValid es fti × (¬ HasPayload d fti)
+FaultHolds d fault = (es : List (List ℕ)) × (rest : List ℕ) × StopsAt d es rest × StopsBy fault es rest
 
 -- the place of a fault in the table; the three of one extension go by the extension
 abbrev pub rank : PacketFault → ℕ

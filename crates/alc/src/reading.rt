@@ -82,10 +82,9 @@ pub fn read(datagram: &[u8]) -> Result<Packet<'_>, PacketFault>
     parse(datagram)
 }
 
-/// A datagram has one reading, the one that a function of its bytes computes. A list that isn't of bytes has one at
+/// Every list of bytes has one reading: it is a packet, or isn't one for one reason. A list that isn't of bytes has one at
 /// most.
 pub fn one_reading()
-    ensures reads { (d : List ℕ) → AreBytes d → Reads d (read_of d) }
+    ensures some { (d : List ℕ) → AreBytes d → (r : Reading) × Reads d r }
     ensures only { (d : List ℕ) (r s : Reading) → Reads d r → Reads d s → r ≡ s }
-    ensures computed { (d : List ℕ) (r : Reading) → Reads d r → read_of d ≡ r }
 {}

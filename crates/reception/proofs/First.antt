@@ -4,7 +4,9 @@ use Rattle.std.proofs.Common.{◌∙◌, sym, ap, subst}
 use Rattle.std.proofs.lemmas.List.{append_assoc, append-nil}
 use Rattle.reception.specs.declared.scope.Scope.{Scope}
 use Rattle.reception.specs.Symbols.{Symbol}
-use Rattle.reception.specs.Reception.{Judge, Wrong, Found, Placed, counted, symbols, symbols_in, or_else, at_place, reading_wrong, wrong_after, first_wrong, reception_with}
+use Rattle.std.specs.Option.{option_or}
+use Rattle.reception.specs.Reception.{Judge, Wrong, Found, Placed, counted, symbols, symbols_in, reading_wrong, wrong_after, first_wrong, reception_with}
+use Rattle.reception.specs.Walks.{at_place}
 use Rattle.reception.specs.First.{IsFirstAt, TellsTheFirst}
 use Rattle.reception.proofs.Walk.{symbols_more, wrong_more}
 use Rattle.reception.proofs.Within.{neither, nowhere}
@@ -28,7 +30,7 @@ module _ {R : Type 0} (judge : Judge R) (f : Scope) where
   some_from done (x ∷ xs) i r n h = by (reading_wrong judge f (symbols done) x.reading) refl h (λ k g. some_from (done ++ x ∷ []) xs i r k g)
     where
       by : (o : Option (Wrong R)) → reading_wrong judge f (symbols done) x.reading ≡ o
-          → or_else (at_place x.place o) (wrong_after judge f (symbols done ++ symbols_in x.reading) xs) ≡ Some (i, r)
+          → option_or (at_place x.place o) (wrong_after judge f (symbols done ++ symbols_in x.reading) xs) ≡ Some (i, r)
           → (wrong_after judge f [] (done ++ x ∷ []) ≡ None → wrong_after judge f (symbols (done ++ x ∷ [])) xs ≡ Some (i, r) → IsFirstAt judge f ((done ++ x ∷ []) ++ xs) i r)
           → IsFirstAt judge f (done ++ x ∷ xs) i r
       by (Some w) e g ih =
@@ -36,8 +38,8 @@ module _ {R : Type 0} (judge : Judge R) (f : Scope) where
           record { before = done; here = x; after = xs; whole = refl; place = m.0; wrong = e ∙ ap Some m.1; least = λ b y a s. each_none done b y a n s }
       by None e g ih =
           let one : wrong_after judge f [] (done ++ x ∷ []) ≡ None =
-          wrong_more judge f [] done (x ∷ []) ∙ ap (λ (o : Found R). or_else o (or_else (at_place x.place (reading_wrong judge f (symbols done) x.reading)) None)) n
-          ∙ ap (λ (o : Option (Wrong R)). or_else (at_place x.place o) None) e in
+          wrong_more judge f [] done (x ∷ []) ∙ ap (λ (o : Found R). option_or o (option_or (at_place x.place (reading_wrong judge f (symbols done) x.reading)) None)) n
+          ∙ ap (λ (o : Option (Wrong R)). option_or (at_place x.place o) None) e in
           subst (λ (ys : List Placed). IsFirstAt judge f ys i r) (append_assoc done (x ∷ []) xs)
           (ih one (ap (λ (ss : List Symbol). wrong_after judge f ss xs) (symbols_behind done x) ∙ g))
 
@@ -55,8 +57,8 @@ module _ {R : Type 0} (judge : Judge R) (f : Scope) where
   told xs i r h =
       ap (λ (ys : List Placed). wrong_after judge f [] ys) h.whole
       ∙ wrong_more judge f [] h.before (h.here ∷ h.after)
-      ∙ ap (λ (o : Found R). or_else o (wrong_after judge f (symbols h.before) (h.here ∷ h.after))) (none_from [] h.before h.least)
-      ∙ ap (λ (o : Option (Wrong R)). or_else (at_place h.here.place o) (wrong_after judge f (symbols h.before ++ symbols_in h.here.reading) h.after)) h.wrong
+      ∙ ap (λ (o : Found R). option_or o (wrong_after judge f (symbols h.before) (h.here ∷ h.after))) (none_from [] h.before h.least)
+      ∙ ap (λ (o : Option (Wrong R)). option_or (at_place h.here.place o) (wrong_after judge f (symbols h.before ++ symbols_in h.here.reading) h.after)) h.wrong
       ∙ ap (λ (n : ℕ). Some (n, r)) h.place
 
 pub tells_the_first : {R : Type 0} (judge : Judge R) (known : Scope) → TellsTheFirst judge known

@@ -1,21 +1,24 @@
 -- A walk that asks of datagrams only which FTI the first carrier has, and one with that FTI after it.
-use Rattle.std.proofs.Common.{◌≡◌, ℕ, ◌+◌, ◌<◌, List, [], Option, Some, None, Result, Ok, Err, true, refl, sym, ap, ◌∙◌, length, map, take, drop, get_or}
+use Rattle.std.proofs.Common.{◌≡◌, ℕ, ◌+◌, ◌<◌, ◌≤◌, arith, List, [], Option, Some, None, Result, Ok, Err, true, refl, sym, ap, ◌∙◌, length, map, take, drop, get_or}
 use Rattle.std.specs.Prelude.{is_some}
 use Rattle.std.specs.Borrow.{Bor}
-use Rattle.std.proofs.lemmas.List.{get_or-map, take-append-drop}
+use Rattle.std.proofs.lemmas.List.{get_or-map, length-map, take_all, take-append-drop}
 use Rattle.partition.specs.Fti.{Fti}
 use Rattle.alc.specs.Reading.{Reading}
+use Rattle.alc.specs.Computed.{read_of}
 use Rattle.reception.specs.declared.scope.Identity.{Identity}
 use Rattle.reception.specs.declared.scope.Scope.{Scope}
 use Rattle.reception.specs.declared.scope.PlaceFault.{PlaceFault}
 use Rattle.reception.specs.declared.scope.Look.{Look}
 use Rattle.reception.specs.declared.scope.Look.TheVariants as look_at
-use Rattle.reception.specs.Reception.{Judge, reception_with, counted_from, counted, asked, scope_from}
+use Rattle.reception.specs.Reception.{ReadAll, Judge, reception_with, counted_from, counted, asked, scope_from}
+use Rattle.reception.specs.Found.{IsScopeOf}
 use Rattle.reception.specs.Step.{IsLook, looked}
 use Rattle.reception.specs.Walks.{readings_of, scope_in, IsHeard, MayPass}
 use Rattle.reception.proofs.Walk.{counted_more, scope_more, identity_stays}
 use Rattle.reception.proofs.Walking.{Walked, last, reading_here, scope_now, is_early}
 use Rattle.reception.proofs.Stepping.{known_stays, none_before, settled, second_walk}
+use Rattle.reception.proofs.PutBack.{readings_are}
 
 -- this is known of the datagrams before a place
 abbrev pub Heard : Identity → List (List ℕ) → ℕ → Scope → Type 0
@@ -35,6 +38,15 @@ heard_enough who ds place scope h f e =
     ∙ scope_more (asked who) (counted who front) (counted_from who (0 + length front) (drop place (readings_of ds)))
     ∙ ap (λ (s : Scope). scope_from s (counted_from who (0 + length front) (drop place (readings_of ds)))) h in
     sym (whole ∙ known_stays scope f (counted_from who (0 + length front) (drop place (readings_of ds))) e)
+
+-- to the end
+pub heard_all : (who : Identity) (ds : List (List ℕ)) (place : ℕ) (scope : Scope) → length ds ≤ place → Heard who ds place scope → scope ≡ scope_in who ds
+heard_all who ds place scope l h =
+    sym h ∙ ap (λ (rs : List Reading). scope_from (asked who) (counted who rs)) (take_all place (readings_of ds) (omega (arith, l, length-map ds read_of)))
+
+-- so is what was found of all, by any readings
+pub found_scope : (who : Identity) (ds : List (List ℕ)) (scope : Scope) → scope ≡ scope_in who ds → IsScopeOf who ds scope
+found_scope who ds scope e rs read = e ∙ ap (λ (xs : List Reading). scope_from (asked who) (counted who xs)) (readings_are ds rs read)
 
 -- ---- the walk after it, which knows what was found
 

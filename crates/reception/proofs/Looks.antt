@@ -10,7 +10,8 @@ use Rattle.reception.specs.declared.scope.Scope.{Scope}
 use Rattle.reception.specs.declared.scope.PlaceFault.{PlaceFault}
 use Rattle.reception.specs.declared.scope.Look.{Look}
 use Rattle.reception.specs.declared.scope.Look.TheVariants as look_at
-use Rattle.reception.specs.Reception.{Seen, Other, InRange, counts, is_of_identity, or_later, carried, learned, look, look_by, or_packet, packet_fault}
+use Rattle.std.specs.Option.{option_or}
+use Rattle.reception.specs.Reception.{Seen, Other, InRange, counts, is_of_identity, carried, learned, look, look_by, or_packet, packet_fault}
 use Rattle.reception.specs.Step.{IsLook, looked}
 use Rattle.reception.specs.Walks.{MayPass}
 use Rattle.reception.proofs.Walking.{is_packet, is_early}
@@ -21,7 +22,7 @@ pub fti_after : (d : List ℕ) (old new : Scope) (answer : _) → IsLook d old n
 fti_after d old new answer h f e =
     ap (λ (s : Scope). s.fti) h.scope
     ∙ (elim (counts old.identity h.reading) as (λ v. (if v then learned old h.reading else old).fti ≡ Some f) [
-      | true ↦ ap (λ (o : Option Fti). or_later o (carried h.reading)) e
+      | true ↦ ap (λ (o : Option Fti). option_or o (carried h.reading)) e
       | false ↦ e
     ])
 

@@ -7,7 +7,9 @@ use Rattle.alc.specs.Reading.{Reading}
 use Rattle.reception.specs.declared.scope.Identity.{Identity}
 use Rattle.reception.specs.declared.scope.Scope.{Scope}
 use Rattle.reception.specs.Symbols.{Symbol}
-use Rattle.reception.specs.Reception.{Judge, Other, is_of_identity, counted_from, counted, symbol_of, asked, scope_from, or_else, at_place, wrong_by, look_by, wrong_after}
+use Rattle.std.specs.Option.{option_or}
+use Rattle.reception.specs.Reception.{Judge, Other, is_of_identity, counted_from, counted, symbol_of, asked, scope_from, wrong_by, look_by, wrong_after}
+use Rattle.reception.specs.Walks.{at_place}
 use Rattle.reception.specs.Answer.{clash}
 use Rattle.reception.specs.Nothing.{IsPacketReading, TellsEmpty}
 use Rattle.reception.proofs.Walk.{identity_stays}
@@ -25,7 +27,7 @@ module _ {R : Type 0} (judge : Judge R) (who : Identity) where
     tt,
     elim (is_of_identity who p) as (λ v. is_of_identity who p ≡ v → wrong_after judge (scope who None) earlier (cond v (record { place = i; reading = Ok p } ∷ []) [] ++ counted_from who (i + 1) rs) ≡ None → AllByRecursion IsPacketReading rs) [
       | false ↦ λ e k. packets_from (i + 1) earlier rs k
-      | true ↦ λ e k. packets_from (i + 1) (earlier ++ symbol_of p ∷ []) rs (sym (ap (λ o. or_else o (wrong_after judge (scope who None) (earlier ++ symbol_of p ∷ []) (counted_from who (i + 1) rs))) (early i earlier p e)) ∙ k)
+      | true ↦ λ e k. packets_from (i + 1) (earlier ++ symbol_of p ∷ []) rs (sym (ap (λ o. option_or o (wrong_after judge (scope who None) (earlier ++ symbol_of p ∷ []) (counted_from who (i + 1) rs))) (early i earlier p e)) ∙ k)
     ] refl h,
   )
 
@@ -35,7 +37,7 @@ module _ {R : Type 0} (judge : Judge R) (who : Identity) where
   none_from i earlier (Ok p ∷ rs) h =
       elim (is_of_identity who p) as (λ v. is_of_identity who p ≡ v → wrong_after judge (scope who None) earlier (cond v (record { place = i; reading = Ok p } ∷ []) [] ++ counted_from who (i + 1) rs) ≡ None) [
         | false ↦ λ e. none_from (i + 1) earlier rs h.1
-        | true ↦ λ e. ap (λ o. or_else o (wrong_after judge (scope who None) (earlier ++ symbol_of p ∷ []) (counted_from who (i + 1) rs))) (early i earlier p e) ∙ none_from (i + 1) (earlier ++ symbol_of p ∷ []) rs h.1
+        | true ↦ λ e. ap (λ o. option_or o (wrong_after judge (scope who None) (earlier ++ symbol_of p ∷ []) (counted_from who (i + 1) rs))) (early i earlier p e) ∙ none_from (i + 1) (earlier ++ symbol_of p ∷ []) rs h.1
       ] refl
 
 unknown : (who : Identity) (rs : List Reading) → (scope_from (asked who) (counted who rs)).fti ≡ None → scope_from (asked who) (counted who rs) ≡ scope who None

@@ -1,18 +1,28 @@
 -- The answer to a list is the answer to the identity's part of it, with places put back.
-use Rattle.std.specs.Prelude.{◌≡◌, ℕ, zero, suc, ◌+◌, ◌-◌, ◌≤◌, Bool, true, false, cond, List, [], ◌∷◌, ◌++◌, length, map, slice_index, Option, Some, None, refl}
+use Rattle.std.specs.Prelude.{◌≡◌, ℕ, zero, suc, ◌+◌, ◌-◌, ◌≤◌, Bool, true, false, cond, List, [], ◌∷◌, ◌++◌, length, map, slice_index, slice_get, Option, Some, None, refl}
+use Rattle.std.specs.Option.{option_to_list}
 use Rattle.std.specs.List.{AllByRecursion}
-use Rattle.std.proofs.Common.{◌∙◌, sym, ap, subst, arith}
+use Rattle.std.proofs.Common.{◌∙◌, sym, ap, subst, arith, append_assoc, length-append}
 use Rattle.std.proofs.lemmas.List.{length-map}
 use Rattle.alc.specs.Reading.{Reading}
 use Rattle.alc.specs.Computed.{read_of}
+use Rattle.alc.proofs.Again.{exact}
+use Rattle.lists.specs.Selection.{chosen}
 use Rattle.reception.specs.declared.scope.Identity.{Identity}
 use Rattle.reception.specs.declared.scope.Scope.{Scope}
 use Rattle.reception.specs.Symbols.{Symbol}
-use Rattle.reception.specs.Reception.{ReadAll, Placed, counts, counted_from, counted, symbols, symbols_in, learned, scope_from, asked, Judge, Wrong, Found, Reception, or_else, at_place, reading_wrong, wrong_after, first_wrong, reception_with}
+use Rattle.std.specs.Option.{option_or}
+use Rattle.reception.specs.Reception.{ReadAll, Placed, counts, counted_from, counted, symbols, symbols_in, learned, scope_from, asked, Judge, Wrong, Found, Reception, reading_wrong, wrong_after, first_wrong, reception_with}
+use Rattle.reception.specs.Walks.{at_place}
 use Rattle.reception.specs.Readings.{readings_of}
-use Rattle.reception.specs.Answer.{Clash, Answer, Empty, Fault, NotCode, Missing, Object, AnswerTo, clash, reception_of}
-use Rattle.reception.specs.Isolation.{part_of, places_of, put_back, IsIsolated}
+use Rattle.reception.specs.Answer.{Clash, Answer, Empty, Fault, NotCode, Missing, Object, AnswerTo, IsAnswer, clash, reception_of}
+use Rattle.reception.specs.Isolation.{places_of, put_back, IsIsolated}
 use Rattle.reception.proofs.OneAnswer.{same_readings}
+
+-- the datagrams that count, in their order: where each is a packet, the identity's packets
+abbrev part_of : Identity → List (List ℕ) → List (List ℕ)
+part_of who [] = []
+part_of who (d ∷ ds) = cond (counts who (read_of d)) (d ∷ []) [] ++ part_of who ds
 
 -- all readings, with their places from i on
 abbrev placed_from : ℕ → List Reading → List Placed
@@ -81,7 +91,7 @@ module _ {R : Type 0} (judge : Judge R) (f : Scope) where
       first : (p q : ℕ × Wrong R) → Some p ≡ Some q → p.0 ≡ q.0
       first p q e = let s : p ≡ q = cc in ap (λ (t : ℕ × Wrong R). t.0) s
 
-      by : (o : Option (Wrong R)) → or_else (at_place n o) (wrong_after judge f (earlier ++ symbols_in r) (placed_from (n + 1) rs)) ≡ Some (i, w)
+      by : (o : Option (Wrong R)) → option_or (at_place n o) (wrong_after judge f (earlier ++ symbols_in r) (placed_from (n + 1) rs)) ≡ Some (i, w)
           → (wrong_after judge f (earlier ++ symbols_in r) (placed_from (n + 1) rs) ≡ Some (i, w) → n + 1 ≤ i) → n ≤ i
       by (Some v) e ih = let s = first (n, v) (i, w) e in omega (arith, s)
       by None e ih = let l = ih e in omega (arith, l)
@@ -104,8 +114,8 @@ module _ {R : Type 0} (judge : Judge R) (f : Scope) where
     where
       by : (o : Option (Wrong R)) → wrong_after judge f (earlier ++ symbols_in r) (zipped ps rs) ≡ found_back ps (n + 1) (wrong_after judge f (earlier ++ symbols_in r) (placed_from (n + 1) rs))
           → found_back ps (n + 1) (wrong_after judge f (earlier ++ symbols_in r) (placed_from (n + 1) rs)) ≡ found_back (p ∷ ps) n (wrong_after judge f (earlier ++ symbols_in r) (placed_from (n + 1) rs))
-          → or_else (at_place p o) (wrong_after judge f (earlier ++ symbols_in r) (zipped ps rs))
-          ≡ found_back (p ∷ ps) n (or_else (at_place n o) (wrong_after judge f (earlier ++ symbols_in r) (placed_from (n + 1) rs)))
+          → option_or (at_place p o) (wrong_after judge f (earlier ++ symbols_in r) (zipped ps rs))
+          ≡ found_back (p ∷ ps) n (option_or (at_place n o) (wrong_after judge f (earlier ++ symbols_in r) (placed_from (n + 1) rs)))
       by (Some w) ih later = let z : zero ≡ n - n = omega arith in ap (λ (k : ℕ). Some (slice_index (p ∷ ps) k, w)) z
       by None ih later = ih ∙ later
 
@@ -169,14 +179,50 @@ answers_back places c (NotCode b) h = (h.0, record { clean = ap (λ (o : Found C
 answers_back places c (Missing b have need) h = (h.0, record { clean = ap (λ (o : Found Clash). found_back places 0 o) h.1.clean; some = h.1.some }, h.2, h.3, h.4, h.5)
 answers_back places c (Object object) h = (h.0, record { clean = ap (λ (o : Found Clash). found_back places 0 o) h.1.clean; some = h.1.some }, h.2, h.3, h.4)
 
-pub is_isolated : (who : Identity) (ds : List (List ℕ)) → IsIsolated who ds
-is_isolated who ds read answer h =
+-- they are those at the places of the readings that count
+part_chosen : (who : Identity) (front ds : List (List ℕ)) (i : ℕ) → length front ≡ i
+    → chosen (front ++ ds) (map (λ (x : Placed). x.place) (counted_from who i (readings_of ds))) ≡ part_of who ds
+part_chosen who front [] i e = refl
+part_chosen who front (d ∷ ds) i e =
+    let moved : (front ++ d ∷ []) ++ ds ≡ front ++ d ∷ ds = append_assoc front (d ∷ []) ds in
+    let long : length (front ++ d ∷ []) ≡ i + 1 = (let l = length-append front (d ∷ []) in omega (arith, l, e)) in
+    let places : List ℕ = map (λ (x : Placed). x.place) (counted_from who (i + 1) (readings_of ds)) in
+    let later : chosen (front ++ d ∷ ds) places ≡ part_of who ds =
+    ap (λ (xs : List (List ℕ)). chosen xs places) (sym moved) ∙ part_chosen who (front ++ d ∷ []) ds (i + 1) long in
+    let here : slice_get (front ++ d ∷ ds) i ≡ Some d = at_front front d ds i e in
+    elim (counts who (read_of d)) as (λ v. chosen (front ++ d ∷ ds) (map (λ (x : Placed). x.place) (cond v (record { place = i; reading = read_of d } ∷ []) [] ++ counted_from who (i + 1) (readings_of ds))) ≡ cond v (d ∷ []) [] ++ part_of who ds) [
+      | true ↦ ap (λ (o : Option (List ℕ)). option_to_list o ++ chosen (front ++ d ∷ ds) places) here ∙ ap (λ (xs : List (List ℕ)). d ∷ xs) later
+      | false ↦ later
+    ]
+  where
+    at_front : (xs : List (List ℕ)) (y : List ℕ) (ys : List (List ℕ)) (n : ℕ) → length xs ≡ n → slice_get (xs ++ y ∷ ys) n ≡ Some y
+    at_front [] y ys zero k = refl
+    at_front [] y ys (suc n) k = absurd (omega (arith, k))
+    at_front (x ∷ xs) y ys zero k = absurd (omega (arith, k))
+    at_front (x ∷ xs) y ys (suc n) k = at_front xs y ys n (omega (arith, k))
+
+-- the readings are what is computed
+pub readings_are : (ds : List (List ℕ)) (rs : List Reading) → ReadAll ds rs → readings_of ds ≡ rs
+readings_are [] [] h = refl
+readings_are [] (r ∷ rs) h = absurd h
+readings_are (d ∷ ds) [] h = absurd h
+readings_are (d ∷ ds) (r ∷ rs) h =
+    ap (λ (x : Reading). x ∷ readings_of ds) (exact d r h.0) ∙ ap (λ (xs : List Reading). r ∷ xs) (readings_are ds rs h.1)
+
+isolated_part : (who : Identity) (ds : List (List ℕ)) → ReadAll ds (readings_of ds) → IsIsolated who ds (readings_of ds)
+isolated_part who ds read answer whole =
+    let h = subst (λ (xs : List (List ℕ)). IsAnswer who xs answer) (part_chosen who [] ds 0 refl) whole in
     let part = same_readings (part_of who ds) h.readings (readings_of (part_of who ds)) h.read (part_read who ds read) in
     let here : AnswerTo (reception_of who (mine who (readings_of ds))) answer =
     subst (λ (rs : List Reading). AnswerTo (reception_of who rs) answer) (part ∙ part_readings who ds) h.answers in
     record {
       readings = readings_of ds;
       read = read;
-      answers = subst (λ (c : Reception Clash). AnswerTo c (put_back (places_of who ds) answer)) (sym (isolated clash (asked who) (readings_of ds)))
-          (answers_back (places_of who ds) (reception_of who (mine who (readings_of ds))) answer here);
+      answers = subst (λ (c : Reception Clash). AnswerTo c (put_back (places_of who (readings_of ds)) answer)) (sym (isolated clash (asked who) (readings_of ds)))
+          (answers_back (places_of who (readings_of ds)) (reception_of who (mine who (readings_of ds))) answer here);
     }
+
+pub is_isolated : (who : Identity) (ds : List (List ℕ)) (rs : List Reading) → ReadAll ds rs → IsIsolated who ds rs
+is_isolated who ds rs read =
+    let are = readings_are ds rs read in
+    subst (λ (xs : List Reading). IsIsolated who ds xs) are (isolated_part who ds (subst (λ (xs : List Reading). ReadAll ds xs) (sym are) read))

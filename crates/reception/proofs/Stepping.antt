@@ -7,9 +7,9 @@ use Rattle.alc.specs.Reading.{Reading}
 use Rattle.reception.specs.declared.scope.Identity.{Identity}
 use Rattle.reception.specs.declared.scope.Scope.{Scope}
 use Rattle.reception.specs.Symbols.{Symbol}
-use Rattle.reception.specs.Reception.{Judge, Found, Placed, Reception, counts, counted_from, counted, symbols, symbols_in, learned, scope_from, or_else, at_place, reading_wrong, wrong_after, first_wrong, reception_with}
-use Rattle.reception.specs.Step.{told}
-use Rattle.reception.specs.Walks.{step, Timely}
+use Rattle.std.specs.Option.{option_or}
+use Rattle.reception.specs.Reception.{Judge, Found, Placed, Reception, counts, counted_from, counted, symbols, symbols_in, learned, scope_from, reading_wrong, wrong_after, first_wrong, reception_with}
+use Rattle.reception.specs.Walks.{step, Timely, at_place, told}
 use Rattle.reception.proofs.Walk.{counted_more, counted_one_more, symbols_more, scope_more, identity_stays, or_else_none, wrong_more}
 
 came_is : {R : Type 0} (a b : Found R) (f g : Scope) (s t : List Symbol) → a ≡ b → f ≡ g → s ≡ t
@@ -65,8 +65,8 @@ module _ {R : Type 0} (judge : Judge R) where
   no_symbols f g earlier (x ∷ xs) h = by x.reading h
     where
       by : (r : Reading) → symbols_in r ++ symbols xs ≡ []
-          → or_else (at_place x.place (reading_wrong judge f earlier r)) (wrong_after judge f (earlier ++ symbols_in r) xs)
-          ≡ or_else (at_place x.place (reading_wrong judge g earlier r)) (wrong_after judge g (earlier ++ symbols_in r) xs)
+          → option_or (at_place x.place (reading_wrong judge f earlier r)) (wrong_after judge f (earlier ++ symbols_in r) xs)
+          ≡ option_or (at_place x.place (reading_wrong judge g earlier r)) (wrong_after judge g (earlier ++ symbols_in r) xs)
       by (Err e) k = refl
       by (Ok p) k = absurd (cc)
 
@@ -92,9 +92,9 @@ module _ {R : Type 0} (judge : Judge R) where
       came_is _ _ _ _ _ _
       (ap (λ (s : Scope). first_wrong judge s (xs ++ x ∷ [])) f
       ∙ wrong_more judge (learned (scope_from known xs) r) [] xs (x ∷ [])
-      ∙ ap (λ (o : Found R). or_else o (or_else (at_place (length rs) (reading_wrong judge (learned (scope_from known xs) r) ([] ++ symbols xs) r)) None))
+      ∙ ap (λ (o : Found R). option_or o (option_or (at_place (length rs) (reading_wrong judge (learned (scope_from known xs) r) ([] ++ symbols xs) r)) None))
       (same_before (scope_from known xs) r xs timely)
-      ∙ ap (λ (o : Found R). or_else (first_wrong judge (scope_from known xs) xs) o)
+      ∙ ap (λ (o : Found R). option_or (first_wrong judge (scope_from known xs) xs) o)
       (or_else_none (at_place (length rs) (reading_wrong judge (learned (scope_from known xs) r) (symbols xs) r))))
       f
       (symbols_more xs (x ∷ []) ∙ ap (λ (ss : List Symbol). symbols xs ++ ss) (append-nil (symbols_in r)))
@@ -127,7 +127,7 @@ module _ {R : Type 0} (judge : Judge R) where
       ap (λ (s : Scope). first_wrong judge s (counted who (rs ++ ss))) (stays who f (counted who (rs ++ ss)))
       ∙ ap (λ (xs : List Placed). first_wrong judge known xs) more
       ∙ wrong_more judge known [] (counted who rs) (counted_from who (0 + length rs) ss)
-      ∙ ap (λ (o : Found R). or_else o (wrong_after judge known ([] ++ symbols (counted who rs)) (counted_from who (0 + length rs) ss))) here
+      ∙ ap (λ (o : Found R). option_or o (wrong_after judge known ([] ++ symbols (counted who rs)) (counted_from who (0 + length rs) ss))) here
 
   -- a second walk, by one who knows what holds in the end, finds the same
   pub second_walk : (known : Scope) (rs : List Reading) → reception_with judge (scope_from known (counted known.identity rs)) rs ≡ reception_with judge known rs

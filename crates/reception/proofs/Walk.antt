@@ -7,7 +7,9 @@ use Rattle.alc.specs.Reading.{Reading}
 use Rattle.reception.specs.declared.scope.Scope.{Scope}
 use Rattle.reception.specs.declared.scope.Identity.{Identity}
 use Rattle.reception.specs.Symbols.{Symbol}
-use Rattle.reception.specs.Reception.{Judge, Found, Placed, counts, placed_at, counted_from, counted, symbols, symbols_in, learned, scope_from, or_else, at_place, reading_wrong, wrong_after}
+use Rattle.std.specs.Option.{option_or}
+use Rattle.reception.specs.Reception.{Judge, Found, Placed, counts, placed_at, counted_from, counted, symbols, symbols_in, learned, scope_from, reading_wrong, wrong_after}
+use Rattle.reception.specs.Walks.{at_place}
 
 pub counted_more : (who : Identity) (i : ℕ) (rs ss : List Reading) → counted_from who i (rs ++ ss) ≡ counted_from who i rs ++ counted_from who (i + length rs) ss
 counted_more who i [] ss = let e : i + 0 ≡ i = omega arith in ap (λ (n : ℕ). counted_from who n ss) (sym e)
@@ -48,23 +50,23 @@ pub identity_stays : (known : Scope) (xs : List Placed) → (scope_from known xs
 identity_stays known [] = refl
 identity_stays known (x ∷ xs) = identity_stays (learned known x.reading) xs
 
-or_else_assoc : {X : Type 0} (a b c : Option X) → or_else (or_else a b) c ≡ or_else a (or_else b c)
+or_else_assoc : {X : Type 0} (a b c : Option X) → option_or (option_or a b) c ≡ option_or a (option_or b c)
 or_else_assoc None b c = refl
 or_else_assoc (Some x) b c = refl
 
-pub or_else_none : {X : Type 0} (a : Option X) → or_else a None ≡ a
+pub or_else_none : {X : Type 0} (a : Option X) → option_or a None ≡ a
 or_else_none None = refl
 or_else_none (Some x) = refl
 
 module _ {R : Type 0} (judge : Judge R) (scope : Scope) where
   pub wrong_more : (earlier : List Symbol) (xs ys : List Placed)
       → wrong_after judge scope earlier (xs ++ ys)
-      ≡ or_else (wrong_after judge scope earlier xs) (wrong_after judge scope (earlier ++ symbols xs) ys)
+      ≡ option_or (wrong_after judge scope earlier xs) (wrong_after judge scope (earlier ++ symbols xs) ys)
   wrong_more earlier [] ys = ap (λ (ss : List Symbol). wrong_after judge scope ss ys) (sym (append-nil earlier))
   wrong_more earlier (x ∷ xs) ys =
       let here = at_place x.place (reading_wrong judge scope earlier x.reading) in
       let e = wrong_more (earlier ++ symbols_in x.reading) xs ys in
       let a = append_assoc earlier (symbols_in x.reading) (symbols xs) in
-      ap (λ (o : Found R). or_else here o)
-      (e ∙ ap (λ (ss : List Symbol). or_else (wrong_after judge scope (earlier ++ symbols_in x.reading) xs) (wrong_after judge scope ss ys)) a)
+      ap (λ (o : Found R). option_or here o)
+      (e ∙ ap (λ (ss : List Symbol). option_or (wrong_after judge scope (earlier ++ symbols_in x.reading) xs) (wrong_after judge scope ss ys)) a)
       ∙ sym (or_else_assoc here (wrong_after judge scope (earlier ++ symbols_in x.reading) xs) (wrong_after judge scope (earlier ++ symbols (x ∷ xs)) ys))

@@ -15,9 +15,10 @@ use Rattle.reception.specs.declared.scope.PlaceFault.{PlaceFault}
 use Rattle.reception.specs.declared.scope.Look.{Look}
 use Rattle.reception.specs.declared.scope.Look.TheVariants as look_at
 use Rattle.reception.specs.Symbols.{Symbol}
-use Rattle.reception.specs.Reception.{Judge, Wrong, Found, Placed, Seen, Other, Early, InRange, is_of_identity, counts, placed_at, counted_from, counted, symbols, symbols_in, learned, or_later, carried, scope_from, look, look_by, or_packet, packet_fault, wrong_by, or_else, at_place, reading_wrong, wrong_after, first_wrong, reception_with}
+use Rattle.std.specs.Option.{option_or}
+use Rattle.reception.specs.Reception.{Judge, Wrong, Found, Placed, Seen, Other, Early, InRange, is_of_identity, counts, placed_at, counted_from, counted, symbols, symbols_in, learned, carried, scope_from, look, look_by, or_packet, packet_fault, wrong_by, reading_wrong, wrong_after, first_wrong, reception_with}
 use Rattle.reception.specs.Step.{after, looked, IsLook}
-use Rattle.reception.specs.Walks.{readings_of, Timely, MayPass}
+use Rattle.reception.specs.Walks.{readings_of, Timely, MayPass, at_place}
 use Rattle.reception.proofs.Walk.{counted_more, counted_one_more, symbols_more, scope_more, identity_stays, or_else_none, wrong_more}
 use Rattle.reception.proofs.Stepping.{scope, known_stays, no_symbols}
 
@@ -118,7 +119,7 @@ early_of s (Ok q) h = let w = by (is_of_identity s.identity q) h in (q, refl, w.
     by true k = (refl, early_by_fti q s.fti k)
     by false k = absurd (cc)
 
-later_none : (a b : Option Fti) → or_later a b ≡ None → (a ≡ None) × (b ≡ None)
+later_none : (a b : Option Fti) → option_or a b ≡ None → (a ≡ None) × (b ≡ None)
 later_none None b h = (refl, h)
 later_none (Some f) b h = absurd (cc)
 
@@ -259,7 +260,7 @@ module _ {R : Type 0} (judge : Judge R) (known : Scope) (ds : List (List ℕ)) w
     wrong_now may =
         ap (λ (xs : List Placed). first_wrong judge (last known ds) xs) (counted_now known ds place inside at.reading at_here known.identity)
         ∙ wrong_more judge (last known ds) [] (counted known.identity (take place (readings_of ds))) (placed_at known.identity place at.reading)
-        ∙ ap (λ (o : Found R). or_else o (wrong_after judge (last known ds) ([] ++ came_before known.identity ds place) (placed_at known.identity place at.reading))) w.clean
+        ∙ ap (λ (o : Found R). option_or o (wrong_after judge (last known ds) ([] ++ came_before known.identity ds place) (placed_at known.identity place at.reading))) w.clean
         ∙ placed_wrong (last known ds) (came_before known.identity ds place) at.reading who_last
         ∙ ap (λ (a : Result Seen PlaceFault). at_place place (wrong_by judge (came_before known.identity ds place) a)) (look_last may)
 
@@ -270,7 +271,7 @@ module _ {R : Type 0} (judge : Judge R) (known : Scope) (ds : List (List ℕ)) w
         let behind = later known ds place inside at.reading at_here in
         ap (λ (xs : List Placed). first_wrong judge (last known ds) xs) (parts known ds place inside at.reading at_here)
         ∙ wrong_more judge (last known ds) [] (counted known.identity (take (place + 1) (readings_of ds))) behind
-        ∙ ap (λ (o : Found R). or_else o (wrong_after judge (last known ds) ([] ++ came_before known.identity ds (place + 1)) behind))
+        ∙ ap (λ (o : Found R). option_or o (wrong_after judge (last known ds) ([] ++ came_before known.identity ds (place + 1)) behind))
         (wrong_now may ∙ ap (λ (o : Option (Wrong R)). at_place place o) is)
 
     -- where nothing is wrong in the whole list, nothing is at the place

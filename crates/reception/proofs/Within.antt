@@ -13,7 +13,9 @@ use Rattle.reception.specs.declared.scope.PlaceFault.{PlaceFault}
 use Rattle.reception.specs.declared.scope.PlaceFault.TheVariants.{OtherFti, SymbolLength, Range}
 use Rattle.reception.specs.Symbols.{Symbol}
 use Rattle.reception.specs.Within.{IsWithin}
-use Rattle.reception.specs.Reception.{Judge, Wrong, Placed, Other, counts, counted, scope_from, symbols_in, symbols, same_fti, has_other_fti, in_range, packet_fault, or_packet, wrong_by, or_else, at_place, reading_wrong, wrong_after, IsClean, reception_with}
+use Rattle.std.specs.Option.{option_or}
+use Rattle.reception.specs.Reception.{Judge, Wrong, Placed, Other, counts, counted, scope_from, symbols_in, symbols, same_fti, has_other_fti, in_range, packet_fault, or_packet, wrong_by, reading_wrong, wrong_after, IsClean, reception_with}
+use Rattle.reception.specs.Walks.{at_place}
 use Rattle.reception.proofs.Walk.{each_counts, identity_stays}
 use Rattle.reception.proofs.Stepping.{scope}
 
@@ -80,7 +82,7 @@ no_fault f p h =
     let c : in_range p f ≡ true = h.range in
     rw (a, b, c) refl
 
-pub neither : {X : Type 0} (a b : Option X) → or_else a b ≡ None → (a ≡ None) × (b ≡ None)
+pub neither : {X : Type 0} (a b : Option X) → option_or a b ≡ None → (a ≡ None) × (b ≡ None)
 neither None b h = (refl, h)
 neither (Some r) b h = absurd (cc)
 

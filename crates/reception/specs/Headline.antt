@@ -9,51 +9,33 @@ use Rattle.reception.specs.Reception.{ReadAll, counted, symbols, is_carrier, Suf
 use Rattle.reception.specs.Answer.{Answer, Empty, Missing, Object, IsAnswer, IsOnlyAnswer}
 use Rattle.lists.specs.Selection.{chosen}
 
--- the identity's packets among the datagrams leave no block short
-pub record IsFull (who : Identity) (f : Fti) (datagrams : List (List ℕ)) : Type 0 where
-  pub readings : List Reading
-  pub read : ReadAll datagrams readings
-  pub full : Suffices who f readings
+-- this holds of every selection and its readings, which are one list, as the datagrams are lists of bytes
+abbrev pub OfEach : List (List ℕ) → (List (List ℕ) → List Reading → Type 0) → Type 0
+OfEach session Holds =
+    (places : List ℕ) (rs : List Reading) → ReadAll (chosen session places) rs → Holds (chosen session places) rs
 
 -- one of them is a carrier
-pub record HasCarrier (who : Identity) (datagrams : List (List ℕ)) : Type 0 where
-  pub readings : List Reading
-  pub read : ReadAll datagrams readings
-  pub carrier : list_any (is_carrier who) readings ≡ true
+abbrev pub HasCarrier : Identity → List Reading → Type 0
+HasCarrier who rs = list_any (is_carrier who) rs ≡ true
 
-pub record IsEnough (who : Identity) (f : Fti) (datagrams : List (List ℕ)) : Type 0 where
-  pub full : IsFull who f datagrams
-  pub carrier : HasCarrier who datagrams
-
--- every selection that is enough decodes to the object, and to nothing else
+-- every selection that leaves no block short and has a carrier decodes to the object, and to nothing else
 abbrev pub DecodesWhereEnough : Identity → Fti → List (List ℕ) → List ℕ → Type 0
 DecodesWhereEnough who f session object =
-    (places : List ℕ) → IsEnough who f (chosen session places) → IsOnlyAnswer who (chosen session places) (Object object)
+    OfEach session (λ ds rs. Suffices who f rs → HasCarrier who rs → IsOnlyAnswer who ds (Object object))
 
--- another object agrees with all that came
-pub record LeavesTwin (who : Identity) (f : Fti) (datagrams : List (List ℕ)) (object : List ℕ) : Type 0 where
-  pub readings : List Reading
-  pub read : ReadAll datagrams readings
-  pub other : List ℕ
-  pub twins : AreTwins f (symbols (counted who readings)) object other
-
--- every selection that leaves a block short leaves a twin
+-- every selection that leaves a block short leaves a twin: another object that agrees with all that came
 abbrev pub TwinWhereShort : Identity → Fti → List (List ℕ) → List ℕ → Type 0
 TwinWhereShort who f session object =
-    (places : List ℕ) → ¬ IsFull who f (chosen session places) → LeavesTwin who f (chosen session places) object
+    OfEach session (λ ds rs. ¬ Suffices who f rs → (other : List ℕ) × AreTwins f (symbols (counted who rs)) object other)
 
 -- what a decoder owes short of the object: a short block where a carrier came, and else that none did
-abbrev pub TellsWhatLacks : Identity → Answer → List (List ℕ) → Type 0
-TellsWhatLacks who Empty datagrams = ¬ HasCarrier who datagrams
-TellsWhatLacks who (Missing b have need) datagrams = HasCarrier who datagrams
-TellsWhatLacks who _ datagrams = ⊥
-
-pub record IsToldShort (who : Identity) (datagrams : List (List ℕ)) : Type 0 where
-  pub answer : Answer
-  pub told : IsAnswer who datagrams answer
-  pub lacks : TellsWhatLacks who answer datagrams
+abbrev pub TellsWhatLacks : Identity → Answer → List Reading → Type 0
+TellsWhatLacks who Empty rs = ¬ HasCarrier who rs
+TellsWhatLacks who (Missing b have need) rs = HasCarrier who rs
+TellsWhatLacks who _ rs = ⊥
 
 -- of every selection that isn't enough the decoder says what lacks
 abbrev pub TellsElse : Identity → Fti → List (List ℕ) → Type 0
 TellsElse who f session =
-    (places : List ℕ) → ¬ IsEnough who f (chosen session places) → IsToldShort who (chosen session places)
+    OfEach session (λ ds rs. ¬ (Suffices who f rs × HasCarrier who rs)
+    → (a : Answer) × IsAnswer who ds a × TellsWhatLacks who a rs)

@@ -1,6 +1,7 @@
 -- What a list of datagrams says to one who asks for an identity's packets: which of them count, whose FTI holds, which
 -- symbols came, and what is wrong at a place. A check and a decoder see lists of datagrams through this file.
-use Rattle.std.specs.Prelude.{◌≡◌, ℕ, ◌+◌, Bool, true, ◌&&◌, ◌==◌, not, false, cond, if◌then◌else◌, List, [], ◌∷◌, ◌++◌, length, is_some, Option, Some, None, Result, Ok, Err}
+use Rattle.std.specs.Prelude.{◌≡◌, ℕ, ◌+◌, Bool, true, ◌&&◌, ◌==◌, not, false, cond, if◌then◌else◌, List, [], ◌∷◌, ◌++◌, length, is_some, Option, Some, None, Result, Ok, Err, option_map}
+use Rattle.std.specs.Option.{option_or}
 use Rattle.partition.specs.Fti.{Fti, has_symbol}
 use Rattle.alc.specs.Packet.{Packet}
 use Rattle.alc.specs.Reading.{Reading, Reads}
@@ -56,13 +57,9 @@ abbrev pub is_carrier : Identity → Reading → Bool
 is_carrier who (Ok p) = is_of_identity who p && is_some p.fti
 is_carrier who (Err r) = false
 
-abbrev pub or_later : {X : Type 0} → Option X → Option X → Option X
-or_later (Some x) later = Some x
-or_later None later = later
-
 -- what isn't known yet is taken from a reading that counts
 abbrev pub learned : Scope → Reading → Scope
-learned known r = record { identity = known.identity; fti = or_later known.fti (carried r) }
+learned known r = record { identity = known.identity; fti = option_or known.fti (carried r) }
 
 -- what holds: the FTI that is known before, else the first carrier's, wherever it stands
 abbrev pub scope_from : Scope → List Placed → Scope
@@ -149,15 +146,11 @@ pub data Wrong (R : Type 0) : Type 0 where
 abbrev pub Judge : Type 0 → Type 0
 Judge R = List Symbol → Symbol → Option R
 
-abbrev pub judged : {R : Type 0} → Option R → Option (Wrong R)
-judged None = None
-judged (Some r) = Some (Judged r)
-
 abbrev pub wrong_by : {R : Type 0} → Judge R → List Symbol → Result Seen PlaceFault → Option (Wrong R)
 wrong_by judge earlier (Err e) = Some (Faulty e)
 wrong_by judge earlier (Ok Other) = None
 wrong_by judge earlier (Ok Early) = None
-wrong_by judge earlier (Ok (InRange p)) = judged (judge earlier (symbol_of p))
+wrong_by judge earlier (Ok (InRange p)) = option_map Judged (judge earlier (symbol_of p))
 
 -- what is wrong with a reading after these symbols
 abbrev pub reading_wrong : {R : Type 0} → Judge R → Scope → List Symbol → Reading → Option (Wrong R)
@@ -167,19 +160,11 @@ reading_wrong judge scope earlier r = wrong_by judge earlier (look scope r)
 abbrev pub Found : Type 0 → Type 0
 Found R = Option (ℕ × Wrong R)
 
-abbrev pub or_else : {X : Type 0} → Option X → Option X → Option X
-or_else (Some x) other = Some x
-or_else None other = other
-
-abbrev pub at_place : {R : Type 0} → ℕ → Option (Wrong R) → Found R
-at_place i None = None
-at_place i (Some r) = Some (i, r)
-
 -- the first that is wrong after these symbols, where this scope holds
 abbrev pub wrong_after : {R : Type 0} → Judge R → Scope → List Symbol → List Placed → Found R
 wrong_after judge scope earlier [] = None
 wrong_after judge scope earlier (x ∷ xs) =
-    or_else (at_place x.place (reading_wrong judge scope earlier x.reading))
+    option_or (option_map (λ r. (x.place, r)) (reading_wrong judge scope earlier x.reading))
     (wrong_after judge scope (earlier ++ symbols_in x.reading) xs)
 
 -- the least place at which something is wrong, and there the first

@@ -1,20 +1,12 @@
--- One datagram more: what is known of a list, and of the list with one more at its end.
-use Rattle.std.specs.Prelude.{◌≡◌, ℕ, if◌then◌else◌, List, ◌++◌, Result, Ok, Err}
+-- One look at a datagram.
+use Rattle.std.specs.Prelude.{◌≡◌, ℕ, if◌then◌else◌, List, Result, Ok, Err}
 use Rattle.alc.specs.Reading.{Reading, Reads}
 use Rattle.alc.specs.Views.{packet_of}
 use Rattle.reception.specs.declared.scope.Scope.{Scope}
 use Rattle.reception.specs.declared.scope.PlaceFault.{PlaceFault}
 use Rattle.reception.specs.declared.scope.Look.{Look}
 use Rattle.reception.specs.declared.scope.Look.TheVariants as look_at
-use Rattle.reception.specs.Reception.{Judge, Reception, Seen, Other, Early, InRange, counts, symbols_in, learned, look, or_else, at_place, reading_wrong}
-
--- what comes to be known by a reading that counts, at place i
-abbrev pub told : {R : Type 0} → Judge R → ℕ → Reception R → Reading → Reception R
-told judge i c r = record {
-  wrong = or_else c.wrong (at_place i (reading_wrong judge (learned c.scope r) c.symbols r));
-  scope = learned c.scope r;
-  symbols = c.symbols ++ symbols_in r;
-}
+use Rattle.reception.specs.Reception.{Seen, Other, Early, InRange, counts, learned, look}
 
 -- what the code answers to a look, as a value
 abbrev pub seen : Look → Seen

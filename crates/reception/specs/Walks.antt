@@ -1,14 +1,34 @@
 -- A walk over datagrams, step by step.
-use Rattle.std.specs.Prelude.{◌≡◌, ℕ, List, [], Option, Some, None, Result, Ok, if◌then◌else◌}
+use Rattle.std.specs.Prelude.{◌≡◌, ℕ, List, [], ◌++◌, Option, Some, None, Result, Ok, if◌then◌else◌, option_map}
+use Rattle.std.specs.Option.{option_or}
 use Rattle.partition.specs.Fti.{Fti}
 use Rattle.alc.specs.Reading.{Reading, Reads}
 use Rattle.reception.specs.Symbols.{Symbol}
 use Rattle.reception.specs.declared.scope.Scope.{Scope}
 use Rattle.reception.specs.declared.scope.PlaceFault.{PlaceFault}
-use Rattle.reception.specs.Reception.{Judge, Reception, Seen, Early, counts}
-use Rattle.reception.specs.Step.{told, after}
-pub use Rattle.reception.specs.Found.{scope_in}
+use Rattle.reception.specs.declared.scope.Identity.{Identity}
+use Rattle.reception.specs.Reception.{Judge, Wrong, Judged, Found, Reception, Seen, Early, asked, counts, counted, learned, reading_wrong, scope_from, symbols_in}
+use Rattle.reception.specs.Readings.{readings_of}
+use Rattle.reception.specs.Step.{after}
 pub use Rattle.reception.specs.Readings.{readings_of}
+
+-- the scope of a list of datagrams, computed
+abbrev pub scope_in : Identity → List (List ℕ) → Scope
+scope_in who datagrams = scope_from (asked who) (counted who (readings_of datagrams))
+
+abbrev pub judged : {R : Type 0} → Option R → Option (Wrong R)
+judged o = option_map Judged o
+
+abbrev pub at_place : {R : Type 0} → ℕ → Option (Wrong R) → Found R
+at_place i o = option_map (λ r. (i, r)) o
+
+-- what comes to be known by a reading that counts, at place i
+abbrev pub told : {R : Type 0} → Judge R → ℕ → Reception R → Reading → Reception R
+told judge i c r = record {
+  wrong = option_or c.wrong (at_place i (reading_wrong judge (learned c.scope r) c.symbols r));
+  scope = learned c.scope r;
+  symbols = c.symbols ++ symbols_in r;
+}
 
 abbrev pub step : {R : Type 0} → Judge R → ℕ → Reception R → Reading → Reception R
 step judge i c r = if counts c.scope.identity r then told judge i c r else c

@@ -1,5 +1,6 @@
 //! Laws of the definitions, for callers to cite. They do nothing.
-ghost use Rattle.reception.specs.Reception.{asked};
+ghost use Rattle.alc.specs.Reading.{Reading};
+ghost use Rattle.reception.specs.Reception.{ReadAll, asked};
 ghost use Rattle.reception.specs.declared.scope.Identity.{Identity};
 ghost use Rattle.reception.specs.Answer.{clash};
 ghost use Rattle.reception.specs.First.{TellsTheFirst};
@@ -28,5 +29,6 @@ pub fn empty_answer()
 /// A receiver of one object isn't disturbed by packets of others: an answer to the packets of an identity, in a list of
 /// datagrams, and to what is no packet, taken alone, is the answer to the list, with the places that they have there.
 pub fn isolation()
-    ensures { (who : Identity) (datagrams : List (List ℕ)) → IsIsolated who datagrams }
+    ensures { (who : Identity) (datagrams : List (List ℕ)) (readings : List Reading)
+        → ReadAll datagrams readings → IsIsolated who datagrams readings }
 {}

@@ -2,7 +2,7 @@
 ghost use Rattle.std.specs.Prelude.{◌≡◌, Ok, map};
 ghost use Rattle.alc.specs.Views.{packet_of};
 ghost use Rattle.reception.specs.Reception.{asked, with_fti, learned, is_of_identity, has_other_fti, packet_fault};
-ghost use Rattle.reception.specs.Found.{scope_in};
+ghost use Rattle.reception.specs.Found.{IsScopeOf};
 ghost use Rattle.reception.specs.Step.{IsLook};
 ghost use Rattle.reception.specs.Walks.{IsHeard};
 
@@ -74,7 +74,7 @@ impl Scope {
     /// The scope of datagrams, with the FTI of the first carrier among them, if there is one: a decoder's, who looks at
     /// each of them then. A fault of one may be by the FTI of a carrier behind it.
     pub fn found_in(identity: Identity, datagrams: &[&[u8]]) -> Scope
-        ensures { result ≡ scope_in identity (map (λ d. d.now) datagrams.now) }
+        ensures { IsScopeOf identity (map (λ d. d.now) datagrams.now) result }
     {
         let mut scope = Scope::new(identity);
         for datagram in datagrams {
