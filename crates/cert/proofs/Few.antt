@@ -4,11 +4,11 @@ use Rattle.std.specs.Prelude.{◌==◌}
 use Rattle.lists.specs.Selection.{is_among}
 use Rattle.lists.specs.Below.{below}
 use Rattle.losses.specs.Costs.{total, count}
-use Rattle.losses.specs.Losses.{IsRising}
 use Rattle.losses.proofs.Copies.{length_count}
 use Rattle.losses.proofs.Block.{rising_below}
 use Rattle.losses.proofs.Weights.{bits_once}
 use Rattle.cert.specs.Twins.{different_esis}
+use Rattle.lists.specs.Places.{IsRising}
 
 either_bit : (a b : Bool) → cond (a || b) 1 0 ≤ cond a 1 0 + cond b 1 0
 either_bit true b = omega arith

@@ -1,3 +1,4 @@
 pub mod Bytes
 pub mod Below
 pub mod Selection
+pub mod Places

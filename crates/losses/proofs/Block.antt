@@ -10,10 +10,11 @@ use Rattle.losses.proofs.Exchange.{before_costs, cheapest}
 use Rattle.lists.proofs.Lists.{all_of, all_to, filter_all, filter_same}
 use Rattle.losses.proofs.Places.{marks_places, marks_rest, marks_size}
 use Rattle.losses.specs.Costs.{copies, count, is_cheap, total}
-use Rattle.losses.specs.Losses.{IsBefore, IsRising, places_from}
+use Rattle.losses.specs.Losses.{IsBefore, places_from}
 use Rattle.lists.specs.Below.{below}
 use Rattle.losses.specs.Numbers.{has, is_number, present}
 use Rattle.losses.specs.Number.{Number}
+use Rattle.lists.specs.Places.{IsRising}
 
 pub any_count : {X : Type 0} (p : X → Bool) (xs : List X) → list_any p xs ≡ true → 1 ≤ count p xs
 any_count p [] h = absurd (cc)

@@ -2,7 +2,8 @@
 use Rattle.std.specs.Prelude.{◌≡◌, ℕ, ◌+◌, ◌<◌, ◌≤◌, Bool, true, List, length}
 use Rattle.std.specs.List.{AllByRecursion}
 use Rattle.lists.specs.Selection.{rest, loss_size, is_run, is_among}
-use Rattle.losses.specs.Losses.{Blocks, is_enough, taken_wholly, IsRising, IsBefore, LeavesShort}
+use Rattle.losses.specs.Losses.{Blocks, is_enough, taken_wholly, IsBefore, LeavesShort}
+use Rattle.lists.specs.Places.{IsRising}
 
 -- what is left is enough for each block
 abbrev pub KeepsBlocks : {X : Type 0} → Blocks X → List X → (ℕ → Bool) → Type 0

@@ -149,9 +149,8 @@ module _ {X : Type 0} (blocks : Blocks X) where
 
     pub kill_with_carriers : (m : ℕ) (ps : List ℕ) → IsBlockMargin (carried blocks) xs m → IsBlockKill (carried blocks) xs (m + 1) ps → IsKill blocks xs (m + 1) ps
     kill_with_carriers m ps margin k = record {
-      rising = k.rising;
       count = k.count;
-      within = k.within;
+      within = (k.rising, k.within);
       block = kill_block (m + 1) ps k;
       carriers = kill_carriers m ps margin k;
     }

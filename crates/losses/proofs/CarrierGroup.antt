@@ -11,7 +11,7 @@ use Rattle.losses.specs.Members.{has_esi, outside, different_outside}
 use Rattle.losses.specs.Windows.{IsLeastGap, IsShortWindow, member, place_at}
 use Rattle.losses.specs.Costs.{IsWeighed, cheap_esis, cheap_places, esi_copies, esis, is_cheap, total}
 use Rattle.losses.specs.Losses.{IsMargin, IsBurst, IsKill}
-use Rattle.losses.specs.Groups.{Group, no_group, group_at, places, is_at, blocks_of_groups, AreMembers, AreGroups, ArePlaces, AreCarriers}
+use Rattle.losses.specs.Groups.{Group, no_group, group_at, places, is_at, blocks_of_groups}
 use Rattle.losses.proofs.BlockLosses.{IsBlockMargin, IsBlockBurst, IsBlockKill}
 use Rattle.losses.proofs.Carried.{carried, margin_with_carriers, burst_with_carriers, kill_with_carriers}
 use Rattle.losses.proofs.Transfer.{block_margin_same, block_burst_same, block_kill_same}
@@ -19,6 +19,7 @@ use Rattle.losses.proofs.Grouping.{count_cons}
 use Rattle.losses.proofs.Gathered.{last_or}
 use Rattle.losses.specs.Lightest.{IsHeavyGroup, IsWideGroup, IsNarrowGroup}
 use Rattle.losses.proofs.GroupFigures.{heavy_new, heavy_same, wide_new, wide_same, margin_of_groups, kill_of_groups, burst_of_groups}
+use Rattle.losses.specs.Ordered.{AreMembersFrom, ArePlacesFrom, AreOrdered, AreOrderedCarriers}
 
 abbrev pub carrier_members : List ℕ → List Member
 carrier_members ps = map (λ p. member p 0) ps
@@ -156,12 +157,12 @@ place_is i [] = refl
 place_is zero (p ∷ ps) = refl
 place_is (suc i) (p ∷ ps) = place_is i ps
 
-place_above : (i n k : ℕ) (ps : List ℕ) → ArePlaces i n ps → k < length ps → i ≤ slice_index_or ps k 0
+place_above : (i n k : ℕ) (ps : List ℕ) → ArePlacesFrom i n ps → k < length ps → i ≤ slice_index_or ps k 0
 place_above i n k [] h l = absurd (omega arith)
 place_above i n zero (p ∷ ps) h l = h.0
 place_above i n (suc k) (p ∷ ps) h l = let a = h.0 in let e = place_above (p + 1) n k ps h.2 (omega arith) in omega (arith, a, e)
 
-first_le : (i n k : ℕ) (ps : List ℕ) → ArePlaces i n ps → k < length ps → slice_index_or ps 0 0 ≤ slice_index_or ps k 0
+first_le : (i n k : ℕ) (ps : List ℕ) → ArePlacesFrom i n ps → k < length ps → slice_index_or ps 0 0 ≤ slice_index_or ps k 0
 first_le i n k [] h l = absurd (omega arith)
 first_le i n zero (p ∷ ps) h l = omega arith
 first_le i n (suc k) (p ∷ ps) h l = let e = place_above (p + 1) n k ps h.2 (omega arith) in omega (arith, e)
@@ -171,7 +172,7 @@ abbrev pub span : List ℕ → ℕ
 span ps = slice_index_or ps (length ps - 1) 0 - slice_index_or ps 0 0
 
 -- so the subtraction is one
-pub span_fits : (n : ℕ) (ps : List ℕ) → AreCarriers ps n → slice_index_or ps 0 0 ≤ slice_index_or ps (length ps - 1) 0
+pub span_fits : (n : ℕ) (ps : List ℕ) → AreOrderedCarriers ps n → slice_index_or ps 0 0 ≤ slice_index_or ps (length ps - 1) 0
 span_fits n ps are = let s = are.some in first_le 0 n (length ps - 1) ps are.places (omega (arith, s))
 
 whole_short : (ps : List ℕ) → different_outside (carrier_members ps) 0 (length ps) < 1
@@ -191,7 +192,7 @@ all_inside x y ps lx ly h =
       | false ↦ λ e. (let l = ltb-false _ _ e in (omega (arith, l), omega (arith, l, ly)))
     ] refl
 
-module _ (n : ℕ) (ps : List ℕ) (are : AreCarriers ps n) where
+module _ (n : ℕ) (ps : List ℕ) (are : AreOrderedCarriers ps n) where
   least_window : (x y : ℕ) → IsShortWindow (carrier_members ps) 1 x y → place_at (carrier_members ps) x + span ps ≤ place_at (carrier_members ps) (y - 1)
   least_window x y w =
       let c = count_of_members ps in
@@ -219,7 +220,7 @@ module _ (n : ℕ) (ps : List ℕ) (are : AreCarriers ps n) where
 
 -- ---- it stands behind the others
 
-are_members : (i n : ℕ) (ps : List ℕ) → ArePlaces i n ps → AreMembers i n (carrier_members ps)
+are_members : (i n : ℕ) (ps : List ℕ) → ArePlacesFrom i n ps → AreMembersFrom i n (carrier_members ps)
 are_members i n [] h = tt
 are_members i n (p ∷ ps) h = (h.0, h.1, omega arith, are_members (p + 1) n ps h.2)
 
@@ -292,15 +293,15 @@ module _ (groups : List Group) (ps : List ℕ) where
       (ap (λ (v : Bool). cond v (list_any (is_at left j) (group_at groups (length groups)).members) (0 == j && list_any (is_among ps) left)) (le-ltb (length groups) (length groups) (omega arith))
       ∙ sym (symbol_left left j ps) ∙ sym (ap (λ (g : Group). list_any (is_at left j) g.members) at_carriers))
 
-  module _ (n : ℕ) (are : AreGroups groups n) (carriers : AreCarriers ps n) where
-    pub are_with : AreGroups (with_carriers groups ps) n
+  module _ (n : ℕ) (are : AreOrdered groups n) (carriers : AreOrderedCarriers ps n) where
+    pub are_with : AreOrdered (with_carriers groups ps) n
     are_with = record {
       some = λ b l. last_or (λ b. 0 < (group_at (with_carriers groups ps) b).need) (length groups)
           (λ b l. subst (λ (g : Group). 0 < g.need) (sym (at_group b l)) (are.some b l))
           (subst (λ (g : Group). 0 < g.need) (sym at_carriers) (omega arith)) b (let c = count_with in omega (arith, l, c));
-      members = λ b l. last_or (λ b. AreMembers 0 n (group_at (with_carriers groups ps) b).members) (length groups)
-          (λ b l. subst (λ (g : Group). AreMembers 0 n g.members) (sym (at_group b l)) (are.members b l))
-          (subst (λ (g : Group). AreMembers 0 n g.members) (sym at_carriers) (are_members 0 n ps carriers.places)) b (let c = count_with in omega (arith, l, c));
+      members = λ b l. last_or (λ b. AreMembersFrom 0 n (group_at (with_carriers groups ps) b).members) (length groups)
+          (λ b l. subst (λ (g : Group). AreMembersFrom 0 n g.members) (sym (at_group b l)) (are.members b l))
+          (subst (λ (g : Group). AreMembersFrom 0 n g.members) (sym at_carriers) (are_members 0 n ps carriers.places)) b (let c = count_with in omega (arith, l, c));
       enough = λ b l. last_or (λ b. (group_at (with_carriers groups ps) b).need ≤ different_outside (group_at (with_carriers groups ps) b).members 0 0) (length groups)
           (λ b l. subst (λ (g : Group). g.need ≤ different_outside g.members 0 0) (sym (at_group b l)) (are.enough b l))
           (subst (λ (g : Group). g.need ≤ different_outside g.members 0 0) (sym at_carriers) (let o = one_symbol ps carriers.some in omega (arith, o))) b (let c = count_with in omega (arith, l, c));

@@ -4,8 +4,10 @@ use Rattle.std.specs.List.{list_any}
 use Rattle.std.proofs.Common.{◌∙◌, ap, arith}
 use Rattle.lists.specs.Selection.{rest_from, is_among}
 use Rattle.losses.specs.Losses.{places_from}
-use Rattle.losses.specs.Groups.{places, ArePlaces, AreCarriers}
+use Rattle.losses.specs.Groups.{places, AreCarriers}
 use Rattle.losses.proofs.Places.{Marks, marks_places}
+use Rattle.losses.specs.Ordered.{ArePlacesFrom}
+use Rattle.losses.proofs.Ordering.{carriers_told}
 
 -- a loss of just the members that pass, over places
 marked_any : {X : Type 0} (g : X → Bool) (marks lost : ℕ → Bool) (i : ℕ) (xs : List X) → Marks g marks i xs → list_any marks (rest_from i lost (places i (length xs))) ≡ list_any g (rest_from i lost xs)
@@ -34,16 +36,16 @@ module _ {X : Type 0} (g : X → Bool) (xs : List X) where
   carriers_same = marked_places g (is_among (places_from g 0 xs)) 0 xs (marks_places g 0 xs)
 
 -- the places of members that pass are places of the list
-pub are_places : {X : Type 0} (g : X → Bool) (i n : ℕ) (xs : List X) → i + length xs ≤ n → ArePlaces i n (places_from g i xs)
+pub are_places : {X : Type 0} (g : X → Bool) (i n : ℕ) (xs : List X) → i + length xs ≤ n → ArePlacesFrom i n (places_from g i xs)
 are_places g i n [] l = tt
 are_places g i n (x ∷ xs) l =
     let later = are_places g (i + 1) n xs (omega (arith, l)) in
-    elim (g x) as (λ v. ArePlaces i n (cond v (i ∷ places_from g (i + 1) xs) (places_from g (i + 1) xs))) [
+    elim (g x) as (λ v. ArePlacesFrom i n (cond v (i ∷ places_from g (i + 1) xs) (places_from g (i + 1) xs))) [
       | true ↦ (omega arith, omega (arith, l), later)
       | false ↦ wider i n (places_from g (i + 1) xs) later
     ]
   where
-    wider : (k m : ℕ) (ps : List ℕ) → ArePlaces (k + 1) m ps → ArePlaces k m ps
+    wider : (k m : ℕ) (ps : List ℕ) → ArePlacesFrom (k + 1) m ps → ArePlacesFrom k m ps
     wider k m [] h = tt
     wider k m (p ∷ ps) h = (let a = h.0 in omega (arith, a), h.1, h.2)
 
@@ -57,4 +59,5 @@ some_place g i (x ∷ xs) h =
 
 -- the carriers' places of a list that has one
 pub are_carriers : {X : Type 0} (g : X → Bool) (xs : List X) → list_any g xs ≡ true → AreCarriers (places_from g 0 xs) (length xs)
-are_carriers g xs h = record { some = some_place g 0 xs h; places = are_places g 0 (length xs) xs (omega arith) }
+are_carriers g xs h =
+    carriers_told (places_from g 0 xs) (length xs) (record { some = some_place g 0 xs h; places = are_places g 0 (length xs) xs (omega arith) })

@@ -15,7 +15,7 @@ use Rattle.losses.specs.Costs.{IsWeighed, cheap_places}
 use Rattle.losses.specs.Losses.{Blocks, IsBefore, is_enough, esis_in, taken_wholly}
 use Rattle.losses.proofs.BlockLosses.{IsBlockKill, IsBlockMargin, IsBlockBurst}
 use Rattle.losses.specs.declared.groups.Group.{Group as GroupOf}
-use Rattle.losses.specs.Groups.{Group, group_of, groups_of, no_group, group_at, places, is_at, blocks_of_groups, AreGroups}
+use Rattle.losses.specs.Groups.{Group, group_of, groups_of, no_group, group_at, places, is_at, blocks_of_groups}
 use Rattle.losses.specs.Lightest.{IsHeavyGroup, IsWideGroup, IsNarrowGroup}
 use Rattle.losses.proofs.Copies.{HasByteEsi}
 use Rattle.lists.proofs.Lists.{filter_same, all_of}
@@ -27,6 +27,7 @@ use Rattle.losses.proofs.Narrowest.{least_run, present_all}
 use Rattle.losses.proofs.Weights.{doomed_are}
 use Rattle.losses.proofs.Gathered.{cut_of, price_of, some_price, last_or, group_placed}
 use Rattle.losses.proofs.Lines.{line, line_length, line_members, line_small, line_left, line_whole}
+use Rattle.losses.specs.Ordered.{AreOrdered}
 
 -- A group's cheapest such symbols cost no less than the least, and more before group `at`.
 pub record IsGroupPriced (b k : ℕ) (ps : List Number) (least at : ℕ) : Type 0 where
@@ -208,7 +209,7 @@ module _ (groups : List Group) (n : ℕ) where
   pub narrow_more : (burst : ℕ) → IsNarrowGroup groups n burst → IsNarrowGroup groups (n + 1) burst
   narrow_more burst q = let y = q.within in record { at = q.at; within = omega (arith, y); is = q.is }
 
-module _ (groups : List Group) (n : ℕ) (are : AreGroups groups n) where
+module _ (groups : List Group) (n : ℕ) (are : AreOrdered groups n) where
   lines : ℕ → List Number
   lines b = line 0 n (group_at groups b).members
 

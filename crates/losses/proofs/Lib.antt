@@ -21,3 +21,4 @@ pub mod Lines
 pub mod GroupFigures
 pub mod CarrierGroup
 pub mod CarrierPlaces
+pub mod Ordering

@@ -8,9 +8,10 @@ use Rattle.losses.specs.Number.{Number}
 use Rattle.losses.specs.declared.groups.Member.{Member}
 use Rattle.losses.specs.Numbers.{has}
 use Rattle.losses.specs.Windows.{member, members}
-use Rattle.losses.specs.Groups.{places, is_at, AreMembers}
+use Rattle.losses.specs.Groups.{places, is_at}
 use Rattle.losses.proofs.Copies.{HasByteEsi}
 use Rattle.losses.proofs.Link.{is_left, has_rest}
+use Rattle.losses.specs.Ordered.{AreMembersFrom}
 
 abbrev pub here : ℕ → Number
 here j = record { block = 0; esi = j }
@@ -36,7 +37,7 @@ line_length i (suc n) (q ∷ qs) =
     ]
 
 -- the members of such a list
-pub line_members : (i n m : ℕ) (qs : List Member) → i + n ≡ m → AreMembers i m qs → members 0 i (line i n qs) ≡ qs
+pub line_members : (i n m : ℕ) (qs : List Member) → i + n ≡ m → AreMembersFrom i m qs → members 0 i (line i n qs) ≡ qs
 line_members i zero m [] e h = refl
 line_members i zero m (q ∷ qs) e h = absurd (let a = h.0 in let b = h.1 in omega (arith, a, b, e))
 line_members i (suc n) m [] e h = line_members (i + 1) n m [] (omega (arith, e)) tt
@@ -44,7 +45,7 @@ line_members i (suc n) m (q ∷ qs) e h =
     elim (q.place == i) as (λ v. (q.place == i) ≡ v → members 0 i (cond v (here q.esi ∷ line (i + 1) n qs) (nobody ∷ line (i + 1) n (q ∷ qs))) ≡ q ∷ qs) [
       | true ↦ λ t.
           (let same : q.place ≡ i = eqb-true _ _ t in
-          let later = subst (λ (x : ℕ). AreMembers (x + 1) m qs) same h.3 in
+          let later = subst (λ (x : ℕ). AreMembersFrom (x + 1) m qs) same h.3 in
           let ih = line_members (i + 1) n m qs (omega (arith, e)) later in
           let one : member i q.esi ≡ q = ap (λ (x : ℕ). member x q.esi) (sym same) in
           (cc))
@@ -54,12 +55,12 @@ line_members i (suc n) m (q ∷ qs) e h =
           line_members (i + 1) n m (q ∷ qs) (omega (arith, e)) (omega (arith, low, other), h.1, h.2, h.3))
     ] refl
 
-pub line_small : (i n m : ℕ) (qs : List Member) → AreMembers i m qs → AllByRecursion HasByteEsi (line i n qs)
+pub line_small : (i n m : ℕ) (qs : List Member) → AreMembersFrom i m qs → AllByRecursion HasByteEsi (line i n qs)
 line_small i zero m qs h = tt
 line_small i (suc n) m [] h = (omega arith, line_small (i + 1) n m [] tt)
 line_small i (suc n) m (q ∷ qs) h =
     elim (q.place == i) as (λ v. (q.place == i) ≡ v → AllByRecursion HasByteEsi (cond v (here q.esi ∷ line (i + 1) n qs) (nobody ∷ line (i + 1) n (q ∷ qs)))) [
-      | true ↦ λ t. (h.2, line_small (i + 1) n m qs (subst (λ (x : ℕ). AreMembers (x + 1) m qs) (eqb-true _ _ t) h.3))
+      | true ↦ λ t. (h.2, line_small (i + 1) n m qs (subst (λ (x : ℕ). AreMembersFrom (x + 1) m qs) (eqb-true _ _ t) h.3))
       | false ↦ λ t.
           (let other = eqb-false _ _ t in
           let low = h.0 in
@@ -99,7 +100,7 @@ left_places lost i (suc n) p l g =
     at_first e false = rw e refl
 
 -- a member is left where its place is
-pub any_left : (lost : ℕ → Bool) (i n m j : ℕ) (qs : List Member) → AreMembers i n qs → m ≡ n
+pub any_left : (lost : ℕ → Bool) (i n m j : ℕ) (qs : List Member) → AreMembersFrom i n qs → m ≡ n
     → list_any (is_at (rest lost (places 0 m)) j) qs ≡ list_any (is_left lost j) qs
 any_left lost i n m j [] h e = refl
 any_left lost i n m j (q ∷ qs) h e =
@@ -108,7 +109,7 @@ any_left lost i n m j (q ∷ qs) h e =
     ap (λ (v : Bool). (v && q.esi == j) || list_any (is_at (rest lost (places 0 m)) j) qs) a
     ∙ ap (λ (v : Bool). is_left lost j q || v) ih
 
-pub line_left : (lost : ℕ → Bool) (n j : ℕ) (qs : List Member) → AreMembers 0 n qs
+pub line_left : (lost : ℕ → Bool) (n j : ℕ) (qs : List Member) → AreMembersFrom 0 n qs
     → list_any (is_at (rest lost (places 0 n)) j) qs ≡ has 0 (rest lost (line 0 n qs)) j
 line_left lost n j qs h =
     any_left lost 0 n n j qs h refl
@@ -119,7 +120,7 @@ pub nothing : {X : Type 0} (i : ℕ) (xs : List X) → rest_from i (λ k. false)
 nothing i [] = refl
 nothing i (x ∷ xs) = ap (λ ys. x ∷ ys) (nothing (i + 1) xs)
 
-pub line_whole : (n j : ℕ) (qs : List Member) → AreMembers 0 n qs → list_any (is_at (places 0 n) j) qs ≡ has 0 (line 0 n qs) j
+pub line_whole : (n j : ℕ) (qs : List Member) → AreMembersFrom 0 n qs → list_any (is_at (places 0 n) j) qs ≡ has 0 (line 0 n qs) j
 line_whole n j qs h =
     ap (λ (xs : List ℕ). list_any (is_at xs j) qs) (sym (nothing 0 (places 0 n)))
     ∙ line_left (λ k. false) n j qs h

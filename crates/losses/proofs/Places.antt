@@ -5,7 +5,8 @@ use Rattle.std.proofs.Common.{◌∙◌, ap, arith}
 use Rattle.std.proofs.lemmas.Bool.{eqb-true, eq-eqb}
 use Rattle.lists.specs.Selection.{is_among, lost_from, rest_from}
 use Rattle.losses.specs.Costs.{count}
-use Rattle.losses.specs.Losses.{IsRising, places_from}
+use Rattle.losses.specs.Losses.{places_from}
+use Rattle.lists.specs.Places.{IsRising}
 
 -- a loss of just the members that pass
 abbrev pub Marks : {X : Type 0} → (X → Bool) → (ℕ → Bool) → ℕ → List X → Type 0

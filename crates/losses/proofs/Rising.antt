@@ -5,7 +5,7 @@ use Rattle.std.proofs.Common.{arith}
 use Rattle.std.proofs.lemmas.Bool.{eqb-true}
 use Rattle.lists.specs.Selection.{is_among}
 use Rattle.lists.proofs.Lists.{all_to}
-use Rattle.losses.specs.Losses.{IsRising}
+use Rattle.lists.specs.Places.{IsRising}
 
 among_above : (y x : ℕ) (ys : List ℕ) → AllByRecursion (λ z. y < z) ys → is_among ys x ≡ true → y < x
 among_above y x [] h g = absurd (cc)

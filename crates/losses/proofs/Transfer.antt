@@ -118,9 +118,8 @@ module _ {X Y : Type 0} (these : Blocks X) (those : Blocks Y) (xs : List X) (ys 
 
     pub kill_same : (n : ℕ) (places : List ℕ) → IsKill these xs n places → IsKill those ys n places
     kill_same n places h = record {
-      rising = h.rising;
       count = h.count;
-      within = within_same places h.within;
+      within = (h.within.0, within_same places h.within.1);
       block = λ b lost s. killed_same n places (h.block b lost (short_from n b lost s));
       carriers = λ none. h.carriers (λ b lost s. none b lost (short_to n b lost s)) ∙ sym carriers;
     }

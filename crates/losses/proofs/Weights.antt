@@ -10,13 +10,14 @@ use Rattle.losses.proofs.Grouping.{any_is, count_cons, has_members}
 use Rattle.losses.proofs.Link.{copies_are}
 use Rattle.lists.proofs.Lists.{all_of, all_to, filter_all, filter_same}
 use Rattle.losses.specs.Costs.{IsWeighed, present_esis, cheap_esis, cheap_places, cheapest_of, copies, cost_of, esi_copies, esis, is_cheap, total}
-use Rattle.losses.specs.Losses.{IsRising, places_from}
+use Rattle.losses.specs.Losses.{places_from}
 use Rattle.losses.specs.Members.{different_outside, has_esi, outside}
 use Rattle.losses.specs.Windows.{filled, member, members}
 use Rattle.lists.specs.Below.{below}
 use Rattle.losses.specs.Numbers.{has, present}
 use Rattle.losses.specs.declared.groups.Member.{Member}
 use Rattle.losses.specs.Number.{Number}
+use Rattle.lists.specs.Places.{IsRising}
 
 module _ (counts : List ℕ) (qs : List Member) (known : (j : ℕ) → j < 256 → get_or counts j 0 ≡ esi_copies qs j) where
   pub came_is : present_esis counts ≡ esis qs

@@ -1,10 +1,11 @@
 -- Groups of places: what a list can lose, by the places of each group's symbols and those of the carriers. A place can
 -- be in several groups, or in none.
-use Rattle.std.specs.Prelude.{ℕ, zero, suc, ◌+◌, ◌<◌, ◌≤◌, Bool, ◌&&◌, ◌==◌, List, [], ◌∷◌, length, map, slice_index_or}
-use Rattle.std.specs.List.{list_any}
+use Rattle.std.specs.Prelude.{ℕ, zero, suc, ◌+◌, ◌<◌, ◌≤◌, Bool, ◌&&◌, ◌==◌, List, [], ◌∷◌, length, filter, map, slice_index_or}
+use Rattle.std.specs.List.{AllByRecursion, list_any}
+use Rattle.lists.specs.Below.{below}
+use Rattle.lists.specs.Places.{ArePlaces}
 use Rattle.lists.specs.Selection.{is_among}
 use Rattle.losses.specs.Losses.{Blocks}
-use Rattle.losses.specs.Members.{different_outside}
 use Rattle.losses.specs.declared.groups.Member.{Member}
 use Rattle.losses.specs.declared.groups.Group.{Group as GroupOf}
 
@@ -43,26 +44,21 @@ blocks_of_groups groups carriers = record {
   is_carrier = is_among carriers;
 }
 
--- the places rise from i on, and are below n; the symbols' numbers are bytes
-abbrev pub AreMembers : ℕ → ℕ → List Member → Type 0
-AreMembers i n [] = Unit {0}
-AreMembers i n (q ∷ qs) = (i ≤ q.place) × (q.place < n) × (q.esi < 256) × AreMembers (q.place + 1) n qs
+-- how many different symbols they are
+abbrev pub different : List Member → ℕ
+different members = length (filter (λ j. list_any (λ q. q.esi == j) members) (below 256))
 
--- each group needs some symbols, and enough are there, at places of a list that is n long
+-- each group needs some symbols, and enough are there, at places of a list that is n long, rising; their numbers are bytes
 pub record AreGroups (groups : List Group) (n : ℕ) : Type 0 where
   pub some : (b : ℕ) → b < length groups → 0 < (group_at groups b).need
-  pub members : (b : ℕ) → b < length groups → AreMembers 0 n (group_at groups b).members
-  pub enough : (b : ℕ) → b < length groups → (group_at groups b).need ≤ different_outside (group_at groups b).members 0 0
-
--- the places rise from i on, and are below n
-abbrev pub ArePlaces : ℕ → ℕ → List ℕ → Type 0
-ArePlaces i n [] = Unit {0}
-ArePlaces i n (p ∷ ps) = (i ≤ p) × (p < n) × ArePlaces (p + 1) n ps
+  pub places : (b : ℕ) → b < length groups → ArePlaces n (map (λ q. q.place) (group_at groups b).members)
+  pub small : (b : ℕ) → b < length groups → AllByRecursion (λ q. q.esi < 256) (group_at groups b).members
+  pub enough : (b : ℕ) → b < length groups → (group_at groups b).need ≤ different (group_at groups b).members
 
 -- there is a carrier, and their places are those of a list that is n long
 pub record AreCarriers (carriers : List ℕ) (n : ℕ) : Type 0 where
   pub some : 0 < length carriers
-  pub places : ArePlaces 0 n carriers
+  pub places : ArePlaces n carriers
 
 -- some list has the groups' places and the carriers'
 abbrev pub AreOfAList : List Group → List ℕ → Type 0

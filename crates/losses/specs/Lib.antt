@@ -6,3 +6,4 @@ pub mod Groups
 pub mod Costs
 pub mod Windows
 pub mod Lightest
+pub mod Ordered

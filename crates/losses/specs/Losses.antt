@@ -1,9 +1,10 @@
 -- What a list of packets, or of their numbers, can lose. A loss is a set of places of the list. What is left has to be
 -- enough for each block, and has to have a carrier: a packet that tells what the blocks are.
 use Rattle.std.specs.Prelude.{◌≡◌, ℕ, ◌+◌, ◌<◌, ◌≤◌, ◌⊎◌, Bool, true, false, not, nat_le, cond, List, [], ◌∷◌, length, filter}
-use Rattle.std.specs.List.{AllByRecursion, list_any}
+use Rattle.std.specs.List.{list_any}
 use Rattle.lists.specs.Selection.{rest, loss_size, is_run, is_among}
 use Rattle.lists.specs.Below.{below}
+use Rattle.lists.specs.Places.{ArePlaces}
 
 -- So many blocks, how many different symbols each of them needs, and whether a list has a symbol of a block by its ESI;
 -- and which members of a list are carriers.
@@ -54,11 +55,6 @@ pub record IsBurst {X : Type 0} (blocks : Blocks X) (xs : List X) (m : ℕ) : Ty
   pub bears : BearsRuns blocks xs m
   pub greatest : (n : ℕ) → n ≤ length xs → BearsRuns blocks xs n → n ≤ m
 
--- rising, each number once
-abbrev pub IsRising : List ℕ → Type 0
-IsRising [] = Unit {0}
-IsRising (x ∷ xs) = AllByRecursion (λ y. x < y) xs × IsRising xs
-
 -- one list stands before another in a dictionary
 abbrev pub IsBefore : List ℕ → List ℕ → Type 0
 IsBefore [] [] = ⊥
@@ -87,8 +83,7 @@ pub record KillsBlock {X : Type 0} (blocks : Blocks X) (xs : List X) (n : ℕ) (
 
 -- n places, rising: those of a block's kill, where a loss of n places leaves a block short, else those of all carriers
 pub record IsKill {X : Type 0} (blocks : Blocks X) (xs : List X) (n : ℕ) (places : List ℕ) : Type 0 where
-  pub rising : IsRising places
   pub count : length places ≡ n
-  pub within : AllByRecursion (λ p. p < length xs) places
+  pub within : ArePlaces (length xs) places
   pub block : (b : ℕ) (lost : ℕ → Bool) → LeavesShort blocks xs n b lost → KillsBlock blocks xs n places
   pub carriers : ((b : ℕ) (lost : ℕ → Bool) → ¬ LeavesShort blocks xs n b lost) → places ≡ carrier_places blocks xs

@@ -1,6 +1,7 @@
 //! Margin, kill and burst.
 ghost use Rattle.std.specs.Prelude.{◌≡◌, ℕ, ◌+◌, ◌<◌, IfOk, length};
-ghost use Rattle.losses.specs.Groups.{groups_of, AreGroups, AreOfAList, InEachList};
+ghost use Rattle.losses.specs.Groups.{groups_of, AreOfAList, InEachList};
+ghost use Rattle.losses.specs.Ordered.{AreOrdered};
 ghost use Rattle.losses.specs.Losses.{IsMargin, IsKill, IsBurst};
 ghost use Rattle.losses.specs.Lightest.{IsLightest};
 
@@ -30,7 +31,7 @@ struct Lightest {
 
 fn weigh_all(alloc: Global, groups: &[Group]) -> Result<Lightest, AllocError>
     requires some { 0 < length groups.now }
-    requires groups { (n : ℕ) × AreGroups (groups_of groups.now) n }
+    requires groups { (n : ℕ) × AreOrdered (groups_of groups.now) n }
     ensures { IfOk result (IsLightest (groups_of groups.now)) }
 {
     let first = weigh(alloc, &groups[0].members, groups[0].need)?;

@@ -6,27 +6,34 @@ use Rattle.losses.specs.declared.groups.Member.{Member}
 use Rattle.losses.specs.Groups.{groups_of, places, blocks_of_groups}
 use Rattle.losses.proofs.GroupFigures.{members_seen, count_of, some}
 use Rattle.losses.proofs.CarrierGroup.{span_fits, margin_blocks, margin_carriers, kill_blocks, kill_carriers, burst_blocks, burst_carriers}
+use Rattle.losses.proofs.Ordering.{carriers_ordered, groups_ordered}
 use Rattle.losses.proofs.report.figures_of.Goals as goal
 use Rattle.losses.proofs.report.figures_of.Goals.{then-span-block, else-span-block}
 
 pub overflow_sub-span-2 : goal.overflow_sub-span-2
-overflow_sub-span-2 c = span_fits c.requires.groups.0 c.args.carriers.now c.requires.groups.2
+overflow_sub-span-2 c = span_fits c.requires.groups.0 c.args.carriers.now (carriers_ordered c.args.carriers.now c.requires.groups.0 c.requires.groups.2)
 
 pub returns-then-carriers-block-clause-margin : goal.returns-then-carriers-block-clause-margin
-returns-then-carriers-block-clause-margin c = λ n are carriers.
+returns-then-carriers-block-clause-margin c = λ n told came.
+    let are = groups_ordered (groups_of c.args.groups.now) n told in
+    let carriers = carriers_ordered c.args.carriers.now n came in
     let w = c.in_ok-block.ensures in
     let l = c.in_ok-block.block in
     margin_carriers (groups_of c.args.groups.now) c.args.carriers.now n are carriers l.at l.threshold.cost l.threshold.most_copies l.threshold.last_esi w.within w.weighed w.heavy c.if-carriers-block.true
 
 pub returns-then-carriers-block-clause-kill : goal.returns-then-carriers-block-clause-kill
-returns-then-carriers-block-clause-kill c = λ n are carriers.
+returns-then-carriers-block-clause-kill c = λ n told came.
+    let are = groups_ordered (groups_of c.args.groups.now) n told in
+    let carriers = carriers_ordered c.args.carriers.now n came in
     let w = c.in_ok-block.ensures in
     let l = c.in_ok-block.block in
     subst (λ (ps : List ℕ). IsKill (blocks_of_groups (groups_of c.args.groups.now) c.args.carriers.now) (places 0 n) (length c.args.carriers.now - 1 + 1) ps) (sym (c.in_ok-to_vec.ensures.items_if_clones_equal (λ x y e. e)))
     (kill_carriers (groups_of c.args.groups.now) c.args.carriers.now n are carriers l.at l.threshold.cost l.threshold.most_copies l.threshold.last_esi w.within w.weighed w.heavy c.if-carriers-block.true)
 
 pub returns-then-carriers-block-clause-burst : goal.returns-then-carriers-block-clause-burst
-returns-then-carriers-block-clause-burst c = λ n are carriers.
+returns-then-carriers-block-clause-burst c = λ n told came.
+    let are = groups_ordered (groups_of c.args.groups.now) n told in
+    let carriers = carriers_ordered c.args.carriers.now n came in
     let w = c.in_ok-block.ensures in
     let l = c.in_ok-block.block in
     elim c.if-span-block.branch [
@@ -38,16 +45,20 @@ pub overflow_sub-result-2 : goal.overflow_sub-result-2
 overflow_sub-result-2 c =
     let w = c.in_ok-block.ensures in
     let l = c.in_ok-block.block in
-    some (groups_of c.args.groups.now) c.requires.groups.0 c.requires.groups.1 l.at l.threshold.cost l.threshold.most_copies l.threshold.last_esi w.within w.weighed w.heavy
+    some (groups_of c.args.groups.now) c.requires.groups.0 (groups_ordered (groups_of c.args.groups.now) c.requires.groups.0 c.requires.groups.1) l.at l.threshold.cost l.threshold.most_copies l.threshold.last_esi w.within w.weighed w.heavy
 
 pub returns-clause-margin : goal.returns-clause-margin
-returns-clause-margin c = λ n are carriers.
+returns-clause-margin c = λ n told came.
+    let are = groups_ordered (groups_of c.args.groups.now) n told in
+    let carriers = carriers_ordered c.args.carriers.now n came in
     let w = c.in_ok-block.ensures in
     let l = c.in_ok-block.block in
     margin_blocks (groups_of c.args.groups.now) c.args.carriers.now n are carriers l.at l.threshold.cost l.threshold.most_copies l.threshold.last_esi w.within w.weighed w.heavy c.if-carriers-block.false
 
 pub returns-clause-kill : goal.returns-clause-kill
-returns-clause-kill c = λ n are carriers.
+returns-clause-kill c = λ n told came.
+    let are = groups_ordered (groups_of c.args.groups.now) n told in
+    let carriers = carriers_ordered c.args.carriers.now n came in
     let w = c.in_ok-block.ensures in
     let l = c.in_ok-block.block in
     let gs = c.args.groups.now in
@@ -58,7 +69,9 @@ returns-clause-kill c = λ n are carriers.
     (kill_blocks (groups_of gs) c.args.carriers.now n are carriers l.at l.threshold.cost l.threshold.most_copies l.threshold.last_esi w.within w.weighed w.heavy c.if-carriers-block.false)
 
 pub returns-clause-burst : goal.returns-clause-burst
-returns-clause-burst c = λ n are carriers.
+returns-clause-burst c = λ n told came.
+    let are = groups_ordered (groups_of c.args.groups.now) n told in
+    let carriers = carriers_ordered c.args.carriers.now n came in
     let w = c.in_ok-block.ensures in
     let l = c.in_ok-block.block in
     elim c.if-span-block.branch [
@@ -71,3 +84,7 @@ offset_bounds-groups-block c = grind (arith, common_steps) steps 2000000
 
 pub bounds-groups-block : goal.bounds-groups-block
 bounds-groups-block c = grind (arith, common_steps) steps 2000000
+
+pub weigh_all-requires-clause-groups : goal.weigh_all-requires-clause-groups
+weigh_all-requires-clause-groups c =
+    (c.requires.groups.0, groups_ordered (groups_of c.args.groups.now) c.requires.groups.0 c.requires.groups.1)
