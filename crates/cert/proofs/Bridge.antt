@@ -9,9 +9,9 @@ use Rattle.lists.specs.Selection.{rest_from}
 use Rattle.lists.proofs.Lists.{filter_same}
 use Rattle.lists.proofs.Below.{all_below}
 use Rattle.losses.specs.declared.groups.Member.{Member}
-use Rattle.losses.specs.Members.{has_esi, outside, different_outside}
+use Rattle.losses.specs.Members.{has_esi}
 use Rattle.losses.specs.declared.groups.Group.{Group as GroupOf}
-use Rattle.losses.specs.Groups.{Group, group_at, groups_of}
+use Rattle.losses.specs.Groups.{Group, group_at, groups_of, different}
 use Rattle.losses.proofs.GroupFigures.{seen, count_of}
 use Rattle.losses.proofs.Grouping.{any_is}
 use Rattle.losses.proofs.Link.{is_left}
@@ -150,15 +150,11 @@ held_has who b j rs =
     ap (λ (xs : List Reading). has_arrived (symbols (counted who xs)) b j) (sym (nothing_lost 0 rs)) ∙ held_left who (λ k. false) b j 0 0 rs
 
 -- how many different symbols a group has
-pub held_different : (who : Identity) (b : ℕ) (rs : List Reading) (qs : List Member) → qs ≡ members_of b (counted who rs) → different_outside qs 0 0 ≡ arrived_count (symbols (counted who rs)) b
-unfolding different_outside
+pub held_different : (who : Identity) (b : ℕ) (rs : List Reading) (qs : List Member) → qs ≡ members_of b (counted who rs) → different qs ≡ arrived_count (symbols (counted who rs)) b
 held_different who b rs qs is =
-    ap length (filter_same (λ j. nat_lt 0 (outside qs 0 0 j)) (has_arrived (symbols (counted who rs)) b) (below 256)
-    (all_below (λ j. nat_lt 0 (outside qs 0 0 j) ≡ has_arrived (symbols (counted who rs)) b j) 256
-    (λ j l. sym (held_has who b j rs ∙ ap (λ (ms : List Member). list_any (has_esi j) ms) (sym is) ∙ any_is (has_esi j) qs ∙ ap (nat_lt 0) (let e : count_by (has_esi j) qs ≡ outside qs 0 0 j = counted_twice j qs in e)))))
-  where
-    counted_twice : (j : ℕ) (ms : List Member) → count_by (has_esi j) ms ≡ outside ms 0 0 j
-    counted_twice j ms = omega arith
+    ap length (filter_same (λ j. list_any (λ q. q.esi == j) qs) (has_arrived (symbols (counted who rs)) b) (below 256)
+    (all_below (λ j. list_any (λ q. q.esi == j) qs ≡ has_arrived (symbols (counted who rs)) b j) 256
+    (λ j l. sym (held_has who b j rs ∙ ap (λ (ms : List Member). list_any (has_esi j) ms) (sym is)))))
 
 -- ---- lines and short blocks
 

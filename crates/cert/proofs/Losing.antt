@@ -5,7 +5,7 @@ use Rattle.std.specs.List.{list_any, AllByRecursion}
 use Rattle.lists.specs.Selection.{rest_from, rest}
 use Rattle.losses.specs.declared.groups.Member.{Member}
 use Rattle.losses.specs.Losses.{Blocks, places_from, IsMargin, IsKill, IsBurst, IsHarmless}
-use Rattle.losses.specs.Groups.{Group, group_at, places, is_at, blocks_of_groups, AreMembers, AreGroups}
+use Rattle.losses.specs.Groups.{Group, group_at, places, is_at, blocks_of_groups, AreGroups}
 use Rattle.losses.proofs.Lines.{any_left}
 use Rattle.losses.proofs.Link.{is_left}
 use Rattle.losses.proofs.Transfer.{margin_same, kill_same, burst_same}
@@ -15,32 +15,34 @@ use Rattle.partition.proofs.Laws.{some_source}
 use Rattle.alc.specs.Reading.{Reading}
 use Rattle.reception.specs.declared.scope.Identity.{Identity}
 use Rattle.reception.specs.Symbols.{has_arrived}
-use Rattle.reception.specs.Reception.{ReadAll, is_of_identity, is_carrier, counted_from, counted, symbols}
-use Rattle.reception.specs.Headline.{IsEnough}
+use Rattle.reception.specs.Reception.{ReadAll, is_of_identity, is_carrier, counted_from, counted, symbols, Suffices}
+use Rattle.reception.specs.Headline.{HasCarrier}
 use Rattle.cert.specs.Certificate.{Certificate}
 use Rattle.cert.specs.Verdict.{IsCertifiedReading}
 use Rattle.cert.specs.Report.{blocks_of}
 use Rattle.cert.specs.Scan.{members_of, AreGroupsOf, AreEnough}
 use Rattle.cert.proofs.Scanning.{in_range_small}
 use Rattle.cert.proofs.Bridge.{held_left, nothing_lost}
+use Rattle.losses.specs.Ordered.{AreMembersFrom}
+use Rattle.losses.proofs.Ordering.{groups_told, different_is}
 
 -- ---- the members of a group stand at rising places, and their ESIs are bytes
 
-wider : (i n : ℕ) (qs : List Member) → AreMembers (i + 1) n qs → AreMembers i n qs
+wider : (i n : ℕ) (qs : List Member) → AreMembersFrom (i + 1) n qs → AreMembersFrom i n qs
 wider i n [] g = tt
 wider i n (q ∷ qs) g = (let a = g.0 in omega (arith, a), g.1, g.2, g.3)
 
 members_above : (who : Identity) (z : Certificate) (valid : IsValidFti z.fti) (b i n : ℕ) (rs : List Reading)
-    → AllByRecursion (λ x. IsCertifiedReading z x.reading) (counted_from who i rs) → i + length rs ≡ n → AreMembers i n (members_of b (counted_from who i rs))
+    → AllByRecursion (λ x. IsCertifiedReading z x.reading) (counted_from who i rs) → i + length rs ≡ n → AreMembersFrom i n (members_of b (counted_from who i rs))
 members_above who z valid b i n [] h e = tt
 members_above who z valid b i n (Err r ∷ rs) h e = absurd h.0
 members_above who z valid b i n (Ok p ∷ rs) h e =
     (elim (is_of_identity who p) as (λ u. AllByRecursion (λ x. IsCertifiedReading z x.reading) (cond u (record { place = i; reading = Ok p } ∷ []) [] ++ counted_from who (i + 1) rs)
-    → AreMembers i n (members_of b (cond u (record { place = i; reading = Ok p } ∷ []) [] ++ counted_from who (i + 1) rs))) [
+    → AreMembersFrom i n (members_of b (cond u (record { place = i; reading = Ok p } ∷ []) [] ++ counted_from who (i + 1) rs))) [
       | false ↦ λ k. wider i n (members_of b (counted_from who (i + 1) rs)) (members_above who z valid b (i + 1) n rs k (omega (arith, e)))
       | true ↦ λ k.
           (let later = members_above who z valid b (i + 1) n rs k.1 (omega (arith, e)) in
-          elim (p.block == b) as (λ v. AreMembers i n (cond v (record { place = i; esi = p.esi } ∷ []) [] ++ members_of b (counted_from who (i + 1) rs))) [
+          elim (p.block == b) as (λ v. AreMembersFrom i n (cond v (record { place = i; esi = p.esi } ∷ []) [] ++ members_of b (counted_from who (i + 1) rs))) [
             | true ↦ (omega arith, omega (arith, e), (let s = in_range_small z.fti p valid k.0.range in omega (arith, s)), later)
             | false ↦ wider i n (members_of b (counted_from who (i + 1) rs)) later
           ])
@@ -52,22 +54,22 @@ places_length i (suc m) = let e = places_length (i + 1) m in omega (arith, e)
 
 module _ (who : Identity) (z : Certificate) (valid : IsValidFti z.fti) (rs : List Reading) (packets : AllByRecursion (λ x. IsCertifiedReading z x.reading) (counted who rs))
     (groups : List Group) (are : AreGroupsOf z.fti (counted who rs) groups) where
-  members_in : (b : ℕ) → b < length groups → AreMembers 0 (length rs) (group_at groups b).members
+  members_in : (b : ℕ) → b < length groups → AreMembersFrom 0 (length rs) (group_at groups b).members
   members_in b hb =
       let c = are.count in
       rw (are.members b (omega (arith, hb, c))) (members_above who z valid b 0 (length rs) rs packets (omega arith))
 
   -- the groups are as `figures_of` asks
   pub are_groups : AreEnough groups → AreGroups groups (length rs)
-  are_groups enough = record {
+  are_groups enough = groups_told groups (length rs) (record {
     some = λ b hb.
         (let c = are.count in
         let n = are.need b (omega (arith, hb, c)) in
         let s = some_source z.fti valid b in
         omega (arith, n, s));
     members = members_in;
-    enough = enough;
-  }
+    enough = λ b hb. (let d = different_is (group_at groups b).members in let e = enough b hb in omega (arith, d, e));
+  })
 
   left : (lost : ℕ → Bool) (b j : ℕ) → b < length groups → has_arrived (symbols (counted who (rest lost rs))) b j ≡ list_any (is_at (rest lost (places 0 (length rs))) j) (group_at groups b).members
   left lost b j hb =
@@ -114,9 +116,7 @@ read_rest lost i (d ∷ ds) (r ∷ rs) h =
       | false ↦ (h.0, read_rest lost (i + 1) ds rs h.1)
     ]
 
--- after a harmless loss, what is left of the datagrams is enough
-pub harmless_enough : (who : Identity) (f : Fti) (lost : ℕ → Bool) (ds : List (List ℕ)) (rs : List Reading) → ReadAll ds rs → IsHarmless (blocks_of who f) rs lost → IsEnough who f (rest lost ds)
-harmless_enough who f lost ds rs read h = record {
-  full = record { readings = rest lost rs; read = read_rest lost 0 ds rs read; full = h.full };
-  carrier = record { readings = rest lost rs; read = read_rest lost 0 ds rs read; carrier = h.carrier };
-}
+-- after a harmless loss, what is left of the datagrams leaves no block short, and has a carrier
+pub harmless_enough : (who : Identity) (f : Fti) (lost : ℕ → Bool) (ds : List (List ℕ)) (rs : List Reading) → ReadAll ds rs → IsHarmless (blocks_of who f) rs lost
+    → ReadAll (rest lost ds) (rest lost rs) × Suffices who f (rest lost rs) × HasCarrier who (rest lost rs)
+harmless_enough who f lost ds rs read h = (read_rest lost 0 ds rs read, h.full, h.carrier)

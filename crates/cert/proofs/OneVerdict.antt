@@ -8,7 +8,9 @@ use Rattle.alc.specs.Reading.{Reading}
 use Rattle.reception.specs.declared.scope.Identity.{Identity}
 use Rattle.reception.specs.declared.scope.Scope.{Scope}
 use Rattle.reception.specs.Symbols.{Symbol as Received}
-use Rattle.reception.specs.Reception.{Placed, Wrong, Other, is_of_identity, is_carrier, counted, symbols, symbols_in, symbol_of, packet_fault, or_packet, wrong_by, wrong_after, reading_wrong, at_place, or_else, Suffices}
+use Rattle.std.specs.Option.{option_or}
+use Rattle.reception.specs.Reception.{Placed, Wrong, Other, is_of_identity, is_carrier, counted, symbols, symbols_in, symbol_of, packet_fault, or_packet, wrong_by, wrong_after, reading_wrong, Suffices}
+use Rattle.reception.specs.Walks.{at_place}
 use Rattle.reception.proofs.OneAnswer.{which, one_short, same_readings}
 use Rattle.reception.proofs.Stepping.{scope, stays}
 use Rattle.reception.proofs.Within.{no_fault}
@@ -40,9 +42,9 @@ none_wrong z who earlier (x ∷ xs) h = by x.reading h.0 (none_wrong z who (earl
   where
     by : (r : Reading) → IsCertifiedReading z r
         → wrong_after (uncertified z) (scope who (Some z.fti)) (earlier ++ symbols_in x.reading) xs ≡ None
-        → or_else (at_place x.place (reading_wrong (uncertified z) (scope who (Some z.fti)) earlier r)) (wrong_after (uncertified z) (scope who (Some z.fti)) (earlier ++ symbols_in x.reading) xs) ≡ None
+        → option_or (at_place x.place (reading_wrong (uncertified z) (scope who (Some z.fti)) earlier r)) (wrong_after (uncertified z) (scope who (Some z.fti)) (earlier ++ symbols_in x.reading) xs) ≡ None
     by (Ok p) k later =
-        ap (λ (o : Option (Wrong ℕ)). or_else (at_place x.place o) (wrong_after (uncertified z) (scope who (Some z.fti)) (earlier ++ symbols_in x.reading) xs)) (not_wrong z who earlier p k)
+        ap (λ (o : Option (Wrong ℕ)). option_or (at_place x.place o) (wrong_after (uncertified z) (scope who (Some z.fti)) (earlier ++ symbols_in x.reading) xs)) (not_wrong z who earlier p k)
         ∙ later
     by (Err e) k later = absurd k
 

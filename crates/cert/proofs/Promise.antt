@@ -15,7 +15,9 @@ use Rattle.alc.specs.PacketFault.{same}
 use Rattle.alc.specs.Reading.{Reading}
 use Rattle.reception.specs.declared.scope.Identity.{Identity}
 use Rattle.reception.specs.declared.scope.Scope.{Scope}
-use Rattle.reception.specs.Reception.{ReadAll, Placed, Wrong, Other, is_of_identity, is_carrier, counts, counted_from, counted, carried, or_later, symbol_of, symbols_in, symbols, packet_fault, or_packet, look_by, wrong_by, or_else, at_place, reading_wrong, asked, scope_from, wrong_after, IsClean, Suffices}
+use Rattle.std.specs.Option.{option_or}
+use Rattle.reception.specs.Reception.{ReadAll, Placed, Wrong, Other, is_of_identity, is_carrier, counts, counted_from, counted, carried, symbol_of, symbols_in, symbols, packet_fault, or_packet, look_by, wrong_by, reading_wrong, asked, scope_from, wrong_after, IsClean, Suffices}
+use Rattle.reception.specs.Walks.{at_place}
 use Rattle.reception.specs.Answer.{Clash, Object, IsAnswer, clashes, clash, reception_of}
 use Rattle.reception.proofs.Walk.{identity_stays}
 use Rattle.reception.proofs.Stepping.{scope}
@@ -147,18 +149,18 @@ none_wrong_after z who known only [] h earlier g = refl
 none_wrong_after z who known only (x ∷ xs) h earlier g = by x.reading h.0 (λ more k. none_wrong_after z who known only xs h.1 (earlier ++ more) k)
   where
     by : (r : Reading) → IsCertifiedReading z r → ((more : List Symbol) → AllByRecursion (IsRight z) (earlier ++ more) → wrong_after clash (scope who known) (earlier ++ more) xs ≡ None)
-        → or_else (at_place x.place (reading_wrong clash (scope who known) earlier r)) (wrong_after clash (scope who known) (earlier ++ symbols_in r) xs) ≡ None
+        → option_or (at_place x.place (reading_wrong clash (scope who known) earlier r)) (wrong_after clash (scope who known) (earlier ++ symbols_in r) xs) ≡ None
     by (Err e) s later = absurd s
     by (Ok p) s later =
-        ap (λ (o : Option (Wrong Clash)). or_else (at_place x.place o) (wrong_after clash (scope who known) (earlier ++ symbol_of p ∷ []) xs)) (not_wrong z who known only p s earlier g)
+        ap (λ (o : Option (Wrong Clash)). option_or (at_place x.place o) (wrong_after clash (scope who known) (earlier ++ symbol_of p ∷ []) xs)) (not_wrong z who known only p s earlier g)
         ∙ later (symbol_of p ∷ []) (all_append (IsRight z) earlier (symbol_of p ∷ []) g (record { count = s.size; symbol = s.symbol }, tt))
 
 -- sound packets carry no other FTI, so no other comes to be known
 only_known : (z : Certificate) (who : Identity) (known : Option Fti) → IsOnly z.fti known → (xs : List Placed) → AreSound z xs → IsOnly z.fti (scope_from (scope who known) xs).fti
 only_known z who known only [] h = only
-only_known z who known only (x ∷ xs) h = only_known z who (or_later known (carried x.reading)) (by known only x.reading h.0) xs h.1
+only_known z who known only (x ∷ xs) h = only_known z who (option_or known (carried x.reading)) (by known only x.reading h.0) xs h.1
   where
-    by : (o : Option Fti) → IsOnly z.fti o → (r : Reading) → IsCertifiedReading z r → IsOnly z.fti (or_later o (carried r))
+    by : (o : Option Fti) → IsOnly z.fti o → (r : Reading) → IsCertifiedReading z r → IsOnly z.fti (option_or o (carried r))
     by (Some f) t r s = t
     by None t (Ok p) s = s.fti
     by None t (Err e) s = absurd s
@@ -244,14 +246,13 @@ sound_chosen who rs z certified q =
 -- at yes, every selection that is enough decodes to the object
 pub decodes : (who : Identity) (session : List (List ℕ)) (rs : List Reading) (object : List ℕ) (z : Certificate) → ReadAll session rs → IsCertificate z
     → IsCertificateOf who rs object z → DecodesWhereEnough who z.fti session object
-decodes who session rs object z read good granted = λ q enough.
+decodes who session rs object z read good granted = λ q rs_q read_by full_by carrier_by.
     let xs = counted who (chosen rs q) in
     let sound = sound_chosen who rs z granted.certified q in
     let read_q = read_chosen session rs read q in
-    let full : AllFull z.fti (symbols (counted who (chosen rs q))) =
-    subst (λ (x : List Reading). Suffices who z.fti x) (same_readings _ _ _ enough.full.read read_q) enough.full.full in
-    let carrier : list_any (is_carrier who) (chosen rs q) ≡ true =
-    subst (λ (x : List Reading). list_any (is_carrier who) x ≡ true) (same_readings _ _ _ enough.carrier.read read_q) enough.carrier.carrier in
+    let same : rs_q ≡ chosen rs q = same_readings _ _ _ read_by read_q in
+    let full : AllFull z.fti (symbols (counted who (chosen rs q))) = subst (λ (x : List Reading). Suffices who z.fti x) same full_by in
+    let carrier : list_any (is_carrier who) (chosen rs q) ≡ true = subst (λ (x : List Reading). list_any (is_carrier who) x ≡ true) same carrier_by in
     let answer : IsAnswer who (chosen session q) (Object object) = record {
       readings = chosen rs q;
       read = read_q;

@@ -13,12 +13,12 @@ use Rattle.lists.specs.Below.{below}
 use Rattle.reception.specs.Symbols.{Symbol, is_of, has_arrived, arrived_esis, arrived_count, is_full, IsFirstShort, Agrees, Fits, AreTwins}
 use Rattle.alc.specs.Reading.{Reading}
 use Rattle.reception.specs.declared.scope.Identity.{Identity}
-use Rattle.reception.specs.Reception.{ReadAll, is_of_identity, is_carrier, counted_from, counted, symbols}
-use Rattle.reception.specs.Answer.{Empty, Missing}
+use Rattle.reception.specs.Reception.{ReadAll, is_of_identity, is_carrier, counted_from, counted, symbols, Suffices}
+use Rattle.reception.specs.Answer.{Answer, Empty, Missing, IsAnswer}
 use Rattle.cert.specs.Certificate.{Certificate, IsCertificate}
 use Rattle.cert.specs.Verdict.{IsCertificateOf}
 use Rattle.lists.specs.Selection.{chosen}
-use Rattle.reception.specs.Headline.{IsEnough, TwinWhereShort, IsToldShort, TellsElse}
+use Rattle.reception.specs.Headline.{HasCarrier, TwinWhereShort, TellsWhatLacks, TellsElse}
 use Rattle.partition.proofs.Laws.{counts}
 use Rattle.alc.proofs.Packets.{packet_bytes}
 use Rattle.poly.proofs.Lists.{all_weaker}
@@ -113,40 +113,43 @@ module _ (who : Identity) (session : List (List ℕ)) (rs : List Reading) (objec
 
   -- at yes, every selection that leaves a block short leaves a twin
   pub undecided : TwinWhereShort who z.fti session object
-  undecided = λ q short.
+  undecided = λ q rs_q read_by short_by.
+      let same : rs_q ≡ chosen rs q = same_readings _ _ _ read_by (read_at q) in
+      let short : ¬ Suffices who z.fti (chosen rs q) = subst (λ (x : List Reading). ¬ Suffices who z.fti x) same short_by in
       let fits : Fits z.fti (symbols (counted who (chosen rs q))) object = record {
         form = granted.form;
         agrees = fits_sound z object good granted.gives (counted who (chosen rs q)) (sound_at q);
       } in
       elim (first_short z.fti (symbols (counted who (chosen rs q))) (block_count z.fti)) [
-        | inr all ↦ absurd (short (record { readings = chosen rs q; read = read_at q; full = all }))
+        | inr all ↦ absurd (short all)
         | inl w ↦
-            (let twin = twin_at z.fti good.fti (symbols (counted who (chosen rs q))) object fits (bytes_came who 0 _ _ (read_at q)) w.0 w.1 w.2 in
-            record { readings = chosen rs q; read = read_at q; other = twin.0; twins = twin.1 })
+            subst (λ (x : List Reading). (other : List ℕ) × AreTwins z.fti (symbols (counted who x)) object other) (sym same)
+            (twin_at z.fti good.fti (symbols (counted who (chosen rs q))) object fits (bytes_came who 0 _ _ (read_at q)) w.0 w.1 w.2)
       ]
 
+  -- what a decoder says that lacks
+  abbrev Lacking : List (List ℕ) → List Reading → Type 0
+  Lacking ds xs = (a : Answer) × IsAnswer who ds a × TellsWhatLacks who a xs
+
   -- where no carrier came, the decoder says just that
-  without_carrier : (q : List ℕ) → list_any (is_carrier who) (chosen rs q) ≡ false → IsToldShort who (chosen session q)
-  without_carrier q none = record {
-    answer = Empty;
-    told = record {
+  without_carrier : (q : List ℕ) → list_any (is_carrier who) (chosen rs q) ≡ false → Lacking (chosen session q) (chosen rs q)
+  without_carrier q none = (
+    Empty,
+    record {
       readings = chosen rs q;
       read = read_at q;
       answers = (nothing_wrong who z (chosen rs q) (sound_at q), no_carrier who (chosen rs q) none);
-    };
-    lacks = λ h.
-        let is : list_any (is_carrier who) (chosen rs q) ≡ true =
-        subst (λ (x : List Reading). list_any (is_carrier who) x ≡ true) (same_readings _ _ _ h.read (read_at q)) h.carrier in
-        (cc);
-  }
+    },
+    λ h. (let is : list_any (is_carrier who) (chosen rs q) ≡ true = h in cc),
+  )
 
   -- where one came, which block is short
-  with_carrier : (q : List ℕ) → list_any (is_carrier who) (chosen rs q) ≡ true → (b : ℕ) → IsFirstShort z.fti (symbols (counted who (chosen rs q))) b → IsToldShort who (chosen session q)
+  with_carrier : (q : List ℕ) → list_any (is_carrier who) (chosen rs q) ≡ true → (b : ℕ) → IsFirstShort z.fti (symbols (counted who (chosen rs q))) b
+      → Lacking (chosen session q) (chosen rs q)
   with_carrier q carrier b first =
-      let arrivals = symbols (counted who (chosen rs q)) in
-      record {
-        answer = Missing b (arrived_count arrivals b) (source_count z.fti b);
-        told = record {
+      let arrivals = symbols (counted who (chosen rs q)) in (
+        Missing b (arrived_count arrivals b) (source_count z.fti b),
+        record {
           readings = chosen rs q;
           read = read_at q;
           answers = (
@@ -157,21 +160,22 @@ module _ (who : Identity) (session : List (List ℕ)) (rs : List Reading) (objec
             refl,
             refl,
           );
-        };
-        lacks = record { readings = chosen rs q; read = read_at q; carrier = carrier };
-      }
+        },
+        carrier,
+      )
 
   -- at yes, of every selection that isn't enough the decoder says what lacks
   pub tells : TellsElse who z.fti session
-  tells = λ q lacking. by q lacking (list_any (is_carrier who) (chosen rs q)) refl
+  tells = λ q rs_q read_by lacking.
+      let same : rs_q ≡ chosen rs q = same_readings _ _ _ read_by (read_at q) in
+      subst (λ (x : List Reading). Lacking (chosen session q) x) (sym same)
+      (by q (subst (λ (x : List Reading). ¬ (Suffices who z.fti x × HasCarrier who x)) same lacking) (list_any (is_carrier who) (chosen rs q)) refl)
     where
-      by : (q : List ℕ) → ¬ IsEnough who z.fti (chosen session q) → (v : Bool) → list_any (is_carrier who) (chosen rs q) ≡ v → IsToldShort who (chosen session q)
+      by : (q : List ℕ) → ¬ (Suffices who z.fti (chosen rs q) × HasCarrier who (chosen rs q)) → (v : Bool) → list_any (is_carrier who) (chosen rs q) ≡ v
+          → Lacking (chosen session q) (chosen rs q)
       by q lacking false none = without_carrier q none
       by q lacking true carrier =
           elim (first_short z.fti (symbols (counted who (chosen rs q))) (block_count z.fti)) [
             | inl w ↦ with_carrier q carrier w.0 (record { in_range = w.1; short = w.2; least = w.3 })
-            | inr all ↦ absurd (lacking (record {
-              full = record { readings = chosen rs q; read = read_at q; full = all };
-              carrier = record { readings = chosen rs q; read = read_at q; carrier = carrier };
-            }))
+            | inr all ↦ absurd (lacking (all, carrier))
           ]

@@ -2,8 +2,7 @@
 use Rattle.std.specs.Prelude.{◌≡◌, ◌≢◌, ℕ, ◌<◌, ◌≤◌, ◌==◌, cond, List, [], ◌∷◌, ◌++◌, length, true, Option, Some, None}
 use Rattle.std.specs.List.{list_any}
 use Rattle.losses.specs.declared.groups.Member.{Member}
-use Rattle.losses.specs.Members.{different_outside}
-use Rattle.losses.specs.Groups.{Group, group_at}
+use Rattle.losses.specs.Groups.{Group, group_at, different}
 use Rattle.partition.specs.Fti.{Fti, block_count, source_count}
 use Rattle.reception.specs.declared.scope.Identity.{Identity}
 use Rattle.reception.specs.Symbols.{Symbol}
@@ -50,7 +49,7 @@ IsNoReport who datagrams z NoMemory = Unit {0}
 
 -- how many different symbols a group has
 abbrev pub different_in : List Group → ℕ → ℕ
-different_in groups b = different_outside (group_at groups b).members 0 0
+different_in groups b = different (group_at groups b).members
 
 -- how many symbols a group needs, and how many different ones it has
 abbrev pub line_in : List Group → ℕ → ℕ × ℕ

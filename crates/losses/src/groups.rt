@@ -1,6 +1,5 @@
 //! Groups of places.
 ghost use Rattle.std.specs.Prelude.{◌≡◌};
-ghost use Rattle.losses.specs.Members.{different_outside};
 
 use crate::counting::{copies_of, different};
 
@@ -23,9 +22,11 @@ pub struct Group {
 }
 
 impl Group {
+    ghost use Rattle.losses.specs.Groups.{different as different_of};
+
     /// How many different symbols the group has: how many ESIs stand among its members, at most 256.
     pub fn different(&self) -> usize
-        ensures { result ≡ different_outside self.now.members.items 0 0 }
+        ensures { result ≡ different_of self.now.members.items }
     {
         different(&copies_of(self.members.as_slice()))
     }

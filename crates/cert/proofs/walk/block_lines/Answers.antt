@@ -1,8 +1,7 @@
 use Rattle.std.proofs.Common.{◌∙◌, ◌++◌, ◌∷◌, [], ℕ, List, get_or, map, sym, ap, arith, below_more}
 use Rattle.std.proofs.lemmas.Grind.{common_steps}
 use Rattle.lists.specs.Below.{below}
-use Rattle.losses.specs.Groups.{Group, groups_of, group_at}
-use Rattle.losses.specs.Members.{different_outside}
+use Rattle.losses.specs.Groups.{Group, groups_of, group_at, different}
 use Rattle.losses.specs.declared.groups.Group.{Group as GroupOf}
 use Rattle.losses.proofs.GroupFigures.{seen}
 use Rattle.cert.specs.Scan.{line_in}
@@ -17,7 +16,7 @@ pub loop-block-preserved : goal.loop-block-preserved
 loop-block-preserved c =
     let gs = groups_of c.args.groups.now in
     let need = ap (λ (g : Group). g.need) (seen c.args.groups.now c.loop-block.block c.index-groups-block.result c.loop-block-test.true) in
-    let have = c.different-have.ensures ∙ ap (λ (g : GroupOf). different_outside g.members.items 0 0) c.index-groups-block-in-loop-block.is ∙ sym (ap (λ (g : Group). different_outside g.members 0 0) (seen c.args.groups.now c.loop-block.block c.index-groups-block-in-loop-block.result c.loop-block-test.true)) in
+    let have = c.different-have.ensures ∙ ap (λ (g : GroupOf). different g.members.items) c.index-groups-block-in-loop-block.is ∙ sym (ap (λ (g : Group). different g.members) (seen c.args.groups.now c.loop-block.block c.index-groups-block-in-loop-block.result c.loop-block-test.true)) in
     record {
       lines =
           c.in-Ok.ensures.items
