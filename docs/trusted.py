@@ -1,17 +1,24 @@
 #!/usr/bin/env python3
 """Lists the definitions that public contracts speak of: what has to be read to trust what they promise.
 
-A public contract is one of a `pub fn`, of a trait's method or of a public type's model. From the names that it cites the
-list goes through the definitions of `specs/` that these stand on, but not into a relation that these calls only hand on
-to one another, as what a receiver stands for. All other definitions of `specs/` are the vocabulary of
-private contracts and of proofs, and need no trust. They stand in files of their own.
+A public contract is one of a `pub fn`, of a method of a public trait or type, or of a public type's model. From the names that
+it cites the list goes through the definitions of `specs/` that these stand on, but not into a relation that these calls only
+hand on to one another, as what a receiver stands for. All other definitions of `specs/` are the vocabulary of private
+contracts and of proofs, and need no trust. They stand in files of their own.
 
-    docs/trusted.py          fails where docs/THEOREMS.md ends with another list, or a file has definitions of both kinds
-    docs/trusted.py --write  writes the list there
+docs/THEOREMS.md opens with a table of the promises, each with how many of the definitions have to be read to believe it, and
+ends with the list. Lines are those of definitions alone, without comments and imports, counted at 100 columns.
+
+    docs/trusted.py               fails where the table or the list is another, or a file has definitions of both kinds
+    docs/trusted.py --write       writes table and list
+    docs/trusted.py --read WHAT   lists the definitions that a promise of the table stands on, in the order to read them
 """
+import math
 import re
+import subprocess
 import sys
 import textwrap
+from functools import lru_cache
 from pathlib import Path
 
 ROOT = Path(__file__).resolve().parent.parent
@@ -19,10 +26,58 @@ CRATES = ROOT / "crates"
 HEAD = re.compile(r"^(?:(?:pub|abbrev|unfoldable) )*(record |data )?([^\s:(){}]+)(?=[\s:(])")
 USE = re.compile(r"(?:ghost )?use ([\w.]+?)(?:\.\{([^}]*)\}| as (\w+))?;?$")
 NAME = re.compile(r"[^\s(){}\[\],;.`]+")
+FIELD = re.compile(r"^  (?:pub )?\S+ :", re.M)
 HEADING = "## What has to be read"
+TABLE_HEADING = "## What to read for each promise"
+WIDTH = 100
 
 # Relations that public calls only hand on to one another: what they say inside isn't needed to trust the calls.
 HANDED_ON = {"Rattle.decoder.specs.Stands", "Rattle.decoder.specs.SymbolsOf"}
+
+
+# What the table tells: a short name, the promise, the clauses that say it (crate, function, labels; none for all of them),
+# and the promises that it is told beyond.
+PROMISES = [
+    ("headline", "what a yes of `check` promises of every selection", [
+        ("cert", "check", ["decodes", "undecided", "tells"]),
+        ("decoder", "decode", []),
+        ("decoder", "decode_selection", []),
+    ], []),
+    ("losses", "margin, kill and burst", [("cert", "check", ["report"])], ["headline"]),
+    ("receiver", "a receiver of one datagram at a time", [
+        ("decoder", "new", []),
+        ("decoder", "feed", []),
+        ("decoder", "take", []),
+        ("decoder", "stored", []),
+    ], ["headline"]),
+    ("verdict", "exactly which verdict `check` answers", [("cert", "check", ["verdict"])], ["headline"]),
+    ("laws", "that answers, verdicts and faults are one, and come in their order", [
+        ("session", "one_session", []),
+        ("alc", "one_reading", []),
+        ("reception", "first_fault", []),
+        ("reception", "fault_order", []),
+        ("reception", "empty_answer", []),
+        ("reception", "isolation", []),
+        ("decoder", "one_answer", []),
+        ("cert", "one_verdict", []),
+        ("cert", "one_certificate", []),
+        ("cert", "own_name_changes_nothing", []),
+        ("cert", "first_reason", []),
+        ("cert", "reason_order", []),
+        ("cert", "first_column", []),
+    ], ["headline", "verdict"]),
+    ("sending", "`encode`, `certify` and their sessions", [
+        ("coder", "encode", []),
+        ("coder", "certify", []),
+        ("coder", "sent_checks_yes", []),
+    ], ["headline", "verdict"]),
+    ("reading", "`check_from`: a check of what a reader gives", [("cert", "check_from", [])], ["headline", "verdict", "losses"]),
+    ("twins", "`twin`", [("cert", "twin", []), ("cert", "session_twin", [])], ["headline", "verdict"]),
+    ("library", "every public call of the library", None, []),
+    ("commands", "the program's commands", [("tool", "run", [])], ["library"]),
+    ("program", "the program, from its words to its output", [("tool", "answer", [])], ["library", "commands"]),
+]
+COMMAND_LINE = {"request", "tool", "alcrs"}
 
 
 class Module:
@@ -95,6 +150,15 @@ def cited(text, uses, aliases):
     return found
 
 
+def uses_of(path):
+    """What the ghost imports of a source file bring."""
+    uses, aliases = {}, {}
+    for line in path.read_text().splitlines():
+        if line.strip().startswith("ghost use "):
+            add_use(line.strip(), uses, aliases)
+    return uses, aliases
+
+
 def private_types(path):
     """The types of a source file's crate that other crates can't name."""
     sources = "\n".join(source.read_text() for source in sorted(path.parent.glob("*.rt")))
@@ -103,44 +167,55 @@ def private_types(path):
 
 def public_clauses(path):
     """The clauses of a source file's public functions, trait methods and models, as one text."""
-    kept, keeping, in_trait, in_model, in_private = [], False, False, False, False
+    return "\n".join(text for _, _, text in contracts(path))
+
+
+def contracts(path):
+    """The public clauses of a source file: (function, label, text). A model's facts go by the function `Model`."""
     private = private_types(path)
+    function, label, lines, in_trait, in_model, in_impl, in_private = None, "", [], False, False, False, False
     for line in path.read_text().splitlines():
         text = line.strip()
         if text and not line.startswith((" ", "}", ")")):
             of = re.match(r"impl.* for (\w+)|impl(?:<[^>]*>)? (\w+)", text)
             in_trait = text.startswith("pub trait ")
             in_private = bool(of) and (of.group(1) or of.group(2)) in private
-            in_model = text.startswith("impl Model for ") and not in_private
-            keeping = False
-        if (text.startswith("pub fn ") and not in_private) or (in_trait and text.startswith("fn ")):
-            keeping = True
-            continue
-        if re.match(r"(pub(\(crate\))? )?fn ", text):
-            keeping = False
-        if text == "{" or text == "{}" or (text.endswith("{") and not text.startswith(("requires", "ensures"))):
-            keeping = False
-        if keeping or (in_model and text.startswith("ghost ") and not text.startswith("ghost use")):
-            kept.append(text)
+            in_model = bool(re.match(r"impl(<.*>)? Model for ", text)) and not in_private
+            in_impl = bool(re.match(r"impl(<.*>)? [A-Z][\w<>, ]* for ", text)) and not in_model and not in_private
+            function = None
+        named = re.match(r"(pub(?:\(crate\))? )?(?:const )?fn (\w+)", text)
+        if named:
+            is_public = (named.group(1) == "pub " and not in_private) or in_trait or in_impl
+            function, label = (named.group(2) if is_public else None), ""
+            if text.endswith(("{", "}")):
+                function = None
+        elif text in ("{", "{}") or (text.endswith("{") and not text.startswith(("requires", "ensures"))):
+            function = None
+        elif function and not text.startswith("ghost "):
+            clause = re.match(r"(requires|ensures)\*? (\w+ )?\{", text)
+            if clause:
+                label = (clause.group(2) or "").strip()
+            lines.append((function, label, text))
+        elif in_model and text.startswith("ghost ") and not text.startswith("ghost use"):
+            lines.append(("Model", "", text))
         elif in_trait and text.startswith("ghost "):
-            kept.append(text)
-    return "\n".join(kept)
+            lines.append(("trait", "", text))
+    return lines
 
 
-def roots():
+def roots(wanted=lambda crate, function, label: True):
+    """The definitions that public clauses cite, of those that are wanted."""
     found = set()
     for path in sorted(CRATES.glob("*/src/*.rt")):
-        uses, aliases = {}, {}
-        for line in path.read_text().splitlines():
-            if line.strip().startswith("ghost use "):
-                add_use(line.strip(), uses, aliases)
-        found |= cited(public_clauses(path), uses, aliases)
+        uses, aliases = uses_of(path)
+        texts = [text for function, label, text in contracts(path) if wanted(path.parts[-3], function, label)]
+        found |= cited("\n".join(texts), uses, aliases)
     return found
 
 
-def closure(modules):
+def closure(modules, start=None):
     """All definitions that the roots stand on, as (module, name)."""
-    todo, done = list(roots()), set()
+    todo, done = list(roots() if start is None else start), set()
     while todo:
         module, name = todo.pop()
         known = modules.get(module)
@@ -152,9 +227,107 @@ def closure(modules):
         if name not in known.definitions or (known.path, name) in done:
             continue
         done.add((known.path, name))
-        text = "\n".join(known.definitions[name])
+        # A field isn't the definition that has its name.
+        text = FIELD.sub("  ", "\n".join(known.definitions[name]))
         todo += cited(text, known.uses, known.aliases)
         todo += [(module, other) for other in set(NAME.findall(text)) if other in known.definitions]
+    return done
+
+
+def lines_of(files, wanted):
+    """How many lines of 100 columns the definitions have."""
+    lines = (line for path, name in wanted for line in files[path].definitions[name])
+    return sum(max(1, math.ceil(len(line.rstrip()) / WIDTH)) for line in lines)
+
+
+# ---- the kit's definitions
+
+@lru_cache(maxsize=None)
+def kit():
+    """The folder of the toolchain's crates, if it can be found."""
+    try:
+        page = subprocess.run(["rt", "doc"], capture_output=True, text=True, check=True).stdout.strip()
+    except (OSError, subprocess.CalledProcessError):
+        return None
+    folder = Path(page).parent / "rattle"
+    return folder if folder.is_dir() else None
+
+
+@lru_cache(maxsize=None)
+def kit_module(name):
+    parts = name.split(".")
+    if kit() is None or len(parts) < 4 or parts[0] != "Rattle" or parts[2] != "specs" or parts[3] == "declared":
+        return None
+    path = kit() / parts[1] / "specs" / Path(*parts[3:]).with_suffix(".antt")
+    return Module(path) if path.is_file() else None
+
+
+def kit_closure(modules, wanted):
+    """The definitions of the kit that clauses and our definitions stand on, as (crate, path, name)."""
+    files = {module.path: module for module in modules.values()}
+    todo = list(roots())
+    for path, name in wanted:
+        known = files[path]
+        todo += cited("\n".join(known.definitions[name]), known.uses, known.aliases)
+    done, seen = set(), set()
+    while todo:
+        item = todo.pop()
+        if item in seen or item[0] in modules:
+            continue
+        seen.add(item)
+        module, name = item
+        known = kit_module(module)
+        if known is None:
+            continue
+        name = known.constructors.get(name, name)
+        if name not in known.definitions:
+            todo += [known.uses[name]] if name in known.uses else []
+            continue
+        if (known.path, name) in {(path, other) for _, path, other in done}:
+            continue
+        done.add((module.split(".")[1], known.path, name))
+        text = FIELD.sub("  ", "\n".join(known.definitions[name]))
+        todo += cited(text, known.uses, known.aliases)
+        todo += [(module, other) for other in set(NAME.findall(text)) if other in known.definitions]
+    return done
+
+
+def kit_sentence(modules, wanted):
+    """What of the kit the clauses stand on, in a sentence."""
+    sizes = {}
+    for crate, path, name in kit_closure(modules, wanted):
+        lines = [line for line in kit_module_at(path).definitions[name]]
+        group = "clap" if crate == "clap" else "others"
+        sizes.setdefault(group, [0, 0])
+        sizes[group][0] += 1
+        sizes[group][1] += sum(max(1, math.ceil(len(line.rstrip()) / WIDTH)) for line in lines)
+    told = [f"{sizes[g][0]} definitions of the kit's {n}, in {sizes[g][1]} lines" for g, n in
+            (("others", "std and byteorder"), ("clap", "clap")) if g in sizes]
+    return "Beside them clauses stand on " + " and ".join(told) + "."
+
+
+@lru_cache(maxsize=None)
+def kit_module_at(path):
+    return Module(path)
+
+
+# ---- the order to read in
+
+def depends_on(module, files, names):
+    """The files whose definitions a file uses."""
+    return {names[used].path for used in {m for m, _ in module.uses.values()} | set(module.aliases.values()) if used in names
+            and names[used].path in files and names[used].path != module.path}
+
+
+def reading_order(paths, modules):
+    """Each file behind those that it uses, crates from the field up, else by name."""
+    files = {module.path: module for module in modules.values()}
+    order = {name: place for place, name in enumerate(crate_order())}
+    left, done = sorted(paths, key=lambda p: (order.get(p.parts[-3], len(order)), p.name)), []
+    while left:
+        ready = next((p for p in left if not depends_on(files[p], set(left), modules)), left[0])
+        done.append(ready)
+        left.remove(ready)
     return done
 
 
@@ -172,43 +345,88 @@ def mixed(modules, wanted):
             yield f"{path.parts[-3]}/specs/{path.stem}"
 
 
+def entries(modules, wanted):
+    """A line for each file that has definitions to read, in the order to read them."""
+    files = {module.path: module for module in modules.values()}
+    for path in reading_order({path for path, _ in wanted}, modules):
+        names = [name for name in files[path].definitions if (path, name) in wanted]
+        size = lines_of(files, [(path, name) for name in names])
+        entry = f"- `{path.parts[-3]}/specs/{path.stem}` ({size} lines): " + ", ".join(f"`{n}`" for n in names)
+        yield from textwrap.wrap(entry, 120, subsequent_indent="  ", break_long_words=False, break_on_hyphens=False)
+
+
 def listing(modules, wanted):
     files = {module.path: module for module in modules.values()}
-    order = {name: place for place, name in enumerate(crate_order())}
-    lines, total, count = [], 0, 0
     everything = sum(len(module.definitions) for module in files.values())
-    for path in sorted(files, key=lambda p: (order.get(p.parts[-3], len(order)), p.name)):
-        names = [name for name in files[path].definitions if (path, name) in wanted]
-        if not names:
-            continue
-        size = sum(len(files[path].definitions[name]) for name in names)
-        total, count = total + size, count + len(names)
-        entry = f"- `{path.parts[-3]}/specs/{path.stem}` ({size} lines): " + ", ".join(f"`{n}`" for n in names)
-        lines += textwrap.wrap(entry, 120, subsequent_indent="  ", break_long_words=False, break_on_hyphens=False)
     head = [
         HEADING,
         "",
         "The definitions that public contracts speak of, from the field up, in the order to read them; the rest of `specs/` is",
         "the vocabulary of private contracts and of proofs. `docs/trusted.py` makes this list, and the gate compares it.",
         "",
-        f"{count} of {everything} definitions, {total} lines.",
+        f"{len(wanted)} of {everything} definitions, {lines_of(files, wanted)} lines.",
         "",
     ]
-    return "\n".join(head + lines) + "\n"
+    return "\n".join(head + list(entries(modules, wanted))) + "\n"
+
+
+def promised(modules, name):
+    """The definitions that a promise of the table stands on."""
+    clauses = next(clauses for short, _, clauses, _ in PROMISES if short == name)
+
+    def is_wanted(crate, function, label):
+        if clauses is None:
+            return crate not in COMMAND_LINE
+        return any(crate == c and function == f and (not labels or label in labels) for c, f, labels in clauses)
+
+    return closure(modules, roots(is_wanted))
+
+
+def table(modules, wanted):
+    files = {module.path: module for module in modules.values()}
+    rows = []
+    for short, promise, _, beyond in PROMISES:
+        needed = promised(modules, short)
+        before = set().union(*(promised(modules, other) for other in beyond)) if beyond else set()
+        more = needed - before
+        sign = "+" if beyond else ""
+        behind = " and ".join(f"*{other}*" for other in beyond)
+        rows.append(f"| *{short}*: {promise} | {behind} | {sign}{len(more)} | {sign}{lines_of(files, more)} |")
+    text = [
+        TABLE_HEADING,
+        "",
+        "How many of the definitions below have to be read to believe a promise, and how many lines of 100 columns these are.",
+        "`docs/trusted.py --read headline` lists them in the order to read them, and so for each row.",
+        "",
+        "| promise | beyond | definitions | lines |",
+        "|---|---|---|---|",
+    ]
+    sentence = textwrap.fill(kit_sentence(modules, wanted), 120)
+    return "\n".join(text + rows + ["", sentence, ""]) + "\n"
 
 
 def main():
-    path = ROOT / "docs" / "THEOREMS.md"
-    before, found, kept = path.read_text().partition(HEADING)
     modules = spec_modules()
+    if sys.argv[1:2] == ["--read"]:
+        names = [short for short, _, _, _ in PROMISES]
+        if len(sys.argv) != 3 or sys.argv[2] not in names:
+            sys.exit("docs/trusted.py --read WHAT, of " + ", ".join(names))
+        print("\n".join(entries(modules, promised(modules, sys.argv[2]))))
+        return
+    path = ROOT / "docs" / "THEOREMS.md"
+    before = path.read_text().partition(HEADING)[0]
+    opening, found, rest = before.partition(TABLE_HEADING)
+    behind = rest[rest.index("\n## ") + 1:] if found else ""
     wanted = closure(modules)
-    text = listing(modules, wanted)
     both = list(mixed(modules, wanted))
+    text = opening + table(modules, wanted) + "\n" + behind + listing(modules, wanted)
+    if not found:
+        sys.exit(f"docs/THEOREMS.md has no heading '{TABLE_HEADING}'")
     if sys.argv[1:] == ["--write"]:
-        path.write_text(before + text)
+        path.write_text(text)
     elif both:
         sys.exit("definitions that public contracts speak of, and others, stand in one file: " + ", ".join(both))
-    elif found + kept != text:
+    elif path.read_text() != text:
         sys.exit("docs/THEOREMS.md has another list of what has to be read: run docs/trusted.py --write")
     else:
         print("docs/THEOREMS.md lists what has to be read: same")

@@ -118,6 +118,34 @@ fn begins_generators_with_the_identity(rt: HostRuntime) -> Result<(), Fail> {
     Ok(())
 }
 
+/// Whether the longer matrix of `rows` rows begins with the columns of the shorter one, of which there are `cols`.
+fn begins_with_columns(longer: &Matrix<Gf>, shorter: &Matrix<Gf>, rows: usize, cols: usize) -> bool
+    requires rows { rows ≤ shorter.now.rows }
+    requires cols { cols ≤ shorter.now.cols }
+    requires longer_rows { rows ≤ longer.now.rows }
+    requires longer_cols { cols ≤ longer.now.cols }
+{
+    for i in 0..rows {
+        for j in 0..cols {
+            if longer.get(i, j) != shorter.get(i, j) {
+                return false;
+            }
+        }
+    }
+    true
+}
+
+#[test]
+fn fewer_columns_are_the_first_of_255(rt: HostRuntime) -> Result<(), Fail> {
+    let longest = generator(rt.alloc(), 20, 255)?;
+    for n in [20, 21, 30, 254] {
+        assert!(rt; 20 <= n && n <= 255);
+        let shorter = generator(rt.alloc(), 20, n)?;
+        assert!(rt; begins_with_columns(&longest, &shorter, 20, n), "for {n}");
+    }
+    Ok(())
+}
+
 #[test]
 fn generates_the_largest(rt: HostRuntime) -> Result<(), Fail> {
     let generator = generator(rt.alloc(), 255, 255)?;

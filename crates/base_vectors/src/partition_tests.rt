@@ -51,9 +51,12 @@ fn faults(rt: HostRuntime) -> Result<(), Fail> {
         (0, 1, 4, 6, "F1 LengthZero"),
         (0, 0, 4, 6, "F1 LengthZero"),
         (1 << 48, 1, 4, 6, "F2 LengthTooGreat"),
+        (1 << 48, 0, 4, 6, "F2 LengthTooGreat"),
         (10, 0, 4, 6, "F3 SymbolZero"),
+        (10, 0, 0, 6, "F3 SymbolZero"),
         (10, 1, 0, 6, "F4 BlockZero"),
         (10, 1, 4, 3, "F5 MaxBelowBlock"),
+        (1 << 40, 1, 2, 1, "F5 MaxBelowBlock"),
         ((1 << 48) - 1, 65_475, 255, 255, "F6 TooManyBlocks"),
         (16_777_217, 1, 1, 1, "F6 TooManyBlocks"),
     ] {
