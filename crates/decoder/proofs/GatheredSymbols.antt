@@ -1,25 +1,22 @@
 -- What is gathered of datagrams, and written, by what the symbols give that were received.
-use Rattle.std.proofs.Common.{◌≡◌, ℕ, Bool, List, Option, length, subst}
+use Rattle.std.proofs.Common.{◌≡◌, ℕ, List, Option, length, subst}
 use Rattle.session.specs.Frames.{AppendsSome}
 use Rattle.partition.specs.Fti.{Fti}
 use Rattle.reception.specs.declared.scope.Identity.{Identity}
 use Rattle.alc.specs.Reading.{Reading}
 use Rattle.reception.specs.Symbols.{FitsOnly}
-use Rattle.reception.specs.Reception.{ReadAll, asked}
+use Rattle.reception.specs.Reception.{ReadAll}
 use Rattle.reception.specs.Walks.{readings_of}
 use Rattle.reception.specs.Answer as value
-use Rattle.reception.specs.Answer.{IsAnswer, AnswerTo, reception_of, clash}
+use Rattle.reception.specs.Answer.{IsAnswer, AnswerTo, reception_of}
 use Rattle.reception.proofs.OneAnswer.{same_readings}
-use Rattle.reception.proofs.Within.{within}
 use Rattle.decoder.specs.Answers.{answer_value}
 use Rattle.decoder.specs.Decoded.{Answers}
 use Rattle.decoder.specs.Received.{AreReceived}
-use Rattle.decoder.specs.Gathering.{IsGathered, IsUnwritten}
-use Rattle.decoder.specs.Written.{Gathers, BeginsObject, IsUnsaved}
+use Rattle.decoder.specs.Gathering.{IsGathered}
+use Rattle.decoder.specs.Written.{Gathers, BeginsObject}
 use Rattle.decoder.specs.declared.gathering.Gathered.{Gathered}
 use Rattle.decoder.specs.declared.gathering.Gathered.TheVariants as gathered
-use Rattle.decoder.specs.declared.gathering.WriteFault.{WriteFault}
-use Rattle.decoder.specs.declared.gathering.WriteFault.TheVariants.{NotCode, Io, NoMemory}
 use Rattle.decoder.proofs.Answering.{answered}
 
 module _ (who : Identity) (ds : List (List ℕ)) (f : Fti) (at : ℕ → ℕ → Option (List ℕ)) (read : ReadAll ds (readings_of ds)) (received : AreReceived who ds f at) where
@@ -30,17 +27,9 @@ module _ (who : Identity) (ds : List (List ℕ)) (f : Fti) (at : ℕ → ℕ →
   gathered_of (gathered.Answer a) h = (answer_of (answer_value a) h.0, h.1)
   gathered_of (gathered.Symbols s) h = (
     record { read = read; received = rw (h.0, h.1) received; enough = h.2 },
-    record {
-      fti = f;
-      known = received.clean.some;
-      full = h.3 (reception_of who (readings_of ds)).symbols received.index (within clash (asked who) (readings_of ds) f received.clean);
-    },
+    h.3,
+    answer_of (value.Object h.3) h.4,
   )
-
-  pub unwritten_of : (failed : Bool) (e : WriteFault) → IsUnsaved f at failed e → IsUnwritten who ds failed e
-  unwritten_of failed (NotCode b) h = answer_of (value.NotCode b) h
-  unwritten_of failed Io h = h
-  unwritten_of failed NoMemory h = tt
 
   -- the object that the datagrams give is the only one that their symbols fit
   only_object : (object : List ℕ) → IsAnswer who ds (value.Object object) → FitsOnly f (reception_of who (readings_of ds)).symbols object

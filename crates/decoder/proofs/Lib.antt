@@ -27,3 +27,7 @@ pub mod Taken
 pub mod Fed
 pub mod Differences
 pub mod Padded
+pub mod Interpolated
+pub mod JustEnough
+pub mod SoundObject
+pub mod SymbolBytes

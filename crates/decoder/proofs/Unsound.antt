@@ -9,9 +9,9 @@ use Rattle.partition.proofs.Laws.{counts}
 use Rattle.reception.specs.Symbols.{Symbol, arrived_count, is_full, Solvable, FullSolvable, IsFirstUnsolvable}
 use Rattle.reception.specs.Within.{IsWithin}
 use Rattle.decoder.specs.Columns.{ColumnExplained}
-use Rattle.decoder.specs.Decoded.{AreWithin, AreRows, IsEnoughAt}
+use Rattle.decoder.specs.Decoded.{AreWithin, AreRows, IsEnoughAt, Stand}
 use Rattle.decoder.specs.Received.{IsIndex}
-use Rattle.decoder.specs.Unsolvable.{IsSound, IsUnsound}
+use Rattle.decoder.specs.Unsolvable.{IsSound, IsUnsound, SomeUnsound}
 use Rattle.decoder.proofs.Counts.{held_is, none_more_held}
 use Rattle.decoder.proofs.Listing.{Stands}
 use Rattle.decoder.proofs.Solving.{solvable_from, solvable_gives}
@@ -139,3 +139,10 @@ module _ (f : Fti) (valid : IsValidFti f) (at : ℕ → ℕ → Option (List ℕ
       → IfSome o (λ b. (arrivals : List Symbol) → IsIndex arrivals at → AllByRecursion (IsWithin f) arrivals → IsFirstUnsolvable f arrivals b)
   some_gives (Some b) so_far = λ arrivals index within. first_is f valid arrivals at index within blocks all b so_far.unsound so_far.sound
   some_gives None so_far = tt
+
+-- where each full block is solvable, none is unsound
+pub none_unsound : (f : Fti) → IsValidFti f → (at : ℕ → ℕ → Option (List ℕ)) (s : Stand f at) → SomeUnsound f at → FullSolvable f s.arrivals → ⊥
+none_unsound f valid at s some solvable =
+    let (b, unsound) = some in
+    unsound.unexplained (solvable_gives f s.arrivals at s.index b
+    (solvable b unsound.in_range (full_of_enough f valid s.arrivals at s.index s.within b unsound.in_range unsound.enough)))

@@ -1,11 +1,9 @@
 -- What writing an object block by block has made of the symbols that stand so.
-use Rattle.std.specs.Prelude.{◌≡◌, ℕ, Bool, true, List, length, Option}
-use Rattle.std.specs.List.{AllByRecursion}
+use Rattle.std.specs.Prelude.{◌≡◌, ℕ, List, length, Option}
 use Rattle.std.specs.Io.KnownBytes.{Appends}
 use Rattle.session.specs.Frames.{AppendsSome}
 use Rattle.partition.specs.Fti.{Fti}
-use Rattle.reception.specs.Symbols.{Symbol, AllFull, FitsOnly}
-use Rattle.reception.specs.Within.{IsWithin}
+use Rattle.reception.specs.Symbols.{Symbol, FitsOnly}
 use Rattle.reception.specs.Answer as value
 use Rattle.decoder.specs.Answers.{answer_value}
 use Rattle.decoder.specs.Decoded.{Answers}
@@ -14,17 +12,13 @@ use Rattle.decoder.specs.Gathering.{IsNoObject}
 use Rattle.decoder.specs.SymbolsOf.{AreEnough}
 use Rattle.decoder.specs.declared.gathering.Gathered.{Gathered}
 use Rattle.decoder.specs.declared.gathering.Gathered.TheVariants as gathered
-use Rattle.decoder.specs.declared.gathering.WriteFault.{WriteFault}
-use Rattle.decoder.specs.declared.gathering.WriteFault.TheVariants.{NotCode, Io, NoMemory}
 
--- they leave no block short
-abbrev pub AreFull : Fti → (ℕ → ℕ → Option (List ℕ)) → Type 0
-AreFull f at = (arrivals : List Symbol) → IsIndex arrivals at → AllByRecursion (IsWithin f) arrivals → AllFull f arrivals
-
--- the answer to the symbols that stand so, which is no object; or these symbols, of which each block has enough
+-- the answer to the symbols that stand so, which is no object; or these symbols, of which each block has enough, and then it
+-- is an object
 abbrev pub Gathers : Fti → (ℕ → ℕ → Option (List ℕ)) → Gathered → Type 0
 Gathers f at (gathered.Answer answer) = Answers f at (answer_value answer) × IsNoObject answer
-Gathers f at (gathered.Symbols s) = (s.received.fti ≡ f) × (bytes_at s.received.symbols ≡ at) × AreEnough s × AreFull f at
+Gathers f at (gathered.Symbols s) =
+    (s.received.fti ≡ f) × (bytes_at s.received.symbols ≡ at) × AreEnough s × (object : List ℕ) × Answers f at (value.Object object)
 
 -- their object was written, of the FTI's transfer length
 pub record WritesObject (f : Fti) (at : ℕ → ℕ → Option (List ℕ)) (before after : Option (List ℕ)) : Type 0 where
@@ -36,9 +30,3 @@ pub record WritesObject (f : Fti) (at : ℕ → ℕ → Option (List ℕ)) (befo
 -- a beginning of their object was written, if they are of one
 abbrev pub BeginsObject : Fti → (ℕ → ℕ → Option (List ℕ)) → Option (List ℕ) → Option (List ℕ) → Type 0
 BeginsObject f at before after = (arrivals : List Symbol) (object : List ℕ) → IsIndex arrivals at → FitsOnly f arrivals object → AppendsSome before after object
-
--- why it wasn't
-abbrev pub IsUnsaved : Fti → (ℕ → ℕ → Option (List ℕ)) → Bool → WriteFault → Type 0
-IsUnsaved f at failed (NotCode b) = Answers f at (value.NotCode b)
-IsUnsaved f at failed Io = failed ≡ true
-IsUnsaved f at failed NoMemory = Unit {0}

@@ -1,5 +1,5 @@
 //! Decoding into a writer: the object is written block by block, so that it is never held.
-ghost use Rattle.std.specs.Prelude.{◌≡◌, ◌<◌, ℕ, List, length, map, IfOk, IfErr, OnOk, OnErr};
+ghost use Rattle.std.specs.Prelude.{◌≡◌, ◌<◌, ℕ, List, true, length, map, IfOk, IfErr, OnOk, OnErr, MatchBool};
 ghost use Rattle.session.specs.Frames.{AppendsSome};
 ghost use Rattle.partition.specs.Fti.{block_count};
 ghost use Rattle.block_code.specs.Codes.{EachBlockHas};
@@ -7,11 +7,12 @@ ghost use Rattle.block_code.specs.CodesOf.{IsCodeOf};
 ghost use Rattle.reception.specs.declared.scope.Identity.{Identity as IdentityValue};
 ghost use Rattle.reception.specs.Answer.{Object, IsAnswer};
 ghost use Rattle.decoder.specs.Decoded.{AreWithin, IsEnoughAt, Stand};
+ghost use Rattle.decoder.specs.Unsolvable.{AreSound, SomeUnsound, HaveBytes};
 ghost use Rattle.decoder.specs.Received.{bytes_at};
 ghost use Rattle.decoder.specs.Receiving.{IsWrittenOf};
 ghost use Rattle.decoder.specs.SymbolsOf.{AreSymbolsOf, AreGathered};
-ghost use Rattle.decoder.specs.Gathering.{IsGathered, IsUnwritten};
-ghost use Rattle.decoder.specs.Written.{AreFull, Gathers, WritesObject, BeginsObject, IsUnsaved};
+ghost use Rattle.decoder.specs.Gathering.{IsGathered};
+ghost use Rattle.decoder.specs.Written.{Gathers, WritesObject, BeginsObject};
 
 use crate::answer::{Answer, DecodeFault};
 use crate::blocks::received_rows;
@@ -25,7 +26,7 @@ use session::{Write, write_all};
 use std::alloc::{AllocError, Global};
 use thiserror::Error;
 
-/// The symbols of an object, in their datagrams. No block is short.
+/// The symbols of an object, in their datagrams.
 #[derive(Drop)]
 pub struct ObjectSymbols<'a> {
     pub(crate) received: Received<'a>,
@@ -44,9 +45,6 @@ pub enum Gathered<'a> {
 /// Why an object wasn't written.
 #[derive(Debug, Clone, Copy, PartialEq, Eq, Error)]
 pub enum WriteFault {
-    /// The block's symbols aren't those of any object.
-    #[error("R6 NotCode block {0}")]
-    NotCode(u32),
     /// The writer has failed.
     #[error("Io")]
     Io,
@@ -77,8 +75,13 @@ fn has_unsolvable(
     requires within { AreWithin received.now.fti (bytes_at received.now.symbols) }
     requires enough { (b : ℕ) → b < block_count received.now.fti
         → IsEnoughAt received.now.fti b (bytes_at received.now.symbols b) }
+    requires bytes { HaveBytes (bytes_at received.now.symbols) }
+    ensures { IfOk result (λ v. MatchBool v
+        (SomeUnsound received.now.fti (bytes_at received.now.symbols))
+        (AreSound received.now.fti (bytes_at received.now.symbols))) }
 {
     let fti = &received.fti;
+    fti.is_valid();
     let last = fti.block_count() - 1;
     let mut kept = None;
     for b in 0..fti.block_count() {
@@ -99,23 +102,26 @@ fn enough<'a>(
     codes: BlockCodes,
 ) -> Result<Gathered<'a>, AllocError>
     requires codes { EachBlockHas (IsCodeOf received.fti) received.fti codes }
-    requires within { AreWithin received.fti (bytes_at received.symbols) }
+    requires stand { Stand received.fti (bytes_at received.symbols) }
     requires enough { (b : ℕ) → b < block_count received.fti
         → IsEnoughAt received.fti b (bytes_at received.symbols b) }
-    requires full { AreFull received.fti (bytes_at received.symbols) }
+    requires bytes { HaveBytes (bytes_at received.symbols) }
     ensures { IfOk result (Gathers received.entry.fti (bytes_at received.entry.symbols)) }
 {
-    if has_unsolvable(alloc, &received, &codes)? {
-        if let Some(b) = first_unsolvable(alloc, &received, &codes)? {
-            return Ok(Gathered::Answer(Answer::Fault(DecodeFault::NotCode(b))));
-        }
+    received.fti.is_valid();
+    if !has_unsolvable(alloc, &received, &codes)? {
+        return Ok(Gathered::Symbols(ObjectSymbols { received, codes }));
     }
-    Ok(Gathered::Symbols(ObjectSymbols { received, codes }))
+    match first_unsolvable(alloc, &received, &codes)? {
+        Some(b) => Ok(Gathered::Answer(Answer::Fault(DecodeFault::NotCode(b)))),
+        None => unreachable!(),
+    }
 }
 
 // What the symbols give.
 fn gather_symbols<'a>(alloc: Global, received: Received<'a>) -> Result<Gathered<'a>, AllocError>
-    requires { Stand received.fti (bytes_at received.symbols) }
+    requires stand { Stand received.fti (bytes_at received.symbols) }
+    requires bytes { HaveBytes (bytes_at received.symbols) }
     ensures { IfOk result (Gathers received.entry.fti (bytes_at received.entry.symbols)) }
 {
     received.fti.is_valid();
@@ -132,8 +138,8 @@ fn gather_symbols<'a>(alloc: Global, received: Received<'a>) -> Result<Gathered<
 /// What the datagrams say of the object that was sent under an identity, as `decode` answers, but for the object itself:
 /// where they give one it is the symbols of it. Want of memory is the only error.
 ///
-/// A block whose symbols are those of no object is told here where it can be told without holding what is solved; only
-/// blocks that have more symbols than they need, and the last one, are solved for that.
+/// A block whose symbols are those of no object is told here. Only blocks that have more symbols than they need, and the
+/// last one, are solved for that.
 pub fn gather<'a>(
     alloc: Global,
     datagrams: &[&'a [u8]],
@@ -161,10 +167,10 @@ fn write_blocks<W: Write>(
     requires within { AreWithin received.now.fti (bytes_at received.now.symbols) }
     requires enough { (b : ℕ) → b < block_count received.now.fti
         → IsEnoughAt received.now.fti b (bytes_at received.now.symbols b) }
+    requires sound { AreSound received.now.fti (bytes_at received.now.symbols) }
     ensures ok { OnOk result (WritesObject received.now.fti (bytes_at received.now.symbols)
         (W.contents writer.old) (W.contents writer.new)) }
-    ensures fault { IfErr result (IsUnsaved received.now.fti (bytes_at received.now.symbols)
-        (W.failed writer.new)) }
+    ensures fault { IfErr result (λ e. e ≡ WriteFault.Io → W.failed writer.new ≡ true) }
     ensures front { OnErr result (BeginsObject received.now.fti (bytes_at received.now.symbols)
         (W.contents writer.old) (W.contents writer.new)) }
     ensures full { IfErr result (λ e. e ≡ WriteFault.Io
@@ -175,7 +181,7 @@ fn write_blocks<W: Write>(
     let mut kept = None;
     for b in 0..fti.block_count() {
         let Some(rows) = received_rows(alloc, received, codes, b, &mut kept)? else {
-            return Err(WriteFault::NotCode(b));
+            unreachable!();
         };
         let used = left.min(rows.bytes.len() as u64);
         let Ok(()) = write_all(writer, &rows.bytes[..used as usize]) else {
@@ -189,17 +195,14 @@ fn write_blocks<W: Write>(
 impl ObjectSymbols<'_> {
     /// Writes the object, and answers its length in bytes. One block of it is held at a time.
     ///
-    /// `NotCode` is the answer to the datagrams where the symbols are those of no object; a beginning may be written then.
-    /// `Io` comes only where the writer has failed, and never where it has room for the object. At `Io` and `NoMemory` the
-    /// writer has a beginning of the object.
+    /// `Io` comes only where the writer has failed, and never where it has room for the object. At an error the writer has a
+    /// beginning of the object.
     pub fn write<W: Write>(&self, alloc: Global, writer: &mut W) -> Result<u64, WriteFault>
         requires { AreGathered self.now }
         ensures written { (who : IdentityValue) (ds : List (List ℕ))
             → AreSymbolsOf who ds self.now
             → IfOk result (IsWrittenOf who ds (W.contents writer.old) (W.contents writer.new)) }
-        ensures fault { (who : IdentityValue) (ds : List (List ℕ))
-            → AreSymbolsOf who ds self.now
-            → IfErr result (IsUnwritten who ds (W.failed writer.new)) }
+        ensures fault { IfErr result (λ e. e ≡ WriteFault.Io → W.failed writer.new ≡ true) }
         ensures front { (who : IdentityValue) (ds : List (List ℕ)) (object : List ℕ)
             → AreSymbolsOf who ds self.now → IsAnswer who ds (Object object)
             → OnErr result (AppendsSome (W.contents writer.old) (W.contents writer.new) object) }

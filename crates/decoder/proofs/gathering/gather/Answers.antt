@@ -1,18 +1,26 @@
 use Rattle.std.proofs.Common.{ℕ, List, map, refl}
 use Rattle.std.specs.Borrow.{Bor}
 use Rattle.reception.specs.Walks.{readings_of}
-use Rattle.decoder.specs.Received.{bytes_at}
+use Rattle.decoder.specs.Received.{bytes_at, AreReceived}
 use Rattle.decoder.specs.Gathering.{IsGathered}
 use Rattle.decoder.specs.Written.{Gathers}
 use Rattle.decoder.proofs.Answering.{bytes_of, read_all, stand_of, if_ok}
 use Rattle.decoder.proofs.GatheredSymbols.{gathered_of}
+use Rattle.decoder.proofs.SymbolBytes.{have_bytes}
 use Rattle.decoder.proofs.gathering.gather.Goals as goal
 
-pub gather_symbols-requires : goal.gather_symbols-requires
-gather_symbols-requires c =
+pub gather_symbols-requires-clause-stand : goal.gather_symbols-requires-clause-stand
+gather_symbols-requires-clause-stand c =
     let ds = map (λ (d : Bor (List ℕ)). d.now) c.args.datagrams.now in
     stand_of c.args.identity ds c.in-Ok-Some.received.fti (bytes_at c.in-Ok-Some.received.symbols)
     (rw c.in-Ok-Some.field-0-is at c.in-Ok-Some.ensures.received)
+
+pub gather_symbols-requires-clause-bytes : goal.gather_symbols-requires-clause-bytes
+gather_symbols-requires-clause-bytes c =
+    let ds = map (λ (d : Bor (List ℕ)). d.now) c.args.datagrams.now in
+    let received : AreReceived c.args.identity (map (λ (d : Bor (List ℕ)). d.now) c.args.datagrams.now) c.in-Ok-Some.received.fti (bytes_at c.in-Ok-Some.received.symbols) =
+    rw c.in-Ok-Some.field-0-is at c.in-Ok-Some.ensures.received in
+    have_bytes c.args.identity ds (bytes_at c.in-Ok-Some.received.symbols) (read_all ds (bytes_of c.args.datagrams.now _ c.all_are_bytes.ensures)) received.index
 
 pub returns-in-Ok-Some : goal.returns-in-Ok-Some
 returns-in-Ok-Some c =

@@ -3,7 +3,7 @@ use Rattle.partition.specs.Fti.{block_count}
 use Rattle.session.proofs.Writes.{then_appends, then_some}
 use Rattle.decoder.specs.Received.{bytes_at}
 use Rattle.decoder.proofs.Beginnings.{begins, begins_whole}
-use Rattle.decoder.proofs.ObjectSoFar.{nothing_yet, one_more_block, object_answers, not_code_answers}
+use Rattle.decoder.proofs.ObjectSoFar.{nothing_yet, one_more_block, object_answers}
 use Rattle.decoder.proofs.Taken.{appends_nothing, on_err}
 use Rattle.decoder.proofs.gathering.write_blocks.Goals as goal
 
@@ -17,23 +17,11 @@ loop-b-init g c = record {
   kept = tt;
 }
 
-pub returns-in_default-clause-fault : goal.returns-in_default-clause-fault
-returns-in_default-clause-fault g c =
-    let i = c.loop-b.invariant in
-    not_code_answers c.args.received.now.fti c.transfer_length-left.ensures.valid (bytes_at c.args.received.now.symbols) c.loop-b.b i.object i.so_far
-    (omega (arith, c.block_count-b-end.ensures.value)) (c.in_ok-rows.ensures.none (rw c.in_default.is refl)) c.requires.enough
-
 pub returns-in_err-rows-clause-front : goal.returns-in_err-rows-clause-front
 returns-in_err-rows-clause-front g c =
     let i = c.loop-b.invariant in
     on_err _ _ (begins_whole c.args.received.now.fti c.transfer_length-left.ensures.valid (bytes_at c.args.received.now.symbols) c.loop-b.b i.object i.so_far
     (omega (arith, c.block_count-b-end.ensures.value)) _ _ i.written)
-
-pub returns-in_default-clause-front : goal.returns-in_default-clause-front
-returns-in_default-clause-front g c =
-    let i = c.loop-b.invariant in
-    begins_whole c.args.received.now.fti c.transfer_length-left.ensures.valid (bytes_at c.args.received.now.symbols) c.loop-b.b i.object i.so_far
-    (omega (arith, c.block_count-b-end.ensures.value)) _ _ i.written
 
 pub returns-in_default-write_all-clause-front : goal.returns-in_default-write_all-clause-front
 returns-in_default-write_all-clause-front g c =

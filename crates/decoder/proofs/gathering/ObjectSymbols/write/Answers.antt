@@ -2,7 +2,7 @@ use Rattle.std.proofs.Common.{◌∙◌, sym, arith}
 use Rattle.reception.specs.Answer.{Object}
 use Rattle.decoder.specs.Received.{bytes_at}
 use Rattle.decoder.proofs.Answering.{are_within, stand_of}
-use Rattle.decoder.proofs.GatheredSymbols.{answer_of, unwritten_of, begun_of, object_length}
+use Rattle.decoder.proofs.GatheredSymbols.{answer_of, begun_of, object_length}
 use Rattle.decoder.proofs.gathering.ObjectSymbols.write.Goals as goal
 
 pub write_blocks-requires-clause-within : goal.write_blocks-requires-clause-within
@@ -10,11 +10,6 @@ write_blocks-requires-clause-within g c =
     let r = c.args.self.now.received in
     let of = c.requires.2 in
     are_within r.fti (bytes_at r.symbols) (stand_of c.requires.0 c.requires.1 r.fti (bytes_at r.symbols) of.received)
-
-pub returns-in-Err-clause-fault : goal.returns-in-Err-clause-fault
-returns-in-Err-clause-fault g c = λ who ds are.
-    let r = c.args.self.now.received in
-    unwritten_of who ds r.fti (bytes_at r.symbols) are.read are.received _ c.in-Err.fault c.in-Err.ensures.fault
 
 pub returns-in-Ok-clause-written : goal.returns-in-Ok-clause-written
 returns-in-Ok-clause-written g c = λ who ds are.
