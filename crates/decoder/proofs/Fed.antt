@@ -25,12 +25,14 @@ use Rattle.reception.specs.Symbols.{Symbol, is_full, arrived_count, Solvable, Is
 use Rattle.decoder.specs.Answers.{fault_value}
 use Rattle.decoder.specs.declared.answer.DecodeFault.{DecodeFault}
 use Rattle.decoder.specs.declared.answer.DecodeFault.TheVariants as fault
-use Rattle.reception.specs.Reception.{Wrong, ReadAll, Faulty, Judged, Other, Early, asked, counts, is_of_identity, is_carrier, learned, or_later, carried, symbol_of, counted, symbols, in_range, look_by, look as look_of}
-use Rattle.reception.specs.Headline.{HasCarrier}
+use Rattle.std.specs.Option.{option_or}
+use Rattle.reception.specs.Reception.{Wrong, ReadAll, Faulty, Judged, Other, Early, asked, counts, is_of_identity, is_carrier, learned, carried, symbol_of, counted, symbols, in_range, look_by, look as look_of}
+use Rattle.reception.specs.Nothing.{HasNoCarrier}
+use Rattle.reception.proofs.Nothing.{tells_empty}
 use Rattle.reception.specs.Step.{IsLook, looked}
 use Rattle.reception.specs.Walks.{readings_of, Timely}
 use Rattle.reception.specs.Within.{IsWithin}
-use Rattle.reception.specs.Answer.{Answer, AnswerTo, Clash, Clashes, Fault, NotCode, IsAnswer, clash, clashes, reception_of}
+use Rattle.reception.specs.Answer.{Answer, AnswerTo, Clash, Clashes, Empty, Fault, NotCode, IsAnswer, clash, clashes, reception_of}
 use Rattle.reception.specs.declared.scope.PlaceFault.TheVariants as place_fault
 use Rattle.reception.proofs.OneAnswer.{same_readings}
 use Rattle.reception.proofs.Carriers.{known_carrier, carrier_known}
@@ -59,7 +61,7 @@ use Rattle.decoder.proofs.Holding.{with_own, with_apart}
 use Rattle.decoder.proofs.Index.{pointwise_same, clash_none, clash_some}
 use Rattle.decoder.proofs.Receiving.{Scanned, empty_index, clashed, no_clash as unclashed_judge, receives, received}
 use Rattle.decoder.proofs.Solving.{solvable_from, solvable_gives}
-use Rattle.decoder.proofs.Taken.{full_explained, nothing_count, no_fti, keeps, all_within, arrived_is, none_short, full_solvable}
+use Rattle.decoder.proofs.Taken.{full_explained, nothing_count, no_fti, keeps, all_within, arrived_is, none_short, here_full, full_solvable}
 use Rattle.decoder.proofs.Those.{few_pass}
 
 -- whether a fault is told that is seen before the symbol
@@ -181,12 +183,12 @@ module _ (r : Receiver) (ds : List (List ℕ)) (stands : Stands r ds) (d : List 
   known_who = ap (λ (s : Scope). s.identity) is ∙ identity_stays (asked r.identity) (counted r.identity (readings_of ds))
 
   -- without a carrier no FTI is known
-  none_known : ¬ HasCarrier r.identity ds → old.fti ≡ None
-  none_known none = by (reception_of r.identity (readings_of ds)).scope.fti refl
-    where
-      by : (o : Option Fti) → (reception_of r.identity (readings_of ds)).scope.fti ≡ o → old.fti ≡ None
-      by None e = ap (λ (s : Scope). s.fti) is ∙ e
-      by (Some f) e = absurd (none record { readings = readings_of ds; read = stands.read; carrier = known_carrier r.identity (readings_of ds) f e })
+  none_known : HasNoCarrier r.identity ds → old.fti ≡ None
+  none_known none =
+      let empty = (tells_empty r.identity ds).1 none in
+      let here : AnswerTo (reception_of r.identity (readings_of ds)) Empty =
+      subst (λ (rs : List Reading). AnswerTo (reception_of r.identity rs) Empty) (same_readings ds empty.readings (readings_of ds) empty.read stands.read) empty.answers in
+      ap (λ (s : Scope). s.fti) is ∙ here.1
 
   -- a packet that comes early is seen as one
   seen_early : (answer : Result Look PlaceFault) → IsLook d old new answer → ComesEarly r.identity ds d → looked answer ≡ Ok Early
@@ -197,8 +199,8 @@ module _ (r : Receiver) (ds : List (List ℕ)) (stands : Stands r ds) (d : List 
       let counted_here : counts old.identity seen.reading ≡ true = ap (λ (x : Reading). counts old.identity x) read_is ∙ mine in
       let now : new ≡ learned old seen.reading = seen.scope ∙ ap (λ (v : Bool). if v then learned old seen.reading else old) counted_here in
       let none : new.fti ≡ None =
-      ap (λ (s : Scope). s.fti) now ∙ ap (λ (x : Reading). or_later old.fti (carried x)) read_is
-      ∙ ap (λ (o : Option Fti). or_later o p.fti) (none_known early.first) ∙ early.bare in
+      ap (λ (s : Scope). s.fti) now ∙ ap (λ (x : Reading). option_or old.fti (carried x)) read_is
+      ∙ ap (λ (o : Option Fti). option_or o p.fti) (none_known early.first) ∙ early.bare in
       let still : is_of_identity new.identity p ≡ true = ap (λ (s : Scope). is_of_identity s.identity p) now ∙ mine in
       seen.told ∙ ap (λ (x : Reading). look_of new x) read_is
       ∙ ap (λ (v : Bool). if v then look_by new.fti p else Ok Other) still ∙ ap (λ (o : Option Fti). look_by o p) none
@@ -223,11 +225,7 @@ module _ (r : Receiver) (ds : List (List ℕ)) (stands : Stands r ds) (d : List 
         reads = subst (λ (x : Reading). Reads d x) e.is seen.reads;
         mine = ap (λ (i : Identity). is_of_identity i e.packet) (sym known_who) ∙ e.counts;
         bare = e.bare;
-        first = λ has.
-            let carrier = subst (λ (rs : List Reading). list_any (is_carrier r.identity) rs ≡ true) (same_readings ds has.readings (readings_of ds) has.read stands.read) has.carrier in
-            let w = carrier_known r.identity (readings_of ds) carrier in
-            let known = w.1 in
-            absurd (cc);
+        first = (tells_empty r.identity ds).0 (record { readings = readings_of ds; read = stands.read; answers = (stands.clean, unknown) });
       }
 
   -- a datagram that is passed over
@@ -411,11 +409,11 @@ module _ (r : Receiver) (ds : List (List ℕ)) (stands : Stands r ds) (store : S
       let counted_is = counted_solved in
       let most = few_pass (λ b. is_solved (kept_of store b)) (block_count store.fti) in
       let w = one_missing (λ b. is_solved (kept_of store b)) n n (omega arith) (omega (arith, other, counted_is, most)) in
-      let known = none.known in
+      let known = (here_full r ds stands none).0 in
       let there = k.0 in
       let same_fti : none.fti ≡ store.fti = cc in
       let full : is_full store.fti (reception_of r.identity (readings_of ds)).symbols w.0 ≡ true =
-      subst (λ (f : Fti). (b : ℕ) → b < block_count f → is_full f (reception_of r.identity (readings_of ds)).symbols b ≡ true) same_fti none.full w.0 w.1 in
+      subst (λ (f : Fti). (b : ℕ) → b < block_count f → is_full f (reception_of r.identity (readings_of ds)).symbols b ≡ true) same_fti (here_full r ds stands none).1 w.0 w.1 in
       let arrived_at = arrived_is store valid k.1.at k.1.holds (reception_of r.identity (readings_of ds)).symbols k.1.index (all_within r ds stands store is) w.0 w.1 in
       unsolved_short store.fti w.0 (kept_of store w.0) (k.1.at w.0) (block_counts store.fti valid w.0 w.1).0 (k.1.holds.blocks w.0) w.2
       (omega (arith, leb-true (source_count store.fti w.0) (arrived_count (reception_of r.identity (readings_of ds)).symbols w.0) full, arrived_at))

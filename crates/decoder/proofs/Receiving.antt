@@ -8,9 +8,9 @@ use Rattle.reception.specs.declared.scope.Identity.{Identity}
 use Rattle.reception.specs.declared.scope.Look.TheVariants as look_at
 use Rattle.reception.specs.declared.scope.Scope.{Scope}
 use Rattle.reception.specs.Symbols.{Symbol, is_of}
-use Rattle.reception.specs.Reception.{Wrong, Judged, Reception, IsClean, judged, counted, counted_from, symbols, symbols_in, symbol_of, reception_with}
+use Rattle.reception.specs.Reception.{Wrong, Judged, Reception, IsClean, counted, counted_from, symbols, symbols_in, symbol_of, reception_with}
 use Rattle.reception.specs.Step.{IsLook}
-use Rattle.reception.specs.Walks.{readings_of, scope_in}
+use Rattle.reception.specs.Walks.{readings_of, scope_in, judged}
 use Rattle.reception.specs.Answer.{Clash, Clashes, Empty, AnswerTo, clash, clashes}
 use Rattle.reception.proofs.Heard.{found_identity, found_reception, found_settled, may_pass_settled}
 use Rattle.reception.proofs.Looks.{known_look}

@@ -17,7 +17,7 @@ use Rattle.reception.specs.Walks.{readings_of}
 use Rattle.reception.specs.Within.{IsWithin}
 use Rattle.reception.specs.Answer.{Empty, Missing, Object, IsAnswer, clash, reception_of}
 use Rattle.reception.specs.Answer as value
-use Rattle.reception.proofs.OneAnswer.{one_answer}
+use Rattle.reception.proofs.OneAnswer.{one_answer, same_readings}
 use Rattle.reception.proofs.Within.{within}
 use Rattle.decoder.specs.Columns.{ColumnExplained}
 use Rattle.decoder.specs.Decoded.{IsEnoughAt, AreRows, Answers, IsShort}
@@ -39,6 +39,7 @@ use Rattle.decoder.proofs.Kept.{count_none, count_same}
 use Rattle.decoder.proofs.ObjectSoFar.{SoFar, nothing_yet, one_more_block, object_answers}
 use Rattle.decoder.proofs.Solving.{solvable_from}
 use Rattle.decoder.proofs.Unsound.{rows_explain}
+use Rattle.alc.specs.Reading.{Reading}
 
 pub if_some : {A : Type 0} (P Q : A → Type 0) (o : Option A) → ((a : A) → P a → Q a) → IfSome o P → IfSome o Q
 if_some P Q (Some a) f h = f a h
@@ -217,8 +218,15 @@ module _ (r : Receiver) (ds : List (List ℕ)) (stands : Stands r ds) where
   pub empty_taken : r.store ≡ None → IsAnswer r.identity ds Empty
   empty_taken e = record { readings = readings_of ds; read = stands.read; answers = (stands.clean, no_fti e) }
 
+  -- what leaves no block short, by the readings that are computed
+  pub here_full : (h : LeaveNoneShort r.identity ds)
+      → ((reception_of r.identity (readings_of ds)).scope.fti ≡ Some h.fti) × AllFull h.fti (reception_of r.identity (readings_of ds)).symbols
+  here_full h =
+      subst (λ (rs : List Reading). ((reception_of r.identity rs).scope.fti ≡ Some h.fti) × AllFull h.fti (reception_of r.identity rs).symbols)
+      (same_readings ds h.readings (readings_of ds) h.read stands.read) (h.known, h.full)
+
   pub short_none : r.store ≡ None → ¬ LeaveNoneShort r.identity ds
-  short_none e none_short = let none = no_fti e in let known = none_short.known in absurd (cc)
+  short_none e none_short = let none = no_fti e in let known = (here_full none_short).0 in absurd (cc)
 
   module _ (store : Store) (is : r.store ≡ Some store) where
     pub keeps : ((reception_of r.identity (readings_of ds)).scope.fti ≡ Some store.fti) × HoldsSymbols store (reception_of r.identity (readings_of ds)).symbols
@@ -246,6 +254,8 @@ module _ (r : Receiver) (ds : List (List ℕ)) (stands : Stands r ds) where
 
     pub none_short : IsValidFti store.fti → AllSolved store → LeaveNoneShort r.identity ds
     none_short valid all = record {
+      readings = readings_of ds;
+      read = stands.read;
       fti = store.fti;
       known = keeps.0;
       full = all_full store valid keeps.1.at keeps.1.holds (reception_of r.identity (readings_of ds)).symbols keeps.1.index all_within all;
@@ -254,10 +264,10 @@ module _ (r : Receiver) (ds : List (List ℕ)) (stands : Stands r ds) where
     pub some_short : (s : Short) → ((at : ℕ → ℕ → Option (List ℕ)) → Holds store at → IsShort store.fti at s) → ¬ LeaveNoneShort r.identity ds
     some_short s short none =
         let first = (short keeps.1.at keeps.1.holds (reception_of r.identity (readings_of ds)).symbols keeps.1.index all_within).0 in
-        let other = none.known in
+        let other = (here_full none).0 in
         let known = keeps.0 in
         let same : none.fti ≡ store.fti = cc in
-        let full : AllFull store.fti (reception_of r.identity (readings_of ds)).symbols = subst (λ (f : Fti). AllFull f (reception_of r.identity (readings_of ds)).symbols) same none.full in
+        let full : AllFull store.fti (reception_of r.identity (readings_of ds)).symbols = subst (λ (f : Fti). AllFull f (reception_of r.identity (readings_of ds)).symbols) same (here_full none).1 in
         let x = full s.block first.in_range in
         let y = first.short in
         absurd (cc)

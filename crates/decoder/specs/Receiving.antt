@@ -3,13 +3,11 @@ use Rattle.std.specs.Prelude.{◌≡◌, ℕ, true, List, [], ◌∷◌, ◌++�
 use Rattle.std.specs.Io.KnownBytes.{Appends}
 use Rattle.partition.specs.Fti.{Fti}
 use Rattle.alc.specs.Packet.{Packet}
-use Rattle.alc.specs.Reading.{Reads}
+use Rattle.alc.specs.Reading.{Reading, Reads}
 use Rattle.reception.specs.declared.scope.Identity.{Identity}
-use Rattle.reception.specs.Symbols.{AllFull}
-use Rattle.reception.specs.Readings.{readings_of}
 use Rattle.reception.specs.declared.scope.PlaceFault.{PlaceFault}
-use Rattle.reception.specs.Reception.{Faulty, is_of_identity}
-use Rattle.reception.specs.Headline.{HasCarrier}
+use Rattle.reception.specs.Reception.{Faulty, is_of_identity, ReadAll, Suffices}
+use Rattle.reception.specs.Nothing.{HasNoCarrier}
 use Rattle.reception.specs.Answer.{Object, IsAnswer, reception_of}
 use Rattle.reception.specs.Answer as value
 use Rattle.decoder.specs.Answers.{fault_value}
@@ -25,9 +23,11 @@ with_datagram datagrams d = datagrams ++ d ∷ []
 
 -- a carrier came, and the datagrams leave no block short
 pub record LeaveNoneShort (who : Identity) (datagrams : List (List ℕ)) : Type 0 where
+  pub readings : List Reading
+  pub read : ReadAll datagrams readings
   pub fti : Fti
-  pub known : (reception_of who (readings_of datagrams)).scope.fti ≡ Some fti
-  pub full : AllFull fti (reception_of who (readings_of datagrams)).symbols
+  pub known : (reception_of who readings).scope.fti ≡ Some fti
+  pub full : Suffices who fti readings
 
 -- what is told of the datagrams
 abbrev pub Tells : Progress → Identity → List (List ℕ) → Type 0
@@ -37,9 +37,7 @@ Tells More who datagrams = ¬ LeaveNoneShort who datagrams
 -- a fault is the decoder's answer to the datagrams
 abbrev pub IsFaultOf : Identity → List (List ℕ) → FeedFault → Type 0
 IsFaultOf who datagrams (Fault e) = IsAnswer who datagrams (fault_value e)
-IsFaultOf who datagrams Full = Unit {0}
-IsFaultOf who datagrams Early = Unit {0}
-IsFaultOf who datagrams NoMemory = Unit {0}
+IsFaultOf who datagrams _ = Unit {0}
 
 -- the answer to the datagrams is no fault
 abbrev pub HasNoFault : Identity → List (List ℕ) → Type 0
@@ -55,7 +53,7 @@ pub record ComesEarly (who : Identity) (datagrams : List (List ℕ)) (datagram :
   pub reads : Reads datagram (Ok packet)
   pub mine : is_of_identity who packet ≡ true
   pub bare : packet.fti ≡ None
-  pub first : ¬ HasCarrier who datagrams
+  pub first : HasNoCarrier who datagrams
 
 -- the object that these datagrams give was written; its length in bytes
 abbrev pub IsWrittenOf : Identity → List (List ℕ) → Option (List ℕ) → Option (List ℕ) → ℕ → Type 0

@@ -2,7 +2,8 @@
 ghost use Rattle.std.specs.Prelude.{◌≡◌, ◌==◌, ◌&&◌, ℕ, List, Some, true, false, map, IsNone, IfSome, IfOk, IfErr, OnOk};
 ghost use Rattle.alc.specs.Views.{packet_of};
 ghost use Rattle.reception.specs.Symbols.{Symbol};
-ghost use Rattle.reception.specs.Reception.{Faulty, symbol_of};
+ghost use Rattle.reception.specs.Reception.{Faulty, ReadAll, symbol_of};
+ghost use Rattle.reception.specs.Readings.{readings_of};
 ghost use Rattle.reception.specs.Answer.{Fault, clashes};
 ghost use Rattle.decoder.specs.Answers.{fault_value};
 ghost use Rattle.decoder.specs.Refusals.{IsRefusal};
@@ -88,6 +89,8 @@ pub(crate) fn receive<'a>(
     datagrams: &[&'a [u8]],
     identity: Identity,
 ) -> Result<Option<Received<'a>>, Refusal>
+    requires { ReadAll (map (λ d. d.now) datagrams.now)
+        (readings_of (map (λ d. d.now) datagrams.now)) }
     ensures received { IfOk result (λ o. IfSome o (λ r.
         AreReceived identity (map (λ d. d.now) datagrams.now) r.fti (bytes_at r.symbols))) }
     ensures nothing { IfOk result (λ o. IsNone o

@@ -3,6 +3,8 @@ ghost use Rattle.std.specs.Prelude.{◌≡◌, ℕ, List, None, length, IfOk, If
 ghost use Rattle.partition.specs.Fti.{Fti};
 ghost use Rattle.lists.specs.Selection.{chosen, first_outside};
 ghost use Rattle.session.specs.Frames.{IsPlaceFault};
+ghost use Rattle.alc.specs.Reading.{Reading};
+ghost use Rattle.reception.specs.Reception.{ReadAll};
 ghost use Rattle.reception.specs.Answer.{Answer as AnswerValue, IsAnswer};
 ghost use Rattle.reception.specs.declared.scope.Identity.{Identity as IdentityValue};
 ghost use Rattle.reception.specs.Headline.{DecodesWhereEnough, TwinWhereShort, TellsElse};
@@ -31,11 +33,12 @@ pub fn decode_selection(
     ensures answer { IfOk result (λ a. IsAnswer identity
         (chosen session.now places.now) (answer_value a)) }
     // Where `check` said yes to the session, this object and a certificate with this FTI.
-    ensures promised { IfOk result (λ a. (f : Fti) (object : List ℕ)
+    ensures promised { IfOk result (λ a. (f : Fti) (object : List ℕ) (readings : List Reading)
         → DecodesWhereEnough identity f session.now object
         → TwinWhereShort identity f session.now object
         → TellsElse identity f session.now
-        → IsPromised identity f (chosen session.now places.now) object (answer_value a)) }
+        → ReadAll (chosen session.now places.now) readings
+        → IsPromised identity f readings object (answer_value a)) }
     ensures inside { OnOk result (first_outside (length session.now) places.now ≡ None) }
     ensures fault { IfErr result
         (λ e. IsPlaceFault e (first_outside (length session.now) places.now)) }

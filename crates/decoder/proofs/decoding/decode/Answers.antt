@@ -45,3 +45,6 @@ returns-in-Err-Fault c =
       read = read_all ds (bytes_of c.args.datagrams.now _ c.all_are_bytes.ensures);
       answers = rw c.in-Err-Fault.field-0-is at c.in-Err-Fault.ensures.refusal;
     })
+
+pub receive-requires : goal.receive-requires
+receive-requires c = read_all (map (λ (d : Bor (List ℕ)). d.now) c.args.datagrams.now) (bytes_of c.args.datagrams.now _ c.all_are_bytes.ensures)

@@ -52,3 +52,6 @@ returns-in-Err-Fault c =
       }),
       tt,
     )
+
+pub receive-requires : goal.receive-requires
+receive-requires c = read_all (map (λ (d : Bor (List ℕ)). d.now) c.args.datagrams.now) (bytes_of c.args.datagrams.now _ c.all_are_bytes.ensures)

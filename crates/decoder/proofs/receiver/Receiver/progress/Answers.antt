@@ -1,5 +1,6 @@
 use Rattle.std.proofs.Common.{◌∙◌, sym}
 use Rattle.decoder.proofs.Fed.{all_solved, some_unsolved, no_fault, no_fault_none}
+use Rattle.decoder.proofs.Taken.{short_none}
 use Rattle.decoder.proofs.receiver.Receiver.progress.Goals as goal
 
 pub returns-then-store-block_count-clause-tells : goal.returns-then-store-block_count-clause-tells
@@ -22,3 +23,7 @@ returns-else-store-block_count-clause-sound c = λ ds stands.
 pub returns-in_default-clause-sound : goal.returns-in_default-clause-sound
 returns-in_default-clause-sound c = λ ds stands.
     no_fault_none c.args.self.now ds stands c.in_default.is
+
+pub returns-in_default-clause-tells : goal.returns-in_default-clause-tells
+returns-in_default-clause-tells c = λ ds stands.
+    short_none c.args.self.now ds stands c.in_default.is

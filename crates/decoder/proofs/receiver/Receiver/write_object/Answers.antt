@@ -2,7 +2,7 @@ use Rattle.std.proofs.Common.{◌∙◌, ◌<◌, ℕ, List, length, sym, subst}
 use Rattle.reception.specs.Answer.{Object}
 use Rattle.session.specs.Frames.{AppendsSome}
 use Rattle.decoder.specs.Taking.{object_in}
-use Rattle.decoder.proofs.Taken.{short_is, some_short, object_same, object_length, object_in_answers, store_taken, none_short, on_err}
+use Rattle.decoder.proofs.Taken.{short_is, some_short, object_same, object_length, object_in_answers, store_taken, none_short, short_none, on_err}
 use Rattle.decoder.proofs.receiver.Receiver.write_object.Goals as goal
 
 pub returns-then-is_some-clause-short : goal.returns-then-is_some-clause-short
@@ -33,3 +33,7 @@ returns-clause-written g c = λ ds stands.
       c.in_ok-write.ensures.ok,
       c.transfer_length.ensures.value ∙ sym (object_length c.args.self.now ds stands store c.in-Some.is c.is_valid.ensures all),
     )
+
+pub returns-in_default-clause-short : goal.returns-in_default-clause-short
+returns-in_default-clause-short g c = λ ds stands _.
+    short_none c.args.self.now ds stands c.in_default.is
