@@ -7,6 +7,8 @@ pub mod Texts
 pub mod Flat
 pub mod TextPlaces
 pub mod OneText
+pub mod RowsOfText
+pub mod TextsWithoutFault
 pub mod Consuming
 pub mod BlockByBlock
 pub mod GivenName
