@@ -12,6 +12,7 @@ pub mod TextsWithoutFault
 pub mod Consuming
 pub mod BlockByBlock
 pub mod GivenName
+pub mod ConvertedBegun
 pub mod Scanning
 pub mod Judging
 pub mod Bridge

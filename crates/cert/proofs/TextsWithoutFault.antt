@@ -22,7 +22,7 @@ use Rattle.cert.proofs.RowsOfText.{told_by, told_text, told_form}
 
 -- ---- a text has no fault
 
-length_coefficients : (name : Option Identity) (z : Certificate) → IsCertificate z → length (coefficients_text name z) ≡ coefficient_count z.fti
+pub length_coefficients : (name : Option Identity) (z : Certificate) → IsCertificate z → length (coefficients_text name z) ≡ coefficient_count z.fti
 length_coefficients None z form = length_text z form.fti
 length_coefficients (Some who) z form = form.count
 
