@@ -3,7 +3,7 @@ use Rattle.std.specs.Prelude.{IfSome, slice_index}
 use Rattle.std.proofs.Common.{◌≡◌, ◌≢◌, ℕ, suc, ◌+◌, ◌-◌, ◌*◌, ◌<◌, ◌≤◌, List, [], ◌++◌, Option, Some, None, length, refl, sym, ap, subst, ◌∙◌, inl, inr, arith, length-append}
 use Rattle.std.proofs.Math.Nat.{mul-le-mul_right, mul_comm}
 use Rattle.std.proofs.lemmas.Bool.{cases_eq}
-use Rattle.std.proofs.lemmas.List.{append-nil, get_or_append_left, get_or-append_right}
+use Rattle.std.proofs.lemmas.List.{append-nil, take_all, get_or_append_left, get_or-append_right}
 use Rattle.std.specs.Io.KnownBytes.{Consumes, IsAtEnd, Appends}
 use Rattle.lists.specs.Bytes.{AreBytes}
 use Rattle.gf256.proofs.RowPlaces.{rows_apart, row_ends}
@@ -11,11 +11,12 @@ use Rattle.partition.specs.Fti.{Fti, IsValidFti, block_count, source_count, star
 use Rattle.partition.proofs.Laws.{start_step, rising_to, block_end}
 use Rattle.alc.proofs.Bytes.{AreBytes-append}
 use Rattle.streams.proofs.Fills.{then_consumes}
-use Rattle.session.proofs.Writes.{then_appends}
+use Rattle.session.specs.Pieces.{AppendsSome}
+use Rattle.session.proofs.Writes.{then_appends, then_some}
 use Rattle.reception.specs.declared.scope.Identity.{Identity}
 use Rattle.cert.specs.Certificate.{coefficient_count}
 use Rattle.cert.specs.CoefficientRows.{text_place}
-use Rattle.cert.specs.ConvertingBlocks.{AreBlockRows, AreSame, Converts}
+use Rattle.cert.specs.ConvertingBlocks.{AreBlockRows, AreSame, Converts, ConvertsSome}
 use Rattle.cert.proofs.Flat.{appends_none}
 use Rattle.cert.proofs.TextPlaces.{place_before}
 
@@ -84,7 +85,7 @@ module _ (f : Fti) (valid : IsValidFti f) where
   room_left n before here after room more = omega (arith, room, more, next_start n)
 
   -- a column of a block before another
-  text_before : (a b i c : ℕ) → a < b → i < source_count f a → c < f.symbol_length → text_place f a c i < start_of f b * f.symbol_length
+  pub text_before : (a b i c : ℕ) → a < b → i < source_count f a → c < f.symbol_length → text_place f a c i < start_of f b * f.symbol_length
   text_before a b i c less li lc =
       let ends = row_ends c f.symbol_length (source_count f a) lc in
       let turned = mul_comm f.symbol_length (source_count f a) in
@@ -166,3 +167,46 @@ none_converted name f left before = record {
   consumed = nothing_read left;
   gained = appends_none before;
 }
+
+-- ---- where it ends before the last
+
+-- the same, whatever was written
+unknown : (name : Option Identity) (f : Fti) (n : ℕ) (left here before after : Option (List ℕ)) → Converts name f n left here before after → Converts name f n left here None None
+unknown name f n left here before after done = record {
+  told = done.told;
+  rows = done.rows;
+  told_count = done.told_count;
+  rows_count = done.rows_count;
+  bytes = done.bytes;
+  same = done.same;
+  consumed = done.consumed;
+  gained = tt;
+}
+
+all_some : (a b : Option (List ℕ)) (x : List ℕ) → Appends a b x → AppendsSome a b x
+all_some a b x p = (length x, rw (take_all (length x) x (omega arith)) p)
+
+pub some_converted : (name : Option Identity) (f : Fti) (n : ℕ) (left here before after : Option (List ℕ)) → n ≤ block_count f → Converts name f n left here before after
+    → ConvertsSome name f left before after
+unfolding unknown
+some_converted name f n left here before after inside done = record {
+  blocks = n;
+  inside = inside;
+  here = here;
+  read = unknown name f n left here before after done;
+  gained = all_some before after done.rows done.gained;
+}
+
+module _ (f : Fti) (valid : IsValidFti f) (name : Option Identity) (n : ℕ) (left here there before after last : Option (List ℕ)) (done : Converts name f n left here before after)
+    (t : List ℕ) (t_long : length t ≡ source_count f n * f.symbol_length) (read : Consumes here there t)
+    (r : List ℕ) (r_long : length r ≡ source_count f n * f.symbol_length) (bytes : AreBytes r) (turned : AreBlockRows name (source_count f n) f.symbol_length t r) where
+  -- a beginning of the last one's rows was written
+  pub cut_written : n < block_count f → AppendsSome after last r → ConvertsSome name f left before last
+  unfolding unknown block_converted
+  cut_written inside some = record {
+    blocks = n + 1;
+    inside = omega (arith, inside);
+    here = there;
+    read = block_converted f valid name n left here there None None (unknown name f n left here before after done) t t_long read r None r_long bytes turned tt;
+    gained = then_some before after last done.rows r done.gained some;
+  }

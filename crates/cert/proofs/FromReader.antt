@@ -17,7 +17,7 @@ use Rattle.cert.specs.declared.walk.NoReport.TheVariants.{Reason as ByReason, No
 use Rattle.cert.specs.Certificate.{Certificate, IsCertificate, is_for}
 use Rattle.cert.specs.DatagramWalk.{IsAgainstObject, IsNotBegun, IsNotPassed, IsNo}
 use Rattle.cert.specs.Endings.{ending_of, IsEnding}
-use Rattle.cert.specs.FromReader.{IsVerdictWhatFollows, IsVerdictAfter, IsCheckedFrom, IsRefusedBehind}
+use Rattle.cert.specs.FromReader.{read_for, HoldsAfter, IsCheckedFrom, IsRefusedBehind}
 use Rattle.cert.specs.Report.{IsReport}
 use Rattle.cert.specs.Scan.{IsNoReport, AreEnoughCertified}
 use Rattle.cert.specs.Verdict.{GivesObject, reception_to, first_reason, IsAgainst, IsVerdict}
@@ -57,6 +57,9 @@ consumes_one (Some a) (Some b) (Some c) ds d p q =
 
 -- ---- noes
 
+abbrev IsNoAfter : Identity → Reason → List (List ℕ) → Option (List ℕ) → List ℕ → Certificate → Type 0
+IsNoAfter who r ds left object z = HoldsAfter (read_for (No r)) ds left (λ some. IsVerdict who some object z (No r))
+
 -- a reason at a place is one against the datagrams
 against_place : (who : Identity) (z : Certificate) (rs : List Reading) (r : Reason) → first_reason who z rs ≡ Some r → IsAgainst who rs z r
 against_place who z rs Empty h = absurd (is_at_place (reception_to who z rs).wrong Empty h)
@@ -87,11 +90,12 @@ module _ (who : Identity) (z : Certificate) (object : List ℕ) (name : is_for w
   report_no ds (ByReason r) h = refused who (readings_of ds) object z r name form gives h
 
   module _ (ds : List (List ℕ)) (each : AreDatagrams ds) (left : Option (List ℕ)) where
-    what_follows : (r : Reason) → first_reason who z (readings_of ds) ≡ Some r → IsVerdictWhatFollows who ds object z (No r)
+    what_follows : (r : Reason) → first_reason who z (readings_of ds) ≡ Some r
+        → (rest : List (List ℕ)) → AreDatagrams rest → IsVerdict who (ds ++ rest) object z (No r)
     what_follows r h = λ rest more.
         verdict_no (ds ++ rest) r (datagrams_append ds rest each more) (against_place who z (readings_of (ds ++ rest)) r (reason_stays who z ds rest r h))
 
-    after_place : (r : Reason) → IsNotPassed who ds z (ByReason r) → IsVerdictAfter who (No r) ds left object z
+    after_place : (r : Reason) → IsNotPassed who ds z (ByReason r) → IsNoAfter who r ds left object z
     after_place OtherCertificate h = absurd (is_at_place (reception_to who z (readings_of ds)).wrong OtherCertificate h.0)
     after_place ObjectLength h = absurd (is_at_place (reception_to who z (readings_of ds)).wrong ObjectLength h.0)
     after_place (NotObject b c i) h = absurd (is_at_place (reception_to who z (readings_of ds)).wrong (NotObject b c i) h.0)
@@ -108,7 +112,7 @@ module _ (who : Identity) (z : Certificate) (object : List ℕ) (name : is_for w
       no_place : (r : Reason) → first_reason who z (readings_of ds) ≡ Some r → ⊥
       no_place r h = cc
 
-      after_all : (r : Reason) → IsAtEnd left → IsAgainst who (readings_of ds) z r → IsVerdictAfter who (No r) ds left object z
+      after_all : (r : Reason) → IsAtEnd left → IsAgainst who (readings_of ds) z r → IsNoAfter who r ds left object z
       after_all Empty end h = (end, verdict_no ds Empty each h)
       after_all (Thin b have need) end h = (end, verdict_no ds (Thin b have need) each h)
       after_all NoCarrier end h = (end, verdict_no ds NoCarrier each h)
@@ -122,7 +126,7 @@ module _ (who : Identity) (z : Certificate) (object : List ℕ) (name : is_for w
       after_all (Symbol i c) end h = absurd (no_place (Symbol i c) h)
 
 -- a reason against the name or the object is the verdict on any list
-before_all : (who : Identity) (z : Certificate) (object : List ℕ) (left : Option (List ℕ)) (r : Reason) → IsAgainstObject who r object z → IsVerdictAfter who (No r) [] left object z
+before_all : (who : Identity) (z : Certificate) (object : List ℕ) (left : Option (List ℕ)) (r : Reason) → IsAgainstObject who r object z → IsNoAfter who r [] left object z
 before_all who z object left OtherCertificate h = (refl, λ rest each. record { readings = readings_of rest; read = read_all rest each; judged = h })
 before_all who z object left ObjectLength h = (refl, λ rest each. record { readings = readings_of rest; read = read_all rest each; judged = h })
 before_all who z object left (NotObject b c i) h = (refl, λ rest each. record { readings = readings_of rest; read = read_all rest each; judged = h })
@@ -152,7 +156,7 @@ not_begun who old failed z object (ByReason r) h = record {
 
 module _ (who : Identity) (z : Certificate) (object : List ℕ) (name : is_for who z.name ≡ true) (form : IsObject z.fti object) (gives : GivesObject object z)
     (old new : Option (List ℕ)) (failed : Bool) (ds : List (List ℕ)) (each : AreDatagrams ds) (consumed : Consumes old new (frames ds)) where
-  no_from : (r : Reason) → IsVerdictAfter who (No r) ds new object z → IsCheckedFrom who old new object z (No r)
+  no_from : (r : Reason) → IsNoAfter who r ds new object z → IsCheckedFrom who old new object z (No r)
   no_from r h = record { datagrams = ds; each = each; consumed = consumed; judged = h; decodes = tt; undecided = tt; tells = tt; report = tt }
 
   -- the last of the datagrams isn't passed
@@ -171,7 +175,12 @@ module _ (who : Identity) (z : Certificate) (object : List ℕ) (name : is_for w
     not_read later fault h = record {
       datagrams = ds;
       each = each;
-      none = record { name = name; form = form; gives = gives; readings = readings_of ds; read = read_all ds each; none = no_reason _ clean };
+      name = name;
+      form = form;
+      gives = gives;
+      readings = readings_of ds;
+      read = read_all ds each;
+      none = no_reason _ clean;
       left = new;
       consumed = consumed;
       refused = h;

@@ -13,12 +13,13 @@ use Rattle.cert.specs.declared.certificate.CertFault.{CertFault}
 use Rattle.cert.specs.declared.certificate.CertFault.TheVariants.{Magic, Fti as WrongFti, Size, Io, NoMemory, OtherIdentity}
 use Rattle.cert.specs.declared.converting.ConvertFault.{ConvertFault}
 use Rattle.cert.specs.declared.converting.ConvertFault.TheVariants.{Certificate as OfCertificate, Write}
-use Rattle.cert.specs.Certificate.{IsCertificate, IsIdentity, is_for, coefficient_count, head_text, coefficients_text, IsCertFault}
+use Rattle.cert.specs.Certificate.{IsIdentity, is_for, coefficient_count, head_text, coefficients_text, IsCertFault}
 use Rattle.cert.specs.Converting.{IsConverted, IsOfOther, IsNameFault, IsConvertFault}
 use Rattle.cert.specs.ConvertingBlocks.{AreSame, Converts, IsBlockFault}
 use Rattle.cert.proofs.Consuming.{coefficients_fault}
 use Rattle.cert.proofs.BlockByBlock.{to_some, all_read, much_read}
 use Rattle.cert.proofs.TextPlaces.{is_text}
+use Rattle.cert.proofs.RowsOfText.{formed}
 
 -- what a certificate is refused for, but its name
 pub name_fault : (e : CertFault) (who : Identity) (left : Option (List ℕ)) (failed : Bool) → IsCertFault e left failed → IsNameFault e who left failed
@@ -34,10 +35,6 @@ told_text : (name : Option Identity) (f : Fti) (told rows : List ℕ) → IsVali
     → told ≡ coefficients_text name (record { fti = f; name = name; coefficients = rows })
 told_text (Some who) f told rows valid long same = same
 told_text None f told rows valid long same = is_text f valid told rows long same
-
-formed : (name : Option Identity) (f : Fti) (rows : List ℕ) → IsValidFti f → IfSome name IsIdentity → length rows ≡ coefficient_count f → AreBytes rows
-    → IsCertificate (record { fti = f; name = name; coefficients = rows })
-formed name f rows valid named count bytes = record { fti = valid; name = λ who e. rw e at named; count = count; bytes = bytes }
 
 -- a head has 14 bytes, or 34
 length_head : (name : Option Identity) (f : Fti) → (14 ≤ length (head_text name f)) × (length (head_text name f) ≤ 34)

@@ -7,9 +7,12 @@ pub mod Texts
 pub mod Flat
 pub mod TextPlaces
 pub mod OneText
+pub mod RowsOfText
+pub mod TextsWithoutFault
 pub mod Consuming
 pub mod BlockByBlock
 pub mod GivenName
+pub mod ConvertedBegun
 pub mod Scanning
 pub mod Judging
 pub mod Bridge

@@ -30,7 +30,7 @@ name_back who rest fits =
     ap (λ (v : ℕ). identity v (big_number 14 (big_bytes 14 who.toi ++ rest))) tsi_again ∙ ap (identity who.tsi) toi_again
 
 -- the FTI that a text tells, and what stands behind it
-same_fti : (f g : Fti) (x y : List ℕ) → IsValidFti f → IsValidFti g → fti_text f ++ x ≡ fti_text g ++ y → (f ≡ g) × (x ≡ y)
+pub same_fti : (f g : Fti) (x y : List ℕ) → IsValidFti f → IsValidFti g → fti_text f ++ x ≡ fti_text g ++ y → (f ≡ g) × (x ≡ y)
 same_fti f g x y vf vg same = (
   sym (fti_back f x vf) ∙ ap (told_fti 0) same ∙ fti_back g y vg,
   sym (drop_at (fti_text f) x 10 refl) ∙ ap (drop 10) same ∙ drop_at (fti_text g) y 10 refl,

@@ -23,7 +23,7 @@ listed_at v (suc n) i li =
       | inr past ↦ (let last : i ≡ n = omega (arith, past, li) in at_end (map v (below n)) (v n) 0 i (omega (arith, len, last)) ∙ ap v (sym last))
     ]
 
-listed_bytes : (v : ℕ → ℕ) (n : ℕ) → ((i : ℕ) → v i < 256) → AreBytes (map v (below n))
+pub listed_bytes : (v : ℕ → ℕ) (n : ℕ) → ((i : ℕ) → v i < 256) → AreBytes (map v (below n))
 listed_bytes v n bytes i = elim (cases_lt i n) [
   | inl lt ↦ (let e = listed_at v n i lt in let b = bytes i in omega (arith, e, b))
   | inr past ↦ (let e = get_or_past (map v (below n)) i 0 (let len = length-map (below n) v ∙ length_below n in omega (arith, len, past)) in omega (arith, e))

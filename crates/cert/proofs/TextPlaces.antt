@@ -16,7 +16,7 @@ use Rattle.cert.proofs.Flat.{none_yet, next_part, with_next}
 use Rattle.cert.proofs.Polynomials.{length_polynomial, coefficient_at}
 
 -- part i of a list that is made of parts, read at a place of it
-in_part : (f : ℕ → List ℕ) (i n at j : ℕ) → i < n → length (flat_map f (below i)) ≡ at → j < length (f i)
+pub in_part : (f : ℕ → List ℕ) (i n at j : ℕ) → i < n → length (flat_map f (below i)) ≡ at → j < length (f i)
     → slice_index (flat_map f (below n)) (at + j) ≡ slice_index (f i) j
 in_part f i n at j less before inside =
     let w = with_next f i n less in

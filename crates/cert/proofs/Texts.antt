@@ -4,7 +4,7 @@ use Rattle.std.specs.Prelude.{nat_eq, nat_lt, ◌==◌}
 use lib.Pointwise.{pointwise}
 use Rattle.std.specs.List.{starts_with}
 use Rattle.std.specs.Cmp.Lexicographic.{same_text}
-use Rattle.std.proofs.lemmas.Bool.{cases_Bool, cases_lt, le-leb, le-ltb, ne_eqb}
+use Rattle.std.proofs.lemmas.Bool.{cases_Bool, cases_lt, le-leb, le-ltb, ne_eqb, eq-eqb}
 use Rattle.std.proofs.lemmas.List.{append-nil, drop-append-le, take-append-le, drop-drop, get_or_append_left, get_or-drop}
 use Rattle.byteorder.specs.Endian.{big_bytes, big_number}
 use Rattle.byteorder.specs.Numbers.{big_from-lt}
@@ -122,6 +122,20 @@ wrong_size x rest named is plain whole f told good wrong =
     let n : (length (x ++ rest) == head_length x + coefficient_count (told_fti (head_length x - 10) (x ++ rest))) ≡ false =
     ne_eqb _ _ (λ e. wrong (omega (arith, e, whole, count, length-append x rest))) in
     let none : size_fault (head_length x) (x ++ rest) None ≡ Some Size = rw n refl in
+    fault_is x rest named is plain (λ short. absurd (omega (arith, short, whole)))
+    ∙ rw (long_enough x rest h whole) (ap (size_fault h (x ++ rest)) (ap fti_fault t ∙ good) ∙ none)
+
+-- the right number of them
+pub right_size : (x rest : List ℕ) (named : Bool) → is_named x ≡ named → (named ≡ false → is_plain x ≡ true) → length x ≡ head_length x
+    → (f : Fti) → told_fti 0 (drop (head_length x - 10) x) ≡ f → fti_fault f ≡ None → length rest ≡ coefficient_count f → text_fault (x ++ rest) ≡ None
+right_size x rest named is plain whole f told good right =
+    let h = head_length x in
+    let least = length_cases x in
+    let t : told_fti (head_length x - 10) (x ++ rest) ≡ f = told_behind x rest (h - 10) (omega (arith, whole, least)) ∙ told in
+    let count = ap coefficient_count t in
+    let n : (length (x ++ rest) == head_length x + coefficient_count (told_fti (head_length x - 10) (x ++ rest))) ≡ true =
+    eq-eqb _ _ (omega (arith, right, whole, count, length-append x rest)) in
+    let none : size_fault (head_length x) (x ++ rest) None ≡ None = rw n refl in
     fault_is x rest named is plain (λ short. absurd (omega (arith, short, whole)))
     ∙ rw (long_enough x rest h whole) (ap (size_fault h (x ++ rest)) (ap fti_fault t ∙ good) ∙ none)
 

@@ -97,6 +97,10 @@ coefficients_text (Some who) z = z.coefficients
 abbrev pub certificate_text : Certificate → List ℕ
 certificate_text z = head_text z.name z.fti ++ coefficients_text z.name z
 
+-- the text of a certificate
+abbrev pub IsTextOfSome : List ℕ → Type 0
+IsTextOfSome x = (z : Certificate) × IsCertificate z × (x ≡ certificate_text z)
+
 -- ---- what bytes tell
 
 -- the FTI in ten bytes from a place on

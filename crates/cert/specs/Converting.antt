@@ -1,6 +1,8 @@
 -- A certificate's file that is given a name, block by block.
-use Rattle.std.specs.Prelude.{◌≡◌, ℕ, ◌<◌, ◌+◌, List, length, Bool, true, false, Option, IfSome}
+use Rattle.std.specs.Prelude.{◌≡◌, ◌⊎◌, ℕ, ◌<◌, ◌+◌, List, take, length, Bool, true, false, Option, IfSome}
 use Rattle.std.specs.Io.KnownBytes.{Appends}
+use Rattle.lists.specs.Bytes.{AreBytes}
+use Rattle.session.specs.Pieces.{AppendsSome}
 use Rattle.partition.specs.Fti.{Fti}
 use Rattle.reception.specs.declared.scope.Identity.{Identity}
 use Rattle.cert.specs.declared.certificate.CertFault.{CertFault}
@@ -18,6 +20,20 @@ pub record IsConverted (who : Identity) (f : Fti) (left before after : Option (L
   pub own : is_for who certificate.name ≡ true
   pub text : IfSome left (λ x. x ≡ certificate_text certificate)
   pub gained : Appends before after (certificate_text (named_as who certificate))
+
+-- a certificate without a name or with this one, whose text and what was left are the same as far as both go
+pub record CanBe (who : Identity) (left : Option (List ℕ)) (z : Certificate) : Type 0 where
+  pub form : IsCertificate z
+  pub own : is_for who z.name ≡ true
+  pub same : IfSome left (λ x. take (length x) (certificate_text z) ≡ take (length (certificate_text z)) x)
+
+-- What was written at a fault begins the text, with this name, of each certificate that what was left can be. If anything
+-- was written and bytes were left, they can be one.
+pub record BeginsConverted (who : Identity) (left before after : Option (List ℕ)) : Type 0 where
+  pub some :
+      (after ≡ before)
+      ⊎ (IfSome left AreBytes → (z : Certificate) × CanBe who left z × AppendsSome before after (certificate_text (named_as who z)))
+  pub each : IfSome left (λ _. (z : Certificate) → CanBe who left z → AppendsSome before after (certificate_text (named_as who z)))
 
 -- the text of a certificate with another name
 pub record IsOfOther (who : Identity) (x : List ℕ) : Type 0 where

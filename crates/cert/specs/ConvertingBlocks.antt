@@ -1,8 +1,9 @@
 -- What converting a certificate's coefficients block by block has read and written.
-use Rattle.std.specs.Prelude.{◌≡◌, ◌≢◌, ℕ, ◌<◌, ◌+◌, ◌*◌, List, length, slice_index, Bool, true, Option, Some, None, IfSome}
+use Rattle.std.specs.Prelude.{◌≡◌, ◌≢◌, ℕ, ◌<◌, ◌≤◌, ◌+◌, ◌*◌, List, length, slice_index, Bool, true, Option, Some, None, IfSome}
 use Rattle.std.specs.Io.KnownBytes.{Consumes, Appends}
 use Rattle.lists.specs.Bytes.{AreBytes}
-use Rattle.partition.specs.Fti.{Fti, start_of, source_count, source_place}
+use Rattle.session.specs.Pieces.{AppendsSome}
+use Rattle.partition.specs.Fti.{Fti, block_count, start_of, source_count, source_place}
 use Rattle.reception.specs.declared.scope.Identity.{Identity}
 use Rattle.cert.specs.declared.certificate.CertFault.TheVariants.{Size}
 use Rattle.cert.specs.declared.converting.ConvertFault.{ConvertFault}
@@ -34,6 +35,14 @@ pub record Converts (name : Option Identity) (f : Fti) (n : ℕ) (left here befo
   pub same : AreSame name f n told rows
   pub consumed : Consumes left here told
   pub gained : Appends before after rows
+
+-- a beginning of the rows of some blocks was written, which were read
+pub record ConvertsSome (name : Option Identity) (f : Fti) (left before after : Option (List ℕ)) : Type 0 where
+  pub blocks : ℕ
+  pub inside : blocks ≤ block_count f
+  pub here : Option (List ℕ)
+  pub read : Converts name f blocks left here None None
+  pub gained : AppendsSome before after read.rows
 
 -- why coefficients weren't converted
 abbrev pub IsBlockFault : ConvertFault → Fti → Option (List ℕ) → Bool → ℕ → Bool → Type 0

@@ -5,8 +5,8 @@ ghost use Rattle.lists.specs.Bytes.{AreBytes};
 ghost use Rattle.partition.specs.Fti.{block_count};
 ghost use Rattle.cert.specs.Certificate.{IsIdentity};
 ghost use Rattle.cert.specs.CertificateReading.{IsReadFault};
-ghost use Rattle.cert.specs.Converting.{IsConverted, IsConvertFault, IsBeforeAll};
-ghost use Rattle.cert.specs.ConvertingBlocks.{AreBlockRows, Converts, IsBlockFault};
+ghost use Rattle.cert.specs.Converting.{IsConverted, BeginsConverted, IsConvertFault, IsBeforeAll};
+ghost use Rattle.cert.specs.ConvertingBlocks.{AreBlockRows, Converts, ConvertsSome, IsBlockFault};
 
 use crate::certificate::{CertFault, coefficients_of, is_for};
 use crate::column_text::turn_front;
@@ -146,6 +146,8 @@ fn convert_blocks<R: Read, W: Write>(
     ensures ok { OnOk result (Converts head.now.name head.now.fti (block_count head.now.fti)
         (R.remaining reader.old) (R.remaining reader.new)
         (W.contents writer.old) (W.contents writer.new)) }
+    ensures begun { OnErr result (ConvertsSome head.now.name head.now.fti
+        (R.remaining reader.old) (W.contents writer.old) (W.contents writer.new)) }
     ensures fault { IfErr result (λ e. IsBlockFault e head.now.fti
         (R.remaining reader.old) (R.failed reader.new)
         (W.room writer.old) (W.failed writer.new)) }
@@ -172,7 +174,9 @@ fn convert_blocks<R: Read, W: Write>(
 /// `OtherIdentity` comes where the certificate has another name, and only then. The other faults of reading tell why there is
 /// none, and `Write` that the writer has failed, which it never has where there is room for the bytes that are left to read
 /// and twenty more. With `Magic`, `Fti` and `OtherIdentity` nothing was written. `Size`, too few bytes or too many, is only
-/// told once they have come, behind what was written of them.
+/// told once they have come, behind what was written of them. With it and the others a beginning of the text may have been
+/// written, and no byte that doesn't follow from what was left to read: the text is that of a certificate which begins with
+/// what was left, or with which that begins, and all such certificates have this beginning in common.
 ///
 /// The identity's TSI is below 2^48, its TOI below 2^112 (RFC 5651, section 5.1).
 pub fn convert<R: Read, W: Write>(
@@ -183,6 +187,9 @@ pub fn convert<R: Read, W: Write>(
 ) -> Result<Fti, ConvertFault>
     requires { IsIdentity identity }
     ensures converted { IfOk result (λ f. IsConverted identity f (R.remaining reader.old)
+        (W.contents writer.old) (W.contents writer.new)) }
+    // At a fault, a beginning of that.
+    ensures begun { OnErr result (BeginsConverted identity (R.remaining reader.old)
         (W.contents writer.old) (W.contents writer.new)) }
     ensures end { OnOk result (IsAtEnd (R.remaining reader.new)) }
     ensures fault { IfErr result (λ e. IsConvertFault e identity

@@ -1,7 +1,7 @@
 //! The check of datagrams that are read one at a time.
 ghost use Rattle.std.specs.Prelude.{◌≡◌, false, IfOk, IfErr};
 ghost use Rattle.cert.specs.Endings.{IsEnding};
-ghost use Rattle.cert.specs.FromReader.{IsCheckedFrom, IsCheckFault};
+ghost use Rattle.cert.specs.FromReader.{IsCheckedFrom, IsRefusedBehind, IsCheckFault};
 
 use crate::certificate::Certificate;
 use crate::verdict::{Reason, Report, Verdict};
@@ -97,8 +97,9 @@ pub fn check_from<R: Read>(
     ensures verdict { IfOk result (IsCheckedFrom identity (R.remaining reader.old)
         (R.remaining reader.new) object.now certificate.now) }
     // They have no reason against them, and what follows is no frame.
-    ensures fault { IfErr result (λ fault. IsCheckFault identity fault (R.remaining reader.old)
-        (R.remaining reader.new) (R.failed reader.new) object.now certificate.now) }
+    ensures fault { IfErr result (IsCheckFault (λ fault. IsRefusedBehind identity fault
+        (R.remaining reader.old) (R.remaining reader.new) (R.failed reader.new)
+        object.now certificate.now)) }
     ensures unsound { IfErr result (λ fault.
         fault ≡ CheckFault.Frame FrameFault.Io → R.sound reader.old ≡ false) }
     ensures stays { R.sound reader.new ≡ R.sound reader.old }

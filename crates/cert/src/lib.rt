@@ -14,7 +14,8 @@
 //! of a carrier behind the other carriers. `block_symbols` makes many symbols of a block at once, `repair_symbols` keeps
 //! those that datagrams are compared with, and `runs` tells how many pay where they aren't kept. `differing` finds the first byte in which two rows differ, which
 //! is how a column is told. `twins` makes the object that can't be told from the true one where a block is short
-//! (`specs/Twins`). `laws` says of the definitions that there is one verdict, and which reason and which column it has.
+//! (`specs/Twins`). `laws` says of the definitions which bytes are a certificate, that
+//! there is one verdict, and which reason and which column it has.
 //!
 //! Nothing is solved here: a check evaluates polynomials and compares bytes. What a yes promises of every selection is
 //! `reception`'s `specs/Headline`; the theorems behind it stand in `proofs/Promise`, `Twinning` and `Undecided`.
@@ -43,6 +44,9 @@ pub use checking::check;
 pub use converting::{ConvertFault, convert};
 pub use from_reader::{CheckFault, check_from};
 pub use head::write_head;
-pub use laws::{first_column, first_reason, one_verdict, own_name_changes_nothing, reason_order};
+pub use laws::{
+    first_column, first_reason, one_verdict, own_name_changes_nothing, reason_order,
+    texts_without_fault,
+};
 pub use twins::{session_twin, twin};
 pub use verdict::{Reason, Report, Verdict};

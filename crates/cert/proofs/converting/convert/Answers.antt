@@ -1,8 +1,12 @@
-use Rattle.std.proofs.Common.{◌≡◌, false, true, sym}
+use Rattle.std.proofs.Common.{◌≡◌, false, true, sym, arith}
+use Rattle.partition.specs.Fti.{block_count}
 use Rattle.cert.specs.declared.converting.ConvertFault.TheVariants.{Certificate as OfCertificate, Write}
 use Rattle.cert.specs.Certificate.{is_for}
 use Rattle.cert.proofs.Consuming.{coefficients_fault}
 use Rattle.cert.proofs.DatagramSteps.{passed_on}
+use Rattle.cert.proofs.Flat.{on_err}
+use Rattle.cert.proofs.BlockByBlock.{some_converted}
+use Rattle.cert.proofs.ConvertedBegun.{head_begun, blocks_begun}
 use Rattle.cert.proofs.GivenName.{name_fault, other_read, no_room_for_head, blocks_fault, more_behind, converted}
 use Rattle.cert.proofs.converting.convert.Goals as goal
 
@@ -52,3 +56,26 @@ returns-clause-converted g c =
     let own : is_for c.args.identity c.in_ok-head.head.name ≡ true = sym c.if-not-is_for.ensures in
     converted c.args.identity c.in_ok-head.head.name c.in_ok-head.head.fti c.coefficients_of-count.ensures.valid c.in_ok-head.ensures.name _ _ c.in_ok-head.ensures.ok _ _ _
     c.in_ok-convert_blocks.ensures.ok _ own c.in_ok-pass_over-2.ensures.ok c.in_ok-write_head.ensures.ok
+
+pub returns-in_err-write_head-clause-begun : goal.returns-in_err-write_head-clause-begun
+returns-in_err-write_head-clause-begun g c =
+    let own : is_for c.args.identity c.in_ok-head.head.name ≡ true = sym c.if-not-is_for.ensures in
+    on_err c.from_residual-in_err-write_head.result
+    (head_begun c.args.identity c.in_ok-head.head.name c.in_ok-head.head.fti c.coefficients_of-count.ensures.valid c.in_ok-head.ensures.name _ _ c.in_ok-head.ensures.ok own _ _
+    c.in_err-write_head.ensures.err)
+
+pub returns-in_err-convert_blocks-clause-begun : goal.returns-in_err-convert_blocks-clause-begun
+returns-in_err-convert_blocks-clause-begun g c =
+    let own : is_for c.args.identity c.in_ok-head.head.name ≡ true = sym c.if-not-is_for.ensures in
+    on_err c.from_residual-in_err-convert_blocks.result
+    (blocks_begun c.args.identity c.in_ok-head.head.name c.in_ok-head.head.fti c.coefficients_of-count.ensures.valid c.in_ok-head.ensures.name _ _ c.in_ok-head.ensures.ok own _ _ _
+    c.in_ok-write_head.ensures.ok c.in_err-convert_blocks.ensures.begun)
+
+pub returns-in_err-pass_over-2-clause-begun : goal.returns-in_err-pass_over-2-clause-begun
+returns-in_err-pass_over-2-clause-begun g c =
+    let own : is_for c.args.identity c.in_ok-head.head.name ≡ true = sym c.if-not-is_for.ensures in
+    let name = c.in_ok-head.head.name in
+    let f = c.in_ok-head.head.fti in
+    on_err c.from_residual-in_err-pass_over-2.result
+    (blocks_begun c.args.identity name f c.coefficients_of-count.ensures.valid c.in_ok-head.ensures.name _ _ c.in_ok-head.ensures.ok own _ _ _
+    c.in_ok-write_head.ensures.ok (some_converted name f (block_count f) _ _ _ _ (omega arith) c.in_ok-convert_blocks.ensures.ok))
