@@ -153,11 +153,7 @@ module _ (who : Identity) (name : Option Identity) (f : Fti) (valid : IsValidFti
         let long : length (done.rows ++ zeros (coefficient_count f - length done.rows)) ≡ coefficient_count f =
         omega (arith, length-append done.rows (zeros (coefficient_count f - length done.rows)), length_zeros (coefficient_count f - length done.rows), done.rows_count, within f valid blocks inside) in (
           made f name (done.rows ++ behind),
-          record {
-            form = formed name f (done.rows ++ behind) valid named long (AreBytes-append done.rows behind done.bytes (bytes_zeros (coefficient_count f - length done.rows)));
-            own = own;
-            same = tt;
-          },
+          (formed name f (done.rows ++ behind) valid named long (AreBytes-append done.rows behind done.bytes (bytes_zeros (coefficient_count f - length done.rows))), own, tt),
           rows_begun (done.rows ++ behind) behind refl,
         )
 
@@ -167,10 +163,10 @@ module _ (who : Identity) (name : Option Identity) (f : Fti) (valid : IsValidFti
           let h = head_text name f in
           let n = length done.told in
           let text = coefficients_text name (made f name coefficients) in
-          let long = length_coefficients name (made f name coefficients) can.form in
+          let long = length_coefficients name (made f name coefficients) can.0 in
           let x_long : length x ≡ length (head_text name f) + (length done.told + length rest) = ap length read ∙ length-append h (done.told ++ rest) ∙ ap (λ (m : ℕ). length h + m) (length-append done.told rest) in
           let both : take (length h + n) (h ++ text) ≡ take (length h + n) (h ++ (done.told ++ rest)) =
-          common x (h ++ text) (length h + n) can.same (omega (arith, x_long)) (omega (arith, few, long, length-append h text)) ∙ ap (take (length h + n)) read in
+          common x (h ++ text) (length h + n) can.2 (omega (arith, x_long)) (omega (arith, few, long, length-append h text)) ∙ ap (take (length h + n)) read in
           let heads : h ++ take n text ≡ h ++ done.told =
           sym (take-append-add h text n) ∙ both ∙ take-append-add h (done.told ++ rest) n ∙ ap (λ (l : List ℕ). h ++ l) (take-append_seam done.told rest) in
           sym (drop-append_seam h (take n text)) ∙ ap (drop (length h)) heads ∙ drop-append_seam h done.told
@@ -180,15 +176,15 @@ module _ (who : Identity) (name : Option Identity) (f : Fti) (valid : IsValidFti
           let text = coefficients_text name (made f name coefficients) in
           let n = length done.told in
           rows_begun coefficients (drop (length done.rows) coefficients)
-          (rows_first f valid blocks inside done.told done.rows coefficients (drop n text) done.told_count done.rows_count can.form.count name done.same
+          (rows_first f valid blocks inside done.told done.rows coefficients (drop n text) done.told_count done.rows_count can.0.count name done.same
           (sym (take-append-drop n text) ∙ ap (λ (l : List ℕ). l ++ drop n text) (told_first coefficients can)))
 
       each_known : (z : Certificate) → CanBe who (Some x) z → Begun z
       each_known z can =
           let text = coefficients_text z.name z in
           let z_head = head_text z.name z.fti in
-          let heads = one_head z.fti f text (done.told ++ rest) can.form.fti valid z.name name (name_fits z.name can.form.name) named
-          (λ k kz kx. common x (z_head ++ text) k can.same (omega (arith, kx, ap length read, length-append (head_text name f) (done.told ++ rest))) (omega (arith, kz, length-append z_head text)) ∙ ap (take k) read) in
+          let heads = one_head z.fti f text (done.told ++ rest) can.0.fti valid z.name name (name_fits z.name can.0.name) named
+          (λ k kz kx. common x (z_head ++ text) k can.2 (omega (arith, kx, ap length read, length-append (head_text name f) (done.told ++ rest))) (omega (arith, kz, length-append z_head text)) ∙ ap (take k) read) in
           let is : made f name z.coefficients ≡ z = sym (ap (λ (n : Option Identity). made z.fti n z.coefficients) heads.0 ∙ ap (λ (g : Fti). made g name z.coefficients) heads.1) in
           subst (λ (w : Certificate). CanBe who (Some x) w → Begun w) is (each_made z.coefficients) can
 
@@ -207,11 +203,11 @@ module _ (who : Identity) (name : Option Identity) (f : Fti) (valid : IsValidFti
           ap (λ (m : ℕ). take m (h ++ t)) (length-append h y) ∙ take-append-add h t (length y) ∙ ap (λ (l : List ℕ). h ++ l) (padded_same n y)
           ∙ ap (λ (m : ℕ). h ++ take m y) (sym long) ∙ sym (take-append-add h y (length t)) ∙ ap (λ (m : ℕ). take m (h ++ y)) (sym (length-append h t)) in
           let same = subst (λ (l : List ℕ). take (length (h ++ y)) (h ++ l) ≡ take (length (h ++ l)) (h ++ y)) text whole in
-          let can : CanBe who (Some x) (told_by name f t) = record {
-            form = told_form f t valid long name named t_bytes;
-            own = own;
-            same = subst (λ (l : List ℕ). take (length l) (h ++ coefficients_text name (told_by name f t)) ≡ take (length (h ++ coefficients_text name (told_by name f t))) l) (sym read) same;
-          } in
+          let can : CanBe who (Some x) (told_by name f t) = (
+            told_form f t valid long name named t_bytes,
+            own,
+            subst (λ (l : List ℕ). take (length l) (h ++ coefficients_text name (told_by name f t)) ≡ take (length (h ++ coefficients_text name (told_by name f t))) l) (sym read) same,
+          ) in
           (told_by name f t, can, each_known (told_by name f t) can)
 
   pub begun : (blocks : ℕ) → blocks ≤ block_count f → (left here there : Option (List ℕ)) → Consumes left here (head_text name f) → (done : Converts name f blocks here there None None)

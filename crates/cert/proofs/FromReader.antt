@@ -17,7 +17,7 @@ use Rattle.cert.specs.declared.walk.NoReport.TheVariants.{Reason as ByReason, No
 use Rattle.cert.specs.Certificate.{Certificate, IsCertificate, is_for}
 use Rattle.cert.specs.DatagramWalk.{IsAgainstObject, IsNotBegun, IsNotPassed, IsNo}
 use Rattle.cert.specs.Endings.{ending_of, IsEnding}
-use Rattle.cert.specs.FromReader.{read_for, HoldsAfter, IsCheckedFrom, IsRefusedBehind}
+use Rattle.cert.specs.FromReader.{read_for, IsKnown, IsCheckedFrom, IsRefusedBehind}
 use Rattle.cert.specs.Report.{IsReport}
 use Rattle.cert.specs.Scan.{IsNoReport, AreEnoughCertified}
 use Rattle.cert.specs.Verdict.{GivesObject, reception_to, first_reason, IsAgainst, IsVerdict}
@@ -58,7 +58,7 @@ consumes_one (Some a) (Some b) (Some c) ds d p q =
 -- ---- noes
 
 abbrev IsNoAfter : Identity → Reason → List (List ℕ) → Option (List ℕ) → List ℕ → Certificate → Type 0
-IsNoAfter who r ds left object z = HoldsAfter (read_for (No r)) ds left (λ some. IsVerdict who some object z (No r))
+IsNoAfter who r ds left object z = IsKnown (read_for (No r)) ds left (λ some. IsVerdict who some object z (No r))
 
 -- a reason at a place is one against the datagrams
 against_place : (who : Identity) (z : Certificate) (rs : List Reading) (r : Reason) → first_reason who z rs ≡ Some r → IsAgainst who rs z r

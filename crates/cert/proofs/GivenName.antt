@@ -61,12 +61,8 @@ other_text : (who : Identity) (name : Option Identity) (f : Fti) (left here : Op
 other_text who None f left here valid named read other rest = absurd (cc)
 other_text who (Some name) f None here valid named read other rest = tt
 other_text who (Some name) f (Some x) None valid named read other rest = absurd read
-other_text who (Some name) f (Some x) (Some y) valid named read other rest = record {
-  certificate = record { fti = f; name = Some name; coefficients = y };
-  form = formed (Some name) f y valid named rest.1 rest.0;
-  other = other;
-  text = read;
-}
+other_text who (Some name) f (Some x) (Some y) valid named read other rest =
+    (record { fti = f; name = Some name; coefficients = y }, formed (Some name) f y valid named rest.1 rest.0, other, read)
 
 no_room_behind : (left here : Option (List ℕ)) (head : List ℕ) (before room : ℕ) → Consumes left here head → before ≤ room + (length head + 20) → IfSome here (λ x. room < length x)
     → IfSome left (λ x. before < length x + 20)

@@ -13,34 +13,29 @@ use Rattle.cert.specs.Certificate.{Certificate, IsCertificate, is_for, named_as,
 
 -- what was left is the text of a certificate of this FTI, without a name or with this one, and what was written is the text
 -- of the same certificate with this name
-pub record IsConverted (who : Identity) (f : Fti) (left before after : Option (List ℕ)) : Type 0 where
+pub record IsConverted (who : Identity) (f : Fti) (left old new : Option (List ℕ)) : Type 0 where
   pub certificate : Certificate
   pub form : IsCertificate certificate
   pub fti : certificate.fti ≡ f
   pub own : is_for who certificate.name ≡ true
   pub text : IfSome left (λ x. x ≡ certificate_text certificate)
-  pub gained : Appends before after (certificate_text (named_as who certificate))
+  pub gained : Appends old new (certificate_text (named_as who certificate))
 
 -- a certificate without a name or with this one, whose text and what was left are the same as far as both go
-pub record CanBe (who : Identity) (left : Option (List ℕ)) (z : Certificate) : Type 0 where
-  pub form : IsCertificate z
-  pub own : is_for who z.name ≡ true
-  pub same : IfSome left (λ x. take (length x) (certificate_text z) ≡ take (length (certificate_text z)) x)
+abbrev pub CanBe : Identity → Option (List ℕ) → Certificate → Type 0
+CanBe who left z =
+    IsCertificate z × (is_for who z.name ≡ true)
+    × IfSome left (λ x. take (length x) (certificate_text z) ≡ take (length (certificate_text z)) x)
 
 -- What was written at a fault begins the text, with this name, of each certificate that what was left can be. If anything
 -- was written and bytes were left, they can be one.
-pub record BeginsConverted (who : Identity) (left before after : Option (List ℕ)) : Type 0 where
-  pub some :
-      (after ≡ before)
-      ⊎ (IfSome left AreBytes → (z : Certificate) × CanBe who left z × AppendsSome before after (certificate_text (named_as who z)))
-  pub each : IfSome left (λ _. (z : Certificate) → CanBe who left z → AppendsSome before after (certificate_text (named_as who z)))
+pub record BeginsConverted (who : Identity) (left old new : Option (List ℕ)) : Type 0 where
+  pub some : (new ≡ old) ⊎ (IfSome left AreBytes → (z : Certificate) × CanBe who left z × AppendsSome old new (certificate_text (named_as who z)))
+  pub each : IfSome left (λ _. (z : Certificate) → CanBe who left z → AppendsSome old new (certificate_text (named_as who z)))
 
 -- the text of a certificate with another name
-pub record IsOfOther (who : Identity) (x : List ℕ) : Type 0 where
-  pub certificate : Certificate
-  pub form : IsCertificate certificate
-  pub other : is_for who certificate.name ≡ false
-  pub text : x ≡ certificate_text certificate
+abbrev pub IsOfOther : Identity → List ℕ → Type 0
+IsOfOther who x = (z : Certificate) × IsCertificate z × (is_for who z.name ≡ false) × (x ≡ certificate_text z)
 
 -- why a certificate wasn't given the name, by what the reader held before, and whether it has failed
 abbrev pub IsNameFault : CertFault → Identity → Option (List ℕ) → Bool → Type 0
@@ -49,7 +44,7 @@ IsNameFault fault who left failed = IsCertFault fault left failed
 
 -- Why a file wasn't converted. With a name it is at most twenty bytes longer.
 abbrev pub IsConvertFault : ConvertFault → Identity → Option (List ℕ) → Bool → ℕ → Bool → Type 0
-IsConvertFault (OfCertificate e) who left reader_failed room writer_failed = IsNameFault e who left reader_failed
+IsConvertFault (OfCertificate e) who left reader_failed _ _ = IsNameFault e who left reader_failed
 IsConvertFault Write who left reader_failed room writer_failed =
     (writer_failed ≡ true) × IfSome left (λ x. room < length x + 20)
 

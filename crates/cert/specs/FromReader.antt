@@ -30,11 +30,11 @@ read_for (No (Range i)) = Some (i + 1)
 read_for (No (Symbol i c)) = Some (i + 1)
 read_for _ = None
 
--- so many datagrams were read, and this holds of them, whatever follows; or all were
-abbrev pub HoldsAfter : Option ℕ → List (List ℕ) → Option (List ℕ) → (List (List ℕ) → Type 0) → Type 0
-HoldsAfter None datagrams left Holds = IsAtEnd left × Holds datagrams
-HoldsAfter (Some n) datagrams left Holds =
-    (length datagrams ≡ n) × ((rest : List (List ℕ)) → AreDatagrams rest → Holds (datagrams ++ rest))
+-- A fact is known once so many datagrams were read, and holds whatever follows; or it is one of all of them.
+abbrev pub IsKnown : Option ℕ → List (List ℕ) → Option (List ℕ) → (List (List ℕ) → Type 0) → Type 0
+IsKnown None datagrams left Fact = IsAtEnd left × Fact datagrams
+IsKnown (Some n) datagrams left Fact =
+    (length datagrams ≡ n) × ((rest : List (List ℕ)) → AreDatagrams rest → Fact (datagrams ++ rest))
 
 -- Just the frames of some datagrams were read, and the verdict is theirs. At yes it promises of them what a check of a
 -- session does.
@@ -42,7 +42,7 @@ pub record IsCheckedFrom (who : Identity) (old new : Option (List ℕ)) (object 
   pub datagrams : List (List ℕ)
   pub each : AreDatagrams datagrams
   pub consumed : Consumes old new (frames datagrams)
-  pub judged : HoldsAfter (read_for verdict) datagrams new (λ some. IsVerdict who some object z verdict)
+  pub judged : IsKnown (read_for verdict) datagrams new (λ all. IsVerdict who all object z verdict)
   pub decodes : OnYes verdict (λ _. DecodesWhereEnough who z.fti datagrams object)
   pub undecided : OnYes verdict (λ _. TwinWhereShort who z.fti datagrams object)
   pub tells : OnYes verdict (λ _. TellsElse who z.fti datagrams)
