@@ -4,9 +4,10 @@ use Rattle.std.specs.Prelude.{count_by}
 use Rattle.std.specs.List.{list_all, list_any}
 use Rattle.std.proofs.lemmas.Bool.{and_parts, and_from, or_cases, not-true, not_from_false, cases_Bool, eqb-true, eq-eqb}
 use Rattle.alc.specs.Packet.{is_extension, is_other, type_of}
-use Rattle.alc.specs.PacketFault.{is_sound, is_fti, same}
+use Rattle.alc.specs.PacketFault.{is_sound, is_fti}
 use Rattle.alc.specs.Computed.{part}
 use Rattle.alc.proofs.Walks.{after, seen_after, count_more, is_sound_parts}
+use Rattle.std.specs.Str.{bytes_eq as same}
 
 pub same_is : (xs ys : List ℕ) → same xs ys ≡ true → xs ≡ ys
 same_is [] [] h = refl

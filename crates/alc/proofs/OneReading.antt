@@ -9,7 +9,7 @@ use Rattle.partition.specs.Fti.{Fti, IsValidFti}
 use Rattle.alc.specs.Packet.{IsPacket, is_other, joined, extensions, fti_extension}
 use Rattle.partition.specs.FtiFault.{fti_fault}
 use Rattle.partition.specs.declared.FtiError.{FtiError}
-use Rattle.alc.specs.PacketFault.{FaultHolds, StopsAt, AreSound, WalkEnds, Carries, CarriesValid, HasFields, same, is_fti, rank, extension_bytes}
+use Rattle.alc.specs.PacketFault.{FaultHolds, StopsAt, AreSound, WalkEnds, Carries, CarriesValid, HasFields, is_fti, rank, extension_bytes}
 use Rattle.alc.specs.declared.fault.PacketFault.{PacketFault}
 use Rattle.alc.specs.declared.fault.PacketFault.TheVariants.{TooShort, Version, Psi, Codepoint, NoIdentity, HeaderLength, Extension, FtiLength, TwoFti, FtiValue, PayloadLength}
 use Rattle.alc.specs.Computed.{read_of, walk, with_extensions, with_fti, with_payload, has_payload, fti_in, part}
@@ -23,6 +23,7 @@ use Rattle.alc.specs.Layout.{Passed}
 use Rattle.alc.proofs.Stages.{Stop, past_short, past_version, past_psi, past_codepoint, past_identity, past_all, passed_value}
 use Rattle.alc.proofs.Payloads.{is_payload, not_payload, payload_isnt}
 use Rattle.alc.proofs.Built.{built, form_of}
+use Rattle.std.specs.Str.{bytes_eq as same}
 
 abbrev pub Says : List ℕ → Reading → Type 0
 Says d (Ok p) = IsPacket d p

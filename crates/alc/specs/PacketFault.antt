@@ -7,13 +7,7 @@ use Rattle.partition.specs.FtiFault.{fti_fault}
 use Rattle.alc.specs.Packet.{Packet, IsPacket, IsSymbolLength, is_extension, type_of, joined, fti_extension}
 use Rattle.alc.specs.declared.fault.PacketFault.{PacketFault}
 use Rattle.alc.specs.declared.fault.PacketFault.TheVariants.{TooShort, Version, Psi, Codepoint, NoIdentity, HeaderLength, Extension, FtiLength, TwoFti, FtiValue, PayloadLength}
-
--- whether two lists of bytes are one
-abbrev pub same : List ℕ → List ℕ → Bool
-same [] [] = true
-same (x ∷ xs) (y ∷ ys) = x == y && same xs ys
-same [] (y ∷ ys) = false
-same (x ∷ xs) [] = false
+use Rattle.std.specs.Str.{bytes_eq}
 
 -- the numbers in the first bytes, whatever they are
 abbrev pub c_of : List ℕ → ℕ
@@ -78,7 +72,7 @@ pub record HasFields (f : Fti) : Type 0 where
 
 -- the extension with the FTI
 abbrev pub Carries : List (List ℕ) → Fti → Type 0
-Carries es f = HasFields f × (list_any (same (fti_extension f)) es ≡ true)
+Carries es f = HasFields f × (list_any (bytes_eq (fti_extension f)) es ≡ true)
 
 -- the valid FTI that the extensions carry, or that they have none
 abbrev pub CarriesValid : List (List ℕ) → Option Fti → Type 0
@@ -111,11 +105,9 @@ rank Psi = 3
 rank Codepoint = 4
 rank NoIdentity = 5
 rank HeaderLength = 6
-rank Extension = 7
-rank FtiLength = 7
-rank TwoFti = 7
 rank (FtiValue x) = 8
 rank PayloadLength = 9
+rank _ = 7
 
 -- the datagram is no packet, and this is the first fault
 pub record IsPacketFault (d : List ℕ) (r : PacketFault) : Type 0 where

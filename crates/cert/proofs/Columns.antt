@@ -1,6 +1,8 @@
 -- The least column in which a symbol isn't the certified one: what is found is what the definition says.
-use Rattle.std.proofs.Common.{◌≡◌, ◌≢◌, ℕ, zero, suc, ◌+◌, ◌<◌, ◌≤◌, true, false, cond, List, length, Option, Some, None, refl, sym, ap, subst, ◌∙◌, arith}
-use Rattle.std.specs.Prelude.{slice_index, ◌==◌, IsNone, IfSome}
+use Rattle.std.proofs.Common.{◌≡◌, ◌≢◌, ℕ, zero, suc, ◌+◌, ◌<◌, ◌≤◌, true, false, not, cond, List, [], ◌∷◌, ◌++◌, length, Option, Some, None, refl, sym, ap, subst, ◌∙◌, arith}
+use Rattle.std.specs.Prelude.{slice_index, find, ◌==◌, IsNone, IfSome}
+use Rattle.std.specs.List.{range_with_len}
+use Rattle.lists.specs.Below.{below}
 use Rattle.std.proofs.lemmas.Bool.{eqb-true, eqb-false, eq-eqb}
 use Rattle.reception.specs.Symbols.{Symbol}
 use Rattle.partition.specs.Fti.{block_count, source_count}
@@ -9,7 +11,21 @@ use Rattle.cert.specs.CoefficientRows.{IsSourceSymbol}
 use Rattle.cert.specs.CertifiedSymbol.{IsCertifiedSymbol}
 use Rattle.cert.specs.Columns.{IsFirstWrong, TellsFirstWrong}
 use Rattle.cert.specs.Differences.{AreSameBelow, IsFirstDifference}
-use Rattle.cert.specs.Verdict.{GivesObject, wrong_column, uncertified}
+use Rattle.cert.specs.Verdict.{GivesObject, uncertified}
+use Rattle.cert.specs.WrongColumns.{wrong_column}
+
+range_more : (a n : ℕ) → range_with_len a (suc n) ≡ range_with_len a n ++ (a + n) ∷ []
+range_more a zero = let e : a ≡ a + 0 = omega arith in ap (λ (k : ℕ). k ∷ []) e
+range_more a (suc n) =
+    let e : a + 1 + n ≡ a + suc n = omega arith in
+    ap (λ (xs : List ℕ). a ∷ xs) (range_more (a + 1) n ∙ ap (λ (k : ℕ). range_with_len (a + 1) n ++ k ∷ []) e)
+
+below_range : (n : ℕ) → below n ≡ range_with_len 0 n
+unfolding below
+below_range zero = refl
+below_range (suc n) =
+    let e : 0 + n ≡ n = omega arith in
+    ap (λ (xs : List ℕ). xs ++ n ∷ []) (below_range n) ∙ sym (ap (λ (k : ℕ). range_with_len 0 n ++ k ∷ []) e) ∙ sym (range_more 0 n)
 
 module _ (z : Certificate) (s : Symbol) where
   -- columns that are all right
@@ -84,18 +100,31 @@ module _ (z : Certificate) (s : Symbol) where
             })
       ] refl h
 
-  pub first_is : (c : ℕ) → IsFirstWrong z s.block s.esi s.bytes c → wrong_column z s 0 z.fti.symbol_length ≡ Some c
-  first_is c h = first_told 0 z.fti.symbol_length c (let inside = h.column in record { from = omega arith; below = omega arith; wrong = h.wrong; right_before = λ y l m. h.right_before y m })
+  -- the columns from c on, as the definition lists them
+  from_range : (c n : ℕ) → find (λ x. not (slice_index s.bytes x == certified_byte z s.block s.esi x)) (range_with_len c n) ≡ wrong_column z s c n
+  from_range c zero = refl
+  from_range c (suc n) =
+      elim (slice_index s.bytes c == certified_byte z s.block s.esi c) as (λ v. cond (not v) (Some c) (find (λ x. not (slice_index s.bytes x == certified_byte z s.block s.esi x)) (range_with_len (c + 1) n)) ≡ cond v (wrong_column z s (c + 1) n) (Some c)) [
+        | true ↦ from_range (c + 1) n
+        | false ↦ refl
+      ]
 
-  pub none_is : IsCertifiedSymbol z s.block s.esi s.bytes → wrong_column z s 0 z.fti.symbol_length ≡ None
-  none_is h = none_wrong 0 z.fti.symbol_length (λ x low high. h x (omega arith))
+  pub found_is : uncertified z [] s ≡ wrong_column z s 0 z.fti.symbol_length
+  found_is =
+      ap (find (λ x. not (slice_index s.bytes x == certified_byte z s.block s.esi x))) (below_range z.fti.symbol_length) ∙ from_range 0 z.fti.symbol_length
 
-  pub certified_where_none : wrong_column z s 0 z.fti.symbol_length ≡ None → IsCertifiedSymbol z s.block s.esi s.bytes
-  certified_where_none h = λ c l. all_right 0 z.fti.symbol_length h c (omega arith) (omega arith)
+  pub first_is : (c : ℕ) → IsFirstWrong z s.block s.esi s.bytes c → uncertified z [] s ≡ Some c
+  first_is c h = found_is ∙ first_told 0 z.fti.symbol_length c (let inside = h.column in record { from = omega arith; below = omega arith; wrong = h.wrong; right_before = λ y l m. h.right_before y m })
 
-  first_where_told : (c : ℕ) → wrong_column z s 0 z.fti.symbol_length ≡ Some c → IsFirstWrong z s.block s.esi s.bytes c
+  pub none_is : IsCertifiedSymbol z s.block s.esi s.bytes → uncertified z [] s ≡ None
+  none_is h = found_is ∙ none_wrong 0 z.fti.symbol_length (λ x low high. h x (omega arith))
+
+  pub certified_where_none : uncertified z [] s ≡ None → IsCertifiedSymbol z s.block s.esi s.bytes
+  certified_where_none h = λ c l. all_right 0 z.fti.symbol_length (sym found_is ∙ h) c (omega arith) (omega arith)
+
+  first_where_told : (c : ℕ) → uncertified z [] s ≡ Some c → IsFirstWrong z s.block s.esi s.bytes c
   first_where_told c h =
-      let w = told_first 0 z.fti.symbol_length c h in
+      let w = told_first 0 z.fti.symbol_length c (sym found_is ∙ h) in
       let high = w.below in
       record { column = omega arith; wrong = w.wrong; right_before = λ y m. w.right_before y (omega arith) m }
 

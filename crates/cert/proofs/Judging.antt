@@ -23,7 +23,7 @@ use Rattle.cert.specs.declared.verdict.Reason.TheVariants.{OtherCertificate, Obj
 use Rattle.cert.specs.declared.verdict.Report.{Report}
 use Rattle.cert.specs.declared.verdict.Verdict.TheVariants.{Yes, No}
 use Rattle.cert.specs.Certificate.{Certificate, is_for}
-use Rattle.cert.specs.Verdict.{GivesObject, wrong_column, uncertified, reception_to, reason_at, IsCertifiedPacket, IsCertifiedReading, AreCertified, IsAgainst, VerdictOn}
+use Rattle.cert.specs.Verdict.{GivesObject, uncertified, reception_to, reason_at, IsCertifiedPacket, IsCertifiedReading, AreCertified, IsAgainst, VerdictOn}
 use Rattle.cert.specs.Scan.{AreEnoughCertified}
 use Rattle.cert.proofs.Columns.{certified_where_none}
 
@@ -43,7 +43,7 @@ certified : (z : Certificate) (earlier : List Received) (p : Packet) → wrong_b
 certified z earlier p h =
     let none = none_wrong (uncertified z) earlier p (packet_fault z.fti p) h in
     let w = faultless z.fti p none in
-    let right : wrong_column z (symbol_of p) 0 z.fti.symbol_length ≡ None =
+    let right : uncertified z [] (symbol_of p) ≡ None =
     nothing_judged _ (subst (λ (o : Option PlaceFault). wrong_by (uncertified z) earlier (or_packet p o) ≡ None) none h) in
     record {
       fti = w.fti;

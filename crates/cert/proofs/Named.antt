@@ -13,7 +13,9 @@ use Rattle.cert.specs.declared.verdict.Reason.TheVariants.{OtherCertificate, Obj
 use Rattle.cert.specs.declared.verdict.Verdict.{Verdict}
 use Rattle.cert.specs.declared.verdict.Verdict.TheVariants.{Yes, No}
 use Rattle.cert.specs.Certificate.{Certificate, named_as, is_for, polynomial, certified_byte}
-use Rattle.cert.specs.Verdict.{GivesObject, IsFirstNotGiven, wrong_column, uncertified, reason_at, first_reason, IsCertifiedReading, AreCertified, IsCertificateOf, VerdictOn, IsVerdict}
+use Rattle.cert.specs.Verdict.{GivesObject, IsFirstNotGiven, uncertified, reason_at, first_reason, IsCertifiedReading, AreCertified, IsCertificateOf, VerdictOn, IsVerdict}
+use Rattle.cert.specs.WrongColumns.{wrong_column}
+use Rattle.cert.proofs.Columns.{found_is}
 
 module _ (f : Fti) (coefficients : List ℕ) (n m : Option Identity) where
   abbrev first : Certificate
@@ -32,16 +34,10 @@ module _ (f : Fti) (coefficients : List ℕ) (n m : Option Identity) where
   same_place : (object : List ℕ) (b c i : ℕ) → IsFirstNotGiven object first b c i → IsFirstNotGiven object second b c i
   same_place object b c i h = record {
     block = h.block;
-    first = record {
-      column = h.first.column;
-      first = record {
-        symbol = h.first.first.symbol;
-        wrong = λ g. h.first.first.wrong (same_byte b i c ∙ g);
-        symbols_before = λ s l. sym (same_byte b s c) ∙ h.first.first.symbols_before s l;
-      };
-      columns_before = λ y s ly ls. sym (same_byte b s y) ∙ h.first.columns_before y s ly ls;
-    };
-    blocks_before = λ x y s lx ly ls. sym (same_byte x s y) ∙ h.blocks_before x y s lx ly ls;
+    column = h.column;
+    symbol = h.symbol;
+    wrong = λ g. h.wrong (same_byte b i c ∙ g);
+    before = λ x y n less ly ln. sym (same_byte x n y) ∙ h.before x y n less ly ln;
   }
 
   same_column : (s : Received) (c k : ℕ) → wrong_column first s c k ≡ wrong_column second s c k
@@ -51,7 +47,7 @@ module _ (f : Fti) (coefficients : List ℕ) (n m : Option Identity) where
       ∙ ap (λ (o : Option ℕ). if slice_index s.bytes c == certified_byte second s.block s.esi c then o else Some c) (same_column s (c + 1) k)
 
   same_judge : uncertified first ≡ uncertified second
-  same_judge = fun_ext (λ earlier. fun_ext (λ s. same_column s 0 f.symbol_length))
+  same_judge = fun_ext (λ earlier. fun_ext (λ s. found_is first s ∙ same_column s 0 f.symbol_length ∙ sym (found_is second s)))
 
   module _ (who : Identity) (rs : List Reading) (object : List ℕ) where
     same_reason : first_reason who second rs ≡ first_reason who first rs

@@ -68,18 +68,18 @@ stage (Yes report) = 7
 one_place : (object : List ℕ) (z : Certificate) (b c i x y n : ℕ) → IsFirstNotGiven object z b c i → IsFirstNotGiven object z x y n → (b ≡ x) × (c ≡ y) × (i ≡ n)
 one_place object z b c i x y n h k =
     let e : b ≡ x = which b x (λ s. elim s [
-      | inl l ↦ h.first.first.wrong (k.blocks_before b c i l h.first.column h.first.first.symbol)
-      | inr l ↦ k.first.first.wrong (h.blocks_before x y n l k.first.column k.first.first.symbol)
+      | inl l ↦ h.wrong (k.before b c i (inl l) h.column h.symbol)
+      | inr l ↦ k.wrong (h.before x y n (inl l) k.column k.symbol)
     ]) in
     let g : IsFirstNotGiven object z x c i = subst (λ (v : ℕ). IsFirstNotGiven object z v c i) e h in
     let d : c ≡ y = which c y (λ s. elim s [
-      | inl l ↦ g.first.first.wrong (k.first.columns_before c i l g.first.first.symbol)
-      | inr l ↦ k.first.first.wrong (g.first.columns_before y n l k.first.first.symbol)
+      | inl l ↦ g.wrong (k.before x c i (inr (refl, inl l)) g.column g.symbol)
+      | inr l ↦ k.wrong (g.before x y n (inr (refl, inl l)) k.column k.symbol)
     ]) in
     let f : IsFirstNotGiven object z x y i = subst (λ (v : ℕ). IsFirstNotGiven object z x v i) d g in
     let a : i ≡ n = which i n (λ s. elim s [
-      | inl l ↦ f.first.first.wrong (k.first.first.symbols_before i l)
-      | inr l ↦ k.first.first.wrong (f.first.first.symbols_before n l)
+      | inl l ↦ f.wrong (k.before x y i (inr (refl, inr (refl, inl l))) f.column f.symbol)
+      | inr l ↦ k.wrong (f.before x y n (inr (refl, inr (refl, inl l))) k.column k.symbol)
     ]) in
     (e, d, a)
 
@@ -126,7 +126,7 @@ module _ (who : Identity) (rs : List Reading) (object : List ℕ) (z : Certifica
   stopped : (r : Reason) → VerdictOn who rs object z (No r) → ¬ Pass (stage (No r))
   stopped OtherCertificate h p = absurd (cc)
   stopped ObjectLength h p = h.1 p
-  stopped (NotObject b c i) h p = h.2.first.first.wrong (p b c i h.2.block h.2.first.column h.2.first.first.symbol)
+  stopped (NotObject b c i) h p = h.2.wrong (p b c i h.2.block h.2.column h.2.symbol)
   stopped (NoPacket i x) h p = at_place_no (NoPacket i x) h.3 p
   stopped (OtherFti i) h p = at_place_no (OtherFti i) h.3 p
   stopped (SymbolLength i) h p = at_place_no (SymbolLength i) h.3 p

@@ -11,7 +11,6 @@ use Rattle.poly.specs.Polynomial.{value}
 use Rattle.partition.specs.Fti.{Fti, encoding_count, block_count}
 use Rattle.reception.specs.Symbols.{Symbol, AllFull, Agrees, IsObject, FullSolvable}
 use Rattle.alc.specs.Packet.{Packet}
-use Rattle.alc.specs.PacketFault.{same}
 use Rattle.alc.specs.Reading.{Reading}
 use Rattle.reception.specs.declared.scope.Identity.{Identity}
 use Rattle.reception.specs.declared.scope.Scope.{Scope}
@@ -31,6 +30,7 @@ use Rattle.lists.proofs.Lists.{both, all_append}
 use Rattle.cert.proofs.Polynomials.{forms}
 use Rattle.reception.proofs.OneAnswer.{same_readings, one_answer}
 use Rattle.reception.proofs.Full.{fits_only}
+use Rattle.std.specs.Str.{bytes_eq as same}
 
 -- ---- selections
 

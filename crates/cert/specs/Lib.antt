@@ -17,3 +17,4 @@ pub mod NotGiven
 pub mod DatagramWalk
 pub mod FromReader
 pub mod Endings
+pub mod WrongColumns

@@ -1,5 +1,5 @@
 -- What a check of a session, an object and a certificate answers.
-use Rattle.std.specs.Prelude.{◌≡◌, ◌≢◌, true, false, ℕ, zero, suc, ◌+◌, ◌<◌, ◌==◌, if◌then◌else◌, List, [], length, slice_index, Option, Some, None, Ok, Err, option_map}
+use Rattle.std.specs.Prelude.{◌≡◌, ◌≢◌, true, false, not, ℕ, ◌<◌, ◌==◌, List, [], ◌∷◌, find, length, slice_index, Option, Some, None, Ok, Err, option_map}
 use Rattle.std.specs.List.{list_any, AllByRecursion}
 use Rattle.partition.specs.Fti.{Fti, source_count, block_count, source_byte}
 use Rattle.alc.specs.Packet.{Packet}
@@ -13,6 +13,8 @@ use Rattle.reception.specs.declared.scope.PlaceFault.TheVariants as fault
 use Rattle.reception.specs.Symbols.{Symbol as Received, arrived_count, IsFirstShort, IsObject}
 use Rattle.cert.specs.Certificate.{Certificate, is_for, certified_byte}
 use Rattle.reception.specs.Reception.{ReadAll, Judge, Wrong, Faulty, Judged, Reception, counted, symbols, reception_with, with_fti, in_range, is_carrier, Suffices}
+use Rattle.lists.specs.Below.{below}
+use Rattle.losses.specs.Losses.{IsBefore}
 
 abbrev pub GivesAt : List ℕ → Certificate → ℕ → ℕ → ℕ → Type 0
 GivesAt object z b c i = certified_byte z b i c ≡ source_byte z.fti object b i c
@@ -26,33 +28,19 @@ abbrev pub GivesObject : List ℕ → Certificate → Type 0
 GivesObject object z =
     (b c i : ℕ) → b < block_count z.fti → c < z.fti.symbol_length → i < source_count z.fti b → GivesAt object z b c i
 
--- the first symbol of a column of a block at which they don't
-pub record IsFirstIn (object : List ℕ) (z : Certificate) (b c i : ℕ) : Type 0 where
-  pub symbol : i < source_count z.fti b
-  pub wrong : ¬ GivesAt object z b c i
-  pub symbols_before : (n : ℕ) → n < i → GivesAt object z b c n
-
--- in a block: the first column, and the first symbol in that
-pub record IsFirstInBlock (object : List ℕ) (z : Certificate) (b c i : ℕ) : Type 0 where
-  pub column : c < z.fti.symbol_length
-  pub first : IsFirstIn object z b c i
-  pub columns_before : (y n : ℕ) → y < c → n < source_count z.fti b → GivesAt object z b y n
-
 -- the first source point at which they don't: the least block, in it the least column, in that the least symbol
 pub record IsFirstNotGiven (object : List ℕ) (z : Certificate) (b c i : ℕ) : Type 0 where
   pub block : b < block_count z.fti
-  pub first : IsFirstInBlock object z b c i
-  pub blocks_before : (x y n : ℕ) → x < b → y < z.fti.symbol_length → n < source_count z.fti x → GivesAt object z x y n
+  pub column : c < z.fti.symbol_length
+  pub symbol : i < source_count z.fti b
+  pub wrong : ¬ GivesAt object z b c i
+  pub before : (x y n : ℕ) → IsBefore (x ∷ y ∷ n ∷ []) (b ∷ c ∷ i ∷ []) → y < z.fti.symbol_length → n < source_count z.fti x
+      → GivesAt object z x y n
 
--- the first of n columns, from column c on, in which the symbol isn't the certified one
-abbrev pub wrong_column : Certificate → Received → ℕ → ℕ → Option ℕ
-wrong_column z s c zero = None
-wrong_column z s c (suc n) =
-    if slice_index s.bytes c == certified_byte z s.block s.esi c then wrong_column z s (c + 1) n else Some c
-
--- what a check says against a symbol in range: the least column
+-- what a check says against a symbol in range: the least column in which it isn't the certified one
 abbrev pub uncertified : Certificate → Judge ℕ
-uncertified z earlier s = wrong_column z s 0 z.fti.symbol_length
+uncertified z earlier s =
+    find (λ c. not (slice_index s.bytes c == certified_byte z s.block s.esi c)) (below z.fti.symbol_length)
 
 -- what came, to a check of this identity's packets, which knows the certificate's FTI before
 abbrev pub reception_to : Identity → Certificate → List Reading → Reception ℕ

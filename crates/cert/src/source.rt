@@ -2,8 +2,8 @@
 ghost use Rattle.std.specs.Prelude.{◌≡◌, ◌+◌, ◌<◌, ℕ, slice_index, IsNone, IfSome};
 ghost use Rattle.partition.specs.Fti.{block_count, source_count};
 ghost use Rattle.cert.specs.CoefficientRows.{IsSourceSymbol};
-ghost use Rattle.cert.specs.Verdict.{GivesObject, IsFirstInBlock, GivesBlock};
-ghost use Rattle.cert.specs.NotGiven.{IsNotGiven};
+ghost use Rattle.cert.specs.Verdict.{GivesObject, GivesBlock};
+ghost use Rattle.cert.specs.NotGiven.{IsFirstInBlock, IsNotGiven};
 
 use crate::certified_symbols::CertifiedSymbols;
 use crate::verdict::Reason;

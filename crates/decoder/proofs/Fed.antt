@@ -11,7 +11,6 @@ use Rattle.partition.specs.Fti.{Fti, IsValidFti, block_count, source_count, enco
 use Rattle.partition.proofs.Laws.{counts as block_counts}
 use Rattle.alc.specs.Reading.{Reading, Reads}
 use Rattle.alc.specs.Computed.{read_of}
-use Rattle.alc.specs.PacketFault.{same}
 use Rattle.alc.specs.Views.{packet_of}
 use Rattle.alc.specs.declared.reading.Packet.{Packet as ReadPacket}
 use Rattle.alc.proofs.Again.{reads, exact}
@@ -63,6 +62,7 @@ use Rattle.decoder.proofs.Receiving.{Scanned, empty_index, clashed, no_clash as 
 use Rattle.decoder.proofs.Solving.{solvable_from, solvable_gives}
 use Rattle.decoder.proofs.Taken.{full_explained, nothing_count, no_fti, keeps, all_within, arrived_is, none_short, here_full, full_solvable}
 use Rattle.decoder.proofs.Those.{few_pass}
+use Rattle.std.specs.Str.{bytes_eq as same}
 
 -- whether a fault is told that is seen before the symbol
 abbrev is_before : Wrong Clash → Bool

@@ -6,17 +6,17 @@ use Rattle.std.specs.List.{AllByRecursion}
 use Rattle.std.specs.Cmp.Lexicographic.{pointwise}
 use Rattle.std.proofs.lemmas.Bool.{cases_Bool, cases_order, or_parts, or_from, or_left, or_right, and_left, and_parts, eqb-true, eq-eqb, ne_eqb, le-ltb, lt-ltb, not-false}
 use Rattle.std.proofs.lemmas.List.Folds.{list_any-append}
-use Rattle.alc.specs.PacketFault.{same}
 use Rattle.alc.proofs.Chosen.{same_is}
 use Rattle.reception.specs.Symbols.{Symbol, is_of, has_arrived}
 use Rattle.reception.specs.Answer.{clashes}
 use Rattle.decoder.specs.Received.{HasBytes, IsIndex}
+use Rattle.std.specs.Str.{bytes_eq as same}
 
 pub pointwise_same : (xs ys : List ℕ) → pointwise eqb xs ys ≡ same xs ys
 pointwise_same [] [] = refl
 pointwise_same [] (y ∷ ys) = refl
 pointwise_same (x ∷ xs) [] = refl
-pointwise_same (x ∷ xs) (y ∷ ys) = rw (pointwise_same xs ys) refl
+pointwise_same (x ∷ xs) (y ∷ ys) = refl
 
 absorbs : (h t : Bool) → (t || (h && t)) ≡ t
 absorbs h true = refl

@@ -2,11 +2,11 @@
 use Rattle.std.specs.Prelude.{◌≡◌, ℕ, Bool, ◌&&◌, ◌==◌, not, cond, List, Some, None}
 use Rattle.std.specs.List.{list_any}
 use Rattle.partition.specs.Fti.{Fti, source_count}
-use Rattle.alc.specs.PacketFault.{same}
 use Rattle.alc.specs.Reading.{Reading}
 use Rattle.reception.specs.declared.scope.Identity.{Identity}
 use Rattle.reception.specs.Symbols.{Symbol, arrived_count, AllFull, FullSolvable, FitsOnly, IsFirstShort, IsFirstUnsolvable}
 use Rattle.reception.specs.Reception.{ReadAll, Judge, Wrong, Reception, reception_with, asked, IsClean}
+use Rattle.std.specs.Str.{bytes_eq}
 
 -- what a decoder says against a symbol in range
 pub data Clash : Type 0 where
@@ -14,7 +14,7 @@ pub data Clash : Type 0 where
 
 -- whether an earlier symbol of the same block and number has other bytes
 abbrev pub clashes : List Symbol → Symbol → Bool
-clashes earlier s = list_any (λ e. (e.block == s.block && e.esi == s.esi) && not (same e.bytes s.bytes)) earlier
+clashes earlier s = list_any (λ e. (e.block == s.block && e.esi == s.esi) && not (bytes_eq e.bytes s.bytes)) earlier
 
 abbrev pub clash : Judge Clash
 clash earlier s = cond (clashes earlier s) (Some Clashes) None

@@ -179,10 +179,10 @@ pub record Reception (R : Type 0) : Type 0 where
 
 -- the walk knows from its start what holds in the end: a fault at a place may be of the FTI of a carrier behind it
 abbrev pub reception_with : {R : Type 0} → Judge R → Scope → List Reading → Reception R
-reception_with judge known rs = record {
-  wrong = first_wrong judge (scope_from known (counted known.identity rs)) (counted known.identity rs);
-  scope = scope_from known (counted known.identity rs);
-  symbols = symbols (counted known.identity rs);
+reception_with judge known rs = let xs = counted known.identity rs in record {
+  wrong = first_wrong judge (scope_from known xs) xs;
+  scope = scope_from known xs;
+  symbols = symbols xs;
 }
 
 -- nothing wrong at any place, and this FTI

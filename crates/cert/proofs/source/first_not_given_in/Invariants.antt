@@ -1,6 +1,7 @@
 use Rattle.std.proofs.Common.{◌≡◌, ℕ, ◌<◌, ◌≤◌}
-use Rattle.cert.specs.Verdict.{GivesAt, IsFirstIn}
+use Rattle.cert.specs.Verdict.{GivesAt}
 use Rattle.cert.proofs.source.first_not_given_in.Given as goal
+use Rattle.cert.specs.NotGiven.{IsFirstIn}
 
 abbrev pub invariant-loop-i : goal.invariant-loop-i
 invariant-loop-i l = record {
