@@ -74,7 +74,6 @@ pub record IsCertifiedTo (object : List ℕ) (f : Fti) (who : Identity) (old new
 
 -- why no certificate was written, or only a beginning
 abbrev pub IsCertifyToFault : CertifyFault → List ℕ → Fti → Identity → Option (List ℕ) → Option (List ℕ) → Bool → Type 0
-IsCertifyToFault Length object f who old new failed = (length object ≢ f.transfer_length) × (new ≡ old)
 IsCertifyToFault Io object f who old new failed =
     (length object ≡ f.transfer_length) × BeginsRows object f (head_text (Some who) f) old new × (failed ≡ true)
-IsCertifyToFault NoMemory object f who old new failed = (length object ≡ f.transfer_length) × (new ≡ old)
+IsCertifyToFault fault object f who old new failed = IsCertifyFault fault object f × (new ≡ old)

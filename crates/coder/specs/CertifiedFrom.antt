@@ -9,7 +9,7 @@ use Rattle.coder.specs.Certified.{BeginsRows}
 use Rattle.coder.specs.ObjectRead.{ReadsSome, IsObjectFault}
 
 -- what was written begins the text that each object has which begins with what was read
-abbrev pub BeginsText : Fti → Identity → Option (List ℕ) → Option (List ℕ) → Option (List ℕ) → Type 0
+abbrev pub BeginsText : Fti → Identity → (left old new : Option (List ℕ)) → Type 0
 BeginsText f who left old new = ReadsSome f left (λ object. BeginsRows object f (head_text (Some who) f) old new)
 
 -- by what the reader had left before, whether it was sound and has failed, what was written and whether the writer has failed

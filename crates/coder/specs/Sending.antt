@@ -68,7 +68,7 @@ AreSent object f tsi toi every (x ∷ xs) [] = ⊥
 
 -- the session of the object in this order
 abbrev pub IsSessionOf : List ℕ → Fti → ℕ → ℕ → ℕ → Order → List (List ℕ) → Type 0
-IsSessionOf object f tsi toi every order datagrams = AreSent object f tsi toi every (items order f) datagrams
+IsSessionOf object f tsi toi every order = AreSent object f tsi toi every (items order f)
 
 -- the frames of the datagrams of these encoding symbols were written, where it is told what was
 pub record Sends (object : List ℕ) (f : Fti) (tsi toi every : ℕ) (xs : List Item) (old new : Option (List ℕ)) : Type 0 where
@@ -104,9 +104,9 @@ pub record CanBeSent (object : List ℕ) (f : Fti) : Type 0 where
 
 -- Why nothing was sent, or only a beginning.
 abbrev pub IsSendFault : SendFault → List ℕ → Fti → ℕ → ℕ → ℕ → Order → Option (List ℕ) → Option (List ℕ) → Bool → Type 0
-IsSendFault Length object f tsi toi every order old new failed = (length object ≢ f.transfer_length) × (new ≡ old)
-IsSendFault SymbolTooLong object f tsi toi every order old new failed =
+IsSendFault Length object f _ _ _ _ old new _ = (length object ≢ f.transfer_length) × (new ≡ old)
+IsSendFault SymbolTooLong object f _ _ _ _ old new _ =
     (length object ≡ f.transfer_length) × (most_symbol_bytes < f.symbol_length) × (new ≡ old)
-IsSendFault NoMemory object f tsi toi every order old new failed = CanBeSent object f × (new ≡ old)
+IsSendFault NoMemory object f _ _ _ _ old new _ = CanBeSent object f × (new ≡ old)
 IsSendFault Io object f tsi toi every order old new failed =
     CanBeSent object f × SendsSome object f tsi toi every (items order f) old new × (failed ≡ true)
