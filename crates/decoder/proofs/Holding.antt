@@ -2,16 +2,20 @@
 use Rattle.std.specs.Prelude.{filter, ◌==◌, ◌&&◌, Result, Ok, Err}
 use Rattle.std.proofs.Common.{◌≡◌, ◌≢◌, ℕ, ◌+◌, ◌<◌, ◌≤◌, true, false, List, Option, Some, length, refl, sym, ap, subst, ◌∙◌, inl, inr, arith}
 use Rattle.std.specs.Result.{OnOk, OnErr}
+use Rattle.std.specs.Option.{ForSome}
+use Rattle.std.specs.BTreeMap.{BTreeMap, get, Updates, IsUnchanged}
+use Rattle.std.specs.Ordering.{nat_cmp}
 use Rattle.std.proofs.Math.Path.{fun_ext}
 use Rattle.std.proofs.lemmas.Bool.{cases_Bool, cases_eq, and_parts, eqb-true, eq-eqb, ne_eqb}
 use Rattle.lists.specs.Below.{below}
-use Rattle.partition.specs.Fti.{Fti, block_count, encoding_count}
+use Rattle.partition.specs.Fti.{Fti, block_count, source_count, encoding_count}
 use Rattle.decoder.specs.Decoded.{AreWithin}
 use Rattle.decoder.specs.Holds.{Holds, HoldsBlocks, kept_of, is_solved, solved_count}
 use Rattle.decoder.specs.Arrivals.{with_esi, with_symbol}
-use Rattle.decoder.specs.Stored.{IsStored}
+use Rattle.decoder.specs.Stored.{IsStored, needed}
 use Rattle.decoder.specs.declared.stored.Stored.{Stored}
 use Rattle.decoder.specs.declared.store.Store.{Store}
+use Rattle.decoder.proofs.Index.{number_eq}
 use Rattle.decoder.proofs.Kept.{count_more, count_same}
 use Rattle.decoder.proofs.Those.{few_pass}
 
@@ -44,6 +48,24 @@ module _ (f : Fti) (at : ℕ → ℕ → Option (List ℕ)) (b : ℕ) (old new :
         (subst (λ (o : Option Stored). IsStored f b o (at b)) (sym here) now))
     | inr ne ↦ subst (λ (o : Option Stored). IsStored f a o (at a)) (sym (others a ne)) (held a)
   ]
+
+-- each block needs as many symbols as it has source symbols, where one is put
+pub needs_more : (f : Fti) (b : ℕ) (old new : ℕ → Option Stored) → ((a : ℕ) → ForSome (old a) (λ s. needed s ≡ source_count f a)) → ((a : ℕ) → b ≢ a → new a ≡ old a)
+    → (stored : Stored) → new b ≡ Some stored → needed stored ≡ source_count f b → (a : ℕ) → ForSome (new a) (λ s. needed s ≡ source_count f a)
+needs_more f b old new held others stored here need a s some = elim (cases_eq b a) [
+  | inl e ↦
+      (let own : Some stored ≡ Some s = sym here ∙ ap new e ∙ some in
+      let same : stored ≡ s = cc in
+      subst (λ (x : ℕ). needed s ≡ source_count f x) e (subst (λ (x : Stored). needed x ≡ source_count f b) same need))
+  | inr ne ↦ held a s (sym (others a ne) ∙ some)
+]
+
+-- and where it may be that it isn't put
+pub needs_inserted : {A E : Type 0} (f : Fti) (b : ℕ) (old new : BTreeMap ℕ Stored) (r : Result A E) (stored : Stored) → OnOk r (Updates nat_cmp old new b (Some stored)) → OnErr r (IsUnchanged old new)
+    → ((a : ℕ) → ForSome (get nat_cmp old a) (λ s. needed s ≡ source_count f a)) → needed stored ≡ source_count f b → (a : ℕ) → ForSome (get nat_cmp new a) (λ s. needed s ≡ source_count f a)
+needs_inserted f b old new (Ok x) stored updates err held need =
+    needs_more f b (get nat_cmp old) (get nat_cmp new) held (λ a ne. updates.2 a (sym (number_eq b a) ∙ ne_eqb b a ne)) stored updates.1 need
+needs_inserted f b old new (Err e) stored updates err held need = λ a s some. held a s (rw err at some)
 
 module _ (f : Fti) (at : ℕ → ℕ → Option (List ℕ)) (b j : ℕ) (y : List ℕ) where
   some_with : (P : ℕ → ℕ → List ℕ → Type 0) → P b j y → ((a i : ℕ) (z : List ℕ) → at a i ≡ Some z → P a i z) → (a i : ℕ) (z : List ℕ) → with_symbol at b j y a i ≡ Some z → P a i z

@@ -31,3 +31,4 @@ pub mod Interpolated
 pub mod JustEnough
 pub mod SoundObject
 pub mod SymbolBytes
+pub mod Amount

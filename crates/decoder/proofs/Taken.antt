@@ -51,7 +51,7 @@ if_some P Q None f h = tt
 pub nothing_count : (f : Fti) (b : ℕ) (at : ℕ → Option (List ℕ)) → IsStored f b None at → length (filter (λ j. is_some (at j)) (below (encoding_count f b))) ≡ 0
 nothing_count f b at h = count_none (λ j. is_some (at j)) (encoding_count f b) (λ j. ap is_some (h j))
 
-solved_enough : (f : Fti) (b : ℕ) (o : Option Stored) (at : ℕ → Option (List ℕ)) → IsStored f b o at → is_solved o ≡ true → IsEnoughAt f b at
+pub solved_enough : (f : Fti) (b : ℕ) (o : Option Stored) (at : ℕ → Option (List ℕ)) → IsStored f b o at → is_solved o ≡ true → IsEnoughAt f b at
 solved_enough f b None at h solved = absurd (cc)
 solved_enough f b (Some (stored.Pending p)) at h solved = absurd (cc)
 solved_enough f b (Some (stored.Solved s)) at h solved =

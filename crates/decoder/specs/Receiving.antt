@@ -1,14 +1,16 @@
 -- What a receiver tells of the datagrams that it accepted and one more.
-use Rattle.std.specs.Prelude.{◌≡◌, ℕ, true, List, [], ◌∷◌, ◌++◌, length, Option, Some, None, Ok}
+use Rattle.std.specs.Prelude.{◌≡◌, ℕ, min, true, List, [], ◌∷◌, ◌++◌, length, Option, Some, None, Ok}
+use Rattle.std.specs.Option.{option_map_or}
 use Rattle.std.specs.Io.KnownBytes.{Appends}
-use Rattle.partition.specs.Fti.{Fti}
+use Rattle.partition.specs.Fti.{Fti, source_count}
 use Rattle.alc.specs.Packet.{Packet}
 use Rattle.alc.specs.Reading.{Reading, Reads}
 use Rattle.reception.specs.declared.scope.Identity.{Identity}
 use Rattle.reception.specs.declared.scope.PlaceFault.{PlaceFault}
-use Rattle.reception.specs.Reception.{Faulty, is_of_identity, ReadAll, Suffices}
+use Rattle.reception.specs.Symbols.{arrived_count}
+use Rattle.reception.specs.Reception.{Reception, Faulty, is_of_identity, ReadAll, Suffices}
 use Rattle.reception.specs.Nothing.{HasNoCarrier}
-use Rattle.reception.specs.Answer.{Object, IsAnswer, reception_of}
+use Rattle.reception.specs.Answer.{Clash, Object, IsAnswer, reception_of}
 use Rattle.reception.specs.Answer as value
 use Rattle.decoder.specs.Answers.{fault_value}
 use Rattle.decoder.specs.declared.answer.DecodeFault.{DecodeFault}
@@ -54,6 +56,11 @@ pub record ComesEarly (who : Identity) (datagrams : List (List ℕ)) (datagram :
   pub mine : is_of_identity who packet ≡ true
   pub bare : packet.fti ≡ None
   pub first : HasNoCarrier who datagrams
+
+-- how many symbols of a block are kept: as many as came of different ESIs, and no more than the block has source symbols
+abbrev pub stored_count : Reception Clash → ℕ → ℕ
+stored_count reception block =
+    option_map_or (λ f. min (source_count f block) (arrived_count reception.symbols block)) reception.scope.fti 0
 
 -- the object that these datagrams give was written; its length in bytes
 abbrev pub IsWrittenOf : Identity → List (List ℕ) → Option (List ℕ) → Option (List ℕ) → ℕ → Type 0

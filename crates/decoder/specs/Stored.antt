@@ -11,6 +11,11 @@ use Rattle.decoder.specs.declared.stored.Solved.{Solved}
 use Rattle.decoder.specs.declared.stored.Stored.{Stored}
 use Rattle.decoder.specs.declared.stored.Stored.TheVariants as stored
 
+-- how many symbols a block needs, by what is kept of it
+abbrev pub needed : Stored → ℕ
+needed (stored.Pending p) = p.need
+needed (stored.Solved s) = s.rows.count
+
 -- the bytes of the symbol that came of the block at an ESI, if one did
 abbrev pub arrived_in : Pending → ℕ → Option (List ℕ)
 arrived_in p = arrived_at (λ v. v.items) p.symbols.items

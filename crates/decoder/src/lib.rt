@@ -11,7 +11,7 @@
 //! - `decoding`: the public call, and `selecting`: the same for a selection of a session's datagrams, with what a check's
 //!   yes promises of it;
 //! - `receiver`: the same for one datagram at a time: `feeding` takes one more, and `taking` gives the answer, or writes the
-//!   object block by block. A receiver stands for the list of the datagrams that it accepted (`specs/Stands`). It accepts
+//!   object block by block; `storing` tells how much it keeps. A receiver stands for the list of the datagrams that it accepted (`specs/Stands`). It accepts
 //!   none with which `decode` would answer a fault to that list, and tells no fault but that answer. Of packets that carry
 //!   no FTI it accepts none before a carrier, as it couldn't tell what their symbols are;
 //! - `store`: what it keeps of an object, and `stored`: of a block. That is, by `pending_block`, copies of the symbols that
@@ -43,6 +43,7 @@ mod selecting;
 mod solved_block;
 mod store;
 mod stored;
+mod storing;
 mod symbols;
 mod taking;
 mod unsolvable;

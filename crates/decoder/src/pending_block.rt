@@ -119,6 +119,7 @@ impl Pending {
             (arrived_in self.old) packet.now.esi packet.now.symbol.now) }
         ensures stays { OnErr result (IsPending fti.now packet.now.sbn self.new
             (arrived_in self.old)) }
+        ensures need { self.new.need ≡ self.old.need }
     {
         match symbol_at(&self.symbols, packet.esi) {
             Some(symbol) => {

@@ -5,7 +5,7 @@ ghost use Rattle.decoder.specs.Blocks.{HaveLength};
 ghost use Rattle.decoder.specs.Holds.{Holds, HoldsBlocks, Solves, kept_of};
 ghost use Rattle.decoder.specs.Arrivals.{with_esi, with_symbol};
 ghost use Rattle.decoder.specs.Putting.{MayPut, MayStand, IsPutFault};
-ghost use Rattle.decoder.specs.Stored.{IsStored};
+ghost use Rattle.decoder.specs.Stored.{IsStored, needed};
 
 use crate::recovery::Recovery;
 use crate::store::Store;
@@ -46,6 +46,7 @@ impl Stored {
             → IsStored fti.now packet.now.sbn (Some self.old) at
             → OnErr result (IsStored fti.now packet.now.sbn (Some self.new) at) }
         ensures solves { Solves result (Some self.old) (Some self.new) }
+        ensures need { needed self.new ≡ needed self.old }
     {
         let solved = match self {
             Stored::Pending(pending) => {

@@ -47,6 +47,7 @@ impl Solved {
         ensures stays { (at : ℕ → Option (List ℕ))
             → IsSolved fti.now packet.now.sbn self.old at
             → OnErr result (IsSolved fti.now packet.now.sbn self.new at) }
+        ensures count { self.new.rows.count ≡ self.old.rows.count }
     {
         fti.is_valid();
         let esi = usize::from(packet.esi);

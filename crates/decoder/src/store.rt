@@ -1,6 +1,10 @@
 //! What is kept of an object.
-ghost use Rattle.std.specs.Prelude.{◌≡◌, None, IfOk};
-ghost use Rattle.decoder.specs.Holds.{Holds};
+ghost use Rattle.std.specs.Prelude.{◌≡◌, ℕ};
+ghost use Rattle.std.specs.Option.{ForSome};
+ghost use Rattle.std.specs.BTreeMap.{get};
+ghost use Rattle.std.specs.Ordering.{nat_cmp};
+ghost use Rattle.partition.specs.Fti.{source_count};
+ghost use Rattle.decoder.specs.Stored.{needed};
 
 use crate::recovery::Recovery;
 use crate::stored::Stored;
@@ -20,9 +24,15 @@ pub(crate) struct Store {
     pub(crate) solved: u32,
     /// What recovered the missing symbols of a block, as blocks mostly lose the same ones.
     pub(crate) kept: Option<Recovery>,
+    // So no more symbols of a block are kept than it has source symbols.
+    ghost needs: { (b : ℕ) → ForSome (get nat_cmp blocks b)
+        (λ s. needed s ≡ source_count fti b) },
 }
 
 impl Store {
+    ghost use Rattle.std.specs.Prelude.{◌≡◌, None, IfOk};
+    ghost use Rattle.decoder.specs.Holds.{Holds};
+
     /// A store of nothing. Want of memory is the only error.
     pub(crate) fn new(alloc: Global, fti: Fti) -> Result<Store, AllocError>
         ensures fti { IfOk result (λ s. s.fti ≡ fti) }

@@ -2,9 +2,9 @@
 ghost use Rattle.std.specs.Prelude.{◌≡◌, ◌≤◌, ℕ, List, IfOk, IfErr, OnOk, codes};
 ghost use Rattle.reception.specs.declared.scope.Identity.{Identity as IdentityValue};
 ghost use Rattle.decoder.specs.SymbolsOf.{AreSymbolsOf, AreGathered};
-ghost use Rattle.tool.specs.Decoding.{GainsFault, missing_text, object_text, IsAnswerLine, answer_status, IsDecoded, IsNotDecoded};
-ghost use Rattle.tool.specs.Delivering.{IsTold, IsDelivery, IsGiven, IsNotGiven};
-ghost use Rattle.tool.specs.Listening.{IsUntold, IsUnwritten};
+ghost use Rattle.tool.specs.Decoding.{GainsFault, missing_text, object_text, IsAnswerLine, answer_status, WritesObject, IsDecoded, IsNotDecoded};
+ghost use Rattle.tool.specs.Delivering.{IsTold, IsNotGiven};
+ghost use Rattle.tool.specs.Listening.{IsUntold, IsWritten, IsUnwritten};
 ghost use Rattle.tool.specs.Making.{Fails};
 
 use crate::fault::Fault;
@@ -58,15 +58,6 @@ pub(crate) fn tell<'a, W: Write>(
     Ok(status_of(answer))
 }
 
-// What became of an object whose symbols are there.
-#[derive(Clone, Copy)]
-enum Delivery {
-    // It was written; its length in bytes.
-    Object(u64),
-    // The symbols of this block are of none.
-    NotCode(u32),
-}
-
 // Writes the object, prints its length, and answers the status.
 fn deliver<'a, F: Folder, W: Write>(
     alloc: Global,
@@ -77,37 +68,30 @@ fn deliver<'a, F: Folder, W: Write>(
 ) -> Result<u8, Fault<'a>>
     requires { AreGathered symbols.now }
     ensures ok { (who : IdentityValue) (ds : List (List ℕ)) → AreSymbolsOf who ds symbols.now
-        → IfOk result (IsGiven who ds (F.files folder.old) (F.files folder.new) output.now
+        → IfOk result (WritesObject who ds (F.files folder.old) (F.files folder.new) output.now
         (W.contents out.old) (W.contents out.new)) }
     ensures fault { (who : IdentityValue) (ds : List (List ℕ)) → AreSymbolsOf who ds symbols.now
         → IfErr result (Fails (IsNotGiven output.now)
-        (IsGiven who ds (F.files folder.old) (F.files folder.new) output.now
+        (WritesObject who ds (F.files folder.old) (F.files folder.new) output.now
         (W.contents out.old))
         (F.files folder.old) (F.files folder.new)
         (W.failed out.new) (W.contents out.old) (W.contents out.new)) }
 {
-    match write_object(alloc, folder, output, symbols)? {
-        Delivery::Object(length) => {
-            print_count(out, "object", length, " bytes")?;
-            Ok(0)
-        }
-        Delivery::NotCode(block) => {
-            let answer = Answer::Fault(DecodeFault::NotCode(block));
-            tell(alloc, out, &answer)
-        }
-    }
+    let length = write_object(alloc, folder, output, symbols)?;
+    print_count(out, "object", length, " bytes")?;
+    Ok(0)
 }
 
-// Writes the object, or gives the output up where a block's symbols are of none.
+// Writes the object, and answers its length in bytes.
 fn write_object<'a, F: Folder>(
     alloc: Global,
     folder: &mut F,
     output: &'a str,
     symbols: &ObjectSymbols<'_>,
-) -> Result<Delivery, Fault<'a>>
+) -> Result<u64, Fault<'a>>
     requires { AreGathered symbols.now }
     ensures made { (who : IdentityValue) (ds : List (List ℕ)) → AreSymbolsOf who ds symbols.now
-        → IfOk result (IsDelivery who ds (F.files folder.old) (F.files folder.new) output.now) }
+        → IfOk result (IsWritten who (F.files folder.old) (F.files folder.new) output.now ds) }
     ensures fault { IfErr result (IsUnwritten (F.files folder.old) (F.files folder.new)
         output.now) }
 {
@@ -115,11 +99,7 @@ fn write_object<'a, F: Folder>(
     match symbols.write(alloc, &mut file) {
         Ok(length) => {
             keep(folder, output, file)?;
-            Ok(Delivery::Object(length))
-        }
-        Err(WriteFault::NotCode(block)) => {
-            let _why = folder.give_up(file);
-            Ok(Delivery::NotCode(block))
+            Ok(length)
         }
         Err(WriteFault::Io) => Err(give_up(folder, file, Fault::File(output))),
         Err(WriteFault::NoMemory) => Err(give_up(folder, file, Fault::Memory)),

@@ -1,4 +1,4 @@
-use Rattle.std.proofs.Common.{suc, ◌<◌, ◌∙◌, arith, below_more}
+use Rattle.std.proofs.Common.{suc, ◌<◌, arith, below_more}
 use Rattle.partition.specs.Fti.{block_count}
 use Rattle.decoder.specs.Received.{bytes_at}
 use Rattle.decoder.specs.Unsolvable.{IsSound}
@@ -14,7 +14,7 @@ loop-b-preserved-then-have-k c =
     record {
       sound = below_more (IsSound f at) _ c.loop-b.invariant.sound
           (just_enough f c.is_valid.ensures at c.requires.within c.requires.bytes c.loop-b.b c.n.result c.have.result next c.n.ensures.value c.have.ensures
-          (c.if-have-k.true ∙ c.k.ensures.value));
+          (omega (arith, c.if-have-k.true, c.k.ensures.value)));
       kept = c.loop-b.invariant.kept;
     }
 

@@ -4,7 +4,7 @@ use Rattle.std.specs.Ordering.{nat_cmp}
 use Rattle.std.proofs.lemmas.Bool.{ne_eqb}
 use Rattle.decoder.specs.Putting.{IsPutFault}
 use Rattle.decoder.specs.Stored.{IsPending}
-use Rattle.decoder.proofs.Holding.{blocks_more, within_more}
+use Rattle.decoder.proofs.Holding.{blocks_more, within_more, needs_inserted}
 use Rattle.decoder.proofs.Put.{pending_none}
 use Rattle.decoder.proofs.Index.{number_eq}
 use Rattle.decoder.proofs.store.Store.begin.Goals as goal
@@ -38,4 +38,12 @@ returns-clause-put c = λ at held.
       within = within_more f at k.sbn k.esi k.symbol.now held.within c.requires.number c.requires.esi c.requires.symbol;
       blocks = blocks_more f at k.sbn (get nat_cmp c.args.self.now.blocks) (get nat_cmp c.insert.new.self) held.blocks
           (λ a ne. updates.2 a (sym (number_eq k.sbn a) ∙ ne_eqb k.sbn a ne)) c.put.new.self updates.1 k.esi k.symbol.now (c.in_ok-solved.ensures.put (at k.sbn) own);
+    }
+
+pub invariant_of-self-2 : goal.invariant_of-self-2
+invariant_of-self-2 c =
+    let s = c.args.self.now in
+    record {
+      needs = needs_inserted s.fti c.args.packet.now.sbn s.blocks c.insert.new.self c.insert.result c.put.new.self c.insert.ensures.updates c.insert.ensures.err s.needs
+          (c.in_ok-solved.ensures.need ∙ c.new.ensures.need ∙ c.k.ensures.value);
     }

@@ -6,7 +6,7 @@ use Rattle.std.proofs.lemmas.Bool.{ne_eqb}
 use Rattle.decoder.specs.Holds.{kept_of}
 use Rattle.decoder.specs.Arrivals.{with_esi}
 use Rattle.decoder.specs.Stored.{IsStored}
-use Rattle.decoder.proofs.Holding.{blocks_more, blocks_same, within_more, on_ok, on_err}
+use Rattle.decoder.proofs.Holding.{blocks_more, blocks_same, within_more, needs_more, on_ok, on_err}
 use Rattle.decoder.proofs.Index.{number_eq}
 use Rattle.decoder.proofs.store.Store.put_to_block.Goals as goal
 
@@ -43,3 +43,23 @@ returns-in-Some-clause-stays c = λ at held.
           (λ a ne. updates.2 a (sym (number_eq k.sbn a) ∙ ne_eqb k.sbn a ne)) c.put.new.self updates.1 now;
     })
     (c.put.ensures.stays (at k.sbn) own)
+
+pub invariant_of-self : goal.invariant_of-self
+invariant_of-self c =
+    let k = c.args.packet.now in
+    let s = c.args.self.now in
+    let was : kept_of s k.sbn ≡ Some c.in-Some.stored.now = sym c.in-Some.ensures.value in
+    let updates = (c.get_mut.follows.holds c.put.new.self).3 (search rules) in
+    record {
+      needs = needs_more s.fti k.sbn (get nat_cmp s.blocks) (get nat_cmp (c.get_mut.follows.lender c.put.new.self)) s.needs
+          (λ a ne. updates.2 a (sym (number_eq k.sbn a) ∙ ne_eqb k.sbn a ne)) c.put.new.self updates.1 (c.put.ensures.need ∙ s.needs k.sbn c.in-Some.stored.now was);
+    }
+
+pub returns-in-None-clause-put : goal.returns-in-None-clause-put
+returns-in-None-clause-put c = λ at held. c.begin.ensures.put at (search rules)
+
+pub returns-in-None-clause-fault : goal.returns-in-None-clause-fault
+returns-in-None-clause-fault c = λ at held. c.begin.ensures.fault at (search rules)
+
+pub returns-in-None-clause-stays : goal.returns-in-None-clause-stays
+returns-in-None-clause-stays c = λ at held. c.begin.ensures.stays at (search rules)
