@@ -18,7 +18,7 @@ use Rattle.poly.proofs.Roots.{quotient_over, quotient_elements, quotient_length,
 use Rattle.poly.proofs.Product.{times_over, roots_over, value_of_factor, times_elements, times_length, roots_elements, roots_length, value_is_product, root_product_element, root_product_push, root_product_none, root_product_some}
 use Rattle.poly.proofs.Multiplying.{times_last}
 use Rattle.gf256.specs.Sums.{row_times, dot}
-use Rattle.elim.specs.Matrices.{identity_entry, AreElements, AreInverseSquares}
+use Rattle.elim.specs.Matrices.{identity_entry, AreElements}
 use Rattle.elim.specs.Vandermonde.{vandermonde_entry}
 use Rattle.elim.specs.Generator.{power_entry}
 use Rattle.elim.specs.CodePoints.{ArePoints}
@@ -28,6 +28,7 @@ use Rattle.elim.specs.Lagrange.{others, root_product, differences, IsMaster, IsN
 use Rattle.elim.proofs.RowTimes.{unit_here, unit_there, unit_element, unit_swapped, dot_element, dot_same, dot_swapped, dot_scaled, dot_of_sums, dot_picks, picks_dot, row_times_twice}
 use Rattle.elim.proofs.Interpolation.{listed, value_is, vandermonde_whole}
 use Rattle.elim.proofs.CodePoints.{points_bytes, points_different, power_of_point}
+use Rattle.elim.specs.Squares.{AreInverseSquares}
 
 module _ {F : Type 0} (element : F → Type 0) (add mul : F → F → F) (none one : F) (field : IsField element add mul none one) where
   -- a factor that isn't nothing is taken away

@@ -3,10 +3,11 @@ use Rattle.std.specs.Prelude.{◌≡◌, ◌≢◌, ◌<◌, ◌≤◌, ◌+◌,
 use Rattle.std.proofs.Common.{◌∙◌, sym, ap, arith, inl, inr}
 use Rattle.std.proofs.lemmas.Bool.{cases_eq}
 use Rattle.gf256.specs.FieldLaws.{IsField}
-use Rattle.elim.specs.Matrices.{AreElements, identity_entry, AreInverseSquares}
+use Rattle.elim.specs.Matrices.{AreElements, identity_entry}
 use Rattle.elim.specs.Steps.{IsSwapped, IsScaled, IsAdded, SameSolutions, HasUnitColumns, IsNormalized, ClearsColumn}
 use Rattle.elim.proofs.Sums.{sum_same}
 use Rattle.elim.proofs.Elimination.{transposed_entry, IsReduced, equal_refl, equal_then, swapped_equal, scaled_equal, added_equal, swapped_cleared, scaled_cleared, added_cleared, one_more_cleared}
+use Rattle.elim.specs.Squares.{AreInverseSquares}
 
 -- on the way of clearing column p: the rows before i have nothing in it, but for row p
 pub record IsClearedTo {F : Type 0} (element : F → Type 0) (add mul : F → F → F) (none one : F) (k p i : ℕ) (w r w2 r2 : ℕ → ℕ → F) : Type 0 where

@@ -6,10 +6,11 @@ use Rattle.std.proofs.lemmas.Bool.Decides.{nat_tests}
 use Rattle.gf256.specs.FieldLaws.{IsField}
 use Rattle.poly.proofs.Roots.{mul_zero, one_mul}
 use Rattle.gf256.specs.Sums.{dot}
-use Rattle.elim.specs.Matrices.{AreElements, identity_entry, AreInverseSquares, IsSingularSquare}
+use Rattle.elim.specs.Matrices.{AreElements, identity_entry}
 use Rattle.elim.specs.Steps.{IsSwapped, IsScaled, IsAdded, KeepsSolutions, SameSolutions, HasUnitColumns}
 use Rattle.elim.proofs.Sums.{sum_one_place}
 use Rattle.elim.proofs.RowTimes.{unit_here, unit_there, zero_mul, unit_element, unit_swapped, dot_same, dot_scaled, dot_of_sums, dot_swapped, dot_none, dot_picks, picks_dot}
+use Rattle.elim.specs.Squares.{AreInverseSquares, IsSingularSquare}
 
 abbrev pub transposed_entry : {F : Type 0} → (ℕ → ℕ → F) → ℕ → ℕ → F
 transposed_entry m i j = m j i

@@ -8,7 +8,7 @@ use Rattle.gf256.specs.ByteField.{byte_field, point_byte}
 use Rattle.poly.specs.Polynomial.{IsWord, value}
 use Rattle.poly.proofs.Bytes.{bytes_from_recursion}
 use Rattle.gf256.specs.Sums.{row_times}
-use Rattle.elim.specs.Matrices.{AreElements, AreInverseSquares}
+use Rattle.elim.specs.Matrices.{AreElements}
 use Rattle.elim.specs.Grid.{Grid, entry, row_product, HasElements, HasShape}
 use Rattle.elim.specs.Generator.{power_entry, IsGenerator, IsSystematic, Encodes}
 use Rattle.elim.proofs.RowTimes.{dot_element}
@@ -18,6 +18,7 @@ use Rattle.elim.proofs.Systematic.{generates, front_is, begins_with, value_at}
 use Rattle.elim.proofs.Entries.{elements_by_row}
 use Rattle.elim.proofs.RowProducts.{length-row_product, get_or-row_product}
 use Rattle.elim.proofs.CodePoints.{power_of_point}
+use Rattle.elim.specs.Squares.{AreInverseSquares}
 
 module _ (k n : ℕ) (le : k ≤ n) (w : ℕ → ℕ → ℕ) (ew : (i : ℕ) → AreElements IsByte (w i)) (both : AreInverseSquares sum_of product 0 1 k power_entry w)
     (g : Grid ℕ) (made_elements : HasElements IsByte 0 g) (rows_are : g.rows ≡ k) (cols_are : g.cols ≡ n)

@@ -16,3 +16,4 @@ pub mod Rising
 pub mod Replacing
 pub mod Recovering
 pub mod Basis
+pub mod OfGrids

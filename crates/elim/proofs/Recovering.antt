@@ -10,7 +10,7 @@ use Rattle.poly.proofs.Bytes.{bytes_by_recursion, bytes_from_recursion}
 use Rattle.poly.proofs.Lists.{all_from_places, different_from_places}
 use Rattle.poly.proofs.Roots.{mul_zero, none_from_roots}
 use Rattle.gf256.specs.Sums.{row_times}
-use Rattle.elim.specs.Matrices.{identity_entry, AreElements, AreInverseSquares, IsSingularSquare}
+use Rattle.elim.specs.Matrices.{identity_entry, AreElements}
 use Rattle.elim.specs.Grid.{Grid, entry, row_product, HasElements}
 use Rattle.elim.specs.Generator.{Encodes}
 use Rattle.elim.specs.Erasures.{AreErasures, Recovers, part_entry}
@@ -22,6 +22,7 @@ use Rattle.elim.proofs.Entries.{elements_by_row}
 use Rattle.elim.proofs.RowProducts.{get_or-row_product}
 use Rattle.elim.proofs.Rising.{place_same}
 use Rattle.elim.proofs.Replacing.{replaced, kept_or_replaced, replaced_apart}
+use Rattle.elim.specs.Squares.{AreInverseSquares, IsSingularSquare}
 
 -- the value of a polynomial whose coefficients are zero
 value_none : (p : List ℕ) (z : ℕ) → IsByte z → AllByRecursion (λ c. c ≡ 0) p → value p z ≡ 0

@@ -6,8 +6,9 @@ use Rattle.std.proofs.lemmas.Bool.Decides.{nat_tests}
 use Rattle.gf256.specs.FieldLaws.{IsField}
 use Rattle.poly.proofs.Roots.{mul_zero}
 use Rattle.gf256.specs.Sums.{sum_below, dot, row_times}
-use Rattle.elim.specs.Matrices.{AreElements, identity_entry, AreInverseSquares}
+use Rattle.elim.specs.Matrices.{AreElements, identity_entry}
 use Rattle.elim.proofs.Sums.{sum_element, sum_same, sum_of_sums, sum_scaled, sum_none, sum_one_place, sums_swapped}
+use Rattle.elim.specs.Squares.{AreInverseSquares}
 
 pub unit_here : {F : Type 0} (none one : F) (i j : ℕ) → i ≡ j → identity_entry none one i j ≡ one
 unit_here none one i j e = grind (arith, nat_tests)

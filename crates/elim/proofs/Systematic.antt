@@ -5,11 +5,12 @@ use Rattle.std.proofs.Common.{◌∙◌, sym, ap, arith}
 use Rattle.gf256.specs.FieldLaws.{IsField}
 use Rattle.poly.specs.Polynomial.{value_over, power_over, AreDifferent}
 use Rattle.gf256.specs.Sums.{row_times}
-use Rattle.elim.specs.Matrices.{AreElements, identity_entry, AreInverseSquares, IsSingularSquare}
+use Rattle.elim.specs.Matrices.{AreElements, identity_entry}
 use Rattle.elim.specs.Vandermonde.{vandermonde_entry}
 use Rattle.elim.proofs.Sums.{sum_same}
 use Rattle.elim.proofs.RowTimes.{unit_swapped, dot_element, dot_same, dot_picks, picks_dot, row_times_twice}
 use Rattle.elim.proofs.Interpolation.{listed, value_is, vandermonde_whole}
+use Rattle.elim.specs.Squares.{AreInverseSquares, IsSingularSquare}
 
 module _ {F : Type 0} (element : F → Type 0) (add mul : F → F → F) (none one : F) (field : IsField element add mul none one) where
   -- a square matrix of different points isn't singular

@@ -1,8 +1,8 @@
 -- A matrix as its counts of rows and columns and the list of its entries, row after row.
-use Rattle.std.specs.Prelude.{◌≡◌, ◌<◌, ◌≤◌, ◌+◌, ◌*◌, ℕ, List, length, map, slice_index_or}
+use Rattle.std.specs.Prelude.{◌≡◌, ◌≢◌, ◌<◌, ◌≤◌, ◌+◌, ◌*◌, ℕ, List, length, map, slice_index_or}
 use Rattle.std.specs.List.{range_with_len}
 use Rattle.gf256.specs.Sums.{row_times}
-use Rattle.elim.specs.Matrices.{AreInverseSquares, IsSingularSquare}
+use Rattle.elim.specs.Matrices.{AreElements, identity_entry}
 
 pub record Grid (F : Type 0) : Type 0 where
   pub rows : ℕ
@@ -50,9 +50,15 @@ pub record IsMatrixOf {F : Type 0} (element : F → Type 0) (none : F) (r c : �
   pub elements : HasElements element none g
 
 -- the square matrices m and w are the inverses of each other
-abbrev pub AreInverse : {F : Type 0} → (F → F → F) → (F → F → F) → F → F → Grid F → Grid F → Type 0
-AreInverse add mul none one m w = AreInverseSquares add mul none one m.rows (entry none m) (entry none w)
+pub record AreInverse {F : Type 0} (add mul : F → F → F) (none one : F) (m w : Grid F) : Type 0 where
+  pub left : (i j : ℕ) → i < m.rows → j < m.rows → row_times add mul none (entry none w i) (entry none m) m.rows j ≡ identity_entry none one i j
+  pub right : (i j : ℕ) → i < m.rows → j < m.rows → row_times add mul none (entry none m i) (entry none w) m.rows j ≡ identity_entry none one i j
 
 -- some row that isn't zero, times the square matrix m, is zero
-abbrev pub IsSingular : {F : Type 0} → (F → Type 0) → (F → F → F) → (F → F → F) → F → Grid F → Type 0
-IsSingular element add mul none m = IsSingularSquare element add mul none m.rows (entry none m)
+pub record IsSingular {F : Type 0} (element : F → Type 0) (add mul : F → F → F) (none : F) (m : Grid F) : Type 0 where
+  pub row : ℕ → F
+  pub elements : AreElements element row
+  pub place : ℕ
+  pub within : place < m.rows
+  pub apart : row place ≢ none
+  pub gone : (j : ℕ) → j < m.rows → row_times add mul none row (entry none m) m.rows j ≡ none

@@ -8,3 +8,4 @@ pub mod Erasures
 pub mod CodePoints
 pub mod Setting
 pub mod Lagrange
+pub mod Squares

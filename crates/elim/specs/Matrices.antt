@@ -1,6 +1,5 @@
--- Rows and matrices as functions of places into a field: the matrix product, inverses, and when there is none.
-use Rattle.std.specs.Prelude.{◌≡◌, ◌≢◌, ◌<◌, ◌==◌, ℕ, if◌then◌else◌}
-use Rattle.gf256.specs.Sums.{row_times}
+-- Rows and matrices as functions of places into a field.
+use Rattle.std.specs.Prelude.{◌==◌, ℕ, if◌then◌else◌}
 
 -- each value is an element
 abbrev pub AreElements : {F : Type 0} → (F → Type 0) → (ℕ → F) → Type 0
@@ -9,17 +8,3 @@ AreElements element f = (i : ℕ) → element (f i)
 -- the entries of the identity
 abbrev pub identity_entry : {F : Type 0} → F → F → ℕ → ℕ → F
 identity_entry none one i j = if i == j then one else none
-
--- each is the inverse of the other
-pub record AreInverseSquares {F : Type 0} (add mul : F → F → F) (none one : F) (k : ℕ) (m w : ℕ → ℕ → F) : Type 0 where
-  pub left : (i j : ℕ) → i < k → j < k → row_times add mul none (w i) m k j ≡ identity_entry none one i j
-  pub right : (i j : ℕ) → i < k → j < k → row_times add mul none (m i) w k j ≡ identity_entry none one i j
-
--- some row that isn't zero, times the matrix, is zero
-pub record IsSingularSquare {F : Type 0} (element : F → Type 0) (add mul : F → F → F) (none : F) (k : ℕ) (m : ℕ → ℕ → F) : Type 0 where
-  pub row : ℕ → F
-  pub elements : AreElements element row
-  pub place : ℕ
-  pub within : place < k
-  pub apart : row place ≢ none
-  pub gone : (j : ℕ) → j < k → row_times add mul none row m k j ≡ none

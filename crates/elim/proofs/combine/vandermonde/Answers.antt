@@ -5,6 +5,7 @@ use Rattle.elim.specs.Grid.{entry}
 use Rattle.elim.proofs.Systematic.{points_regular}
 use Rattle.elim.proofs.VandermondePowers.{first_power, next_power}
 use Rattle.elim.specs.Vandermonde.{vandermonde_entry}
+use Rattle.elim.proofs.OfGrids.{singular_square}
 use Rattle.poly.proofs.Lists.{all_by_recursion}
 use Rattle.elim.proofs.combine.vandermonde.Goals as goal
 use Rattle.elim.proofs.combine.vandermonde.Goals.{then-i-eq0, else-i-eq0}
@@ -38,6 +39,7 @@ loop-j-preserved g c = record {
 }
 
 pub returns-clause-regular : goal.returns-clause-regular
-returns-clause-regular g c = λ len ep apart. rw c.loop-i.invariant.shape.rows (
+returns-clause-regular g c = λ len ep apart singular.
     points_regular g.F.Field.element g.F.Field.sum g.F.Field.product g.F.Field.ZERO g.F.Field.ONE g.met.F.Field.laws c.args.k c.args.points.now (entry g.F.Field.ZERO c.loop-i.made) len (all_by_recursion g.F.Field.element c.args.points.now ep) apart
-    (λ i j li lj. (let all : i < c.loop-i.i = omega arith in let inside : j < length c.args.points.now = rw len lj in c.loop-i.invariant.filled.rows i j all inside)))
+    (λ i j li lj. (let all : i < c.loop-i.i = omega arith in let inside : j < length c.args.points.now = rw len lj in c.loop-i.invariant.filled.rows i j all inside))
+    (rw c.loop-i.invariant.shape.rows at (singular_square g.F.Field.element g.F.Field.sum g.F.Field.product g.F.Field.ZERO c.loop-i.made singular))

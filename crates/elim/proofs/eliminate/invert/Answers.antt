@@ -6,6 +6,7 @@ use Rattle.elim.proofs.Clearing.{reduced_more, step_then, step_at, normal_at, re
 use Rattle.elim.specs.Grid.{entry}
 use Rattle.elim.specs.declared.eliminate.ElimError.TheVariants.{Singular, NoMemory}
 use Rattle.elim.proofs.Entries.{elements_by_row, entries_at, shape_at}
+use Rattle.elim.proofs.OfGrids.{as_squares, as_grids, singular_grid}
 use Rattle.elim.proofs.eliminate.invert.Goals as goal
 
 not_memory : NoMemory ≡ Singular → ⊥
@@ -31,13 +32,13 @@ loop-p-init g c = record {
 pub returns-in_default-clause-singular : goal.returns-in_default-clause-singular
 returns-in_default-clause-singular g c = λ _.
     let below : c.loop-p.p < c.args.m.now.rows = omega arith in
-    singular_here g.F.Field.element g.F.Field.sum g.F.Field.product g.F.Field.ZERO g.F.Field.ONE g.met.F.Field.laws c.args.m.now.rows c.loop-p.p (entry g.F.Field.ZERO c.loop-p.work) below
+    singular_grid g.F.Field.element g.F.Field.sum g.F.Field.product g.F.Field.ZERO c.args.m.now (singular_here g.F.Field.element g.F.Field.sum g.F.Field.product g.F.Field.ZERO g.F.Field.ONE g.met.F.Field.laws c.args.m.now.rows c.loop-p.p (entry g.F.Field.ZERO c.loop-p.work) below
     (elements_by_row g.F.Field.element g.F.Field.ZERO c.loop-p.work c.loop-p.invariant.work_elements)
     c.loop-p.invariant.reduced.cleared
     (λ i le lt. c.in_default.ensures.none refl i le (rw c.loop-p.invariant.work.rows lt))
     (entry g.F.Field.ZERO c.args.m.now) (entry g.F.Field.ZERO c.loop-p.right)
     (elements_by_row g.F.Field.element g.F.Field.ZERO c.loop-p.right c.loop-p.invariant.right_elements)
-    c.loop-p.invariant.reduced
+    c.loop-p.invariant.reduced)
 
 pub loop-p-preserved : goal.loop-p-preserved
 loop-p-preserved g c =
@@ -59,6 +60,7 @@ returns-in_err-made-clause-singular g c = let p = err_from_is_err_and c.from_res
 
 pub returns-clause-inverse : goal.returns-clause-inverse
 returns-clause-inverse g c =
+    as_grids g.F.Field.sum g.F.Field.product g.F.Field.ZERO g.F.Field.ONE c.args.m.now c.in_ok-made.made (
     let all : c.loop-p.p ≡ c.args.m.now.rows = omega arith in
     inverse_same g.F.Field.element g.F.Field.sum g.F.Field.product g.F.Field.ZERO g.F.Field.ONE g.met.F.Field.laws c.args.m.now.rows (entry g.F.Field.ZERO c.args.m.now) (transposed_entry (entry g.F.Field.ZERO c.loop-p.right)) (entry g.F.Field.ZERO c.in_ok-made.made)
     (entries_at g.F.Field.ZERO c.loop-p.right.cols c.loop-p.right.rows c.args.m.now.rows _ c.in_ok-made.made c.loop-p.invariant.right.cols c.loop-p.invariant.right.rows c.in_ok-made.ensures.entries)
@@ -66,10 +68,10 @@ returns-clause-inverse g c =
     (elements_by_row g.F.Field.element g.F.Field.ZERO c.args.m.now c.rows-size.ensures.matrix.elements)
     (elements_by_row g.F.Field.element g.F.Field.ZERO c.loop-p.work c.loop-p.invariant.work_elements)
     (elements_by_row g.F.Field.element g.F.Field.ZERO c.loop-p.right c.loop-p.invariant.right_elements)
-    (reduced_at g.F.Field.element g.F.Field.sum g.F.Field.product g.F.Field.ZERO g.F.Field.ONE g.met.F.Field.laws c.args.m.now.rows c.loop-p.p c.args.m.now.rows (entry g.F.Field.ZERO c.args.m.now) (entry g.F.Field.ZERO c.loop-p.work) (entry g.F.Field.ZERO c.loop-p.right) all c.loop-p.invariant.reduced))
+    (reduced_at g.F.Field.element g.F.Field.sum g.F.Field.product g.F.Field.ZERO g.F.Field.ONE g.met.F.Field.laws c.args.m.now.rows c.loop-p.p c.args.m.now.rows (entry g.F.Field.ZERO c.args.m.now) (entry g.F.Field.ZERO c.loop-p.work) (entry g.F.Field.ZERO c.loop-p.right) all c.loop-p.invariant.reduced)))
 
 pub returns-clause-regular : goal.returns-clause-regular
 returns-clause-regular g c = λ s. s.apart (not_singular g.F.Field.element g.F.Field.sum g.F.Field.product g.F.Field.ZERO g.F.Field.ONE g.met.F.Field.laws c.args.m.now.rows (entry g.F.Field.ZERO c.args.m.now) (entry g.F.Field.ZERO c.in_ok-made.made)
     (elements_by_row g.F.Field.element g.F.Field.ZERO c.args.m.now c.rows-size.ensures.matrix.elements)
     (elements_by_row g.F.Field.element g.F.Field.ZERO c.in_ok-made.made c.in_ok-made.ensures.elements)
-    (returns-clause-inverse g c) s.row s.elements s.gone s.place s.within)
+    (as_squares g.F.Field.sum g.F.Field.product g.F.Field.ZERO g.F.Field.ONE c.args.m.now c.in_ok-made.made (returns-clause-inverse g c)) s.row s.elements s.gone s.place s.within)
