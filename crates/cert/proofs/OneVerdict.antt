@@ -9,8 +9,8 @@ use Rattle.reception.specs.declared.scope.Identity.{Identity}
 use Rattle.reception.specs.declared.scope.Scope.{Scope}
 use Rattle.reception.specs.Symbols.{Symbol as Received}
 use Rattle.std.specs.Option.{option_or}
-use Rattle.reception.specs.Reception.{Placed, Wrong, Other, is_of_identity, is_carrier, counted, symbols, symbols_in, symbol_of, packet_fault, or_packet, wrong_by, wrong_after, reading_wrong, Suffices}
-use Rattle.reception.specs.Walks.{at_place}
+use Rattle.reception.specs.Reception.{Placed, Wrong, Other, is_of_identity, is_carrier, counted, symbols, symbols_in, symbol_of, packet_fault, wrong_by, wrong_after, reading_wrong, Suffices}
+use Rattle.reception.specs.Walks.{at_place, or_packet}
 use Rattle.reception.proofs.OneAnswer.{which, one_short, same_readings}
 use Rattle.reception.proofs.Stepping.{scope, stays}
 use Rattle.reception.proofs.Within.{no_fault}

@@ -15,8 +15,8 @@ use Rattle.alc.specs.Reading.{Reading}
 use Rattle.reception.specs.declared.scope.Identity.{Identity}
 use Rattle.reception.specs.declared.scope.Scope.{Scope}
 use Rattle.std.specs.Option.{option_or}
-use Rattle.reception.specs.Reception.{ReadAll, Placed, Wrong, Other, is_of_identity, is_carrier, counts, counted_from, counted, carried, symbol_of, symbols_in, symbols, packet_fault, or_packet, look_by, wrong_by, reading_wrong, asked, scope_from, wrong_after, IsClean, Suffices}
-use Rattle.reception.specs.Walks.{at_place}
+use Rattle.reception.specs.Reception.{ReadAll, Placed, Wrong, Other, is_of_identity, is_carrier, counts, counted_from, counted, carried, symbol_of, symbols_in, symbols, packet_fault, look_by, wrong_by, reading_wrong, asked, scope_from, wrong_after, IsClean, Suffices}
+use Rattle.reception.specs.Walks.{at_place, or_packet}
 use Rattle.reception.specs.Answer.{Clash, Object, IsAnswer, clashes, clash, reception_of}
 use Rattle.reception.proofs.Walk.{identity_stays}
 use Rattle.reception.proofs.Stepping.{scope}

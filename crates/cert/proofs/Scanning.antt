@@ -4,10 +4,10 @@ use Rattle.lists.proofs.Lists.{both}
 use Rattle.partition.specs.Fti.{Fti, IsValidFti, block_count, encoding_count}
 use Rattle.partition.proofs.Laws.{counts}
 use Rattle.alc.specs.Packet.{Packet}
-use Rattle.reception.specs.Reception.{in_range, counted, with_fti}
+use Rattle.reception.specs.Reception.{counted, with_fti}
 use Rattle.reception.specs.declared.scope.Identity.{Identity}
 use Rattle.reception.specs.declared.scope.Scope.{Scope}
-use Rattle.reception.specs.Walks.{readings_of}
+use Rattle.reception.specs.Walks.{readings_of, in_range}
 use Rattle.reception.proofs.Stepping.{stays}
 use Rattle.reception.proofs.Walking.{Walked}
 use Rattle.cert.specs.Certificate.{Certificate}

@@ -6,7 +6,7 @@ use Rattle.lists.specs.Below.{below}
 use Rattle.lists.specs.Bytes.{AreBytes}
 use Rattle.gf256.specs.Arithmetic.{point}
 use Rattle.poly.specs.Polynomial.{value}
-use Rattle.partition.specs.Fti.{Fti, IsValidFti, symbol_count, block_count, source_count, source_place}
+use Rattle.partition.specs.Fti.{Fti, IsValidFti, symbol_count, block_count, source_count, source_place, fti_from}
 use Rattle.partition.specs.FtiFault.{fti_fault}
 use Rattle.partition.specs.declared.FtiError.{FtiError}
 use Rattle.reception.specs.declared.scope.Identity.{Identity}
@@ -105,12 +105,8 @@ IsTextOfSome x = (z : Certificate) × IsCertificate z × (x ≡ certificate_text
 
 -- the FTI in ten bytes from a place on
 abbrev pub told_fti : ℕ → List ℕ → Fti
-told_fti from x = record {
-  transfer_length = big_number 6 (drop from x);
-  symbol_length = big_number 2 (drop (from + 6) x);
-  block_length = slice_index x (from + 8);
-  max_symbols = slice_index x (from + 9);
-}
+told_fti from x =
+    fti_from (big_number 6 (drop from x)) (big_number 2 (drop (from + 6) x)) (slice_index x (from + 8)) (slice_index x (from + 9))
 
 abbrev pub size_fault : ℕ → List ℕ → Option FtiError → Option CertFault
 size_fault head x (Some e) = Some (WrongFti e)

@@ -1,7 +1,7 @@
 -- What a check of a session, an object and a certificate answers.
 use Rattle.std.specs.Prelude.{◌≡◌, ◌≢◌, true, false, not, ℕ, ◌<◌, ◌==◌, List, [], ◌∷◌, find, length, slice_index, Option, Some, None, Ok, Err, option_map}
 use Rattle.std.specs.List.{list_any, AllByRecursion}
-use Rattle.partition.specs.Fti.{Fti, source_count, block_count, source_byte}
+use Rattle.partition.specs.Fti.{Fti, source_count, block_count, source_byte, has_symbol}
 use Rattle.alc.specs.Packet.{Packet}
 use Rattle.alc.specs.Reading.{Reading}
 use Rattle.cert.specs.declared.verdict.Verdict.{Verdict}
@@ -12,7 +12,7 @@ use Rattle.reception.specs.declared.scope.Identity.{Identity}
 use Rattle.reception.specs.declared.scope.PlaceFault.TheVariants as fault
 use Rattle.reception.specs.Symbols.{Symbol as Received, arrived_count, IsFirstShort, IsObject}
 use Rattle.cert.specs.Certificate.{Certificate, is_for, certified_byte}
-use Rattle.reception.specs.Reception.{ReadAll, Judge, Wrong, Faulty, Judged, Reception, counted, symbols, reception_with, with_fti, in_range, is_carrier, Suffices}
+use Rattle.reception.specs.Reception.{ReadAll, Judge, Wrong, Faulty, Judged, Reception, counted, symbols, reception_with, with_fti, is_carrier, Suffices}
 use Rattle.lists.specs.Below.{below}
 use Rattle.losses.specs.Losses.{IsBefore}
 
@@ -63,7 +63,7 @@ first_reason who z rs = option_map (λ x. reason_at x.0 x.1) (reception_to who z
 pub record IsCertifiedPacket (z : Certificate) (p : Packet) : Type 0 where
   pub fti : (f : Fti) → p.fti ≡ Some f → f ≡ z.fti
   pub size : length p.bytes ≡ z.fti.symbol_length
-  pub range : in_range p z.fti ≡ true
+  pub range : has_symbol z.fti p.block p.esi ≡ true
   pub symbol : (c : ℕ) → c < z.fti.symbol_length → slice_index p.bytes c ≡ certified_byte z p.block p.esi c
 
 abbrev pub IsCertifiedReading : Certificate → Reading → Type 0

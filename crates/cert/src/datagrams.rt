@@ -1,7 +1,8 @@
 //! What is asked of one datagram, and where its symbol and its place go.
+ghost use Rattle.reception.specs.Walks.{in_range};
 ghost use Rattle.std.specs.Prelude.{◌≡◌, ◌<◌, true, [], length, IfOk, OnOk};
 ghost use Rattle.alc.specs.Views.{packet_of};
-ghost use Rattle.reception.specs.Reception.{Faulty, in_range, symbol_of};
+ghost use Rattle.reception.specs.Reception.{Faulty, symbol_of};
 ghost use Rattle.cert.specs.Verdict.{GivesObject, uncertified, reason_at};
 ghost use Rattle.cert.specs.Scan.{AreGroupsOf, IsPut, with_carrier};
 ghost use Rattle.losses.specs.Groups.{groups_of};

@@ -1,11 +1,12 @@
 //! A check's walk over datagrams, one step each.
+ghost use Rattle.reception.specs.Walks.{in_range};
 ghost use Rattle.std.specs.Prelude.{◌≡◌, ◌<◌, ◌≤◌, ◌++◌, ◌∷◌, ◌^◌, [], true, None, ℕ, List, length, map, IfOk, IfErr, OnOk};
 ghost use Rattle.lists.specs.Below.{below};
 ghost use Rattle.losses.specs.Groups.{groups_of};
 ghost use Rattle.session.specs.Frames.{AreDatagrams};
 ghost use Rattle.alc.specs.Views.{packet_of};
 ghost use Rattle.reception.specs.Symbols.{IsObject};
-ghost use Rattle.reception.specs.Reception.{in_range, symbol_of};
+ghost use Rattle.reception.specs.Reception.{symbol_of};
 ghost use Rattle.cert.specs.Certificate.{IsCertificate, is_for};
 ghost use Rattle.cert.specs.Report.{IsReport};
 ghost use Rattle.cert.specs.Scan.{line_in, with_carrier, AreEnough, AreEnoughCertified, IsShortGroup, IsPut, IsNoReport};

@@ -63,8 +63,7 @@ pub record IsSent (object : List ℕ) (f : Fti) (tsi toi every : ℕ) (x : Item)
 abbrev pub AreSent : List ℕ → Fti → ℕ → ℕ → ℕ → List Item → List (List ℕ) → Type 0
 AreSent object f tsi toi every [] [] = Unit {0}
 AreSent object f tsi toi every (x ∷ xs) (d ∷ ds) = IsSent object f tsi toi every x d × AreSent object f tsi toi every xs ds
-AreSent object f tsi toi every [] (d ∷ ds) = ⊥
-AreSent object f tsi toi every (x ∷ xs) [] = ⊥
+AreSent object f tsi toi every _ _ = ⊥
 
 -- the session of the object in this order
 abbrev pub IsSessionOf : List ℕ → Fti → ℕ → ℕ → ℕ → Order → List (List ℕ) → Type 0

@@ -25,11 +25,11 @@ use Rattle.decoder.specs.Answers.{fault_value}
 use Rattle.decoder.specs.declared.answer.DecodeFault.{DecodeFault}
 use Rattle.decoder.specs.declared.answer.DecodeFault.TheVariants as fault
 use Rattle.std.specs.Option.{option_or}
-use Rattle.reception.specs.Reception.{Wrong, ReadAll, Faulty, Judged, Other, Early, asked, counts, is_of_identity, is_carrier, learned, carried, symbol_of, counted, symbols, in_range, look_by, look as look_of}
+use Rattle.reception.specs.Reception.{Wrong, ReadAll, Faulty, Judged, Other, Early, asked, counts, is_of_identity, is_carrier, learned, carried, symbol_of, counted, symbols, look_by, look as look_of}
 use Rattle.reception.specs.Nothing.{HasNoCarrier}
 use Rattle.reception.proofs.Nothing.{tells_empty}
 use Rattle.reception.specs.Step.{IsLook, looked}
-use Rattle.reception.specs.Walks.{readings_of, Timely}
+use Rattle.reception.specs.Walks.{readings_of, Timely, in_range}
 use Rattle.reception.specs.Within.{IsWithin}
 use Rattle.reception.specs.Answer.{Answer, AnswerTo, Clash, Clashes, Empty, Fault, NotCode, IsAnswer, clash, clashes, reception_of}
 use Rattle.reception.specs.declared.scope.PlaceFault.TheVariants as place_fault

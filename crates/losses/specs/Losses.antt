@@ -57,10 +57,9 @@ pub record IsBurst {X : Type 0} (blocks : Blocks X) (xs : List X) (m : ℕ) : Ty
 
 -- one list stands before another in a dictionary
 abbrev pub IsBefore : List ℕ → List ℕ → Type 0
-IsBefore [] [] = ⊥
 IsBefore [] (y ∷ ys) = Unit {0}
-IsBefore (x ∷ xs) [] = ⊥
 IsBefore (x ∷ xs) (y ∷ ys) = (x < y) ⊎ ((x ≡ y) × IsBefore xs ys)
+IsBefore _ _ = ⊥
 
 -- the ESIs of block b that a loss takes away wholly, rising
 abbrev pub taken_wholly : {X : Type 0} → Blocks X → List X → (ℕ → Bool) → ℕ → List ℕ

@@ -11,9 +11,9 @@ use Rattle.reception.specs.declared.scope.PlaceFault.{PlaceFault}
 use Rattle.reception.specs.declared.scope.Look.{Look}
 use Rattle.reception.specs.declared.scope.Look.TheVariants as look_at
 use Rattle.std.specs.Option.{option_or}
-use Rattle.reception.specs.Reception.{Seen, Other, InRange, counts, is_of_identity, carried, learned, look, look_by, or_packet, packet_fault}
+use Rattle.reception.specs.Reception.{Seen, Other, InRange, counts, is_of_identity, carried, learned, look, look_by, packet_fault}
 use Rattle.reception.specs.Step.{IsLook, looked}
-use Rattle.reception.specs.Walks.{MayPass}
+use Rattle.reception.specs.Walks.{MayPass, or_packet}
 use Rattle.reception.proofs.Walking.{is_packet, is_early}
 use Rattle.reception.proofs.Within.{IsFaultless, faultless}
 

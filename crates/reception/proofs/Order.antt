@@ -8,8 +8,8 @@ use Rattle.alc.specs.Packet.{Packet}
 use Rattle.reception.specs.declared.scope.Scope.{Scope}
 use Rattle.reception.specs.declared.scope.PlaceFault.TheVariants.{NoPacket, OtherFti, SymbolLength, Range}
 use Rattle.reception.specs.Symbols.{Symbol}
-use Rattle.reception.specs.Reception.{Judge, Wrong, Faulty, Judged, Other, is_of_identity, has_other_fti, in_range, symbol_of, or_packet, look_by, wrong_by, reading_wrong}
-use Rattle.reception.specs.Walks.{judged}
+use Rattle.reception.specs.Reception.{Judge, Wrong, Faulty, Judged, Other, is_of_identity, has_other_fti, symbol_of, look_by, wrong_by, reading_wrong}
+use Rattle.reception.specs.Walks.{judged, in_range, or_packet}
 use Rattle.reception.specs.Order.{IsInRange, CarriesOther, WrongHolds, rank, IsFirstHere, TellsInOrder}
 use Rattle.reception.proofs.Within.{not_other, none_other}
 

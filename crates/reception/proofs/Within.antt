@@ -14,8 +14,8 @@ use Rattle.reception.specs.declared.scope.PlaceFault.TheVariants.{OtherFti, Symb
 use Rattle.reception.specs.Symbols.{Symbol}
 use Rattle.reception.specs.Within.{IsWithin}
 use Rattle.std.specs.Option.{option_or}
-use Rattle.reception.specs.Reception.{Judge, Wrong, Placed, Other, counts, counted, scope_from, symbols_in, symbols, same_fti, has_other_fti, in_range, packet_fault, or_packet, wrong_by, reading_wrong, wrong_after, IsClean, reception_with}
-use Rattle.reception.specs.Walks.{at_place}
+use Rattle.reception.specs.Reception.{Judge, Wrong, Placed, Other, counts, counted, scope_from, symbols_in, symbols, same_fti, has_other_fti, packet_fault, wrong_by, reading_wrong, wrong_after, IsClean, reception_with}
+use Rattle.reception.specs.Walks.{at_place, in_range, or_packet}
 use Rattle.reception.proofs.Walk.{each_counts, identity_stays}
 use Rattle.reception.proofs.Stepping.{scope}
 

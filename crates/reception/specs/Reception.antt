@@ -1,7 +1,7 @@
 -- What a list of datagrams says to one who asks for an identity's packets: which of them count, whose FTI holds, which
 -- symbols came, and what is wrong at a place. A check and a decoder see lists of datagrams through this file.
-use Rattle.std.specs.Prelude.{◌≡◌, ℕ, ◌+◌, Bool, true, ◌&&◌, ◌==◌, not, false, cond, if◌then◌else◌, List, [], ◌∷◌, ◌++◌, length, is_some, Option, Some, None, Result, Ok, Err, option_map}
-use Rattle.std.specs.Option.{option_or}
+use Rattle.std.specs.Prelude.{◌≡◌, ℕ, ◌+◌, Bool, true, ◌&&◌, ◌==◌, not, false, cond, if◌then◌else◌, List, [], ◌∷◌, ◌++◌, length, is_some, Option, Some, None, Result, Ok, Err, option_map, flat_map, fold}
+use Rattle.std.specs.Option.{option_or, option_map_or}
 use Rattle.partition.specs.Fti.{Fti, has_symbol}
 use Rattle.alc.specs.Packet.{Packet}
 use Rattle.alc.specs.Reading.{Reading, Reads}
@@ -15,8 +15,7 @@ use Rattle.reception.specs.Symbols.{Symbol, AllFull}
 abbrev pub ReadAll : List (List ℕ) → List Reading → Type 0
 ReadAll [] [] = Unit {0}
 ReadAll (d ∷ ds) (r ∷ rs) = Reads d r × ReadAll ds rs
-ReadAll [] (r ∷ rs) = ⊥
-ReadAll (d ∷ ds) [] = ⊥
+ReadAll _ _ = ⊥
 
 -- ---- which readings count
 
@@ -63,8 +62,7 @@ learned known r = record { identity = known.identity; fti = option_or known.fti 
 
 -- what holds: the FTI that is known before, else the first carrier's, wherever it stands
 abbrev pub scope_from : Scope → List Placed → Scope
-scope_from known [] = known
-scope_from known (x ∷ xs) = scope_from (learned known x.reading) xs
+scope_from known xs = fold (λ scope x. learned scope x.reading) known xs
 
 -- this identity's packets are asked for, and nothing is known before
 abbrev pub asked : Identity → Scope
@@ -85,8 +83,7 @@ symbols_in (Err r) = []
 
 -- the symbols that came, in their order
 abbrev pub symbols : List Placed → List Symbol
-symbols [] = []
-symbols (x ∷ xs) = symbols_in x.reading ++ symbols xs
+symbols xs = flat_map (λ x. symbols_in x.reading) xs
 
 -- what a decoder needs of the symbols
 abbrev pub Suffices : Identity → Fti → List Reading → Type 0
@@ -103,16 +100,12 @@ abbrev pub has_other_fti : Fti → Option Fti → Bool
 has_other_fti f None = false
 has_other_fti f (Some g) = not (same_fti g f)
 
--- the FTI has the packet's block and symbol
-abbrev pub in_range : Packet → Fti → Bool
-in_range p f = has_symbol f p.block p.esi
-
 -- the first fault of a packet before its symbol is looked at
 abbrev pub packet_fault : Fti → Packet → Option PlaceFault
 packet_fault f p =
     if has_other_fti f p.fti then Some OtherFti
     else if not (length p.bytes == f.symbol_length) then Some SymbolLength
-    else if not (in_range p f) then Some Range
+    else if not (has_symbol f p.block p.esi) then Some Range
     else None
 
 -- what a reading without a fault is: a packet of another identity; one of the identity where no FTI is known, of which
@@ -122,12 +115,8 @@ pub data Seen : Type 0 where
   Early : Seen
   InRange : Packet → Seen
 
-abbrev pub or_packet : Packet → Option PlaceFault → Result Seen PlaceFault
-or_packet p (Some e) = Err e
-or_packet p None = Ok (InRange p)
-
 abbrev pub look_by : Option Fti → Packet → Result Seen PlaceFault
-look_by (Some f) p = or_packet p (packet_fault f p)
+look_by (Some f) p = option_map_or Err (packet_fault f p) (Ok (InRange p))
 look_by None p = Ok Early
 
 -- what is asked of a reading before its symbol: its first fault, else what it is
@@ -167,11 +156,8 @@ wrong_after judge scope earlier (x ∷ xs) =
     option_or (option_map (λ r. (x.place, r)) (reading_wrong judge scope earlier x.reading))
     (wrong_after judge scope (earlier ++ symbols_in x.reading) xs)
 
--- the least place at which something is wrong, and there the first
-abbrev pub first_wrong : {R : Type 0} → Judge R → Scope → List Placed → Found R
-first_wrong judge scope xs = wrong_after judge scope [] xs
-
--- All that is said above of a list: the first that is wrong, the scope that holds, and the symbols.
+-- All that is said above of a list: the least place at which something is wrong, and there the first; the scope that holds;
+-- and the symbols.
 pub record Reception (R : Type 0) : Type 0 where
   pub wrong : Found R
   pub scope : Scope
@@ -180,7 +166,7 @@ pub record Reception (R : Type 0) : Type 0 where
 -- the walk knows from its start what holds in the end: a fault at a place may be of the FTI of a carrier behind it
 abbrev pub reception_with : {R : Type 0} → Judge R → Scope → List Reading → Reception R
 reception_with judge known rs = let xs = counted known.identity rs in record {
-  wrong = first_wrong judge (scope_from known xs) xs;
+  wrong = wrong_after judge (scope_from known xs) [] xs;
   scope = scope_from known xs;
   symbols = symbols xs;
 }

@@ -1,16 +1,17 @@
 -- A walk over datagrams, step by step.
-use Rattle.std.specs.Prelude.{◌≡◌, ℕ, List, [], ◌++◌, Option, Some, None, Result, Ok, if◌then◌else◌, option_map}
-use Rattle.std.specs.Option.{option_or}
-use Rattle.partition.specs.Fti.{Fti}
+use Rattle.std.specs.Prelude.{◌≡◌, ℕ, List, [], ◌++◌, Option, Some, None, Result, Ok, if◌then◌else◌, option_map, Err, Bool}
+use Rattle.std.specs.Option.{option_or, option_map_or}
+use Rattle.partition.specs.Fti.{Fti, has_symbol}
 use Rattle.alc.specs.Reading.{Reading, Reads}
 use Rattle.reception.specs.Symbols.{Symbol}
 use Rattle.reception.specs.declared.scope.Scope.{Scope}
 use Rattle.reception.specs.declared.scope.PlaceFault.{PlaceFault}
 use Rattle.reception.specs.declared.scope.Identity.{Identity}
-use Rattle.reception.specs.Reception.{Judge, Wrong, Judged, Found, Reception, Seen, Early, asked, counts, counted, learned, reading_wrong, scope_from, symbols_in}
+use Rattle.reception.specs.Reception.{Judge, Wrong, Judged, Found, Reception, Seen, Early, asked, counts, counted, learned, reading_wrong, scope_from, symbols_in, InRange, Placed, wrong_after}
 use Rattle.reception.specs.Readings.{readings_of}
 use Rattle.reception.specs.Step.{after}
 pub use Rattle.reception.specs.Readings.{readings_of}
+use Rattle.alc.specs.Packet.{Packet}
 
 -- the scope of a list of datagrams, computed
 abbrev pub scope_in : Identity → List (List ℕ) → Scope
@@ -48,3 +49,14 @@ pub record IsHeard (datagram : List ℕ) (old new : Scope) : Type 0 where
   pub reading : Reading
   pub reads : Reads datagram reading
   pub scope : new ≡ after old reading
+
+-- the FTI has the packet's block and symbol
+abbrev pub in_range : Packet → Fti → Bool
+in_range p f = has_symbol f p.block p.esi
+
+abbrev pub or_packet : Packet → Option PlaceFault → Result Seen PlaceFault
+or_packet p o = option_map_or Err o (Ok (InRange p))
+
+-- the least place at which something is wrong, and there the first
+abbrev pub first_wrong : {R : Type 0} → Judge R → Scope → List Placed → Found R
+first_wrong judge scope xs = wrong_after judge scope [] xs
