@@ -27,8 +27,7 @@ use Rattle.cert.specs.declared.verdict.Reason.TheVariants.{OtherCertificate, Obj
 use Rattle.cert.specs.declared.walk.NoReport.{NoReport}
 use Rattle.cert.specs.declared.walk.NoReport.TheVariants.{Reason as ByReason, NoMemory}
 use Rattle.cert.specs.Verdict.{first_reason, IsAgainst}
-use Rattle.cert.specs.Report.{block_lines}
-use Rattle.cert.specs.Scan.{members_at, members_of, AreGroupsOf, IsPut, IsNoReport, different_in, line_in, AreEnough, IsFirstShortGroup, IsShortGroup}
+use Rattle.cert.specs.Scan.{members_at, members_of, AreGroupsOf, IsPut, IsNoReport, different_in, line_in, AreEnough, IsFirstShortGroup, IsShortGroup, block_lines}
 
 -- ---- one symbol more
 

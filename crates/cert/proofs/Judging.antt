@@ -13,8 +13,8 @@ use Rattle.reception.specs.declared.scope.Scope.{Scope}
 use Rattle.reception.specs.declared.scope.PlaceFault.{PlaceFault}
 use Rattle.reception.specs.declared.scope.PlaceFault.TheVariants as fault
 use Rattle.reception.specs.Symbols.{Symbol as Received, IsObject}
-use Rattle.reception.specs.Reception.{ReadAll, Placed, Wrong, Faulty, Judged, Found, Other, counts, counted, symbols, symbol_of, symbols_in, packet_fault, wrong_by, reading_wrong, wrong_after}
-use Rattle.reception.specs.Walks.{readings_of, judged, at_place, or_packet}
+use Rattle.reception.specs.Reception.{ReadAll, Placed, Wrong, Faulty, Judged, Other, counts, counted, symbols, symbol_of, symbols_in, packet_fault, wrong_by, reading_wrong, wrong_after}
+use Rattle.reception.specs.Walks.{readings_of, judged, at_place, or_packet, Found}
 use Rattle.reception.proofs.Walk.{each_counts}
 use Rattle.reception.proofs.Stepping.{scope, stays}
 use Rattle.reception.proofs.Within.{faultless, none_wrong, neither, nowhere}

@@ -21,11 +21,12 @@ use Rattle.reception.specs.Walks.{readings_of}
 use Rattle.cert.specs.declared.verdict.Verdict.TheVariants.{No}
 use Rattle.cert.specs.declared.verdict.Reason.TheVariants.{Thin}
 use Rattle.cert.specs.Verdict.{GivesObject, reception_to, first_reason, VerdictOn}
-use Rattle.cert.specs.Twins.{different_esis, esi_in, esis_of, IsTwin, IsShortIn, IsTwinOfSession}
+use Rattle.cert.specs.Twins.{different_esis, esis_of, IsTwin, IsShortIn, IsTwinOfSession}
 use Rattle.cert.proofs.Judging.{read_all, are_certified, nothing_found}
 use Rattle.reception.proofs.OneAnswer.{same_readings}
 use Rattle.cert.proofs.Promise.{fits_sound}
 use Rattle.cert.proofs.Undecided.{held_self}
+use Rattle.cert.specs.TwinBytes.{esi_in}
 
 -- the ESIs of a block that came are those among its ESIs
 pub among_held : (b j : ℕ) (arrivals : List Symbol) → is_among (esis_of b arrivals) j ≡ has_arrived arrivals b j

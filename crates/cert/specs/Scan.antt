@@ -1,11 +1,11 @@
 -- What a scan over the datagrams finds.
-use Rattle.std.specs.Prelude.{◌≡◌, ◌≢◌, ℕ, ◌<◌, ◌≤◌, ◌==◌, cond, List, [], ◌∷◌, ◌++◌, length, true, Option, Some, None}
+use Rattle.std.specs.Prelude.{◌≡◌, ◌≢◌, ℕ, ◌<◌, ◌≤◌, ◌==◌, cond, List, [], ◌∷◌, ◌++◌, length, true, Option, Some, None, map}
 use Rattle.std.specs.List.{list_any}
 use Rattle.losses.specs.declared.groups.Member.{Member}
 use Rattle.losses.specs.Groups.{Group, group_at, different}
 use Rattle.partition.specs.Fti.{Fti, block_count, source_count}
 use Rattle.reception.specs.declared.scope.Identity.{Identity}
-use Rattle.reception.specs.Symbols.{Symbol}
+use Rattle.reception.specs.Symbols.{Symbol, arrived_count}
 use Rattle.reception.specs.Reception.{Placed, symbols_in, is_carrier, Suffices}
 use Rattle.reception.specs.Walks.{readings_of}
 use Rattle.cert.specs.declared.walk.NoReport.{NoReport}
@@ -13,6 +13,7 @@ use Rattle.cert.specs.declared.walk.NoReport.TheVariants.{Reason as ByReason, No
 use Rattle.cert.specs.declared.verdict.Reason.TheVariants.{Thin}
 use Rattle.cert.specs.Certificate.{Certificate}
 use Rattle.cert.specs.Verdict.{IsAgainst, AreCertified}
+use Rattle.lists.specs.Below.{below}
 
 -- the symbols of block b among these, which stand at place i
 abbrev pub members_at : ℕ → ℕ → List Symbol → List Member
@@ -77,3 +78,7 @@ pub record AreEnoughCertified (who : Identity) (datagrams : List (List ℕ)) (z 
   pub all : AreCertified who (readings_of datagrams) z
   pub full : Suffices who z.fti (readings_of datagrams)
   pub carrier : list_any (is_carrier who) (readings_of datagrams) ≡ true
+
+-- for each block below n its source symbols, and how many different ESIs of it came
+abbrev pub block_lines : Fti → List Symbol → ℕ → List (ℕ × ℕ)
+block_lines f arrivals n = map (λ b. (source_count f b, arrived_count arrivals b)) (below n)

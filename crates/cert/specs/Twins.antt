@@ -37,12 +37,9 @@ pub record IsTwin (f : Fti) (b : ℕ) (arrived_esis object other : List ℕ) : T
 abbrev pub IsShortIn : Identity → List (List ℕ) → List ℕ → Certificate → ℕ → Type 0
 IsShortIn who datagrams object z b = (have : ℕ) × (need : ℕ) × IsVerdict who datagrams object z (No (Thin b have need))
 
-abbrev pub esi_in : ℕ → Symbol → List ℕ
-esi_in b s = if s.block == b then s.esi ∷ [] else []
-
 -- the ESIs of this block that came, repeats and all
 abbrev pub esis_of : ℕ → List Symbol → List ℕ
-esis_of b arrivals = flat_map (esi_in b) arrivals
+esis_of b arrivals = flat_map (λ s. if s.block == b then s.esi ∷ [] else []) arrivals
 
 -- the other object is a twin made for the ESIs of this block that came, and agrees with all of the identity's symbols that
 -- came, as the object does

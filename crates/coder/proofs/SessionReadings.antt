@@ -32,7 +32,7 @@ use Rattle.cert.proofs.Named.{named_granted}
 use Rattle.partition.specs.declared.order.Order.{Order}
 use Rattle.partition.specs.declared.order.Order.TheVariants.{Blocks, Rounds}
 use Rattle.coder.specs.Sending.{pairs_of_block, pair_with, pairs_of_round, pairs, Item, items_from, items, is_carrier_at, fti_at, AreSent, IsSessionOf}
-use Rattle.coder.specs.Certified.{Certifies, CertifiesSent, identity_of}
+use Rattle.coder.specs.Certified.{Certifies, CertifiesSent}
 use Rattle.coder.proofs.Sent.{map_next, map_later, flat_next, flat_later, with_pair}
 
 -- ---- which encoding symbols a session has
@@ -263,8 +263,11 @@ module _ (z : Certificate) (good : IsCertificate z) (object : List ℕ) (gives :
 
 -- a certificate without a name whose polynomials give the object is one of every session that is sent of it, and so is its
 -- form with a name
+abbrev identity : ℕ → ℕ → Identity
+identity tsi toi = record { tsi = tsi; toi = toi }
+
 pub certifies_sent : (z : Certificate) (object : List ℕ) → IsCertificate z → z.name ≡ None → IsObject z.fti object → GivesObject object z → CertifiesSent object z
 certifies_sent z object good none form gives = λ t u every order ds lt lu some sent.
-    let own : is_for (identity_of t u) z.name ≡ true = ap (is_for (identity_of t u)) none in
+    let own : is_for (identity t u) z.name ≡ true = ap (is_for (identity t u)) none in
     let plain = certifies z good object gives t u every lt lu own form some order ds sent in
-    (plain, record { readings = plain.readings; read = plain.read; granted = named_granted (identity_of t u) plain.readings object z plain.granted })
+    (plain, record { readings = plain.readings; read = plain.read; granted = named_granted (identity t u) plain.readings object z plain.granted })

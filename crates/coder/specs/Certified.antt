@@ -21,24 +21,21 @@ pub record Certifies (who : Identity) (z : Certificate) (object : List ℕ) (ses
   pub read : ReadAll session readings
   pub granted : IsCertificateOf who readings object z
 
--- the identity of these numbers
-abbrev pub identity_of : ℕ → ℕ → Identity
-identity_of tsi toi = record { tsi = tsi; toi = toi }
+-- this holds of every session that is sent of the object, and of its identity
+abbrev pub OfEachSent : List ℕ → Fti → (Identity → List (List ℕ) → Type 0) → Type 0
+OfEachSent object f Holds =
+    (tsi toi every : ℕ) (order : Order) (session : List (List ℕ)) → tsi < 2 ^ 32 → toi < 2 ^ 32 → 1 ≤ every
+    → IsSessionOf object f tsi toi every order session → Holds (record { tsi = tsi; toi = toi }) session
 
--- it is one of every session that is sent of the object, and so is its form with the name of the session's identity
+-- the certificate is one of every such session, and so is its form with the name of the session's identity
 abbrev pub CertifiesSent : List ℕ → Certificate → Type 0
 CertifiesSent object z =
-    (tsi toi every : ℕ) (order : Order) (session : List (List ℕ)) → tsi < 2 ^ 32 → toi < 2 ^ 32 → 1 ≤ every
-    → IsSessionOf object z.fti tsi toi every order session
-    → Certifies (identity_of tsi toi) z object session × Certifies (identity_of tsi toi) (named_as (identity_of tsi toi) z) object session
+    OfEachSent object z.fti (λ who session. Certifies who z object session × Certifies who (named_as who z) object session)
 
 -- a check of any such session, of its identity, says yes, with the one and with the other
 abbrev pub ChecksYes : List ℕ → Certificate → Type 0
-ChecksYes object z =
-    (tsi toi every : ℕ) (order : Order) (session : List (List ℕ)) (verdict : Verdict)
-    → tsi < 2 ^ 32 → toi < 2 ^ 32 → 1 ≤ every → IsSessionOf object z.fti tsi toi every order session
-    → IsVerdict (identity_of tsi toi) session object z verdict ⊎ IsVerdict (identity_of tsi toi) session object (named_as (identity_of tsi toi) z) verdict
-    → IsYes verdict
+ChecksYes object z = OfEachSent object z.fti (λ who session. (verdict : Verdict)
+    → IsVerdict who session object z verdict ⊎ IsVerdict who session object (named_as who z) verdict → IsYes verdict)
 
 -- why an object wasn't certified
 abbrev pub IsCertifyFault : CertifyFault → List ℕ → Fti → Type 0

@@ -5,8 +5,8 @@ use Rattle.std.proofs.lemmas.List.{append_assoc, append-nil}
 use Rattle.reception.specs.declared.scope.Scope.{Scope}
 use Rattle.reception.specs.Symbols.{Symbol}
 use Rattle.std.specs.Option.{option_or}
-use Rattle.reception.specs.Reception.{Judge, Wrong, Found, Placed, counted, symbols, symbols_in, reading_wrong, wrong_after, reception_with}
-use Rattle.reception.specs.Walks.{at_place, first_wrong}
+use Rattle.reception.specs.Reception.{Judge, Wrong, Placed, counted, symbols, symbols_in, reading_wrong, wrong_after, reception_with}
+use Rattle.reception.specs.Walks.{at_place, first_wrong, Found}
 use Rattle.reception.specs.First.{IsFirstAt, TellsTheFirst}
 use Rattle.reception.proofs.Walk.{symbols_more, wrong_more}
 use Rattle.reception.proofs.Within.{neither, nowhere}

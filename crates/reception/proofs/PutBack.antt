@@ -12,8 +12,8 @@ use Rattle.reception.specs.declared.scope.Identity.{Identity}
 use Rattle.reception.specs.declared.scope.Scope.{Scope}
 use Rattle.reception.specs.Symbols.{Symbol}
 use Rattle.std.specs.Option.{option_or}
-use Rattle.reception.specs.Reception.{ReadAll, Placed, counts, counted_from, counted, symbols, symbols_in, learned, scope_from, asked, Judge, Wrong, Found, Reception, reading_wrong, wrong_after, reception_with}
-use Rattle.reception.specs.Walks.{at_place, first_wrong}
+use Rattle.reception.specs.Reception.{ReadAll, Placed, counts, counted_from, counted, symbols, symbols_in, learned, scope_from, asked, Judge, Wrong, Reception, reading_wrong, wrong_after, reception_with}
+use Rattle.reception.specs.Walks.{at_place, first_wrong, Found}
 use Rattle.reception.specs.Readings.{readings_of}
 use Rattle.reception.specs.Answer.{Clash, Answer, Empty, Fault, NotCode, Missing, Object, AnswerTo, IsAnswer, clash, reception_of}
 use Rattle.reception.specs.Isolation.{places_of, put_back, IsIsolated}

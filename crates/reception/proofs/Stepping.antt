@@ -8,8 +8,8 @@ use Rattle.reception.specs.declared.scope.Identity.{Identity}
 use Rattle.reception.specs.declared.scope.Scope.{Scope}
 use Rattle.reception.specs.Symbols.{Symbol}
 use Rattle.std.specs.Option.{option_or}
-use Rattle.reception.specs.Reception.{Judge, Found, Placed, Reception, counts, counted_from, counted, symbols, symbols_in, learned, scope_from, reading_wrong, wrong_after, reception_with}
-use Rattle.reception.specs.Walks.{step, Timely, at_place, told, first_wrong}
+use Rattle.reception.specs.Reception.{Judge, Placed, Reception, counts, counted_from, counted, symbols, symbols_in, learned, scope_from, reading_wrong, wrong_after, reception_with}
+use Rattle.reception.specs.Walks.{step, Timely, at_place, told, first_wrong, Found}
 use Rattle.reception.proofs.Walk.{counted_more, counted_one_more, symbols_more, scope_more, identity_stays, or_else_none, wrong_more}
 
 came_is : {R : Type 0} (a b : Found R) (f g : Scope) (s t : List Symbol) → a ≡ b → f ≡ g → s ≡ t

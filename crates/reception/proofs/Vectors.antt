@@ -5,8 +5,9 @@ use Rattle.alc.specs.Reading.{Reading}
 use Rattle.alc.specs.declared.fault.PacketFault.TheVariants.{TooShort}
 use Rattle.reception.specs.declared.scope.Identity.{Identity}
 use Rattle.reception.specs.declared.scope.PlaceFault.TheVariants.{NoPacket, OtherFti, SymbolLength, Range}
-use Rattle.reception.specs.Reception.{Found, Faulty, Judged}
+use Rattle.reception.specs.Reception.{Faulty, Judged}
 use Rattle.reception.specs.Answer.{Clash, Clashes, reception_of}
+use Rattle.reception.specs.Walks.{Found}
 
 abbrev who : Identity
 who = record { tsi = 1; toi = 1 }

@@ -8,8 +8,8 @@ use Rattle.reception.specs.declared.scope.Scope.{Scope}
 use Rattle.reception.specs.declared.scope.Identity.{Identity}
 use Rattle.reception.specs.Symbols.{Symbol}
 use Rattle.std.specs.Option.{option_or}
-use Rattle.reception.specs.Reception.{Judge, Found, Placed, counts, placed_at, counted_from, counted, symbols, symbols_in, learned, scope_from, reading_wrong, wrong_after}
-use Rattle.reception.specs.Walks.{at_place}
+use Rattle.reception.specs.Reception.{Judge, Placed, counts, placed_at, counted_from, counted, symbols, symbols_in, learned, scope_from, reading_wrong, wrong_after}
+use Rattle.reception.specs.Walks.{at_place, Found}
 
 pub counted_more : (who : Identity) (i : ℕ) (rs ss : List Reading) → counted_from who i (rs ++ ss) ≡ counted_from who i rs ++ counted_from who (i + length rs) ss
 counted_more who i [] ss = let e : i + 0 ≡ i = omega arith in ap (λ (n : ℕ). counted_from who n ss) (sym e)

@@ -16,9 +16,9 @@ use Rattle.reception.specs.declared.scope.Look.{Look}
 use Rattle.reception.specs.declared.scope.Look.TheVariants as look_at
 use Rattle.reception.specs.Symbols.{Symbol}
 use Rattle.std.specs.Option.{option_or}
-use Rattle.reception.specs.Reception.{Judge, Wrong, Found, Placed, Seen, Other, Early, InRange, is_of_identity, counts, placed_at, counted_from, counted, symbols, symbols_in, learned, carried, scope_from, look, look_by, packet_fault, wrong_by, reading_wrong, wrong_after, reception_with}
+use Rattle.reception.specs.Reception.{Judge, Wrong, Placed, Seen, Other, Early, InRange, is_of_identity, counts, placed_at, counted_from, counted, symbols, symbols_in, learned, carried, scope_from, look, look_by, packet_fault, wrong_by, reading_wrong, wrong_after, reception_with}
 use Rattle.reception.specs.Step.{after, looked, IsLook}
-use Rattle.reception.specs.Walks.{readings_of, Timely, MayPass, at_place, or_packet, first_wrong}
+use Rattle.reception.specs.Walks.{readings_of, Timely, MayPass, at_place, or_packet, first_wrong, Found}
 use Rattle.reception.proofs.Walk.{counted_more, counted_one_more, symbols_more, scope_more, identity_stays, or_else_none, wrong_more}
 use Rattle.reception.proofs.Stepping.{scope, known_stays, no_symbols}
 

@@ -145,12 +145,8 @@ wrong_by judge earlier (Ok (InRange p)) = option_map Judged (judge earlier (symb
 abbrev pub reading_wrong : {R : Type 0} → Judge R → Scope → List Symbol → Reading → Option (Wrong R)
 reading_wrong judge scope earlier r = wrong_by judge earlier (look scope r)
 
--- a place and what is wrong there
-abbrev pub Found : Type 0 → Type 0
-Found R = Option (ℕ × Wrong R)
-
--- the first that is wrong after these symbols, where this scope holds
-abbrev pub wrong_after : {R : Type 0} → Judge R → Scope → List Symbol → List Placed → Found R
+-- the first place at which something is wrong after these symbols, where this scope holds, and what
+abbrev pub wrong_after : {R : Type 0} → Judge R → Scope → List Symbol → List Placed → Option (ℕ × Wrong R)
 wrong_after judge scope earlier [] = None
 wrong_after judge scope earlier (x ∷ xs) =
     option_or (option_map (λ r. (x.place, r)) (reading_wrong judge scope earlier x.reading))
@@ -159,7 +155,7 @@ wrong_after judge scope earlier (x ∷ xs) =
 -- All that is said above of a list: the least place at which something is wrong, and there the first; the scope that holds;
 -- and the symbols.
 pub record Reception (R : Type 0) : Type 0 where
-  pub wrong : Found R
+  pub wrong : Option (ℕ × Wrong R)
   pub scope : Scope
   pub symbols : List Symbol
 

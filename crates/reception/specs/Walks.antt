@@ -7,7 +7,7 @@ use Rattle.reception.specs.Symbols.{Symbol}
 use Rattle.reception.specs.declared.scope.Scope.{Scope}
 use Rattle.reception.specs.declared.scope.PlaceFault.{PlaceFault}
 use Rattle.reception.specs.declared.scope.Identity.{Identity}
-use Rattle.reception.specs.Reception.{Judge, Wrong, Judged, Found, Reception, Seen, Early, asked, counts, counted, learned, reading_wrong, scope_from, symbols_in, InRange, Placed, wrong_after}
+use Rattle.reception.specs.Reception.{Judge, Wrong, Judged, Reception, Seen, Early, asked, counts, counted, learned, reading_wrong, scope_from, symbols_in, InRange, Placed, wrong_after}
 use Rattle.reception.specs.Readings.{readings_of}
 use Rattle.reception.specs.Step.{after}
 pub use Rattle.reception.specs.Readings.{readings_of}
@@ -16,6 +16,10 @@ use Rattle.alc.specs.Packet.{Packet}
 -- the scope of a list of datagrams, computed
 abbrev pub scope_in : Identity → List (List ℕ) → Scope
 scope_in who datagrams = scope_from (asked who) (counted who (readings_of datagrams))
+
+-- a place and what is wrong there
+abbrev pub Found : Type 0 → Type 0
+Found R = Option (ℕ × Wrong R)
 
 abbrev pub judged : {R : Type 0} → Option R → Option (Wrong R)
 judged o = option_map Judged o

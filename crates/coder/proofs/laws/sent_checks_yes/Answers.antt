@@ -7,8 +7,11 @@ use Rattle.cert.specs.declared.verdict.Verdict.TheVariants.{Yes, No}
 use Rattle.cert.specs.Certificate.{Certificate, named_as}
 use Rattle.cert.specs.Verdict.{VerdictOn, IsVerdict, IsYes}
 use Rattle.cert.proofs.OneVerdict.{never_no}
-use Rattle.coder.specs.Certified.{Certifies, identity_of}
+use Rattle.coder.specs.Certified.{Certifies}
 use Rattle.coder.proofs.laws.sent_checks_yes.Goals as goal
+
+abbrev identity : ℕ → ℕ → Identity
+identity tsi toi = record { tsi = tsi; toi = toi }
 
 yes : (who : Identity) (object : List ℕ) (z : Certificate) (session : List (List ℕ)) (v : Verdict) → Certifies who z object session → IsVerdict who session object z v → IsYes v
 yes who object z session (Yes report) g h = tt
@@ -17,9 +20,9 @@ yes who object z session (No reason) g h =
     absurd (never_no who g.readings object z g.granted reason (subst (λ (rs : List Reading). VerdictOn who rs object z (No reason)) e h.judged))
 
 pub returns : goal.returns
-returns c = λ object z all tsi toi every order session verdict lt lu some sent is.
+returns c = λ object z all tsi toi every order session lt lu some sent verdict is.
     let both = all tsi toi every order session lt lu some sent in
     elim is [
-      | inl plain ↦ yes (identity_of tsi toi) object z session verdict both.0 plain
-      | inr named ↦ yes (identity_of tsi toi) object (named_as (identity_of tsi toi) z) session verdict both.1 named
+      | inl plain ↦ yes (identity tsi toi) object z session verdict both.0 plain
+      | inr named ↦ yes (identity tsi toi) object (named_as (identity tsi toi) z) session verdict both.1 named
     ]
