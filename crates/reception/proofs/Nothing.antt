@@ -1,5 +1,5 @@
 -- Without a carrier nothing is wrong but that a datagram is no packet.
-use Rattle.std.specs.Prelude.{◌≡◌, ℕ, ◌+◌, Bool, true, false, cond, if◌then◌else◌, List, [], ◌∷◌, ◌++◌, is_some, Option, None, Ok, Err, refl}
+use Rattle.std.specs.Prelude.{◌≡◌, ℕ, ◌+◌, Bool, true, false, cond, if◌then◌else◌, List, [], ◌∷◌, ◌++◌, is_some, Option, None, Ok, Err, IsOk, refl}
 use Rattle.std.specs.List.{AllByRecursion}
 use Rattle.std.proofs.Common.{◌∙◌, sym, ap}
 use Rattle.partition.specs.Fti.{Fti}
@@ -11,7 +11,7 @@ use Rattle.std.specs.Option.{option_or}
 use Rattle.reception.specs.Reception.{Judge, Other, is_of_identity, counted_from, counted, symbol_of, asked, scope_from, wrong_by, look_by, wrong_after}
 use Rattle.reception.specs.Walks.{at_place}
 use Rattle.reception.specs.Answer.{clash}
-use Rattle.reception.specs.Nothing.{IsPacketReading, TellsEmpty}
+use Rattle.reception.specs.Nothing.{TellsEmpty}
 use Rattle.reception.proofs.Walk.{identity_stays}
 use Rattle.reception.proofs.Stepping.{scope}
 use Rattle.reception.proofs.Carriers.{known_is, no_carrier}
@@ -20,20 +20,20 @@ module _ {R : Type 0} (judge : Judge R) (who : Identity) where
   early : (i : ℕ) (earlier : List Symbol) (p : _) → is_of_identity who p ≡ true → at_place i (wrong_by judge earlier (if is_of_identity who p then look_by None p else Ok Other)) ≡ None
   early i earlier p mine = ap (λ (v : Bool). at_place i (wrong_by judge earlier (if v then look_by None p else Ok Other))) mine
 
-  packets_from : (i : ℕ) (earlier : List Symbol) (rs : List Reading) → wrong_after judge (scope who None) earlier (counted_from who i rs) ≡ None → AllByRecursion IsPacketReading rs
+  packets_from : (i : ℕ) (earlier : List Symbol) (rs : List Reading) → wrong_after judge (scope who None) earlier (counted_from who i rs) ≡ None → AllByRecursion (λ (r : Reading). IsOk r) rs
   packets_from i earlier [] h = tt
   packets_from i earlier (Err e ∷ rs) h = absurd (cc)
   packets_from i earlier (Ok p ∷ rs) h = (
-    tt,
-    elim (is_of_identity who p) as (λ v. is_of_identity who p ≡ v → wrong_after judge (scope who None) earlier (cond v (record { place = i; reading = Ok p } ∷ []) [] ++ counted_from who (i + 1) rs) ≡ None → AllByRecursion IsPacketReading rs) [
+    refl,
+    elim (is_of_identity who p) as (λ v. is_of_identity who p ≡ v → wrong_after judge (scope who None) earlier (cond v (record { place = i; reading = Ok p } ∷ []) [] ++ counted_from who (i + 1) rs) ≡ None → AllByRecursion (λ (r : Reading). IsOk r) rs) [
       | false ↦ λ e k. packets_from (i + 1) earlier rs k
       | true ↦ λ e k. packets_from (i + 1) (earlier ++ symbol_of p ∷ []) rs (sym (ap (λ o. option_or o (wrong_after judge (scope who None) (earlier ++ symbol_of p ∷ []) (counted_from who (i + 1) rs))) (early i earlier p e)) ∙ k)
     ] refl h,
   )
 
-  none_from : (i : ℕ) (earlier : List Symbol) (rs : List Reading) → AllByRecursion IsPacketReading rs → wrong_after judge (scope who None) earlier (counted_from who i rs) ≡ None
+  none_from : (i : ℕ) (earlier : List Symbol) (rs : List Reading) → AllByRecursion (λ (r : Reading). IsOk r) rs → wrong_after judge (scope who None) earlier (counted_from who i rs) ≡ None
   none_from i earlier [] h = refl
-  none_from i earlier (Err e ∷ rs) h = absurd h.0
+  none_from i earlier (Err e ∷ rs) h = (let bad = h.0 in absurd (cc))
   none_from i earlier (Ok p ∷ rs) h =
       elim (is_of_identity who p) as (λ v. is_of_identity who p ≡ v → wrong_after judge (scope who None) earlier (cond v (record { place = i; reading = Ok p } ∷ []) [] ++ counted_from who (i + 1) rs) ≡ None) [
         | false ↦ λ e. none_from (i + 1) earlier rs h.1
