@@ -1,14 +1,17 @@
 //! What is sent is certified. The datagrams themselves stand in transcripts.
-ghost use Rattle.std.specs.Prelude.{◌≤◌};
+ghost use Rattle.std.specs.Prelude.{◌<◌, ◌≤◌, length};
 
 use crate::ONE;
 use crate::certificate_tests::has_text;
 use cert::{Certificate, Verdict, check};
 use coder::{CertifyFault, SendFault, certify, encode};
-use gf256::point;
+use elim::{Matrix, interpolator, product};
+use gf256::{Gf, point};
 use partition::{Fti, Order};
+use rand_core::Rng;
+use rand_pcg::Pcg32;
 use session::{Pieces, Session, Sink};
-use std::alloc::Global;
+use std::alloc::{AllocError, Global};
 use std::test::Fail;
 
 // Whether `check` says yes to a session and a certificate, and tells as many carriers.
@@ -185,6 +188,43 @@ fn both_ways_to_certify(rt: HostRuntime) -> Result<(), Fail> {
     text[14 + 180 + 3] = 1;
     let fti = Fti::new(359, 1, 180, 225)?;
     assert!(rt; is_certified_by(rt.alloc(), &object, &fti, &text));
+    Ok(())
+}
+
+// The text of the certificate of one block of these symbols of one byte, by the matrix that interpolates.
+fn interpolated(alloc: Global, sources: &[u8]) -> Result<Vec<u8>, AllocError>
+    requires some { 0 < length sources.now }
+    requires few { length sources.now ≤ 255 }
+{
+    let k = sources.len();
+    let mut values = Matrix::try_new(alloc, 1, k)?;
+    for j in 0..k {
+        values.set(0, j, Gf(sources[j]));
+    }
+    let polynomial = product(alloc, &values, &interpolator(alloc, k)?)?;
+    let count = k as u8;
+    let head = [0x52, 0x53, 0x43, 0x31, 0, 0, 0, 0, 0, count, 0, 1, count, 255];
+    let mut text = head.to_vec(alloc)?;
+    for i in 0..k {
+        text.push(polynomial.get(0, i).0)?;
+    }
+    Ok(text)
+}
+
+// Blocks of random symbols, from the first size on that is certified by way of all values: the matrix of smaller ones
+// makes the same coefficients.
+#[test]
+fn either_way_the_same_coefficients(rt: HostRuntime) -> Result<(), Fail> {
+    let mut random = Pcg32::new(180, 5510);
+    for k in [180u8, 200, 223, 255] {
+        let mut sources = [0; 255];
+        random.fill_bytes(&mut sources);
+        let object = &sources[..usize::from(k)];
+        let text = interpolated(rt.alloc(), object)?;
+        let fti = Fti::new(u64::from(k), 1, k, 255)?;
+        let right = is_certified_by(rt.alloc(), object, &fti, text.as_slice());
+        assert!(rt; right, "{k} source symbols");
+    }
     Ok(())
 }
 
