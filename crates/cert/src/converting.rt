@@ -174,9 +174,9 @@ fn convert_blocks<R: Read, W: Write>(
 /// `OtherIdentity` comes where the certificate has another name, and only then. The other faults of reading tell why there is
 /// none, and `Write` that the writer has failed, which it never has where there is room for the bytes that are left to read
 /// and twenty more. With `Magic`, `Fti` and `OtherIdentity` nothing was written. `Size`, too few bytes or too many, is only
-/// told once they have come, behind what was written of them. With it and the others a beginning of the text may have been
-/// written, and no byte that doesn't follow from what was left to read: the text is that of a certificate which begins with
-/// what was left, or with which that begins, and all such certificates have this beginning in common.
+/// told once they have come, behind what was written of them. At each fault what was written begins the text, with this name,
+/// of every certificate that what was left to read can be: one whose text is the same as far as both go. So no byte is
+/// written that doesn't follow from what was left.
 ///
 /// The identity's TSI is below 2^48, its TOI below 2^112 (RFC 5651, section 5.1).
 pub fn convert<R: Read, W: Write>(
