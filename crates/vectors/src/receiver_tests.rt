@@ -282,3 +282,24 @@ fn early(rt: HostRuntime) -> Result<(), Fail> {
     assert!(rt; says(&answer, Said::Object(&[1, 2])));
     Ok(())
 }
+
+// Whether a receiver that was fed a datagram keeps so many symbols of the first block, and none of one that isn't there.
+fn keeps(alloc: Global, receiver: &mut Receiver, datagram: &[u8], count: usize) -> bool
+    requires { IsFed receiver.old }
+    ensures { IsFed receiver.new }
+{
+    let _told = feed(alloc, receiver, datagram);
+    receiver.stored(0) == count && receiver.stored(1) == 0
+}
+
+// None before there is an FTI, and of a block of two source symbols no more than two.
+#[test]
+fn stored_symbols(rt: HostRuntime) -> Result<(), Fail> {
+    let alloc = rt.alloc();
+    let mut receiver = Receiver::new(ONE);
+    assert!(rt; keeps(alloc, &mut receiver, &FIRST_ALONE[37..58], 0));
+    assert!(rt; keeps(alloc, &mut receiver, &FIRST_ALONE[2..35], 1));
+    assert!(rt; keeps(alloc, &mut receiver, &FIRST_ALONE[60..81], 2));
+    assert!(rt; keeps(alloc, &mut receiver, &FIRST_ALONE[37..58], 2));
+    Ok(())
+}
