@@ -1,6 +1,6 @@
 -- Why a datagram is no packet: the first fault, in the order of the variants of PacketFault; those of the header extensions
 -- go by the extension at which reading stops.
-use Rattle.std.specs.Prelude.{◌≡◌, ℕ, ◌+◌, ◌-◌, ◌*◌, ◌/◌, ◌%◌, ◌<◌, ◌≤◌, ◌⊎◌, Bool, true, false, ◌&&◌, ◌||◌, ◌==◌, not, List, [], ◌∷◌, ◌++◌, length, take, drop, slice_index, count_by, ◌^◌, Option, Some, None}
+use Rattle.std.specs.Prelude.{◌≡◌, ℕ, ◌+◌, ◌-◌, ◌*◌, ◌/◌, ◌%◌, ◌<◌, ◌≤◌, ◌⊎◌, Bool, true, ◌&&◌, ◌||◌, ◌==◌, not, List, ◌++◌, length, take, drop, slice_index, count_by, ◌^◌, Option, Some, None}
 use Rattle.std.specs.List.{list_all, list_any}
 use Rattle.partition.specs.Fti.{Fti}
 use Rattle.partition.specs.FtiFault.{fti_fault}

@@ -1,6 +1,6 @@
 -- Symbols that came, as groups of places.
 use Rattle.std.proofs.Common.{◌≡◌, ◌≢◌, ℕ, zero, suc, ◌+◌, ◌<◌, ◌≤◌, Bool, true, false, cond, ◌&&◌, ◌||◌, List, [], ◌∷◌, ◌++◌, None, Ok, Err, length, map, get_or, set, refl, sym, ap, subst, ◌∙◌, arith, append_assoc}
-use Rattle.std.specs.Prelude.{◌==◌, nat_lt, count_by, if◌then◌else◌}
+use Rattle.std.specs.Prelude.{◌==◌, if◌then◌else◌}
 use Rattle.std.specs.List.{list_any}
 use Rattle.std.proofs.lemmas.Bool.{le-leb, lt-leb, eqb-true, eqb-false, eq-eqb}
 use Rattle.std.proofs.lemmas.List.{map-append, append-nil, length-set, get_or-set_same, get_or-set_other}
@@ -13,7 +13,6 @@ use Rattle.losses.specs.Members.{has_esi}
 use Rattle.losses.specs.declared.groups.Group.{Group as GroupOf}
 use Rattle.losses.specs.Groups.{Group, group_at, groups_of, different}
 use Rattle.losses.proofs.GroupFigures.{seen, count_of}
-use Rattle.losses.proofs.Grouping.{any_is}
 use Rattle.losses.proofs.Link.{is_left}
 use Rattle.partition.specs.Fti.{Fti, block_count, source_count}
 use Rattle.alc.specs.Reading.{Reading}

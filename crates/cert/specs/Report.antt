@@ -8,7 +8,7 @@ use Rattle.cert.specs.declared.verdict.Report.{Report}
 use Rattle.cert.specs.declared.verdict.Verdict.{Verdict}
 use Rattle.cert.specs.declared.verdict.Verdict.TheVariants.{Yes, No}
 use Rattle.reception.specs.declared.scope.Identity.{Identity}
-use Rattle.reception.specs.Symbols.{Symbol, has_arrived, arrived_count}
+use Rattle.reception.specs.Symbols.{has_arrived, arrived_count}
 use Rattle.reception.specs.Reception.{ReadAll, counted, symbols, is_carrier}
 
 -- the blocks of an FTI, which of their symbols the identity's packets among a list of readings hold, and which readings are

@@ -1,6 +1,6 @@
 -- A receiver that stands for a list of datagrams, and one datagram more.
 use Rattle.std.specs.Prelude.{if◌then◌else◌, not, filter, option_map, is_some, IsSome, Result, Ok, Err}
-use Rattle.std.specs.List.{AllByRecursion, list_any}
+use Rattle.std.specs.List.{AllByRecursion}
 use Rattle.std.proofs.Common.{◌≡◌, ◌≢◌, ℕ, zero, suc, ◌+◌, ◌<◌, ◌≤◌, Bool, true, false, List, [], ◌∷◌, ◌++◌, Option, Some, None, length, take, get_or, refl, sym, ap, subst, ◌∙◌, inl, inr, arith, length-append, ltb-true, leb-true}
 use Rattle.std.proofs.lemmas.Bool.{cases_Bool, cases_eq, le-leb, eq-eqb}
 use Rattle.lists.specs.Bytes.{AreBytes}
@@ -25,7 +25,7 @@ use Rattle.decoder.specs.Answers.{fault_value}
 use Rattle.decoder.specs.declared.answer.DecodeFault.{DecodeFault}
 use Rattle.decoder.specs.declared.answer.DecodeFault.TheVariants as fault
 use Rattle.std.specs.Option.{option_or}
-use Rattle.reception.specs.Reception.{Wrong, ReadAll, Faulty, Judged, Other, Early, asked, counts, is_of_identity, is_carrier, learned, carried, symbol_of, counted, symbols, look_by, look as look_of}
+use Rattle.reception.specs.Reception.{Wrong, ReadAll, Faulty, Judged, Other, Early, asked, counts, is_of_identity, learned, carried, symbol_of, counted, symbols, look_by, look as look_of}
 use Rattle.reception.specs.Nothing.{HasNoCarrier}
 use Rattle.reception.proofs.Nothing.{tells_empty}
 use Rattle.reception.specs.Step.{IsLook, looked}
@@ -34,7 +34,6 @@ use Rattle.reception.specs.Within.{IsWithin}
 use Rattle.reception.specs.Answer.{Answer, AnswerTo, Clash, Clashes, Empty, Fault, NotCode, IsAnswer, clash, clashes, reception_of}
 use Rattle.reception.specs.declared.scope.PlaceFault.TheVariants as place_fault
 use Rattle.reception.proofs.OneAnswer.{same_readings}
-use Rattle.reception.proofs.Carriers.{known_carrier, carrier_known}
 use Rattle.reception.proofs.Looks.{faultless_look, fti_after}
 use Rattle.reception.proofs.Walk.{identity_stays}
 use Rattle.reception.proofs.Walking.{Walked, came_before, one_behind, stops, goes_on, ends, came_all, symbols_passed, passed_counts, passed_scope, is_early}

@@ -17,7 +17,7 @@ use Rattle.decoder.specs.declared.answer.DecodeFault.{DecodeFault}
 use Rattle.decoder.specs.declared.receiver.Progress.{Progress}
 use Rattle.decoder.specs.declared.receiver.Progress.TheVariants.{More, Complete}
 use Rattle.decoder.specs.declared.receiver.FeedFault.{FeedFault}
-use Rattle.decoder.specs.declared.receiver.FeedFault.TheVariants.{Fault, Full, Early, NoMemory}
+use Rattle.decoder.specs.declared.receiver.FeedFault.TheVariants.{Fault}
 
 -- one datagram more
 abbrev pub with_datagram : List (List ℕ) → List ℕ → List (List ℕ)

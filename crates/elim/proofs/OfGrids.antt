@@ -1,5 +1,4 @@
 -- Inverses of matrices, and of the functions that their entries are.
-use Rattle.std.proofs.Common.{ℕ}
 use Rattle.elim.specs.Grid.{Grid, entry, AreInverse, IsSingular}
 use Rattle.elim.specs.Squares.{AreInverseSquares, IsSingularSquare}
 

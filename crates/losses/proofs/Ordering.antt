@@ -1,8 +1,8 @@
 -- Groups of places as they are told, and as walks see them.
-use Rattle.std.proofs.Common.{◌≡◌, ℕ, ◌+◌, ◌<◌, ◌≤◌, List, [], ◌∷◌, length, map, take, drop, refl, ap, ◌∙◌, sym, arith, count_by, nat_lt, ◌==◌}
+use Rattle.std.proofs.Common.{◌≡◌, ℕ, ◌+◌, ◌<◌, ◌≤◌, List, [], ◌∷◌, length, map, ap, ◌∙◌, arith, count_by, nat_lt, ◌==◌}
 use Rattle.std.specs.List.{AllByRecursion, list_any}
 use Rattle.lists.specs.Below.{below}
-use Rattle.lists.specs.Places.{IsRising, ArePlaces}
+use Rattle.lists.specs.Places.{ArePlaces}
 use Rattle.lists.proofs.Lists.{all_of, filter_same}
 use Rattle.losses.specs.Groups.{Group, group_at, different, AreGroups, AreCarriers}
 use Rattle.losses.specs.Members.{has_esi, outside, different_outside}

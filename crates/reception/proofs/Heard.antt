@@ -11,7 +11,7 @@ use Rattle.reception.specs.declared.scope.Scope.{Scope}
 use Rattle.reception.specs.declared.scope.PlaceFault.{PlaceFault}
 use Rattle.reception.specs.declared.scope.Look.{Look}
 use Rattle.reception.specs.declared.scope.Look.TheVariants as look_at
-use Rattle.reception.specs.Reception.{ReadAll, Judge, reception_with, counted_from, counted, asked, scope_from}
+use Rattle.reception.specs.Reception.{Judge, reception_with, counted_from, counted, asked, scope_from}
 use Rattle.reception.specs.Found.{IsScopeOf}
 use Rattle.reception.specs.Step.{IsLook, looked}
 use Rattle.reception.specs.Walks.{readings_of, scope_in, IsHeard, MayPass}

@@ -1,5 +1,5 @@
 -- Frames that are copied but for those at some places, one more each.
-use Rattle.std.specs.Prelude.{Bool, true, false, ◌||◌, ◌==◌, cond, Option, Some, None, IfSome}
+use Rattle.std.specs.Prelude.{Bool, true, false, ◌||◌, ◌==◌, cond, Option, Some, None}
 use Rattle.std.proofs.Common.{◌≡◌, ◌<◌, ◌≤◌, ◌+◌, ℕ, suc, List, [], ◌∷◌, ◌++◌, length, length-append, take, get_or, refl, sym, ap, subst, ◌∙◌, inl, inr, arith}
 use Rattle.std.proofs.lemmas.List.{take_more, take_all, append-nil}
 use Rattle.std.proofs.lemmas.List.Folds.{list_any-append}

@@ -203,7 +203,9 @@ fn interpolated(alloc: Global, sources: &[u8]) -> Result<Vec<u8>, AllocError>
     }
     let polynomial = product(alloc, &values, &interpolator(alloc, k)?)?;
     let count = k as u8;
-    let head = [0x52, 0x53, 0x43, 0x31, 0, 0, 0, 0, 0, count, 0, 1, count, 255];
+    let head = [
+        0x52, 0x53, 0x43, 0x31, 0, 0, 0, 0, 0, count, 0, 1, count, 255,
+    ];
     let mut text = head.to_vec(alloc)?;
     for i in 0..k {
         text.push(polynomial.get(0, i).0)?;
