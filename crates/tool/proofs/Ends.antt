@@ -8,9 +8,6 @@ use Rattle.session.specs.declared.frame.FrameFault.TheVariants as frame
 use Rattle.reception.specs.declared.scope.Identity.{Identity}
 use Rattle.reception.specs.Answer as value
 use Rattle.reception.specs.Answer.{IsAnswer, reception_of}
-use Rattle.reception.specs.Symbols.{AllFull}
-use Rattle.reception.specs.Walks.{readings_of}
-use Rattle.reception.proofs.OneAnswer.{same_readings}
 use Rattle.decoder.specs.declared.answer.Answer.TheVariants.{Empty, Fault as NoObject, Missing, Object}
 use Rattle.decoder.specs.declared.receiver.Receiver.{Receiver}
 use Rattle.tool.specs.declared.fault.Fault.{Fault}
@@ -97,13 +94,8 @@ module _ (who : Identity) (files : Option Files) (session output : List ℕ) (op
   module _ (receiver : Receiver) (left a b : Option (List ℕ)) (heard : HasHeardAll who receiver opened left a b) where
     no_object : (object : List ℕ) → IsAnswer who heard.1 (value.Object object) → ⊥
     no_object object h =
-        let same = same_readings heard.1 h.readings (readings_of heard.1) h.read heard.3.read in
         let (f, clean, solvable, full, fits) = h.answers in
-        heard.4 record {
-          fti = f;
-          known = subst (λ rs. (reception_of who rs).scope.fti ≡ Some f) same clean.some;
-          full = subst (λ rs. AllFull f (reception_of who rs).symbols) same full;
-        }
+        heard.4 record { readings = h.readings; read = h.read; fti = f; known = clean.some; full = full }
 
     pub is_lack : (d : Option (List ℕ)) (status : ℕ) → TellsAnswer who heard.1 b d status → IsFollowed who files files session output a d status
     is_lack d status (Empty, line, is, sound, spelled, printed, done) = record {

@@ -1,11 +1,11 @@
 -- Sessions of several files, joined.
 use Rattle.std.proofs.Common.{◌≡◌, ◌≢◌, ◌<◌, ◌+◌, ◌∙◌, ◌++◌, ◌∷◌, [], ℕ, zero, suc, Bool, List, Option, length, map, take, get_or, inl, inr, refl, sym, ap, arith, subst}
 use Rattle.std.specs.Prelude.{Some, None, IfSome}
-use Rattle.std.specs.Io.KnownBytes.{Appends}
+use Rattle.std.specs.Io.KnownBytes.{Appends, IsAtEnd}
 use Rattle.std.specs.Borrow.{Bor}
 use Rattle.std.proofs.lemmas.List.{append-nil, get_or-map, length-map, map-append, take-map, take_more}
-use Rattle.session.specs.Frames.{frames, IsSessionFault}
-use Rattle.session.specs.Joining.{IsReadWhole, IsUnjoined}
+use Rattle.session.specs.Frames.{frames, HasRead, IsSessionFault}
+use Rattle.session.specs.Joining.{IsUnjoined}
 use Rattle.session.specs.declared.frame.FrameFault.{FrameFault}
 use Rattle.session.specs.declared.frame.FrameFault.TheVariants.{CutLength, CutDatagram, TooLong, Io, NoMemory, NoSuchPlace}
 use Rattle.tool.specs.declared.fault.Fault.{Fault}
@@ -50,13 +50,13 @@ one_unopened files (n ∷ ns) (suc i) [] fault l are why = absurd are
 one_unopened files (n ∷ ns) (suc i) (o ∷ os) fault l are why = inr (is_there files n o are.0, one_unopened files ns i os fault (omega arith) are.1 why)
 
 -- all of one file's bytes were its frames
-holds_session : (files : Option Files) (name : List ℕ) (opened left : Option (List ℕ)) (datagrams : List (List ℕ)) → Opens files name opened
-    → IsReadWhole opened left datagrams → HoldsSession files name datagrams
-holds_session None name opened left datagrams opens read = tt
-holds_session (Some held) name None left datagrams opens read = let bad = opens.2 in cc
-holds_session (Some held) name (Some x) None datagrams opens read = absurd read.consumed
-holds_session (Some held) name (Some x) (Some y) datagrams opens read =
-    let end : y ≡ [] = read.end in
+pub holds_session : (files : Option Files) (name : List ℕ) (opened left : Option (List ℕ)) (datagrams : List (List ℕ)) → Opens files name opened
+    → HasRead opened left datagrams → IsAtEnd left → HoldsSession files name datagrams
+holds_session None name opened left datagrams opens read ends = tt
+holds_session (Some held) name None left datagrams opens read ends = let bad = opens.2 in cc
+holds_session (Some held) name (Some x) None datagrams opens read ends = absurd read.consumed
+holds_session (Some held) name (Some x) (Some y) datagrams opens read ends =
+    let end : y ≡ [] = ends in
     let whole : x ≡ frames datagrams = read.consumed ∙ ap (λ (l : List ℕ). frames datagrams ++ l) end ∙ append-nil (frames datagrams) in
     let same : x ≡ opens.0 = ap (λ (o : Option (List ℕ)). bytes_of o) opens.2 in
     (opens.0, opens.1, record { whole = sym same ∙ whole; each = read.each })
@@ -66,16 +66,17 @@ holds_session (Some held) name (Some x) (Some y) datagrams opens read =
     bytes_of (Some bytes) = bytes
 
 pub hold_sessions : (files : Option Files) (names : List (List ℕ)) (opened left : List (Option (List ℕ))) (lists : List (List (List ℕ))) → AreOpen files names opened
-    → length lists ≡ length opened → ((i : ℕ) → IsReadWhole (get_or opened i None) (get_or left i None) (get_or lists i [])) → HoldSessions files names lists
-hold_sessions files [] [] left [] are many read = tt
-hold_sessions files [] [] left (ds ∷ lists) are many read = absurd (omega (arith, many))
-hold_sessions files [] (o ∷ os) left lists are many read = absurd are
-hold_sessions files (n ∷ ns) [] left lists are many read = absurd are
-hold_sessions files (n ∷ ns) (o ∷ os) left [] are many read = absurd (omega (arith, many))
-hold_sessions files (n ∷ ns) (o ∷ os) [] (ds ∷ lists) are many read =
-    (holds_session files n o None ds are.0 (read 0), hold_sessions files ns os [] lists are.1 (omega (arith, many)) (λ i. read (suc i)))
-hold_sessions files (n ∷ ns) (o ∷ os) (l ∷ ls) (ds ∷ lists) are many read =
-    (holds_session files n o l ds are.0 (read 0), hold_sessions files ns os ls lists are.1 (omega (arith, many)) (λ i. read (suc i)))
+    → length lists ≡ length opened → ((i : ℕ) → HasRead (get_or opened i None) (get_or left i None) (get_or lists i [])) → ((i : ℕ) → IsAtEnd (get_or left i None))
+    → HoldSessions files names lists
+hold_sessions files [] [] left [] are many read ends = tt
+hold_sessions files [] [] left (ds ∷ lists) are many read ends = absurd (omega (arith, many))
+hold_sessions files [] (o ∷ os) left lists are many read ends = absurd are
+hold_sessions files (n ∷ ns) [] left lists are many read ends = absurd are
+hold_sessions files (n ∷ ns) (o ∷ os) left [] are many read ends = absurd (omega (arith, many))
+hold_sessions files (n ∷ ns) (o ∷ os) [] (ds ∷ lists) are many read ends =
+    (holds_session files n o None ds are.0 (read 0) (ends 0), hold_sessions files ns os [] lists are.1 (omega (arith, many)) (λ i. read (suc i)) (λ i. ends (suc i)))
+hold_sessions files (n ∷ ns) (o ∷ os) (l ∷ ls) (ds ∷ lists) are many read ends =
+    (holds_session files n o l ds are.0 (read 0) (ends 0), hold_sessions files ns os ls lists are.1 (omega (arith, many)) (λ i. read (suc i)) (λ i. ends (suc i)))
 
 -- the fault of one file's frames
 frame_unread : (files : Option Files) (name : List ℕ) (opened : Option (List ℕ)) (failed : Bool) (fault : FrameFault) → Opens files name opened

@@ -1,5 +1,6 @@
 pub mod Told
 pub mod Joins
+pub mod Cuts
 pub mod Delivered
 pub mod Decoded
 pub mod Ends

@@ -1,12 +1,12 @@
 //! What is sent is certified. The datagrams themselves stand in transcripts.
-ghost use Rattle.std.specs.Prelude.{◌<◌, ◌≤◌, length};
+ghost use Rattle.std.specs.Prelude.{◌≡◌, ◌<◌, ◌≤◌, length};
 
 use crate::ONE;
 use crate::certificate_tests::has_text;
 use cert::{Certificate, Verdict, check};
 use coder::{CertifyFault, SendFault, certify, encode};
-use elim::{Matrix, interpolator, product};
-use gf256::{Gf, point};
+use elim::{Matrix, interpolator};
+use gf256::{Field, Gf, point};
 use partition::{Fti, Order};
 use rand_core::Rng;
 use rand_pcg::Pcg32;
@@ -191,24 +191,32 @@ fn both_ways_to_certify(rt: HostRuntime) -> Result<(), Fail> {
     Ok(())
 }
 
-// The text of the certificate of one block of these symbols of one byte, by the matrix that interpolates.
+// A coefficient of the polynomial that has these values at the first points, by the matrix that interpolates.
+fn coefficient(interpolator: &Matrix<Gf>, values: &[u8], i: usize) -> u8
+    requires rows { interpolator.now.rows ≡ length values.now }
+    requires column { i < interpolator.now.cols }
+{
+    let mut sum = 0;
+    for j in 0..values.len() {
+        sum ^= Gf(values[j]).mul(interpolator.get(j, i)).0;
+    }
+    sum
+}
+
+// The text of the certificate of one block of these symbols of one byte, by that matrix.
 fn interpolated(alloc: Global, sources: &[u8]) -> Result<Vec<u8>, AllocError>
     requires some { 0 < length sources.now }
     requires few { length sources.now ≤ 255 }
 {
     let k = sources.len();
-    let mut values = Matrix::try_new(alloc, 1, k)?;
-    for j in 0..k {
-        values.set(0, j, Gf(sources[j]));
-    }
-    let polynomial = product(alloc, &values, &interpolator(alloc, k)?)?;
+    let interpolator = interpolator(alloc, k)?;
     let count = k as u8;
     let head = [
         0x52, 0x53, 0x43, 0x31, 0, 0, 0, 0, 0, count, 0, 1, count, 255,
     ];
     let mut text = head.to_vec(alloc)?;
     for i in 0..k {
-        text.push(polynomial.get(0, i).0)?;
+        text.push(coefficient(&interpolator, sources, i))?;
     }
     Ok(text)
 }

@@ -139,3 +139,23 @@ returns-in_err-tell_refusal-in-Err-Early-clause-fault g c =
     (g.R.Read.failed c.next.new.frames) (g.W.Write.failed c.tell_refusal-in-Err-Early.new.out) (g.W.Write.contents c.args.out.now) (g.W.Write.contents c.loop-datagram.out)
     (g.W.Write.contents c.tell_refusal-in-Err-Early.new.out) fault
     (g.R.Read.remaining c.loop-datagram.frames, read.0, read.1, read.2, read.6, read.7) c.in_err-tell_refusal-in-Err-Early.ensures.fault)
+
+pub returns-in_err-tell_refusal-in-Err-Full-clause-fault : goal.returns-in_err-tell_refusal-in-Err-Full-clause-fault
+returns-in_err-tell_refusal-in-Err-Full-clause-fault g c =
+    let read = c.loop-datagram.invariant.read in
+    let fault = c.in_err-tell_refusal-in-Err-Full.field-0.0 in
+    passed_on c.from_residual-in_err-tell_refusal-in-Err-Full.result fault _ c.from_residual-in_err-tell_refusal-in-Err-Full.ensures.1
+    (line_untold c.args.receiver.now.identity (g.R.Read.sound c.args.frames.now) (g.R.Read.remaining c.args.frames.now) (g.R.Read.remaining c.next.new.frames)
+    (g.R.Read.failed c.next.new.frames) (g.W.Write.failed c.tell_refusal.new.out) (g.W.Write.contents c.args.out.now) (g.W.Write.contents c.loop-datagram.out)
+    (g.W.Write.contents c.tell_refusal.new.out) fault
+    (g.R.Read.remaining c.loop-datagram.frames, read.0, read.1, read.2, read.6, read.7) c.in_err-tell_refusal-in-Err-Full.ensures.fault)
+
+pub returns-in_err-tell_refusal-in-Err-Fault-clause-fault : goal.returns-in_err-tell_refusal-in-Err-Fault-clause-fault
+returns-in_err-tell_refusal-in-Err-Fault-clause-fault g c =
+    let read = c.loop-datagram.invariant.read in
+    let fault = c.in_err-tell_refusal-in-Err-Fault.field-0.0 in
+    passed_on c.from_residual-in_err-tell_refusal-in-Err-Fault.result fault _ c.from_residual-in_err-tell_refusal-in-Err-Fault.ensures.1
+    (line_untold c.args.receiver.now.identity (g.R.Read.sound c.args.frames.now) (g.R.Read.remaining c.args.frames.now) (g.R.Read.remaining c.next.new.frames)
+    (g.R.Read.failed c.next.new.frames) (g.W.Write.failed c.tell_refusal-in-Err-Fault.new.out) (g.W.Write.contents c.args.out.now) (g.W.Write.contents c.loop-datagram.out)
+    (g.W.Write.contents c.tell_refusal-in-Err-Fault.new.out) fault
+    (g.R.Read.remaining c.loop-datagram.frames, read.0, read.1, read.2, read.6, read.7) c.in_err-tell_refusal-in-Err-Fault.ensures.fault)

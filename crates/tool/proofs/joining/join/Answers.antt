@@ -39,7 +39,7 @@ returns-clause-ok g c =
     let joined = c.in-Ok.ensures.ok in
     record {
       lists = joined.lists;
-      sent = hold_sessions files names _ _ joined.lists are joined.many joined.read;
+      sent = hold_sessions files names _ _ joined.lists are joined.many joined.read joined.ends;
       made = kept_whole files _ (g.F.Folder.files c.keep.new.folder) c.args.output.now _ _ _ c.in_ok-file.ensures.blank joined.written c.create.ensures.stays c.in_ok-keep.ensures.kept;
       printed = subst (λ n. PrintsCount (codes "joined") n (codes " datagrams") (g.W.Write.contents c.args.out.now) (g.W.Write.contents c.print_count.new.out)) joined.counted c.in_ok-print_count.ensures.ok;
       told = refl;
@@ -55,7 +55,7 @@ returns-in_err-print_count-clause-fault g c =
     (fails_unprinted _ files (g.F.Folder.files c.keep.new.folder) (g.W.Write.contents c.args.out.now) (line_of (count_line (codes "joined") c.in-Ok.count (codes " datagrams"))) 0
     (λ printed appended. record {
       lists = joined.lists;
-      sent = hold_sessions files names _ _ joined.lists are joined.many joined.read;
+      sent = hold_sessions files names _ _ joined.lists are joined.many joined.read joined.ends;
       made = kept_whole files _ (g.F.Folder.files c.keep.new.folder) c.args.output.now _ _ _ c.in_ok-file.ensures.blank joined.written c.create.ensures.stays c.in_ok-keep.ensures.kept;
       printed = subst (λ n. PrintsCount (codes "joined") n (codes " datagrams") (g.W.Write.contents c.args.out.now) printed) joined.counted appended;
       told = refl;
