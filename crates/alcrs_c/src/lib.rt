@@ -1,0 +1,4 @@
+//! The library for C.
+#![tactic(auto)]
+
+mod frames;
