@@ -1,0 +1,11 @@
+pub mod Statuses
+pub mod Told
+pub mod Asked
+pub mod Checked
+pub mod Unchecked
+pub mod Decoded
+pub mod Undecoded
+pub mod Twinned
+pub mod Untwinned
+pub mod Making
+pub mod Unmade

@@ -1,0 +1,13 @@
+-- Why there is no verdict.
+use Rattle.std.specs.Prelude.{◌≡◌, ℕ, List, Some, ⊤}
+use Rattle.reception.specs.declared.scope.Identity.{Identity}
+use Rattle.cert.specs.Certificate.{text_fault}
+use Rattle.alcrs_c.specs.Checked.{IsCutOff}
+use Rattle.alcrs_c.specs.declared.check.Unchecked.{Unchecked}
+use Rattle.alcrs_c.specs.declared.check.Unchecked.TheVariants.{Session, Certificate, NoMemory}
+
+-- the first fault of the certificate's bytes, or of the session's behind frames, or want of memory
+abbrev pub IsUnchecked : Identity → List ℕ → List ℕ → List ℕ → Unchecked → Type 0
+IsUnchecked who session object certificate (Session e) = IsCutOff who session object certificate e
+IsUnchecked who session object certificate (Certificate e) = text_fault certificate ≡ Some e
+IsUnchecked who session object certificate NoMemory = ⊤

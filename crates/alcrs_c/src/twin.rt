@@ -1,0 +1,194 @@
+//! The twin.
+ghost use Rattle.std.specs.Prelude.{◌≡◌, ◌≢◌, ◌<◌, ◌++◌, ◌∷◌, [], ℕ, List, Some, None, IfOk, IfErr, drop, length};
+ghost use Rattle.session.specs.Frames.{StopsAt};
+ghost use Rattle.session.specs.declared.frame.FrameFault.{FrameFault as FrameFaultValue};
+ghost use Rattle.cert.specs.Certificate.{text_fault};
+ghost use Rattle.cert.specs.declared.certificate.CertFault.{CertFault as CertFaultValue};
+ghost use Rattle.cert.specs.declared.verdict.Report.{Report as ReportValue};
+ghost use Rattle.cert.specs.declared.verdict.Reason.{Reason as ReasonValue};
+ghost use Rattle.alcrs_c.specs.Asked.{identity_of};
+ghost use Rattle.alcrs_c.specs.Twinned.{IsTwinIn, IsTwinned, IsJudged, short_of};
+ghost use Rattle.alcrs_c.specs.Untwinned.{IsNoTwin, IsUntwinned};
+ghost use Rattle.alcrs_c.specs.Statuses.{ok, no, no_session, no_certificate, no_room, no_memory, none_short, IsOneOf};
+ghost use Rattle.alcrs_c.specs.Told.{told_reason, told_frame, told_certificate};
+
+use crate::input::{identity, read_certificate, read_session};
+use crate::status;
+use crate::told::{AlcrsFault, certificate_fault, frame_fault, put_bytes, reason_fault};
+use cert::{CertFault, Certificate, Reason, Verdict, check, session_twin};
+use reception::Identity;
+use session::{FrameFault, Session};
+use std::alloc::Global;
+
+/// A twin, and the block that is short.
+struct Twin {
+    block: u32,
+    have: usize,
+    need: usize,
+    bytes: Vec<u8>,
+}
+
+/// Why there is no twin.
+enum Untwinned {
+    NoneShort,
+    No(Reason),
+    Session(FrameFault),
+    Certificate(CertFault),
+    NoMemory,
+}
+
+// The block that is short, how many symbols it has and how many it needs, where that is the reason.
+fn short_block(reason: Reason) -> Option<(u32, usize, usize)>
+    ensures { result ≡ short_of reason }
+{
+    match reason {
+        Reason::Thin { block, have, need } => Some((block, have, need)),
+        Reason::OtherCertificate
+        | Reason::ObjectLength
+        | Reason::NotObject { .. }
+        | Reason::Empty
+        | Reason::Packet(..)
+        | Reason::OtherFti(_)
+        | Reason::SymbolLength(_)
+        | Reason::Range(_)
+        | Reason::Symbol(..)
+        | Reason::NoCarrier => None,
+    }
+}
+
+// The twin that the verdict on the datagrams asks for.
+fn twin_in(
+    alloc: Global,
+    session: &Session,
+    object: &[u8],
+    certificate: &Certificate,
+    identity: Identity,
+) -> Result<Twin, Untwinned>
+    ensures twin { IfOk result (λ t. IsTwinIn identity session.now object.now certificate.now
+        (t.block, t.have, t.need) t.bytes.items) }
+    ensures none { IfErr result (IsNoTwin identity session.now object.now certificate.now) }
+{
+    let reason = match check(alloc, session, object, certificate, identity) {
+        Ok(Verdict::Yes(_)) => return Err(Untwinned::NoneShort),
+        Ok(Verdict::No(reason)) => reason,
+        Err(_) => return Err(Untwinned::NoMemory),
+    };
+    let Some((block, have, need)) = short_block(reason) else {
+        return Err(Untwinned::No(reason));
+    };
+    match session_twin(alloc, session, object, certificate, block, identity) {
+        Ok(bytes) => Ok(Twin {
+            block,
+            have,
+            need,
+            bytes,
+        }),
+        Err(_) => Err(Untwinned::NoMemory),
+    }
+}
+
+fn twin_of(
+    alloc: Global,
+    session: &[u8],
+    object: &[u8],
+    certificate: &[u8],
+    identity: Identity,
+) -> Result<Twin, Untwinned>
+    ensures twin { IfOk result (λ t. IsTwinned identity session.now object.now certificate.now
+        (t.block, t.have, t.need) t.bytes.items) }
+    ensures none { IfErr result
+        (IsUntwinned identity session.now object.now certificate.now) }
+{
+    let session = match read_session(alloc, session) {
+        Ok(session) => session,
+        Err(FrameFault::NoMemory) => return Err(Untwinned::NoMemory),
+        Err(fault) => return Err(Untwinned::Session(fault)),
+    };
+    let certificate = match read_certificate(alloc, certificate) {
+        Ok(certificate) => certificate,
+        Err(CertFault::NoMemory) => return Err(Untwinned::NoMemory),
+        Err(fault) => return Err(Untwinned::Certificate(fault)),
+    };
+    twin_in(alloc, &session, object, &certificate, identity)
+}
+
+/// Makes a twin of an object where a session has too few symbols of a block: another object of the same length that agrees
+/// with all of the identity's packets in the session. The TOI is `toi_high` * 2^64 + `toi_low`.
+///
+/// Returns `OK`, and the twin stands in front of `twin`, `size` bytes long; `NO_ROOM` where it is longer than the buffer, with
+/// `size`. At both `fault` has the block, `have` and `need`. Returns `NONE_SHORT` where the check says yes; `NO` where it says
+/// no for another reason, with `fault`; `NO_SESSION` and `NO_CERTIFICATE` where the bytes are none, with `fault`; `NO_MEMORY`
+/// where memory is wanting. `twin` changes at `OK` alone, and what a status doesn't name stays as it was.
+#[unsafe(no_mangle)]
+pub extern "C" fn alcrs_twin(
+    alloc: Global,
+    session: &[u8],
+    object: &[u8],
+    certificate: &[u8],
+    tsi: u64,
+    toi_high: u64,
+    toi_low: u64,
+    fault: &mut AlcrsFault,
+    twin: &mut [u8],
+    size: &mut usize,
+) -> u32
+    ensures twin { result ≡ ok → (o : List ℕ) × (b h n : ℕ)
+        × IsTwinned (identity_of tsi toi_high toi_low) session.now object.now certificate.now
+        (b, h, n) o
+        × (fault.new ≡ told_reason (Reason.Thin b h n))
+        × (size.new ≡ length o) × (twin.new ≡ o ++ drop (length o) twin.old) }
+    ensures room { result ≡ no_room → (o : List ℕ) × (b h n : ℕ)
+        × IsTwinned (identity_of tsi toi_high toi_low) session.now object.now certificate.now
+        (b, h, n) o
+        × (fault.new ≡ told_reason (Reason.Thin b h n))
+        × (size.new ≡ length o) × (length twin.old < length o) }
+    ensures yes { result ≡ none_short → (r : ReportValue)
+        × IsJudged (identity_of tsi toi_high toi_low) session.now object.now certificate.now
+        (Verdict.Yes r) }
+    ensures no { result ≡ no → (r : ReasonValue)
+        × IsJudged (identity_of tsi toi_high toi_low) session.now object.now certificate.now
+        (Verdict.No r)
+        × (short_of r ≡ None) × (fault.new ≡ told_reason r) }
+    ensures session { result ≡ no_session → (e : FrameFaultValue) × StopsAt e session.now
+        × (fault.new ≡ told_frame e) }
+    ensures certificate { result ≡ no_certificate → (e : CertFaultValue)
+        × (text_fault certificate.now ≡ Some e) × (fault.new ≡ told_certificate e) }
+    ensures stays { result ≢ ok → twin.new ≡ twin.old }
+    ensures sizeless { result ≢ ok → result ≢ no_room → size.new ≡ size.old }
+    ensures silent { IsOneOf (none_short ∷ no_memory ∷ []) result → fault.new ≡ fault.old }
+    ensures statuses { IsOneOf (ok ∷ no ∷ no_session ∷ no_certificate ∷ no_room ∷ no_memory
+        ∷ none_short ∷ []) result }
+{
+    let identity = identity(tsi, toi_high, toi_low);
+    match twin_of(alloc, session, object, certificate, identity) {
+        Ok(
+            Twin {
+                block,
+                have,
+                need,
+                bytes,
+            },
+        ) => {
+            *fault = reason_fault(Reason::Thin { block, have, need });
+            if put_bytes(&bytes, twin, size) {
+                status::OK
+            } else {
+                status::NO_ROOM
+            }
+        }
+        Err(Untwinned::NoneShort) => status::NONE_SHORT,
+        Err(Untwinned::No(reason)) => {
+            *fault = reason_fault(reason);
+            status::NO
+        }
+        Err(Untwinned::Session(e)) => {
+            *fault = frame_fault(e);
+            status::NO_SESSION
+        }
+        Err(Untwinned::Certificate(e)) => {
+            *fault = certificate_fault(e);
+            status::NO_CERTIFICATE
+        }
+        Err(Untwinned::NoMemory) => status::NO_MEMORY,
+    }
+}
