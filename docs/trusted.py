@@ -74,10 +74,14 @@ PROMISES = [
     ("reading", "`check_from`: a check of what a reader gives", [("cert", "check_from", [])], ["headline", "verdict", "losses"]),
     ("twins", "`twin`", [("cert", "twin", []), ("cert", "session_twin", [])], ["headline", "verdict"]),
     ("library", "every public call of the library", None, []),
+    ("embedding", "the calls for C", [
+        ("alcrs_c", f"alcrs_{call}", []) for call in ("check", "object_length", "decode", "encode", "certify", "twin")
+    ], ["library"]),
     ("commands", "the program's commands", [("tool", "run", [])], ["library"]),
     ("program", "the program, from its words to its output", [("tool", "answer", [])], ["library", "commands"]),
 ]
-COMMAND_LINE = {"request", "tool", "alcrs"}
+# The crates that stand on the library and offer it further.
+ABOVE_THE_LIBRARY = {"request", "tool", "alcrs", "alcrs_c"}
 
 
 class Module:
@@ -183,7 +187,7 @@ def contracts(path):
             in_model = bool(re.match(r"impl(<.*>)? Model for ", text)) and not in_private
             in_impl = bool(re.match(r"impl(<.*>)? [A-Z][\w<>, ]* for ", text)) and not in_model and not in_private
             function = None
-        named = re.match(r"(pub(?:\(crate\))? )?(?:const )?fn (\w+)", text)
+        named = re.match(r"(pub(?:\(crate\))? )?(?:extern \"C\" )?(?:const )?fn (\w+)", text)
         if named:
             is_public = (named.group(1) == "pub " and not in_private) or in_trait or in_impl
             function, label = (named.group(2) if is_public else None), ""
@@ -376,7 +380,7 @@ def promised(modules, name):
 
     def is_wanted(crate, function, label):
         if clauses is None:
-            return crate not in COMMAND_LINE
+            return crate not in ABOVE_THE_LIBRARY
         return any(crate == c and function == f and (not labels or label in labels) for c, f, labels in clauses)
 
     return closure(modules, roots(is_wanted))

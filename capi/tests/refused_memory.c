@@ -1,0 +1,102 @@
+/* Refuses the n-th allocation of each call, for n from 0 until the call needs no more. Each call has to end as with memory, or
+ * by ALCRS_NO_MEMORY with its outputs as they were. Linked with --wrap=malloc,--wrap=realloc. */
+#include "files.h"
+#include <alcrs.h>
+#include <string.h>
+
+static long left = -1; /* how many allocations are still granted; below 0 all are */
+static int refused;
+
+void *__real_malloc(size_t size);
+void *__real_realloc(void *old, size_t size);
+void *__wrap_malloc(size_t size);
+void *__wrap_realloc(void *old, size_t size);
+
+static int is_refused(void) {
+    if (left < 0) return 0;
+    if (left-- > 0) return 0;
+    refused = 1;
+    return 1;
+}
+
+void *__wrap_malloc(size_t size) {
+    return is_refused() ? 0 : __real_malloc(size);
+}
+
+void *__wrap_realloc(void *old, size_t size) {
+    return is_refused() ? 0 : __real_realloc(old, size);
+}
+
+enum { CHECK, LENGTH, DECODE, ENCODE, CERTIFY, TWIN, CALLS };
+
+static struct outputs {
+    struct alcrs_fault fault;
+    struct alcrs_report report;
+    struct alcrs_block blocks[4];
+    size_t kill[8];
+    uint64_t length;
+    size_t size;
+} outputs, untouched;
+
+static struct files files;
+static uint8_t *buffer;
+static size_t buffer_size;
+
+static enum alcrs_status call(int which) {
+    const uint8_t *session = files.session.at, *object = files.object.at, *certificate = files.certificate.at;
+    size_t s = files.session.size, o = files.object.size, z = files.certificate.size;
+    struct outputs *out = &outputs;
+    switch (which) {
+    case CHECK:
+        return alcrs_check(session, s, object, o, certificate, z, files.tsi, 0, files.toi, &out->fault, &out->report,
+                           out->blocks, 4, out->kill, 8);
+    case LENGTH:
+        return alcrs_object_length(session, s, files.tsi, 0, files.toi, &out->fault, &out->length);
+    case DECODE:
+        return alcrs_decode(session, s, files.tsi, 0, files.toi, &out->fault, buffer, buffer_size, &out->size);
+    case ENCODE:
+        return alcrs_encode(object, o, 7, 1, 250, 27, 33, 1, true, &out->fault, buffer, buffer_size, &out->size);
+    case CERTIFY:
+        return alcrs_certify(object, o, 7, 0, 1, 250, 27, 33, &out->fault, buffer, buffer_size, &out->size);
+    default: {
+        /* Without its first half the session has too few symbols. */
+        size_t from = 0;
+        while (from < s / 2) from += 2 + ((size_t)session[from] << 8 | session[from + 1]);
+        return alcrs_twin(session + from, s - from, object, o, certificate, z, files.tsi, 0, files.toi, &out->fault,
+                          buffer, buffer_size, &out->size);
+    }
+    }
+}
+
+static int is_untouched(void) {
+    for (size_t i = 0; i < buffer_size; i++)
+        if (buffer[i] != 0xEE) return 0;
+    return !memcmp(&outputs, &untouched, sizeof outputs);
+}
+
+int main(int count, char **words) {
+    files = read_files(count, words);
+    buffer_size = 4 * files.object.size + 100000;
+    buffer = room(buffer_size);
+    memset(&untouched, 0xEE, sizeof untouched);
+    int runs = 0, wrong = 0;
+    for (int which = 0; which < CALLS; which++) {
+        for (long at = 0;; at++, runs++) {
+            memset(&outputs, 0xEE, sizeof outputs);
+            memset(buffer, 0xEE, buffer_size);
+            refused = 0;
+            left = at;
+            enum alcrs_status status = call(which);
+            left = -1;
+            if (status != ALCRS_OK && (status != ALCRS_NO_MEMORY || !refused || !is_untouched())) {
+                printf("call %d, allocation %ld: status %d\n", which, at, (int)status);
+                wrong++;
+            }
+            if (!refused) break;
+        }
+    }
+    printf("refused memory: %d runs, %d wrong\n", runs, wrong);
+    free_files(&files);
+    free(buffer);
+    return wrong != 0;
+}

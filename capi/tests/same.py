@@ -1,0 +1,170 @@
+#!/usr/bin/env python3
+"""Compares the library's answers with the program's lines: same.py PROGRAM SAMPLES COUNT.
+
+Sessions, objects and certificates are cut, thinned, joined, turned about and changed at random, always the same way. Of each
+the library and the program check, decode and make a twin; the lines have to be the same, and so do the files.
+"""
+import os
+import random
+import subprocess
+import sys
+import tempfile
+from collections import Counter
+from typing import Callable, List, Optional, Tuple
+
+import alcrs
+
+
+def frames_of(session: bytes) -> List[bytes]:
+    found, at = [], 0
+    while at < len(session):
+        size = 2 + int.from_bytes(session[at : at + 2], "big")
+        found.append(session[at : at + size])
+        at += size
+    return found
+
+
+def changed(data: bytes, turn: random.Random) -> bytes:
+    """The bytes with a bit turned, a byte set, or some left out or put in."""
+    at = turn.randrange(len(data))
+    return {
+        0: lambda: data[:at] + bytes([data[at] ^ 1 << turn.randrange(8)]) + data[at + 1 :],
+        1: lambda: data[:at] + bytes([turn.choice((0, 1, 255, turn.randrange(256)))]) + data[at + 1 :],
+        2: lambda: data[:at],
+        3: lambda: data[:at] + data[at + turn.randrange(1, 9) :],
+        4: lambda: data[:at] + turn.randbytes(turn.randrange(1, 9)) + data[at:],
+    }[turn.choice((0, 0, 0, 1, 2, 3, 4))]()
+
+
+def session_of(frames: List[bytes], others: List[bytes], turn: random.Random) -> bytes:
+    """A session of some of the datagrams, in whatever order, with others among them, and maybe with one changed."""
+    some = [it for it in frames if turn.random() < turn.choice((0.4, 0.8, 1.0))]
+    if turn.random() < 0.3:
+        some += turn.sample(others, min(len(others), 3))
+    if turn.random() < 0.5:
+        turn.shuffle(some)
+    if some and turn.random() < 0.4:
+        # A change within a datagram, whose length still fits.
+        at = turn.randrange(len(some))
+        datagram = bytearray(some[at])
+        if turn.random() < 0.7:
+            datagram[turn.randrange(2, min(len(datagram), 44))] ^= 1 << turn.randrange(8)
+        else:
+            # A symbol that is shorter, or longer.
+            del datagram[len(datagram) - turn.randrange(1, 4) :]
+            datagram += turn.randbytes(turn.choice((0, 0, 4)))
+            datagram[:2] = (len(datagram) - 2).to_bytes(2, "big")
+        some[at] = bytes(datagram)
+    if some and turn.random() < 0.05:
+        # A length that no datagram has, or the first byte of one at the end.
+        some.append(turn.choice((b"\xff\xf4", b"\x00")))
+    return b"".join(some)
+
+
+Answer = Tuple[List[str], Optional[bytes]]
+
+
+def program_answer(program: str, room: str, *words: str) -> Answer:
+    out = f"{room}/out"
+    if os.path.exists(out):
+        os.remove(out)
+    ran = subprocess.run([program, *words], cwd=room, stdout=subprocess.PIPE, text=True, check=False)
+    made = None
+    if os.path.exists(out):
+        with open(out, "rb") as file:
+            made = file.read()
+    return ran.stdout.splitlines(), made
+
+
+def library_answer(call: Callable[[], Answer]) -> Answer:
+    try:
+        return call()
+    except (alcrs.Missing, alcrs.Empty, alcrs.NoneShort) as told:
+        return [str(told)], None
+    except (alcrs.Refused, alcrs.NoSession, alcrs.NoCertificate) as told:
+        return [f"fault {told}"], None
+    except alcrs.AlcrsError as told:
+        return [f"no {told}"], None
+
+
+def check_lines(session: bytes, an_object: bytes, certificate: bytes, toi: int) -> Answer:
+    answer = alcrs.check(session, an_object, certificate, 7, toi)
+    if isinstance(answer, alcrs.No):
+        return [f"no {answer}"], None
+    return [
+        "yes",
+        *[f"block {i} need {need} have {have}" for i, (need, have) in enumerate(answer.blocks)],
+        f"carriers {answer.carriers}",
+        f"margin {answer.margin}",
+        "kill" + "".join(f" {place}" for place in answer.kill),
+        f"burst {answer.burst}",
+    ], None
+
+
+def decode_lines(session: bytes, toi: int) -> Answer:
+    found = alcrs.decode(session, 7, toi)
+    return [f"object {len(found)} bytes"], found
+
+
+def twin_lines(session: bytes, an_object: bytes, certificate: bytes, toi: int) -> Answer:
+    found = alcrs.twin(session, an_object, certificate, 7, toi)
+    short = alcrs.check(session, an_object, certificate, 7, toi)
+    return [f"twin block {short.block} have {short.have} need {short.need}"], found
+
+
+def main(program: str, samples: str, count: int) -> int:
+    def read(name: str) -> bytes:
+        with open(f"{samples}/{name}", "rb") as file:
+            return file.read()
+
+    kinds = [
+        (read("note.session"), read("note.txt"), read("note.rsc"), 2),
+        (read("sparse.session"), read("note.txt"), read("note.rsc"), 2),
+        (read("note.session"), read("note.txt"), read("note.rsc1"), 2),
+        (read("two.session"), read("note.txt"), read("note.rsc"), 2),
+        (read("bulletin.session"), read("bulletin.txt"), read("bulletin.rsc"), 1),
+    ]
+    others = frames_of(read("bulletin.session"))
+    turn = random.Random(1)
+    seen: Counter = Counter()
+    differ = 0
+    with tempfile.TemporaryDirectory() as room:
+        for number in range(count):
+            session, an_object, certificate, toi = kinds[number % len(kinds) if number % 10 else 4]
+            if turn.random() < 0.8:
+                session = session_of(frames_of(session), others, turn)
+            for at in range(turn.choice((0, 0, 1))):
+                which = turn.randrange(4)
+                if which < 2 and session:
+                    session = changed(session, turn)
+                elif which == 2:
+                    an_object = changed(an_object, turn)
+                else:
+                    certificate = changed(certificate, turn)
+            for name, data in (("session", session), ("object", an_object), ("certificate", certificate)):
+                with open(f"{room}/{name}", "wb") as file:
+                    file.write(data)
+            ids = ("--tsi", "7", "--toi", str(toi))
+            three = ("session", "object", "certificate")
+            for what, told, own in (
+                ("check", program_answer(program, room, "check", *three, *ids),
+                 library_answer(lambda: check_lines(session, an_object, certificate, toi))),
+                ("decode", program_answer(program, room, "decode", "session", "out", *ids),
+                 library_answer(lambda: decode_lines(session, toi))),
+                ("twin", program_answer(program, room, "twin", *three, "out", *ids),
+                 library_answer(lambda: twin_lines(session, an_object, certificate, toi))),
+            ):
+                # A twin's verdict is read of the whole session, and the program's `check` stops at the first reason.
+                seen[" ".join([what, *told[0][0].split()[:2]])] += 1
+                if told != own:
+                    differ += 1
+                    print(f"input {number}: {what}: the program says {told[0]}, the library {own[0]}")
+    print(f"same.py: {count} inputs, {len(seen)} kinds of answers, {differ} differ")
+    if os.environ.get("VERBOSE"):
+        for kind, times in sorted(seen.items()):
+            print(f"  {times:6} {kind}")
+    return differ != 0
+
+
+if __name__ == "__main__":
+    sys.exit(main(sys.argv[1], sys.argv[2], int(sys.argv[3])))

@@ -1,0 +1,44 @@
+/* Four threads check and decode the same bytes at once, each with outputs of its own. */
+#include "files.h"
+#include <alcrs.h>
+#include <pthread.h>
+#include <string.h>
+
+enum { THREADS = 4, TURNS = 25 };
+
+static struct files files;
+
+static void *work(void *wrong) {
+    uint8_t *out = room(files.object.size);
+    for (int turn = 0; turn < TURNS; turn++) {
+        struct alcrs_fault fault = {0};
+        struct alcrs_report report = {0};
+        struct alcrs_block blocks[4] = {{0, 0}};
+        size_t kill[8] = {0}, size = 0;
+        if (alcrs_check(files.session.at, files.session.size, files.object.at, files.object.size, files.certificate.at,
+                        files.certificate.size, files.tsi, 0, files.toi, &fault, &report, blocks, 4, kill, 8))
+            ++*(int *)wrong;
+        memset(out, 0, files.object.size);
+        if (alcrs_decode(files.session.at, files.session.size, files.tsi, 0, files.toi, &fault, out, files.object.size,
+                         &size) ||
+            size != files.object.size || memcmp(out, files.object.at, size))
+            ++*(int *)wrong;
+    }
+    free(out);
+    return 0;
+}
+
+int main(int count, char **words) {
+    files = read_files(count, words);
+    pthread_t threads[THREADS];
+    int wrong[THREADS] = {0}, all = 0;
+    for (int i = 0; i < THREADS; i++)
+        if (pthread_create(&threads[i], 0, work, &wrong[i])) return 2;
+    for (int i = 0; i < THREADS; i++) {
+        pthread_join(threads[i], 0);
+        all += wrong[i];
+    }
+    free_files(&files);
+    if (all) printf("threads: %d answers are wrong\n", all);
+    return all != 0;
+}
