@@ -1,8 +1,9 @@
 /* alcrs: certifies multicast file-delivery sessions (ALC, Reed-Solomon over GF(2^8)), and decodes them.
  *
  * Each call is a function of its arguments alone. There is no global state and nothing to set up or tear down. Calls may run
- * at the same time in several threads, as long as no two share an output. A call takes memory from malloc and frees it before
- * it returns. It keeps no pointer, and never ends the process.
+ * at the same time in several threads, as long as no two share an output or a receiver. A call takes memory from malloc and
+ * frees it before it returns; only an open receiver has memory between calls. No call keeps a pointer that it was passed, and
+ * none ends the process.
  *
  * What a caller has to see to:
  * - no pointer is NULL, not even one to no bytes;
@@ -42,7 +43,12 @@ enum alcrs_status {
     ALCRS_NO_ROOM = 9,         /* the buffer is too small: *size is what is needed, and the buffer is as it was */
     ALCRS_NO_MEMORY = 10,      /* malloc or realloc has refused; nothing is said of the inputs */
     ALCRS_OUT_OF_RANGE = 11,   /* a number is out of its range, as the call tells */
-    ALCRS_NONE_SHORT = 12      /* the check says yes, so that there is no twin */
+    ALCRS_NONE_SHORT = 12,     /* the check says yes, so that there is no twin */
+    ALCRS_IS_OPEN = 13,        /* the receiver is open already */
+    ALCRS_NOT_OPEN = 14,       /* the receiver isn't open */
+    ALCRS_MORE = 15,           /* the datagram was accepted, and more are needed */
+    ALCRS_EARLY = 16,          /* the datagram is refused: it has no FTI, and came before one */
+    ALCRS_FULL = 17            /* the datagram is refused: as many were accepted as can be counted */
 };
 
 /* Why a call says no, or nothing. What doesn't belong to the reason is 0.
@@ -174,6 +180,51 @@ enum alcrs_status alcrs_certify(const uint8_t *object, size_t object_size, uint6
 enum alcrs_status alcrs_twin(const uint8_t *session, size_t session_size, const uint8_t *object, size_t object_size,
                              const uint8_t *certificate, size_t certificate_size, uint64_t tsi, uint64_t toi_high,
                              uint64_t toi_low, struct alcrs_fault *fault, uint8_t *twin, size_t twin_room, size_t *size);
+
+/* A receiver of the datagrams of one object, one at a time. It keeps symbols, never more of a block than the block has source
+ * symbols, and no datagram.
+ *
+ * Set it to zero before anything else, as by struct alcrs_receiver receiver = {0}, and leave its members to the calls below. It
+ * may be moved to another place, but of two copies only one may be used. It stays on the thread that opened it. Close it in the
+ * end, or its memory is lost. */
+struct alcrs_receiver {
+    void *place;
+    bool is_open;
+};
+
+/* Opens a receiver for the packets of a TSI and TOI.
+ *
+ * ALCRS_OK         it is open, and no datagram was accepted
+ * ALCRS_NO_MEMORY  it is as it was
+ * ALCRS_IS_OPEN    it is as it was */
+enum alcrs_status alcrs_receiver_open(struct alcrs_receiver *receiver, uint64_t tsi, uint64_t toi_high, uint64_t toi_low);
+
+/* Passes one datagram on. Packets of other identities are accepted, and passed over.
+ *
+ * ALCRS_OK         it was accepted, and every block has as many symbols as it needs: the object is there
+ * ALCRS_MORE       it was accepted, and more are needed
+ * ALCRS_REFUSED    with it the datagrams would be of no object: *fault, whose place is how many were accepted before
+ * ALCRS_EARLY
+ * ALCRS_FULL
+ * ALCRS_NO_MEMORY
+ * ALCRS_NOT_OPEN
+ * At all but the first two the datagram is refused, and the receiver is as it was: the datagram may be passed again. */
+enum alcrs_status alcrs_receiver_feed(struct alcrs_receiver *receiver, const uint8_t *datagram, size_t datagram_size,
+                                      struct alcrs_fault *fault);
+
+/* Tells what the accepted datagrams say of the object. The receiver may be fed further, and asked again.
+ *
+ * ALCRS_OK         object begins with the object, and *size is its length
+ * ALCRS_MISSING    *fault
+ * ALCRS_EMPTY
+ * ALCRS_NO_ROOM    there is an object, and *size is its length
+ * ALCRS_NO_MEMORY
+ * ALCRS_NOT_OPEN */
+enum alcrs_status alcrs_receiver_object(struct alcrs_receiver *receiver, struct alcrs_fault *fault, uint8_t *object,
+                                        size_t object_room, size_t *size);
+
+/* Closes a receiver, and frees its memory. One that isn't open stays so. It may be opened again. */
+void alcrs_receiver_close(struct alcrs_receiver *receiver);
 
 #ifdef __cplusplus
 }

@@ -75,7 +75,10 @@ PROMISES = [
     ("twins", "`twin`", [("cert", "twin", []), ("cert", "session_twin", [])], ["headline", "verdict"]),
     ("library", "every public call of the library", None, []),
     ("embedding", "the calls for C", [
-        ("alcrs_c", f"alcrs_{call}", []) for call in ("check", "object_length", "decode", "encode", "certify", "twin")
+        ("alcrs_c", f"alcrs_{call}", []) for call in (
+            "check", "object_length", "decode", "encode", "certify", "twin", "receiver_open", "receiver_feed", "receiver_object",
+            "receiver_close",
+        )
     ], ["library"]),
     ("commands", "the program's commands", [("tool", "run", [])], ["library"]),
     ("program", "the program, from its words to its output", [("tool", "answer", [])], ["library", "commands"]),

@@ -11,13 +11,14 @@ from __future__ import annotations
 
 import ctypes
 import os
-from ctypes import POINTER, byref, c_bool, c_char_p, c_size_t, c_uint8, c_uint16, c_uint32, c_uint64
+from ctypes import POINTER, byref, c_bool, c_char_p, c_size_t, c_uint8, c_uint16, c_uint32, c_uint64, c_void_p
 from dataclasses import dataclass
 from enum import IntEnum
 from typing import Callable, List, Tuple, Union
 
 __all__ = [
-    "AlcrsError", "Empty", "Missing", "No", "NoCertificate", "NoneShort", "NoSession", "Refused", "Report", "Status",
+    "AlcrsError", "Early", "Empty", "Missing", "No", "NoCertificate", "NoneShort", "NoSession", "Receiver", "Refused",
+    "Report", "Status",
     "certify", "check", "decode", "encode", "object_length", "twin", "version",
 ]
 
@@ -38,6 +39,11 @@ class Status(IntEnum):
     NO_MEMORY = 10
     OUT_OF_RANGE = 11
     NONE_SHORT = 12
+    IS_OPEN = 13
+    NOT_OPEN = 14
+    MORE = 15
+    EARLY = 16
+    FULL = 17
 
 
 class _Fault(ctypes.Structure):
@@ -52,6 +58,10 @@ class _Block(ctypes.Structure):
 
 class _Report(ctypes.Structure):
     _fields_ = [(name, c_size_t) for name in ("block_count", "carriers", "margin", "burst", "kill_count")]
+
+
+class _Receiver(ctypes.Structure):
+    _fields_ = [("place", c_void_p), ("is_open", c_bool)]
 
 
 # The words of each reason, as the program prints them: {place} and the like are the fault's fields.
@@ -96,6 +106,9 @@ _OTHERS = {
     Status.NO_MEMORY: "NoMemory",
     Status.OUT_OF_RANGE: "a number is out of its range",
     Status.NONE_SHORT: "no twin",
+    Status.NOT_OPEN: "the receiver is closed",
+    Status.EARLY: "G2 Early",
+    Status.FULL: "G1 Full",
 }
 
 
@@ -140,6 +153,10 @@ class NoneShort(AlcrsError):
     """The check says yes, so that there is no twin."""
 
 
+class Early(AlcrsError):
+    """The datagram has no FTI, and came before one."""
+
+
 _ERRORS = {
     Status.MISSING: Missing,
     Status.EMPTY: Empty,
@@ -147,13 +164,14 @@ _ERRORS = {
     Status.NO_SESSION: NoSession,
     Status.NO_CERTIFICATE: NoCertificate,
     Status.NONE_SHORT: NoneShort,
+    Status.EARLY: Early,
 }
 
 
 def _error(status: int, fault: _Fault) -> Exception:
     if status == Status.NO_MEMORY:
         return MemoryError("alcrs")
-    if status in (Status.NO_FTI, Status.TOO_LONG, Status.OUT_OF_RANGE):
+    if status in (Status.NO_FTI, Status.TOO_LONG, Status.OUT_OF_RANGE, Status.NOT_OPEN):
         return ValueError(_words(Status(status), fault))
     return _ERRORS.get(Status(status), AlcrsError)(Status(status), fault)
 
@@ -203,9 +221,13 @@ for _call, _arguments in {
     "encode": (*_INPUT, c_uint32, c_uint32, *_NUMBERS, c_uint32, c_bool, *_OUTPUT),
     "certify": (*_INPUT, *_NAME, *_NUMBERS, *_OUTPUT),
     "twin": (*_INPUT, *_INPUT, *_INPUT, *_NAME, *_OUTPUT),
+    "receiver_open": (POINTER(_Receiver), *_NAME),
+    "receiver_feed": (POINTER(_Receiver), *_INPUT, POINTER(_Fault)),
+    "receiver_object": (POINTER(_Receiver), *_OUTPUT),
+    "receiver_close": (POINTER(_Receiver),),
 }.items():
     getattr(_library, f"alcrs_{_call}").argtypes = _arguments
-    getattr(_library, f"alcrs_{_call}").restype = c_uint32
+    getattr(_library, f"alcrs_{_call}").restype = None if _call == "receiver_close" else c_uint32
 
 
 def version() -> int:
@@ -304,3 +326,49 @@ def twin(session: bytes, an_object: bytes, certificate: bytes, tsi: int, toi: in
     name = _name(tsi, toi)
     return _put(lambda *out: _library.alcrs_twin(session, len(session), an_object, len(an_object), certificate,
                                                  len(certificate), *name, *out), len(an_object))
+
+
+class Receiver:
+    """A receiver of the datagrams of one object, one at a time. It belongs to one thread; a with statement closes it.
+
+        with alcrs.Receiver(tsi=7, toi=1) as receiver:
+            while not receiver.feed(next_datagram()):
+                pass
+            print(receiver.object())
+    """
+
+    def __init__(self, tsi: int, toi: int) -> None:
+        self._handle = _Receiver()
+        status = _library.alcrs_receiver_open(byref(self._handle), *_name(tsi, toi))
+        if status != Status.OK:
+            raise _error(status, _Fault())
+
+    def feed(self, datagram: bytes) -> bool:
+        """Passes a datagram on, and tells whether the object is there.
+
+        Where it raises, the datagram is refused and the receiver as before: Refused, Early, AlcrsError or MemoryError;
+        ValueError where the receiver is closed.
+        """
+        fault = _Fault()
+        status = _library.alcrs_receiver_feed(byref(self._handle), datagram, len(datagram), byref(fault))
+        if status not in (Status.OK, Status.MORE):
+            raise _error(status, fault)
+        return status == Status.OK
+
+    def object(self) -> bytes:
+        """The object that the datagrams give. Raises Missing, Empty or MemoryError, or ValueError where it is closed."""
+        return _put(lambda *out: _library.alcrs_receiver_object(byref(self._handle), *out), 0)
+
+    def close(self) -> None:
+        """Frees what was kept. A receiver that is closed stays so."""
+        _library.alcrs_receiver_close(byref(self._handle))
+
+    def __enter__(self) -> "Receiver":
+        return self
+
+    def __exit__(self, *_: object) -> None:
+        self.close()
+
+    def __del__(self) -> None:
+        if hasattr(self, "_handle"):
+            self.close()

@@ -182,6 +182,38 @@ int main(int count, char **words) {
            ALCRS_NO_CERTIFICATE);
     EXPECT(SAME_BUFFER() && fault.number == 3 && size == 77);
 
+    struct alcrs_receiver receiver = {0}, other = {0};
+    CLEAR();
+    EXPECT(alcrs_receiver_feed(&receiver, session + 2, frame - 2, &fault) == ALCRS_NOT_OPEN && same_fault());
+    EXPECT(alcrs_receiver_object(&receiver, &fault, buffer, most, &size) == ALCRS_NOT_OPEN && same_fault() && size == 77);
+    alcrs_receiver_close(&receiver);
+    EXPECT(alcrs_receiver_open(&receiver, tsi, 0, toi) == ALCRS_OK);
+    EXPECT(alcrs_receiver_open(&receiver, tsi + 1, 0, toi) == ALCRS_IS_OPEN);
+    EXPECT(alcrs_receiver_open(&other, tsi + 1, 0, toi) == ALCRS_OK);
+    EXPECT(alcrs_receiver_object(&receiver, &fault, buffer, most, &size) == ALCRS_EMPTY && same_fault() && size == 77);
+    EXPECT(alcrs_receiver_feed(&receiver, session, 3, &fault) == ALCRS_REFUSED && is_fault(1, 1, 0, 0, 0, 0, 0));
+    CLEAR();
+    for (size_t i = 0; i < 3; i++) {
+        EXPECT(alcrs_receiver_feed(&receiver, session + i * frame + 2, frame - 2, &fault) == ALCRS_MORE && same_fault());
+        EXPECT(alcrs_receiver_feed(&other, session + i * frame + 2, frame - 2, &fault) == ALCRS_MORE && same_fault());
+    }
+    EXPECT(alcrs_receiver_object(&receiver, &fault, buffer, most, &size) == ALCRS_MISSING && size == 77 && SAME_BUFFER());
+    EXPECT(is_fault(0, 0, 0, 0, 0, 3, 4));
+    CLEAR();
+    /* A receiver may be moved. */
+    struct alcrs_receiver moved = receiver;
+    EXPECT(alcrs_receiver_feed(&moved, session + 3 * frame + 2, frame - 2, &fault) == ALCRS_OK && same_fault());
+    EXPECT(alcrs_receiver_object(&moved, &fault, buffer, o - 1, &size) == ALCRS_NO_ROOM && size == o && SAME_BUFFER());
+    EXPECT(alcrs_receiver_object(&moved, &fault, buffer, most, &size) == ALCRS_OK && size == o && same_fault());
+    EXPECT(!memcmp(buffer, object, o) && all(buffer, o, most, 0xEE));
+    EXPECT(alcrs_receiver_object(&other, &fault, buffer, most, &size) == ALCRS_EMPTY);
+    alcrs_receiver_close(&moved);
+    alcrs_receiver_close(&moved);
+    EXPECT(alcrs_receiver_feed(&moved, session + 2, frame - 2, &fault) == ALCRS_NOT_OPEN);
+    EXPECT(alcrs_receiver_open(&moved, tsi, 0, toi) == ALCRS_OK);
+    alcrs_receiver_close(&moved);
+    alcrs_receiver_close(&other);
+
     free_files(&files);
     free(buffer);
     free(before);

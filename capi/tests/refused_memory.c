@@ -27,7 +27,7 @@ void *__wrap_realloc(void *old, size_t size) {
     return is_refused() ? 0 : __real_realloc(old, size);
 }
 
-enum { CHECK, LENGTH, DECODE, ENCODE, CERTIFY, TWIN, CALLS };
+enum { CHECK, LENGTH, DECODE, ENCODE, CERTIFY, TWIN, OPEN, CALLS };
 
 static struct outputs {
     struct alcrs_fault fault;
@@ -58,6 +58,12 @@ static enum alcrs_status call(int which) {
         return alcrs_encode(object, o, 7, 1, 250, 27, 33, 1, true, &out->fault, buffer, buffer_size, &out->size);
     case CERTIFY:
         return alcrs_certify(object, o, 7, 0, 1, 250, 27, 33, &out->fault, buffer, buffer_size, &out->size);
+    case OPEN: {
+        struct alcrs_receiver receiver = {0};
+        enum alcrs_status status = alcrs_receiver_open(&receiver, files.tsi, 0, files.toi);
+        alcrs_receiver_close(&receiver);
+        return status;
+    }
     default: {
         /* Without its first half the session has too few symbols. */
         size_t from = 0;
@@ -66,6 +72,31 @@ static enum alcrs_status call(int which) {
                           buffer, buffer_size, &out->size);
     }
     }
+}
+
+/* Feeds a receiver and asks for the object. What is refused for want of memory is passed, or asked for, once more. */
+static int receives(void) {
+    const uint8_t *session = files.session.at;
+    struct alcrs_receiver receiver = {0};
+    enum alcrs_status status;
+    int again = 0;
+    while ((status = alcrs_receiver_open(&receiver, files.tsi, 0, files.toi)) == ALCRS_NO_MEMORY && !again++) {}
+    for (size_t at = 0; at < files.session.size;) {
+        size_t length = (size_t)session[at] << 8 | session[at + 1];
+        status = alcrs_receiver_feed(&receiver, session + at + 2, length, &outputs.fault);
+        if (status == ALCRS_OK) break;
+        if (status == ALCRS_NO_MEMORY && !again++) continue;
+        if (status != ALCRS_MORE) break;
+        at += 2 + length;
+    }
+    if (status == ALCRS_OK) {
+        do
+            status = alcrs_receiver_object(&receiver, &outputs.fault, buffer, buffer_size, &outputs.size);
+        while (status == ALCRS_NO_MEMORY && !again++);
+    }
+    alcrs_receiver_close(&receiver);
+    return status == ALCRS_OK && again == refused && outputs.size == files.object.size &&
+           !memcmp(buffer, files.object.at, outputs.size);
 }
 
 static int is_untouched(void) {
@@ -94,6 +125,17 @@ int main(int count, char **words) {
             }
             if (!refused) break;
         }
+    }
+    for (long at = 0;; at++, runs++) {
+        refused = 0;
+        left = at;
+        int right = receives();
+        left = -1;
+        if (!right) {
+            printf("receiver, allocation %ld: wrong\n", at);
+            wrong++;
+        }
+        if (!refused) break;
     }
     printf("refused memory: %d runs, %d wrong\n", runs, wrong);
     free_files(&files);

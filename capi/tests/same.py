@@ -6,6 +6,7 @@ the library and the program check, decode and make a twin; the lines have to be 
 """
 import os
 import random
+import re
 import subprocess
 import sys
 import tempfile
@@ -22,6 +23,12 @@ def frames_of(session: bytes) -> List[bytes]:
         found.append(session[at : at + size])
         at += size
     return found
+
+
+def is_whole(session: bytes) -> bool:
+    """Whether the session is frames to its end, which are all that a receiver is fed with."""
+    frames = frames_of(session)
+    return all(len(it) >= 2 and len(it) - 2 == int.from_bytes(it[:2], "big") <= 65507 for it in frames)
 
 
 def changed(data: bytes, turn: random.Random) -> bytes:
@@ -112,6 +119,25 @@ def twin_lines(session: bytes, an_object: bytes, certificate: bytes, toi: int) -
     return [f"twin block {short.block} have {short.have} need {short.need}"], found
 
 
+def follow_lines(session: bytes, toi: int) -> Answer:
+    """What `follow` prints: each datagram that is refused, when the object is there, and the object or what lacks."""
+    lines = []
+    with alcrs.Receiver(7, toi) as receiver:
+        for place, frame in enumerate(frames_of(session)):
+            try:
+                if receiver.feed(frame[2:]):
+                    lines.append(f"complete after {place + 1} datagrams")
+                    break
+            except alcrs.AlcrsError as told:
+                # The place in the fault is that among the accepted datagrams, and isn't printed.
+                lines.append(f"refused {place} " + re.sub(r" place \d+", "", str(told)))
+        try:
+            found = receiver.object()
+            return [*lines, f"object {len(found)} bytes"], found
+        except (alcrs.Missing, alcrs.Empty) as told:
+            return [*lines, str(told)], None
+
+
 def main(program: str, samples: str, count: int) -> int:
     def read(name: str) -> bytes:
         with open(f"{samples}/{name}", "rb") as file:
@@ -146,15 +172,18 @@ def main(program: str, samples: str, count: int) -> int:
                     file.write(data)
             ids = ("--tsi", "7", "--toi", str(toi))
             three = ("session", "object", "certificate")
-            for what, told, own in (
-                ("check", program_answer(program, room, "check", *three, *ids),
-                 library_answer(lambda: check_lines(session, an_object, certificate, toi))),
-                ("decode", program_answer(program, room, "decode", "session", "out", *ids),
-                 library_answer(lambda: decode_lines(session, toi))),
-                ("twin", program_answer(program, room, "twin", *three, "out", *ids),
-                 library_answer(lambda: twin_lines(session, an_object, certificate, toi))),
-            ):
-                # A twin's verdict is read of the whole session, and the program's `check` stops at the first reason.
+            calls = [
+                ("check", three, lambda: check_lines(session, an_object, certificate, toi)),
+                ("decode", ("session", "out"), lambda: decode_lines(session, toi)),
+            ]
+            # Each other call for some of the inputs, as starting a program takes long.
+            if number % 4 == 0:
+                calls.append(("twin", (*three, "out"), lambda: twin_lines(session, an_object, certificate, toi)))
+            if number % 4 == 2 and is_whole(session):
+                calls.append(("follow", ("session", "out"), lambda: follow_lines(session, toi)))
+            for what, names, call in calls:
+                told = program_answer(program, room, what, *names, *ids)
+                own = library_answer(call)
                 seen[" ".join([what, *told[0][0].split()[:2]])] += 1
                 if told != own:
                     differ += 1

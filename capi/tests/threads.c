@@ -1,4 +1,4 @@
-/* Four threads check and decode the same bytes at once, each with outputs of its own. */
+/* Four threads check, decode and receive the same bytes at once, each with outputs and a receiver of its own. */
 #include "files.h"
 #include <alcrs.h>
 #include <pthread.h>
@@ -24,6 +24,20 @@ static void *work(void *wrong) {
             size != files.object.size || memcmp(out, files.object.at, size))
             ++*(int *)wrong;
     }
+    struct alcrs_receiver receiver = {0};
+    struct alcrs_fault fault = {0};
+    if (alcrs_receiver_open(&receiver, files.tsi, 0, files.toi)) ++*(int *)wrong;
+    enum alcrs_status status = ALCRS_MORE;
+    for (size_t at = 0, length; status == ALCRS_MORE && at < files.session.size; at += 2 + length) {
+        length = (size_t)files.session.at[at] << 8 | files.session.at[at + 1];
+        status = alcrs_receiver_feed(&receiver, files.session.at + at + 2, length, &fault);
+    }
+    size_t size = 0;
+    memset(out, 0, files.object.size);
+    if (status || alcrs_receiver_object(&receiver, &fault, out, files.object.size, &size) ||
+        memcmp(out, files.object.at, files.object.size))
+        ++*(int *)wrong;
+    alcrs_receiver_close(&receiver);
     free(out);
     return 0;
 }

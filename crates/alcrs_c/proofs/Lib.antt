@@ -1,1 +1,3 @@
 pub mod InFront
+mod BoxParts
+mod ReceiverParts

@@ -9,3 +9,5 @@ pub mod Twinned
 pub mod Untwinned
 pub mod Making
 pub mod Unmade
+pub mod Ownership
+pub mod Handles

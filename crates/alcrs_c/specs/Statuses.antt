@@ -54,6 +54,26 @@ out_of_range = 11
 abbrev pub none_short : ℕ
 none_short = 12
 
+-- the handle is open already
+abbrev pub is_open : ℕ
+is_open = 13
+
+-- the handle isn't open
+abbrev pub not_open : ℕ
+not_open = 14
+
+-- the datagram was accepted, and more are needed
+abbrev pub more : ℕ
+more = 15
+
+-- the datagram has no FTI, and came before one
+abbrev pub early : ℕ
+early = 16
+
+-- as many datagrams were accepted as can be counted
+abbrev pub full : ℕ
+full = 17
+
 -- it is one of these
 abbrev pub IsOneOf : List ℕ → ℕ → Type 0
 IsOneOf statuses status = is_among statuses status ≡ true

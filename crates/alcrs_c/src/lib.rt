@@ -3,16 +3,22 @@
 //! - `status`: what a call returns;
 //! - `told`: the structs that C reads, and the numbers of faults and reasons;
 //! - `input`: identities, certificates and sessions of what C passes; `frames`: a session's datagrams without a copy;
-//! - `check`, `decode`, `twin`, `making`: the calls.
+//! - `check`, `decode`, `twin`, `making`: the calls from bytes to bytes;
+//! - `receiver`: a receiver behind a handle; `held`: what a handle owns; `apart`: a box as a pointer and its allocator.
 #![tactic(auto)]
 
+mod apart;
 mod check;
 mod decode;
 mod frames;
+mod held;
 mod input;
 mod making;
+mod receiver;
 mod status;
 mod told;
 mod twin;
 
+pub use held::Held;
+pub use receiver::AlcrsReceiver;
 pub use told::{AlcrsBlock, AlcrsFault, AlcrsReport};

@@ -26,3 +26,13 @@ pub(crate) const NO_MEMORY: u32 = 10;
 pub(crate) const OUT_OF_RANGE: u32 = 11;
 /// The check says yes, so no block is short.
 pub(crate) const NONE_SHORT: u32 = 12;
+/// The handle is open already.
+pub(crate) const IS_OPEN: u32 = 13;
+/// The handle isn't open.
+pub(crate) const NOT_OPEN: u32 = 14;
+/// The datagram was accepted, and more are needed.
+pub(crate) const MORE: u32 = 15;
+/// The datagram has no FTI, and came before one.
+pub(crate) const EARLY: u32 = 16;
+/// As many datagrams were accepted as can be counted.
+pub(crate) const FULL: u32 = 17;
