@@ -7,8 +7,9 @@ use Rattle.cert.specs.Certificate.{Certificate, IsCertificate, certificate_text}
 use Rattle.cert.specs.FromReader.{IsCheckedFrom, IsRefusedBehind}
 use Rattle.cert.specs.declared.verdict.Verdict.{Verdict}
 
--- The certificate's bytes are a certificate's. The session's bytes were read from the front, as far as the verdict needs, and
--- this is the verdict on the datagrams in them, with all that a yes promises.
+-- The certificate's bytes are a certificate's. The session's bytes were read from the front, as far
+-- as the verdict needs, and this is the verdict on the datagrams in them, with all that a yes
+-- promises.
 pub record IsChecked (who : Identity) (session object certificate : List ℕ) (verdict : Verdict) : Type 0 where
   pub z : Certificate
   pub is : IsCertificate z
@@ -16,8 +17,8 @@ pub record IsChecked (who : Identity) (session object certificate : List ℕ) (v
   pub left : List ℕ
   pub checked : IsCheckedFrom who (Some session) (Some left) object z verdict
 
--- The certificate's bytes are a certificate's. The session's bytes begin with frames that give no reason for a no, and then
--- comes something that is no frame, for this fault.
+-- The certificate's bytes are a certificate's. The session's bytes begin with frames that give no
+-- reason for a no, and then comes something that is no frame, for this fault.
 pub record IsCutOff (who : Identity) (session object certificate : List ℕ) (fault : FrameFault) : Type 0 where
   pub z : Certificate
   pub is : IsCertificate z

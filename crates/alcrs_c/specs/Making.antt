@@ -1,5 +1,5 @@
--- What is made of an object, by the numbers that C passes: the symbol length, and how many source symbols and how many
--- encoding symbols a block has at most.
+-- What is made of an object, by the numbers that C passes: the symbol length, and how many source
+-- symbols and how many encoding symbols a block has at most.
 use Rattle.std.specs.Prelude.{◌≡◌, ℕ, Bool, true, false, List, [], length, Some}
 use Rattle.partition.specs.Fti.{Fti, IsValidFti, fti_from}
 use Rattle.partition.specs.FtiFault.{fti_fault}

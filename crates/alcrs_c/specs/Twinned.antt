@@ -21,15 +21,18 @@ pub record OfRead (session certificate : List ℕ) (Fact : List (List ℕ) → C
 
 -- this is the verdict on them
 abbrev pub IsJudged : Identity → List ℕ → List ℕ → List ℕ → Verdict → Type 0
-IsJudged who session object certificate verdict = OfRead session certificate (λ ds z. IsVerdict who ds object z verdict)
+IsJudged who session object certificate verdict =
+    OfRead session certificate (λ ds z. IsVerdict who ds object z verdict)
 
 -- the block is the least that is short, and the other object a twin
 abbrev pub IsTwinIn : Identity → List (List ℕ) → List ℕ → Certificate → ℕ × ℕ × ℕ → List ℕ → Type 0
 IsTwinIn who datagrams object z short other =
-    IsVerdict who datagrams object z (No (Thin short.0 short.1 short.2)) × IsTwinOfSession who z.fti short.0 datagrams object other
+    IsVerdict who datagrams object z (No (Thin short.0 short.1 short.2))
+    × IsTwinOfSession who z.fti short.0 datagrams object other
 
 abbrev pub IsTwinned : Identity → List ℕ → List ℕ → List ℕ → ℕ × ℕ × ℕ → List ℕ → Type 0
-IsTwinned who session object certificate short other = OfRead session certificate (λ ds z. IsTwinIn who ds object z short other)
+IsTwinned who session object certificate short other =
+    OfRead session certificate (λ ds z. IsTwinIn who ds object z short other)
 
 -- the block that is short, how many symbols it has and how many it needs, where that is the reason
 abbrev pub short_of : Reason → Option (ℕ × ℕ × ℕ)

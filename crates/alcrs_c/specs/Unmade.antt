@@ -7,7 +7,8 @@ use Rattle.alcrs_c.specs.Making.{IsNoFti}
 use Rattle.alcrs_c.specs.declared.making.Unmade.{Unmade}
 use Rattle.alcrs_c.specs.declared.making.Unmade.TheVariants.{Fti, TooLong, OutOfRange, NoMemory}
 
--- no session: no datagram would carry the FTI, or the numbers are no FTI, or no datagram holds the encoding symbol
+-- no session: no datagram would carry the FTI, or the numbers are no FTI, or no datagram holds the
+-- encoding symbol
 abbrev pub IsUnsent : List ℕ → ℕ × ℕ × ℕ → ℕ → Unmade → Type 0
 IsUnsent object numbers every OutOfRange = every ≡ 0
 IsUnsent object numbers every (Fti e) = IsNoFti object numbers e

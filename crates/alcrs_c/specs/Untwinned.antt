@@ -10,17 +10,20 @@ use Rattle.alcrs_c.specs.Twinned.{IsJudged, short_of}
 use Rattle.alcrs_c.specs.declared.twin.Untwinned.{Untwinned}
 use Rattle.alcrs_c.specs.declared.twin.Untwinned.TheVariants.{NoneShort, No, Session, Certificate as NoCertificate, NoMemory}
 
--- of datagrams and a certificate: the verdict is yes, or a no for another reason; or memory is wanting
+-- of datagrams and a certificate: the verdict is yes, or a no for another reason; or memory is
+-- wanting
 abbrev pub IsNoTwin : Identity → List (List ℕ) → List ℕ → Certificate → Untwinned → Type 0
 IsNoTwin who datagrams object z NoneShort = (r : Report) × IsVerdict who datagrams object z (Yes r)
-IsNoTwin who datagrams object z (No reason) = IsVerdict who datagrams object z (SaysNo reason) × (short_of reason ≡ None)
+IsNoTwin who datagrams object z (No reason) =
+    IsVerdict who datagrams object z (SaysNo reason) × (short_of reason ≡ None)
 IsNoTwin who datagrams object z (Session e) = ⊥
 IsNoTwin who datagrams object z (NoCertificate e) = ⊥
 IsNoTwin who datagrams object z NoMemory = ⊤
 
 -- of bytes: the same, or they are no session's, or no certificate's
 abbrev pub IsUntwinned : Identity → List ℕ → List ℕ → List ℕ → Untwinned → Type 0
-IsUntwinned who session object certificate NoneShort = (r : Report) × IsJudged who session object certificate (Yes r)
+IsUntwinned who session object certificate NoneShort =
+    (r : Report) × IsJudged who session object certificate (Yes r)
 IsUntwinned who session object certificate (No reason) =
     IsJudged who session object certificate (SaysNo reason) × (short_of reason ≡ None)
 IsUntwinned who session object certificate (Session e) = StopsAt e session

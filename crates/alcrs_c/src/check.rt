@@ -72,12 +72,18 @@ fn verdict_of(
     }
 }
 
-/// Checks an identity's packets in a session, with an object and a certificate. The TOI is `toi_high` * 2^64 + `toi_low`.
+/// Checks an identity's packets in a session, with an object and a certificate. The TOI is
+/// `toi_high` * 2^64 + `toi_low`. The session is read from the front, one datagram at a time.
 ///
-/// Returns `OK` for yes: `report` has the numbers, and `blocks` and `kill` begin with as many blocks and places as they have
-/// room for. Returns `NO`, and `fault` tells the first reason. Returns `NO_CERTIFICATE` where `certificate` is none, and
-/// `NO_SESSION` where `session` is cut or too long before any reason for a no, with `fault`; `NO_MEMORY` where memory is
-/// wanting. What a status doesn't name stays as it was. The session is read from the front, one datagram at a time.
+/// - `OK`: yes. `report` has the numbers. `blocks` and `kill` begin with as many blocks and places
+///   as they have room for.
+/// - `NO`: no. `fault` is the first reason.
+/// - `NO_CERTIFICATE`: the bytes are no certificate's. `fault` tells why.
+/// - `NO_SESSION`: the session is cut or has a frame that is too long, and nothing before that gives
+///   a no. `fault` tells which.
+/// - `NO_MEMORY`: memory is wanting.
+///
+/// What a status doesn't name stays as it was.
 #[unsafe(no_mangle)]
 pub extern "C" fn alcrs_check(
     alloc: Global,

@@ -55,11 +55,15 @@ fn fti_of(alloc: Global, session: &[u8], identity: Identity) -> Result<Option<Ft
     Ok(Scope::found_in(identity, &datagrams).fti)
 }
 
-/// Returns how long the object is that is sent under an identity in a session, in bytes, as the first carrier tells it.
-/// Nothing is decoded. The TOI is `toi_high` * 2^64 + `toi_low`.
+/// Tells the length in bytes of the object that is sent under an identity in a session, as the first
+/// carrier has it. Nothing is decoded. The TOI is `toi_high` * 2^64 + `toi_low`.
 ///
-/// Returns `OK`, and `size` is the length; `EMPTY` where no carrier came; `NO_SESSION` where the bytes are no session's, with
-/// `fault`; `NO_MEMORY` where memory is wanting. What a status doesn't name stays as it was.
+/// - `OK`: `size` is the length.
+/// - `EMPTY`: no carrier came.
+/// - `NO_SESSION`: the bytes are no session's. `fault` tells why.
+/// - `NO_MEMORY`: memory is wanting.
+///
+/// What a status doesn't name stays as it was.
 #[unsafe(no_mangle)]
 pub extern "C" fn alcrs_object_length(
     alloc: Global,
@@ -94,12 +98,18 @@ pub extern "C" fn alcrs_object_length(
     }
 }
 
-/// Decodes the object that is sent under an identity in a session. The TOI is `toi_high` * 2^64 + `toi_low`.
+/// Decodes the object that is sent under an identity in a session. The TOI is `toi_high` * 2^64 +
+/// `toi_low`.
 ///
-/// Returns `OK`, and the object stands in front of `object`, `size` bytes long. Returns `NO_ROOM` where the object is longer
-/// than the buffer, with `size`; `MISSING` where a block is short, with `fault` (block, have, need); `EMPTY` where no carrier
-/// came; `REFUSED` where the datagrams are of no object, with `fault`; `NO_SESSION` where the bytes are no session's, with
-/// `fault`; `NO_MEMORY` where memory is wanting. `object` changes at `OK` alone, and what a status doesn't name stays as it was.
+/// - `OK`: the object stands in front of `object`, and `size` is its length in bytes.
+/// - `NO_ROOM`: the object is longer than the buffer, and `size` is its length.
+/// - `MISSING`: a block is short. `fault` has the block, `have` and `need`.
+/// - `EMPTY`: no carrier came.
+/// - `REFUSED`: the datagrams are of no object. `fault` tells why.
+/// - `NO_SESSION`: the bytes are no session's. `fault` tells why.
+/// - `NO_MEMORY`: memory is wanting.
+///
+/// What a status doesn't name stays as it was.
 #[unsafe(no_mangle)]
 pub extern "C" fn alcrs_decode(
     alloc: Global,

@@ -36,8 +36,8 @@ fn cut(bytes: &[u8]) -> Result<Front<'_>, FrameFault>
     Ok(Front { datagram, left })
 }
 
-/// The datagrams whose frames the bytes are, in order. `CutLength`, `CutDatagram` and `TooLong` tell what follows whole
-/// frames, `NoMemory` that there is none for the list.
+/// The datagrams whose frames the bytes are, in order. `CutLength`, `CutDatagram` and `TooLong`
+/// tell what follows whole frames, `NoMemory` that there is none for the list.
 pub(crate) fn datagrams_of(alloc: Global, bytes: &[u8]) -> Result<Vec<&[u8]>, FrameFault>
     ensures framed { IfOk result (λ views. IsFramed (map (λ v. v.now) views.items) bytes.now) }
     ensures fault { IfErr result (λ e. IsSessionFault e (Some bytes.now) false) }

@@ -2,9 +2,11 @@
 //!
 //! - `status`: what a call returns;
 //! - `told`: the structs that C reads, and the numbers of faults and reasons;
-//! - `input`: identities, certificates and sessions of what C passes; `frames`: a session's datagrams without a copy;
+//! - `input`: identities, certificates and sessions of what C passes; `frames`: a session's
+//!   datagrams without a copy;
 //! - `check`, `decode`, `twin`, `making`: the calls from bytes to bytes;
-//! - `receiver`: a receiver behind a handle; `held`: what a handle owns; `apart`: a box as a pointer and its allocator.
+//! - `receiver`: a receiver behind a handle; `held`: what a handle owns; `apart`: a box as a
+//!   pointer and its allocator.
 #![tactic(auto)]
 
 mod apart;

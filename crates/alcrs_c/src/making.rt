@@ -79,14 +79,19 @@ fn certified(
     }
 }
 
-/// Makes the session of an object: `symbol_length` bytes in an encoding symbol, `block_length` source symbols and
-/// `max_symbols` encoding symbols in a block at most. Each datagram whose place `fti_every` divides carries the FTI. The
-/// datagrams stand block after block, or where `rounds` is set, in rounds of one symbol of each block.
+/// Makes the session of an object. An encoding symbol has `symbol_length` bytes. A block has at most
+/// `block_length` source symbols and `max_symbols` encoding symbols. Each datagram whose place
+/// `fti_every` divides carries the FTI. The datagrams stand block after block, or where `rounds` is
+/// set, in rounds of one symbol of each block.
 ///
-/// Returns `OK`, and the session stands in front of `session`, `size` bytes long; `NO_ROOM` where it is longer than the
-/// buffer, with `size`; `NO_FTI` where the numbers are no FTI, with `fault`; `TOO_LONG` where no datagram holds an encoding
-/// symbol; `OUT_OF_RANGE` where `fti_every` is 0; `NO_MEMORY` where memory is wanting. `session` changes at `OK` alone, and
-/// what a status doesn't name stays as it was.
+/// - `OK`: the session stands in front of `session`, and `size` is its length in bytes.
+/// - `NO_ROOM`: the session is longer than the buffer, and `size` is its length.
+/// - `NO_FTI`: the numbers are no FTI. `fault` tells why.
+/// - `TOO_LONG`: no datagram holds an encoding symbol.
+/// - `OUT_OF_RANGE`: `fti_every` is 0.
+/// - `NO_MEMORY`: memory is wanting.
+///
+/// What a status doesn't name stays as it was.
 #[unsafe(no_mangle)]
 pub extern "C" fn alcrs_encode(
     alloc: Global,
@@ -140,13 +145,16 @@ pub extern "C" fn alcrs_encode(
     }
 }
 
-/// Makes the certificate of an object, with the name of a TSI and of a TOI, which is `toi_high` * 2^64 + `toi_low`. The
-/// numbers are those of `alcrs_encode`.
+/// Makes the certificate of an object, with the name of a TSI and of a TOI, which is `toi_high` *
+/// 2^64 + `toi_low`. The other numbers are those of `alcrs_encode`.
 ///
-/// Returns `OK`, and the certificate stands in front of `certificate`, `size` bytes long; `NO_ROOM` where it is longer than
-/// the buffer, with `size`; `NO_FTI` where the numbers are no FTI, with `fault`; `OUT_OF_RANGE` where the TSI isn't below 2^48
-/// or the TOI not below 2^112; `NO_MEMORY` where memory is wanting. `certificate` changes at `OK` alone, and what a status
-/// doesn't name stays as it was.
+/// - `OK`: the certificate stands in front of `certificate`, and `size` is its length in bytes.
+/// - `NO_ROOM`: the certificate is longer than the buffer, and `size` is its length.
+/// - `NO_FTI`: the numbers are no FTI. `fault` tells why.
+/// - `OUT_OF_RANGE`: the TSI isn't below 2^48, or the TOI not below 2^112.
+/// - `NO_MEMORY`: memory is wanting.
+///
+/// What a status doesn't name stays as it was.
 #[unsafe(no_mangle)]
 pub extern "C" fn alcrs_certify(
     alloc: Global,

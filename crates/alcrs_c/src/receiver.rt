@@ -18,7 +18,8 @@ use crate::told::{AlcrsFault, decode_fault, missing_fault, put_bytes};
 use decoder::{Answer, FeedFault, Progress, Receiver};
 use std::alloc::Global;
 
-/// A receiver of an object's datagrams, one at a time. C sets it to zero, and passes it to the calls below alone.
+/// A receiver of an object's datagrams, one at a time. C sets it to zero, and passes it to the
+/// calls below alone.
 #[repr(C)]
 #[derive(Drop)]
 pub struct AlcrsReceiver {
@@ -51,10 +52,13 @@ fn put_in(handle: &mut AlcrsReceiver, receiver: Box<Receiver>)
     handle.held.put(Apart::from_box(receiver));
 }
 
-/// Opens a handle for an identity's packets: no datagram was accepted. The TOI is `toi_high` * 2^64 + `toi_low`.
+/// Opens a handle for an identity's packets. The TOI is `toi_high` * 2^64 + `toi_low`.
 ///
-/// Returns `OK`; `IS_OPEN` where the handle is open already; `NO_MEMORY` where memory is wanting. The handle changes at `OK`
-/// alone.
+/// - `OK`: the handle is open, and no datagram was accepted.
+/// - `IS_OPEN`: the handle is open already.
+/// - `NO_MEMORY`: memory is wanting.
+///
+/// The handle changes at `OK` alone.
 #[unsafe(no_mangle)]
 pub extern "C" fn alcrs_receiver_open(
     alloc: Global,
@@ -85,10 +89,16 @@ pub extern "C" fn alcrs_receiver_open(
 
 /// Passes one datagram to an open handle.
 ///
-/// Returns `OK` where it was accepted and each block has as many symbols as it needs; `MORE` where it was accepted and more are
-/// needed. Else it is refused, and the receiver is as before: `REFUSED` where with it the datagrams would be of no object, with
-/// `fault`; `EARLY` where it has no FTI and came before one; `FULL` where no more can be counted; `NO_MEMORY` where memory is
-/// wanting; `NOT_OPEN` where the handle isn't open. `fault` changes at `REFUSED` alone.
+/// - `OK`: the datagram was accepted, and each block has as many symbols as it needs.
+/// - `MORE`: the datagram was accepted, and more are needed.
+/// - `REFUSED`: with it the datagrams would be of no object. `fault` tells why.
+/// - `EARLY`: the datagram has no FTI, and came before one.
+/// - `FULL`: no more datagrams can be counted.
+/// - `NO_MEMORY`: memory is wanting.
+/// - `NOT_OPEN`: the handle isn't open.
+///
+/// At all but the first two the datagram is refused, and the receiver is as before. `fault` changes
+/// at `REFUSED` alone.
 #[unsafe(no_mangle)]
 pub extern "C" fn alcrs_receiver_feed(
     alloc: Global,
@@ -141,10 +151,17 @@ pub extern "C" fn alcrs_receiver_feed(
     }
 }
 
-/// Tells what the datagrams that an open handle has accepted say of the object. It may be fed further.
+/// Tells what the datagrams that an open handle has accepted say of the object. The handle may be
+/// fed further.
 ///
-/// Returns as `alcrs_decode` does: `OK`, `NO_ROOM`, `MISSING`, `EMPTY` or `NO_MEMORY`; or `NOT_OPEN` where the handle isn't
-/// open. `object` changes at `OK` alone.
+/// - `OK`: the object stands in front of `object`, and `size` is its length in bytes.
+/// - `NO_ROOM`: the object is longer than the buffer, and `size` is its length.
+/// - `MISSING`: a block is short. `fault` has the block, `have` and `need`.
+/// - `EMPTY`: no carrier came.
+/// - `NO_MEMORY`: memory is wanting.
+/// - `NOT_OPEN`: the handle isn't open.
+///
+/// What a status doesn't name stays as it was.
 #[unsafe(no_mangle)]
 pub extern "C" fn alcrs_receiver_object(
     alloc: Global,

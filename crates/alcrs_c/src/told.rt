@@ -9,8 +9,9 @@ use decoder::DecodeFault;
 use partition::FtiError;
 use session::FrameFault;
 
-/// Why a call says no, or says nothing. `number` counts the reasons of the call, from 1; `packet` is the number of a
-/// packet's fault and `fti` that of an FTI's, where there is one. What doesn't belong to the reason is 0.
+/// Why a call says no, or says nothing. `number` counts the reasons of the call, from 1; `packet`
+/// is the number of a packet's fault and `fti` that of an FTI's, where there is one. What doesn't
+/// belong to the reason is 0.
 #[repr(C)]
 #[derive(Clone, Copy)]
 pub struct AlcrsFault {
@@ -234,7 +235,8 @@ pub(crate) fn fti_fault(error: FtiError) -> AlcrsFault
     AlcrsFault { fti, ..only(0) }
 }
 
-/// Puts bytes in front where there is room for all of them, and returns whether there is. `size` is how many they are.
+/// Puts bytes in front where there is room for all of them, and returns whether there is. `size` is
+/// how many they are.
 pub(crate) fn put_bytes(bytes: &[u8], to: &mut [u8], size: &mut usize) -> bool
     ensures size { size.new ≡ length bytes.now }
     ensures put { result ≡ true → to.new ≡ bytes.now ++ drop (length bytes.now) to.old }

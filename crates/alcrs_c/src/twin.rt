@@ -112,13 +112,19 @@ fn twin_of(
     twin_in(alloc, &session, object, &certificate, identity)
 }
 
-/// Makes a twin of an object where a session has too few symbols of a block: another object of the same length that agrees
-/// with all of the identity's packets in the session. The TOI is `toi_high` * 2^64 + `toi_low`.
+/// Makes a twin of an object where a session has too few symbols of a block: another object of the
+/// same length that agrees with all of the identity's packets in the session. The TOI is `toi_high`
+/// * 2^64 + `toi_low`.
 ///
-/// Returns `OK`, and the twin stands in front of `twin`, `size` bytes long; `NO_ROOM` where it is longer than the buffer, with
-/// `size`. At both `fault` has the block, `have` and `need`. Returns `NONE_SHORT` where the check says yes; `NO` where it says
-/// no for another reason, with `fault`; `NO_SESSION` and `NO_CERTIFICATE` where the bytes are none, with `fault`; `NO_MEMORY`
-/// where memory is wanting. `twin` changes at `OK` alone, and what a status doesn't name stays as it was.
+/// - `OK`: the twin stands in front of `twin`, and `size` is its length in bytes. `fault` has the
+///   block, `have` and `need`.
+/// - `NO_ROOM`: the twin is longer than the buffer, and `size` is its length. `fault` is as at `OK`.
+/// - `NONE_SHORT`: the check says yes.
+/// - `NO`: the check says no for another reason. `fault` tells it.
+/// - `NO_SESSION`, `NO_CERTIFICATE`: the bytes are none. `fault` tells why.
+/// - `NO_MEMORY`: memory is wanting.
+///
+/// What a status doesn't name stays as it was.
 #[unsafe(no_mangle)]
 pub extern "C" fn alcrs_twin(
     alloc: Global,
