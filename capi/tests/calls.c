@@ -4,6 +4,11 @@
 #include <alcrs.h>
 #include <string.h>
 
+/* The sizes that docs/EMBEDDING.md tells. */
+_Static_assert(sizeof(struct alcrs_fault) == 56 && sizeof(struct alcrs_block) == 16 && sizeof(struct alcrs_report) == 40 &&
+                   sizeof(struct alcrs_receiver) == 16 && sizeof(enum alcrs_status) == 4,
+               "the layouts that the library was built with");
+
 static int wrong;
 
 static void expect(int line, int holds) {
