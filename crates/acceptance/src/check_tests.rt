@@ -10,7 +10,7 @@ use std::test::Fail;
 fn converted(alloc: Global, certificate: &[u8]) -> Result<Vec<u8>, Fail> {
     let words = ["alcrs", "convert", "c", "out", "--tsi", "1", "--toi", "1"];
     let told = answer(alloc, &words, &[("c", certificate)])?;
-    Ok(told.folder.get("out").unwrap_or(&[]).to_vec(alloc)?)
+    Ok(told.host.get("out").unwrap_or(&[]).to_vec(alloc)?)
 }
 
 // `check` of these files ends with this status, prints this, and creates no file.
@@ -23,7 +23,7 @@ fn checks(
     text: &str,
 ) -> Result<(), Fail> {
     let told = check(alloc, session, object, certificate)?;
-    if told.status == status && told.text.as_str() == text && told.folder.files().len() == 3 {
+    if told.status == status && told.text.as_str() == text && told.host.files().len() == 3 {
         return Ok(());
     }
     Err(Fail::new(told.text))

@@ -1,9 +1,9 @@
 //! Outputs that find little room, and statuses.
-use crate::command::folder_of;
+use crate::command::host_of;
 use crate::sessions::PAIR_SESSION;
 use session::Sink;
 use std::test::Fail;
-use tool::{answer, refuse_memory, status_after};
+use tool::{MemoryHost, answer, refuse, refuse_memory, status_after};
 
 // Where the line can't be printed the output is there all the same, and the status is 1.
 #[test]
@@ -11,13 +11,14 @@ fn an_output_without_its_line(rt: HostRuntime) -> Result<(), Fail> {
     let alloc = rt.alloc();
     let left = &PAIR_SESSION[35..];
     for room in [0, 6, 16] {
-        let mut folder = folder_of(alloc, &[("s", &PAIR_SESSION)])?;
-        let mut out = Sink::limited(alloc, 5, room);
+        let out = Sink::limited(alloc, 5, room);
+        let mut host = host_of(alloc, &[("s", &PAIR_SESSION)], out)?;
         let mut err = Sink::new(alloc);
         let words = ["alcrs", "drop", "s", "o", "0"];
-        assert_eq!(rt; answer(alloc, &words, &mut folder, &mut out, &mut err), 1);
-        assert_eq!(rt; out.bytes(), &b"kept 2 datagrams\n"[..room]);
-        assert_eq!(rt; folder.get("o"), Some(left));
+        assert_eq!(rt; answer(alloc, &words, &mut host, &mut err), 1);
+        assert_eq!(rt; host.printed(), &b"kept 2 datagrams\n"[..room]);
+        assert_eq!(rt; host.get("o"), Some(left));
+        assert_eq!(rt; host.created(), 1);
     }
     Ok(())
 }
@@ -25,13 +26,12 @@ fn an_output_without_its_line(rt: HostRuntime) -> Result<(), Fail> {
 #[test]
 fn help_that_finds_no_room(rt: HostRuntime) -> Result<(), Fail> {
     let alloc = rt.alloc();
-    let mut folder = folder_of(alloc, &[])?;
     for room in [0, 9] {
-        let mut out = Sink::limited(alloc, 4, room);
+        let mut host = host_of(alloc, &[], Sink::limited(alloc, 4, room))?;
         let mut err = Sink::new(alloc);
         let words = ["alcrs", "--help"];
-        assert_eq!(rt; answer(alloc, &words, &mut folder, &mut out, &mut err), 1);
-        assert_eq!(rt; out.bytes().len(), room);
+        assert_eq!(rt; answer(alloc, &words, &mut host, &mut err), 1);
+        assert_eq!(rt; host.printed().len(), room);
         assert!(rt; err.bytes().is_empty());
     }
     Ok(())
@@ -41,14 +41,13 @@ fn help_that_finds_no_room(rt: HostRuntime) -> Result<(), Fail> {
 #[test]
 fn a_refusal_that_finds_no_room(rt: HostRuntime) -> Result<(), Fail> {
     let alloc = rt.alloc();
-    let mut folder = folder_of(alloc, &[])?;
     for room in [0, 9] {
-        let mut out = Sink::new(alloc);
+        let mut host = host_of(alloc, &[], Sink::new(alloc))?;
         let mut err = Sink::limited(alloc, 4, room);
         let words = ["alcrs", "encode", "text"];
-        assert_eq!(rt; answer(alloc, &words, &mut folder, &mut out, &mut err), 2);
+        assert_eq!(rt; answer(alloc, &words, &mut host, &mut err), 2);
         assert_eq!(rt; err.bytes().len(), room);
-        assert!(rt; out.bytes().is_empty());
+        assert!(rt; host.printed().is_empty());
     }
     Ok(())
 }
@@ -60,6 +59,9 @@ fn statuses(rt: HostRuntime) -> Result<(), Fail> {
     assert_eq!(rt; out.bytes(), b"fault memory\n".as_slice());
     let mut full = Sink::limited(rt.alloc(), 1, 0);
     assert_eq!(rt; refuse_memory(&mut full), 1);
+    let mut host = MemoryHost::new(rt.alloc(), 7, Sink::new(rt.alloc()));
+    assert_eq!(rt; refuse(&mut host), 1);
+    assert_eq!(rt; host.printed(), b"fault memory\n".as_slice());
     for status in 0..=3u8 {
         assert_eq!(rt; status_after(status, Ok(())), status);
         assert_eq!(rt; status_after(status, Err(session::Failed)), 1);

@@ -1,13 +1,14 @@
-//! The host's files.
+//! The host's files and its standard output.
 ghost use Rattle.std.specs.Prelude.{◌≡◌, ◌^◌, ◌-◌, None, false, IfOk};
+ghost use Rattle.tool.specs.World.{untold};
 
-use session::{Device, Failed, Write};
+use session::{Device, Failed, Write, write_all};
 use std::alloc::Global;
 use std::fs;
 use std::fs::{File, Metadata, OpenFile, OpenOptions};
 use std::io::{BufReader, BufWriter, ErrorKind};
 use std::rt::Files;
-use tool::{FileFault, Folder};
+use tool::{FileFault, Host};
 
 /// How many bytes stand between a file, or the output, and its reader or writer.
 pub(crate) const BUFFER_SIZE: usize = 65536;
@@ -15,19 +16,25 @@ pub(crate) const BUFFER_SIZE: usize = 65536;
 /// How many files may stand beside an output under the names for its parts, as those of runs that were cut off.
 const MOST_PARTS: u8 = 100;
 
-/// The folder that the program runs in. Names are paths.
+/// The files that names lead to as paths, and standard output.
 #[derive(Drop)]
-pub struct HostFolder<'a, R> {
+pub struct ProgramHost<'a, R, O: std::io::Write + Drop> {
     rt: &'a R,
     alloc: Global,
+    out: Device<BufWriter<O>>,
 }
 
-impl<'a, R> HostFolder<'a, R> {
-    /// The folder, through the host's runtime.
-    pub fn new(rt: &'a R, alloc: Global) -> HostFolder<'a, R>
+impl<'a, R, O: std::io::Write + Drop> ProgramHost<'a, R, O> {
+    /// The files, through the host's runtime, and this output for lines.
+    pub fn new(rt: &'a R, alloc: Global, out: Device<BufWriter<O>>) -> ProgramHost<'a, R, O>
         ensures { result.rt.now ≡ rt.now }
     {
-        HostFolder { rt, alloc }
+        ProgramHost { rt, alloc, out }
+    }
+
+    /// Passes on all that was printed.
+    pub fn flush(&mut self) -> Result<(), Failed> {
+        self.out.flush()
     }
 }
 
@@ -150,7 +157,7 @@ fn create<R: Files>(
     }
 }
 
-impl<R: Files> HostFolder<'_, R> {
+impl<R: Files, O: std::io::Write + Drop> ProgramHost<'_, R, O> {
     fn remove(&self, part: &Option<Part>) {
         if let Some(part) = part {
             let _ = fs::remove_file(self.rt, part.name.as_str());
@@ -158,12 +165,13 @@ impl<R: Files> HostFolder<'_, R> {
     }
 }
 
-impl<R: Files> Folder for HostFolder<'_, R> {
+impl<R: Files, O: std::io::Write + Drop> Host for ProgramHost<'_, R, O> {
     type Input = Device<BufReader<R::File>>;
 
     type Output = HostOutput<R::File>;
 
-    ghost files = { λ _. None };
+    // Nothing is told of files and output but whether the output has failed.
+    ghost world = { λ host. untold host.out.failed };
 
     fn open_file(&self, name: &str) -> Result<Device<BufReader<R::File>>, FileFault> {
         let Ok(file) = fs::open(self.rt, name) else {
@@ -227,5 +235,13 @@ impl<R: Files> Folder for HostFolder<'_, R> {
         drop(file);
         self.remove(&part);
         FileFault::Io
+    }
+
+    fn print(&mut self, bytes: &[u8]) -> Result<(), Failed> {
+        write_all(&mut self.out, bytes)
+    }
+
+    fn pass_on(&mut self) -> Result<(), Failed> {
+        self.out.flush()
     }
 }

@@ -1,83 +1,48 @@
--- What a command's words ask for, where they have no fault.
-use Rattle.std.proofs.Common.{ℕ, Bool, true, false, List, [], ◌∷◌, ◌≡◌, ◌∙◌, ◌<◌, ◌≤◌, ◌^◌, ◌⊎◌, ◌&&◌, ◌||◌, not, Bor, Option, Some, None, length, map, codes, ap, refl, sym, subst, arith, inl, inr}
-use Rattle.std.specs.Prelude.{⊤, find, option_map, unwrap_or, slice_index_or, fold, is_some, if◌then◌else◌}
-use Rattle.std.specs.List.{list_all, list_any}
+-- What a command's words give, where they have no fault: a value of each of its arguments.
+use Rattle.std.proofs.Common.{ℕ, suc, Bool, true, false, List, [], ◌∷◌, ◌≡◌, ◌∙◌, ◌<◌, ◌⊎◌, ◌++◌, ◌&&◌, ◌||◌, not, Bor, Option, Some, None, length, map, codes, ap, refl, sym, subst, arith, inl, inr}
+use Rattle.std.specs.Prelude.{⊤, Contains, find, option_map, unwrap_or, fold, is_some, if◌then◌else◌}
+use Rattle.std.specs.List.{AllByRecursion, AllZip, list_all, list_any}
 use Rattle.std.specs.Option.{option_map_or}
 use Rattle.std.specs.Str.{bytes_eq}
 use Rattle.std.specs.Str.Parse.{digits_value, without_leading_plus}
 use Rattle.std.proofs.lemmas.Slice.Eq.{bytes_eq-Decides}
-use Rattle.clap.specs.Walk.{answers_to, finished, settled, Held, Names as Labels, Outcome, Waiting, Walk, done, waits, plain, refused, idle, option, positional, after_flag, after_step, arg_by_index, arg_by_long, bundle, long_met, long_or_other, plain_word, short_or_plain, subcommand_met, subcommand_or_other, to_positional, walk, walk_from, walked, walked_from, word_met, Row, Rule, Text, nothing_held, rows_after}
+use Rattle.clap.specs.Walk.{action_of, answers_to, finished, settled, Held, Names as Labels, Outcome, Waiting, Walk, done, waits, plain, refused, idle, option, positional, after_flag, after_step, arg_by_id, arg_by_index, arg_by_long, bundle, long_met, long_or_other, plain_word, short_or_plain, subcommand_met, subcommand_or_other, to_positional, walk, walk_from, walked, walked_from, word_met, Row, Rule, Text, nothing_held, rows_after}
 use Rattle.clap.specs.Facts.{explicit_source, unwrap_or_range}
 use Rattle.clap.specs.Faults.{check_fault, defaults_fault, settle_fault, entered_fault, fault_of, level_fault, other_fault, step_fault, turn_fault, walk_fault, word_fault}
-use Rattle.clap.specs.Simple.{App, Shape, argument_words, built, entered, help_shape, label_of, names_of, rows_at, subcommand_of}
+use Rattle.clap.specs.Simple.{App, Shape, argument_words, built, built_leaf, entered, filled, filled_from, help_rule, help_shape, index_after, inherited, label_of, marked_built, names_of, new_shape, on_top, rows_at, subcommand_of, with_index, with_leaf_noted}
 use Rattle.clap.specs.Kinds.{or_else}
 use Rattle.clap.specs.Lexer.{long_of, short_of}
 use Rattle.clap.specs.Takes.{is_given, value_passes}
 use Rattle.clap.specs.Values.{read_as, same_text}
 use Rattle.clap.proofs.OnLiterals.{clap_on_literals}
 use Rattle.clap.proofs.ValueTestLemmas.{accepts-Accepts}
-use Rattle.clap.specs.declared.builder.value_parser.ValueParser.TheVariants.{Bool as Flag, Names, Unsigned}
+use Rattle.clap.specs.declared.builder.action.ArgAction.{ArgAction}
+use Rattle.clap.specs.declared.builder.action.ArgAction.TheVariants.{Set, Append, Help, HelpLong, HelpShort, SetTrue, SetFalse, Count, Version}
+use Rattle.clap.specs.declared.builder.value_parser.ValueParser.TheVariants.{Bool as BoolParser, Names, Unsigned}
 use Rattle.clap.specs.declared.builder.value_parser.Reading.TheVariants.{AsWritten}
-use Rattle.partition.specs.declared.order.Order.{Order}
-use Rattle.partition.specs.declared.order.Order.TheVariants.{Blocks, Rounds}
-use Rattle.request.specs.Grammar.{IsOrders, grammar_of}
-use Rattle.request.specs.Requests.{AreNumbers, Asked, HasIdentifiers, HasNumber, HasOrder, HasPlaces, HasSessions, HasSizes, HasTurns, HasValues, IsNumber, IsRead, name_of}
-use Rattle.request.specs.Requests.{CertifyAsked, ConvertAsked, CheckAsked, DecodeAsked, DropAsked, EncodeAsked, FollowAsked, JoinAsked, ShowAsked, TwinAsked}
-use Rattle.request.specs.declared.requests.Identifiers.{Identifiers}
-use Rattle.request.specs.declared.requests.Sizes.{Sizes}
-use Rattle.request.specs.declared.requests.Sending.{Sending}
-use Rattle.request.proofs.Walks.{Each, found_each, both_none, checks_pass, HasValue, IsOwn, IsPassed, flag_value, option_value, given_row, right_level, text_value}
+use Rattle.request.specs.Arguments.{Argument, File, Number, Choice, Numbers, Files, Flag, AText, ANumber, AFlag, SomeNumbers, SomeTexts, IsNumber, rule_for}
+use Rattle.request.specs.Grammar.{commands, grammar_of}
+use Rattle.request.specs.Matching.{IsGiven, IsToldBy, row_of}
+use Rattle.request.proofs.Walks.{Each, found_each, both_none, checks_pass, HasValue as Passes, IsOwn, IsPassed, IsRight, flag_value, option_value, given_row, right_level, text_value}
 
 abbrev number : Text → ℕ
 number text = digits_value 10 (without_leading_plus text)
 
 -- a value that passes a parser of numbers is one
-is_number : (a : Rule) (low high bits : ℕ) (text : Text) → a.parser ≡ Some (Unsigned low high) → high < 2 ^ bits → value_passes a text ≡ true
-    → IsNumber bits text (number text) × (low ≤ number text) × (number text ≤ high)
-is_number a low high bits text parser small passes =
-    let is = accepts-Accepts a.ignore_case (Unsigned low high) text (rw parser at passes) in
-    (record { digits = is.0; fits = omega (arith, is.3, small); value = refl }, is.2, is.3)
+is_number : (a : Rule) (least most : ℕ) (text : Text) → a.parser ≡ Some (Unsigned least most) → value_passes a text ≡ true
+    → IsNumber least most text (number text)
+is_number a least most text parser passes =
+    let is = accepts-Accepts a.ignore_case (Unsigned least most) text (rw parser at passes) in
+    record { digits = is.0; value = refl; range = (is.2, is.3) }
 
-has_number : (a : Rule) (low high bits : ℕ) (id : Text) (rows : List Row) → a.parser ≡ Some (Unsigned low high) → high < 2 ^ bits → HasValue a id rows
-    → (n : ℕ) × HasNumber bits rows id n × (low ≤ n) × (n ≤ high)
-has_number a low high bits id rows parser small has =
-    let is = is_number a low high bits has.value parser small has.passes in
-    (number has.value, (has.value, rw parser at has.one, is.0), is.1, is.2)
-
--- a value that passes the names of the orders is one of them
-has_order : (a : Rule) (orders : Bor (List (Bor Text))) (rows : List Row) → a.parser ≡ Some (Names orders) → a.ignore_case ≡ false → IsOrders orders → HasValue a (codes "order") rows
-    → (order : Order) × HasOrder rows order
-has_order a orders rows parser exact are has = go orders.now are (rw (parser, exact) at has.passes)
+are_numbers : (a : Rule) (least most : ℕ) (texts : List Text) → a.parser ≡ Some (Unsigned least most) → list_all (value_passes a) texts ≡ true
+    → AllZip (IsNumber least most) texts (map number texts)
+are_numbers a least most [] parser all = tt
+are_numbers a least most (text ∷ texts) parser all = go (value_passes a text) refl (are_numbers a least most texts parser)
   where
-    go : (names : List (Bor Text)) → map (λ name. name.now) names ≡ codes "blocks" ∷ codes "rounds" ∷ [] → list_any (λ name. same_text false name.now has.value) names ≡ true
-        → (order : Order) × HasOrder rows order
-    go [] are among = cc
-    go (x ∷ []) are among = cc
-    go (x ∷ y ∷ z ∷ names) are among = cc
-    go (x ∷ y ∷ []) are among = first (bytes_eq x.now has.value) refl
-      where
-        blocks : x.now ≡ codes "blocks"
-        blocks = ap (λ texts. slice_index_or texts 0 []) are
-
-        rounds : y.now ≡ codes "rounds"
-        rounds = ap (λ texts. slice_index_or texts 1 []) are
-
-        second : (b : Bool) → bytes_eq y.now has.value ≡ b → bytes_eq x.now has.value ≡ false → (order : Order) × HasOrder rows order
-        second true e unlike = (Rounds, has.first ∙ ap Some (sym ((bytes_eq-Decides y.now has.value).0 e) ∙ rounds))
-        second false e unlike = let bad : false ≡ true = rw (unlike, e) at among in cc
-
-        first : (b : Bool) → bytes_eq x.now has.value ≡ b → (order : Order) × HasOrder rows order
-        first true e = (Blocks, has.first ∙ ap Some (sym ((bytes_eq-Decides x.now has.value).0 e) ∙ blocks))
-        first false e = second (bytes_eq y.now has.value) refl e
-
-are_numbers : (a : Rule) (low high : ℕ) (texts : List Text) → a.parser ≡ Some (Unsigned low high) → high < 2 ^ 32 → list_all (value_passes a) texts ≡ true
-    → AreNumbers texts (map number texts)
-are_numbers a low high [] parser small all = tt
-are_numbers a low high (text ∷ texts) parser small all = go (value_passes a text) refl (λ rest. are_numbers a low high texts parser small rest)
-  where
-    go : (b : Bool) → value_passes a text ≡ b → (list_all (value_passes a) texts ≡ true → AreNumbers texts (map number texts))
-        → AreNumbers (text ∷ texts) (number text ∷ map number texts)
-    go true e rest = ((is_number a low high 32 text parser small e).0, rest (rw e at all))
+    go : (b : Bool) → value_passes a text ≡ b → (list_all (value_passes a) texts ≡ true → AllZip (IsNumber least most) texts (map number texts))
+        → AllZip (IsNumber least most) (text ∷ texts) (number text ∷ map number texts)
+    go true e rest = (is_number a least most text parser e, rest (rw e at all))
     go false e rest = let bad : false ≡ true = rw e at all in cc
 
 as_written : (texts : List Text) → map (read_as AsWritten) texts ≡ texts
@@ -88,226 +53,237 @@ some_numbers : (texts : List Text) → 0 < length texts → 0 < length (map numb
 some_numbers [] lt = absurd (omega arith)
 some_numbers (text ∷ texts) lt = omega arith
 
-has_places : (a : Rule) (low high : ℕ) (rows : List Row) (r : Row) → a.parser ≡ Some (Unsigned low high) → high < 2 ^ 32 → (unwrap_or_range a.range).start_inclusive ≡ 1
-    → find (λ r. bytes_eq r.id (codes "PLACE")) rows ≡ Some r → IsPassed a r → (places : List ℕ) × HasPlaces rows places
-has_places a low high rows r parser small one found passed = (
-  map number r.values,
-  record {
-    texts = r.values;
-    given = rw found (rw (passed.reading, parser) (ap Some (as_written r.values)));
-    numbers = are_numbers a low high r.values parser small passed.accepted;
-    some = some_numbers r.values (passed.some (inl (omega (arith, one))));
-  },
-)
-
--- the texts of an argument that takes one or more
-has_sessions : (a : Rule) (rows : List Row) (r : Row) → (unwrap_or_range a.range).start_inclusive ≡ 1
-    → find (λ r. bytes_eq r.id (codes "SESSION")) rows ≡ Some r → IsPassed a r → (sessions : List Text) × HasSessions rows sessions
-has_sessions a rows r one found passed = (
-  r.values,
-  record { given = rw found refl; some = passed.some (inl (omega (arith, one))) },
-)
+-- a value that passes a parser of words is one of them
+among : (names : List (Bor Text)) (value : Text) → list_any (λ name. same_text false name.now value) names ≡ true
+    → Contains (map (λ name. name.now) names) value
+among [] value is = cc
+among (name ∷ names) value is = go (bytes_eq name.now value) refl (among names value)
+  where
+    go : (b : Bool) → bytes_eq name.now value ≡ b → (list_any (λ name. same_text false name.now value) names ≡ true → Contains (map (λ name. name.now) names) value)
+        → Contains (map (λ name. name.now) (name ∷ names)) value
+    go true e rest = (0, omega arith, (bytes_eq-Decides name.now value).0 e)
+    go false e rest =
+        let (k, lt, same) = rest (rw e at is) in
+        (suc k, omega (arith, lt), same)
 
 -- a value that passes a parser of flags is one of its two words
-has_turns : (a : Rule) (rows : List Row) → a.parser ≡ Some Flag → HasValue a (codes "turns") rows → (turns : Bool) × HasTurns rows turns
-has_turns a rows parser has = first (bytes_eq has.value (codes "true")) refl
+is_flag : (value : Text) → (bytes_eq value (codes "true") || bytes_eq value (codes "false")) ≡ true
+    → (value ≡ codes "true") ⊎ (value ≡ codes "false")
+is_flag value passes = first (bytes_eq value (codes "true")) refl
   where
-    among : (bytes_eq has.value (codes "true") || bytes_eq has.value (codes "false")) ≡ true
-    among = rw parser at has.passes
+    second : (b : Bool) → bytes_eq value (codes "false") ≡ b → bytes_eq value (codes "true") ≡ false → (value ≡ codes "true") ⊎ (value ≡ codes "false")
+    second true e unlike = inr ((bytes_eq-Decides value (codes "false")).0 e)
+    second false e unlike = let bad : false ≡ true = rw (unlike, e) at passes in cc
 
-    second : (b : Bool) → bytes_eq has.value (codes "false") ≡ b → bytes_eq has.value (codes "true") ≡ false → (turns : Bool) × HasTurns rows turns
-    second true e unlike = (false, has.first ∙ ap Some ((bytes_eq-Decides has.value (codes "false")).0 e))
-    second false e unlike = let bad : false ≡ true = rw (unlike, e) at among in cc
+    first : (b : Bool) → bytes_eq value (codes "true") ≡ b → (value ≡ codes "true") ⊎ (value ≡ codes "false")
+    first true e = inl ((bytes_eq-Decides value (codes "true")).0 e)
+    first false e = second (bytes_eq value (codes "false")) refl e
 
-    first : (b : Bool) → bytes_eq has.value (codes "true") ≡ b → (turns : Bool) × HasTurns rows turns
-    first true e = (true, has.first ∙ ap Some ((bytes_eq-Decides has.value (codes "true")).0 e))
-    first false e = second (bytes_eq has.value (codes "false")) refl e
+-- ---- an argument of a command without a fault has a value
 
--- ---- each command's words give its values
+abbrev takes_one : Rule → Type 0
+takes_one a = (unwrap_or_range a.range).start_inclusive ≡ 1
 
--- the shape of a command, as a parse has it
-abbrev shape_at : ℕ → Bor (List (Bor Text)) → Shape
-shape_at i orders = slice_index_or (built (grammar_of orders)).subs i help_shape
+-- what the parser made of the argument
+abbrev Fits : List Rule → Argument → Type 0
+Fits rules (File name) = (a : Rule) × (arg_by_id rules name ≡ Some a) × (a.required ≡ true) × takes_one a
+Fits rules (Number name least most None) = (a : Rule) × (arg_by_id rules name ≡ Some a) × (a.required ≡ true) × takes_one a
+    × (a.parser ≡ Some (Unsigned least most))
+Fits rules (Number name least most (Some default)) = (a : Rule) × (arg_by_id rules name ≡ Some a) × (a.defaults ≡ default ∷ []) × takes_one a
+    × (a.parser ≡ Some (Unsigned least most))
+Fits rules (Choice name words default) = (a : Rule) × (arg_by_id rules name ≡ Some a) × (a.defaults ≡ default ∷ []) × takes_one a
+    × (a.parser ≡ Some (Names words)) × (a.ignore_case ≡ false)
+Fits rules (Numbers name least most) = (a : Rule) × (arg_by_id rules name ≡ Some a) × (a.required ≡ true) × takes_one a
+    × (a.parser ≡ Some (Unsigned least most))
+Fits rules (Files name) = (a : Rule) × (arg_by_id rules name ≡ Some a) × (a.required ≡ true) × takes_one a
+Fits rules (Flag name) = (a : Rule) × (arg_by_id rules name ≡ Some a) × (a.defaults ≡ codes "false" ∷ []) × (0 < length a.missing)
+    × (a.parser ≡ Some BoolParser)
 
-abbrev IsFine : Shape → Type 0
-IsFine s = (words : List Text) → level_fault s [] nothing_held words false [] ≡ [] → (asked : Asked) × (name_of asked ≡ s.name) × HasValues (rows_after s.rules [] words) asked
+module _ (s : Shape) (words : List Text) (right : IsRight s words) where
+  abbrev rows : List Row
+  rows = rows_after s.rules [] words
 
-fine_encode : (orders : Bor (List (Bor Text))) → IsOrders orders → IsFine (shape_at 0 orders)
-unfolding clap_on_literals
-fine_encode orders are words none =
-    let s = shape_at 0 orders in
-    let each : Each (IsOwn s.rules) s.rules = (record { first = refl; action = inl refl }, (record { first = refl; action = inl refl }, (record { first = refl; action = inl refl }, (record { first = refl; action = inl refl }, (record { first = refl; action = inl refl }, (record { first = refl; action = inl refl }, (record { first = refl; action = inl refl }, (record { first = refl; action = inl refl }, (record { first = refl; action = inl refl }, (record { first = refl; action = inr (inr (inl refl)) }, tt)))))))))) in
-    let right = right_level s words each none in
-    let object = text_value s words _ (codes "OBJECT") right refl refl refl in
-    let output = text_value s words _ (codes "OUT") right refl refl refl in
-    let tsi = has_number _ 0 4294967295 32 (codes "tsi") (rows_after s.rules [] words) refl (omega arith) (text_value s words _ (codes "tsi") right refl refl refl) in
-    let toi = has_number _ 0 4294967295 32 (codes "toi") (rows_after s.rules [] words) refl (omega arith) (text_value s words _ (codes "toi") right refl refl refl) in
-    let identifiers : Identifiers = record { tsi = tsi.0; toi = toi.0 } in
-    let whose : HasIdentifiers (rows_after s.rules [] words) identifiers = record { tsi = tsi.1; toi = toi.1 } in
-    let symbol = has_number _ 1 65475 16 (codes "symbol") (rows_after s.rules [] words) refl (omega arith) (text_value s words _ (codes "symbol") right refl refl refl) in
-    let block = has_number _ 1 255 8 (codes "block") (rows_after s.rules [] words) refl (omega arith) (text_value s words _ (codes "block") right refl refl refl) in
-    let max_n = has_number _ 1 255 8 (codes "max") (rows_after s.rules [] words) refl (omega arith) (text_value s words _ (codes "max") right refl refl refl) in
-    let sizes : Sizes = record { symbol = symbol.0; block = block.0; max_n = max_n.0 } in
-    let has : HasSizes (rows_after s.rules [] words) sizes = record { symbol = symbol.1; block = block.1; max_n = max_n.1; some_symbol = symbol.2; sendable = symbol.3; some_block = block.2; some_max = max_n.2 } in
-    let every = has_number _ 1 255 8 (codes "fti-every") (rows_after s.rules [] words) refl (omega arith) (option_value s words _ (codes "fti-every") _ _ right refl refl refl) in
-    let order = has_order _ orders (rows_after s.rules [] words) refl refl are (option_value s words _ (codes "order") _ _ right refl refl refl) in
-    let sending : Sending = record { identifiers = identifiers; sizes = sizes; fti_every = every.0; order = order.0; some = every.2 } in
-    (EncodeAsked object.value output.value sending, refl, (object.first, output.first, record { identifiers = whose; sizes = has; carriers = record { given = every.1; some = every.2 }; order = order.1 }))
+  number_given : (a : Rule) (name : Text) (least most : ℕ) (default : Option Text) → a.parser ≡ Some (Unsigned least most) → Passes a name rows
+      → IsGiven rows (Number name least most default)
+  number_given a name least most default parser has =
+      (ANumber (number has.value), (has.value, rw parser at has.one, is_number a least most has.value parser has.passes))
 
-fine_certify : (orders : Bor (List (Bor Text))) → IsOrders orders → IsFine (shape_at 1 orders)
-unfolding clap_on_literals
-fine_certify orders are words none =
-    let s = shape_at 1 orders in
-    let each : Each (IsOwn s.rules) s.rules = (record { first = refl; action = inl refl }, (record { first = refl; action = inl refl }, (record { first = refl; action = inl refl }, (record { first = refl; action = inl refl }, (record { first = refl; action = inl refl }, (record { first = refl; action = inl refl }, (record { first = refl; action = inl refl }, (record { first = refl; action = inr (inr (inl refl)) }, tt)))))))) in
-    let right = right_level s words each none in
-    let object = text_value s words _ (codes "OBJECT") right refl refl refl in
-    let output = text_value s words _ (codes "OUT") right refl refl refl in
-    let tsi = has_number _ 0 4294967295 32 (codes "tsi") (rows_after s.rules [] words) refl (omega arith) (text_value s words _ (codes "tsi") right refl refl refl) in
-    let toi = has_number _ 0 4294967295 32 (codes "toi") (rows_after s.rules [] words) refl (omega arith) (text_value s words _ (codes "toi") right refl refl refl) in
-    let identifiers : Identifiers = record { tsi = tsi.0; toi = toi.0 } in
-    let whose : HasIdentifiers (rows_after s.rules [] words) identifiers = record { tsi = tsi.1; toi = toi.1 } in
-    let symbol = has_number _ 1 65475 16 (codes "symbol") (rows_after s.rules [] words) refl (omega arith) (text_value s words _ (codes "symbol") right refl refl refl) in
-    let block = has_number _ 1 255 8 (codes "block") (rows_after s.rules [] words) refl (omega arith) (text_value s words _ (codes "block") right refl refl refl) in
-    let max_n = has_number _ 1 255 8 (codes "max") (rows_after s.rules [] words) refl (omega arith) (text_value s words _ (codes "max") right refl refl refl) in
-    let sizes : Sizes = record { symbol = symbol.0; block = block.0; max_n = max_n.0 } in
-    let has : HasSizes (rows_after s.rules [] words) sizes = record { symbol = symbol.1; block = block.1; max_n = max_n.1; some_symbol = symbol.2; sendable = symbol.3; some_block = block.2; some_max = max_n.2 } in
-    (CertifyAsked object.value output.value identifiers sizes, refl, (object.first, output.first, whose, has))
+  word_given : (a : Rule) (name default : Text) (choices : Bor (List (Bor Text))) → a.parser ≡ Some (Names choices) → a.ignore_case ≡ false → Passes a name rows
+      → IsGiven rows (Choice name choices default)
+  word_given a name default choices parser exact has =
+      (AText has.value, (has.first, among choices.now has.value (rw (parser, exact) at has.passes)))
 
-fine_convert : (orders : Bor (List (Bor Text))) → IsOrders orders → IsFine (shape_at 2 orders)
-unfolding clap_on_literals
-fine_convert orders are words none =
-    let s = shape_at 2 orders in
-    let each : Each (IsOwn s.rules) s.rules = (record { first = refl; action = inl refl }, (record { first = refl; action = inl refl }, (record { first = refl; action = inl refl }, (record { first = refl; action = inl refl }, (record { first = refl; action = inr (inr (inl refl)) }, tt))))) in
-    let right = right_level s words each none in
-    let certificate = text_value s words _ (codes "IN") right refl refl refl in
-    let output = text_value s words _ (codes "OUT") right refl refl refl in
-    let tsi = has_number _ 0 4294967295 32 (codes "tsi") (rows_after s.rules [] words) refl (omega arith) (text_value s words _ (codes "tsi") right refl refl refl) in
-    let toi = has_number _ 0 4294967295 32 (codes "toi") (rows_after s.rules [] words) refl (omega arith) (text_value s words _ (codes "toi") right refl refl refl) in
-    let identifiers : Identifiers = record { tsi = tsi.0; toi = toi.0 } in
-    let whose : HasIdentifiers (rows_after s.rules [] words) identifiers = record { tsi = tsi.1; toi = toi.1 } in
-    (ConvertAsked certificate.value output.value identifiers, refl, (certificate.first, output.first, whose))
+  flag_given : (a : Rule) (name : Text) → a.parser ≡ Some BoolParser → Passes a name rows → IsGiven rows (Flag name)
+  flag_given a name parser has = elim (is_flag has.value (rw parser at has.passes)) [
+    | inl e ↦ (AFlag true, has.first ∙ ap Some e)
+    | inr e ↦ (AFlag false, has.first ∙ ap Some e)
+  ]
 
-fine_check : (orders : Bor (List (Bor Text))) → IsOrders orders → IsFine (shape_at 3 orders)
-unfolding clap_on_literals
-fine_check orders are words none =
-    let s = shape_at 3 orders in
-    let each : Each (IsOwn s.rules) s.rules = (record { first = refl; action = inl refl }, (record { first = refl; action = inl refl }, (record { first = refl; action = inl refl }, (record { first = refl; action = inl refl }, (record { first = refl; action = inl refl }, (record { first = refl; action = inr (inr (inl refl)) }, tt)))))) in
-    let right = right_level s words each none in
-    let session = text_value s words _ (codes "SESSION") right refl refl refl in
-    let object = text_value s words _ (codes "OBJECT") right refl refl refl in
-    let certificate = text_value s words _ (codes "CERT") right refl refl refl in
-    let tsi = has_number _ 0 4294967295 32 (codes "tsi") (rows_after s.rules [] words) refl (omega arith) (text_value s words _ (codes "tsi") right refl refl refl) in
-    let toi = has_number _ 0 4294967295 32 (codes "toi") (rows_after s.rules [] words) refl (omega arith) (text_value s words _ (codes "toi") right refl refl refl) in
-    let identifiers : Identifiers = record { tsi = tsi.0; toi = toi.0 } in
-    let whose : HasIdentifiers (rows_after s.rules [] words) identifiers = record { tsi = tsi.1; toi = toi.1 } in
-    (CheckAsked session.value object.value certificate.value identifiers, refl, (session.first, object.first, certificate.first, whose))
-
-fine_drop : (orders : Bor (List (Bor Text))) → IsOrders orders → IsFine (shape_at 4 orders)
-unfolding clap_on_literals
-fine_drop orders are words none =
-    let s = shape_at 4 orders in
-    let each : Each (IsOwn s.rules) s.rules = (record { first = refl; action = inl refl }, (record { first = refl; action = inl refl }, (record { first = refl; action = inr (inl refl) }, (record { first = refl; action = inr (inr (inl refl)) }, tt)))) in
-    let right = right_level s words each none in
-    let session = text_value s words _ (codes "SESSION") right refl refl refl in
-    let output = text_value s words _ (codes "OUT") right refl refl refl in
-    let row = given_row s words _ (codes "PLACE") right refl refl in
-    let places = has_places _ 0 4294967295 (rows_after s.rules [] words) row.0 refl (omega arith) refl row.1 row.2 in
-    (DropAsked session.value output.value places.0, refl, (session.first, output.first, places.1))
-
-fine_join : (orders : Bor (List (Bor Text))) → IsOrders orders → IsFine (shape_at 5 orders)
-unfolding clap_on_literals
-fine_join orders are words none =
-    let s = shape_at 5 orders in
-    let each : Each (IsOwn s.rules) s.rules = (record { first = refl; action = inl refl }, (record { first = refl; action = inr (inl refl) }, (record { first = refl; action = inr (inr (inr refl)) }, (record { first = refl; action = inr (inr (inl refl)) }, tt)))) in
-    let right = right_level s words each none in
-    let output = text_value s words _ (codes "OUT") right refl refl refl in
-    let row = given_row s words _ (codes "SESSION") right refl refl in
-    let sessions = has_sessions _ (rows_after s.rules [] words) row.0 refl row.1 row.2 in
-    let turns = has_turns _ (rows_after s.rules [] words) refl (flag_value s words _ (codes "turns") _ _ right refl refl (omega arith)) in
-    (JoinAsked output.value sessions.0 turns.0, refl, (output.first, sessions.1, turns.1))
-
-fine_decode : (orders : Bor (List (Bor Text))) → IsOrders orders → IsFine (shape_at 6 orders)
-unfolding clap_on_literals
-fine_decode orders are words none =
-    let s = shape_at 6 orders in
-    let each : Each (IsOwn s.rules) s.rules = (record { first = refl; action = inl refl }, (record { first = refl; action = inl refl }, (record { first = refl; action = inl refl }, (record { first = refl; action = inl refl }, (record { first = refl; action = inr (inr (inl refl)) }, tt))))) in
-    let right = right_level s words each none in
-    let session = text_value s words _ (codes "SESSION") right refl refl refl in
-    let output = text_value s words _ (codes "OUT") right refl refl refl in
-    let tsi = has_number _ 0 4294967295 32 (codes "tsi") (rows_after s.rules [] words) refl (omega arith) (text_value s words _ (codes "tsi") right refl refl refl) in
-    let toi = has_number _ 0 4294967295 32 (codes "toi") (rows_after s.rules [] words) refl (omega arith) (text_value s words _ (codes "toi") right refl refl refl) in
-    let identifiers : Identifiers = record { tsi = tsi.0; toi = toi.0 } in
-    let whose : HasIdentifiers (rows_after s.rules [] words) identifiers = record { tsi = tsi.1; toi = toi.1 } in
-    (DecodeAsked session.value output.value identifiers, refl, (session.first, output.first, whose))
-
-fine_follow : (orders : Bor (List (Bor Text))) → IsOrders orders → IsFine (shape_at 7 orders)
-unfolding clap_on_literals
-fine_follow orders are words none =
-    let s = shape_at 7 orders in
-    let each : Each (IsOwn s.rules) s.rules = (record { first = refl; action = inl refl }, (record { first = refl; action = inl refl }, (record { first = refl; action = inl refl }, (record { first = refl; action = inl refl }, (record { first = refl; action = inr (inr (inl refl)) }, tt))))) in
-    let right = right_level s words each none in
-    let session = text_value s words _ (codes "SESSION") right refl refl refl in
-    let output = text_value s words _ (codes "OUT") right refl refl refl in
-    let tsi = has_number _ 0 4294967295 32 (codes "tsi") (rows_after s.rules [] words) refl (omega arith) (text_value s words _ (codes "tsi") right refl refl refl) in
-    let toi = has_number _ 0 4294967295 32 (codes "toi") (rows_after s.rules [] words) refl (omega arith) (text_value s words _ (codes "toi") right refl refl refl) in
-    let identifiers : Identifiers = record { tsi = tsi.0; toi = toi.0 } in
-    let whose : HasIdentifiers (rows_after s.rules [] words) identifiers = record { tsi = tsi.1; toi = toi.1 } in
-    (FollowAsked session.value output.value identifiers, refl, (session.first, output.first, whose))
-
-fine_twin : (orders : Bor (List (Bor Text))) → IsOrders orders → IsFine (shape_at 8 orders)
-unfolding clap_on_literals
-fine_twin orders are words none =
-    let s = shape_at 8 orders in
-    let each : Each (IsOwn s.rules) s.rules = (record { first = refl; action = inl refl }, (record { first = refl; action = inl refl }, (record { first = refl; action = inl refl }, (record { first = refl; action = inl refl }, (record { first = refl; action = inl refl }, (record { first = refl; action = inl refl }, (record { first = refl; action = inr (inr (inl refl)) }, tt))))))) in
-    let right = right_level s words each none in
-    let session = text_value s words _ (codes "SESSION") right refl refl refl in
-    let object = text_value s words _ (codes "OBJECT") right refl refl refl in
-    let certificate = text_value s words _ (codes "CERT") right refl refl refl in
-    let output = text_value s words _ (codes "OUT") right refl refl refl in
-    let tsi = has_number _ 0 4294967295 32 (codes "tsi") (rows_after s.rules [] words) refl (omega arith) (text_value s words _ (codes "tsi") right refl refl refl) in
-    let toi = has_number _ 0 4294967295 32 (codes "toi") (rows_after s.rules [] words) refl (omega arith) (text_value s words _ (codes "toi") right refl refl refl) in
-    let identifiers : Identifiers = record { tsi = tsi.0; toi = toi.0 } in
-    let whose : HasIdentifiers (rows_after s.rules [] words) identifiers = record { tsi = tsi.1; toi = toi.1 } in
-    (TwinAsked session.value object.value certificate.value output.value identifiers, refl, (session.first, object.first, certificate.first, output.first, whose))
-
-fine_show : (orders : Bor (List (Bor Text))) → IsOrders orders → IsFine (shape_at 9 orders)
-unfolding clap_on_literals
-fine_show orders are words none =
-    let s = shape_at 9 orders in
-    let each : Each (IsOwn s.rules) s.rules = (record { first = refl; action = inl refl }, (record { first = refl; action = inr (inr (inl refl)) }, tt)) in
-    let right = right_level s words each none in
-    let session = text_value s words _ (codes "SESSION") right refl refl refl in
-    (ShowAsked session.value, refl, session.first)
-
--- ---- the commands of the whole line
-
-abbrev IsHelpOrFine : Shape → Type 0
-IsHelpOrFine s = (label_of s ≡ (codes "help", [])) ⊎ IsFine s
-
-each_fine : (orders : Bor (List (Bor Text))) → IsOrders orders → Each IsHelpOrFine (built (grammar_of orders)).subs
-unfolding clap_on_literals
-each_fine orders are = (
-  inr (fine_encode orders are),
-  (
-    inr (fine_certify orders are),
+  numbers_given : (a : Rule) (name : Text) (least most : ℕ) (r : Row) → a.parser ≡ Some (Unsigned least most) → takes_one a
+      → find (λ r. bytes_eq r.id name) rows ≡ Some r → IsPassed a r → IsGiven rows (Numbers name least most)
+  numbers_given a name least most r parser one found passed = (
+    SomeNumbers (map number r.values),
     (
-      inr (fine_convert orders are),
-      (
-        inr (fine_check orders are),
-        (
-          inr (fine_drop orders are),
-          (
-            inr (fine_join orders are),
-            (
-              inr (fine_decode orders are),
-              (inr (fine_follow orders are), (inr (fine_twin orders are), (inr (fine_show orders are), (inl refl, tt)))),
-            ),
-          ),
-        ),
-      ),
+      r.values,
+      rw found (rw (passed.reading, parser) (ap Some (as_written r.values))),
+      are_numbers a least most r.values parser passed.accepted,
+      some_numbers r.values (passed.some (inl (omega (arith, one)))),
     ),
-  ),
-)
+  )
+
+  given : (argument : Argument) → Fits s.rules argument → IsGiven rows argument
+  given (File name) (a, known, wanted, one) = let has = text_value s words a name right known wanted one in (AText has.value, has.first)
+  given (Number name least most None) (a, known, wanted, one, parser) =
+      number_given a name least most None parser (text_value s words a name right known wanted one)
+  given (Number name least most (Some default)) (a, known, is, one, parser) =
+      number_given a name least most (Some default) parser (option_value s words a name default [] right known is one)
+  given (Choice name choices default) (a, known, is, one, parser, exact) =
+      word_given a name default choices parser exact (option_value s words a name default [] right known is one)
+  given (Numbers name least most) (a, known, wanted, one, parser) =
+      let (r, found, passed) = given_row s words a name right known wanted in
+      numbers_given a name least most r parser one found passed
+  given (Files name) (a, known, wanted, one) =
+      let (r, found, passed) = given_row s words a name right known wanted in
+      (SomeTexts r.values, (rw found refl, passed.some (inl (omega (arith, one)))))
+  given (Flag name) (a, known, is, some, parser) = flag_given a name parser (flag_value s words a name (codes "false") [] right known is some)
+
+  all_given : (arguments : List Argument) → AllByRecursion (Fits s.rules) arguments → AllByRecursion (IsGiven rows) arguments
+  all_given [] fits = tt
+  all_given (argument ∷ arguments) fits = (given argument fits.0, all_given arguments fits.1)
+
+-- ---- names that differ
+
+both_true : (a b : Bool) → (a && b) ≡ true → (a ≡ true) × (b ≡ true)
+both_true true b e = (refl, e)
+both_true false b e = let bad : false ≡ true = e in cc
+
+is_false : (b : Bool) → not b ≡ true → b ≡ false
+is_false true e = let bad : false ≡ true = e in cc
+is_false false e = refl
+
+any_false : (a b : Bool) → (a || b) ≡ false → (a ≡ false) × (b ≡ false)
+any_false true b e = let bad : true ≡ false = e in cc
+any_false false b e = (refl, e)
+
+unlike : (a b : Text) → bytes_eq b a ≡ false → bytes_eq a b ≡ false
+unlike a b e = go (bytes_eq a b) refl
+  where
+    go : (t : Bool) → bytes_eq a b ≡ t → bytes_eq a b ≡ false
+    go true same = let bad : true ≡ false = sym ((bytes_eq-Decides b a).1 (sym ((bytes_eq-Decides a b).0 same))) ∙ e in cc
+    go false same = same
+
+module _ {X : Type 0} (name : X → Text) where
+  abbrev differ : List X → Bool
+  differ [] = true
+  differ (x ∷ xs) = not (list_any (λ y. bytes_eq (name y) (name x)) xs) && differ xs
+
+  abbrev IsFirst : List X → X → Type 0
+  IsFirst xs x = find (λ y. bytes_eq (name y) (name x)) xs ≡ Some x
+
+  firsts_after : (x : X) (xs ys : List X) → list_any (λ y. bytes_eq (name y) (name x)) ys ≡ false → Each (IsFirst xs) ys → Each (IsFirst (x ∷ xs)) ys
+  firsts_after x xs [] none each = tt
+  firsts_after x xs (y ∷ ys) none each =
+      let parts = any_false (bytes_eq (name y) (name x)) (list_any (λ y. bytes_eq (name y) (name x)) ys) none in
+      (rw (unlike (name x) (name y) parts.0) each.0, firsts_after x xs ys parts.1 each.1)
+
+  -- where all names differ, each is found by its own
+  firsts : (xs : List X) → differ xs ≡ true → Each (IsFirst xs) xs
+  firsts [] distinct = tt
+  firsts (x ∷ xs) distinct =
+      let parts = both_true (not (list_any (λ y. bytes_eq (name y) (name x)) xs)) (differ xs) distinct in
+      (rw ((bytes_eq-Decides (name x) (name x)).1 refl) refl, firsts_after x xs xs (is_false (list_any (λ y. bytes_eq (name y) (name x)) xs) parts.0) (firsts xs parts.1))
+
+-- ---- the arguments of a command, as a parse has them
+
+abbrev is_usual : ArgAction → Bool
+is_usual Set = true
+is_usual Append = true
+is_usual Help = true
+is_usual SetTrue = true
+is_usual _ = false
+
+usual : (action : ArgAction) → is_usual action ≡ true → (action ≡ Set) ⊎ ((action ≡ Append) ⊎ ((action ≡ Help) ⊎ (action ≡ SetTrue)))
+usual Set is = inl refl
+usual Append is = inr (inl refl)
+usual Help is = inr (inr (inl refl))
+usual SetTrue is = inr (inr (inr refl))
+usual SetFalse is = let bad : false ≡ true = is in cc
+usual Count is = let bad : false ≡ true = is in cc
+usual HelpShort is = let bad : false ≡ true = is in cc
+usual HelpLong is = let bad : false ≡ true = is in cc
+usual Version is = let bad : false ≡ true = is in cc
+
+abbrev are_own : List Rule → Bool
+are_own rules = differ (λ a. a.id) rules && list_all (λ a. is_usual (action_of a)) rules
+
+own : (rules : List Rule) → are_own rules ≡ true → Each (IsOwn rules) rules
+own rules is =
+    let parts = both_true (differ (λ a. a.id) rules) (list_all (λ a. is_usual (action_of a)) rules) is in
+    go rules (firsts (λ a. a.id) rules parts.0) parts.1
+  where
+    go : (some : List Rule) → Each (IsFirst (λ a. a.id) rules) some → list_all (λ a. is_usual (action_of a)) some ≡ true → Each (IsOwn rules) some
+    go [] each all = tt
+    go (a ∷ some) each all =
+        let parts = both_true (is_usual (action_of a)) (list_all (λ a. is_usual (action_of a)) some) all in
+        (record { first = each.0; action = usual (action_of a) parts.0 }, go some each.1 parts.1)
+
+fits : (c : List Rule) (i : ℕ) (argument : Argument) → IsOwn c (with_index i (filled (rule_for argument))) → Fits c argument
+unfolding clap_on_literals
+fits c i (File name) own = (_, own.first, refl, refl)
+fits c i (Number name least most None) own = (_, own.first, refl, refl, refl)
+fits c i (Number name least most (Some default)) own = (_, own.first, refl, refl, refl)
+fits c i (Choice name words default) own = (_, own.first, refl, refl, refl, refl)
+fits c i (Numbers name least most) own = (_, own.first, refl, refl, refl)
+fits c i (Files name) own = (_, own.first, refl, refl)
+fits c i (Flag name) own = (_, own.first, refl, omega arith, refl)
+
+all_fit : (c : List Rule) (i : ℕ) (arguments : List Argument) (others : List Rule) → Each (IsOwn c) (filled_from i (map rule_for arguments ++ others))
+    → AllByRecursion (Fits c) arguments
+all_fit c i [] others each = tt
+all_fit c i (argument ∷ arguments) others each =
+    (fits c i argument each.0, all_fit c (index_after i (rule_for argument)) arguments others each.1)
+
+-- ---- the commands
+
+-- the commands' own arguments, and `--help`
+abbrev parsed_rules : Text × List Argument → List Rule
+parsed_rules command = filled_from 1 (map rule_for command.1 ++ help_rule ∷ [])
+
+-- what a parse makes of the command line's own shape, and of a command's
+abbrev top_shape : Bor (List (Bor Text)) → Shape
+top_shape orders = (on_top with_leaf_noted (on_top marked_built (grammar_of orders))).top
+
+abbrev parsed_shape : Bor (List (Bor Text)) → Text × List Argument → Shape
+parsed_shape orders command =
+    built_leaf (inherited (top_shape orders) (record (new_shape command.0) { rules = map rule_for command.1 }))
+
+module _ (orders : Bor (List (Bor Text))) where
+  abbrev IsFine : Shape → Type 0
+  IsFine s = (words : List Text) → level_fault s [] nothing_held words false [] ≡ [] → IsToldBy orders (Some (s.name, rows_after s.rules [] words))
+
+  fine : (command : Text × List Argument) → are_own (parsed_rules command) ≡ true → row_of orders command.0 ≡ Some command
+      → IsFine (parsed_shape orders command)
+  unfolding clap_on_literals
+  fine command owned known words none =
+      let s = parsed_shape orders command in
+      let each : Each (IsOwn s.rules) s.rules = own (parsed_rules command) owned in
+      let given = all_given s words (right_level s words each none) command.1 (all_fit s.rules 1 command.1 (help_rule ∷ []) each) in
+      (ap is_some known, subst (λ row. AllByRecursion (IsGiven (rows_after s.rules [] words)) (option_map_or (λ c. c.1) row [])) (sym known) given)
+
+  abbrev IsHelpOrFine : Shape → Type 0
+  IsHelpOrFine s = (label_of s ≡ (codes "help", [])) ⊎ IsFine s
+
+  all_fine : (table : List (Text × List Argument)) (last : List Shape) → list_all (λ command. are_own (parsed_rules command)) table ≡ true
+      → Each (λ command. row_of orders command.0 ≡ Some command) table → Each IsHelpOrFine last
+      → Each IsHelpOrFine (map (parsed_shape orders) table ++ last)
+  all_fine [] last owned known each = each
+  all_fine (command ∷ table) last owned known each =
+      let parts = both_true (are_own (parsed_rules command)) (list_all (λ command. are_own (parsed_rules command)) table) owned in
+      (inr (fine command parts.0 known.0), all_fine table last parts.1 known.1 each)
+
+  each_fine : Each IsHelpOrFine (built (grammar_of orders)).subs
+  unfolding clap_on_literals
+  each_fine = all_fine (commands orders) (built_leaf help_shape ∷ []) refl (firsts (λ command. command.0) (commands orders) refl) (inl refl, tt)
 
 -- A walk without a fault doesn't stop at `help`.
 abbrev StopsAway : Option (Text × List Text) → Type 0
@@ -401,14 +377,14 @@ find_true p (y ∷ ys) x found = go (p y) refl (λ rest. find_true p ys x rest)
     go false e rest = rest (rw e at found)
 
 -- what is entered where a command has to be, and nothing is at fault
-module _ (a : App) (each : Each IsHelpOrFine a.subs) where
+module _ (orders : Bor (List (Bor Text))) (a : App) (each : Each (IsHelpOrFine orders) a.subs) where
   asked_at : (p : Text × List Text) (o : Option Shape) → find (λ s. answers_to p.0 (label_of s)) a.subs ≡ o → bytes_eq p.0 (codes "help") ≡ false
       → option_map_or (λ s. level_fault s [] nothing_held p.1 false []) o [] ≡ [] → is_some (option_map (λ s. rows_at s p.1) o) ≡ true
-      → (asked : Asked) × IsRead (option_map (λ s. rows_at s p.1) o) asked
+      → IsToldBy orders (option_map (λ s. rows_at s p.1) o)
   asked_at p None e elsewhere none some = cc
-  asked_at p (Some s) e elsewhere none some = go (found_each IsHelpOrFine (λ s. answers_to p.0 (label_of s)) a.subs s each e)
+  asked_at p (Some s) e elsewhere none some = go (found_each (IsHelpOrFine orders) (λ s. answers_to p.0 (label_of s)) a.subs s each e)
     where
-      go : IsHelpOrFine s → (asked : Asked) × IsRead (Some (rows_at s p.1)) asked
+      go : IsHelpOrFine orders s → IsToldBy orders (Some (rows_at s p.1))
       go (inl help) =
           let answers : answers_to p.0 (codes "help", []) ≡ true = subst (λ label. answers_to p.0 label ≡ true) help (find_true (λ s. answers_to p.0 (label_of s)) a.subs s e) in
           absurd (no (bytes_eq (codes "help") p.0) refl answers)
@@ -417,12 +393,10 @@ module _ (a : App) (each : Each IsHelpOrFine a.subs) where
           no true is answers =
               let bad : false ≡ true = sym elsewhere ∙ (bytes_eq-Decides p.0 (codes "help")).1 (sym ((bytes_eq-Decides (codes "help") p.0).0 is)) in cc
           no false is answers = let bad : false ≡ true = answers in cc
-      go (inr fine) =
-          let asked = fine p.1 none in
-          (asked.0, (rows_after s.rules [] p.1, ap (λ name. Some (name, rows_after s.rules [] p.1)) (sym asked.1), asked.2))
+      go (inr is_fine) = is_fine p.1 none
 
   asked_after : (stop : Option (Text × List Text)) → StopsAway stop → entered_fault a stop ≡ [] → is_some (entered a stop) ≡ true
-      → (asked : Asked) × IsRead (entered a stop) asked
+      → IsToldBy orders (entered a stop)
   asked_after None elsewhere none some = cc
   asked_after (Some p) elsewhere none some = asked_at p (find (λ s. answers_to p.0 (label_of s)) a.subs) refl elsewhere none some
 
@@ -436,11 +410,11 @@ commanded s rows has wanted none =
     (not (s.subcommand_negates_reqs && has) && list_any (λ a. a.required && not (is_given a.id rows)) s.rules) none in
     has_command has (subst (λ b. (not has && b) ≡ false) wanted checks.0)
 
--- Every line without a fault asks for something.
-pub asks : (orders : Bor (List (Bor Text))) → IsOrders orders → (words : List Text) → fault_of (grammar_of orders) words ≡ []
-    → (asked : Asked) × IsRead (subcommand_of (grammar_of orders) words) asked
+-- Every line without a fault has a command, and a value of each of its arguments.
+pub asks : (orders : Bor (List (Bor Text))) (words : List Text) → fault_of (grammar_of orders) words ≡ []
+    → IsToldBy orders (subcommand_of (grammar_of orders) words)
 unfolding clap_on_literals
-asks orders are words none =
+asks orders words none =
     let a = built (grammar_of orders) in
     let given = argument_words (grammar_of orders) words in
     let stop = (walk a.top.rules (names_of a) nothing_held given).stopped in
@@ -448,5 +422,5 @@ asks orders are words none =
     let second = both_none (entered_fault a stop) _ first.1 in
     let third = both_none (settle_fault a.top.rules a.top.args_override_self (walk a.top.rules (names_of a) nothing_held given).held) _ second.1 in
     let fourth = both_none (defaults_fault (settled a.top.rules (walk a.top.rules (names_of a) nothing_held given).held).rows a.top.rules) _ third.1 in
-    asked_after a (each_fine orders are) stop (stops_walk a.top (names_of a) refl given (walk_from nothing_held) tt first.0) second.0
+    asked_after orders a (each_fine orders) stop (stops_walk a.top (names_of a) refl given (walk_from nothing_held) tt first.0) second.0
     (commanded a.top (finished a.top.rules (walk a.top.rules (names_of a) nothing_held given).held) (is_some (entered a stop)) refl fourth.1)

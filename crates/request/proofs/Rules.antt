@@ -1,13 +1,17 @@
 -- A command with arguments added in turn.
-use Rattle.std.proofs.Common.{zero, suc, ap, arith, refl, sym, map, take, length, false, ℕ, List, [], ◌∷◌, ◌++◌, ◌≡◌, ◌<◌, ◌+◌, ◌∙◌}
+use Rattle.std.proofs.Common.{zero, suc, ap, arith, codes, refl, sym, map, take, length, true, false, ℕ, List, [], ◌∷◌, ◌++◌, ◌≡◌, ◌<◌, ◌+◌, ◌∙◌}
+use Rattle.std.specs.Borrow.{Bor}
 use Rattle.std.specs.List.{slice_index_or}
 use Rattle.std.proofs.lemmas.List.{append-nil, append_assoc}
 use Rattle.clap.specs.Words.{AddsArg, App, Rule, Shape, Text, app_of, rule_of, shape_of, with_subcommand}
 use Rattle.clap.specs.Simple.{new_shape}
 use Rattle.clap.specs.declared.builder.arg.Arg.{Arg}
 use Rattle.clap.specs.declared.builder.command.Command.{Command}
-use Rattle.request.specs.Grammar.{command}
-use Rattle.request.specs.Building.{AddsCommands, AddsRules, IsShaped, with_commands}
+use Rattle.request.specs.Building.{AddsCommands, AddsRules, HasGrammar, IsShaped, outline_shape, with_commands}
+use Rattle.request.specs.Grammar.{IsOrders, grammar_of}
+use Rattle.request.specs.declared.grammar.Argument.{Argument}
+use Rattle.request.specs.declared.grammar.Argument.TheVariants.{File, Number, Choice, Numbers, Files, Flag}
+use Rattle.request.specs.declared.grammar.Outline.{Outline}
 use Rattle.clap.specs.declared.builder.command.Command.TheViews.{out-Command as fields_of}
 
 one_more : {X Y : Type 0} (f : X → Y) (xs : List X) (i : ℕ) (d : X) → i < length xs
@@ -40,16 +44,12 @@ rule_added f xs i d old c new a so_far added local rule lt =
       local = rw (added.globals, so_far.local, local) (grind arith);
     }
 
--- a new command with arguments of three kinds
-pub shaped : (name : Text) (new c1 c2 c3 : Command) (firsts seconds thirds : List Rule) → shape_of new ≡ new_shape name → (fields_of new).has_globals ≡ false
-    → AddsRules new firsts c1 → AddsRules c1 seconds c2 → AddsRules c2 thirds c3 → IsShaped (command name (firsts ++ (seconds ++ thirds))) c3
-shaped name new c1 c2 c3 firsts seconds thirds is local first second third = record {
-  shaped = third.shape
-      ∙ (ap (λ (s : Shape). record s { rules = s.rules ++ thirds }) (second.shape
-      ∙ ap (λ (s : Shape). record s { rules = s.rules ++ seconds }) (first.shape
-      ∙ ap (λ (s : Shape). record s { rules = s.rules ++ firsts }) is))
-      ∙ ap (λ rs. record (new_shape name) { rules = rs }) (append_assoc firsts seconds thirds));
-  local = third.local ∙ (second.local ∙ (first.local ∙ local));
+-- a new command with arguments
+pub shaped : (name : Text) (new c : Command) (rules : List Rule) → shape_of new ≡ new_shape name → (fields_of new).has_globals ≡ false
+    → AddsRules new rules c → IsShaped (record (new_shape name) { rules = rules }) c
+shaped name new c rules is local added = record {
+  shaped = added.shape ∙ ap (λ (s : Shape). record s { rules = s.rules ++ rules }) is;
+  local = added.local ∙ local;
 }
 
 -- ---- a parser with commands added in turn
@@ -58,17 +58,55 @@ one_command : (app : App) (shapes : List Shape) (shape : Shape) → with_command
 one_command app [] shape = refl
 one_command app (s ∷ shapes) shape = one_command (with_subcommand app s) shapes shape
 
+-- with none yet
+pub no_outlines : (c : Command) → AddsCommands c [] c
+no_outlines c = record { app = refl }
+
 -- and one more, that of the next place
-pub command_added : {X : Type 0} (f : X → Shape) (xs : List X) (i : ℕ) (d : X) (old parser sub new : Command)
-    → AddsCommands old (map f (take i xs)) parser
+pub command_added : (xs : List Outline) (i : ℕ) (d : Outline) (old parser sub new : Command)
+    → AddsCommands old (take i xs) parser
     → ((fields_of sub).has_globals ≡ false → app_of new ≡ with_subcommand (app_of parser) (shape_of sub))
-    → IsShaped (f (slice_index_or xs i d)) sub → i < length xs
-    → AddsCommands old (map f (take (i + 1) xs)) new
-command_added f xs i d old parser sub new so_far added is lt =
+    → IsShaped (outline_shape (slice_index_or xs i d)) sub → i < length xs
+    → AddsCommands old (take (i + 1) xs) new
+command_added xs i d old parser sub new so_far added is lt =
     let next : i + 1 ≡ suc i = omega arith in
     let app = app_of old in
-    added is.local
-    ∙ (ap (λ a. with_subcommand a (shape_of sub)) so_far
-    ∙ (ap (λ s. with_subcommand (with_commands app (map f (take i xs))) s) is.shaped
-    ∙ (sym (one_command app (map f (take i xs)) (f (slice_index_or xs i d)))
-    ∙ (ap (λ ss. with_commands app ss) (sym (one_more f xs i d lt)) ∙ ap (λ n. with_commands app (map f (take n xs))) (sym next)))))
+    let shapes = map outline_shape (take i xs) in
+    record {
+      app = added is.local
+          ∙ (ap (λ a. with_subcommand a (shape_of sub)) so_far.app
+          ∙ (ap (λ s. with_subcommand (with_commands app shapes) s) is.shaped
+          ∙ (sym (one_command app shapes (outline_shape (slice_index_or xs i d)))
+          ∙ (ap (λ ss. with_commands app ss) (sym (one_more outline_shape xs i d lt)) ∙ ap (λ n. with_commands app (map outline_shape (take n xs))) (sym next)))));
+    }
+
+-- ---- the table's commands
+
+abbrev pub no_commands : App
+no_commands = record { top = record (new_shape (codes "alcrs")) { subcommand_required = true; has_version = true }; subs = [] }
+
+abbrev no_words : Bor (List (Bor Text))
+no_words = record { ref_ptr = (0, 0); now = [] }
+
+abbrev words_among : List Argument → Bor (List (Bor Text))
+words_among [] = no_words
+words_among (Choice option ∷ arguments) = option.words
+words_among (File name help ∷ arguments) = words_among arguments
+words_among (Number option ∷ arguments) = words_among arguments
+words_among (Numbers name help least most ∷ arguments) = words_among arguments
+words_among (Files name help ∷ arguments) = words_among arguments
+words_among (Flag name help ∷ arguments) = words_among arguments
+
+-- the words of the first command's choice
+abbrev pub words_of_choice : List Outline → Bor (List (Bor Text))
+words_of_choice [] = no_words
+words_of_choice (outline ∷ outlines) = words_among outline.arguments.now
+
+-- the parser with the table's commands
+pub has_grammar : {outlines : List Outline} → (old new : Command) → AddsCommands old outlines new → app_of old ≡ no_commands
+    → with_commands no_commands (map outline_shape outlines) ≡ grammar_of (words_of_choice outlines) → IsOrders (words_of_choice outlines) → HasGrammar new
+has_grammar {outlines} old new added top same are = record {
+  orders = words_of_choice outlines;
+  names = are;
+  app = added.app ∙ (ap (λ app. with_commands app (map outline_shape outlines)) top ∙ same);
+}

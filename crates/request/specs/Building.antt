@@ -1,12 +1,16 @@
 -- How a parser comes to have the grammar.
-use Rattle.std.specs.Prelude.{◌≡◌, ◌++◌, ◌∷◌, [], List, false, map}
+use Rattle.std.specs.Prelude.{◌≡◌, ◌++◌, ◌∷◌, [], List, false, map, option_map}
 use Rattle.std.specs.Borrow.{Bor}
 use Rattle.clap.specs.Words.{App, Rule, Shape, Text, app_of, shape_of, with_subcommand}
+use Rattle.clap.specs.Simple.{new_shape}
 use Rattle.clap.specs.declared.builder.command.Command.{Command}
 use Rattle.clap.specs.declared.builder.command.Command.TheViews.{out-Command as fields_of}
-use Rattle.request.specs.Grammar.{IsOrders, command, file, grammar_of, number, places, sessions, turns}
-use Rattle.request.specs.declared.grammar.OwnArgument.{OwnArgument}
-use Rattle.request.specs.declared.grammar.OwnArgument.TheVariants.{Places, Sessions, Turns}
+use Rattle.request.specs.Arguments.{Argument, File, Number, Choice, Numbers, Files, Flag, rule_for}
+use Rattle.request.specs.Grammar.{IsOrders, grammar_of}
+use Rattle.request.specs.declared.grammar.NumberOption.{NumberOption}
+use Rattle.request.specs.declared.grammar.ChoiceOption.{ChoiceOption}
+use Rattle.request.specs.declared.grammar.Argument.{Argument as Told}
+use Rattle.request.specs.declared.grammar.Argument.TheVariants as told
 use Rattle.request.specs.declared.grammar.Outline.{Outline}
 
 -- the parser has this grammar
@@ -30,16 +34,30 @@ abbrev pub with_commands : App → List Shape → App
 with_commands app [] = app
 with_commands app (shape ∷ shapes) = with_commands (with_subcommand app shape) shapes
 
-abbrev pub AddsCommands : Command → List Shape → Command → Type 0
-AddsCommands old shapes new = app_of new ≡ with_commands (app_of old) shapes
+abbrev pub number_of : NumberOption → Argument
+number_of option =
+    Number option.name.now option.least option.most (option_map (λ text. text.now) option.default)
 
-abbrev pub own_rule : OwnArgument → Rule
-own_rule Places = places
-own_rule Sessions = sessions
-own_rule Turns = turns
+abbrev pub choice_of : ChoiceOption → Argument
+choice_of option = Choice option.name.now option.words option.default.now
 
--- the command that an outline tells of
+-- the argument of which the table tells
+abbrev pub argument_of : Told → Argument
+argument_of (told.File name help) = File name.now
+argument_of (told.Number option) = number_of option
+argument_of (told.Choice option) = choice_of option
+argument_of (told.Numbers name help least most) = Numbers name.now least most
+argument_of (told.Files name help) = Files name.now
+argument_of (told.Flag name help) = Flag name.now
+
+abbrev pub rule_told : Told → Rule
+rule_told argument = rule_for (argument_of argument)
+
+-- the command of which an outline tells
 abbrev pub outline_shape : Outline → Shape
-outline_shape outline = command outline.name.now
-    (map (λ argument. file argument.0.now) outline.files.now
-    ++ (map (λ option. number option.name.now option.least option.most) outline.numbers.now ++ map own_rule outline.own.now))
+outline_shape outline =
+    record (new_shape outline.name.now) { rules = map rule_told outline.arguments.now }
+
+-- the parser with these commands last
+pub record AddsCommands (old : Command) (outlines : List Outline) (new : Command) : Type 0 where
+  pub app : app_of new ≡ with_commands (app_of old) (map outline_shape outlines)

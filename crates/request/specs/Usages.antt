@@ -10,4 +10,5 @@ IsAskedFor error = (kind_of error ≡ DisplayHelp) ⊎ (kind_of error ≡ Displa
 
 -- the error is a refusal: neither a text that was asked for, nor want of memory
 abbrev pub IsRefusal : Error → Type 0
-IsRefusal error = (kind_of error ≢ DisplayHelp) × (kind_of error ≢ DisplayVersion) × (kind_of error ≢ OutOfMemory)
+IsRefusal error = (kind_of error ≢ DisplayHelp) × (kind_of error ≢ DisplayVersion)
+    × (kind_of error ≢ OutOfMemory)

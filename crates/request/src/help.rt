@@ -1,5 +1,6 @@
-//! What the help of each command says behind its arguments: the lines that it prints, with their units, its statuses, and
-//! how to call it. The files of the examples are those of samples/ and of the README's walk.
+//! What the help of each command says behind its arguments: the lines that it prints, with their
+//! units, its statuses, and how to call it. The files of the examples are those of samples/ and of
+//! the README's walk.
 
 pub(crate) const ALCRS: &str =
     "Statuses: 0 done or yes, 1 no or a fault, 2 the command line is refused, 3 decode or follow has too little.

@@ -16,5 +16,8 @@ mod requests;
 mod usage;
 
 pub use line::request;
-pub use requests::{Identifiers, Request, Sending, Sizes};
+pub use requests::{
+    CertifyRequest, CheckRequest, ConvertRequest, DecodeRequest, DropRequest, EncodeRequest,
+    FollowRequest, JoinRequest, Request, Sending, ShowRequest, Sizes, TwinRequest,
+};
 pub use usage::Usage;

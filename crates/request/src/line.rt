@@ -1,6 +1,6 @@
 //! Command lines.
 ghost use Rattle.std.specs.Prelude.{map};
-ghost use Rattle.request.specs.Grammar.{IsOrders, grammar_of};
+ghost use Rattle.request.specs.Grammar.{IsOrders};
 ghost use Rattle.request.specs.Requests.{Answers};
 ghost use Rattle.request.specs.UsageOf.{IsUsageOf};
 
@@ -22,15 +22,17 @@ fn usage_of(error: Error) -> Usage
     }
 }
 
-/// The request that the words of a command line make, the first of which is the program's name. It borrows its texts from
-/// them. Any words may be given.
+/// The request that the words of a command line make, the first of which is the program's name. It
+/// borrows its texts from them. Any words may be given.
 ///
-/// An error is `Help` where the words ask for help or the version, `Line` where the grammar refuses them, and `NoMemory`; never `Value`.
+/// An error is `Help` where the words ask for help or the version, `Line` where the grammar refuses
+/// them, and `NoMemory` where there is no memory.
 pub fn request<'a>(alloc: Global, words: &'a [&'a str]) -> Result<Request<'a>, Usage>
-    // The request that the grammar reads from the words where they have no fault, else why they are none; or no memory.
+    // The request that the grammar reads from the words where they have no fault, else why they are
+    // none; or no memory.
     ensures { (orders : _)
         × IsOrders orders
-        × Answers (grammar_of orders) (map (λ word. word.now) words.now) result }
+        × Answers orders (map (λ word. word.now) words.now) result }
 {
     let Ok(grammar) = grammar(alloc) else {
         return Err(Usage::NoMemory);

@@ -1,255 +1,227 @@
-//! Requests of what the grammar matched.
-ghost use Rattle.std.specs.Prelude.{◌≡◌, ◌∷◌, None, Some, IfOk, IfErr, codes, map};
+//! Requests of what the grammar matched. The grammar lets no line through that lacks a value, so
+//! each is there.
+ghost use Rattle.std.specs.Prelude.{◌≡◌, ◌≤◌, Some, true, IfOk, codes, is_some, map};
+ghost use Rattle.std.specs.List.{AllZip};
 ghost use Rattle.clap.specs.Words.{first_of, one_of, subcommand_rows_of};
-ghost use Rattle.request.specs.Requests.{HasCarriers, HasIdentifiers, HasOrder, HasPlaces, HasSending, HasSessions, HasSizes, HasText, HasTurns};
-ghost use Rattle.request.specs.RequestReading.{AnswersRead, Finds, Gives, GivesNone, IsNoPlaces, IsNoSessions, rows_in};
+ghost use Rattle.request.specs.Arguments.{HasValue, Files as files_named, Numbers as numbers_named, SomeNumbers, SomeTexts, flag_word};
+ghost use Rattle.request.specs.Grammar.{identifiers, size_arguments};
+ghost use Rattle.request.specs.Narrow.{IsNarrow};
+ghost use Rattle.request.specs.Requests.{whose, size_values};
+ghost use Rattle.request.specs.Matching.{AreGiven, Gives, IsAsked, IsGiven, IsMatch, IsOrder, IsOrderTold, IsTold, Reads, rows_in};
 
-use crate::requests::{Identifiers, MOST_SYMBOL_BYTES, Request, Sending, Sizes};
+use crate::requests::{
+    CertifyRequest, CheckRequest, ConvertRequest, DecodeRequest, DropRequest, EncodeRequest,
+    FollowRequest, JoinRequest, Request, Sending, ShowRequest, Sizes, TwinRequest,
+};
 use crate::usage::Usage;
 use clap::ArgMatches;
 use partition::Order;
-use std::alloc::Global;
+use reception::Identity;
+use std::alloc::{AllocError, Global};
 use std::str::FromStr;
 
 // The text of an argument.
-fn text<'a>(matches: &ArgMatches<'a>, name: &str) -> Result<&'a str, Usage>
-    ensures ok { IfOk result (λ text. HasText (rows_in matches.now) name.now text.now) }
-    ensures err { IfErr result (λ usage.
-        (usage ≡ Usage.Value) × (first_of name.now (rows_in matches.now) ≡ None)) }
+fn text<'a>(matches: &ArgMatches<'a>, name: &str) -> &'a str
+    requires { is_some (first_of name.now (rows_in matches.now)) ≡ true }
+    ensures { first_of name.now (rows_in matches.now) ≡ Some result.now }
 {
-    matches.get_str(name).ok_or(Usage::Value)
+    matches.get_str(name).unwrap()
 }
 
 // The number of an option.
-fn number<T: FromStr>(matches: &ArgMatches<'_>, name: &str) -> Result<T, Usage>
+fn number<T: FromStr>(matches: &ArgMatches<'_>, name: &str) -> T
 where
     T::Err: Drop,
-    ensures ok { IfOk result (Gives T.from_str_gives (one_of name.now (rows_in matches.now))) }
-    ensures err { IfErr result (λ usage.
-        (usage ≡ Usage.Value)
-        × GivesNone T.from_str_gives (one_of name.now (rows_in matches.now))) }
+    requires { Reads T.from_str_gives (one_of name.now (rows_in matches.now)) }
+    ensures { Gives T.from_str_gives (one_of name.now (rows_in matches.now)) result }
 {
-    matches.get_one::<T>(name).ok_or(Usage::Value)
-}
-
-// The numbers of an FTI, each in its range.
-fn sizes(matches: &ArgMatches<'_>) -> Result<Sizes, Usage>
-    ensures { Finds (HasSizes (rows_in matches.now)) result }
-{
-    let symbol = number::<u16>(matches, "symbol")?;
-    let block = number::<u8>(matches, "block")?;
-    let max_n = number::<u8>(matches, "max")?;
-    if symbol == 0 || symbol > MOST_SYMBOL_BYTES || block == 0 || max_n == 0 {
-        return Err(Usage::Value);
-    }
-    Ok(Sizes {
-        symbol,
-        block,
-        max_n,
-    })
-}
-
-// Of how many datagrams in a row one carries the FTI.
-fn fti_every(matches: &ArgMatches<'_>) -> Result<u8, Usage>
-    ensures { Finds (HasCarriers (rows_in matches.now)) result }
-{
-    let every = number::<u8>(matches, "fti-every")?;
-    if every == 0 {
-        return Err(Usage::Value);
-    }
-    Ok(every)
-}
-
-#[tactic(auto, using(crate::proofs::Getters::no_order))]
-fn order(matches: &ArgMatches<'_>) -> Result<Order, Usage>
-    ensures { Finds (HasOrder (rows_in matches.now)) result }
-{
-    match text(matches, "order")? {
-        "blocks" => Ok(Order::Blocks),
-        "rounds" => Ok(Order::Rounds),
-        _ => Err(Usage::Value),
-    }
+    matches.get_one::<T>(name).unwrap()
 }
 
 // Whose packets are asked for, or are sent.
-fn identifiers(matches: &ArgMatches<'_>) -> Result<Identifiers, Usage>
-    ensures { Finds (HasIdentifiers (rows_in matches.now)) result }
+fn identity(matches: &ArgMatches<'_>) -> Identity
+    requires { AreGiven (rows_in matches.now) identifiers }
+    ensures values { AllZip (HasValue (rows_in matches.now)) identifiers
+        (whose result) }
+    ensures narrow { IsNarrow result }
 {
-    Ok(Identifiers {
-        tsi: number::<u32>(matches, "tsi")?,
-        toi: number::<u32>(matches, "toi")?,
-    })
+    Identity {
+        tsi: u64::from(number::<u32>(matches, "tsi")),
+        toi: u128::from(number::<u32>(matches, "toi")),
+    }
 }
 
-// What is sent, and how.
-#[tactic(auto, using(crate::proofs::Getters::no_sending, crate::proofs::Getters::no_one_to_send, crate::proofs::Getters::no_carriers_to_send))]
-fn sending(matches: &ArgMatches<'_>) -> Result<Sending, Usage>
-    ensures { Finds (HasSending (rows_in matches.now)) result }
+// The numbers of an FTI, each in its range.
+fn sizes(matches: &ArgMatches<'_>) -> Sizes
+    requires { AreGiven (rows_in matches.now) size_arguments }
+    ensures { AllZip (HasValue (rows_in matches.now)) size_arguments (size_values result) }
 {
-    Ok(Sending {
-        identifiers: identifiers(matches)?,
-        sizes: sizes(matches)?,
-        fti_every: fti_every(matches)?,
-        order: order(matches)?,
-    })
+    Sizes {
+        symbol: number::<u16>(matches, "symbol"),
+        block: number::<u8>(matches, "block"),
+        max_n: number::<u8>(matches, "max"),
+    }
+}
+
+// In which order the encoding symbols are sent.
+fn order(matches: &ArgMatches<'_>) -> Order
+    requires { IsOrderTold (rows_in matches.now) }
+    ensures { IsOrder (rows_in matches.now) result }
+{
+    match text(matches, "order") {
+        "blocks" => Order::Blocks,
+        "rounds" => Order::Rounds,
+        _ => unreachable!(),
+    }
 }
 
 // The values of PLACE.
-#[tactic(auto, using(crate::proofs::Getters::no_places))]
-fn places(alloc: Global, matches: &ArgMatches<'_>) -> Result<Vec<usize>, Usage>
-    ensures ok { IfOk result (λ places. HasPlaces (rows_in matches.now) places.items) }
-    ensures err { IfErr result (IsNoPlaces (rows_in matches.now)) }
+fn places(alloc: Global, matches: &ArgMatches<'_>) -> Result<Vec<usize>, AllocError>
+    requires { IsGiven (rows_in matches.now) (numbers_named (codes "PLACE") 0 4294967295) }
+    ensures { IfOk result (λ places. HasValue (rows_in matches.now)
+        (numbers_named (codes "PLACE") 0 4294967295) (SomeNumbers places.items)) }
 {
-    let Some(given) = matches.get_many::<u32>("PLACE") else {
-        return Err(Usage::Value);
-    };
+    let given = matches.get_many::<u32>("PLACE").unwrap();
     let mut places = Vec::new(alloc);
     for place in given {
-        let Ok(place) = place else {
-            return Err(Usage::Value);
-        };
-        let Ok(()) = places.push(place as usize) else {
-            return Err(Usage::NoMemory);
-        };
-    }
-    if places.is_empty() {
-        return Err(Usage::Value);
+        let Ok(place) = place else { unreachable!() };
+        places.push(place as usize)?;
     }
     Ok(places)
 }
 
 // The values of SESSION.
-fn sessions<'a>(alloc: Global, matches: &ArgMatches<'a>) -> Result<Vec<&'a str>, Usage>
-    ensures ok { IfOk result (λ sessions.
-        HasSessions (rows_in matches.now) (map (λ session. session.now) sessions.items)) }
-    ensures err { IfErr result (IsNoSessions (rows_in matches.now)) }
+fn sessions<'a>(alloc: Global, matches: &ArgMatches<'a>) -> Result<Vec<&'a str>, AllocError>
+    requires { IsGiven (rows_in matches.now) (files_named (codes "SESSION")) }
+    ensures { IfOk result (λ sessions. HasValue (rows_in matches.now)
+        (files_named (codes "SESSION"))
+        (SomeTexts (map (λ session. session.now) sessions.items))) }
 {
-    let Some(given) = matches.get_strs("SESSION") else {
-        return Err(Usage::Value);
-    };
-    if given.is_empty() {
-        return Err(Usage::Value);
-    }
-    match given.to_vec(alloc) {
-        Ok(sessions) => Ok(sessions),
-        Err(_) => Err(Usage::NoMemory),
-    }
+    matches.get_strs("SESSION").unwrap().to_vec(alloc)
 }
 
-// Whether `--turns` was given.
-#[tactic(auto, using(crate::proofs::Getters::no_turns))]
-fn turns(matches: &ArgMatches<'_>) -> Result<bool, Usage>
-    ensures { Finds (HasTurns (rows_in matches.now)) result }
+// Whether the flag was given.
+fn flag(matches: &ArgMatches<'_>, name: &str) -> bool
+    requires { (given : _) × (first_of name.now (rows_in matches.now) ≡ Some (flag_word given)) }
+    ensures { first_of name.now (rows_in matches.now) ≡ Some (flag_word result) }
 {
-    match text(matches, "turns")? {
-        "true" => Ok(true),
-        "false" => Ok(false),
-        _ => Err(Usage::Value),
-    }
+    text(matches, name) == "true"
 }
 
-#[tactic(auto, using(crate::proofs::Getters::no_encode))]
-fn encode_request<'a>(matches: &ArgMatches<'a>) -> Result<Request<'a>, Usage>
-    ensures { AnswersRead (Some (codes "encode", rows_in matches.now)) result }
+fn encode_request<'a>(matches: &ArgMatches<'a>) -> Request<'a>
+    requires { IsTold (Some (codes "encode", rows_in matches.now)) }
+    ensures { IsAsked (codes "encode") (rows_in matches.now) result }
 {
-    Ok(Request::Encode {
-        object: text(matches, "OBJECT")?,
-        output: text(matches, "OUT")?,
-        sending: sending(matches)?,
+    Request::Encode(EncodeRequest {
+        object: text(matches, "OBJECT"),
+        output: text(matches, "OUT"),
+        sending: Sending {
+            identity: identity(matches),
+            sizes: sizes(matches),
+            fti_every: number::<u8>(matches, "fti-every"),
+            order: order(matches),
+        },
     })
 }
 
-#[tactic(auto, using(crate::proofs::Getters::no_certify, crate::proofs::Getters::no_certify_for))]
-fn certify_request<'a>(matches: &ArgMatches<'a>) -> Result<Request<'a>, Usage>
-    ensures { AnswersRead (Some (codes "certify", rows_in matches.now)) result }
+fn certify_request<'a>(matches: &ArgMatches<'a>) -> Request<'a>
+    requires { IsTold (Some (codes "certify", rows_in matches.now)) }
+    ensures { IsAsked (codes "certify") (rows_in matches.now) result }
 {
-    Ok(Request::Certify {
-        object: text(matches, "OBJECT")?,
-        output: text(matches, "OUT")?,
-        identifiers: identifiers(matches)?,
-        sizes: sizes(matches)?,
+    Request::Certify(CertifyRequest {
+        object: text(matches, "OBJECT"),
+        output: text(matches, "OUT"),
+        identity: identity(matches),
+        sizes: sizes(matches),
     })
 }
 
-fn convert_request<'a>(matches: &ArgMatches<'a>) -> Result<Request<'a>, Usage>
-    ensures { AnswersRead (Some (codes "convert", rows_in matches.now)) result }
+fn convert_request<'a>(matches: &ArgMatches<'a>) -> Request<'a>
+    requires { IsTold (Some (codes "convert", rows_in matches.now)) }
+    ensures { IsAsked (codes "convert") (rows_in matches.now) result }
 {
-    Ok(Request::Convert {
-        certificate: text(matches, "IN")?,
-        output: text(matches, "OUT")?,
-        identifiers: identifiers(matches)?,
+    Request::Convert(ConvertRequest {
+        certificate: text(matches, "IN"),
+        output: text(matches, "OUT"),
+        identity: identity(matches),
     })
 }
 
-fn check_request<'a>(matches: &ArgMatches<'a>) -> Result<Request<'a>, Usage>
-    ensures { AnswersRead (Some (codes "check", rows_in matches.now)) result }
+fn check_request<'a>(matches: &ArgMatches<'a>) -> Request<'a>
+    requires { IsTold (Some (codes "check", rows_in matches.now)) }
+    ensures { IsAsked (codes "check") (rows_in matches.now) result }
 {
-    Ok(Request::Check {
-        session: text(matches, "SESSION")?,
-        object: text(matches, "OBJECT")?,
-        certificate: text(matches, "CERT")?,
-        identifiers: identifiers(matches)?,
+    Request::Check(CheckRequest {
+        session: text(matches, "SESSION"),
+        object: text(matches, "OBJECT"),
+        certificate: text(matches, "CERT"),
+        identity: identity(matches),
     })
 }
 
-#[tactic(auto, using(crate::proofs::Getters::no_drop))]
-fn drop_request<'a>(alloc: Global, matches: &ArgMatches<'a>) -> Result<Request<'a>, Usage>
-    ensures { AnswersRead (Some (codes "drop", rows_in matches.now)) result }
+fn drop_request<'a>(alloc: Global, matches: &ArgMatches<'a>) -> Result<Request<'a>, AllocError>
+    requires { IsTold (Some (codes "drop", rows_in matches.now)) }
+    ensures { IfOk result (IsAsked (codes "drop") (rows_in matches.now)) }
 {
-    Ok(Request::Drop {
-        session: text(matches, "SESSION")?,
-        output: text(matches, "OUT")?,
+    Ok(Request::Drop(DropRequest {
+        session: text(matches, "SESSION"),
+        output: text(matches, "OUT"),
         places: places(alloc, matches)?,
-    })
+    }))
 }
 
-fn join_request<'a>(alloc: Global, matches: &ArgMatches<'a>) -> Result<Request<'a>, Usage>
-    ensures { AnswersRead (Some (codes "join", rows_in matches.now)) result }
+fn join_request<'a>(alloc: Global, matches: &ArgMatches<'a>) -> Result<Request<'a>, AllocError>
+    requires { IsTold (Some (codes "join", rows_in matches.now)) }
+    ensures { IfOk result (IsAsked (codes "join") (rows_in matches.now)) }
 {
-    Ok(Request::Join {
-        output: text(matches, "OUT")?,
+    Ok(Request::Join(JoinRequest {
+        output: text(matches, "OUT"),
         sessions: sessions(alloc, matches)?,
-        turns: turns(matches)?,
+        turns: flag(matches, "turns"),
+    }))
+}
+
+fn decode_request<'a>(matches: &ArgMatches<'a>) -> Request<'a>
+    requires { IsTold (Some (codes "decode", rows_in matches.now)) }
+    ensures { IsAsked (codes "decode") (rows_in matches.now) result }
+{
+    Request::Decode(DecodeRequest {
+        session: text(matches, "SESSION"),
+        output: text(matches, "OUT"),
+        identity: identity(matches),
     })
 }
 
-fn decode_request<'a>(matches: &ArgMatches<'a>) -> Result<Request<'a>, Usage>
-    ensures { AnswersRead (Some (codes "decode", rows_in matches.now)) result }
+fn follow_request<'a>(matches: &ArgMatches<'a>) -> Request<'a>
+    requires { IsTold (Some (codes "follow", rows_in matches.now)) }
+    ensures { IsAsked (codes "follow") (rows_in matches.now) result }
 {
-    Ok(Request::Decode {
-        session: text(matches, "SESSION")?,
-        output: text(matches, "OUT")?,
-        identifiers: identifiers(matches)?,
+    Request::Follow(FollowRequest {
+        session: text(matches, "SESSION"),
+        output: text(matches, "OUT"),
+        identity: identity(matches),
     })
 }
 
-fn follow_request<'a>(matches: &ArgMatches<'a>) -> Result<Request<'a>, Usage>
-    ensures { AnswersRead (Some (codes "follow", rows_in matches.now)) result }
+fn twin_request<'a>(matches: &ArgMatches<'a>) -> Request<'a>
+    requires { IsTold (Some (codes "twin", rows_in matches.now)) }
+    ensures { IsAsked (codes "twin") (rows_in matches.now) result }
 {
-    Ok(Request::Follow {
-        session: text(matches, "SESSION")?,
-        output: text(matches, "OUT")?,
-        identifiers: identifiers(matches)?,
+    Request::Twin(TwinRequest {
+        session: text(matches, "SESSION"),
+        object: text(matches, "OBJECT"),
+        certificate: text(matches, "CERT"),
+        output: text(matches, "OUT"),
+        identity: identity(matches),
     })
 }
 
-fn twin_request<'a>(matches: &ArgMatches<'a>) -> Result<Request<'a>, Usage>
-    ensures { AnswersRead (Some (codes "twin", rows_in matches.now)) result }
+fn show_request<'a>(matches: &ArgMatches<'a>) -> Request<'a>
+    requires { IsTold (Some (codes "show", rows_in matches.now)) }
+    ensures { IsAsked (codes "show") (rows_in matches.now) result }
 {
-    Ok(Request::Twin {
-        session: text(matches, "SESSION")?,
-        object: text(matches, "OBJECT")?,
-        certificate: text(matches, "CERT")?,
-        output: text(matches, "OUT")?,
-        identifiers: identifiers(matches)?,
-    })
-}
-
-fn show_request<'a>(matches: &ArgMatches<'a>) -> Result<Request<'a>, Usage>
-    ensures { AnswersRead (Some (codes "show", rows_in matches.now)) result }
-{
-    Ok(Request::Show {
-        session: text(matches, "SESSION")?,
+    Request::Show(ShowRequest {
+        session: text(matches, "SESSION"),
     })
 }
 
@@ -258,33 +230,37 @@ fn command_request<'a>(
     alloc: Global,
     name: &str,
     matches: &ArgMatches<'a>,
-) -> Result<Request<'a>, Usage>
-    ensures { AnswersRead (Some (name.now, rows_in matches.now)) result }
+) -> Result<Request<'a>, AllocError>
+    requires { IsTold (Some (name.now, rows_in matches.now)) }
+    ensures { IfOk result (IsAsked name.now (rows_in matches.now)) }
 {
-    match name {
+    Ok(match name {
         "encode" => encode_request(matches),
         "certify" => certify_request(matches),
         "convert" => convert_request(matches),
         "check" => check_request(matches),
-        "drop" => drop_request(alloc, matches),
-        "join" => join_request(alloc, matches),
+        "drop" => drop_request(alloc, matches)?,
+        "join" => join_request(alloc, matches)?,
         "decode" => decode_request(matches),
         "follow" => follow_request(matches),
         "twin" => twin_request(matches),
         "show" => show_request(matches),
-        _ => Err(Usage::Value),
-    }
+        _ => unreachable!(),
+    })
 }
 
-/// The request of what the grammar matched.
+/// The request of what the grammar matched, which has a value of each argument of its command. An
+/// error is `NoMemory`.
 pub(crate) fn matched_request<'a>(
     alloc: Global,
     matches: &ArgMatches<'a>,
 ) -> Result<Request<'a>, Usage>
-    ensures { AnswersRead (subcommand_rows_of matches.now) result }
+    requires { IsTold (subcommand_rows_of matches.now) }
+    ensures { IsMatch (subcommand_rows_of matches.now) result }
 {
-    let Some((name, values)) = matches.subcommand() else {
-        return Err(Usage::Value);
-    };
-    command_request(alloc, name, values)
+    let (name, values) = matches.subcommand().unwrap();
+    match command_request(alloc, name, values) {
+        Ok(request) => Ok(request),
+        Err(_) => Err(Usage::NoMemory),
+    }
 }

@@ -1,7 +1,9 @@
 //! What a command line asks for.
 ghost use Rattle.std.specs.Prelude.{◌≤◌};
+ghost use Rattle.request.specs.Narrow.{IsNarrow};
 
 use partition::Order;
+use reception::Identity;
 
 // The most bytes of an encoding symbol: no more go into a datagram.
 pub(crate) const MOST_SYMBOL_BYTES: u16 = 65_475;
@@ -17,20 +19,11 @@ pub struct Sizes {
     pub max_n: u8,
 }
 
-/// Whose packets: those of one object of one session (RFC 5651, section 5.1). Packets with other identifiers are none of it.
-#[derive(Clone, Copy, Debug, PartialEq, Eq)]
-pub struct Identifiers {
-    /// The transport session identifier, 0 to 4,294,967,295.
-    pub tsi: u32,
-    /// The transport object identifier, 0 to 4,294,967,295.
-    pub toi: u32,
-}
-
 /// What is sent, and how.
 #[derive(Clone, Copy, Debug, PartialEq, Eq)]
 pub struct Sending {
     /// Whose packets are sent.
-    pub identifiers: Identifiers,
+    pub identity: Identity,
     /// The FTI, but for the object's length.
     pub sizes: Sizes,
     /// The datagrams at the places that this number divides carry the FTI, 1 to 255.
@@ -38,71 +31,111 @@ pub struct Sending {
     /// In which order the encoding symbols follow one another.
     pub order: Order,
     ghost some: { 1 ≤ fti_every },
+    ghost narrow: { IsNarrow identity },
 }
 
-/// A command with its values. Texts are paths as the command line has them.
+/// Is the certificate one of the object and of the session's packets with this identity?
+#[derive(Drop)]
+pub struct CheckRequest<'a> {
+    pub session: &'a str,
+    pub object: &'a str,
+    pub certificate: &'a str,
+    pub identity: Identity,
+    ghost narrow: { IsNarrow identity },
+}
+
+/// Write another object that agrees with all packets of the session with this identity, if a block
+/// of it is short.
+#[derive(Drop)]
+pub struct TwinRequest<'a> {
+    pub session: &'a str,
+    pub object: &'a str,
+    pub certificate: &'a str,
+    pub output: &'a str,
+    pub identity: Identity,
+    ghost narrow: { IsNarrow identity },
+}
+
+/// What are the datagrams of the session?
+#[derive(Drop)]
+pub struct ShowRequest<'a> {
+    pub session: &'a str,
+}
+
+/// Send the object into a session file.
+#[derive(Drop)]
+pub struct EncodeRequest<'a> {
+    pub object: &'a str,
+    pub output: &'a str,
+    pub sending: Sending,
+}
+
+/// Certify the object, for the packets with this identity.
+#[derive(Drop)]
+pub struct CertifyRequest<'a> {
+    pub object: &'a str,
+    pub output: &'a str,
+    pub identity: Identity,
+    pub sizes: Sizes,
+    ghost narrow: { IsNarrow identity },
+}
+
+/// Write the certificate as one of the packets with this identity.
+#[derive(Drop)]
+pub struct ConvertRequest<'a> {
+    pub certificate: &'a str,
+    pub output: &'a str,
+    pub identity: Identity,
+    ghost narrow: { IsNarrow identity },
+}
+
+/// Write the object that the session's packets with this identity give.
+#[derive(Drop)]
+pub struct DecodeRequest<'a> {
+    pub session: &'a str,
+    pub output: &'a str,
+    pub identity: Identity,
+    ghost narrow: { IsNarrow identity },
+}
+
+/// Write the object as soon as the session's packets with this identity, read one by one, give it.
+#[derive(Drop)]
+pub struct FollowRequest<'a> {
+    pub session: &'a str,
+    pub output: &'a str,
+    pub identity: Identity,
+    ghost narrow: { IsNarrow identity },
+}
+
+/// Leave the datagrams at these places out, counted from 0; one place or more.
+#[derive(Drop)]
+pub struct DropRequest<'a> {
+    pub session: &'a str,
+    pub output: &'a str,
+    pub places: Vec<usize>,
+}
+
+/// Join the sessions: one after the other, or, with `turns`, one datagram of each in turn; one
+/// session or more.
+#[derive(Drop)]
+pub struct JoinRequest<'a> {
+    pub output: &'a str,
+    pub sessions: Vec<&'a str>,
+    pub turns: bool,
+}
+
+/// A command with its values. Texts are paths as the command line has them. A TSI and a TOI are
+/// below 2^32.
 #[derive(Drop)]
 pub enum Request<'a> {
-    /// Is the certificate one of the object and of the session's packets with these identifiers?
-    Check {
-        session: &'a str,
-        object: &'a str,
-        certificate: &'a str,
-        identifiers: Identifiers,
-    },
-    /// Write another object that agrees with all packets of the session with these identifiers, if a block of it is short.
-    Twin {
-        session: &'a str,
-        object: &'a str,
-        certificate: &'a str,
-        output: &'a str,
-        identifiers: Identifiers,
-    },
-    /// What are the datagrams of the session?
-    Show {
-        session: &'a str,
-    },
-    /// Send the object into a session file.
-    Encode {
-        object: &'a str,
-        output: &'a str,
-        sending: Sending,
-    },
-    /// Certify the object, for the packets with these identifiers.
-    Certify {
-        object: &'a str,
-        output: &'a str,
-        identifiers: Identifiers,
-        sizes: Sizes,
-    },
-    /// Write the certificate as one of the packets with these identifiers.
-    Convert {
-        certificate: &'a str,
-        output: &'a str,
-        identifiers: Identifiers,
-    },
-    /// Write the object that the session's packets with these identifiers give.
-    Decode {
-        session: &'a str,
-        output: &'a str,
-        identifiers: Identifiers,
-    },
-    /// Write the object as soon as the session's packets with these identifiers, read one by one, give it.
-    Follow {
-        session: &'a str,
-        output: &'a str,
-        identifiers: Identifiers,
-    },
-    /// Leave the datagrams at these places out, counted from 0; one place or more.
-    Drop {
-        session: &'a str,
-        output: &'a str,
-        places: Vec<usize>,
-    },
-    /// Join the sessions: one after the other, or, with `turns`, one datagram of each in turn; one session or more.
-    Join {
-        output: &'a str,
-        sessions: Vec<&'a str>,
-        turns: bool,
-    },
+    Check(CheckRequest<'a>),
+    Twin(TwinRequest<'a>),
+    Show(ShowRequest<'a>),
+    Encode(EncodeRequest<'a>),
+    Certify(CertifyRequest<'a>),
+    Convert(ConvertRequest<'a>),
+    Decode(DecodeRequest<'a>),
+    Follow(FollowRequest<'a>),
+    Drop(DropRequest<'a>),
+    Join(JoinRequest<'a>),
 }

@@ -8,8 +8,6 @@ pub enum Usage {
     Help(Error),
     /// U1: the line is refused; why is the error's text.
     Line(Error),
-    /// U2: a value that the line's grammar lets through is none. `request` is proved never to answer this.
-    Value,
     /// There is no memory.
     NoMemory,
 }

@@ -1,51 +1,87 @@
 -- A session that was decoded, by its parts.
-use Rattle.std.proofs.Common.{◌≡◌, ℕ, Bool, List, Option, inl, inr, refl, subst}
+use Rattle.std.proofs.Common.{◌≡◌, ◌∙◌, ℕ, List, [], ◌∷◌, Option, Some, None, Result, Err, refl, sym, ap, subst, length, codes}
+use Rattle.std.specs.Prelude.{IfErr}
 use Rattle.std.specs.Io.KnownBytes.{Appends}
-use Rattle.reception.specs.declared.scope.Identity.{Identity}
+use Rattle.reception.specs.Answer as value
+use Rattle.reception.specs.Answer.{IsAnswer}
+use Rattle.decoder.specs.Answers.{answer_value, fault_value}
+use Rattle.decoder.specs.Gathering.{IsNoObject}
 use Rattle.decoder.specs.declared.answer.Answer.{Answer}
-use Rattle.decoder.specs.declared.gathering.Gathered.TheVariants as gathered
-use Rattle.decoder.specs.Gathering.{IsGathered}
-use Rattle.tool.specs.declared.fault.Fault.{Fault}
-use Rattle.tool.specs.declared.fault.Fault.TheVariants.{Open, File, Memory, Frame, Certificate, Fti, Send, Output}
-use Rattle.tool.specs.Folder.{Files}
-use Rattle.tool.specs.Inputs.{HoldsSession}
-use Rattle.tool.specs.Lines.{line_of}
-use Rattle.tool.specs.Decoding.{object_text, WritesObject, TellsNoObject, IsDecoded, IsNotDecoded}
-use Rattle.tool.specs.Delivering.{IsTold, IsNotGiven}
-use Rattle.tool.specs.Listening.{IsWritten}
-use Rattle.tool.specs.Making.{LeavesFiles, Fails}
+use Rattle.decoder.specs.declared.answer.Answer.TheVariants.{Empty, Fault, Missing, Object}
+use Rattle.decoder.specs.declared.answer.DecodeFault.{DecodeFault}
+use Rattle.decoder.specs.declared.answer.DecodeFault.TheVariants.{Packet, OtherFti, SymbolLength, Range, Clash, NotCode}
+use Rattle.request.specs.declared.requests.DecodeRequest.{DecodeRequest}
+use Rattle.request.specs.declared.requests.Request.TheVariants.{Decode}
+use Rattle.tool.specs.World.{World, Replaces, one_more}
+use Rattle.tool.specs.Inputs.{ASession, Datagrams, HasValue}
+use Rattle.tool.specs.Lines.{line_of, count_line, answer_text}
+use Rattle.tool.specs.Commands.{answer_status, object_of}
+use Rattle.tool.specs.Outcomes.{MayCreate, IsBecause}
+use Rattle.tool.specs.Doing.{text_of, HasMade}
+use Rattle.tool.specs.Decoding.{IsToldOf, IsWriteBroken}
+use Rattle.tool.specs.declared.done.Done.{Done}
+use Rattle.tool.specs.declared.fault.Fault as told
+use Rattle.tool.specs.declared.fault.Fault.TheVariants as told_as
+use Rattle.tool.specs.declared.output.Unwritten.{Unwritten}
+use Rattle.tool.specs.declared.output.Unwritten.TheVariants as unwritten
 
-module _ (who : Identity) (ds : List (List ℕ)) (old new : Option Files) (before after : Option (List ℕ)) where
-  pub object_given : (output : List ℕ) (count : ℕ) → IsWritten who old new output ds count → Appends before after (line_of (object_text count)) → WritesObject who ds old new output before after 0
-  object_given output count w printed =
-      let (object, is, there, long) = w in
-      record { object = object; right = is; made = there; printed = subst (λ (n : ℕ). Appends before after (line_of (object_text n))) long printed; told = refl }
+-- an answer that is no object has no bytes
+no_bytes : (answer : Answer) → IsNoObject answer → object_of (answer_value answer) ≡ None
+no_bytes Empty none = refl
+no_bytes (Fault (Packet i e)) none = refl
+no_bytes (Fault (OtherFti i)) none = refl
+no_bytes (Fault (SymbolLength i)) none = refl
+no_bytes (Fault (Range i)) none = refl
+no_bytes (Fault (Clash i)) none = refl
+no_bytes (Fault (NotCode b)) none = refl
+no_bytes (Missing b have need) none = refl
+no_bytes (Object object) none = absurd none
 
-  pub none_given : (answer : Answer) → IsGathered who ds (gathered.Answer answer) → new ≡ old → (status : ℕ) → IsTold answer before after status
-      → TellsNoObject who ds old new before after status
-  none_given answer is same status told =
-      let (line, spelled, printed, status_is) = told in
-      record { answer = answer; right = is.0; none = is.1; same = same; line = line; spelled = spelled; printed = printed; told = status_is }
+module _ (old new : World) (r : DecodeRequest) (ds : List (List ℕ)) (held : HasValue old.files (ASession r.session.now) (Datagrams ds)) (silent : new.printed ≡ old.printed) where
+  pub none_decoded : (answer : Answer) → IsAnswer r.identity ds (answer_value answer) → IsNoObject answer → new.files ≡ old.files → new.created ≡ old.created
+      → (done : Done) → IsToldOf (answer_value answer) done → HasMade old new (Decode r) done
+  none_decoded answer is none files created done told = record {
+    outcome = record { text = line_of (answer_text (answer_value answer)); status = answer_status (answer_value answer); output = None };
+    makes = record {
+      values = Datagrams ds ∷ [];
+      read = (held, tt);
+      gives = (answer_value answer, is, (refl, refl, sym (no_bytes answer none)));
+      made = (files, created);
+    };
+    text = sym told.0;
+    status = sym told.1;
+    silent = silent;
+  }
 
-leaves_more : (P Q : Option (List ℕ) → ℕ → Type 0) → ((printed : Option (List ℕ)) (status : ℕ) → P printed status → Q printed status) → (old new : Option Files) (fault : Fault)
-    → LeavesFiles P old new fault → LeavesFiles Q old new fault
-leaves_more P Q more old new Output (inl same) = inl same
-leaves_more P Q more old new Output (inr (printed, status, done)) = inr (printed, status, more printed status done)
-leaves_more P Q more old new (Open name) same = same
-leaves_more P Q more old new (File name) same = same
-leaves_more P Q more old new Memory same = same
-leaves_more P Q more old new (Frame f) same = same
-leaves_more P Q more old new (Certificate f) same = same
-leaves_more P Q more old new (Fti f) same = same
-leaves_more P Q more old new (Send f) same = same
+  pub object_decoded : (object : List ℕ) (count : ℕ) → IsAnswer r.identity ds (value.Object object) → count ≡ length object → Replaces old.files new.files r.output.now object
+      → new.created ≡ one_more old.created → (done : Done) → count_line (codes "object") count (codes " bytes") ≡ text_of done.told → 0 ≡ done.status → HasMade old new (Decode r) done
+  object_decoded object count is many replaced created done text status = record {
+    outcome = record { text = line_of (answer_text (value.Object object)); status = 0; output = Some object };
+    makes = record {
+      values = Datagrams ds ∷ [];
+      read = (held, tt);
+      gives = (value.Object object, is, (refl, refl, refl));
+      made = (replaced, created);
+    };
+    text = ap (λ (n : ℕ). count_line (codes "object") n (codes " bytes")) (sym many) ∙ text;
+    status = status;
+    silent = silent;
+  }
 
--- an object that wasn't written, of a session that was read
-pub not_decoded : (who : Identity) (ds : List (List ℕ)) (old new : Option Files) (session output : List ℕ) (failed : Bool) (before after : Option (List ℕ)) (fault : Fault) → HoldsSession old session ds
-    → Fails (IsNotGiven output) (WritesObject who ds old new output before) old new failed before after fault
-    → Fails (IsNotDecoded session output) (IsDecoded who old new session output before) old new failed before after fault
-not_decoded who ds old new session output failed before after fault sent fails = record {
-  because = inr fails.because;
-  leaves = leaves_more (WritesObject who ds old new output before) (IsDecoded who old new session output before)
-      (λ printed status written. record { datagrams = ds; sent = sent; given = inl written }) old new fault fails.leaves;
-  silent = fails.silent;
-}
+pub may_write : (old : World) (r : DecodeRequest) (ds : List (List ℕ)) → HasValue old.files (ASession r.session.now) (Datagrams ds) → (object : List ℕ)
+    → IsAnswer r.identity ds (value.Object object) → MayCreate old.files (Decode r)
+may_write old r ds held object is =
+    (Datagrams ds ∷ [], record { text = line_of (answer_text (value.Object object)); status = 0; output = Some object }, object, (held, tt), (value.Object object, is, (refl, refl, refl)), refl)
+
+-- why the object isn't written
+for_fault : (old new : World) (r : DecodeRequest) (f : told.Fault) → IsWriteBroken (unwritten.Fault f) → IsBecause old new (Decode r) [] f
+for_fault old new r (told_as.Open n) why = absurd why
+for_fault old new r (told_as.File n) why = absurd why
+for_fault old new r told_as.Memory why = tt
+for_fault old new r (told_as.Frame e) why = absurd why
+for_fault old new r (told_as.Certificate e) why = absurd why
+for_fault old new r (told_as.Fti e) why = absurd why
+for_fault old new r (told_as.Send e) why = absurd why
+
+pub because_unwritten : (old new : World) (r : DecodeRequest) (w : Result ℕ Unwritten) → IfErr w IsWriteBroken → (f : told.Fault) → w ≡ Err (unwritten.Fault f) → IsBecause old new (Decode r) [] f
+because_unwritten old new r w why f is = for_fault old new r f (subst (λ (x : Result ℕ Unwritten). IfErr x IsWriteBroken) is why)

@@ -3,7 +3,7 @@ use Rattle.std.proofs.Common.{◌≡◌, ◌<◌, ◌+◌, ◌++◌, Bool, true,
 use Rattle.std.specs.Prelude.{Option, Some, string_bytes}
 use Rattle.std.proofs.Math.Seq.{take-suc}
 use Rattle.std.specs.Str.{bytes_eq}
-use Rattle.tool.specs.Folder.{Files, with_file}
+use Rattle.tool.specs.World.{Files, with_file}
 use Rattle.tool.specs.Files.{File, AddsFile, after_files, no_files, files_of}
 
 one_more : (held : Files) (files : List File) (file : File)

@@ -1,57 +1,73 @@
--- Sessions of several files, joined.
-use Rattle.std.proofs.Common.{◌≡◌, ◌≢◌, ◌<◌, ◌+◌, ◌∙◌, ◌++◌, ◌∷◌, [], ℕ, zero, suc, Bool, List, Option, length, map, take, get_or, inl, inr, refl, sym, ap, arith, subst}
-use Rattle.std.specs.Prelude.{Some, None, IfSome}
+-- Sessions of several files, joined; and one that is read frame by frame.
+use Rattle.std.proofs.Common.{◌≡◌, ◌≢◌, ◌⊎◌, ◌<◌, ◌+◌, ◌∙◌, ◌++◌, ◌∷◌, [], ℕ, zero, suc, Bool, List, Option, length, map, take, get_or, inl, inr, refl, sym, ap, arith, subst}
+use Rattle.std.specs.Prelude.{Some, None, Result, Err, IfSome, IfErr, ⊤}
+use Rattle.lists.specs.Selection.{first_outside}
 use Rattle.std.specs.Io.KnownBytes.{Appends, IsAtEnd}
 use Rattle.std.specs.Borrow.{Bor}
-use Rattle.std.proofs.lemmas.List.{append-nil, get_or-map, length-map, map-append, take-map, take_more}
-use Rattle.session.specs.Frames.{frames, HasRead, IsSessionFault}
+use Rattle.std.proofs.lemmas.List.{append-nil, map-append, take_more}
+use Rattle.session.specs.Frames.{frames, HasRead, IsSessionFault, IsNoFrame, StopsAt}
 use Rattle.session.specs.Joining.{IsUnjoined}
+use Rattle.session.specs.Thinning.{IsUnthinned}
 use Rattle.session.specs.declared.frame.FrameFault.{FrameFault}
 use Rattle.session.specs.declared.frame.FrameFault.TheVariants.{CutLength, CutDatagram, TooLong, Io, NoMemory, NoSuchPlace}
 use Rattle.tool.specs.declared.fault.Fault.{Fault}
-use Rattle.tool.specs.declared.fault.Fault.TheVariants.{Open, File, Memory, Frame, Certificate, Fti, Send, Output}
-use Rattle.tool.specs.Folder.{Files, HoldsInput, IsBlank, Replaces}
-use Rattle.tool.specs.Inputs.{HoldsSession, Opens, IsThere, IsNotOpened, IsSessionUnread}
-use Rattle.tool.specs.Joining.{HoldSessions, IsNotJoined, IsOneUnread}
-use Rattle.tool.specs.Making.{Fails}
+use Rattle.tool.specs.declared.fault.Fault.TheVariants.{Open, File, Memory, Frame, Certificate, Fti, Send}
+use Rattle.tool.specs.World.{Files, World, Holds, GivesFile}
+use Rattle.tool.specs.Inputs.{Input, ASession, AStream, Value, Datagrams, Opened, HasValue, HaveValues, AreThere, IsUnopened, IsUnread, IsFirstUnopened, IsSomeUnread}
+use Rattle.request.specs.declared.requests.DropRequest.{DropRequest}
+use Rattle.request.specs.declared.requests.JoinRequest.{JoinRequest}
+use Rattle.request.specs.declared.requests.Request.TheVariants.{Drop, Join}
 use Rattle.tool.specs.Opening.{AreOpen}
-use Rattle.tool.proofs.Ends.{opens}
+use Rattle.tool.specs.Copying.{IsCutShort}
+use Rattle.tool.specs.Outcomes.{IsBecause}
+use Rattle.tool.specs.declared.output.Unwritten.{Unwritten}
+use Rattle.tool.specs.declared.output.Unwritten.TheVariants as unwritten
+use Rattle.tool.proofs.Stopping.{by_unread, by_refused}
+
+abbrev pub sessions : List (Bor (List ℕ)) → List Input
+sessions names = map (λ name. ASession name.now) names
+
+abbrev pub texts : List (Bor (List ℕ)) → List (List ℕ)
+texts names = map (λ name. name.now) names
 
 -- one file more
-pub open_more : (files : Option Files) (names : List (List ℕ)) (opened : List (Option (List ℕ))) (name : List ℕ) (input : Option (List ℕ)) (sound : Bool)
-    → AreOpen files names opened → HoldsInput files name input sound → AreOpen files (names ++ name ∷ []) (opened ++ input ∷ [])
-open_more files [] [] name input sound are holds = (opens files name input sound holds, tt)
-open_more files [] (o ∷ os) name input sound are holds = absurd are
-open_more files (n ∷ ns) [] name input sound are holds = absurd are
-open_more files (n ∷ ns) (o ∷ os) name input sound are holds = (are.0, open_more files ns os name input sound are.1 holds)
+open_more : (files : Option Files) (names : List (List ℕ)) (opened : List (Option (List ℕ))) (name : List ℕ) (input : Option (List ℕ))
+    → AreOpen files names opened → HasValue files (AStream name) (Opened input) → AreOpen files (names ++ name ∷ []) (opened ++ input ∷ [])
+open_more files [] [] name input are holds = (holds, tt)
+open_more files [] (o ∷ os) name input are holds = absurd are
+open_more files (n ∷ ns) [] name input are holds = absurd are
+open_more files (n ∷ ns) (o ∷ os) name input are holds = (are.0, open_more files ns os name input are.1 holds)
 
--- a file that didn't open
-unopened : (files : Option Files) (name : List ℕ) (fault : Fault) → IsNotOpened files name fault → IsSessionUnread files name fault
-unopened files name (Open opened) why = why
-unopened files name (File opened) why = absurd why
-unopened files name Memory why = tt
-unopened files name (Frame f) why = absurd why
-unopened files name (Certificate f) why = absurd why
-unopened files name (Fti f) why = absurd why
-unopened files name (Send f) why = absurd why
-unopened files name Output why = absurd why
-
--- a file that did
-is_there : (files : Option Files) (name : List ℕ) (opened : Option (List ℕ)) → Opens files name opened → IsThere files name
+-- a file that opened is there
+pub is_there : (files : Option Files) (name : List ℕ) (opened : Option (List ℕ)) → HasValue files (AStream name) (Opened opened) → Holds files name (λ bytes. ⊤)
 is_there None name opened opens = tt
 is_there (Some held) name opened opens = (opens.0, opens.1, tt)
 
+pub are_there : (files : Option Files) (names : List (Bor (List ℕ))) (opened : List (Option (List ℕ))) → AreOpen files (texts names) opened → AreThere files (sessions names)
+are_there files [] opened are = tt
+are_there files (n ∷ ns) [] are = absurd are
+are_there files (n ∷ ns) (o ∷ os) are = (is_there files n.now o are.0, are_there files ns os are.1)
+
 -- the first that didn't
-pub one_unopened : (files : Option Files) (names : List (List ℕ)) (i : ℕ) (opened : List (Option (List ℕ))) (fault : Fault) → i < length names
-    → AreOpen files (take i names) opened → IsNotOpened files (get_or names i []) fault → IsOneUnread files names fault
-one_unopened files [] i opened fault l are why = absurd (omega arith)
-one_unopened files (n ∷ ns) zero opened fault l are why = inl (unopened files n fault why)
-one_unopened files (n ∷ ns) (suc i) [] fault l are why = absurd are
-one_unopened files (n ∷ ns) (suc i) (o ∷ os) fault l are why = inr (is_there files n o are.0, one_unopened files ns i os fault (omega arith) are.1 why)
+pub one_unopened : (w : World) (names : List (Bor (List ℕ))) (i : ℕ) (d : Bor (List ℕ)) (opened : List (Option (List ℕ))) (fault : Fault) → i < length names
+    → AreOpen w.files (texts (take i names)) opened → IsUnopened w (get_or names i d).now fault → IsFirstUnopened w (sessions names) fault
+one_unopened w [] i d opened fault l are why = absurd (omega arith)
+one_unopened w (n ∷ ns) zero d opened fault l are why = inl why
+one_unopened w (n ∷ ns) (suc i) d [] fault l are why = absurd are
+one_unopened w (n ∷ ns) (suc i) d (o ∷ os) fault l are why = inr (is_there w.files n.now o are.0, one_unopened w ns i d os fault (omega arith) are.1 why)
+
+pub name_opened : {X : Type 0} (remaining : X → Option (List ℕ)) (files : Option Files) (names : List (Bor (List ℕ))) (i : ℕ) (d : Bor (List ℕ)) (inputs : List X) (input : X) → i < length names
+    → AreOpen files (texts (take i names)) (map remaining inputs) → HasValue files (AStream (get_or names i d).now) (Opened (remaining input))
+    → AreOpen files (texts (take (i + 1) names)) (map remaining (inputs ++ input ∷ []))
+name_opened remaining files names i d inputs input l are holds =
+    let more : texts (take (i + 1) names) ≡ texts (take i names) ++ (get_or names i d).now ∷ [] =
+    ap (λ (ns : List (Bor (List ℕ))). map (λ name. name.now) ns) (take_more names i d l) ∙ map-append (λ name. name.now) (take i names) (get_or names i d ∷ []) in
+    rw (more, map-append remaining inputs (input ∷ []))
+    (open_more files (texts (take i names)) (map remaining inputs) (get_or names i d).now (remaining input) are holds)
 
 -- all of one file's bytes were its frames
-pub holds_session : (files : Option Files) (name : List ℕ) (opened left : Option (List ℕ)) (datagrams : List (List ℕ)) → Opens files name opened
-    → HasRead opened left datagrams → IsAtEnd left → HoldsSession files name datagrams
+pub holds_session : (files : Option Files) (name : List ℕ) (opened left : Option (List ℕ)) (datagrams : List (List ℕ)) → HasValue files (AStream name) (Opened opened)
+    → HasRead opened left datagrams → IsAtEnd left → HasValue files (ASession name) (Datagrams datagrams)
 holds_session None name opened left datagrams opens read ends = tt
 holds_session (Some held) name None left datagrams opens read ends = let bad = opens.2 in cc
 holds_session (Some held) name (Some x) None datagrams opens read ends = absurd read.consumed
@@ -65,94 +81,129 @@ holds_session (Some held) name (Some x) (Some y) datagrams opens read ends =
     bytes_of None = []
     bytes_of (Some bytes) = bytes
 
-pub hold_sessions : (files : Option Files) (names : List (List ℕ)) (opened left : List (Option (List ℕ))) (lists : List (List (List ℕ))) → AreOpen files names opened
+pub hold_sessions : (files : Option Files) (names : List (Bor (List ℕ))) (opened left : List (Option (List ℕ))) (lists : List (List (List ℕ))) → AreOpen files (texts names) opened
     → length lists ≡ length opened → ((i : ℕ) → HasRead (get_or opened i None) (get_or left i None) (get_or lists i [])) → ((i : ℕ) → IsAtEnd (get_or left i None))
-    → HoldSessions files names lists
+    → HaveValues files (sessions names) (map Datagrams lists)
 hold_sessions files [] [] left [] are many read ends = tt
 hold_sessions files [] [] left (ds ∷ lists) are many read ends = absurd (omega (arith, many))
 hold_sessions files [] (o ∷ os) left lists are many read ends = absurd are
 hold_sessions files (n ∷ ns) [] left lists are many read ends = absurd are
 hold_sessions files (n ∷ ns) (o ∷ os) left [] are many read ends = absurd (omega (arith, many))
 hold_sessions files (n ∷ ns) (o ∷ os) [] (ds ∷ lists) are many read ends =
-    (holds_session files n o None ds are.0 (read 0) (ends 0), hold_sessions files ns os [] lists are.1 (omega (arith, many)) (λ i. read (suc i)) (λ i. ends (suc i)))
+    (holds_session files n.now o None ds are.0 (read 0) (ends 0), hold_sessions files ns os [] lists are.1 (omega (arith, many)) (λ i. read (suc i)) (λ i. ends (suc i)))
 hold_sessions files (n ∷ ns) (o ∷ os) (l ∷ ls) (ds ∷ lists) are many read ends =
-    (holds_session files n o l ds are.0 (read 0) (ends 0), hold_sessions files ns os ls lists are.1 (omega (arith, many)) (λ i. read (suc i)) (λ i. ends (suc i)))
+    (holds_session files n.now o l ds are.0 (read 0) (ends 0), hold_sessions files ns os ls lists are.1 (omega (arith, many)) (λ i. read (suc i)) (λ i. ends (suc i)))
+
+-- ---- faults
 
 -- the fault of one file's frames
-frame_unread : (files : Option Files) (name : List ℕ) (opened : Option (List ℕ)) (failed : Bool) (fault : FrameFault) → Opens files name opened
-    → fault ≢ Io → fault ≢ NoMemory → IsSessionFault fault opened failed → IsSessionUnread files name (Frame fault)
-frame_unread None name opened failed CutLength opens io memory why = tt
-frame_unread None name opened failed CutDatagram opens io memory why = tt
-frame_unread None name opened failed TooLong opens io memory why = tt
-frame_unread files name opened failed Io opens io memory why = absurd (io refl)
-frame_unread files name opened failed NoMemory opens io memory why = absurd (memory refl)
-frame_unread files name opened failed (NoSuchPlace place) opens io memory why = absurd why
-frame_unread (Some held) name opened failed CutLength opens io memory why = (opens.0, opens.1, subst (λ o. IsSessionFault CutLength o failed) opens.2 why)
-frame_unread (Some held) name opened failed CutDatagram opens io memory why = (opens.0, opens.1, subst (λ o. IsSessionFault CutDatagram o failed) opens.2 why)
-frame_unread (Some held) name opened failed TooLong opens io memory why = (opens.0, opens.1, subst (λ o. IsSessionFault TooLong o failed) opens.2 why)
+stops_at : (files : Option Files) (name : List ℕ) (opened : Option (List ℕ)) (fault : FrameFault) → HasValue files (AStream name) (Opened opened)
+    → IfSome opened (StopsAt fault) → Holds files name (StopsAt fault)
+stops_at None name opened fault opens why = tt
+stops_at (Some held) name None fault opens why = let bad = opens.2 in absurd (cc)
+stops_at (Some held) name (Some x) fault (bytes, there, is) why = (bytes, there, subst (λ (o : Option (List ℕ)). IfSome o (StopsAt fault)) is why)
 
-unread_at : (files : Option Files) (names : List (List ℕ)) (opened : List (Option (List ℕ))) (i : ℕ) (failed : Bool) (fault : FrameFault) → AreOpen files names opened
-    → i < length opened → fault ≢ Io → fault ≢ NoMemory → IsSessionFault fault (get_or opened i None) failed → IsOneUnread files names (Frame fault)
-unread_at files [] [] i failed fault are l io memory why = absurd (omega (arith, l))
-unread_at files [] (o ∷ os) i failed fault are l io memory why = absurd are
-unread_at files (n ∷ ns) [] i failed fault are l io memory why = absurd are
-unread_at files (n ∷ ns) (o ∷ os) zero failed fault are l io memory why = inl (frame_unread files n o failed fault are.0 io memory why)
-unread_at files (n ∷ ns) (o ∷ os) (suc i) failed fault are l io memory why =
-    inr (is_there files n o are.0, unread_at files ns os i failed fault are.1 (omega (arith, l)) io memory why)
+frame_unread : (w : World) (name : List ℕ) (opened : Option (List ℕ)) (failed : Bool) (fault : FrameFault) → HasValue w.files (AStream name) (Opened opened)
+    → fault ≢ Io → fault ≢ NoMemory → IsSessionFault fault opened failed → IsUnread w (ASession name) (Frame fault)
+frame_unread w name opened failed CutLength opens io memory why = stops_at w.files name opened CutLength opens why
+frame_unread w name opened failed CutDatagram opens io memory why = stops_at w.files name opened CutDatagram opens why
+frame_unread w name opened failed TooLong opens io memory why = stops_at w.files name opened TooLong opens why
+frame_unread w name opened failed Io opens io memory why = absurd (io refl)
+frame_unread w name opened failed NoMemory opens io memory why = absurd (memory refl)
+frame_unread w name opened failed (NoSuchPlace place) opens io memory why = absurd why
 
-pub unjoined : (files : Option Files) (names : List (List ℕ)) (opened : List (Option (List ℕ))) (turns : Bool) (fault : FrameFault) (sound failed : List Bool)
-    (before after : Option (List ℕ)) (room : ℕ) (writer_failed : Bool) → AreOpen files names opened
-    → IsUnjoined turns fault opened sound failed before after room writer_failed → fault ≢ Io → fault ≢ NoMemory → IsOneUnread files names (Frame fault)
-unjoined files names opened turns fault sound failed before after room writer_failed are why io memory = elim why.because [
-  | inl blamed ↦ unread_at files names opened blamed.place _ fault are blamed.inside io memory blamed.because
+unread_at : (w : World) (names : List (Bor (List ℕ))) (opened : List (Option (List ℕ))) (i : ℕ) (failed : Bool) (fault : FrameFault) → AreOpen w.files (texts names) opened
+    → i < length opened → fault ≢ Io → fault ≢ NoMemory → IsSessionFault fault (get_or opened i None) failed → IsSomeUnread w (sessions names) (Frame fault)
+unread_at w [] [] i failed fault are l io memory why = absurd (omega (arith, l))
+unread_at w [] (o ∷ os) i failed fault are l io memory why = absurd are
+unread_at w (n ∷ ns) [] i failed fault are l io memory why = absurd are
+unread_at w (n ∷ ns) (o ∷ os) zero failed fault are l io memory why = inl (frame_unread w n.now o failed fault are.0 io memory why)
+unread_at w (n ∷ ns) (o ∷ os) (suc i) failed fault are l io memory why = inr (unread_at w ns os i failed fault are.1 (omega (arith, l)) io memory why)
+
+pub unjoined : (w : World) (names : List (Bor (List ℕ))) (opened : List (Option (List ℕ))) (turns : Bool) (fault : FrameFault) (sound failed : List Bool)
+    (before after : Option (List ℕ)) (room : ℕ) (writer_failed : Bool) → AreOpen w.files (texts names) opened
+    → IsUnjoined turns fault opened sound failed before after room writer_failed → fault ≢ Io → fault ≢ NoMemory → IsSomeUnread w (sessions names) (Frame fault)
+unjoined w names opened turns fault sound failed before after room writer_failed are why io memory = elim why.because [
+  | inl blamed ↦ unread_at w names opened blamed.place _ fault are blamed.inside io memory blamed.because
   | inr others ↦ elim others [
     | inl writer ↦ absurd (io writer.0)
     | inr none ↦ absurd (memory none)
   ]
 ]
 
--- ---- by the names that are borrowed
+-- a session that was thinned: its frames stop, or it hasn't a place
+stops : (fault : FrameFault) (x : List ℕ) (ds : List (List ℕ)) (left : Option (List ℕ)) → HasRead (Some x) left ds → IfSome left (IsNoFrame fault) → StopsAt fault x
+stops fault x ds None read none = absurd read.consumed
+stops fault x ds (Some rest) read none =
+    record { datagrams = ds; front = frames ds; rest = rest; framed = record { whole = refl; each = read.each }; whole = read.consumed; stops = none }
 
-module _ (files : Option Files) (names : List (Bor (List ℕ))) (i : ℕ) (d : Bor (List ℕ)) (l : i < length names) where
-  pub name_unopened : (opened : List (Option (List ℕ))) (fault : Fault) → AreOpen files (map (λ name. name.now) (take i names)) opened → IsNotOpened files (get_or names i d).now fault
-      → IsOneUnread files (map (λ name. name.now) names) fault
-  name_unopened opened fault are why =
-      one_unopened files (map (λ name. name.now) names) i opened fault (let e = length-map names (λ name. name.now) in omega (arith, e, l))
-      (subst (λ (ns : List (List ℕ)). AreOpen files ns opened) (sym (take-map (λ name. name.now) i names)) are)
-      (subst (λ name. IsNotOpened files name fault) (sym (get_or-map (λ name. name.now) names i d [] l)) why)
+stopped_at : (fault : FrameFault) (opened left : Option (List ℕ)) (ds : List (List ℕ)) → HasRead opened left ds → IfSome left (IsNoFrame fault) → IfSome opened (StopsAt fault)
+stopped_at fault None left ds read none = tt
+stopped_at fault (Some x) left ds read none = stops fault x ds left read none
 
-  pub name_opened : {X : Type 0} (remaining : X → Option (List ℕ)) (inputs : List X) (input : X) (sound : Bool)
-      → AreOpen files (map (λ name. name.now) (take i names)) (map remaining inputs) → HoldsInput files (get_or names i d).now (remaining input) sound
-      → AreOpen files (map (λ name. name.now) (take (i + 1) names)) (map remaining (inputs ++ input ∷ []))
-  name_opened remaining inputs input sound are holds =
-      let texts : map (λ name. name.now) (take (i + 1) names) ≡ map (λ name. name.now) (take i names) ++ (get_or names i d).now ∷ [] =
-      ap (λ (ns : List (Bor (List ℕ))). map (λ name. name.now) ns) (take_more names i d l) ∙ map-append (λ name. name.now) (take i names) (get_or names i d ∷ []) in
-      rw (texts, map-append remaining inputs (input ∷ []))
-      (open_more files (map (λ name. name.now) (take i names)) (map remaining inputs) (get_or names i d).now (remaining input) sound are holds)
+abbrev pub HasNoPlace : Option Files → List ℕ → List ℕ → FrameFault → Type 0
+HasNoPlace files name places (NoSuchPlace place) =
+    (datagrams : List (List ℕ)) × HasValue files (ASession name) (Datagrams datagrams) × (first_outside (length datagrams) places ≡ Some place)
+HasNoPlace files name places fault = ⊥
 
--- ---- the command
+pub unthinned : (w : World) (name : List ℕ) (opened : Option (List ℕ)) (fault : FrameFault) (places : List ℕ) (sound : Bool) (new : Option (List ℕ)) (failed : Bool) (room : ℕ)
+    (writer_failed : Bool) → HasValue w.files (AStream name) (Opened opened) → fault ≢ Io → fault ≢ NoMemory → IsUnthinned fault places sound opened new failed room writer_failed
+    → IsUnread w (ASession name) (Frame fault) ⊎ HasNoPlace w.files name places fault
+unthinned w name opened Io places sound new failed room writer_failed opens io memory why = absurd (io refl)
+unthinned w name opened NoMemory places sound new failed room writer_failed opens io memory why = absurd (memory refl)
+unthinned w name opened (NoSuchPlace p) places sound new failed room writer_failed opens io memory (ends, ds, read, outside) =
+    inr (ds, holds_session w.files name opened new ds opens read ends, outside)
+unthinned w name opened CutLength places sound new failed room writer_failed opens io memory (ds, left, read, none) =
+    inl (stops_at w.files name opened CutLength opens (stopped_at CutLength opened left ds read none.0))
+unthinned w name opened CutDatagram places sound new failed room writer_failed opens io memory (ds, left, read, none) =
+    inl (stops_at w.files name opened CutDatagram opens (stopped_at CutDatagram opened left ds read none.0))
+unthinned w name opened TooLong places sound new failed room writer_failed opens io memory (ds, left, read, none) =
+    inl (stops_at w.files name opened TooLong opens (stopped_at TooLong opened left ds read none.0))
 
-not_output : (files : Option Files) (names : List (List ℕ)) → IsOneUnread files names Output → ⊥
-not_output files [] why = why
-not_output files (name ∷ names) (inl why) = why
-not_output files (name ∷ names) (inr why) = not_output files names why.1
+-- ---- the commands
 
-pub unread_fails : (files : Option Files) (names : List (List ℕ)) (output : List ℕ) (done : Option (List ℕ) → ℕ → Type 0) (failed : Bool) (before : Option (List ℕ)) (fault : Fault)
-    → IsOneUnread files names fault → Fails (IsNotJoined output names) done files files failed before before fault
-unread_fails files names output done failed before (Open name) why = record { because = inl why; leaves = refl; silent = refl }
-unread_fails files names output done failed before (File name) why = record { because = inl why; leaves = refl; silent = refl }
-unread_fails files names output done failed before Memory why = record { because = inl why; leaves = refl; silent = refl }
-unread_fails files names output done failed before (Frame f) why = record { because = inl why; leaves = refl; silent = refl }
-unread_fails files names output done failed before (Certificate f) why = record { because = inl why; leaves = refl; silent = refl }
-unread_fails files names output done failed before (Fti f) why = record { because = inl why; leaves = refl; silent = refl }
-unread_fails files names output done failed before (Send f) why = record { because = inl why; leaves = refl; silent = refl }
-unread_fails files names output done failed before Output why = absurd (not_output files names why)
+module _ (old new : World) (r : DropRequest) (opened : Option (List ℕ)) (held : HasValue old.files (AStream r.session.now) (Opened opened)) where
+  no_place : (fault : FrameFault) → HasNoPlace old.files r.session.now r.places.items fault → IsBecause old new (Drop r) [] (Frame fault)
+  no_place (NoSuchPlace p) why = by_refused old new (Drop r) [] (Frame (NoSuchPlace p)) why
+  no_place CutLength why = absurd why
+  no_place CutDatagram why = absurd why
+  no_place TooLong why = absurd why
+  no_place Io why = absurd why
+  no_place NoMemory why = absurd why
 
--- what was written to a new output and kept
-pub kept_whole : (old middle new : Option Files) (output bytes : List ℕ) (blank written : Option (List ℕ)) → IsBlank old blank → Appends blank written bytes
-    → middle ≡ old → IfSome written (Replaces middle new output) → Replaces old new output bytes
-kept_whole None middle new output bytes blank written is gained same kept = tt
-kept_whole (Some held) middle new output bytes blank None is gained same kept = absurd (subst (λ o. Appends o None bytes) is gained)
-kept_whole (Some held) middle new output bytes blank (Some x) is gained same kept =
-    let whole : x ≡ bytes = subst (λ o. Appends o (Some x) bytes) is gained in
-    subst (λ ys. Replaces (Some held) new output ys) whole (subst (λ f. Replaces f new output x) same kept)
+  module _ (sound : Bool) (rest : Option (List ℕ)) (failed : Bool) (room : ℕ) (writer_failed : Bool) where
+    thin_fault : (f : Fault) → IsCutShort (λ e. IsUnthinned e r.places.items sound opened rest failed room writer_failed) (unwritten.Fault f) → IsBecause old new (Drop r) [] f
+    thin_fault (Open n) why = absurd why
+    thin_fault (File n) why = absurd why
+    thin_fault Memory why = tt
+    thin_fault (Frame e) why = elim (unthinned old r.session.now opened e r.places.items sound rest failed room writer_failed held why.0 why.1 why.2) [
+      | inl unread ↦ by_unread old new (Drop r) [] (Frame e) (inl unread)
+      | inr outside ↦ no_place e outside
+    ]
+    thin_fault (Certificate e) why = absurd why
+    thin_fault (Fti e) why = absurd why
+    thin_fault (Send e) why = absurd why
+
+    pub because_unthinned : (w : Result ℕ Unwritten) → IfErr w (IsCutShort (λ e. IsUnthinned e r.places.items sound opened rest failed room writer_failed))
+        → (f : Fault) → w ≡ Err (unwritten.Fault f) → IsBecause old new (Drop r) [] f
+    because_unthinned w why f is =
+        thin_fault f (subst (λ (x : Result ℕ Unwritten). IfErr x (IsCutShort (λ e. IsUnthinned e r.places.items sound opened rest failed room writer_failed))) is why)
+
+module _ (old new : World) (r : JoinRequest) (opened : List (Option (List ℕ))) (are : AreOpen old.files (texts r.sessions.items) opened) (turns : Bool) (sound failed : List Bool)
+    (before after : Option (List ℕ)) (room : ℕ) (writer_failed : Bool) where
+  join_fault : (f : Fault) → IsCutShort (λ e. IsUnjoined turns e opened sound failed before after room writer_failed) (unwritten.Fault f) → IsBecause old new (Join r) [] f
+  join_fault (Open n) why = absurd why
+  join_fault (File n) why = absurd why
+  join_fault Memory why = tt
+  join_fault (Frame e) why =
+      by_refused old new (Join r) [] (Frame e)
+      (are_there old.files r.sessions.items opened are,
+      unjoined old r.sessions.items opened turns e sound failed before after room writer_failed are why.2 why.0 why.1)
+  join_fault (Certificate e) why = absurd why
+  join_fault (Fti e) why = absurd why
+  join_fault (Send e) why = absurd why
+
+  pub because_unjoined : (w : Result ℕ Unwritten) → IfErr w (IsCutShort (λ e. IsUnjoined turns e opened sound failed before after room writer_failed))
+      → (f : Fault) → w ≡ Err (unwritten.Fault f) → IsBecause old new (Join r) [] f
+  because_unjoined w why f is =
+      join_fault f (subst (λ (x : Result ℕ Unwritten). IfErr x (IsCutShort (λ e. IsUnjoined turns e opened sound failed before after room writer_failed))) is why)

@@ -1,16 +1,13 @@
-pub mod Told
-pub mod Joins
-pub mod Cuts
-pub mod Delivered
-pub mod Decoded
-pub mod Ends
-pub mod Followed
-pub mod Found
-pub mod Gains
-pub mod Pieces
-pub mod Shown
-pub mod Twinned
-pub mod ObjectBytes
-pub mod Unprinted
-pub mod Ran
-pub mod Verdicts
+mod Gains
+mod Pieces
+mod Found
+mod Stopping
+mod Numbered
+mod Showed
+mod Twinned
+mod Making
+mod Joins
+mod Conversions
+mod Decoded
+mod Followed
+mod Delivered

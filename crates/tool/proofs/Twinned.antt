@@ -1,21 +1,28 @@
 -- What came of a request for a twin, by what was told of it.
-use Rattle.std.proofs.Common.{◌≡◌, ℕ, List, Option, Some, None, refl, sym, ap, subst, Vec}
+use Rattle.std.proofs.Common.{◌≡◌, ◌∙◌, ℕ, List, [], ◌∷◌, Option, Some, None, refl, sym, ap, subst, Vec}
+use Rattle.std.specs.Prelude.{codes}
 use Rattle.std.specs.declared.alloc.Global.{Global}
-use Rattle.std.specs.Io.KnownBytes.{Appends}
 use Rattle.reception.specs.declared.scope.Identity.{Identity}
-use Rattle.cert.specs.Certificate.{Certificate}
 use Rattle.cert.specs.Twins.{IsTwinOfSession}
 use Rattle.cert.specs.Verdict.{IsVerdict}
 use Rattle.cert.specs.declared.verdict.Reason.{Reason}
 use Rattle.cert.specs.declared.verdict.Reason.TheVariants.{OtherCertificate, ObjectLength, NotObject, Empty, Packet, OtherFti, SymbolLength, Range, Symbol, Thin, NoCarrier}
 use Rattle.cert.specs.declared.verdict.Verdict.{Verdict}
 use Rattle.cert.specs.declared.verdict.Verdict.TheVariants.{Yes, No}
-use Rattle.tool.specs.declared.twinning.Inputs.{Inputs}
-use Rattle.tool.specs.Folder.{Files, Replaces}
-use Rattle.tool.specs.Lines.{IsNoLine, PrintsTwin, line_of}
-use Rattle.tool.specs.Outcomes.{IsTwinned, MakesTwin, twin_status_of}
+use Rattle.request.specs.declared.requests.TwinRequest.{TwinRequest}
+use Rattle.request.specs.declared.requests.Request.TheVariants.{Twin}
+use Rattle.tool.specs.declared.twin.Inputs.{Inputs}
+use Rattle.tool.specs.declared.twin.Answered.{Answered}
+use Rattle.tool.specs.declared.done.Done.{Done}
+use Rattle.tool.specs.declared.done.Told.TheVariants.{Lines}
+use Rattle.tool.specs.World.{Files, World, Replaces, one_more}
+use Rattle.tool.specs.Inputs.{Value, Datagrams, Bytes, Polynomials, HaveValues}
+use Rattle.tool.specs.Lines.{line_of, short_text, verdict_text}
+use Rattle.tool.specs.Commands.{Outcome, Gives, GivesTwin, inputs_of}
+use Rattle.tool.specs.Outcomes.{MayCreate}
+use Rattle.tool.specs.Doing.{text_of, HasMade}
 use Rattle.tool.specs.ShortBlocks.{short_of}
-use Rattle.tool.specs.TwinsTold.{AreInputs, TellsTwin, IsToldOf}
+use Rattle.tool.specs.TwinsTold.{GivesInputs, TellsTwin, IsToldOf}
 
 some_same : {A : Type 0} {x y : A} → Some x ≡ Some y → x ≡ y
 some_same e = cc
@@ -35,71 +42,96 @@ short_reason (Symbol i c) t e = absurd (cc)
 short_reason NoCarrier t e = absurd (cc)
 
 -- any other reason
-pub other_reason : (who : Identity) (reason : Reason) (z : Certificate) (datagrams : List (List ℕ)) (object line : List ℕ)
-    → short_of reason ≡ None → IsNoLine reason line → IsToldOf who (No reason) z.fti datagrams object line None
-other_reason who OtherCertificate z datagrams object line e h = (h, refl)
-other_reason who ObjectLength z datagrams object line e h = (h, refl)
-other_reason who (NotObject b c i) z datagrams object line e h = (h, refl)
-other_reason who Empty z datagrams object line e h = (h, refl)
-other_reason who (Packet i x) z datagrams object line e h = (h, refl)
-other_reason who (OtherFti i) z datagrams object line e h = (h, refl)
-other_reason who (SymbolLength i) z datagrams object line e h = (h, refl)
-other_reason who (Range i) z datagrams object line e h = (h, refl)
-other_reason who (Symbol i c) z datagrams object line e h = (h, refl)
-other_reason who NoCarrier z datagrams object line e h = (h, refl)
-other_reason who (Thin block have need) z datagrams object line e h = absurd (cc)
+pub other_reason : (reason : Reason) (inputs : Inputs) (answered : Answered) (who : Identity)
+    → short_of reason ≡ None → answered.line ≡ verdict_text (No reason) → answered.other ≡ None → IsToldOf who (No reason) inputs answered
+other_reason OtherCertificate inputs answered who e h n = (h, n)
+other_reason ObjectLength inputs answered who e h n = (h, n)
+other_reason (NotObject b c i) inputs answered who e h n = (h, n)
+other_reason Empty inputs answered who e h n = (h, n)
+other_reason (Packet i x) inputs answered who e h n = (h, n)
+other_reason (OtherFti i) inputs answered who e h n = (h, n)
+other_reason (SymbolLength i) inputs answered who e h n = (h, n)
+other_reason (Range i) inputs answered who e h n = (h, n)
+other_reason (Symbol i c) inputs answered who e h n = (h, n)
+other_reason NoCarrier inputs answered who e h n = (h, n)
+other_reason (Thin block have need) inputs answered who e h n = absurd (cc)
 
-module _ (who : Identity) (old new : Option Files) (session object certificate output : List ℕ) (before after : Option (List ℕ)) (inputs : Inputs)
-    (are : AreInputs old session object certificate inputs) (line : List ℕ) (printed : Appends before after (line_of line)) where
-  judged_so : (verdict : Verdict) (status : ℕ) → IsVerdict who inputs.session inputs.object.items inputs.certificate verdict
-      → status ≡ twin_status_of verdict → PrintsTwin verdict before after
-      → MakesTwin who verdict inputs.certificate.fti inputs.session inputs.object.items output old new
-      → IsTwinned who old new session object certificate output before after status
-  judged_so verdict status judged told lines made = record {
-    datagrams = inputs.session;
-    bytes = inputs.object.items;
-    polynomials = inputs.certificate;
-    verdict = verdict;
-    sent = are.sent;
-    whole = are.whole;
-    certified = are.certified;
-    judged = judged;
-    told = told;
-    printed = lines;
-    made = made;
+module _ (files : Option Files) (r : TwinRequest) (inputs : Inputs) (given : GivesInputs files r inputs) (line : List ℕ) where
+  values : List Value
+  values = Datagrams inputs.session ∷ Bytes inputs.object.items ∷ Polynomials inputs.certificate ∷ []
+
+  -- with another object
+  outcome_with : Vec ℕ Global → Outcome
+  outcome_with twin = record { text = line; status = 0; output = Some twin.items }
+
+  pub gives_twin : (twin : Vec ℕ Global) → TellsTwin r.identity inputs (record { line = line; other = Some twin })
+      → (verdict : Verdict) × IsVerdict r.identity inputs.session inputs.object.items inputs.certificate verdict
+      × GivesTwin r.identity verdict inputs.certificate.fti inputs.session inputs.object.items (record { text = line; status = 0; output = Some twin.items })
+  gives_twin twin (No (Thin block have need), judged, (spelled, found, same, is)) = (
+    No (Thin block have need),
+    judged,
+    (twin.items, subst (λ (v : Vec ℕ Global). IsTwinOfSession r.identity inputs.certificate.fti block inputs.session inputs.object.items v.items) (sym (some_same same)) is, (spelled, refl, refl)),
+  )
+  gives_twin twin (Yes report, judged, (spelled, none)) = absurd (cc)
+  gives_twin twin (No OtherCertificate, judged, (spelled, none)) = absurd (cc)
+  gives_twin twin (No ObjectLength, judged, (spelled, none)) = absurd (cc)
+  gives_twin twin (No (NotObject b c i), judged, (spelled, none)) = absurd (cc)
+  gives_twin twin (No Empty, judged, (spelled, none)) = absurd (cc)
+  gives_twin twin (No (Packet i x), judged, (spelled, none)) = absurd (cc)
+  gives_twin twin (No (OtherFti i), judged, (spelled, none)) = absurd (cc)
+  gives_twin twin (No (SymbolLength i), judged, (spelled, none)) = absurd (cc)
+  gives_twin twin (No (Range i), judged, (spelled, none)) = absurd (cc)
+  gives_twin twin (No (Symbol i c), judged, (spelled, none)) = absurd (cc)
+  gives_twin twin (No NoCarrier, judged, (spelled, none)) = absurd (cc)
+
+  pub may_create : (twin : Vec ℕ Global) → TellsTwin r.identity inputs (record { line = line; other = Some twin }) → MayCreate files (Twin r)
+  may_create twin tells = (Datagrams inputs.session ∷ Bytes inputs.object.items ∷ Polynomials inputs.certificate ∷ [],
+      record { text = line; status = 0; output = Some twin.items }, twin.items, given, gives_twin twin tells, refl)
+
+  -- without one
+  pub gives_none : TellsTwin r.identity inputs (record { line = line; other = None })
+      → (verdict : Verdict) × IsVerdict r.identity inputs.session inputs.object.items inputs.certificate verdict
+      × GivesTwin r.identity verdict inputs.certificate.fti inputs.session inputs.object.items (record { text = line; status = 1; output = None })
+  gives_none (No (Thin block have need), judged, (spelled, found, same, is)) = absurd (cc)
+  gives_none (Yes report, judged, (spelled, none)) = (Yes report, judged, (spelled, refl, refl))
+  gives_none (No OtherCertificate, judged, (spelled, none)) = (No OtherCertificate, judged, (spelled, refl, refl))
+  gives_none (No ObjectLength, judged, (spelled, none)) = (No ObjectLength, judged, (spelled, refl, refl))
+  gives_none (No (NotObject b c i), judged, (spelled, none)) = (No (NotObject b c i), judged, (spelled, refl, refl))
+  gives_none (No Empty, judged, (spelled, none)) = (No Empty, judged, (spelled, refl, refl))
+  gives_none (No (Packet i x), judged, (spelled, none)) = (No (Packet i x), judged, (spelled, refl, refl))
+  gives_none (No (OtherFti i), judged, (spelled, none)) = (No (OtherFti i), judged, (spelled, refl, refl))
+  gives_none (No (SymbolLength i), judged, (spelled, none)) = (No (SymbolLength i), judged, (spelled, refl, refl))
+  gives_none (No (Range i), judged, (spelled, none)) = (No (Range i), judged, (spelled, refl, refl))
+  gives_none (No (Symbol i c), judged, (spelled, none)) = (No (Symbol i c), judged, (spelled, refl, refl))
+  gives_none (No NoCarrier, judged, (spelled, none)) = (No NoCarrier, judged, (spelled, refl, refl))
+
+module _ (old new : World) (r : TwinRequest) (inputs : Inputs) (given : GivesInputs old.files r inputs) (line : List ℕ) (silent : new.printed ≡ old.printed) where
+  pub twinned : (twin : Vec ℕ Global) → TellsTwin r.identity inputs (record { line = line; other = Some twin }) → Replaces old.files new.files r.output.now twin.items
+      → new.created ≡ one_more old.created → (done : Done) → done.told ≡ Lines line → done.status ≡ 0 → HasMade old new (Twin r) done
+  twinned twin tells replaced created done told status = record {
+    outcome = record { text = line; status = 0; output = Some twin.items };
+    makes = record {
+      values = Datagrams inputs.session ∷ Bytes inputs.object.items ∷ Polynomials inputs.certificate ∷ [];
+      read = given;
+      gives = gives_twin old.files r inputs given line twin tells;
+      made = (replaced, created);
+    };
+    text = ap text_of (sym told);
+    status = sym status;
+    silent = silent;
   }
 
-  -- the other object was written
-  pub twinned : (twin : Vec ℕ Global) → TellsTwin who inputs.session inputs.object.items inputs.certificate line (Some twin)
-      → Replaces old new output twin.items → IsTwinned who old new session object certificate output before after 0
-  twinned twin (No (Thin block have need), judged, (spelled, found, same, is)) replaced =
-      judged_so (No (Thin block have need)) 0 judged refl (subst (λ (l : List ℕ). Appends before after (line_of l)) spelled printed)
-      (twin.items, subst (λ (v : Vec ℕ Global). IsTwinOfSession who inputs.certificate.fti block inputs.session inputs.object.items v.items) (sym (some_same same)) is, replaced)
-  twinned twin (Yes report, judged, (spelled, none)) replaced = absurd (cc)
-  twinned twin (No OtherCertificate, judged, (spelled, none)) replaced = absurd (cc)
-  twinned twin (No ObjectLength, judged, (spelled, none)) replaced = absurd (cc)
-  twinned twin (No (NotObject b c i), judged, (spelled, none)) replaced = absurd (cc)
-  twinned twin (No Empty, judged, (spelled, none)) replaced = absurd (cc)
-  twinned twin (No (Packet i x), judged, (spelled, none)) replaced = absurd (cc)
-  twinned twin (No (OtherFti i), judged, (spelled, none)) replaced = absurd (cc)
-  twinned twin (No (SymbolLength i), judged, (spelled, none)) replaced = absurd (cc)
-  twinned twin (No (Range i), judged, (spelled, none)) replaced = absurd (cc)
-  twinned twin (No (Symbol i c), judged, (spelled, none)) replaced = absurd (cc)
-  twinned twin (No NoCarrier, judged, (spelled, none)) replaced = absurd (cc)
-
-  -- there is none
-  pub untwinned : TellsTwin who inputs.session inputs.object.items inputs.certificate line None
-      → new ≡ old → IsTwinned who old new session object certificate output before after 1
-  untwinned (No (Thin block have need), judged, (spelled, found, same, is)) stays = absurd (cc)
-  untwinned (Yes report, judged, (spelled, none)) stays =
-      judged_so (Yes report) 1 judged refl (subst (λ (l : List ℕ). Appends before after (line_of l)) spelled printed) stays
-  untwinned (No OtherCertificate, judged, (spelled, none)) stays = judged_so (No OtherCertificate) 1 judged refl (line, spelled, printed) stays
-  untwinned (No ObjectLength, judged, (spelled, none)) stays = judged_so (No ObjectLength) 1 judged refl (line, spelled, printed) stays
-  untwinned (No (NotObject b c i), judged, (spelled, none)) stays = judged_so (No (NotObject b c i)) 1 judged refl (line, spelled, printed) stays
-  untwinned (No Empty, judged, (spelled, none)) stays = judged_so (No Empty) 1 judged refl (line, spelled, printed) stays
-  untwinned (No (Packet i x), judged, (spelled, none)) stays = judged_so (No (Packet i x)) 1 judged refl (line, spelled, printed) stays
-  untwinned (No (OtherFti i), judged, (spelled, none)) stays = judged_so (No (OtherFti i)) 1 judged refl (line, spelled, printed) stays
-  untwinned (No (SymbolLength i), judged, (spelled, none)) stays = judged_so (No (SymbolLength i)) 1 judged refl (line, spelled, printed) stays
-  untwinned (No (Range i), judged, (spelled, none)) stays = judged_so (No (Range i)) 1 judged refl (line, spelled, printed) stays
-  untwinned (No (Symbol i c), judged, (spelled, none)) stays = judged_so (No (Symbol i c)) 1 judged refl (line, spelled, printed) stays
-  untwinned (No NoCarrier, judged, (spelled, none)) stays = judged_so (No NoCarrier) 1 judged refl (line, spelled, printed) stays
+  pub untwinned : TellsTwin r.identity inputs (record { line = line; other = None }) → new.files ≡ old.files → new.created ≡ old.created
+      → (done : Done) → done.told ≡ Lines line → done.status ≡ 1 → HasMade old new (Twin r) done
+  untwinned tells files created done told status = record {
+    outcome = record { text = line; status = 1; output = None };
+    makes = record {
+      values = Datagrams inputs.session ∷ Bytes inputs.object.items ∷ Polynomials inputs.certificate ∷ [];
+      read = given;
+      gives = gives_none old.files r inputs given line tells;
+      made = (files, created);
+    };
+    text = ap text_of (sym told);
+    status = sym status;
+    silent = silent;
+  }

@@ -1,61 +1,86 @@
--- What a file that is read whole holds, and why it wasn't read.
-use Rattle.std.specs.Prelude.{◌≡◌, ℕ, List, Option, Some, None, ⊤, IfSome}
+-- What a command reads, and why it can't.
+use Rattle.std.specs.Prelude.{◌≡◌, ◌⊎◌, ℕ, List, [], ◌∷◌, Option, Some, None, ⊤, IfSome}
 use Rattle.session.specs.Frames.{IsFramed, StopsAt}
 use Rattle.session.specs.declared.frame.FrameFault.TheVariants.{Io as FrameIo, NoMemory as NoFrameMemory, NoSuchPlace}
 use Rattle.cert.specs.Certificate.{Certificate, IsCertificate, certificate_text, text_fault}
-use Rattle.cert.specs.declared.certificate.CertFault.TheVariants.{Io as CertificateIo, NoMemory as NoCertificateMemory}
-use Rattle.tool.specs.Folder.{Files, Holds}
+use Rattle.cert.specs.declared.certificate.CertFault.TheVariants.{Io as CertificateIo, NoMemory as NoCertificateMemory, OtherIdentity}
+use Rattle.tool.specs.World.{Files, World, Holds, MayFail}
 use Rattle.tool.specs.declared.fault.Fault.{Fault}
 use Rattle.tool.specs.declared.fault.Fault.TheVariants.{Open, File, Memory, Frame, Certificate as NoCertificate}
 
--- a session of these datagrams stands there
-abbrev pub HoldsSession : Option Files → List ℕ → List (List ℕ) → Type 0
-HoldsSession files name datagrams = Holds files name (IsFramed datagrams)
+-- a named file, and what it is read as: a stream is a session that is read frame by frame
+pub data Input : Type 0 where
+  AnObject : List ℕ → Input
+  ASession : List ℕ → Input
+  ACertificate : List ℕ → Input
+  AStream : List ℕ → Input
 
--- what the reader of a file that was opened gives: its bytes
-abbrev pub Opens : Option Files → List ℕ → Option (List ℕ) → Type 0
-Opens files name opened = Holds files name (λ bytes. opened ≡ Some bytes)
+pub data Value : Type 0 where
+  Bytes : List ℕ → Value
+  Datagrams : List (List ℕ) → Value
+  Polynomials : Certificate → Value
+  Opened : Option (List ℕ) → Value
 
-abbrev pub HoldsBytes : Option Files → List ℕ → List ℕ → Type 0
-HoldsBytes files name bytes = Holds files name (λ held. held ≡ bytes)
+abbrev pub name_of : Input → List ℕ
+name_of (AnObject name) = name
+name_of (ASession name) = name
+name_of (ACertificate name) = name
+name_of (AStream name) = name
 
--- a file stands there, whatever it holds
-abbrev pub IsThere : Option Files → List ℕ → Type 0
-IsThere files name = Holds files name (λ bytes. ⊤)
+-- the file gives this value; a stream its bytes, from the first on
+abbrev pub HasValue : Option Files → Input → Value → Type 0
+HasValue files (AnObject name) (Bytes object) = Holds files name (λ bytes. bytes ≡ object)
+HasValue files (ASession name) (Datagrams datagrams) = Holds files name (IsFramed datagrams)
+HasValue files (ACertificate name) (Polynomials z) = IsCertificate z × Holds files name (λ bytes. bytes ≡ certificate_text z)
+HasValue files (AStream name) (Opened remaining) = Holds files name (λ bytes. remaining ≡ Some bytes)
+HasValue files input value = ⊥
 
--- the certificate stands there; no other has its text
-abbrev pub HoldsCertificate : Option Files → List ℕ → Certificate → Type 0
-HoldsCertificate files name z = IsCertificate z × Holds files name (λ held. held ≡ certificate_text z)
+-- each gives its own
+abbrev pub HaveValues : Option Files → List Input → List Value → Type 0
+HaveValues files [] [] = ⊤
+HaveValues files (input ∷ inputs) (value ∷ values) = HasValue files input value × HaveValues files inputs values
+HaveValues files inputs values = ⊥
 
--- some session, or some certificate, stands there
-abbrev pub HasSession : Option Files → List ℕ → Type 0
-HasSession files name = (datagrams : List (List ℕ)) × HoldsSession files name datagrams
+-- each is there, whatever it holds
+abbrev pub AreThere : Option Files → List Input → Type 0
+AreThere files [] = ⊤
+AreThere files (input ∷ inputs) = Holds files (name_of input) (λ bytes. ⊤) × AreThere files inputs
 
-abbrev pub HasCertificate : Option Files → List ℕ → Type 0
-HasCertificate files name = (z : Certificate) × HoldsCertificate files name z
+-- why a file doesn't open: it isn't there, or the host may fail, or there is no memory
+abbrev pub IsUnopened : World → List ℕ → Fault → Type 0
+IsUnopened world name (Open opened) =
+    (opened.now ≡ name) × (MayFail world ⊎ IfSome world.files (λ held. held name ≡ None))
+IsUnopened world name Memory = ⊤
+IsUnopened world name fault = ⊥
 
--- Why a file didn't open: it isn't there, or the folder doesn't tell its files, or there is no memory.
-abbrev pub IsNotOpened : Option Files → List ℕ → Fault → Type 0
-IsNotOpened files name (Open opened) = (opened.now ≡ name) × IfSome files (λ held. held name ≡ None)
-IsNotOpened files name Memory = ⊤
-IsNotOpened files name _ = ⊥
+-- why one gives no value: it doesn't open, or its bytes give none, or reading has failed, where the host may fail
+abbrev pub IsUnread : World → Input → Fault → Type 0
+IsUnread world (AnObject name) (File read) = (read.now ≡ name) × (MayFail world)
+IsUnread world (ASession name) (Frame FrameIo) = MayFail world
+IsUnread world (ASession name) (Frame NoFrameMemory) = ⊤
+IsUnread world (ASession name) (Frame (NoSuchPlace place)) = ⊥
+IsUnread world (ASession name) (Frame fault) = Holds world.files name (StopsAt fault)
+IsUnread world (ACertificate name) (NoCertificate CertificateIo) = MayFail world
+IsUnread world (ACertificate name) (NoCertificate NoCertificateMemory) = ⊤
+IsUnread world (ACertificate name) (NoCertificate OtherIdentity) = ⊥
+IsUnread world (ACertificate name) (NoCertificate fault) = Holds world.files name (λ bytes. text_fault bytes ≡ Some fault)
+IsUnread world input fault = IsUnopened world (name_of input) fault
 
--- Why an object wasn't read: it didn't open, or reading has failed, where the folder doesn't tell its files.
-abbrev pub IsObjectUnread : Option Files → List ℕ → Fault → Type 0
-IsObjectUnread files name (File read) = (read.now ≡ name) × (files ≡ None)
-IsObjectUnread files name fault = IsNotOpened files name fault
+-- one doesn't open, and those before it are there
+abbrev pub IsFirstUnopened : World → List Input → Fault → Type 0
+IsFirstUnopened world [] fault = ⊥
+IsFirstUnopened world (input ∷ inputs) fault =
+    IsUnopened world (name_of input) fault
+    ⊎ (Holds world.files (name_of input) (λ bytes. ⊤) × IsFirstUnopened world inputs fault)
 
--- The same of a session, whose bytes may be none.
-abbrev pub IsSessionUnread : Option Files → List ℕ → Fault → Type 0
-IsSessionUnread files name (Frame FrameIo) = files ≡ None
-IsSessionUnread files name (Frame NoFrameMemory) = ⊥
-IsSessionUnread files name (Frame (NoSuchPlace place)) = ⊥
-IsSessionUnread files name (Frame fault) = Holds files name (StopsAt fault)
-IsSessionUnread files name fault = IsNotOpened files name fault
+-- one gives no value, and those before it do
+abbrev pub IsFirstUnread : World → List Input → Fault → Type 0
+IsFirstUnread world [] fault = ⊥
+IsFirstUnread world (input ∷ inputs) fault =
+    IsUnread world input fault
+    ⊎ ((value : Value) × HasValue world.files input value × IsFirstUnread world inputs fault)
 
--- The same of a certificate.
-abbrev pub IsCertificateUnread : Option Files → List ℕ → Fault → Type 0
-IsCertificateUnread files name (NoCertificate CertificateIo) = files ≡ None
-IsCertificateUnread files name (NoCertificate NoCertificateMemory) = ⊥
-IsCertificateUnread files name (NoCertificate fault) = Holds files name (λ held. text_fault held ≡ Some fault)
-IsCertificateUnread files name fault = IsNotOpened files name fault
+-- one gives no value, whichever
+abbrev pub IsSomeUnread : World → List Input → Fault → Type 0
+IsSomeUnread world [] fault = ⊥
+IsSomeUnread world (input ∷ inputs) fault = IsUnread world input fault ⊎ IsSomeUnread world inputs fault

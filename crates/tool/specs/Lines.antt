@@ -1,17 +1,24 @@
--- Printed lines.
-use Rattle.std.specs.Prelude.{◌≡◌, ◌≤◌, ℕ, zero, suc, Bool, true, List, [], ◌∷◌, ◌++◌, Option, Some, None, length, slice_index_or, flat_map, ◌⊎◌, codes, decimal, Ok, Err, ⊤}
+-- The lines that commands print.
+use Rattle.std.specs.Prelude.{◌≡◌, ◌⊎◌, ◌+◌, ℕ, true, List, [], ◌∷◌, ◌++◌, Option, Some, None, length, flat_map, codes, decimal, Ok, Err}
 use Rattle.std.specs.Io.KnownBytes.{Appends}
 use Rattle.partition.specs.Fti.{Fti as CarriedFti}
-use Rattle.alc.specs.Packet.{Packet as Sent}
-use Rattle.alc.specs.Reading.{Reading, Reads}
+use Rattle.alc.specs.Reading.{Reading}
 use Rattle.cert.specs.declared.verdict.Report.{Report}
 use Rattle.cert.specs.declared.verdict.Reason.{Reason}
 use Rattle.cert.specs.declared.verdict.Reason.TheVariants.{OtherCertificate, ObjectLength, NotObject, Empty, Packet, OtherFti, SymbolLength, Range, Symbol, Thin, NoCarrier}
 use Rattle.cert.specs.declared.verdict.Verdict.{Verdict}
 use Rattle.cert.specs.declared.verdict.Verdict.TheVariants.{Yes, No}
-use Rattle.tool.specs.declared.fault.Fault.{Fault}
-use Rattle.tool.specs.declared.fault.Fault.TheVariants.{Open, File, Memory, Frame, Certificate, Fti, Send, Output}
+use Rattle.reception.specs.Answer.{Answer, Empty as NothingCame, Fault as WrongAt, NotCode, Missing, Object, Clash, Clashes}
+use Rattle.reception.specs.Reception.{Wrong, Faulty, Judged}
+use Rattle.reception.specs.declared.scope.PlaceFault.TheVariants as place_fault
+use Rattle.decoder.specs.declared.answer.DecodeFault.{DecodeFault}
+use Rattle.decoder.specs.Answers.{fault_value}
+use Rattle.decoder.specs.declared.receiver.FeedFault.{FeedFault}
+use Rattle.decoder.specs.declared.receiver.FeedFault.TheVariants.{Fault as NoObject, Full, Early, NoMemory}
+use Rattle.tool.specs.World.{World, KeepsFiles}
 use Rattle.tool.specs.Words.{fti_words, packet_words, frame_words, certificate_words, send_words}
+use Rattle.tool.specs.declared.fault.Fault.{Fault}
+use Rattle.tool.specs.declared.fault.Fault.TheVariants.{Open, File, Memory, Frame, Certificate, Fti, Send}
 
 -- a line as it is printed, with its line feed
 abbrev pub line_of : List ℕ → List ℕ
@@ -21,131 +28,119 @@ line_of text = text ++ 10 ∷ []
 abbrev pub named : List ℕ → List ℕ → List ℕ
 named name digits = name ++ 32 ∷ [] ++ digits
 
--- why a line wasn't printed: there was no memory for it, or the output has failed
-abbrev pub IsPrintFault : Bool → Fault → Type 0
-IsPrintFault failed Memory = ⊤
-IsPrintFault failed Output = failed ≡ true
-IsPrintFault failed _ = ⊥
+-- something, and of what
+abbrev pub count_line : List ℕ → ℕ → List ℕ → List ℕ
+count_line name count of = line_of (named name (decimal count) ++ of)
 
--- nothing was printed before a fault, or it is that the output has failed
-abbrev pub IsSilent : Fault → Bool → Option (List ℕ) → Option (List ℕ) → Type 0
-IsSilent Output failed before after = failed ≡ true
-IsSilent fault failed before after = after ≡ before
+-- a block, how many symbols of it there are and how many it needs
+abbrev pub short_text : List ℕ → ℕ → ℕ → ℕ → List ℕ
+short_text name block have need =
+    named name (decimal block) ++ named (codes " have") (decimal have) ++ named (codes " need") (decimal need)
 
--- what the line of a fault says
-abbrev pub IsFaultText : Fault → List ℕ → Type 0
-IsFaultText (Open name) text = text ≡ codes "open " ++ name.now
-IsFaultText (File name) text = text ≡ codes "file " ++ name.now
-IsFaultText Memory text = text ≡ codes "memory"
-IsFaultText (Frame fault) text = text ≡ frame_words fault
-IsFaultText (Certificate fault) text = text ≡ certificate_words fault
-IsFaultText (Fti fault) text = text ≡ fti_words fault
-IsFaultText (Send fault) text = text ≡ send_words fault
-IsFaultText Output text = ⊤
+-- a line for each, by its place
+abbrev pub numbered : {X : Type 0} → (ℕ → X → List ℕ) → ℕ → List X → List ℕ
+numbered text place [] = []
+numbered text place (x ∷ xs) = line_of (text place x) ++ numbered text (place + 1) xs
 
--- The line of the fault was printed, or that there was no memory for it, unless the output has failed.
-abbrev pub TellsFault : Fault → Bool → Option (List ℕ) → Option (List ℕ) → Type 0
-TellsFault Output failed before after = failed ≡ true
-TellsFault fault failed before after =
-    (failed ≡ true)
-    ⊎ ((text : List ℕ) × (IsFaultText fault text ⊎ (text ≡ codes "memory")) × Appends before after (line_of (codes "fault " ++ text)))
+-- ---- faults
 
--- a block's line at a yes, by its number and how many symbols it needs and has
-abbrev pub block_line : ℕ → ℕ × ℕ → List ℕ
-block_line block counts =
+abbrev pub fault_text : Fault → List ℕ
+fault_text (Open name) = codes "open " ++ name.now
+fault_text (File name) = codes "file " ++ name.now
+fault_text Memory = codes "memory"
+fault_text (Frame fault) = frame_words fault
+fault_text (Certificate fault) = certificate_words fault
+fault_text (Fti fault) = fti_words fault
+fault_text (Send fault) = send_words fault
+
+-- the line of the fault was printed, or that there was no memory for it; unless printing has failed
+pub record TellsFault (fault : Fault) (old new : World) : Type 0 where
+  pub files : KeepsFiles old new
+  pub told : (new.failed ≡ true)
+      ⊎ Appends old.printed new.printed (line_of (codes "fault " ++ fault_text fault))
+      ⊎ Appends old.printed new.printed (codes "fault memory\n")
+
+-- ---- verdicts
+
+-- a block at a yes, by its number, and how many symbols it needs and has
+abbrev pub block_text : ℕ → ℕ × ℕ → List ℕ
+block_text block counts =
     named (codes "block") (decimal block) ++ named (codes " need") (decimal counts.0) ++ named (codes " have") (decimal counts.1)
 
--- the lines of the first n blocks
-abbrev pub block_lines : List (ℕ × ℕ) → ℕ → List ℕ
-block_lines blocks zero = []
-block_lines blocks (suc n) = block_lines blocks n ++ line_of (block_line n (slice_index_or blocks n (0, 0)))
+abbrev pub kill_text : List ℕ → List ℕ
+kill_text places = codes "kill" ++ flat_map (λ place. named [] (decimal place)) places
 
--- the line of a kill: each place after one space
-abbrev pub kill_line : List ℕ → List ℕ
-kill_line places = codes "kill" ++ flat_map (λ place. named [] (decimal place)) places
-
--- the lines of the carriers and of what can be lost
 abbrev pub losses_text : Report → List ℕ
 losses_text report =
-    line_of (named (codes "carriers") (decimal report.carriers))
-    ++ (line_of (named (codes "margin") (decimal report.margin)) ++ (line_of (kill_line report.kill.items) ++ line_of (named (codes "burst") (decimal report.burst))))
+    line_of (named (codes "carriers") (decimal report.carriers)) ++ line_of (named (codes "margin") (decimal report.margin))
+    ++ line_of (kill_text report.kill.items) ++ line_of (named (codes "burst") (decimal report.burst))
 
--- what a yes prints
 abbrev pub report_text : Report → List ℕ
-report_text report = (line_of (codes "yes") ++ block_lines report.blocks.items (length report.blocks.items)) ++ losses_text report
+report_text report = line_of (codes "yes") ++ numbered block_text 0 report.blocks.items ++ losses_text report
 
--- what a line gains by a reason
-abbrev pub GainsReason : Reason → List ℕ → List ℕ → Type 0
-GainsReason OtherCertificate old new = new ≡ old ++ codes "N12 OtherCertificate"
-GainsReason ObjectLength old new = new ≡ old ++ codes "N1 ObjectLength"
-GainsReason (NotObject block column symbol) old new =
-    new ≡ old ++ named (codes "N2 NotObject block") (decimal block) ++ named (codes " column") (decimal column) ++ named (codes " symbol") (decimal symbol)
-GainsReason Empty old new = new ≡ old ++ codes "N3 Empty"
-GainsReason (Packet place fault) old new =
-    new ≡ old ++ named (codes "N4 Packet place") (decimal place) ++ 32 ∷ [] ++ packet_words fault
-GainsReason (OtherFti place) old new = new ≡ old ++ named (codes "N6 OtherFti place") (decimal place)
-GainsReason (SymbolLength place) old new = new ≡ old ++ named (codes "N10 SymbolLength place") (decimal place)
-GainsReason (Range place) old new = new ≡ old ++ named (codes "N7 Range place") (decimal place)
-GainsReason (Symbol place column) old new =
-    new ≡ old ++ named (codes "N8 Symbol place") (decimal place) ++ named (codes " column") (decimal column)
-GainsReason (Thin block have need) old new =
-    new ≡ old ++ named (codes "N9 Thin block") (decimal block) ++ named (codes " have") (decimal have) ++ named (codes " need") (decimal need)
-GainsReason NoCarrier old new = new ≡ old ++ codes "N11 NoCarrier"
+abbrev pub reason_text : Reason → List ℕ
+reason_text OtherCertificate = codes "N12 OtherCertificate"
+reason_text ObjectLength = codes "N1 ObjectLength"
+reason_text (NotObject block column symbol) =
+    named (codes "N2 NotObject block") (decimal block) ++ named (codes " column") (decimal column) ++ named (codes " symbol") (decimal symbol)
+reason_text Empty = codes "N3 Empty"
+reason_text (Packet place fault) = named (codes "N4 Packet place") (decimal place) ++ 32 ∷ [] ++ packet_words fault
+reason_text (OtherFti place) = named (codes "N6 OtherFti place") (decimal place)
+reason_text (SymbolLength place) = named (codes "N10 SymbolLength place") (decimal place)
+reason_text (Range place) = named (codes "N7 Range place") (decimal place)
+reason_text (Symbol place column) = named (codes "N8 Symbol place") (decimal place) ++ named (codes " column") (decimal column)
+reason_text (Thin block have need) = short_text (codes "N9 Thin block") block have need
+reason_text NoCarrier = codes "N11 NoCarrier"
 
--- the line of a no
-abbrev pub IsNoLine : Reason → List ℕ → Type 0
-IsNoLine reason line = GainsReason reason (codes "no ") line
+abbrev pub verdict_text : Verdict → List ℕ
+verdict_text (Yes report) = report_text report
+verdict_text (No reason) = line_of (codes "no " ++ reason_text reason)
 
--- what was printed of a verdict, where it is told
-abbrev pub Prints : Verdict → Option (List ℕ) → Option (List ℕ) → Type 0
-Prints (Yes report) before after = Appends before after (report_text report)
-Prints (No reason) before after = (line : List ℕ) × IsNoLine reason line × Appends before after (line_of line)
+-- ---- decoding
 
--- the line of a twin, by its block and how many symbols of it the session has and the block needs
-abbrev pub twin_line : ℕ → ℕ → ℕ → List ℕ
-twin_line block have need =
-    named (codes "twin block") (decimal block) ++ named (codes " have") (decimal have) ++ named (codes " need") (decimal need)
+-- what is wrong at a place, which stands behind its name or not
+abbrev pub wrong_words : List ℕ → Wrong Clash → List ℕ
+wrong_words place (Faulty (place_fault.NoPacket fault)) = codes "R1 Packet" ++ place ++ 32 ∷ [] ++ packet_words fault
+wrong_words place (Faulty place_fault.OtherFti) = codes "R3 OtherFti" ++ place
+wrong_words place (Faulty place_fault.SymbolLength) = codes "R7 SymbolLength" ++ place
+wrong_words place (Faulty place_fault.Range) = codes "R4 Range" ++ place
+wrong_words place (Judged Clashes) = codes "R5 Clash" ++ place
 
--- what was printed where a twin was asked for and this is the verdict
-abbrev pub PrintsTwin : Verdict → Option (List ℕ) → Option (List ℕ) → Type 0
-PrintsTwin (Yes report) before after = Appends before after (line_of (codes "no twin"))
-PrintsTwin (No (Thin block have need)) before after = Appends before after (line_of (twin_line block have need))
-PrintsTwin (No reason) before after = Prints (No reason) before after
+abbrev pub not_code_words : ℕ → List ℕ
+not_code_words block = named (codes "R6 NotCode block") (decimal block)
 
--- what a packet's line says of its FTI and its symbol: of a carrier the FTI, else how many bytes of symbol it has
+abbrev pub answer_text : Answer → List ℕ
+answer_text NothingCame = codes "empty"
+answer_text (WrongAt place wrong) = codes "fault " ++ wrong_words (named (codes " place") (decimal place)) wrong
+answer_text (NotCode block) = codes "fault " ++ not_code_words block
+answer_text (Missing block have need) = short_text (codes "missing block") block have need
+answer_text (Object object) = named (codes "object") (decimal (length object)) ++ codes " bytes"
+
+-- a fault without its place
+abbrev pub fault_words : Answer → List ℕ
+fault_words (WrongAt place wrong) = wrong_words [] wrong
+fault_words (NotCode block) = not_code_words block
+fault_words answer = []
+
+-- why a receiver left a datagram out
+abbrev pub refusal_words : FeedFault → List ℕ
+refusal_words (NoObject fault) = fault_words (fault_value fault)
+refusal_words Full = codes "G1 Full"
+refusal_words Early = codes "G2 Early"
+refusal_words NoMemory = codes "memory"
+
+-- ---- datagrams
+
+-- of a carrier its FTI, else how many bytes of symbol it has
 abbrev pub fti_text : Option CarriedFti → ℕ → List ℕ
 fti_text (Some f) size =
     named (codes " length") (decimal f.transfer_length) ++ named (codes " symbol") (decimal f.symbol_length)
     ++ named (codes " block") (decimal f.block_length) ++ named (codes " max") (decimal f.max_symbols)
 fti_text None size = codes " no fti" ++ named (codes " symbol") (decimal size)
 
--- a packet's line, behind its datagram's place
-abbrev pub packet_text : ℕ → Sent → List ℕ
-packet_text place p =
+abbrev pub reading_text : ℕ → Reading → List ℕ
+reading_text place (Ok p) =
     decimal place ++ named (codes " tsi") (decimal p.tsi) ++ named (codes " toi") (decimal p.toi)
-    ++ fti_text p.fti (length p.bytes)
-    ++ named (codes " sbn") (decimal p.block) ++ named (codes " esi") (decimal p.esi)
+    ++ fti_text p.fti (length p.bytes) ++ named (codes " sbn") (decimal p.block) ++ named (codes " esi") (decimal p.esi)
+reading_text place (Err fault) = decimal place ++ 32 ∷ [] ++ packet_words fault
 
--- the line of a datagram, read so
-abbrev pub IsReadingLine : ℕ → Reading → List ℕ → Type 0
-IsReadingLine place (Ok p) line = line ≡ packet_text place p
-IsReadingLine place (Err fault) line = line ≡ decimal place ++ 32 ∷ [] ++ packet_words fault
-
-abbrev pub IsDatagramLine : ℕ → List ℕ → List ℕ → Type 0
-IsDatagramLine place datagram line = (reading : Reading) × Reads datagram reading × IsReadingLine place reading line
-
--- the lines of the first n datagrams
-abbrev pub IsShownText : List (List ℕ) → ℕ → List ℕ → Type 0
-IsShownText datagrams zero text = text ≡ []
-IsShownText datagrams (suc n) text =
-    (front : List ℕ) × (line : List ℕ) × IsShownText datagrams n front × IsDatagramLine n (slice_index_or datagrams n []) line
-    × (text ≡ front ++ line_of line)
-
--- what was printed of them, where it is told
-abbrev pub PrintsDatagrams : List (List ℕ) → ℕ → Option (List ℕ) → Option (List ℕ) → Type 0
-PrintsDatagrams datagrams n before after = (text : List ℕ) × IsShownText datagrams n text × Appends before after text
-
--- the lines of the first of them were printed before a fault, or it is that the output has failed
-abbrev pub PrintsSome : List (List ℕ) → Fault → Bool → Option (List ℕ) → Option (List ℕ) → Type 0
-PrintsSome datagrams Output failed before after = failed ≡ true
-PrintsSome datagrams fault failed before after = (n : ℕ) × (n ≤ length datagrams) × PrintsDatagrams datagrams n before after

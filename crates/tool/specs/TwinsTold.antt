@@ -1,41 +1,43 @@
 -- What is read for a twin, and what is told of it.
-use Rattle.std.specs.Prelude.{◌≡◌, ◌⊎◌, ℕ, List, Option, Some, None, Vec, codes}
+use Rattle.std.specs.Prelude.{◌≡◌, ℕ, List, [], ◌∷◌, Option, Some, None, Vec, codes}
 use Rattle.std.specs.declared.alloc.Global.{Global}
-use Rattle.reception.specs.declared.scope.Identity.{Identity}
 use Rattle.partition.specs.Fti.{Fti}
-use Rattle.cert.specs.Certificate.{Certificate}
+use Rattle.reception.specs.declared.scope.Identity.{Identity}
 use Rattle.cert.specs.Twins.{IsTwinOfSession}
 use Rattle.cert.specs.Verdict.{IsVerdict}
 use Rattle.cert.specs.declared.verdict.Reason.TheVariants.{Thin}
 use Rattle.cert.specs.declared.verdict.Verdict.{Verdict}
 use Rattle.cert.specs.declared.verdict.Verdict.TheVariants.{Yes, No}
+use Rattle.request.specs.declared.requests.TwinRequest.{TwinRequest}
+use Rattle.request.specs.declared.requests.Request.TheVariants.{Twin}
+use Rattle.tool.specs.World.{Files, World}
+use Rattle.tool.specs.Inputs.{Datagrams, Bytes, Polynomials, HaveValues, IsFirstUnread}
+use Rattle.tool.specs.Lines.{line_of, short_text, verdict_text}
+use Rattle.tool.specs.Commands.{inputs_of}
 use Rattle.tool.specs.declared.fault.Fault.{Fault}
-use Rattle.tool.specs.declared.twinning.Inputs.{Inputs}
-use Rattle.tool.specs.Folder.{Files}
-use Rattle.tool.specs.Inputs.{HoldsSession, HoldsBytes, HoldsCertificate, IsThere, HasSession, IsSessionUnread, IsObjectUnread, IsCertificateUnread}
-use Rattle.tool.specs.Lines.{IsNoLine, twin_line}
+use Rattle.tool.specs.declared.twin.Answered.{Answered}
+use Rattle.tool.specs.declared.twin.Inputs.{Inputs}
 
--- the files hold them
-pub record AreInputs (files : Option Files) (session object certificate : List ℕ) (inputs : Inputs) : Type 0 where
-  pub sent : HoldsSession files session inputs.session
-  pub whole : HoldsBytes files object inputs.object.items
-  pub certified : HoldsCertificate files certificate inputs.certificate
+-- the files give them
+abbrev pub GivesInputs : Option Files → TwinRequest → Inputs → Type 0
+GivesInputs files r inputs =
+    HaveValues files (inputs_of (Twin r)) (Datagrams inputs.session ∷ Bytes inputs.object.items ∷ Polynomials inputs.certificate ∷ [])
 
--- one of them wasn't read, and those before it were
-abbrev pub AreUnread : Option Files → List ℕ → List ℕ → List ℕ → Fault → Type 0
-AreUnread files session object certificate fault =
-    IsSessionUnread files session fault
-    ⊎ (HasSession files session × IsObjectUnread files object fault)
-    ⊎ (HasSession files session × IsThere files object × IsCertificateUnread files certificate fault)
+-- one of them doesn't, and those before it do
+abbrev pub AreUnread : World → TwinRequest → Fault → Type 0
+AreUnread world r fault = IsFirstUnread world (inputs_of (Twin r)) fault
 
 -- the line that a verdict gives, and the other object where a block is short
-abbrev pub IsToldOf : Identity → Verdict → Fti → List (List ℕ) → List ℕ → List ℕ → Option (Vec ℕ Global) → Type 0
-IsToldOf who (Yes report) f datagrams object line other = (line ≡ codes "no twin") × (other ≡ None)
-IsToldOf who (No (Thin block have need)) f datagrams object line other =
-    (line ≡ twin_line block have need) × (twin : Vec ℕ Global) × (other ≡ Some twin) × IsTwinOfSession who f block datagrams object twin.items
-IsToldOf who (No reason) f datagrams object line other = IsNoLine reason line × (other ≡ None)
+abbrev pub IsToldOf : Identity → Verdict → Inputs → Answered → Type 0
+IsToldOf who (Yes report) inputs answered = (answered.line ≡ line_of (codes "no twin")) × (answered.other ≡ None)
+IsToldOf who (No (Thin block have need)) inputs answered =
+    (answered.line ≡ line_of (short_text (codes "twin block") block have need))
+    × (twin : Vec ℕ Global) × (answered.other ≡ Some twin)
+    × IsTwinOfSession who inputs.certificate.fti block inputs.session inputs.object.items twin.items
+IsToldOf who (No reason) inputs answered = (answered.line ≡ verdict_text (No reason)) × (answered.other ≡ None)
 
 -- those of the verdict on the inputs
-abbrev pub TellsTwin : Identity → List (List ℕ) → List ℕ → Certificate → List ℕ → Option (Vec ℕ Global) → Type 0
-TellsTwin who datagrams object z line other =
-    (verdict : Verdict) × IsVerdict who datagrams object z verdict × IsToldOf who verdict z.fti datagrams object line other
+abbrev pub TellsTwin : Identity → Inputs → Answered → Type 0
+TellsTwin who inputs answered =
+    (verdict : Verdict) × IsVerdict who inputs.session inputs.object.items inputs.certificate verdict
+    × IsToldOf who verdict inputs answered

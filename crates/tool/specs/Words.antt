@@ -37,7 +37,7 @@ frame_words CutLength = codes "S1 CutLength"
 frame_words CutDatagram = codes "S2 CutDatagram"
 frame_words TooLong = codes "S3 TooLong"
 frame_words FrameIo = codes "S4 Io"
-frame_words NoFrameMemory = codes "S5 NoMemory"
+frame_words NoFrameMemory = codes "memory"
 frame_words (NoSuchPlace place) = codes "S6 NoSuchPlace " ++ decimal place
 
 abbrev pub certificate_words : CertFault → List ℕ
@@ -45,11 +45,11 @@ certificate_words Magic = codes "Z1 Magic"
 certificate_words (WrongFti fault) = codes "Z2 Fti " ++ fti_words fault
 certificate_words Size = codes "Z3 Size"
 certificate_words CertificateIo = codes "Z4 Io"
-certificate_words NoCertificateMemory = codes "Z5 NoMemory"
+certificate_words NoCertificateMemory = codes "memory"
 certificate_words OtherIdentity = codes "Z6 OtherIdentity"
 
 abbrev pub send_words : SendFault → List ℕ
 send_words Length = codes "O1 Length"
 send_words SymbolTooLong = codes "O2 SymbolTooLong"
 send_words SendIo = codes "O3 Io"
-send_words NoSendMemory = codes "O4 NoMemory"
+send_words NoSendMemory = codes "memory"

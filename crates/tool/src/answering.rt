@@ -1,11 +1,11 @@
 //! The answer to a command line.
-ghost use Rattle.std.specs.Prelude.{◌≡◌, ◌⊎◌, ℕ, List, true, codes, OnOk, OnErr};
+ghost use Rattle.std.specs.Prelude.{◌≡◌, ◌⊎◌, true, codes, OnOk, OnErr};
 ghost use Rattle.std.specs.Io.KnownBytes.{Appends};
-ghost use Rattle.tool.specs.Answering.{IsAnswer, Explains};
+ghost use Rattle.tool.specs.World.{KeepsFiles};
+ghost use Rattle.tool.specs.Answering.{IsAnswer, Explains, errors_of};
 
-use crate::console::Console;
-use crate::folder::Folder;
-use crate::running::{run, tell_memory};
+use crate::host::Host;
+use crate::running::{MEMORY_LINE, run, tell_memory};
 use request::{Usage, request};
 use session::{Failed, Write, write_all};
 use std::alloc::Global;
@@ -14,57 +14,65 @@ use std::alloc::Global;
 const REFUSED: u8 = 2;
 
 /// Does what the words of a command line ask for, the first of which is the program's name, and answers the status: that
-/// of `run` where they make a request; 0 after help or the version, which go to `out`; 2 where the line is refused, with the reason to
-/// `err`, whether that can be written or not; 1 after `fault memory`, or where `out` can't be written.
-pub fn answer<'a, F: Folder, W: Console, E: Write>(
+/// of `run` where they make a request; 0 after help or the version, which are printed; 2 where the line is refused, with the
+/// reason to `err`, whether that can be written or not; 1 after `fault memory`, or where nothing can be printed.
+pub fn answer<'a, H: Host, E: Write>(
     alloc: Global,
     words: &'a [&'a str],
-    folder: &mut F,
-    out: &mut W,
+    host: &mut H,
     err: &mut E,
 ) -> u8
-    ensures { IsAnswer words.now (F.files folder.old) (F.files folder.new) (W.failed out.new)
-        (W.contents out.old) (W.contents out.new) (E.failed err.new) (E.contents err.old)
-        (E.contents err.new) result }
+    ensures { IsAnswer words.now (H.world host.old) (H.world host.new)
+        (errors_of (E.contents err.old) (E.contents err.new) (E.failed err.new)) result }
 {
     match request(alloc, words) {
-        Ok(request) => run(alloc, &request, folder, out),
-        Err(usage) => explain(alloc, usage, out, err),
+        Ok(request) => run(alloc, host, &request),
+        Err(usage) => explain(alloc, usage, host, err),
     }
 }
 
 // Tells why a command line makes no request, and answers the status.
-fn explain<W: Write, E: Write>(alloc: Global, usage: Usage, out: &mut W, err: &mut E) -> u8
-    ensures { Explains usage (W.failed out.new) (W.contents out.old) (W.contents out.new)
-        (E.failed err.new) (E.contents err.old) (E.contents err.new) result }
+fn explain<H: Host, E: Write>(alloc: Global, usage: Usage, host: &mut H, err: &mut E) -> u8
+    ensures { Explains usage (H.world host.old) (H.world host.new)
+        (errors_of (E.contents err.old) (E.contents err.new) (E.failed err.new)) result }
 {
     match usage {
         Usage::Help(error) => match error.to_string(alloc) {
-            Ok(text) => match write_all(out, text.as_bytes()) {
+            Ok(text) => match host.print(text.as_bytes()) {
                 Ok(()) => 0,
                 Err(Failed) => 1,
             },
-            Err(_) => refuse_memory(out),
+            Err(_) => refuse(host),
         },
         Usage::Line(error) => match error.to_string(alloc) {
             Ok(text) => {
                 let _ = write_all(err, text.as_bytes());
                 REFUSED
             }
-            Err(_) => refuse_memory(out),
+            Err(_) => refuse(host),
         },
-        Usage::Value => REFUSED,
-        Usage::NoMemory => refuse_memory(out),
+        Usage::NoMemory => refuse(host),
     }
 }
 
 /// Prints `fault memory`, for which it takes none, and answers the status, which is 1.
+pub fn refuse<H: Host>(host: &mut H) -> u8
+    ensures told { ((H.world host.new).failed ≡ true) ⊎ Appends (H.world host.old).printed
+        (H.world host.new).printed (codes "fault memory\n") }
+    ensures files { KeepsFiles (H.world host.old) (H.world host.new) }
+    ensures status { result ≡ 1 }
+{
+    tell_memory(host);
+    1
+}
+
+/// The same where there is no host yet, but an output.
 pub fn refuse_memory<W: Write>(out: &mut W) -> u8
     ensures told { (W.failed out.new ≡ true)
         ⊎ Appends (W.contents out.old) (W.contents out.new) (codes "fault memory\n") }
     ensures status { result ≡ 1 }
 {
-    tell_memory(out);
+    let _ = write_all(out, MEMORY_LINE);
     1
 }
 

@@ -1,56 +1,55 @@
 //! The command `check`.
 ghost use Rattle.std.specs.Prelude.{◌≡◌, ◌≤◌, ◌++◌, decimal, IfOk, IfErr, OnOk};
 ghost use Rattle.cert.specs.FromReader.{IsCheckedFrom};
+ghost use Rattle.cert.specs.declared.verdict.Verdict.TheVariants.{No};
+ghost use Rattle.request.specs.declared.requests.Request.TheVariants.{Check};
+ghost use Rattle.tool.specs.Commands.{status_of as verdict_status};
+ghost use Rattle.tool.specs.Doing.{HasMade, HasStopped};
 ghost use Rattle.tool.specs.Checks.{IsNotChecked};
-ghost use Rattle.tool.specs.Outcomes.{IsChecked, IsUnchecked, status_of as verdict_status};
-ghost use Rattle.tool.specs.Lines.{line_of, named, block_line, kill_line, losses_text, report_text, GainsReason, IsNoLine, IsSilent};
-ghost use Rattle.tool.specs.Telling.{IsVerdictText};
+ghost use Rattle.tool.specs.Lines.{line_of, named, block_text, kill_text, losses_text, report_text, reason_text, verdict_text as text_of_verdict};
 
+use crate::done::{Done, Told};
 use crate::fault::Fault;
-use crate::folder::Folder;
+use crate::host::Host;
 use crate::input::{open, read_certificate, read_object};
 use crate::print::Text;
 use crate::wording::put_packet_fault;
 use cert::{Certificate, CheckFault, Reason, Report, Verdict, check_from};
 use reception::Identity;
-use session::{FrameFault, Read, Write};
+use request::CheckRequest;
+use session::{FrameFault, Read};
 use std::alloc::{AllocError, Global};
 
-/// Prints the verdict, and answers the status. The session is opened first, but the object and the certificate are read
-/// before its frames.
-pub(crate) fn check<'a, F: Folder, W: Write>(
+/// The verdict. The session is opened first, but the object and the certificate are read before its frames.
+pub(crate) fn check<'a, H: Host>(
     alloc: Global,
-    folder: &F,
-    out: &mut W,
-    session: &'a str,
-    object: &'a str,
-    certificate: &'a str,
-    identity: Identity,
-) -> Result<u8, Fault<'a>>
-    // The verdict is on what the object's and the certificate's files hold and the frames that were read of the session's.
-    ensures ok { IfOk result (IsChecked identity (F.files folder.now) session.now object.now
-        certificate.now (W.contents out.old) (W.contents out.new)) }
-    ensures fault { IfErr result (IsUnchecked identity (F.files folder.now) session.now
-        object.now certificate.now (W.failed out.new)) }
-    ensures silent { IfErr result (λ fault.
-        IsSilent fault (W.failed out.new) (W.contents out.old) (W.contents out.new)) }
+    host: &H,
+    request: &CheckRequest<'a>,
+) -> Result<Done, Fault<'a>>
+    ensures ok { IfOk result
+        (HasMade (H.world host.now) (H.world host.now) (Check request.now)) }
+    ensures fault { IfErr result
+        (HasStopped (H.world host.now) (H.world host.now) (Check request.now)) }
 {
-    let mut frames = open(folder, session)?;
-    let object = read_object(alloc, folder, object)?;
-    let certificate = read_certificate(alloc, folder, certificate)?;
+    let mut frames = open(host, request.session)?;
+    let object = read_object(alloc, host, request.object)?;
+    let certificate = read_certificate(alloc, host, request.certificate)?;
     let verdict = verdict_of(
         alloc,
         &mut frames,
         object.as_slice(),
         &certificate,
-        identity,
+        request.identity,
     )?;
-    verdict_text(alloc, &verdict)?.print(out)?;
-    Ok(status_of(&verdict))
+    Ok(Done {
+        told: Told::Lines(verdict_text(alloc, &verdict)?),
+        status: status_of(&verdict),
+    })
 }
 
 fn status_of(verdict: &Verdict) -> u8
-    ensures { result ≡ verdict_status verdict.now }
+    ensures value { result ≡ verdict_status verdict.now }
+    ensures small { result ≤ 3 }
 {
     match verdict {
         Verdict::Yes(_) => 0,
@@ -58,9 +57,9 @@ fn status_of(verdict: &Verdict) -> u8
     }
 }
 
-// The lines of a verdict, without the last line feed.
+// The lines of a verdict.
 fn verdict_text(alloc: Global, verdict: &Verdict) -> Result<Text, AllocError>
-    ensures { IfOk result (IsVerdictText verdict.now) }
+    ensures { IfOk result (λ text. text ≡ text_of_verdict verdict.now) }
 {
     match verdict {
         Verdict::Yes(report) => report_lines(alloc, report),
@@ -79,8 +78,7 @@ fn verdict_of<'a, R: Read>(
     ensures ok { IfOk result (IsCheckedFrom identity (R.remaining frames.old)
         (R.remaining frames.new) object.now certificate.now) }
     ensures fault { IfErr result (IsNotChecked identity (R.sound frames.old)
-        (R.remaining frames.old) (R.remaining frames.new) (R.failed frames.new)
-        object.now certificate.now) }
+        (R.remaining frames.old) object.now certificate.now) }
 {
     match check_from(alloc, frames, object, certificate, identity) {
         Ok(verdict) => Ok(verdict),
@@ -89,8 +87,8 @@ fn verdict_of<'a, R: Read>(
     }
 }
 
-fn block_line_of(alloc: Global, block: usize, counts: (usize, usize)) -> Result<Text, AllocError>
-    ensures { IfOk result (λ line. line ≡ block_line block counts) }
+fn block_line(alloc: Global, block: usize, counts: (usize, usize)) -> Result<Text, AllocError>
+    ensures { IfOk result (λ line. line ≡ block_text block counts) }
 {
     let (need, have) = counts;
     let mut line = Text::new(alloc);
@@ -100,8 +98,8 @@ fn block_line_of(alloc: Global, block: usize, counts: (usize, usize)) -> Result<
     Ok(line)
 }
 
-fn kill_line_of(alloc: Global, places: &[usize]) -> Result<Text, AllocError>
-    ensures { IfOk result (λ line. line ≡ kill_line places.now) }
+fn kill_line(alloc: Global, places: &[usize]) -> Result<Text, AllocError>
+    ensures { IfOk result (λ line. line ≡ kill_text places.now) }
 {
     let mut line = Text::new(alloc);
     line.text("kill")?;
@@ -121,22 +119,22 @@ fn number_line(alloc: Global, name: &str, number: usize) -> Result<Text, AllocEr
 
 // Puts the lines of the carriers and of what can be lost last.
 fn put_losses(alloc: Global, lines: &mut Text, report: &Report) -> Result<(), AllocError>
-    ensures { OnOk result (line_of lines.new ≡ line_of lines.old ++ losses_text report.now) }
+    ensures { OnOk result (lines.new ≡ lines.old ++ losses_text report.now) }
 {
     lines.put_line(&number_line(alloc, "carriers", report.carriers)?)?;
     lines.put_line(&number_line(alloc, "margin", report.margin)?)?;
-    lines.put_line(&kill_line_of(alloc, report.kill.as_slice())?)?;
+    lines.put_line(&kill_line(alloc, report.kill.as_slice())?)?;
     lines.put_line(&number_line(alloc, "burst", report.burst)?)
 }
 
 // The lines of a yes: they are printed together, so that want of memory leaves no yes behind.
 fn report_lines(alloc: Global, report: &Report) -> Result<Text, AllocError>
-    ensures { IfOk result (λ lines. line_of lines ≡ report_text report.now) }
+    ensures { IfOk result (λ lines. lines ≡ report_text report.now) }
 {
     let mut lines = Text::new(alloc);
-    lines.text("yes")?;
+    lines.text("yes\n")?;
     for (block, counts) in report.blocks.iter().enumerate() {
-        lines.put_line(&block_line_of(alloc, block, *counts)?)?;
+        lines.put_line(&block_line(alloc, block, *counts)?)?;
     }
     put_losses(alloc, &mut lines, report)?;
     Ok(lines)
@@ -144,7 +142,7 @@ fn report_lines(alloc: Global, report: &Report) -> Result<Text, AllocError>
 
 // Puts a reason last.
 fn put_reason(line: &mut Text, reason: Reason) -> Result<(), AllocError>
-    ensures { OnOk result (GainsReason reason line.old line.new) }
+    ensures { OnOk result (line.new ≡ line.old ++ reason_text reason) }
 {
     match reason {
         Reason::OtherCertificate => line.text("N12 OtherCertificate"),
@@ -172,19 +170,19 @@ fn put_reason(line: &mut Text, reason: Reason) -> Result<(), AllocError>
             line.named(" column", column)
         }
         Reason::Thin { block, have, need } => {
-            line.named("N9 Thin block", block)?;
-            line.named(" have", have)?;
-            line.named(" need", need)
+            line.short_block("N9 Thin block", block, have, need)
         }
         Reason::NoCarrier => line.text("N11 NoCarrier"),
     }
 }
 
+/// The line of a no.
 pub(crate) fn reason_line(alloc: Global, reason: Reason) -> Result<Text, AllocError>
-    ensures { IfOk result (IsNoLine reason) }
+    ensures { IfOk result (λ line. line ≡ text_of_verdict (No reason)) }
 {
     let mut line = Text::new(alloc);
     line.text("no ")?;
     put_reason(&mut line, reason)?;
+    line.end_line()?;
     Ok(line)
 }

@@ -1,155 +1,159 @@
 //! The command `encode`.
-ghost use Rattle.std.specs.Prelude.{◌≡◌, ◌⊎◌, length, IfOk, IfErr, OnErr};
-ghost use Rattle.coder.specs.ObjectRead.{ReadsObject};
+ghost use Rattle.std.specs.Prelude.{◌≡◌, length, IfOk, IfErr};
 ghost use Rattle.partition.specs.declared.order.Order.TheVariants.{Blocks};
-ghost use Rattle.tool.specs.FilesMade.{EncodesFile, IsUnsentFile};
-ghost use Rattle.tool.specs.Making.{IsEncoded, MakesSession, IsNotEncoded, IsUnsent, Fails};
-ghost use Rattle.tool.specs.ReadingObjects.{IsObjectBroken};
+ghost use Rattle.request.specs.declared.requests.Request.TheVariants.{Encode};
+ghost use Rattle.tool.specs.World.{GivesFile, LeavesBytes};
+ghost use Rattle.tool.specs.Commands.{sized};
+ghost use Rattle.tool.specs.Doing.{HasMade, HasStopped};
+ghost use Rattle.tool.specs.Inputs.{AnObject, Bytes, HasValue};
+ghost use Rattle.coder.specs.ObjectRead.{ReadsObject};
+ghost use Rattle.tool.specs.Sending.{WritesSession, IsUnsent, IsUnsentFrom};
 
+use crate::done::Done;
 use crate::fault::Fault;
-use crate::folder::Folder;
+use crate::host::Host;
 use crate::input::{open, read_rest};
-use crate::output::{create, give_up, keep};
-use crate::print::print_count;
+use crate::output::{Unwritten, commit, create};
 use crate::sizes::fti_of;
 use coder::{SendFault, SendFromFault};
 use partition::{Fti, Order};
-use request::{Identifiers, Sending};
+use request::{EncodeRequest, Sending};
 use session::{Read, Write};
 use std::alloc::Global;
 
-/// Writes the object's session, and answers the status. An object whose length is known beforehand is read block by block,
-/// where its session is written so.
-pub(crate) fn encode<'a, F: Folder, W: Write>(
+/// Writes the object's session. An object whose length is known beforehand is read block by block, where its session is
+/// written so.
+pub(crate) fn encode<'a, H: Host>(
     alloc: Global,
-    folder: &mut F,
-    out: &mut W,
-    object: &'a str,
-    output: &'a str,
-    sending: &Sending,
-) -> Result<u8, Fault<'a>>
-    ensures ok { IfOk result (IsEncoded (F.files folder.old) (F.files folder.new)
-        object.now output.now sending.now (W.contents out.old) (W.contents out.new)) }
-    ensures fault { IfErr result (Fails (IsNotEncoded object.now output.now sending.now)
-        (IsEncoded (F.files folder.old) (F.files folder.new)
-        object.now output.now sending.now (W.contents out.old))
-        (F.files folder.old) (F.files folder.new)
-        (W.failed out.new) (W.contents out.old) (W.contents out.new)) }
+    host: &mut H,
+    request: &EncodeRequest<'a>,
+) -> Result<Done, Fault<'a>>
+    ensures ok { IfOk result
+        (HasMade (H.world host.old) (H.world host.new) (Encode request.now)) }
+    ensures fault { IfErr result
+        (HasStopped (H.world host.old) (H.world host.new) (Encode request.now)) }
 {
-    let count = encode_file(alloc, folder, object, output, sending)?;
-    print_count(out, "encoded", count, " datagrams")?;
-    Ok(0)
-}
-
-// Makes the session of the object in a file; tells how many datagrams.
-#[tactic(auto, using(crate::proofs::ObjectBytes::makes_no_fti))]
-fn encode_file<'a, F: Folder>(
-    alloc: Global,
-    folder: &mut F,
-    object: &'a str,
-    output: &'a str,
-    sending: &Sending,
-) -> Result<u64, Fault<'a>>
-    ensures ok { IfOk result (EncodesFile (F.files folder.old) (F.files folder.new)
-        object.now output.now sending.now) }
-    ensures fault { IfErr result (IsUnsentFile object.now output.now sending.now
-        (F.files folder.old)) }
-    ensures stays { OnErr result (F.files folder.new ≡ F.files folder.old) }
-{
-    let mut input = open(folder, object)?;
-    match (folder.length_of(&input), sending.order) {
+    let mut input = open(host, request.object)?;
+    match (host.length_of(&input), request.sending.order) {
         (Some(length), Order::Blocks) => {
-            let fti = fti_of(&sending.sizes, length)?;
-            send_read(alloc, folder, &mut input, &fti, object, output, sending)
+            let fti = fti_of(&request.sending.sizes, length)?;
+            encode_read(alloc, host, &mut input, &fti, request)
         }
         _ => {
-            let bytes = read_rest(alloc, &mut input, object)?;
-            let fti = fti_of(&sending.sizes, bytes.len() as u64)?;
-            send_held(alloc, folder, bytes.as_slice(), &fti, output, sending)
+            let object = read_rest(alloc, &mut input, request.object)?;
+            let fti = fti_of(&request.sending.sizes, object.len() as u64)?;
+            encode_held(alloc, host, object.as_slice(), &fti, request)
         }
     }
 }
 
-// Makes the session of an object that is read block by block; tells how many datagrams.
-fn send_read<'a, F: Folder, R: Read>(
+// Writes the session of an object that is read block by block.
+fn encode_read<'a, H: Host>(
     alloc: Global,
-    folder: &mut F,
-    reader: &mut R,
+    host: &mut H,
+    input: &mut H::Input,
     fti: &Fti,
-    object: &'a str,
-    output: &'a str,
-    sending: &Sending,
-) -> Result<u64, Fault<'a>>
-    requires order { sending.now.order ≡ Blocks }
-    ensures ok { IfOk result (λ count. ReadsObject fti.now (R.remaining reader.old)
-        (λ bytes. MakesSession (F.files folder.old) (F.files folder.new)
-        bytes fti.now output.now sending.now count)) }
-    ensures fault { IfErr result (λ fault. IsObjectBroken fti.now (R.remaining reader.old)
-        (R.sound reader.old) object.now fault
-        ⊎ IsUnsent output.now fti.now.symbol_length (F.files folder.old) fault) }
-    ensures stays { OnErr result (F.files folder.new ≡ F.files folder.old) }
+    request: &EncodeRequest<'a>,
+) -> Result<Done, Fault<'a>>
+    requires order { request.now.sending.order ≡ Blocks }
+    requires opened { GivesFile (H.world host.old) request.now.object.now
+        (H.Input.remaining input.old) (H.Input.sound input.old) }
+    requires length { LeavesBytes (H.Input.remaining input.old) fti.now.transfer_length }
+    requires sizes { fti.now ≡ sized request.now.sending.sizes fti.now.transfer_length }
+    ensures ok { IfOk result
+        (HasMade (H.world host.old) (H.world host.new) (Encode request.now)) }
+    ensures fault { IfErr result
+        (HasStopped (H.world host.old) (H.world host.new) (Encode request.now)) }
 {
-    fti.is_valid();
-    let mut file = create(folder, output)?;
-    let sent = coder::encode_from(
-        alloc,
-        reader,
-        sending.identifiers.tsi,
-        sending.identifiers.toi,
-        fti,
-        u32::from(sending.fti_every),
-        &mut file,
-    );
-    let count = match sent {
-        Ok(count) => count,
-        Err(SendFromFault::Object(_)) => {
-            folder.give_up(file);
-            return Err(Fault::File(object));
-        }
-        Err(SendFromFault::SymbolTooLong) => {
-            folder.give_up(file);
-            return Err(Fault::Send(SendFault::SymbolTooLong));
-        }
-        Err(SendFromFault::NoMemory) => return Err(give_up(folder, file, Fault::Memory)),
-        Err(SendFromFault::Write) => {
-            return Err(give_up(folder, file, Fault::Send(SendFault::Io)));
-        }
-    };
-    keep(folder, output, file)?;
-    Ok(count)
+    let mut file = create(host, request.output)?;
+    let sent = send_read(alloc, input, fti, request, &mut file);
+    let failure = Fault::Send(SendFault::Io);
+    let count = commit(host, request.output, file, sent, failure)?;
+    Ok(Done::counted("encoded", count, " datagrams"))
 }
 
-// Makes the session of an object of these bytes; tells how many datagrams.
-fn send_held<'a, F: Folder>(
+fn send_read<'a, R: Read, W: Write>(
     alloc: Global,
-    folder: &mut F,
-    bytes: &[u8],
+    reader: &mut R,
     fti: &Fti,
-    output: &'a str,
-    sending: &Sending,
-) -> Result<u64, Fault<'a>>
-    requires { length bytes.now ≡ fti.now.transfer_length }
-    ensures ok { IfOk result (MakesSession (F.files folder.old) (F.files folder.new)
-        bytes.now fti.now output.now sending.now) }
-    ensures fault { IfErr result
-        (IsUnsent output.now fti.now.symbol_length (F.files folder.old)) }
-    ensures stays { OnErr result (F.files folder.new ≡ F.files folder.old) }
+    request: &EncodeRequest<'a>,
+    writer: &mut W,
+) -> Result<u64, Unwritten<'a>>
+    requires order { request.now.sending.order ≡ Blocks }
+    ensures sent { IfOk result (λ count. ReadsObject fti.now (R.remaining reader.old)
+        (λ object. WritesSession object fti.now request.now.sending count
+        (W.contents writer.old) (W.contents writer.new))) }
+    ensures fault { IfErr result (IsUnsentFrom fti.now (R.remaining reader.old)
+        (R.sound reader.old) request.now.object.now) }
 {
     fti.is_valid();
-    let mut file = create(folder, output)?;
-    let Identifiers { tsi, toi } = sending.identifiers;
-    let every = u32::from(sending.fti_every);
-    let sent = coder::encode(alloc, bytes, tsi, toi, fti, every, sending.order, &mut file);
-    let count = match sent {
-        Ok(count) => count,
+    let Sending {
+        identity,
+        fti_every,
+        ..
+    } = request.sending;
+    let (tsi, toi) = (identity.tsi as u32, identity.toi as u32);
+    match coder::encode_from(alloc, reader, tsi, toi, fti, u32::from(fti_every), writer) {
+        Ok(count) => Ok(count),
+        Err(SendFromFault::Object(_)) => Err(Unwritten::Fault(Fault::File(request.object))),
+        Err(SendFromFault::SymbolTooLong) => {
+            Err(Unwritten::Fault(Fault::Send(SendFault::SymbolTooLong)))
+        }
+        Err(SendFromFault::NoMemory) => Err(Unwritten::Fault(Fault::Memory)),
+        Err(SendFromFault::Write) => Err(Unwritten::Writing),
+    }
+}
+
+// Writes the session of an object of these bytes.
+fn encode_held<'a, H: Host>(
+    alloc: Global,
+    host: &mut H,
+    object: &[u8],
+    fti: &Fti,
+    request: &EncodeRequest<'a>,
+) -> Result<Done, Fault<'a>>
+    requires held { HasValue (H.world host.old).files (AnObject request.now.object.now)
+        (Bytes object.now) }
+    requires sizes { fti.now ≡ sized request.now.sending.sizes (length object.now) }
+    ensures ok { IfOk result
+        (HasMade (H.world host.old) (H.world host.new) (Encode request.now)) }
+    ensures fault { IfErr result
+        (HasStopped (H.world host.old) (H.world host.new) (Encode request.now)) }
+{
+    let mut file = create(host, request.output)?;
+    let sent = send_held(alloc, object, fti, &request.sending, &mut file);
+    let failure = Fault::Send(SendFault::Io);
+    let count = commit(host, request.output, file, sent, failure)?;
+    Ok(Done::counted("encoded", count, " datagrams"))
+}
+
+fn send_held<'a, W: Write>(
+    alloc: Global,
+    object: &[u8],
+    fti: &Fti,
+    sending: &Sending,
+    writer: &mut W,
+) -> Result<u64, Unwritten<'a>>
+    requires { length object.now ≡ fti.now.transfer_length }
+    ensures sent { IfOk result (λ count. WritesSession object.now fti.now sending.now count
+        (W.contents writer.old) (W.contents writer.new)) }
+    ensures fault { IfErr result (IsUnsent fti.now) }
+{
+    fti.is_valid();
+    let Sending {
+        identity,
+        fti_every,
+        order,
+        ..
+    } = *sending;
+    let (tsi, toi) = (identity.tsi as u32, identity.toi as u32);
+    match coder::encode(alloc, object, tsi, toi, fti, u32::from(fti_every), order, writer) {
+        Ok(count) => Ok(count),
         Err(SendFault::Length) => unreachable!(),
         Err(SendFault::SymbolTooLong) => {
-            folder.give_up(file);
-            return Err(Fault::Send(SendFault::SymbolTooLong));
+            Err(Unwritten::Fault(Fault::Send(SendFault::SymbolTooLong)))
         }
-        Err(SendFault::NoMemory) => return Err(give_up(folder, file, Fault::Memory)),
-        Err(SendFault::Io) => return Err(give_up(folder, file, Fault::Send(SendFault::Io))),
-    };
-    keep(folder, output, file)?;
-    Ok(count)
+        Err(SendFault::NoMemory) => Err(Unwritten::Fault(Fault::Memory)),
+        Err(SendFault::Io) => Err(Unwritten::Writing),
+    }
 }

@@ -7,12 +7,12 @@ use partition::FtiError;
 use session::{Failed, FrameFault};
 use std::alloc::AllocError;
 
-/// Why a command ended.
+/// What a command tells as a fault.
 #[derive(Clone, Copy)]
 pub(crate) enum Fault<'a> {
     /// A file can't be opened or created.
     Open(&'a str),
-    /// An object can't be read, or a file can't be written.
+    /// An object can't be read or written.
     File(&'a str),
     Memory,
     Frame(FrameFault),
@@ -20,8 +20,6 @@ pub(crate) enum Fault<'a> {
     /// The object's length and the command's own numbers are no FTI.
     Fti(FtiError),
     Send(SendFault),
-    /// The output can't be written, so nothing more is printed.
-    Output,
 }
 
 impl From<AllocError> for Fault<'_> {
@@ -34,16 +32,6 @@ impl From<AllocError> for Fault<'_> {
     }
 }
 
-impl From<Failed> for Fault<'_> {
-    ghost use Rattle.tool.specs.declared.fault.Fault.TheVariants.{Output};
-
-    ghost from_gives = { λ _ fault. fault ≡ Output };
-
-    fn from(_: Failed) -> Self {
-        Fault::Output
-    }
-}
-
 impl From<FtiError> for Fault<'_> {
     ghost use Rattle.tool.specs.declared.fault.Fault.TheVariants.{Fti};
 
@@ -51,5 +39,65 @@ impl From<FtiError> for Fault<'_> {
 
     fn from(error: FtiError) -> Self {
         Fault::Fti(error)
+    }
+}
+
+impl From<FrameFault> for Fault<'_> {
+    ghost use Rattle.tool.specs.declared.fault.Fault.TheVariants.{Frame};
+
+    ghost from_gives = { λ e fault. fault ≡ Frame e };
+
+    fn from(fault: FrameFault) -> Self {
+        Fault::Frame(fault)
+    }
+}
+
+impl From<CertFault> for Fault<'_> {
+    ghost use Rattle.tool.specs.declared.fault.Fault.TheVariants.{Certificate};
+
+    ghost from_gives = { λ e fault. fault ≡ Certificate e };
+
+    fn from(fault: CertFault) -> Self {
+        Fault::Certificate(fault)
+    }
+}
+
+/// Why a command stopped.
+#[derive(Clone, Copy)]
+pub(crate) enum Stop<'a> {
+    /// For this fault, which is to be told.
+    ByFault(Fault<'a>),
+    /// Its lines can't be printed, so nothing more is.
+    Unprinted,
+}
+
+impl<'a> From<Fault<'a>> for Stop<'a> {
+    ghost use Rattle.tool.specs.declared.fault.Stop.TheVariants.{ByFault};
+
+    ghost from_gives = { λ fault stop. stop ≡ ByFault fault };
+
+    fn from(fault: Fault<'a>) -> Self {
+        Stop::ByFault(fault)
+    }
+}
+
+impl From<AllocError> for Stop<'_> {
+    ghost use Rattle.tool.specs.declared.fault.Fault.TheVariants.{Memory};
+    ghost use Rattle.tool.specs.declared.fault.Stop.TheVariants.{ByFault};
+
+    ghost from_gives = { λ _ stop. stop ≡ ByFault Memory };
+
+    fn from(_: AllocError) -> Self {
+        Stop::ByFault(Fault::Memory)
+    }
+}
+
+impl From<Failed> for Stop<'_> {
+    ghost use Rattle.tool.specs.declared.fault.Stop.TheVariants.{Unprinted};
+
+    ghost from_gives = { λ _ stop. stop ≡ Unprinted };
+
+    fn from(_: Failed) -> Self {
+        Stop::Unprinted
     }
 }

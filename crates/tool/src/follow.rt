@@ -1,68 +1,72 @@
 //! The command `follow`.
-ghost use Rattle.std.specs.Prelude.{◌≡◌, ◌<◌, ◌≤◌, ◌++◌, ℕ, List, [], None, length, IfOk, IfErr, IfSome, IfNone, OnOk, OnErr};
+ghost use Rattle.std.specs.Prelude.{◌≡◌, ◌<◌, ◌≤◌, ◌++◌, ℕ, List, [], None, false, length, IfOk, IfErr, IfSome, IfNone, OnOk, OnErr};
 ghost use Rattle.std.specs.Io.KnownBytes.{Appends, Consumes, IsAtEnd};
 ghost use Rattle.session.specs.Frames.{frame, most_bytes};
+ghost use Rattle.decoder.specs.Receiving.{LeaveNoneShort, IsWrittenOf};
 ghost use Rattle.decoder.specs.Stands.{Stands};
-ghost use Rattle.decoder.specs.Receiving.{LeaveNoneShort};
-ghost use Rattle.tool.specs.Following.{refusal_words, refusal_line, IsFollowed, IsNotFollowed};
-ghost use Rattle.tool.specs.Listening.{HasHeardAll, HasMadeUp, IsUnheard, IsUnread, IsUntold, IsWritten, IsUnwritten, IsDelivered, IsUndelivered, TellsAnswer};
-ghost use Rattle.tool.specs.Lines.{line_of};
 
-use crate::console::Console;
-use crate::decode::tell;
-use crate::fault::Fault;
-use crate::folder::Folder;
+ghost use Rattle.request.specs.declared.requests.Request.TheVariants.{Follow};
+ghost use Rattle.tool.specs.World.{KeepsFiles, IsSilent};
+ghost use Rattle.tool.specs.Doing.{IsUndone, IsUnwritten};
+ghost use Rattle.tool.specs.Following.{refusal_line};
+ghost use Rattle.tool.specs.Lines.{refusal_words};
+ghost use Rattle.tool.specs.Listening.{HasMadeUp, HasHeardAll, IsUnheard, IsUnread, IsUnsaid, heard_of, IsWritten, IsDelivered, IsUndelivered, TellsAnswer};
+ghost use Rattle.tool.specs.Outcomes.{IsDone};
+ghost use Rattle.tool.specs.declared.fault.Fault.TheVariants.{Frame};
+ghost use Rattle.tool.specs.declared.fault.Stop.TheVariants.{ByFault};
+
+use crate::decode::told_of;
+use crate::fault::{Fault, Stop};
+use crate::host::Host;
 use crate::input::open;
-use crate::output::{create, give_up, keep};
+use crate::output::{Unwritten, commit, create};
 use crate::print::{Text, print_count};
 use crate::wording::put_packet_fault;
 use coder::{DecodeFault, FeedFault, Progress, Receiver};
-use reception::Identity;
+use request::FollowRequest;
 use session::{FrameFault, Read, Write, read_next};
 use std::alloc::{AllocError, Global};
 
 /// Takes the session's datagrams one by one, and prints a line for each that is refused. Once they give the object no more
 /// are read, and it is written; else what lacks is printed at the end. Answers the status. Each line is passed on before the
 /// next datagram is read.
-pub(crate) fn follow<'a, F: Folder, W: Console>(
+pub(crate) fn follow<'a, H: Host>(
     alloc: Global,
-    folder: &mut F,
-    out: &mut W,
-    session: &'a str,
-    output: &'a str,
-    identity: Identity,
-) -> Result<u8, Fault<'a>>
-    ensures ok { IfOk result (IsFollowed identity (F.files folder.old) (F.files folder.new)
-        session.now output.now (W.contents out.old) (W.contents out.new)) }
-    ensures fault { IfErr result (IsNotFollowed identity (F.files folder.old) (F.files folder.new)
-        session.now output.now (W.failed out.new) (W.contents out.old) (W.contents out.new)) }
+    host: &mut H,
+    request: &FollowRequest<'a>,
+) -> Result<u8, Stop<'a>>
+    ensures ok { IfOk result
+        (IsDone (H.world host.old) (H.world host.new) (Follow request.now)) }
+    ensures fault { IfErr result
+        (IsUndone (H.world host.old) (H.world host.new) (Follow request.now)) }
+    ensures small { IfOk result (λ status. status ≤ 3) }
 {
-    let mut frames = open(folder, session)?;
-    let mut receiver = Receiver::new(identity);
-    match listen(alloc, &mut frames, out, &mut receiver)? {
-        Some(count) => deliver(folder, out, output, &receiver, count),
-        None => tell_lack(alloc, out, &receiver),
+    let mut frames = open(host, request.session)?;
+    let mut receiver = Receiver::new(request.identity);
+    match listen(alloc, &mut frames, host, &mut receiver)? {
+        Some(count) => deliver(host, request, &receiver, count),
+        None => tell_lack(alloc, host, &receiver),
     }
 }
 
 // Feeds the datagrams that are left of a reader until they give the object, and answers how many were read; or all.
-fn listen<'a, R: Read, W: Console>(
+fn listen<'a, R: Read, H: Host>(
     alloc: Global,
     frames: &mut R,
-    out: &mut W,
+    host: &mut H,
     receiver: &mut Receiver,
-) -> Result<Option<usize>, Fault<'a>>
+) -> Result<Option<usize>, Stop<'a>>
     requires { Stands receiver.old [] }
     ensures identity { receiver.new.identity ≡ receiver.old.identity }
-    ensures complete { IfOk result (λ o. IfSome o (HasMadeUp receiver.old.identity receiver.new
-        (R.remaining frames.old) (R.remaining frames.new)
-        (W.contents out.old) (W.contents out.new))) }
-    ensures end { IfOk result (λ o. IfNone o (HasHeardAll receiver.old.identity receiver.new
-        (R.remaining frames.old) (R.remaining frames.new)
-        (W.contents out.old) (W.contents out.new))) }
-    ensures fault { IfErr result (IsUnheard receiver.old.identity (R.sound frames.old)
-        (R.remaining frames.old) (R.remaining frames.new) (R.failed frames.new)
-        (W.failed out.new) (W.contents out.old) (W.contents out.new)) }
+    ensures complete { IfOk result (λ o. IfSome o (HasMadeUp receiver.new
+        (R.remaining frames.old) (H.world host.old) (H.world host.new))) }
+    ensures end { IfOk result (λ o. IfNone o (HasHeardAll receiver.new
+        (R.remaining frames.old) (H.world host.old) (H.world host.new))) }
+    ensures fault { IfErr result (IsUnheard receiver.old.identity
+        (R.remaining frames.old) (H.world host.old) (H.world host.new)) }
+    ensures unsound { IfErr result (λ stop.
+        stop ≡ ByFault (Frame FrameFault.Io) → R.sound frames.old ≡ false) }
+    ensures files { KeepsFiles (H.world host.old) (H.world host.new) }
 {
     let mut count = 0usize;
     loop {
@@ -70,16 +74,16 @@ fn listen<'a, R: Read, W: Console>(
             return Ok(None);
         };
         let Some(read) = count.checked_add(1) else {
-            return Err(Fault::Memory);
+            return Err(Stop::ByFault(Fault::Memory));
         };
         match receiver.feed(alloc, datagram.as_slice()) {
             Ok(Progress::Complete) => return Ok(Some(read)),
             Ok(Progress::More) => {}
-            Err(FeedFault::NoMemory) => return Err(Fault::Memory),
-            Err(FeedFault::Full) => tell_refusal(alloc, out, count, FeedFault::Full)?,
-            Err(FeedFault::Early) => tell_refusal(alloc, out, count, FeedFault::Early)?,
+            Err(FeedFault::NoMemory) => return Err(Stop::ByFault(Fault::Memory)),
+            Err(FeedFault::Full) => tell_refusal(alloc, host, count, FeedFault::Full)?,
+            Err(FeedFault::Early) => tell_refusal(alloc, host, count, FeedFault::Early)?,
             Err(FeedFault::Fault(fault)) => {
-                tell_refusal(alloc, out, count, FeedFault::Fault(fault))?
+                tell_refusal(alloc, host, count, FeedFault::Fault(fault))?
             }
         }
         count = read;
@@ -95,8 +99,10 @@ fn next<'a, R: Read>(alloc: Global, frames: &mut R) -> Result<Option<Vec<u8>>, F
         o ≡ None → IsAtEnd (R.remaining frames.old) × IsAtEnd (R.remaining frames.new)) }
     ensures nothing { IfOk result (λ o.
         o ≡ None → Consumes (R.remaining frames.old) (R.remaining frames.new) []) }
-    ensures fault { IfErr result (IsUnread (R.sound frames.old) (R.remaining frames.old)
+    ensures fault { IfErr result (IsUnread (R.remaining frames.old)
         (R.remaining frames.new) (R.failed frames.new)) }
+    ensures unsound { IfErr result (λ fault.
+        fault ≡ Frame FrameFault.Io → R.sound frames.old ≡ false) }
     ensures falls { IfOk result (λ o. IfSome o (λ d. R.left frames.new < R.left frames.old)) }
     ensures stays { R.sound frames.new ≡ R.sound frames.old }
 {
@@ -108,19 +114,19 @@ fn next<'a, R: Read>(alloc: Global, frames: &mut R) -> Result<Option<Vec<u8>>, F
 }
 
 // Prints that the datagram at a place was refused, and why.
-fn tell_refusal<'a, W: Console>(
+fn tell_refusal<'a, H: Host>(
     alloc: Global,
-    out: &mut W,
+    host: &mut H,
     place: usize,
     fault: FeedFault,
-) -> Result<(), Fault<'a>>
-    ensures ok { OnOk result (Appends (W.contents out.old) (W.contents out.new)
-        (line_of (refusal_line place fault))) }
-    ensures fault { IfErr result (IsUntold (W.failed out.new)
-        (W.contents out.old) (W.contents out.new)) }
+) -> Result<(), Stop<'a>>
+    ensures ok { OnOk result (Appends (H.world host.old).printed (H.world host.new).printed
+        (refusal_line place fault)) }
+    ensures fault { IfErr result (IsUnsaid (H.world host.old) (H.world host.new)) }
+    ensures files { KeepsFiles (H.world host.old) (H.world host.new) }
 {
-    refused_line(alloc, place, fault)?.print(out)?;
-    out.pass_on()?;
+    refused_line(alloc, place, fault)?.print(host)?;
+    host.pass_on()?;
     Ok(())
 }
 
@@ -131,6 +137,7 @@ fn refused_line(alloc: Global, place: usize, fault: FeedFault) -> Result<Text, A
     line.named("refused", place)?;
     line.text(" ")?;
     put_refusal(&mut line, fault)?;
+    line.end_line()?;
     Ok(line)
 }
 
@@ -155,66 +162,78 @@ fn put_refusal(line: &mut Text, fault: FeedFault) -> Result<(), AllocError>
 }
 
 // Tells that the object is there once so many datagrams were read, writes it, and answers the status.
-fn deliver<'a, F: Folder, W: Console>(
-    folder: &mut F,
-    out: &mut W,
-    output: &'a str,
+fn deliver<'a, H: Host>(
+    host: &mut H,
+    request: &FollowRequest<'a>,
     receiver: &Receiver,
     count: usize,
-) -> Result<u8, Fault<'a>>
+) -> Result<u8, Stop<'a>>
     ensures ok { (taken : List (List ℕ)) → Stands receiver.now taken
         → LeaveNoneShort receiver.now.identity taken
-        → IfOk result (IsDelivered receiver.now.identity (F.files folder.old)
-        (F.files folder.new) output.now taken count (W.contents out.old) (W.contents out.new)) }
+        → IfOk result (IsDelivered request.now (heard_of receiver.now taken count)
+        (H.world host.old) (H.world host.new)) }
     ensures fault { (taken : List (List ℕ)) → Stands receiver.now taken
         → LeaveNoneShort receiver.now.identity taken
-        → IfErr result (IsUndelivered receiver.now.identity (F.files folder.old)
-        (F.files folder.new) output.now taken count (W.failed out.new)
-        (W.contents out.old) (W.contents out.new)) }
+        → IfErr result (IsUndelivered request.now (heard_of receiver.now taken count)
+        (H.world host.old) (H.world host.new)) }
+    ensures small { IfOk result (λ status. status ≤ 3) }
 {
-    print_count(out, "complete after", count, " datagrams")?;
-    out.pass_on()?;
-    let length = write_object(folder, output, receiver)?;
-    print_count(out, "object", length, " bytes")?;
+    print_count(host, "complete after", count, " datagrams")?;
+    host.pass_on()?;
+    let length = write_object(host, request, receiver)?;
+    print_count(host, "object", length, " bytes")?;
     Ok(0)
 }
 
 // Writes the object that the datagrams gave, and answers its length in bytes.
-fn write_object<'a, F: Folder>(
-    folder: &mut F,
-    output: &'a str,
+fn write_object<'a, H: Host>(
+    host: &mut H,
+    request: &FollowRequest<'a>,
     receiver: &Receiver,
 ) -> Result<u64, Fault<'a>>
     ensures made { (taken : List (List ℕ)) → Stands receiver.now taken
         → LeaveNoneShort receiver.now.identity taken
-        → IfOk result (λ length. IsWritten receiver.now.identity (F.files folder.old)
-        (F.files folder.new) output.now taken length) }
-    ensures fault { IfErr result (IsUnwritten (F.files folder.old) (F.files folder.new)
-        output.now) }
+        → IfOk result (IsWritten request.now receiver.now.identity taken
+        (H.world host.old) (H.world host.new)) }
+    ensures fault { IfErr result (IsUnwritten (Follow request.now)
+        (H.world host.old) (H.world host.new)) }
+    ensures silent { IsSilent (H.world host.old) (H.world host.new) }
 {
-    let mut file = create(folder, output)?;
-    match receiver.write_object(&mut file) {
-        Ok(Some(length)) => {
-            keep(folder, output, file)?;
-            Ok(length)
-        }
+    let mut file = create(host, request.output)?;
+    let written = write_taken(receiver, &mut file);
+    commit(host, request.output, file, written, Fault::File(request.output))
+}
+
+// Answers the object's length in bytes.
+fn write_taken<'a, W: Write>(receiver: &Receiver, writer: &mut W) -> Result<u64, Unwritten<'a>>
+    ensures written { (taken : List (List ℕ)) → Stands receiver.now taken
+        → LeaveNoneShort receiver.now.identity taken
+        → IfOk result (IsWrittenOf receiver.now.identity taken
+        (W.contents writer.old) (W.contents writer.new)) }
+    ensures writing { IfErr result (λ e. e ≡ Unwritten.Writing) }
+{
+    match receiver.write_object(writer) {
+        Ok(Some(length)) => Ok(length),
         // A block that is short comes only where the caller hasn't waited for the object.
-        Ok(None) | Err(_) => Err(give_up(folder, file, Fault::File(output))),
+        Ok(None) | Err(_) => Err(Unwritten::Writing),
     }
 }
 
 // Prints what lacks, and answers the status.
-fn tell_lack<'a, W: Console>(
+fn tell_lack<'a, H: Host>(
     alloc: Global,
-    out: &mut W,
+    host: &mut H,
     receiver: &Receiver,
-) -> Result<u8, Fault<'a>>
+) -> Result<u8, Stop<'a>>
     ensures ok { (taken : List (List ℕ)) → Stands receiver.now taken
-        → IfOk result (TellsAnswer receiver.now.identity taken (W.contents out.old)
-        (W.contents out.new)) }
-    ensures fault { IfErr result (IsUntold (W.failed out.new)
-        (W.contents out.old) (W.contents out.new)) }
+        → IfOk result (TellsAnswer receiver.now.identity taken
+        (H.world host.old) (H.world host.new)) }
+    ensures fault { IfErr result (IsUnsaid (H.world host.old) (H.world host.new)) }
+    ensures files { KeepsFiles (H.world host.old) (H.world host.new) }
+    ensures small { IfOk result (λ status. status ≤ 3) }
 {
     let answer = receiver.take(alloc)?;
-    tell(alloc, out, &answer)
+    let done = told_of(alloc, &answer)?;
+    done.told.print(host)?;
+    Ok(done.status)
 }

@@ -1,22 +1,22 @@
 //! Input files.
 ghost use Rattle.std.specs.Prelude.{◌≡◌, IfOk, IfErr, IfSome};
-ghost use Rattle.tool.specs.Folder.{HoldsInput};
-ghost use Rattle.tool.specs.Inputs.{HoldsSession, HoldsBytes, HoldsCertificate, IsNotOpened, IsSessionUnread, IsCertificateUnread, IsObjectUnread};
+ghost use Rattle.tool.specs.World.{GivesFile};
+ghost use Rattle.tool.specs.Inputs.{AnObject, ASession, ACertificate, Bytes, Datagrams, Polynomials, HasValue, IsUnopened, IsUnread};
 ghost use Rattle.tool.specs.ReadingObjects.{IsRestUnread};
 
 use crate::fault::Fault;
-use crate::folder::{FileFault, Folder};
-use cert::{CertFault, Certificate};
-use session::{FrameFault, Read, ReadFault, Session, read_to_end};
+use crate::host::{FileFault, Host};
+use cert::Certificate;
+use session::{Read, ReadFault, Session, read_to_end};
 use std::alloc::Global;
 
 /// A file to be read.
-pub(crate) fn open<'a, F: Folder>(folder: &F, name: &'a str) -> Result<F::Input, Fault<'a>>
-    ensures input { IfOk result (λ file. HoldsInput (F.files folder.now) name.now
-        (F.Input.remaining file) (F.Input.sound file)) }
-    ensures fault { IfErr result (IsNotOpened (F.files folder.now) name.now) }
+pub(crate) fn open<'a, H: Host>(host: &H, name: &'a str) -> Result<H::Input, Fault<'a>>
+    ensures input { IfOk result (λ file. GivesFile (H.world host.now) name.now
+        (H.Input.remaining file) (H.Input.sound file)) }
+    ensures fault { IfErr result (IsUnopened (H.world host.now) name.now) }
 {
-    match folder.open_file(name) {
+    match host.open_file(name) {
         Ok(input) => Ok(input),
         Err(FileFault::Io) => Err(Fault::Open(name)),
         Err(FileFault::NoMemory) => Err(Fault::Memory),
@@ -24,49 +24,44 @@ pub(crate) fn open<'a, F: Folder>(folder: &F, name: &'a str) -> Result<F::Input,
 }
 
 /// The session in a file.
-pub(crate) fn read_session<'a, F: Folder>(
+pub(crate) fn read_session<'a, H: Host>(
     alloc: Global,
-    folder: &F,
+    host: &H,
     name: &'a str,
 ) -> Result<Session, Fault<'a>>
-    ensures ok { IfOk result (HoldsSession (F.files folder.now) name.now) }
-    ensures fault { IfErr result (IsSessionUnread (F.files folder.now) name.now) }
+    ensures ok { IfOk result (λ session.
+        HasValue (H.world host.now).files (ASession name.now) (Datagrams session)) }
+    ensures fault { IfErr result (IsUnread (H.world host.now) (ASession name.now)) }
 {
-    let mut input = open(folder, name)?;
-    match Session::read(alloc, &mut input) {
-        Ok(session) => Ok(session),
-        Err(FrameFault::NoMemory) => Err(Fault::Memory),
-        Err(fault) => Err(Fault::Frame(fault)),
-    }
+    let mut input = open(host, name)?;
+    Ok(Session::read(alloc, &mut input)?)
 }
 
 /// The certificate in a file.
-pub(crate) fn read_certificate<'a, F: Folder>(
+pub(crate) fn read_certificate<'a, H: Host>(
     alloc: Global,
-    folder: &F,
+    host: &H,
     name: &'a str,
 ) -> Result<Certificate, Fault<'a>>
-    ensures ok { IfOk result (HoldsCertificate (F.files folder.now) name.now) }
-    ensures fault { IfErr result (IsCertificateUnread (F.files folder.now) name.now) }
+    ensures ok { IfOk result (λ z.
+        HasValue (H.world host.now).files (ACertificate name.now) (Polynomials z)) }
+    ensures fault { IfErr result (IsUnread (H.world host.now) (ACertificate name.now)) }
 {
-    let mut input = open(folder, name)?;
-    match Certificate::read(alloc, &mut input) {
-        Ok(certificate) => Ok(certificate),
-        Err(CertFault::NoMemory) => Err(Fault::Memory),
-        Err(fault) => Err(Fault::Certificate(fault)),
-    }
+    let mut input = open(host, name)?;
+    Ok(Certificate::read(alloc, &mut input)?)
 }
 
 /// The bytes of a file.
-pub(crate) fn read_object<'a, F: Folder>(
+pub(crate) fn read_object<'a, H: Host>(
     alloc: Global,
-    folder: &F,
+    host: &H,
     name: &'a str,
 ) -> Result<Vec<u8>, Fault<'a>>
-    ensures ok { IfOk result (λ v. HoldsBytes (F.files folder.now) name.now v.items) }
-    ensures fault { IfErr result (IsObjectUnread (F.files folder.now) name.now) }
+    ensures ok { IfOk result (λ v.
+        HasValue (H.world host.now).files (AnObject name.now) (Bytes v.items)) }
+    ensures fault { IfErr result (IsUnread (H.world host.now) (AnObject name.now)) }
 {
-    let mut input = open(folder, name)?;
+    let mut input = open(host, name)?;
     read_rest(alloc, &mut input, name)
 }
 

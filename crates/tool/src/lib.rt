@@ -1,29 +1,30 @@
-//! The commands of alcrs, over any folder of files and any output.
+//! The commands of alcrs, over any host: named files, and an output for lines.
 #![tactic(auto)]
 
 mod answering;
 mod certify;
 mod check;
-mod console;
+mod convert;
 mod decode;
-mod dropping;
+mod done;
+mod drop;
 mod encode;
 mod fault;
-mod folder;
 mod follow;
+mod host;
 mod input;
-mod joining;
+mod join;
 mod memory;
 mod output;
 mod print;
 mod running;
 mod show;
 mod sizes;
-mod twinning;
+mod telling;
+mod twin;
 mod wording;
 
-pub use answering::{answer, refuse_memory, status_after};
-pub use console::Console;
-pub use folder::{FileFault, Folder};
-pub use memory::{MemoryFolder, MemoryInput};
+pub use answering::{answer, refuse, refuse_memory, status_after};
+pub use host::{FileFault, Host};
+pub use memory::{MemoryHost, MemoryInput};
 pub use running::run;

@@ -1,11 +1,10 @@
-//! A folder in memory.
-ghost use Rattle.std.specs.Prelude.{◌≡◌, ◌<◌, ◌≤◌, ◌-◌, ◌++◌, ◌∷◌, [], None, Some, true, false, length, drop, string_bytes, IsOk, IfOk, IfErr, IfSome, IfNone, OnOk, OnErr};
+//! A host in memory.
+ghost use Rattle.std.specs.Prelude.{◌≡◌, ◌<◌, ◌≤◌, ◌-◌, ◌+◌, ◌++◌, ◌∷◌, [], None, Some, true, false, length, drop, string_bytes, IsOk, IfOk, IfErr, IfSome, IfNone, OnOk, OnErr};
 ghost use Rattle.std.specs.Option.{option_map};
-ghost use Rattle.tool.specs.Files.{files_of, AddsFile};
-ghost use Rattle.tool.specs.Folder.{IsBlank, IsRefused, Replaces};
+ghost use Rattle.tool.specs.Files.{files_of, AddsFile, memory_world};
 
-use crate::folder::{FileFault, Folder};
-use session::{Failed, Read, Sink};
+use crate::host::{FileFault, Host};
+use session::{Failed, Read, Sink, write_all};
 use std::alloc::{AllocError, Global};
 
 /// A copy of a file's bytes, which gives `most` at a time at most. It never fails.
@@ -37,25 +36,31 @@ impl Read for MemoryInput {
     }
 }
 
-/// Named files, of which the last of a name counts. Reads give `most` bytes at a time at most.
+/// Named files, of which the last of a name counts, and what was printed. Reads give `most` bytes at a time at most.
 #[derive(Drop)]
-pub struct MemoryFolder {
+pub struct MemoryHost {
     files: Vec<(String, Vec<u8>)>,
     most: usize,
+    out: Sink,
+    created: u64,
     alloc: Global,
     ghost some: { 0 < most },
 }
 
-impl MemoryFolder {
-    /// A folder of no files.
-    pub fn new(alloc: Global, most: usize) -> MemoryFolder
+impl MemoryHost {
+    /// A host of no files. What is printed goes to `out`, which may be limited.
+    pub fn new(alloc: Global, most: usize, out: Sink) -> MemoryHost
         requires { 0 < most }
         ensures files { result.files.items ≡ [] }
         ensures most { result.most ≡ most }
+        ensures out { result.out ≡ out }
+        ensures created { result.created ≡ 0 }
     {
-        MemoryFolder {
+        MemoryHost {
             files: Vec::new(alloc),
             most,
+            out,
+            created: 0,
             alloc,
         }
     }
@@ -65,6 +70,8 @@ impl MemoryFolder {
         ensures ok { OnOk result
             (AddsFile self.old.files.items self.new.files.items name.now bytes.items) }
         ensures err { OnErr result (self.new.files.items ≡ self.old.files.items) }
+        ensures out { self.new.out ≡ self.old.out }
+        ensures created { self.new.created ≡ self.old.created }
     {
         let kept = name.to_string(self.alloc)?;
         match self.files.push((kept, bytes)) {
@@ -93,14 +100,29 @@ impl MemoryFolder {
         }
         found
     }
+
+    /// What was printed.
+    pub fn printed(&self) -> &[u8]
+        ensures { result.now ≡ self.now.out.bytes.items }
+    {
+        self.out.bytes()
+    }
+
+    /// How many outputs were created.
+    pub fn created(&self) -> u64
+        ensures { result ≡ self.now.created }
+    {
+        self.created
+    }
 }
 
-impl Folder for MemoryFolder {
+impl Host for MemoryHost {
     type Input = MemoryInput;
 
     type Output = Sink;
 
-    ghost files = { λ folder. Some (files_of folder.files.items) };
+    ghost world = { λ host.
+        memory_world host.files.items host.out.bytes.items host.out.failed host.created };
 
     fn open_file(&self, name: &str) -> Result<MemoryInput, FileFault> {
         let Some(bytes) = self.get(name) else {
@@ -120,39 +142,31 @@ impl Folder for MemoryFolder {
         Some((input.bytes.len() - input.at) as u64)
     }
 
-    fn create_file(&mut self, _name: &str) -> Result<Sink, FileFault>
-        ensures blank { IfOk result (λ file.
-            IsBlank (Some (files_of self.old.files.items)) (Some file.bytes.items)) }
-        ensures fault { IfErr result (IsRefused (Some (files_of self.old.files.items))) }
-        ensures stays { Some (files_of self.new.files.items)
-            ≡ Some (files_of self.old.files.items) }
-        ensures same { self.new.files.items ≡ self.old.files.items }
-    {
+    fn create_file(&mut self, _name: &str) -> Result<Sink, FileFault> {
+        let Some(created) = self.created.checked_add(1) else {
+            return Err(FileFault::NoMemory);
+        };
+        self.created = created;
         Ok(Sink::new(self.alloc))
     }
 
-    fn keep_file(&mut self, name: &str, output: Sink) -> Result<(), FileFault>
-        ensures kept { OnOk result (Replaces (Some (files_of self.old.files.items))
-            (Some (files_of self.new.files.items)) name.now output.bytes.items) }
-        ensures fault { IfErr result (IsRefused (Some (files_of self.old.files.items))) }
-        ensures stays { OnErr result (Some (files_of self.new.files.items)
-            ≡ Some (files_of self.old.files.items)) }
-        ensures behind { OnOk result
-            (AddsFile self.old.files.items self.new.files.items name.now output.bytes.items) }
-        ensures same { OnErr result (self.new.files.items ≡ self.old.files.items) }
-    {
+    fn keep_file(&mut self, name: &str, output: Sink) -> Result<(), FileFault> {
         match self.put(name, output.into_bytes()) {
             Ok(()) => Ok(()),
             Err(_) => Err(FileFault::NoMemory),
         }
     }
 
-    fn give_up(&mut self, _output: Sink) -> FileFault
-        ensures fault { IsRefused (Some (files_of self.old.files.items)) result }
-        ensures stays { Some (files_of self.new.files.items)
-            ≡ Some (files_of self.old.files.items) }
-        ensures same { self.new.files.items ≡ self.old.files.items }
-    {
+    fn give_up(&mut self, _output: Sink) -> FileFault {
         FileFault::NoMemory
+    }
+
+    fn print(&mut self, bytes: &[u8]) -> Result<(), Failed> {
+        write_all(&mut self.out, bytes)
+    }
+
+    /// Nothing is held back.
+    fn pass_on(&mut self) -> Result<(), Failed> {
+        Ok(())
     }
 }

@@ -1,71 +1,93 @@
 //! Output files.
-ghost use Rattle.std.specs.Prelude.{◌≡◌, ◌⊎◌, IfOk, IfErr, IfSome, OnOk, OnErr};
-ghost use Rattle.std.specs.Io.KnownBytes.{Appends};
-ghost use Rattle.tool.specs.Folder.{IsBlank, Replaces};
-ghost use Rattle.tool.specs.Making.{IsUnmade};
-ghost use Rattle.tool.specs.GivingUp.{IsGivenUp};
+ghost use Rattle.std.specs.Prelude.{◌≡◌, Ok, IfOk, IfErr, IfSome, OnOk, OnErr};
+ghost use Rattle.tool.specs.World.{IsBlank, Replaces, IsSilent, one_more};
+ghost use Rattle.tool.specs.Doing.{IsUncreated, IsUncommitted, IsUnkept};
 
 use crate::fault::Fault;
-use crate::folder::{FileFault, Folder};
+use crate::host::{FileFault, Host};
 use session::write_all;
 
+/// Why a file wasn't written to its end.
+pub(crate) enum Unwritten<'a> {
+    /// Writing has failed.
+    Writing,
+    /// What was to be written isn't there, for this fault.
+    Fault(Fault<'a>),
+}
+
 /// Creates what is to be a file.
-pub(crate) fn create<'a, F: Folder>(folder: &mut F, output: &'a str) -> Result<F::Output, Fault<'a>>
+pub(crate) fn create<'a, H: Host>(host: &mut H, name: &'a str) -> Result<H::Output, Fault<'a>>
     ensures blank { IfOk result (λ file.
-        IsBlank (F.files folder.old) (F.Output.contents file)) }
-    ensures fault { IfErr result (IsUnmade (F.files folder.old) output.now) }
-    ensures stays { F.files folder.new ≡ F.files folder.old }
+        IsBlank (H.world host.old) (H.Output.contents file)) }
+    ensures fault { IfErr result (IsUncreated (H.world host.old) name.now) }
+    ensures files { (H.world host.new).files ≡ (H.world host.old).files }
+    ensures silent { IsSilent (H.world host.old) (H.world host.new) }
+    ensures created { OnOk result
+        ((H.world host.new).created ≡ one_more (H.world host.old).created) }
+    ensures none { OnErr result ((H.world host.new).created ≡ (H.world host.old).created) }
 {
-    match folder.create_file(output) {
+    match host.create_file(name) {
         Ok(file) => Ok(file),
-        Err(FileFault::Io) => Err(Fault::Open(output)),
+        Err(FileFault::Io) => Err(Fault::Open(name)),
         Err(FileFault::NoMemory) => Err(Fault::Memory),
     }
 }
 
-/// Puts what was written under its name.
-pub(crate) fn keep<'a, F: Folder>(
-    folder: &mut F,
-    output: &'a str,
-    file: F::Output,
-) -> Result<(), Fault<'a>>
-    ensures kept { OnOk result (IfSome (F.Output.contents file)
-        (Replaces (F.files folder.old) (F.files folder.new) output.now)) }
-    ensures fault { IfErr result (IsUnmade (F.files folder.old) output.now) }
-    ensures stays { OnErr result (F.files folder.new ≡ F.files folder.old) }
+/// Keeps what was written under its name, or gives it up where it wasn't written to its end. `failure` tells that writing or
+/// keeping has failed, where it isn't for want of memory.
+pub(crate) fn commit<'a, H: Host>(
+    host: &mut H,
+    name: &str,
+    file: H::Output,
+    written: Result<u64, Unwritten<'a>>,
+    failure: Fault<'a>,
+) -> Result<u64, Fault<'a>>
+    ensures count { IfOk result (λ count. written.entry ≡ Ok count) }
+    ensures kept { OnOk result (IfSome (H.Output.contents file)
+        (Replaces (H.world host.old).files (H.world host.new).files name.now)) }
+    ensures fault { IfErr result (IsUncommitted (H.world host.old) written.entry failure.entry) }
+    ensures files { OnErr result ((H.world host.new).files ≡ (H.world host.old).files) }
+    ensures silent { IsSilent (H.world host.old) (H.world host.new) }
+    ensures created { (H.world host.new).created ≡ (H.world host.old).created }
 {
-    match folder.keep_file(output, file) {
-        Ok(()) => Ok(()),
-        Err(FileFault::Io) => Err(Fault::File(output)),
-        Err(FileFault::NoMemory) => Err(Fault::Memory),
-    }
-}
-
-/// Drops what was written before this fault of writing, and answers it, or that it was want of memory.
-pub(crate) fn give_up<'a, F: Folder>(folder: &mut F, file: F::Output, fault: Fault<'a>) -> Fault<'a>
-    ensures fault { IsGivenUp (F.files folder.old) fault.entry result }
-    ensures stays { F.files folder.new ≡ F.files folder.old }
-{
-    match folder.give_up(file) {
-        FileFault::Io => fault,
-        FileFault::NoMemory => Fault::Memory,
+    match written {
+        Ok(count) => match host.keep_file(name, file) {
+            Ok(()) => Ok(count),
+            Err(FileFault::Io) => Err(failure),
+            Err(FileFault::NoMemory) => Err(Fault::Memory),
+        },
+        Err(Unwritten::Fault(fault)) => {
+            host.give_up(file);
+            Err(fault)
+        }
+        Err(Unwritten::Writing) => match host.give_up(file) {
+            FileFault::Io => Err(failure),
+            FileFault::NoMemory => Err(Fault::Memory),
+        },
     }
 }
 
 /// Makes a file of these bytes.
-pub(crate) fn write_output<'a, F: Folder>(
-    folder: &mut F,
-    output: &'a str,
+pub(crate) fn write_output<'a, H: Host>(
+    host: &mut H,
+    name: &'a str,
     bytes: &[u8],
+    failure: Fault<'a>,
 ) -> Result<(), Fault<'a>>
-    ensures made { OnOk result
-        (Replaces (F.files folder.old) (F.files folder.new) output.now bytes.now) }
-    ensures fault { IfErr result (IsUnmade (F.files folder.old) output.now) }
-    ensures stays { OnErr result (F.files folder.new ≡ F.files folder.old) }
+    ensures made { OnOk result (Replaces (H.world host.old).files (H.world host.new).files
+        name.now bytes.now) }
+    ensures fault { IfErr result (IsUnkept (H.world host.old) (H.world host.new) name.now
+        failure.entry) }
+    ensures files { OnErr result ((H.world host.new).files ≡ (H.world host.old).files) }
+    ensures silent { IsSilent (H.world host.old) (H.world host.new) }
+    ensures created { OnOk result
+        ((H.world host.new).created ≡ one_more (H.world host.old).created) }
 {
-    let mut file = create(folder, output)?;
-    match write_all(&mut file, bytes) {
-        Ok(()) => keep(folder, output, file),
-        Err(_) => Err(give_up(folder, file, Fault::File(output))),
-    }
+    let mut file = create(host, name)?;
+    let written = match write_all(&mut file, bytes) {
+        Ok(()) => Ok(bytes.len() as u64),
+        Err(_) => Err(Unwritten::Writing),
+    };
+    commit(host, name, file, written, failure)?;
+    Ok(())
 }

@@ -1,11 +1,12 @@
 //! Printed lines.
 ghost use Rattle.std.specs.Prelude.{◌≡◌, ◌++◌, ◌∷◌, [], true, OnErr, OnOk};
 ghost use Rattle.std.specs.Io.KnownBytes.{Appends};
-ghost use Rattle.session.specs.Pieces.{AppendsSome};
-ghost use Rattle.tool.specs.Lines.{line_of, named};
+ghost use Rattle.tool.specs.World.{KeepsFiles};
+ghost use Rattle.tool.specs.Lines.{line_of, named, short_text};
 
+use crate::host::Host;
 use itoa::{Buffer, Integer};
-use session::{Failed, Write, write_all};
+use session::Failed;
 use std::alloc::{AllocError, Global};
 use std::marker::Model;
 
@@ -60,43 +61,65 @@ impl Text {
         self.number(number)
     }
 
-    /// Puts a line feed and another line last. After a fault there may be the line feed alone.
-    pub(crate) fn put_line(&mut self, line: &Text) -> Result<(), AllocError>
-        ensures { OnOk result (line_of self.new ≡ line_of self.old ++ line_of line.now) }
+    /// Puts a block last, how many symbols of it there are and how many it needs.
+    pub(crate) fn short_block(
+        &mut self,
+        name: &str,
+        block: u32,
+        have: usize,
+        need: usize,
+    ) -> Result<(), AllocError>
+        ensures { OnOk result (self.new ≡ self.old ++ short_text name.now block have need) }
     {
-        self.bytes.push(b'\n')?;
-        self.bytes.extend_from_slice(line.bytes.as_slice())
+        self.named(name, block)?;
+        self.named(" have", have)?;
+        self.named(" need", need)
     }
 
-    /// Writes the line, and a line feed. Takes no memory.
-    pub(crate) fn print<W: Write>(&self, out: &mut W) -> Result<(), Failed>
-        ensures ok { OnOk result
-            (Appends (W.contents out.old) (W.contents out.new) (line_of self.now)) }
-        ensures err { OnErr result
-            (AppendsSome (W.contents out.old) (W.contents out.new) (line_of self.now)) }
-        ensures fails { OnErr result (W.failed out.new ≡ true) }
+    /// Puts a line last, with its line feed. After a fault there may be the line alone.
+    pub(crate) fn put_line(&mut self, line: &Text) -> Result<(), AllocError>
+        ensures { OnOk result (self.new ≡ self.old ++ line_of line.now) }
     {
-        write_all(out, self.bytes.as_slice())?;
-        write_all(out, b"\n")
+        self.bytes.extend_from_slice(line.bytes.as_slice())?;
+        self.end_line()
+    }
+
+    /// Puts a line feed last.
+    pub(crate) fn end_line(&mut self) -> Result<(), AllocError>
+        ensures { OnOk result (self.new ≡ line_of self.old) }
+    {
+        self.bytes.push(b'\n')?;
+        Ok(())
+    }
+
+    /// Prints it. Takes no memory.
+    pub(crate) fn print<H: Host>(&self, host: &mut H) -> Result<(), Failed>
+        ensures printed { OnOk result (Appends (H.world host.old).printed
+            (H.world host.new).printed self.now) }
+        ensures fails { OnErr result ((H.world host.new).failed ≡ true) }
+        ensures files { KeepsFiles (H.world host.old) (H.world host.new) }
+    {
+        host.print(self.bytes.as_slice())
     }
 }
 
-/// Writes a line that counts something: a name, the number behind a space, and of what. Takes no memory.
-pub(crate) fn print_count<I: Integer, W: Write>(
-    out: &mut W,
+/// Prints a line that counts something: a name, the number behind a space, and of what. Takes no memory.
+pub(crate) fn print_count<I: Integer, H: Host>(
+    host: &mut H,
     name: &str,
     count: I,
     of: &str,
 ) -> Result<(), Failed>
-    ensures ok { OnOk result (Appends (W.contents out.old) (W.contents out.new)
+    ensures printed { OnOk result (Appends (H.world host.old).printed (H.world host.new).printed
         (line_of (named name.now (I.text count) ++ of.now))) }
-    ensures fails { OnErr result (W.failed out.new ≡ true) }
+    ensures fails { OnErr result ((H.world host.new).failed ≡ true) }
+    ensures files { KeepsFiles (H.world host.old) (H.world host.new) }
 {
     let mut buffer = Buffer::new();
     let digits = buffer.format(count);
-    write_all(out, name.as_bytes())?;
-    write_all(out, b" ")?;
-    write_all(out, digits.as_bytes())?;
-    write_all(out, of.as_bytes())?;
-    write_all(out, b"\n")
+    host.print(name.as_bytes())?;
+    host.print(b" ")?;
+    host.print(digits.as_bytes())?;
+    host.print(of.as_bytes())?;
+    host.print(b"\n")
 }

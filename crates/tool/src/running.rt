@@ -1,200 +1,88 @@
 //! Doing what was asked for.
-ghost use Rattle.std.specs.Prelude.{◌≡◌, ◌⊎◌, ◌≤◌, ◌++◌, ℕ, List, true, codes, IfOk, IfErr, OnOk};
+ghost use Rattle.std.specs.Prelude.{◌≡◌, ◌⊎◌, ◌≤◌, true, codes, IfOk, IfErr};
 ghost use Rattle.std.specs.Io.KnownBytes.{Appends};
-ghost use Rattle.cert.specs.Certificate.{IsIdentity};
-ghost use Rattle.tool.specs.Lines.{line_of, IsFaultText, IsPrintFault, IsSilent, TellsFault};
-ghost use Rattle.tool.specs.Outcomes.{identity_of as asked_identity, IsRun, IsDone, IsUndone};
-ghost use Rattle.tool.specs.declared.fault.Fault.TheVariants.{Output};
+ghost use Rattle.tool.specs.World.{KeepsFiles};
+ghost use Rattle.tool.specs.Lines.{TellsFault};
+ghost use Rattle.tool.specs.Doing.{IsUndone};
+ghost use Rattle.tool.specs.Outcomes.{IsRun, IsDone};
 
-use crate::certify::{certify, convert};
+use crate::certify::certify;
 use crate::check::check;
-use crate::console::Console;
+use crate::convert::convert;
 use crate::decode::decode;
-use crate::dropping::drop_places;
+use crate::drop::drop_places;
 use crate::encode::encode;
-use crate::fault::Fault;
-use crate::folder::Folder;
+use crate::fault::{Fault, Stop};
 use crate::follow::follow;
-use crate::joining::join;
+use crate::host::Host;
+use crate::join::join;
 use crate::show::show;
-use crate::twinning::twin;
+use crate::telling::finish;
+use crate::twin::twin;
 use crate::wording::fault_line;
-use reception::Identity;
-use request::{Identifiers, Request};
-use session::{Write, write_all};
+use request::Request;
 use std::alloc::Global;
 
-// Whose packets a command asks for.
-fn identity_of(identifiers: &Identifiers) -> Identity
-    ensures value { result ≡ asked_identity identifiers.now }
-    ensures identity { IsIdentity result }
-{
-    Identity {
-        tsi: u64::from(identifiers.tsi),
-        toi: u128::from(identifiers.toi),
-    }
-}
+/// What is printed where there is no memory.
+pub(crate) const MEMORY_LINE: &[u8] = b"fault memory\n";
 
-fn perform<'a, F: Folder, W: Console>(
+fn perform<'a, H: Host>(
     alloc: Global,
+    host: &mut H,
     request: &Request<'a>,
-    folder: &mut F,
-    out: &mut W,
-) -> Result<u8, Fault<'a>>
-    ensures ok { IfOk result (IsDone (F.files folder.old) (F.files folder.new) request.now
-        (W.contents out.old) (W.contents out.new)) }
-    ensures fault { IfErr result (IsUndone (F.files folder.old) (F.files folder.new) request.now
-        (W.failed out.new) (W.contents out.old) (W.contents out.new)) }
+) -> Result<u8, Stop<'a>>
+    ensures ok { IfOk result (IsDone (H.world host.old) (H.world host.new) request.now) }
+    ensures fault { IfErr result (IsUndone (H.world host.old) (H.world host.new) request.now) }
+    ensures small { IfOk result (λ status. status ≤ 3) }
 {
-    match request {
-        Request::Check {
-            session,
-            object,
-            certificate,
-            identifiers,
-        } => check(
-            alloc,
-            folder,
-            out,
-            session,
-            object,
-            certificate,
-            identity_of(identifiers),
-        ),
-        Request::Twin {
-            session,
-            object,
-            certificate,
-            output,
-            identifiers,
-        } => {
-            let identity = identity_of(identifiers);
-            twin(
-                alloc,
-                folder,
-                out,
-                session,
-                object,
-                certificate,
-                output,
-                identity,
-            )
-        }
-        Request::Show { session } => show(alloc, folder, out, session),
-        Request::Encode {
-            object,
-            output,
-            sending,
-        } => encode(alloc, folder, out, object, output, sending),
-        Request::Certify {
-            object,
-            output,
-            identifiers,
-            sizes,
-        } => {
-            let identity = identity_of(identifiers);
-            certify(alloc, folder, out, object, output, identity, sizes)
-        }
-        Request::Convert {
-            certificate,
-            output,
-            identifiers,
-        } => convert(
-            alloc,
-            folder,
-            out,
-            certificate,
-            output,
-            identity_of(identifiers),
-        ),
-        Request::Decode {
-            session,
-            output,
-            identifiers,
-        } => decode(
-            alloc,
-            folder,
-            out,
-            session,
-            output,
-            identity_of(identifiers),
-        ),
-        Request::Follow {
-            session,
-            output,
-            identifiers,
-        } => follow(
-            alloc,
-            folder,
-            out,
-            session,
-            output,
-            identity_of(identifiers),
-        ),
-        Request::Drop {
-            session,
-            output,
-            places,
-        } => drop_places(alloc, folder, out, session, output, places.as_slice()),
-        Request::Join {
-            output,
-            sessions,
-            turns,
-        } => join(alloc, folder, out, output, sessions.as_slice(), *turns),
-    }
+    let done = match request {
+        Request::Show(request) => return show(alloc, host, request),
+        Request::Follow(request) => return follow(alloc, host, request),
+        Request::Check(request) => check(alloc, host, request),
+        Request::Twin(request) => twin(alloc, host, request),
+        Request::Encode(request) => encode(alloc, host, request),
+        Request::Certify(request) => certify(alloc, host, request),
+        Request::Convert(request) => convert(alloc, host, request),
+        Request::Decode(request) => decode(alloc, host, request),
+        Request::Drop(request) => drop_places(alloc, host, request),
+        Request::Join(request) => join(alloc, host, request),
+    };
+    finish(host, done)
 }
 
 /// Does the command, prints its lines, and answers the status: 0 done or yes, 1 no or a fault, 3 where decoding has too
-/// little. If the output can't be written it is 1.
-pub fn run<F: Folder, W: Console>(
-    alloc: Global,
-    request: &Request<'_>,
-    folder: &mut F,
-    out: &mut W,
-) -> u8
-    ensures run { IsRun (F.files folder.old) (F.files folder.new) request.now
-        (W.failed out.new) (W.contents out.old) (W.contents out.new) result }
+/// little. If lines can't be printed it is 1.
+pub fn run<H: Host>(alloc: Global, host: &mut H, request: &Request<'_>) -> u8
+    ensures run { IsRun (H.world host.old) (H.world host.new) request.now result }
     ensures status { result ≤ 3 }
 {
-    match perform(alloc, request, folder, out) {
+    match perform(alloc, host, request) {
         Ok(status) => status,
-        Err(fault) => {
-            tell(alloc, out, fault);
+        Err(Stop::ByFault(fault)) => {
+            tell(alloc, host, fault);
             1
         }
+        Err(Stop::Unprinted) => 1,
     }
 }
 
-// Prints a fault, or, if there is no memory for its line, that; nothing where the output has failed.
-fn tell<W: Write>(alloc: Global, out: &mut W, fault: Fault<'_>)
-    requires { fault ≡ Output → W.failed out.old ≡ true }
-    ensures { TellsFault fault.entry (W.failed out.new) (W.contents out.old) (W.contents out.new) }
+// Prints a fault, or, if there is no memory for its line, that.
+fn tell<H: Host>(alloc: Global, host: &mut H, fault: Fault<'_>)
+    ensures { TellsFault fault.entry (H.world host.old) (H.world host.new) }
 {
-    match fault {
-        Fault::Output => {}
-        Fault::Memory => tell_memory(out),
-        _ => match print_fault(alloc, out, fault) {
-            Err(Fault::Memory) => tell_memory(out),
-            _ => {}
-        },
+    match fault_line(alloc, fault) {
+        Ok(line) => {
+            let _ = line.print(host);
+        }
+        Err(_) => tell_memory(host),
     }
-}
-
-fn print_fault<'a, W: Write>(alloc: Global, out: &mut W, fault: Fault<'_>) -> Result<(), Fault<'a>>
-    ensures ok { OnOk result ((text : List ℕ) × IsFaultText fault.entry text
-        × Appends (W.contents out.old) (W.contents out.new) (line_of (codes "fault " ++ text))) }
-    ensures fault { IfErr result (IsPrintFault (W.failed out.new)) }
-    ensures silent { IfErr result (λ fault.
-        IsSilent fault (W.failed out.new) (W.contents out.old) (W.contents out.new)) }
-{
-    fault_line(alloc, fault)?.print(out)?;
-    Ok(())
 }
 
 // Takes no memory itself.
-pub(crate) fn tell_memory<W: Write>(out: &mut W)
-    ensures { (W.failed out.new ≡ true)
-        ⊎ Appends (W.contents out.old) (W.contents out.new) (codes "fault memory\n") }
+pub(crate) fn tell_memory<H: Host>(host: &mut H)
+    ensures told { ((H.world host.new).failed ≡ true) ⊎ Appends (H.world host.old).printed
+        (H.world host.new).printed (codes "fault memory\n") }
+    ensures files { KeepsFiles (H.world host.old) (H.world host.new) }
 {
-    let _ = write_all(out, b"fault memory\n");
+    let _ = host.print(MEMORY_LINE);
 }

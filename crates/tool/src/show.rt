@@ -1,56 +1,59 @@
 //! The command `show`.
-ghost use Rattle.std.specs.Prelude.{◌≡◌, ◌≤◌, ◌++◌, length, Err, IfOk, IfErr, OnOk};
+ghost use Rattle.std.specs.Prelude.{◌≡◌, ◌≤◌, ◌++◌, length, Ok, Err, IfOk, IfErr, OnOk};
 ghost use Rattle.alc.specs.Views.{packet_of};
-ghost use Rattle.tool.specs.Outcomes.{IsShown, IsShownStatus, IsUnshown, IsShownInPart};
-ghost use Rattle.tool.specs.Lines.{fti_text, packet_text, IsReadingLine, PrintsDatagrams, PrintsSome, IsPrintFault};
+ghost use Rattle.request.specs.declared.requests.Request.TheVariants.{Show};
+ghost use Rattle.tool.specs.World.{KeepsFiles};
+ghost use Rattle.tool.specs.Doing.{IsUndone};
+ghost use Rattle.tool.specs.Outcomes.{IsDone};
+ghost use Rattle.tool.specs.Lines.{line_of, fti_text, reading_text};
+ghost use Rattle.tool.specs.Showing.{Shows, IsUnshown};
 
-use crate::fault::Fault;
-use crate::folder::Folder;
+use crate::fault::Stop;
+use crate::host::Host;
 use crate::input::read_session;
 use crate::print::Text;
 use crate::wording::put_packet_fault;
 use alc::{Packet, PacketFault, read};
 use partition::Fti;
-use session::{Session, Write};
+use request::ShowRequest;
+use session::Session;
 use std::alloc::{AllocError, Global};
 
 /// Prints a line for each datagram, and answers the status: 0 where all are packets.
-pub(crate) fn show<'a, F: Folder, W: Write>(
+pub(crate) fn show<'a, H: Host>(
     alloc: Global,
-    folder: &F,
-    out: &mut W,
-    session: &'a str,
-) -> Result<u8, Fault<'a>>
+    host: &mut H,
+    request: &ShowRequest<'a>,
+) -> Result<u8, Stop<'a>>
     ensures ok { IfOk result
-        (IsShown (F.files folder.now) session.now (W.contents out.old) (W.contents out.new)) }
-    ensures fault { IfErr result (IsUnshown (F.files folder.now) session.now (W.failed out.new)) }
-    ensures cut { IfErr result (λ fault. IsShownInPart (F.files folder.now) session.now fault
-        (W.failed out.new) (W.contents out.old) (W.contents out.new)) }
+        (IsDone (H.world host.old) (H.world host.new) (Show request.now)) }
+    ensures fault { IfErr result
+        (IsUndone (H.world host.old) (H.world host.new) (Show request.now)) }
+    ensures small { IfOk result (λ status. status ≤ 3) }
 {
-    let session = read_session(alloc, folder, session)?;
-    print_datagrams(alloc, out, &session)
+    let session = read_session(alloc, host, request.session)?;
+    print_datagrams(alloc, host, &session)
 }
 
-fn print_datagrams<'a, W: Write>(
+fn print_datagrams<'a, H: Host>(
     alloc: Global,
-    out: &mut W,
+    host: &mut H,
     session: &Session,
-) -> Result<u8, Fault<'a>>
-    ensures ok { IfOk result (IsShownStatus session.now (length session.now)) }
-    ensures printed { OnOk result (PrintsDatagrams session.now (length session.now)
-        (W.contents out.old) (W.contents out.new)) }
-    ensures fault { IfErr result (IsPrintFault (W.failed out.new)) }
-    ensures some { IfErr result (λ fault. PrintsSome session.now fault
-        (W.failed out.new) (W.contents out.old) (W.contents out.new)) }
-    ensures status { IfOk result (λ status. status ≤ 1) }
+) -> Result<u8, Stop<'a>>
+    ensures shown { IfOk result (Shows session.now (length session.now)
+        (H.world host.old) (H.world host.new)) }
+    ensures fault { IfErr result
+        (IsUnshown session.now (H.world host.old) (H.world host.new)) }
+    ensures files { KeepsFiles (H.world host.old) (H.world host.new) }
+    ensures small { IfOk result (λ status. status ≤ 3) }
 {
     let mut status = 0;
     for place in 0..session.len() {
         match read(session.get(place)) {
-            Ok(packet) => packet_line(alloc, place, &packet)?.print(out)?,
+            Ok(packet) => packet_line(alloc, place, &packet)?.print(host)?,
             Err(fault) => {
                 status = 1;
-                fault_line(alloc, place, fault)?.print(out)?;
+                fault_line(alloc, place, fault)?.print(host)?;
             }
         }
     }
@@ -76,7 +79,8 @@ fn put_fti(line: &mut Text, fti: &Option<Fti>, size: usize) -> Result<(), AllocE
 }
 
 fn packet_line(alloc: Global, place: usize, packet: &Packet<'_>) -> Result<Text, AllocError>
-    ensures { IfOk result (λ line. line ≡ packet_text place (packet_of packet.now)) }
+    ensures { IfOk result (λ line.
+        line ≡ line_of (reading_text place (Ok (packet_of packet.now)))) }
 {
     let mut line = Text::new(alloc);
     line.number(place)?;
@@ -85,15 +89,17 @@ fn packet_line(alloc: Global, place: usize, packet: &Packet<'_>) -> Result<Text,
     put_fti(&mut line, &packet.fti, packet.symbol.len())?;
     line.named(" sbn", packet.sbn)?;
     line.named(" esi", packet.esi)?;
+    line.end_line()?;
     Ok(line)
 }
 
 fn fault_line(alloc: Global, place: usize, fault: PacketFault) -> Result<Text, AllocError>
-    ensures { IfOk result (IsReadingLine place (Err fault)) }
+    ensures { IfOk result (λ line. line ≡ line_of (reading_text place (Err fault))) }
 {
     let mut line = Text::new(alloc);
     line.number(place)?;
     line.text(" ")?;
     put_packet_fault(&mut line, fault)?;
+    line.end_line()?;
     Ok(line)
 }

@@ -1,7 +1,7 @@
 //! The FTI of an object, by the command line's numbers.
 ghost use Rattle.std.specs.Prelude.{◌≡◌, Some, IfOk, IfErr};
 ghost use Rattle.partition.specs.FtiFault.{fti_fault};
-ghost use Rattle.tool.specs.Making.{sized};
+ghost use Rattle.tool.specs.Commands.{sized};
 
 use partition::{Fti, FtiError};
 use request::Sizes;

@@ -1,6 +1,6 @@
 //! The words of faults.
-ghost use Rattle.std.specs.Prelude.{◌≡◌, ◌++◌, ℕ, List, codes, IfOk, OnOk};
-ghost use Rattle.tool.specs.Lines.{IsFaultText};
+ghost use Rattle.std.specs.Prelude.{◌≡◌, ◌++◌, codes, IfOk, OnOk};
+ghost use Rattle.tool.specs.Lines.{line_of, fault_text};
 ghost use Rattle.tool.specs.Words.{fti_words, packet_words, frame_words, certificate_words, send_words};
 
 use crate::fault::Fault;
@@ -57,7 +57,7 @@ fn put_frame_fault(line: &mut Text, fault: FrameFault) -> Result<(), AllocError>
         FrameFault::CutDatagram => line.text("S2 CutDatagram"),
         FrameFault::TooLong => line.text("S3 TooLong"),
         FrameFault::Io => line.text("S4 Io"),
-        FrameFault::NoMemory => line.text("S5 NoMemory"),
+        FrameFault::NoMemory => line.text("memory"),
         FrameFault::NoSuchPlace(place) => {
             line.text("S6 NoSuchPlace ")?;
             line.number(place)
@@ -77,7 +77,7 @@ fn put_certificate_fault(line: &mut Text, fault: CertFault) -> Result<(), AllocE
         }
         CertFault::Size => line.text("Z3 Size"),
         CertFault::Io => line.text("Z4 Io"),
-        CertFault::NoMemory => line.text("Z5 NoMemory"),
+        CertFault::NoMemory => line.text("memory"),
         CertFault::OtherIdentity => line.text("Z6 OtherIdentity"),
     }
 }
@@ -90,25 +90,25 @@ fn put_send_fault(line: &mut Text, fault: SendFault) -> Result<(), AllocError>
         SendFault::Length => line.text("O1 Length"),
         SendFault::SymbolTooLong => line.text("O2 SymbolTooLong"),
         SendFault::Io => line.text("O3 Io"),
-        SendFault::NoMemory => line.text("O4 NoMemory"),
+        SendFault::NoMemory => line.text("memory"),
     }
 }
 
-/// The line of a fault of a command, by its words; of a failed output, which is told nowhere, any.
+/// The line of a fault of a command.
 pub(crate) fn fault_line(alloc: Global, fault: Fault<'_>) -> Result<Text, AllocError>
     ensures { IfOk result (λ line.
-        (text : List ℕ) × IsFaultText fault.entry text × (line ≡ codes "fault " ++ text)) }
+        line ≡ line_of (codes "fault " ++ fault_text fault.entry)) }
 {
     let mut line = Text::new(alloc);
     line.text("fault ")?;
     put_fault(&mut line, fault)?;
+    line.end_line()?;
     Ok(line)
 }
 
 // Puts the words of a fault behind what stands in the line.
 fn put_fault(line: &mut Text, fault: Fault<'_>) -> Result<(), AllocError>
-    ensures { OnOk result
-        ((text : List ℕ) × IsFaultText fault.entry text × (line.new ≡ line.old ++ text)) }
+    ensures { OnOk result (line.new ≡ line.old ++ fault_text fault.entry) }
 {
     match fault {
         Fault::Open(name) => put_named(line, "open ", name),
@@ -118,7 +118,6 @@ fn put_fault(line: &mut Text, fault: Fault<'_>) -> Result<(), AllocError>
         Fault::Certificate(fault) => put_certificate_fault(line, fault),
         Fault::Fti(fault) => put_fti_fault(line, fault),
         Fault::Send(fault) => put_send_fault(line, fault),
-        Fault::Output => Ok(()),
     }
 }
 

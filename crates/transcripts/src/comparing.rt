@@ -4,7 +4,7 @@ use crate::fault::{Fault, Wrong};
 use crate::line::{Line, read_line};
 use crate::outcome::Outcome;
 use std::alloc::Global;
-use tool::MemoryFolder;
+use tool::MemoryHost;
 
 /// What no line has told yet of an answer.
 #[derive(Clone, Copy)]
@@ -48,7 +48,7 @@ impl<'a> Untold<'a> {
     }
 
     // The file that is created next, and its name. What is left of the bytes of the last is told before.
-    fn take_created(&mut self, text: &str, given: &MemoryFolder) -> Result<(), Fault> {
+    fn take_created(&mut self, text: &str, given: &MemoryHost) -> Result<(), Fault> {
         let (name, other) = text.split_once(" = ").unwrap_or((text, ""));
         let Some(((created, bytes), behind)) = self.created.split_first() else {
             return Err(Fault::Otherwise);
@@ -103,7 +103,7 @@ fn take_line(text: &mut &str, line: &str) -> Result<(), Fault> {
 fn take(
     alloc: Global,
     untold: &mut Untold<'_>,
-    given: &MemoryFolder,
+    given: &MemoryHost,
     line: &str,
 ) -> Result<bool, Fault> {
     let Some(line) = read_line(line) else {
@@ -125,7 +125,7 @@ fn take(
 pub(crate) fn compare(
     alloc: Global,
     outcome: &Outcome,
-    given: &MemoryFolder,
+    given: &MemoryHost,
     lines: &[&str],
 ) -> Result<(), Wrong> {
     let mut untold = match Untold::new(outcome) {

@@ -3,7 +3,7 @@ use crate::bytes::put_row;
 use crate::fault::{Fault, Wrong};
 use crate::line::{Line, read_line};
 use std::alloc::Global;
-use tool::MemoryFolder;
+use tool::MemoryHost;
 
 // Adds the bytes of a line behind the one that names their file, if it has any. False where the line belongs to the file no
 // more.
@@ -36,7 +36,7 @@ fn bytes_of(alloc: Global, lines: &[&str]) -> Result<Vec<u8>, Wrong> {
 /// Puts a file in of which no other has the name. The lines are those of the transcript from the file's name on.
 pub(crate) fn give(
     alloc: Global,
-    given: &mut MemoryFolder,
+    given: &mut MemoryHost,
     name: &str,
     lines: &[&str],
 ) -> Result<(), Wrong> {

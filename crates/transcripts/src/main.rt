@@ -18,15 +18,16 @@ use fault::Fault;
 use given::give;
 use line::{Line, read_line};
 use outcome::run;
+use session::Sink;
 use std::process::ExitCode;
 use std::{env, fs, io};
 use telling::{Place, tell, tell_counts, tell_outcome};
-use tool::MemoryFolder;
+use tool::MemoryHost;
 
 // Whether the file of this place can be given, which is then done.
 fn try_file(
     rt: &HostRuntime,
-    given: &mut MemoryFolder,
+    given: &mut MemoryHost,
     file: &str,
     at: &Place<'_>,
 ) -> io::Result<bool> {
@@ -42,7 +43,7 @@ fn try_file(
 // Whether the command of this place answers as wanted.
 fn try_command(
     rt: &HostRuntime,
-    given: &MemoryFolder,
+    given: &MemoryHost,
     words: &str,
     at: &Place<'_>,
 ) -> io::Result<bool> {
@@ -60,7 +61,7 @@ fn try_command(
 // Whether all commands of a transcript answer as wanted, which is told. Each of its lines belongs to the file or to the
 // command that is named before it.
 fn try_lines(rt: &HostRuntime, name: &str, lines: &[&str]) -> io::Result<bool> {
-    let mut given = MemoryFolder::new(rt.alloc(), 7);
+    let mut given = MemoryHost::new(rt.alloc(), 7, Sink::new(rt.alloc()));
     let mut commands = 0usize;
     let mut wrong = 0usize;
     for (place, line) in lines.iter().enumerate() {

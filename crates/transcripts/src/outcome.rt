@@ -2,24 +2,23 @@
 use crate::fault::Fault;
 use session::Sink;
 use std::alloc::{AllocError, Global};
-use tool::{MemoryFolder, answer};
+use tool::{MemoryHost, answer};
 
 /// What a command answered.
 #[derive(Drop)]
 pub(crate) struct Outcome {
     /// The exit status.
     pub(crate) status: u8,
-    out: Sink,
     err: Sink,
     /// The files that were given, and behind these those that the command created.
-    folder: MemoryFolder,
+    host: MemoryHost,
     given: usize,
 }
 
 impl Outcome {
     /// What was printed.
     pub(crate) fn output(&self) -> Result<&str, Fault> {
-        text_of(self.out.bytes())
+        text_of(self.host.printed())
     }
 
     /// What was printed on standard error.
@@ -29,7 +28,7 @@ impl Outcome {
 
     /// The files that were created, in that order.
     pub(crate) fn created(&self) -> &[(String, Vec<u8>)] {
-        self.folder.files().get(self.given..).unwrap_or(&[])
+        self.host.files().get(self.given..).unwrap_or(&[])
     }
 }
 
@@ -49,27 +48,25 @@ fn words_of(alloc: Global, line: &str) -> Result<Vec<&str>, AllocError> {
     Ok(words)
 }
 
-// A folder of the same files, which are read 7 bytes at a time.
-fn copy_of(alloc: Global, given: &MemoryFolder) -> Result<MemoryFolder, AllocError> {
-    let mut folder = MemoryFolder::new(alloc, 7);
+// A host of the same files, which are read 7 bytes at a time.
+fn copy_of(alloc: Global, given: &MemoryHost) -> Result<MemoryHost, AllocError> {
+    let mut host = MemoryHost::new(alloc, 7, Sink::new(alloc));
     for (name, bytes) in given.files() {
-        folder.put(name.as_str(), bytes.as_slice().to_vec(alloc)?)?;
+        host.put(name.as_str(), bytes.as_slice().to_vec(alloc)?)?;
     }
-    Ok(folder)
+    Ok(host)
 }
 
-/// Runs a command in a new folder of these files.
-pub(crate) fn run(alloc: Global, line: &str, given: &MemoryFolder) -> Result<Outcome, AllocError> {
+/// Runs a command over a new host of these files.
+pub(crate) fn run(alloc: Global, line: &str, given: &MemoryHost) -> Result<Outcome, AllocError> {
     let words = words_of(alloc, line)?;
-    let mut folder = copy_of(alloc, given)?;
-    let mut out = Sink::new(alloc);
+    let mut host = copy_of(alloc, given)?;
     let mut err = Sink::new(alloc);
-    let status = answer(alloc, words.as_slice(), &mut folder, &mut out, &mut err);
+    let status = answer(alloc, words.as_slice(), &mut host, &mut err);
     Ok(Outcome {
         status,
-        out,
         err,
-        folder,
+        host,
         given: given.files().len(),
     })
 }

@@ -1,22 +1,17 @@
-use Rattle.std.proofs.Common.{◌≡◌, ◌≢◌, ◌<◌, ◌∙◌, length, map, arith, subst, sym}
-use Rattle.std.proofs.lemmas.Bool.{eqb-true, eqb-false}
+use Rattle.std.proofs.Common.{codes, map, subst, sym}
+use Rattle.std.proofs.lemmas.Result.{IfOk-weaker}
 use Rattle.clap.specs.Words.{found_of, rows_of}
-use Rattle.request.specs.Requests.{HasSessions}
-use Rattle.request.proofs.Getters.{no_sessions, has_sessions, none_given}
+use Rattle.request.specs.Arguments.{Files, HasValue, SomeTexts}
+use Rattle.request.proofs.Places.{texts_are, texts_found}
 use Rattle.request.proofs.matched.sessions.Goals as goal
 
-pub returns-in_default-clause-err : goal.returns-in_default-clause-err
-returns-in_default-clause-err c = no_sessions (found_of c.args.matches.now) c.get_strs.result c.in_default.is c.get_strs.ensures
+pub unwrap-requires : goal.unwrap-requires
+unwrap-requires c = texts_found (found_of c.args.matches.now) (codes "SESSION") c.get_strs.result c.get_strs.ensures c.requires
 
-pub returns-then-is_empty-clause-err : goal.returns-then-is_empty-clause-err
-returns-then-is_empty-clause-err c =
-    let empty : length c.in-Some.given.now ≡ 0 = eqb-true _ _ (sym c.is_empty.ensures ∙ c.if-is_empty.true) in
-    none_given (found_of c.args.matches.now) c.get_strs.result c.in-Some.given c.in-Some.is c.get_strs.ensures empty
-
-pub returns-in-Ok-clause-ok : goal.returns-in-Ok-clause-ok
-returns-in-Ok-clause-ok c =
-    let several : length c.in-Some.given.now ≢ 0 = eqb-false _ _ (sym c.is_empty.ensures ∙ c.if-is_empty.false) in
-    let some : 0 < length c.in-Some.given.now = omega (arith, several) in
-    let same = c.in-Ok.ensures.items_if_clones_equal (λ x y is. is) in
-    subst (λ names. HasSessions (rows_of (found_of c.args.matches.now)) (map (λ session. session.now) names)) (sym same)
-    (has_sessions (found_of c.args.matches.now) c.get_strs.result c.in-Some.given c.in-Some.is c.get_strs.ensures some)
+pub returns : goal.returns
+returns c =
+    let rows = rows_of (found_of c.args.matches.now) in
+    let has = texts_are (found_of c.args.matches.now) (codes "SESSION") c.get_strs.result c.get_strs.ensures c.requires c.unwrap.result c.unwrap.ensures in
+    IfOk-weaker c.to_vec.result _ (λ sessions. HasValue rows (Files (codes "SESSION")) (SomeTexts (map (λ session. session.now) sessions.items)))
+    (λ sessions same. subst (λ names. HasValue rows (Files (codes "SESSION")) (SomeTexts (map (λ session. session.now) names))) (sym (same (λ x y is. is))) has)
+    c.to_vec.ensures.items_if_clones_equal

@@ -1,32 +1,18 @@
-use Rattle.std.proofs.Common.{rules, codes, refl}
-use Rattle.tool.specs.declared.fault.Fault.TheVariants.{Output}
-use Rattle.tool.specs.Lines.{line_of}
-use Rattle.tool.specs.Making.{count_line}
-use Rattle.tool.proofs.Ends.{passed_on}
-use Rattle.tool.proofs.Unprinted.{fails_unprinted}
+use Rattle.std.proofs.Common.{◌∙◌, ℕ, [], ap}
+use Rattle.partition.specs.FtiFault.{fti_fault}
+use Rattle.request.specs.declared.requests.Request.TheVariants.{Certify}
+use Rattle.tool.specs.Commands.{sized}
+use Rattle.tool.specs.declared.fault.Fault.TheVariants.{Fti as WrongFti}
+use Rattle.tool.proofs.Making.{told_object}
+use Rattle.tool.proofs.Stopping.{passed_on, stopped, by_refused}
 use Rattle.tool.proofs.certify.certify.Goals as goal
 
-pub returns-clause-ok : goal.returns-clause-ok
-returns-clause-ok g c =
-    let made = c.in_ok-count.ensures.ok in
-    record {
-      bytes = made.bytes;
-      whole = made.whole;
-      made = made.made;
-      printed = rw made.counted at c.in_ok-print_count.ensures.ok;
-      told = refl;
-    }
-
-pub returns-in_err-print_count-clause-fault : goal.returns-in_err-print_count-clause-fault
-returns-in_err-print_count-clause-fault g c =
-    let made = c.in_ok-count.ensures.ok in
-    passed_on c.from_residual-in_err-print_count.result Output _ c.from_residual-in_err-print_count.ensures.1
-    (fails_unprinted _ (g.F.Folder.files c.args.folder.now) (g.F.Folder.files c.certify_file.new.folder) (g.W.Write.contents c.args.out.now)
-    (line_of (count_line (codes "certified") c.in_ok-count.count (codes " blocks"))) 0
-    (λ printed appended. record {
-      bytes = made.bytes;
-      whole = made.whole;
-      made = made.made;
-      printed = rw made.counted at appended;
-      told = refl;
-    }) _ _ _ (search rules) c.in_err-print_count.ensures.fails)
+pub returns-in_err-fti-in-Some-clause-fault : goal.returns-in_err-fti-in-Some-clause-fault
+returns-in_err-fti-in-Some-clause-fault g c =
+    let w = g.H.Host.world c.args.host.now in
+    let r = c.args.request.now in
+    let fault = WrongFti c.in_err-fti-in-Some.field-0.0 in
+    let told = told_object w.files r.object.now _ c.in-Some.length c.in_ok-input.ensures.input.bytes c.in-Some.ensures in
+    passed_on c.from_residual-in_err-fti-in-Some.result fault _ c.from_residual-in_err-fti-in-Some.ensures.1
+    (stopped w (Certify r) fault (by_refused w w (Certify r) [] fault
+    (told.0, told.1, ap (λ (m : ℕ). fti_fault (sized r.sizes m)) told.2 ∙ c.in_err-fti-in-Some.ensures.fault)))

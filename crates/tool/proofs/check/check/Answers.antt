@@ -1,18 +1,42 @@
-use Rattle.tool.proofs.Ends.{opens}
-use Rattle.tool.proofs.Verdicts.{prints}
+use Rattle.std.proofs.Common.{[], ◌∷◌, None, inl, inr, refl, sym}
+use Rattle.tool.specs.Inputs.{Opened, Bytes, Polynomials}
+use Rattle.request.specs.declared.requests.Request.TheVariants.{Check}
+use Rattle.tool.specs.Lines.{verdict_text}
+use Rattle.tool.specs.Commands.{status_of}
+use Rattle.tool.proofs.Stopping.{stopped, by_unread, passed_on}
 use Rattle.tool.proofs.check.check.Goals as goal
 
+pub returns-in_err-object-clause-fault : goal.returns-in_err-object-clause-fault
+returns-in_err-object-clause-fault g c =
+    let w = g.H.Host.world c.args.host.now in
+    let r = Check c.args.request.now in
+    let fault = c.in_err-object.field-0.0 in
+    passed_on c.from_residual-in_err-object.result fault _ c.from_residual-in_err-object.ensures.1
+    (stopped w r fault (by_unread w w r [] fault
+    (inr (Opened (g.H.Input.Read.remaining c.in_ok-frames.frames), c.in_ok-frames.ensures.input.bytes, inl c.in_err-object.ensures.fault))))
+
+pub returns-in_err-certificate-clause-fault : goal.returns-in_err-certificate-clause-fault
+returns-in_err-certificate-clause-fault g c =
+    let w = g.H.Host.world c.args.host.now in
+    let r = Check c.args.request.now in
+    let fault = c.in_err-certificate.field-0.0 in
+    passed_on c.from_residual-in_err-certificate.result fault _ c.from_residual-in_err-certificate.ensures.1
+    (stopped w r fault (by_unread w w r [] fault
+    (inr (Opened (g.H.Input.Read.remaining c.in_ok-frames.frames), c.in_ok-frames.ensures.input.bytes,
+    inr (Bytes c.in_ok-object.object.items, c.in_ok-object.ensures.ok, inl c.in_err-certificate.ensures.fault)))))
+
 pub returns-clause-ok : goal.returns-clause-ok
-returns-clause-ok g c = record {
-  bytes = c.in_ok-object.object.items;
-  polynomials = c.in_ok-certificate.certificate;
-  verdict = c.in_ok-verdict.verdict;
-  opened = g.F.Input.Read.remaining c.in_ok-frames.frames;
-  left = g.F.Input.Read.remaining c.verdict_of.new.frames;
-  sent = opens (g.F.Folder.files c.args.folder.now) c.args.session.now _ _ c.in_ok-frames.ensures.input;
-  whole = c.in_ok-object.ensures.ok;
-  certified = c.in_ok-certificate.ensures.ok;
-  judged = rw c.as_slice.ensures.value at c.in_ok-verdict.ensures.ok;
-  told = c.status_of.ensures;
-  printed = prints c.in_ok-verdict.verdict c.in_ok-verdict_text.field-0 _ _ c.in_ok-verdict_text.ensures c.in_ok-print.ensures.ok;
-}
+returns-clause-ok g c =
+    let verdict = c.in_ok-verdict.verdict in
+    record {
+      outcome = record { text = verdict_text verdict; status = status_of verdict; output = None };
+      makes = record {
+        values = Opened (g.H.Input.Read.remaining c.in_ok-frames.frames) ∷ Bytes c.in_ok-object.object.items ∷ Polynomials c.in_ok-certificate.certificate ∷ [];
+        read = (c.in_ok-frames.ensures.input.bytes, (c.in_ok-object.ensures.ok, (c.in_ok-certificate.ensures.ok, tt)));
+        gives = (verdict, g.H.Input.Read.remaining c.verdict_of.new.frames, rw c.as_slice.ensures.value at c.in_ok-verdict.ensures.ok, (refl, refl, refl));
+        made = (refl, refl);
+      };
+      text = sym c.in_ok-verdict_text.ensures;
+      status = sym c.status_of.ensures.value;
+      silent = refl;
+    }

@@ -1,7 +1,7 @@
-use Rattle.std.proofs.Common.{◌≡◌, ◌++◌}
+use Rattle.std.proofs.Common.{◌≡◌, ◌++◌, take}
 use Rattle.std.specs.Prelude.{codes}
-use Rattle.tool.specs.Lines.{line_of, block_lines}
+use Rattle.tool.specs.Lines.{line_of, numbered, block_text}
 use Rattle.tool.proofs.check.report_lines.Given as goal
 
 abbrev pub invariant-loop-block : goal.invariant-loop-block
-invariant-loop-block l = line_of l.lines ≡ line_of (codes "yes") ++ block_lines l.counts-items l.block
+invariant-loop-block l = l.lines ≡ line_of (codes "yes") ++ numbered block_text 0 (take l.block l.counts-items)

@@ -1,20 +1,37 @@
-use Rattle.std.proofs.Common.{rules}
-use Rattle.tool.specs.declared.fault.Fault.TheVariants.{Output}
-use Rattle.tool.specs.Lines.{line_of}
-use Rattle.tool.specs.Decoding.{object_text}
-use Rattle.tool.proofs.Decoded.{object_given}
-use Rattle.tool.proofs.Ends.{passed_on}
-use Rattle.tool.proofs.Unprinted.{fails_unprinted}
+use Rattle.std.proofs.Common.{◌≡◌, ◌∙◌, ℕ, refl, sym, ap}
+use Rattle.decoder.specs.Receiving.{IsWrittenOf}
+use Rattle.request.specs.declared.requests.Request.TheVariants.{Decode}
+use Rattle.tool.specs.Doing.{text_of}
+use Rattle.tool.specs.declared.fault.Fault.TheVariants.{File}
+use Rattle.tool.proofs.Decoded.{object_decoded, may_write, because_unwritten}
+use Rattle.tool.proofs.Making.{committed}
+use Rattle.tool.proofs.Stopping.{kept_whole, passed_on, uncommitted}
 use Rattle.tool.proofs.decode.deliver.Goals as goal
 
-pub returns-clause-ok : goal.returns-clause-ok
-returns-clause-ok g c = λ who ds are.
-    object_given who ds _ _ _ _ c.args.output.now c.in_ok-length.length (c.in_ok-length.ensures.made who ds are) c.in_ok-print_count.ensures.ok
+pub returns-in_err-length-clause-fault : goal.returns-in_err-length-clause-fault
+returns-in_err-length-clause-fault g c =
+    let old = g.H.Host.world c.args.host.now in
+    let new = g.H.Host.world c.commit.new.host in
+    let r = c.args.request.now in
+    let given = c.requires in
+    let fault = c.in_err-length.field-0.0 in
+    passed_on c.from_residual-in_err-length.result fault _ c.from_residual-in_err-length.ensures.1
+    (uncommitted old (g.H.Host.world c.create.new.host) (Decode r) r.output.now refl c.create.ensures.files c.create.ensures.silent new c.in_ok-file.ensures.created
+    (may_write old r given.0 given.1 given.3 given.4) c.in_err-length.ensures.files c.commit.ensures.silent c.commit.ensures.created
+    _ (λ may more. (may, refl, more)) c.write_object-written.result fault
+    (because_unwritten old new r c.write_object-written.result c.write_object-written.ensures.fault)
+    c.in_err-length.ensures.fault)
 
-pub returns-in_err-print_count-clause-fault : goal.returns-in_err-print_count-clause-fault
-returns-in_err-print_count-clause-fault g c = λ who ds are.
-    passed_on c.from_residual-in_err-print_count.result Output _ c.from_residual-in_err-print_count.ensures.1
-    (fails_unprinted _ (g.F.Folder.files c.args.folder.now) (g.F.Folder.files c.write_object.new.folder) (g.W.Write.contents c.args.out.now)
-    (line_of (object_text c.in_ok-length.length)) 0
-    (λ printed appended. object_given who ds _ _ _ _ c.args.output.now c.in_ok-length.length (c.in_ok-length.ensures.made who ds are) appended)
-    _ _ _ (search rules) c.in_err-print_count.ensures.fails)
+pub returns-clause-ok : goal.returns-clause-ok
+returns-clause-ok g c =
+    let old = g.H.Host.world c.args.host.now in
+    let new = g.H.Host.world c.commit.new.host in
+    let r = c.args.request.now in
+    let given = c.requires in
+    let blank = g.H.Output.Write.contents c.in_ok-file.file in
+    let contents = g.H.Output.Write.contents c.write_object-written.new.writer in
+    let w = committed c.write_object-written.result c.in_ok-length.length (IsWrittenOf r.identity given.0 blank contents) c.in_ok-length.ensures.count
+        (c.write_object-written.ensures.written r.identity given.0 given.2) in
+    object_decoded old new r given.0 given.1 (c.commit.ensures.silent.printed ∙ c.create.ensures.silent.printed) w.0 c.in_ok-length.length w.1 w.3
+    (kept_whole old.files (g.H.Host.world c.create.new.host).files new.files r.output.now w.0 blank contents c.in_ok-file.ensures.blank w.2 c.create.ensures.files c.in_ok-length.ensures.kept)
+    (c.commit.ensures.created ∙ c.in_ok-file.ensures.created) c.counted.result (ap text_of (sym c.counted.ensures.told)) (sym c.counted.ensures.status)

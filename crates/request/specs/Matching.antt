@@ -1,0 +1,74 @@
+-- What is asked for by the rows that the grammar matched.
+use Rattle.std.specs.Prelude.{◌≡◌, [], true, List, Option, Some, None, Result, Ok, Err, codes, find, is_some}
+use Rattle.std.specs.Borrow.{Bor}
+use Rattle.std.specs.List.{AllByRecursion, AllZip}
+use Rattle.std.specs.Option.{option_map_or}
+use Rattle.std.specs.Str.{bytes_eq}
+use Rattle.clap.specs.Words.{Row, Text, found_of, rows_of}
+use Rattle.clap.specs.declared.parser.matches.ArgMatches.{ArgMatches}
+use Rattle.partition.specs.declared.order.Order.{Order}
+use Rattle.request.specs.declared.requests.Request.{Request}
+use Rattle.request.specs.declared.usage.Usage.{Usage}
+use Rattle.request.specs.declared.usage.Usage.TheVariants.{NoMemory}
+use Rattle.request.specs.Arguments.{Argument, AText, Choice, HasValue, Value}
+use Rattle.request.specs.Grammar.{IsOrders, commands}
+use Rattle.request.specs.Requests.{asked_of, order_name}
+
+abbrev pub rows_in : ArgMatches → List Row
+rows_in matches = rows_of (found_of matches)
+
+-- a text was read, and it is a number
+abbrev pub Reads : {N E : Type 0} → (Text → Result N E → Type 0) → Option Text → Type 0
+Reads {N} {E} gives read = (text : Text) × (read ≡ Some text) × ((e : E) → gives text (Err e) → ⊥)
+
+-- it is this number
+abbrev pub Gives : {N E : Type 0} → (Text → Result N E → Type 0) → Option Text → N → Type 0
+Gives gives read n = (text : Text) × (read ≡ Some text) × gives text (Ok n)
+
+-- the rows have a value of the argument
+abbrev pub IsGiven : List Row → Argument → Type 0
+IsGiven rows argument = (value : Value) × HasValue rows argument value
+
+abbrev pub AreGiven : List Row → List Argument → Type 0
+AreGiven rows arguments = AllByRecursion (IsGiven rows) arguments
+
+-- the row of the table for a command of this name
+abbrev pub row_of : Bor (List (Bor Text)) → Text → Option (Text × List Argument)
+row_of orders name = find (λ command. bytes_eq command.0 name) (commands orders)
+
+abbrev pub arguments_of : Bor (List (Bor Text)) → Text → List Argument
+arguments_of orders name = option_map_or (λ command. command.1) (row_of orders name) []
+
+-- a command was read, and the rows have a value of each of its arguments
+abbrev pub IsToldBy : Bor (List (Bor Text)) → Option (Text × List Row) → Type 0
+IsToldBy orders None = ⊥
+IsToldBy orders (Some command) =
+    (is_some (row_of orders command.0) ≡ true) × AreGiven command.1 (arguments_of orders command.0)
+
+-- the same, wherever the orders' names lie in memory
+abbrev pub IsTold : Option (Text × List Row) → Type 0
+IsTold read = (orders : Bor (List (Bor Text))) × IsOrders orders × IsToldBy orders read
+
+-- the request is of this command, and has those values
+abbrev pub IsAsked : Text → List Row → Request → Type 0
+IsAsked name rows request = ((asked_of request).0 ≡ name) × ((orders : Bor (List (Bor Text)))
+    → IsOrders orders → AllZip (HasValue rows) (arguments_of orders name) (asked_of request).1)
+
+-- the request that was read, or no memory
+abbrev pub IsMatch : Option (Text × List Row) → Result Request Usage → Type 0
+IsMatch None (Ok request) = ⊥
+IsMatch (Some command) (Ok request) = IsAsked command.0 command.1 request
+IsMatch read (Err usage) = usage ≡ NoMemory
+
+abbrev pub order_argument : Bor (List (Bor Text)) → Argument
+order_argument orders = Choice (codes "order") orders (codes "blocks")
+
+-- one of the orders' names was read
+abbrev pub IsOrderTold : List Row → Type 0
+IsOrderTold rows = (orders : Bor (List (Bor Text))) × IsOrders orders
+    × IsGiven rows (order_argument orders)
+
+-- it is this order's
+abbrev pub IsOrder : List Row → Order → Type 0
+IsOrder rows order = (orders : Bor (List (Bor Text))) → IsOrders orders
+    → HasValue rows (order_argument orders) (AText (order_name order))

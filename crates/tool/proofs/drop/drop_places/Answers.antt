@@ -1,0 +1,59 @@
+use Rattle.std.proofs.Common.{◌≡◌, ◌∙◌, ℕ, [], ◌∷◌, Some, refl, sym, ap, codes}
+use Rattle.lists.specs.Selection.{rest, is_among}
+use Rattle.session.specs.Frames.{frames}
+use Rattle.session.specs.Thinning.{IsThinned}
+use Rattle.session.specs.declared.frame.FrameFault.TheVariants.{Io}
+use Rattle.request.specs.declared.requests.Request.TheVariants.{Drop}
+use Rattle.tool.specs.declared.fault.Fault.TheVariants.{Frame}
+use Rattle.tool.specs.Inputs.{Datagrams}
+use Rattle.tool.specs.Lines.{count_line}
+use Rattle.tool.specs.Doing.{text_of}
+use Rattle.tool.proofs.Joins.{is_there, holds_session, because_unthinned}
+use Rattle.tool.proofs.Making.{committed}
+use Rattle.tool.proofs.Stopping.{kept_whole, passed_on, uncommitted}
+use Rattle.tool.proofs.drop.drop_places.Goals as goal
+
+pub returns-in_err-count-clause-fault : goal.returns-in_err-count-clause-fault
+returns-in_err-count-clause-fault g c =
+    let old = g.H.Host.world c.args.host.now in
+    let new = g.H.Host.world c.commit.new.host in
+    let r = c.args.request.now in
+    let opened = g.H.Input.Read.remaining c.in_ok-input.input in
+    let input = c.in_ok-input.ensures.input in
+    let fault = c.in_err-count.field-0.0 in
+    passed_on c.from_residual-in_err-count.result fault _ c.from_residual-in_err-count.ensures.1
+    (uncommitted old (g.H.Host.world c.create.new.host) (Drop r) r.output.now refl c.create.ensures.files c.create.ensures.silent new c.in_ok-file.ensures.created
+    (is_there old.files r.session.now opened input.bytes, tt) c.in_err-count.ensures.files c.commit.ensures.silent c.commit.ensures.created
+    (Frame Io) (λ may more. (may, refl, more)) c.thin_out-thinned.result fault
+    (because_unthinned old new r opened input.bytes _ _ _ _ _ c.thin_out-thinned.result (rw c.as_slice.ensures.value at c.thin_out-thinned.ensures.fault))
+    c.in_err-count.ensures.fault)
+
+pub returns-clause-ok : goal.returns-clause-ok
+returns-clause-ok g c =
+    let old = (g.H.Host.world c.args.host.now).files in
+    let r = c.args.request.now in
+    let count = c.in_ok-count.count in
+    let opened = g.H.Input.Read.remaining c.in_ok-input.input in
+    let left = g.H.Input.Read.remaining c.thin_out-thinned.new.reader in
+    let blank = g.H.Output.Write.contents c.in_ok-file.file in
+    let contents = g.H.Output.Write.contents c.thin_out-thinned.new.writer in
+    let thin = committed c.thin_out-thinned.result count (IsThinned r.places.items opened left blank contents) c.in_ok-count.ensures.count
+        (rw c.as_slice.ensures.value at c.thin_out-thinned.ensures.thinned) in
+    let bytes = frames (rest (is_among r.places.items) thin.datagrams) in
+    let text = count_line (codes "kept") count (codes " datagrams") in
+    record {
+      outcome = record { text = text; status = 0; output = Some bytes };
+      makes = record {
+        values = Datagrams thin.datagrams ∷ [];
+        read = (holds_session old r.session.now opened left thin.datagrams c.in_ok-input.ensures.input.bytes thin.read thin.end, tt);
+        gives = (thin.inside, (ap (λ (n : ℕ). count_line (codes "kept") n (codes " datagrams")) thin.counted, refl, refl));
+        made = (
+          kept_whole old (g.H.Host.world c.create.new.host).files (g.H.Host.world c.commit.new.host).files r.output.now bytes blank contents
+              c.in_ok-file.ensures.blank thin.written c.create.ensures.files c.in_ok-count.ensures.kept,
+          c.commit.ensures.created ∙ c.in_ok-file.ensures.created,
+        );
+      };
+      text = ap text_of (sym c.counted.ensures.told);
+      status = sym c.counted.ensures.status;
+      silent = c.commit.ensures.silent.printed ∙ c.create.ensures.silent.printed;
+    }

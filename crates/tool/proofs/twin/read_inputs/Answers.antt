@@ -1,0 +1,15 @@
+use Rattle.std.proofs.Common.{inl, inr}
+use Rattle.tool.specs.Inputs.{Datagrams, Bytes}
+use Rattle.tool.proofs.Stopping.{passed_on}
+use Rattle.tool.proofs.twin.read_inputs.Goals as goal
+
+pub returns-in_err-read_object-clause-fault : goal.returns-in_err-read_object-clause-fault
+returns-in_err-read_object-clause-fault g c =
+    passed_on c.from_residual-in_err-read_object.result c.in_err-read_object.field-0.0 _ c.from_residual-in_err-read_object.ensures.1
+    (inr (Datagrams c.in_ok-read_session.field-0, c.in_ok-read_session.ensures.ok, inl c.in_err-read_object.ensures.fault))
+
+pub returns-in_err-read_certificate-clause-fault : goal.returns-in_err-read_certificate-clause-fault
+returns-in_err-read_certificate-clause-fault g c =
+    passed_on c.from_residual-in_err-read_certificate.result c.in_err-read_certificate.field-0.0 _ c.from_residual-in_err-read_certificate.ensures.1
+    (inr (Datagrams c.in_ok-read_session.field-0, c.in_ok-read_session.ensures.ok,
+    inr (Bytes c.in_ok-read_object.field-0.items, c.in_ok-read_object.ensures.ok, inl c.in_err-read_certificate.ensures.fault)))

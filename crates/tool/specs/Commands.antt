@@ -1,0 +1,188 @@
+-- What each command gives of what it reads.
+use Rattle.std.specs.Prelude.{◌≡◌, ◌<◌, ◌+◌, ℕ, Bool, true, List, [], ◌∷◌, ◌++◌, Option, Some, None, length, map, codes, Ok, Err}
+use Rattle.lists.specs.Selection.{rest, is_among, first_outside}
+use Rattle.partition.specs.Fti.{Fti, IsValidFti, fti_from, block_count}
+use Rattle.partition.specs.FtiFault.{fti_fault}
+use Rattle.session.specs.Frames.{frames, IsReadFault}
+use Rattle.session.specs.Joined.{joined}
+use Rattle.session.specs.declared.frame.FrameFault.TheVariants.{Io as FrameIo, NoMemory as NoFrameMemory, NoSuchPlace}
+use Rattle.alc.specs.Reading.{Reading}
+use Rattle.reception.specs.declared.scope.Identity.{Identity}
+use Rattle.reception.specs.Reception.{ReadAll}
+use Rattle.reception.specs.Answer.{Answer, Empty, Fault as WrongAt, NotCode, Missing, Object, IsAnswer}
+use Rattle.cert.specs.Certificate.{Certificate, IsCertificate, is_for, named_as, certificate_text}
+use Rattle.cert.specs.Converting.{IsOfOther}
+use Rattle.cert.specs.FromReader.{IsCheckedFrom, IsRefusedBehind}
+use Rattle.cert.specs.Twins.{IsTwinOfSession}
+use Rattle.cert.specs.Verdict.{IsVerdict, GivesObject}
+use Rattle.cert.specs.declared.certificate.CertFault.TheVariants.{Io as CertificateIo, OtherIdentity}
+use Rattle.cert.specs.declared.verdict.Reason.TheVariants.{Thin}
+use Rattle.cert.specs.declared.verdict.Verdict.{Verdict}
+use Rattle.cert.specs.declared.verdict.Verdict.TheVariants.{Yes, No}
+use Rattle.coder.specs.Sending.{most_symbol_bytes, CanBeSent, IsSessionOf, pairs}
+use Rattle.coder.specs.Certified.{CertifiesSent}
+use Rattle.coder.specs.declared.sending.SendFault.TheVariants.{SymbolTooLong, Io as SendIo}
+use Rattle.request.specs.declared.requests.Sizes.{Sizes}
+use Rattle.request.specs.declared.requests.Sending.{Sending}
+use Rattle.request.specs.declared.requests.Request.{Request}
+use Rattle.request.specs.declared.requests.Request.TheVariants.{Check, Twin, Show, Encode, Certify, Convert, Decode, Follow, Drop, Join}
+use Rattle.tool.specs.World.{World, Holds, MayFail}
+use Rattle.tool.specs.Inputs.{Input, AnObject, ASession, ACertificate, AStream, Value, Bytes, Datagrams, Polynomials, Opened, HasValue, HaveValues, AreThere, IsSomeUnread}
+use Rattle.tool.specs.Lines.{line_of, count_line, short_text, numbered, verdict_text, answer_text, reading_text}
+use Rattle.tool.specs.Following.{IsHeard, Ends, ends_text}
+use Rattle.tool.specs.declared.fault.Fault.{Fault}
+use Rattle.tool.specs.declared.fault.Fault.TheVariants.{File, Frame, Certificate as NoCertificate, Fti as NoFti, Send}
+
+-- what a request reads, in order
+abbrev pub inputs_of : Request → List Input
+inputs_of (Check r) = AStream r.session.now ∷ AnObject r.object.now ∷ ACertificate r.certificate.now ∷ []
+inputs_of (Twin r) = ASession r.session.now ∷ AnObject r.object.now ∷ ACertificate r.certificate.now ∷ []
+inputs_of (Show r) = ASession r.session.now ∷ []
+inputs_of (Encode r) = AnObject r.object.now ∷ []
+inputs_of (Certify r) = AnObject r.object.now ∷ []
+inputs_of (Convert r) = ACertificate r.certificate.now ∷ []
+inputs_of (Decode r) = ASession r.session.now ∷ []
+inputs_of (Follow r) = AStream r.session.now ∷ []
+inputs_of (Drop r) = ASession r.session.now ∷ []
+inputs_of (Join r) = map (λ session. ASession session.now) r.sessions.items
+
+-- the name of its output, where it has one, and the fault that tells that writing has failed
+abbrev pub output_of : Request → Option (List ℕ)
+output_of (Check r) = None
+output_of (Twin r) = Some r.output.now
+output_of (Show r) = None
+output_of (Encode r) = Some r.output.now
+output_of (Certify r) = Some r.output.now
+output_of (Convert r) = Some r.output.now
+output_of (Decode r) = Some r.output.now
+output_of (Follow r) = Some r.output.now
+output_of (Drop r) = Some r.output.now
+output_of (Join r) = Some r.output.now
+
+abbrev pub IsWriteFault : Request → Fault → Type 0
+IsWriteFault (Encode r) fault = fault ≡ Send SendIo
+IsWriteFault (Certify r) fault = fault ≡ NoCertificate CertificateIo
+IsWriteFault (Convert r) fault = fault ≡ NoCertificate CertificateIo
+IsWriteFault (Drop r) fault = fault ≡ Frame FrameIo
+IsWriteFault (Join r) fault = fault ≡ Frame FrameIo
+IsWriteFault (Twin r) (File name) = name.now ≡ r.output.now
+IsWriteFault (Decode r) (File name) = name.now ≡ r.output.now
+IsWriteFault (Follow r) (File name) = name.now ≡ r.output.now
+IsWriteFault r fault = ⊥
+
+-- ---- what comes of it
+
+-- what is printed, the status, and the bytes of the output, where there is one
+pub record Outcome : Type 0 where
+  pub text : List ℕ
+  pub status : ℕ
+  pub output : Option (List ℕ)
+
+abbrev pub IsOutcome : List ℕ → ℕ → Option (List ℕ) → Outcome → Type 0
+IsOutcome text status output outcome = (outcome.text ≡ text) × (outcome.status ≡ status) × (outcome.output ≡ output)
+
+abbrev pub status_of : Verdict → ℕ
+status_of (Yes report) = 0
+status_of (No reason) = 1
+
+-- where a block is short, another object that agrees with all datagrams
+abbrev pub GivesTwin : Identity → Verdict → Fti → List (List ℕ) → List ℕ → Outcome → Type 0
+GivesTwin who (Yes report) f datagrams object outcome = IsOutcome (line_of (codes "no twin")) 1 None outcome
+GivesTwin who (No (Thin block have need)) f datagrams object outcome =
+    (other : List ℕ) × IsTwinOfSession who f block datagrams object other
+    × IsOutcome (line_of (short_text (codes "twin block") block have need)) 0 (Some other) outcome
+GivesTwin who (No reason) f datagrams object outcome = IsOutcome (verdict_text (No reason)) 1 None outcome
+
+abbrev pub shown_status : List Reading → ℕ
+shown_status [] = 0
+shown_status (Ok packet ∷ readings) = shown_status readings
+shown_status (Err fault ∷ readings) = 1
+
+-- the FTI of an object of so many bytes
+abbrev pub sized : Sizes → ℕ → Fti
+sized sizes l = fti_from l sizes.symbol sizes.block sizes.max_n
+
+abbrev pub GivesSession : Sending → List ℕ → Fti → Outcome → Type 0
+GivesSession s object f outcome =
+    IsValidFti f × CanBeSent object f × (datagrams : List (List ℕ))
+    × IsSessionOf object f s.identity.tsi s.identity.toi s.fti_every s.order datagrams
+    × IsOutcome (count_line (codes "encoded") (length (pairs s.order f)) (codes " datagrams")) 0 (Some (frames datagrams)) outcome
+
+-- a certificate of the object, and of every session that is sent of it
+abbrev pub GivesCertificate : Identity → List ℕ → Fti → Outcome → Type 0
+GivesCertificate who object f outcome =
+    (z : Certificate) × IsCertificate z × (z.fti ≡ f) × GivesObject object z × CertifiesSent object z
+    × IsOutcome (count_line (codes "certified") (block_count f) (codes " blocks")) 0 (Some (certificate_text (named_as who z))) outcome
+
+abbrev pub GivesDatagrams : List ℕ → List (List ℕ) → Outcome → Type 0
+GivesDatagrams name datagrams outcome =
+    IsOutcome (count_line name (length datagrams) (codes " datagrams")) 0 (Some (frames datagrams)) outcome
+
+-- 0 where there is an object, 1 where there is a fault, and 3 where too little came
+abbrev pub answer_status : Answer → ℕ
+answer_status (Object object) = 0
+answer_status (Missing block have need) = 3
+answer_status Empty = 3
+answer_status (WrongAt place wrong) = 1
+answer_status (NotCode block) = 1
+
+abbrev pub object_of : Answer → Option (List ℕ)
+object_of (Object object) = Some object
+object_of answer = None
+
+-- what comes of the values that a request's inputs give
+abbrev pub Gives : Request → List Value → Outcome → Type 0
+Gives (Check r) (Opened opened ∷ Bytes object ∷ Polynomials z ∷ []) outcome =
+    (verdict : Verdict) × (left : Option (List ℕ)) × IsCheckedFrom r.identity opened left object z verdict
+    × IsOutcome (verdict_text verdict) (status_of verdict) None outcome
+Gives (Twin r) (Datagrams datagrams ∷ Bytes object ∷ Polynomials z ∷ []) outcome =
+    (verdict : Verdict) × IsVerdict r.identity datagrams object z verdict
+    × GivesTwin r.identity verdict z.fti datagrams object outcome
+Gives (Show r) (Datagrams datagrams ∷ []) outcome =
+    (readings : List Reading) × ReadAll datagrams readings
+    × IsOutcome (numbered reading_text 0 readings) (shown_status readings) None outcome
+Gives (Encode r) (Bytes object ∷ []) outcome = GivesSession r.sending object (sized r.sending.sizes (length object)) outcome
+Gives (Certify r) (Bytes object ∷ []) outcome = GivesCertificate r.identity object (sized r.sizes (length object)) outcome
+Gives (Convert r) (Polynomials z ∷ []) outcome =
+    (is_for r.identity z.name ≡ true)
+    × IsOutcome (count_line (codes "converted") (block_count z.fti) (codes " blocks")) 0 (Some (certificate_text (named_as r.identity z))) outcome
+Gives (Decode r) (Datagrams datagrams ∷ []) outcome =
+    (answer : Answer) × IsAnswer r.identity datagrams answer
+    × IsOutcome (line_of (answer_text answer)) (answer_status answer) (object_of answer) outcome
+Gives (Follow r) (Opened opened ∷ []) outcome =
+    (left : Option (List ℕ)) × (read : ℕ) × (taken : List (List ℕ)) × (lines : List ℕ) × (answer : Answer)
+    × IsHeard r.identity opened left read taken lines × IsAnswer r.identity taken answer × Ends answer left
+    × IsOutcome (lines ++ ends_text answer read) (answer_status answer) (object_of answer) outcome
+Gives (Drop r) (Datagrams datagrams ∷ []) outcome =
+    (first_outside (length datagrams) r.places.items ≡ None)
+    × GivesDatagrams (codes "kept") (rest (is_among r.places.items) datagrams) outcome
+Gives (Join r) values outcome =
+    (lists : List (List (List ℕ))) × (values ≡ map Datagrams lists) × GivesDatagrams (codes "joined") (joined r.turns lists) outcome
+Gives r values outcome = ⊥
+
+-- Why nothing does, though the inputs are there, and what was printed before: a frame of a stream can't be read; an
+-- object's length makes no FTI, or its symbols are too long; a certificate is another's; a session hasn't a place; or one of
+-- several sessions gives no datagrams.
+abbrev pub Refuses : World → Request → List ℕ → Fault → Type 0
+Refuses world (Check r) text (Frame fault) =
+    (opened : Option (List ℕ)) × (object : List ℕ) × (z : Certificate) × (left : Option (List ℕ)) × (failed : Bool)
+    × HaveValues world.files (inputs_of (Check r)) (Opened opened ∷ Bytes object ∷ Polynomials z ∷ [])
+    × IsRefusedBehind r.identity fault opened left failed object z × (fault ≡ FrameIo → MayFail world)
+Refuses world (Follow r) text (Frame fault) =
+    (opened : Option (List ℕ)) × (left : Option (List ℕ)) × (new : Option (List ℕ)) × (failed : Bool) × (read : ℕ) × (taken : List (List ℕ))
+    × HasValue world.files (AStream r.session.now) (Opened opened) × IsHeard r.identity opened left read taken text
+    × IsReadFault fault left new failed × (fault ≡ FrameIo → MayFail world)
+Refuses world (Encode r) text (NoFti fault) =
+    (object : List ℕ) × HasValue world.files (AnObject r.object.now) (Bytes object)
+    × (fti_fault (sized r.sending.sizes (length object)) ≡ Some fault)
+Refuses world (Encode r) text (Send SymbolTooLong) = most_symbol_bytes < r.sending.sizes.symbol
+Refuses world (Certify r) text (NoFti fault) =
+    (object : List ℕ) × HasValue world.files (AnObject r.object.now) (Bytes object)
+    × (fti_fault (sized r.sizes (length object)) ≡ Some fault)
+Refuses world (Convert r) text (NoCertificate OtherIdentity) = Holds world.files r.certificate.now (IsOfOther r.identity)
+Refuses world (Drop r) text (Frame (NoSuchPlace place)) =
+    (datagrams : List (List ℕ)) × HasValue world.files (ASession r.session.now) (Datagrams datagrams)
+    × (first_outside (length datagrams) r.places.items ≡ Some place)
+Refuses world (Join r) text (Frame fault) =
+    AreThere world.files (inputs_of (Join r)) × IsSomeUnread world (inputs_of (Join r)) (Frame fault)
+Refuses world r text fault = ⊥
