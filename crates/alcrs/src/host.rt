@@ -1,6 +1,6 @@
 //! The host's files and its standard output.
 ghost use Rattle.std.specs.Prelude.{◌≡◌, ◌^◌, ◌-◌, None, false, IfOk};
-ghost use Rattle.tool.specs.World.{untold};
+ghost use Rattle.tool.specs.Worlds.{untold};
 
 use session::{Device, Failed, Write, write_all};
 use std::alloc::Global;

@@ -1,7 +1,6 @@
 -- Certificates that are converted.
 use Rattle.std.proofs.Common.{◌≡◌, ◌∙◌, ℕ, Bool, List, [], Option, Some, None, Result, Err, inl, refl, sym, subst}
 use Rattle.std.specs.Prelude.{IfSome, IfErr}
-use Rattle.reception.specs.declared.scope.Identity.{Identity}
 use Rattle.cert.specs.Certificate.{Certificate, IsCertificate, certificate_text, text_fault}
 use Rattle.cert.specs.Converting.{IsOfOther, IsNameFault}
 use Rattle.cert.specs.declared.certificate.CertFault.{CertFault}

@@ -1,5 +1,5 @@
 -- An object that was told and written.
-use Rattle.std.proofs.Common.{◌≡◌, ◌∙◌, ◌++◌, ◌⊎◌, ℕ, List, Option, length, inl, inr, refl, sym, ap, subst}
+use Rattle.std.proofs.Common.{◌≡◌, ◌∙◌, ◌⊎◌, ℕ, List, Option, inl, inr, refl, sym, ap, subst}
 use Rattle.std.specs.Prelude.{codes}
 use Rattle.std.specs.Io.KnownBytes.{Appends}
 use Rattle.session.proofs.Writes.{then_appends}
@@ -12,7 +12,7 @@ use Rattle.tool.specs.Lines.{line_of, count_line, answer_text}
 use Rattle.tool.specs.Following.{complete_line}
 use Rattle.tool.specs.Outcomes.{IsUnmade}
 use Rattle.tool.specs.Doing.{IsUnwritten}
-use Rattle.tool.specs.Listening.{heard_of, IsWritten, IsObjectMade, IsDelivered, IsUndelivered}
+use Rattle.tool.specs.Listening.{heard_of, IsWritten, IsDelivered, IsUndelivered}
 use Rattle.tool.specs.declared.fault.Fault.{Fault}
 use Rattle.tool.specs.declared.fault.Fault.TheVariants.{Memory}
 use Rattle.tool.specs.declared.fault.Stop.TheVariants.{ByFault}

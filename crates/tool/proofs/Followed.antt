@@ -1,9 +1,8 @@
 -- Datagrams that come one by one, and one more.
-use Rattle.std.proofs.Common.{◌≡◌, ◌≢◌, ◌⊎◌, ◌≤◌, ◌+◌, ◌-◌, ◌^◌, ◌∙◌, ℕ, suc, Bool, List, [], ◌∷◌, ◌++◌, length, Option, Some, None, Result, Ok, Err, inl, inr, refl, sym, ap, subst, arith, append_assoc}
+use Rattle.std.proofs.Common.{◌≡◌, ◌≢◌, ◌⊎◌, ◌≤◌, ◌+◌, ◌-◌, ◌^◌, ◌∙◌, ℕ, suc, List, [], ◌∷◌, ◌++◌, length, Option, Some, None, inl, inr, refl, sym, ap, subst, arith, append_assoc}
 use Rattle.std.proofs.lemmas.List.{append-nil, length-append}
-use Rattle.std.specs.Prelude.{IfErr}
-use Rattle.std.specs.Io.KnownBytes.{Consumes, Appends, IsAtEnd}
-use Rattle.session.specs.Frames.{frame, most_bytes, IsReadFault}
+use Rattle.std.specs.Io.KnownBytes.{Consumes, Appends}
+use Rattle.session.specs.Frames.{frame, most_bytes}
 use Rattle.session.specs.declared.frame.FrameFault.{FrameFault}
 use Rattle.session.specs.declared.frame.FrameFault.TheVariants as frame_fault
 use Rattle.session.proofs.Sessions.{short_push}
@@ -15,7 +14,7 @@ use Rattle.partition.specs.Fti.{Fti as FtiValue}
 use Rattle.alc.specs.Reading.{Reading}
 use Rattle.reception.specs.Reception.{ReadAll}
 use Rattle.reception.specs.Answer.{IsAnswer, reception_of}
-use Rattle.decoder.specs.Answers.{answer_value, IsNoFault}
+use Rattle.decoder.specs.Answers.{answer_value}
 use Rattle.decoder.specs.Receiving.{with_datagram, LeaveNoneShort, HasNoFault, ComesEarly}
 use Rattle.decoder.specs.declared.answer.Answer.{Answer}
 use Rattle.decoder.specs.declared.answer.Answer.TheVariants.{Empty, Fault as NoObject, Missing, Object}

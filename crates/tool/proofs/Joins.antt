@@ -2,7 +2,7 @@
 use Rattle.std.proofs.Common.{◌≡◌, ◌≢◌, ◌⊎◌, ◌<◌, ◌+◌, ◌∙◌, ◌++◌, ◌∷◌, [], ℕ, zero, suc, Bool, List, Option, length, map, take, get_or, inl, inr, refl, sym, ap, arith, subst}
 use Rattle.std.specs.Prelude.{Some, None, Result, Err, IfSome, IfErr, ⊤}
 use Rattle.lists.specs.Selection.{first_outside}
-use Rattle.std.specs.Io.KnownBytes.{Appends, IsAtEnd}
+use Rattle.std.specs.Io.KnownBytes.{IsAtEnd}
 use Rattle.std.specs.Borrow.{Bor}
 use Rattle.std.proofs.lemmas.List.{append-nil, map-append, take_more}
 use Rattle.session.specs.Frames.{frames, HasRead, IsSessionFault, IsNoFrame, StopsAt}
@@ -12,8 +12,8 @@ use Rattle.session.specs.declared.frame.FrameFault.{FrameFault}
 use Rattle.session.specs.declared.frame.FrameFault.TheVariants.{CutLength, CutDatagram, TooLong, Io, NoMemory, NoSuchPlace}
 use Rattle.tool.specs.declared.fault.Fault.{Fault}
 use Rattle.tool.specs.declared.fault.Fault.TheVariants.{Open, File, Memory, Frame, Certificate, Fti, Send}
-use Rattle.tool.specs.World.{Files, World, Holds, GivesFile}
-use Rattle.tool.specs.Inputs.{Input, ASession, AStream, Value, Datagrams, Opened, HasValue, HaveValues, AreThere, IsUnopened, IsUnread, IsFirstUnopened, IsSomeUnread}
+use Rattle.tool.specs.World.{Files, World, Holds}
+use Rattle.tool.specs.Inputs.{Input, ASession, AStream, Datagrams, Opened, HasValue, HaveValues, AreThere, IsUnopened, IsUnread, IsFirstUnopened, IsSomeUnread}
 use Rattle.request.specs.declared.requests.DropRequest.{DropRequest}
 use Rattle.request.specs.declared.requests.JoinRequest.{JoinRequest}
 use Rattle.request.specs.declared.requests.Request.TheVariants.{Drop, Join}
@@ -196,9 +196,9 @@ module _ (old new : World) (r : JoinRequest) (opened : List (Option (List ℕ)))
   join_fault (File n) why = absurd why
   join_fault Memory why = tt
   join_fault (Frame e) why =
-      by_refused old new (Join r) [] (Frame e)
-      (are_there old.files r.sessions.items opened are,
-      unjoined old r.sessions.items opened turns e sound failed before after room writer_failed are why.2 why.0 why.1)
+      by_unread old new (Join r) [] (Frame e)
+      (inr (are_there old.files r.sessions.items opened are,
+      unjoined old r.sessions.items opened turns e sound failed before after room writer_failed are why.2 why.0 why.1))
   join_fault (Certificate e) why = absurd why
   join_fault (Fti e) why = absurd why
   join_fault (Send e) why = absurd why

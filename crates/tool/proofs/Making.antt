@@ -1,5 +1,5 @@
 -- What was written and kept.
-use Rattle.std.proofs.Common.{◌≡◌, ◌∙◌, ℕ, List, [], Option, Some, None, Result, Ok, refl, sym, ap, subst, length}
+use Rattle.std.proofs.Common.{◌≡◌, ◌∙◌, ℕ, List, Option, Some, None, Result, Ok, refl, sym, subst, length}
 use Rattle.std.specs.Prelude.{IfSome, IfOk, replicate}
 use Rattle.std.proofs.lemmas.List.{length-replicate}
 use Rattle.tool.specs.World.{Files, Holds, LeavesBytes}

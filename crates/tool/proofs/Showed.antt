@@ -1,5 +1,5 @@
 -- Datagrams that were shown.
-use Rattle.std.proofs.Common.{◌≡◌, ◌∙◌, ℕ, List, [], ◌∷◌, length, None, refl, subst}
+use Rattle.std.proofs.Common.{◌∙◌, ℕ, List, [], ◌∷◌, length, None, refl, subst}
 use Rattle.std.proofs.Math.Seq.{take-length}
 use Rattle.reception.specs.Reception.{ReadAll}
 use Rattle.request.specs.declared.requests.ShowRequest.{ShowRequest}

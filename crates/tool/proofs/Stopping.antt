@@ -5,9 +5,8 @@ use Rattle.std.specs.Io.KnownBytes.{Appends}
 use Rattle.request.specs.declared.requests.Request.{Request}
 use Rattle.request.specs.declared.requests.Request.TheVariants.{Check, Twin, Show, Encode, Certify, Convert, Decode, Follow, Drop, Join}
 use Rattle.tool.specs.World.{Files, World, MayFail, KeepsFiles, IsSilent, Replaces, one_more}
-use Rattle.tool.specs.Inputs.{IsFirstUnopened, IsFirstUnread}
-use Rattle.tool.specs.Commands.{inputs_of, output_of, Refuses}
-use Rattle.tool.specs.Outcomes.{IsUnmade, IsBecause, BeginsText, MayCreate, IsStopped}
+use Rattle.tool.specs.Commands.{output_of, Refuses}
+use Rattle.tool.specs.Outcomes.{IsUnmade, IsUnhad, IsBecause, BeginsText, MayCreate}
 use Rattle.tool.specs.Doing.{HasStopped, IsUncreated, IsUncommitted, IsUnkept}
 use Rattle.tool.specs.declared.fault.Fault.{Fault}
 use Rattle.tool.specs.declared.fault.Fault.TheVariants.{Open, File, Memory, Frame, Certificate, Fti, Send}
@@ -28,8 +27,7 @@ begins_nothing files (Drop r) = refl
 begins_nothing files (Join r) = refl
 
 module _ (old new : World) (r : Request) (text : List ℕ) where
-  because : (fault : Fault) → IsFirstUnopened old (inputs_of r) fault ⊎ (IsFirstUnread old (inputs_of r) fault ⊎ (Refuses old r text fault ⊎ IsUnmade old new r fault))
-      → IsBecause old new r text fault
+  because : (fault : Fault) → IsUnhad old r fault ⊎ (Refuses old r text fault ⊎ IsUnmade old new r fault) → IsBecause old new r text fault
   because (Open name) h = h
   because (File name) h = h
   because Memory h = tt
@@ -38,17 +36,14 @@ module _ (old new : World) (r : Request) (text : List ℕ) where
   because (Fti e) h = h
   because (Send e) h = h
 
-  pub by_unopened : (fault : Fault) → IsFirstUnopened old (inputs_of r) fault → IsBecause old new r text fault
-  by_unopened fault h = because fault (inl h)
-
-  pub by_unread : (fault : Fault) → IsFirstUnread old (inputs_of r) fault → IsBecause old new r text fault
-  by_unread fault h = because fault (inr (inl h))
+  pub by_unread : (fault : Fault) → IsUnhad old r fault → IsBecause old new r text fault
+  by_unread fault h = because fault (inl h)
 
   pub by_refused : (fault : Fault) → Refuses old r text fault → IsBecause old new r text fault
-  by_refused fault h = because fault (inr (inr (inl h)))
+  by_refused fault h = because fault (inr (inl h))
 
   pub by_unmade : (fault : Fault) → IsUnmade old new r fault → IsBecause old new r text fault
-  by_unmade fault h = because fault (inr (inr (inr h)))
+  by_unmade fault h = because fault (inr (inr h))
 
 -- before an output
 pub stopped : (w : World) (r : Request) (fault : Fault) → IsBecause w w r [] fault → HasStopped w w r fault

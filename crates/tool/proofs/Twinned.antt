@@ -1,6 +1,5 @@
 -- What came of a request for a twin, by what was told of it.
-use Rattle.std.proofs.Common.{◌≡◌, ◌∙◌, ℕ, List, [], ◌∷◌, Option, Some, None, refl, sym, ap, subst, Vec}
-use Rattle.std.specs.Prelude.{codes}
+use Rattle.std.proofs.Common.{◌≡◌, ℕ, List, [], ◌∷◌, Option, Some, None, refl, sym, ap, subst, Vec}
 use Rattle.std.specs.declared.alloc.Global.{Global}
 use Rattle.reception.specs.declared.scope.Identity.{Identity}
 use Rattle.cert.specs.Twins.{IsTwinOfSession}
@@ -16,9 +15,9 @@ use Rattle.tool.specs.declared.twin.Answered.{Answered}
 use Rattle.tool.specs.declared.done.Done.{Done}
 use Rattle.tool.specs.declared.done.Told.TheVariants.{Lines}
 use Rattle.tool.specs.World.{Files, World, Replaces, one_more}
-use Rattle.tool.specs.Inputs.{Value, Datagrams, Bytes, Polynomials, HaveValues}
-use Rattle.tool.specs.Lines.{line_of, short_text, verdict_text}
-use Rattle.tool.specs.Commands.{Outcome, Gives, GivesTwin, inputs_of}
+use Rattle.tool.specs.Inputs.{Value, Datagrams, Bytes, Polynomials}
+use Rattle.tool.specs.Lines.{verdict_text}
+use Rattle.tool.specs.Commands.{Outcome, GivesTwin}
 use Rattle.tool.specs.Outcomes.{MayCreate}
 use Rattle.tool.specs.Doing.{text_of, HasMade}
 use Rattle.tool.specs.ShortBlocks.{short_of}

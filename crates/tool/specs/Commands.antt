@@ -5,7 +5,7 @@ use Rattle.partition.specs.Fti.{Fti, IsValidFti, fti_from, block_count}
 use Rattle.partition.specs.FtiFault.{fti_fault}
 use Rattle.session.specs.Frames.{frames, IsReadFault}
 use Rattle.session.specs.Joined.{joined}
-use Rattle.session.specs.declared.frame.FrameFault.TheVariants.{Io as FrameIo, NoMemory as NoFrameMemory, NoSuchPlace}
+use Rattle.session.specs.declared.frame.FrameFault.TheVariants.{Io as FrameIo, NoSuchPlace}
 use Rattle.alc.specs.Reading.{Reading}
 use Rattle.reception.specs.declared.scope.Identity.{Identity}
 use Rattle.reception.specs.Reception.{ReadAll}
@@ -27,7 +27,7 @@ use Rattle.request.specs.declared.requests.Sending.{Sending}
 use Rattle.request.specs.declared.requests.Request.{Request}
 use Rattle.request.specs.declared.requests.Request.TheVariants.{Check, Twin, Show, Encode, Certify, Convert, Decode, Follow, Drop, Join}
 use Rattle.tool.specs.World.{World, Holds, MayFail}
-use Rattle.tool.specs.Inputs.{Input, AnObject, ASession, ACertificate, AStream, Value, Bytes, Datagrams, Polynomials, Opened, HasValue, HaveValues, AreThere, IsSomeUnread}
+use Rattle.tool.specs.Inputs.{Input, AnObject, ASession, ACertificate, AStream, Value, Bytes, Datagrams, Polynomials, Opened, HasValue, HaveValues}
 use Rattle.tool.specs.Lines.{line_of, count_line, short_text, numbered, verdict_text, answer_text, reading_text}
 use Rattle.tool.specs.Following.{IsHeard, Ends, ends_text}
 use Rattle.tool.specs.declared.fault.Fault.{Fault}
@@ -161,8 +161,7 @@ Gives (Join r) values outcome =
 Gives r values outcome = ⊥
 
 -- Why nothing does, though the inputs are there, and what was printed before: a frame of a stream can't be read; an
--- object's length makes no FTI, or its symbols are too long; a certificate is another's; a session hasn't a place; or one of
--- several sessions gives no datagrams.
+-- object's length makes no FTI, or its symbols are too long; a certificate is another's; a session hasn't a place.
 abbrev pub Refuses : World → Request → List ℕ → Fault → Type 0
 Refuses world (Check r) text (Frame fault) =
     (opened : Option (List ℕ)) × (object : List ℕ) × (z : Certificate) × (left : Option (List ℕ)) × (failed : Bool)
@@ -183,6 +182,4 @@ Refuses world (Convert r) text (NoCertificate OtherIdentity) = Holds world.files
 Refuses world (Drop r) text (Frame (NoSuchPlace place)) =
     (datagrams : List (List ℕ)) × HasValue world.files (ASession r.session.now) (Datagrams datagrams)
     × (first_outside (length datagrams) r.places.items ≡ Some place)
-Refuses world (Join r) text (Frame fault) =
-    AreThere world.files (inputs_of (Join r)) × IsSomeUnread world (inputs_of (Join r)) (Frame fault)
 Refuses world r text fault = ⊥

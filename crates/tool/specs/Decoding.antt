@@ -1,5 +1,5 @@
 -- What is told and written of a session that is decoded.
-use Rattle.std.specs.Prelude.{◌≡◌, ℕ, List, Option, None, ⊤}
+use Rattle.std.specs.Prelude.{◌≡◌, ℕ, List, Option, ⊤}
 use Rattle.reception.specs.Answer.{Answer, Object, IsAnswer}
 use Rattle.decoder.specs.SymbolsOf.{AreSymbolsOf}
 use Rattle.decoder.specs.declared.gathering.ObjectSymbols.{ObjectSymbols}

@@ -1,5 +1,5 @@
 -- What a command has done, before it is told.
-use Rattle.std.specs.Prelude.{◌≡◌, ◌⊎◌, ℕ, List, [], Option, Result, Ok, Err}
+use Rattle.std.specs.Prelude.{◌≡◌, ◌⊎◌, ℕ, List, [], Result, Err}
 use Rattle.request.specs.declared.requests.Request.{Request}
 use Rattle.tool.specs.World.{World, MayFail, one_more}
 use Rattle.tool.specs.Lines.{count_line}

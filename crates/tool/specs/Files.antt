@@ -1,7 +1,7 @@
 -- Named files in memory.
-use Rattle.std.specs.Prelude.{ℕ, Bool, false, List, [], ◌∷◌, ◌≡◌, ◌++◌, Some, None, String, string_bytes, Vec}
+use Rattle.std.specs.Prelude.{ℕ, List, [], ◌∷◌, ◌≡◌, ◌++◌, None, String, string_bytes, Vec}
 use Rattle.std.specs.declared.alloc.Global.{Global}
-use Rattle.tool.specs.World.{Files, World, with_file}
+use Rattle.tool.specs.World.{Files, with_file}
 
 -- a file's name and bytes
 abbrev pub File : Type 0
@@ -25,13 +25,3 @@ pub record AddsFile (old new : List File) (name bytes : List ℕ) : Type 0 where
   pub named : string_bytes kept ≡ name
   pub whole : vector.items ≡ bytes
   pub behind : new ≡ old ++ (kept, vector) ∷ []
-
--- all is told, and no call fails but for want of memory
-abbrev pub memory_world : List File → List ℕ → Bool → ℕ → World
-memory_world files printed failed created = record {
-  files = Some (files_of files);
-  fallible = false;
-  printed = Some printed;
-  failed = failed;
-  created = Some created;
-}

@@ -1,22 +1,2 @@
-pub mod World
-pub mod Files
-pub mod Inputs
-pub mod Words
-pub mod Lines
-pub mod Following
-pub mod Commands
-pub mod Outcomes
-pub mod Doing
-pub mod ReadingObjects
-pub mod Sending
-pub mod Certifying
-pub mod Converted
-pub mod Copying
-pub mod Opening
-pub mod Decoding
-pub mod Showing
-pub mod ShortBlocks
-pub mod TwinsTold
-pub mod Listening
-pub mod Checks
-pub mod Answering
+
+pub mod Worlds

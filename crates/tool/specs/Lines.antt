@@ -11,7 +11,6 @@ use Rattle.cert.specs.declared.verdict.Verdict.TheVariants.{Yes, No}
 use Rattle.reception.specs.Answer.{Answer, Empty as NothingCame, Fault as WrongAt, NotCode, Missing, Object, Clash, Clashes}
 use Rattle.reception.specs.Reception.{Wrong, Faulty, Judged}
 use Rattle.reception.specs.declared.scope.PlaceFault.TheVariants as place_fault
-use Rattle.decoder.specs.declared.answer.DecodeFault.{DecodeFault}
 use Rattle.decoder.specs.Answers.{fault_value}
 use Rattle.decoder.specs.declared.receiver.FeedFault.{FeedFault}
 use Rattle.decoder.specs.declared.receiver.FeedFault.TheVariants.{Fault as NoObject, Full, Early, NoMemory}

@@ -1,13 +1,13 @@
 -- What a command does.
-use Rattle.std.specs.Prelude.{◌≡◌, ◌⊎◌, ◌≤◌, ℕ, true, List, [], ◌++◌, Option, Some, None, take, length, ⊤}
+use Rattle.std.specs.Prelude.{◌≡◌, ◌⊎◌, ℕ, true, List, [], Option, Some, None, take, ⊤}
 use Rattle.std.specs.Io.KnownBytes.{Appends}
 use Rattle.alc.specs.Reading.{Reading}
 use Rattle.reception.specs.Reception.{ReadAll}
 use Rattle.decoder.specs.Receiving.{LeaveNoneShort}
 use Rattle.request.specs.declared.requests.Request.{Request}
-use Rattle.request.specs.declared.requests.Request.TheVariants.{Twin, Show, Decode, Follow}
+use Rattle.request.specs.declared.requests.Request.TheVariants.{Twin, Show, Decode, Follow, Join}
 use Rattle.tool.specs.World.{Files, World, MayFail, Replaces, one_more}
-use Rattle.tool.specs.Inputs.{ASession, AStream, Value, Datagrams, Opened, HasValue, HaveValues, AreThere, IsFirstUnopened, IsFirstUnread}
+use Rattle.tool.specs.Inputs.{ASession, AStream, Value, Datagrams, Opened, HasValue, HaveValues, AreThere, IsFirstUnopened, IsFirstUnread, IsSomeUnread}
 use Rattle.tool.specs.Lines.{numbered, reading_text, TellsFault}
 use Rattle.tool.specs.Following.{IsHeard, IsHeardInPart}
 use Rattle.tool.specs.Commands.{inputs_of, output_of, IsWriteFault, Outcome, Gives, Refuses}
@@ -42,13 +42,19 @@ IsUnmade old new r (Open name) =
     MayFail old × (output_of r ≡ Some name.now) × (new.created ≡ old.created)
 IsUnmade old new r fault = MayFail old × IsWriteFault r fault × (new.created ≡ one_more old.created)
 
--- Why the request wasn't done, by what was printed before: an input doesn't open, or gives no value; or the request is
--- refused; or its output isn't made; or there is no memory.
+-- The first input that can't be had, in their order. Sessions that are joined are opened before one is read, and any of
+-- them may give no datagrams then.
+abbrev pub IsUnhad : World → Request → Fault → Type 0
+IsUnhad world (Join r) fault =
+    IsFirstUnopened world (inputs_of (Join r)) fault
+    ⊎ (AreThere world.files (inputs_of (Join r)) × IsSomeUnread world (inputs_of (Join r)) fault)
+IsUnhad world r fault = IsFirstUnread world (inputs_of r) fault
+
+-- Why the request wasn't done, by what was printed before: an input can't be had; or the request is refused; or its output
+-- isn't made; or there is no memory.
 abbrev pub IsBecause : World → World → Request → List ℕ → Fault → Type 0
 IsBecause old new r text Memory = ⊤
-IsBecause old new r text fault =
-    IsFirstUnopened old (inputs_of r) fault ⊎ IsFirstUnread old (inputs_of r) fault
-    ⊎ Refuses old r text fault ⊎ IsUnmade old new r fault
+IsBecause old new r text fault = IsUnhad old r fault ⊎ Refuses old r text fault ⊎ IsUnmade old new r fault
 
 -- Whether an output may be created before a fault: of an object that datagrams give, once they do; else once all inputs are
 -- there.

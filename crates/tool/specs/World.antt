@@ -18,10 +18,6 @@ pub record World : Type 0 where
   pub failed : Bool
   pub created : Option ℕ
 
--- nothing is told, but whether printing has failed
-abbrev pub untold : Bool → World
-untold failed = record { files = None; fallible = true; printed = None; failed = failed; created = None }
-
 -- the same, but for one name
 abbrev pub with_file : Files → List ℕ → List ℕ → Files
 with_file files name bytes = λ other. if bytes_eq name other then Some bytes else files other

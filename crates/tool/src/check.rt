@@ -6,7 +6,7 @@ ghost use Rattle.request.specs.declared.requests.Request.TheVariants.{Check};
 ghost use Rattle.tool.specs.Commands.{status_of as verdict_status};
 ghost use Rattle.tool.specs.Doing.{HasMade, HasStopped};
 ghost use Rattle.tool.specs.Checks.{IsNotChecked};
-ghost use Rattle.tool.specs.Lines.{line_of, named, block_text, kill_text, losses_text, report_text, reason_text, verdict_text as text_of_verdict};
+ghost use Rattle.tool.specs.Lines.{named, block_text, kill_text, losses_text, report_text, reason_text, verdict_text as text_of_verdict};
 
 use crate::done::{Done, Told};
 use crate::fault::Fault;

@@ -1,5 +1,5 @@
 //! The command `convert`.
-ghost use Rattle.std.specs.Prelude.{◌≡◌, IfOk, IfErr};
+ghost use Rattle.std.specs.Prelude.{IfOk, IfErr};
 ghost use Rattle.cert.specs.Certificate.{IsIdentity};
 ghost use Rattle.request.specs.declared.requests.Request.TheVariants.{Convert};
 ghost use Rattle.tool.specs.Doing.{HasMade, HasStopped};

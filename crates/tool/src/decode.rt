@@ -1,13 +1,10 @@
 //! The command `decode`.
-ghost use Rattle.std.specs.Prelude.{◌≡◌, ◌≤◌, ◌++◌, ℕ, List, codes, IfOk, IfErr, OnOk, OnErr};
-ghost use Rattle.reception.specs.Answer.{Missing as NotEnough};
+ghost use Rattle.std.specs.Prelude.{◌≡◌, ◌≤◌, ◌++◌, ℕ, List, IfOk, IfErr, OnOk};
 ghost use Rattle.reception.specs.declared.scope.Identity.{Identity as IdentityValue};
-ghost use Rattle.request.specs.declared.requests.Request.{Request as RequestValue};
 ghost use Rattle.request.specs.declared.requests.Request.TheVariants.{Decode};
 ghost use Rattle.decoder.specs.Answers.{answer_value, fault_value};
 ghost use Rattle.decoder.specs.Receiving.{IsWrittenOf};
 ghost use Rattle.decoder.specs.SymbolsOf.{AreSymbolsOf, AreGathered};
-ghost use Rattle.tool.specs.World.{World};
 ghost use Rattle.tool.specs.Commands.{answer_status};
 ghost use Rattle.tool.specs.Doing.{HasMade, HasStopped};
 ghost use Rattle.tool.specs.Decoding.{IsToldOf, GivesSymbols, IsWriteBroken};

@@ -1,5 +1,5 @@
 //! The command `drop`.
-ghost use Rattle.std.specs.Prelude.{◌≡◌, IfOk, IfErr};
+ghost use Rattle.std.specs.Prelude.{IfOk, IfErr};
 ghost use Rattle.request.specs.declared.requests.Request.TheVariants.{Drop};
 ghost use Rattle.session.specs.Thinning.{IsThinned, IsUnthinned};
 ghost use Rattle.tool.specs.Doing.{HasMade, HasStopped};

@@ -1,5 +1,5 @@
 //! The command `join`.
-ghost use Rattle.std.specs.Prelude.{◌≡◌, map, IfOk, IfErr};
+ghost use Rattle.std.specs.Prelude.{map, IfOk, IfErr};
 ghost use Rattle.request.specs.declared.requests.Request.TheVariants.{Join};
 ghost use Rattle.session.specs.Joining.{IsJoined, IsUnjoined};
 ghost use Rattle.tool.specs.Copying.{IsCutShort};

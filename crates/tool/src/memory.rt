@@ -1,7 +1,8 @@
 //! A host in memory.
-ghost use Rattle.std.specs.Prelude.{◌≡◌, ◌<◌, ◌≤◌, ◌-◌, ◌+◌, ◌++◌, ◌∷◌, [], None, Some, true, false, length, drop, string_bytes, IsOk, IfOk, IfErr, IfSome, IfNone, OnOk, OnErr};
+ghost use Rattle.std.specs.Prelude.{◌≡◌, ◌<◌, ◌≤◌, ◌-◌, ◌+◌, [], None, Some, true, false, length, drop, OnOk, OnErr};
 ghost use Rattle.std.specs.Option.{option_map};
-ghost use Rattle.tool.specs.Files.{files_of, AddsFile, memory_world};
+ghost use Rattle.tool.specs.Files.{files_of, AddsFile};
+ghost use Rattle.tool.specs.Worlds.{memory_world};
 
 use crate::host::{FileFault, Host};
 use session::{Failed, Read, Sink, write_all};

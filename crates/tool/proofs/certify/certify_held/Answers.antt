@@ -1,9 +1,9 @@
-use Rattle.std.proofs.Common.{◌∙◌, ℕ, [], ◌∷◌, Some, refl, sym, ap, subst, codes, length}
+use Rattle.std.proofs.Common.{◌∙◌, ℕ, [], ◌∷◌, Some, refl, sym, ap, subst, codes}
 use Rattle.cert.specs.Certificate.{certificate_text, named_as}
 use Rattle.partition.specs.Fti.{Fti}
 use Rattle.tool.specs.Inputs.{Bytes}
 use Rattle.tool.specs.Lines.{count_line}
-use Rattle.tool.specs.Commands.{sized, GivesCertificate}
+use Rattle.tool.specs.Commands.{GivesCertificate}
 use Rattle.tool.specs.Doing.{text_of}
 use Rattle.tool.specs.Certifying.{WritesCertificate}
 use Rattle.tool.proofs.Making.{committed}

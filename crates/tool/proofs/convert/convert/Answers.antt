@@ -1,4 +1,4 @@
-use Rattle.std.proofs.Common.{◌≡◌, ◌∙◌, ℕ, [], ◌∷◌, Some, refl, sym, ap, codes}
+use Rattle.std.proofs.Common.{◌∙◌, ℕ, [], ◌∷◌, Some, refl, sym, ap, codes}
 use Rattle.cert.specs.Certificate.{certificate_text, named_as}
 use Rattle.partition.specs.Fti.{block_count}
 use Rattle.request.specs.declared.requests.Request.TheVariants.{Convert}

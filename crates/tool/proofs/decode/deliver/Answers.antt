@@ -1,8 +1,7 @@
-use Rattle.std.proofs.Common.{◌≡◌, ◌∙◌, ℕ, refl, sym, ap}
+use Rattle.std.proofs.Common.{◌∙◌, refl, sym, ap}
 use Rattle.decoder.specs.Receiving.{IsWrittenOf}
 use Rattle.request.specs.declared.requests.Request.TheVariants.{Decode}
 use Rattle.tool.specs.Doing.{text_of}
-use Rattle.tool.specs.declared.fault.Fault.TheVariants.{File}
 use Rattle.tool.proofs.Decoded.{object_decoded, may_write, because_unwritten}
 use Rattle.tool.proofs.Making.{committed}
 use Rattle.tool.proofs.Stopping.{kept_whole, passed_on, uncommitted}

@@ -1,4 +1,4 @@
-use Rattle.std.proofs.Common.{◌≡◌, ◌∙◌, ℕ, [], ◌∷◌, Some, refl, sym, ap, codes}
+use Rattle.std.proofs.Common.{◌∙◌, ℕ, [], ◌∷◌, Some, refl, sym, ap, codes}
 use Rattle.lists.specs.Selection.{rest, is_among}
 use Rattle.session.specs.Frames.{frames}
 use Rattle.session.specs.Thinning.{IsThinned}

@@ -1,9 +1,9 @@
-use Rattle.std.proofs.Common.{◌∙◌, ℕ, [], ◌∷◌, Some, refl, sym, ap, subst, codes, length}
+use Rattle.std.proofs.Common.{◌∙◌, ℕ, [], ◌∷◌, Some, refl, sym, ap, subst, codes}
 use Rattle.session.specs.Frames.{frames}
 use Rattle.partition.specs.Fti.{Fti}
 use Rattle.tool.specs.Inputs.{Bytes}
 use Rattle.tool.specs.Lines.{count_line}
-use Rattle.tool.specs.Commands.{sized, GivesSession}
+use Rattle.tool.specs.Commands.{GivesSession}
 use Rattle.tool.specs.Doing.{text_of}
 use Rattle.tool.specs.Sending.{WritesSession}
 use Rattle.tool.proofs.Making.{committed}

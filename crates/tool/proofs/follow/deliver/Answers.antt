@@ -1,7 +1,3 @@
-use Rattle.std.proofs.Common.{◌≡◌, ◌∙◌, ℕ, List, Option, refl, ap, subst}
-use Rattle.std.specs.Io.KnownBytes.{Appends}
-use Rattle.request.specs.declared.requests.Request.TheVariants.{Follow}
-use Rattle.tool.specs.World.{one_more}
 use Rattle.tool.specs.declared.fault.Stop.TheVariants.{ByFault}
 use Rattle.tool.proofs.Delivered.{delivered, undelivered}
 use Rattle.tool.proofs.Stopping.{passed_on}

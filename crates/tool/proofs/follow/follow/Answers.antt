@@ -1,4 +1,4 @@
-use Rattle.std.proofs.Common.{◌∙◌, subst, sym}
+use Rattle.std.proofs.Common.{◌∙◌}
 use Rattle.std.proofs.lemmas.Result.{IfOk-weaker, IfErr-weaker}
 use Rattle.tool.proofs.Followed.{unheard, is_delivered, is_undelivered, is_lack, is_unsaid}
 use Rattle.tool.proofs.Stopping.{passed_on}

@@ -1,4 +1,4 @@
-use Rattle.std.proofs.Common.{◌≡◌, ◌∙◌, ℕ, [], Some, map, refl, sym, ap, subst, codes}
+use Rattle.std.proofs.Common.{◌∙◌, ℕ, Some, map, refl, sym, ap, subst, codes}
 use Rattle.session.specs.Frames.{frames}
 use Rattle.session.specs.Joined.{joined}
 use Rattle.session.specs.Joining.{IsJoined}

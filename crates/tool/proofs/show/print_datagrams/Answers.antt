@@ -1,4 +1,4 @@
-use Rattle.std.proofs.Common.{◌<◌, List, ℕ, Ok, Err, length, arith}
+use Rattle.std.proofs.Common.{◌<◌, Ok, Err, length, arith}
 use Rattle.alc.specs.Views.{packet_of}
 use Rattle.tool.proofs.Numbered.{one_more_shown}
 use Rattle.tool.proofs.Showed.{keeps}

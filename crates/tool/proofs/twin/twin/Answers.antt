@@ -1,4 +1,4 @@
-use Rattle.std.proofs.Common.{refl, ap, Some, ◌∙◌}
+use Rattle.std.proofs.Common.{refl}
 use Rattle.request.specs.declared.requests.Request.TheVariants.{Twin}
 use Rattle.tool.proofs.Stopping.{passed_on, unkept}
 use Rattle.tool.proofs.Twinned.{twinned, untwinned, may_create}
