@@ -42,8 +42,11 @@ module _ (r : FollowRequest) (receiver : Receiver) (taken : List (List ℕ)) (re
       → IsDelivered r (heard_of receiver taken read) old new 0
   delivered new n (object, is, replaced, created, long) printed files = (
     object,
-    (is, subst (λ (fs : Option Files). Replaces old.files fs r.output.now object) (sym files.files) (subst (λ (fs : Option Files). Replaces fs w.files r.output.now object) before.files replaced),
-    files.created ∙ created ∙ ap one_more before.created),
+    (
+      is,
+      subst (λ (fs : Option Files). Replaces old.files fs r.output.now object) (sym files.files) (subst (λ (fs : Option Files). Replaces fs w.files r.output.now object) before.files replaced),
+      files.created ∙ created ∙ ap one_more before.created,
+    ),
     then_appends old.printed w.printed new.printed (complete_line read) (line_of (answer_text (value.Object object))) told
         (subst (λ (k : ℕ). Appends w.printed new.printed (count_line (codes "object") k (codes " bytes"))) long printed),
     refl,

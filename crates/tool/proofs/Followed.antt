@@ -166,12 +166,16 @@ module _ (old : World) (r : FollowRequest) (opened : Option (List ℕ)) (held : 
     pub is_undelivered : (new : World) (stop : Stop) → IsUndelivered r (heard_of receiver made.1 read) mid new stop → IsUndone old new (Follow r) stop
     is_undelivered new Unprinted (failed, inl (same_files, none)) = record { failed = failed; done = inl (same_files ∙ files.files, none ∙ files.created) }
     is_undelivered new Unprinted (failed, inr (object, is)) = record { failed = failed; done = inr (_, makes_so new object is) }
-    is_undelivered new (ByFault fault) (why, printed) = (made.2 ++ complete_line read, before_object new printed, record {
-      because = unwritten_so fault why.because;
-      before = inr (opened, held, (made.0, read, made.1, made.2, heard_so, inr (full_so, refl)));
-      files = why.files ∙ files.files;
-      created = created_so why.created;
-    })
+    is_undelivered new (ByFault fault) (why, printed) = (
+      made.2 ++ complete_line read,
+      before_object new printed,
+      record {
+        because = unwritten_so fault why.because;
+        before = inr (opened, held, (made.0, read, made.1, made.2, heard_so, inr (full_so, refl)));
+        files = why.files ∙ files.files;
+        created = created_so why.created;
+      },
+    )
       where
         created_so : (new.created ≡ mid.created) ⊎ (new.created ≡ one_more mid.created) → (new.created ≡ old.created) ⊎ ((new.created ≡ one_more old.created) × MayCreate old.files (Follow r))
         created_so (inl none) = inl (none ∙ files.created)
@@ -199,8 +203,17 @@ module _ (old : World) (r : FollowRequest) (opened : Option (List ℕ)) (held : 
       makes = record {
         values = Opened opened ∷ [];
         read = (held, tt);
-        gives = (heard.0, heard.1, heard.2, heard.3, answer_value answer, heard_here, subst (λ (who : Identity). IsAnswer who heard.2 (answer_value answer)) same is, ends,
-            (ap (λ (t : List ℕ). heard.3 ++ t) (sym text), refl, sym none));
+        gives = (
+          heard.0,
+          heard.1,
+          heard.2,
+          heard.3,
+          answer_value answer,
+          heard_here,
+          subst (λ (who : Identity). IsAnswer who heard.2 (answer_value answer)) same is,
+          ends,
+          (ap (λ (t : List ℕ). heard.3 ++ t) (sym text), refl, sym none),
+        );
         made = (kept.files ∙ files.files, kept.created ∙ files.created);
       };
       printed = then_appends old.printed mid.printed new.printed heard.3 (line_of (answer_text (answer_value answer))) heard.8 printed;
@@ -214,12 +227,16 @@ module _ (old : World) (r : FollowRequest) (opened : Option (List ℕ)) (held : 
     is_lack new kept status (NoObject e, is, sound, printed, done) = absurd sound
 
     pub is_unsaid : (new : World) → KeepsFiles mid new → (stop : Stop) → IsUnsaid mid new stop → IsUndone old new (Follow r) stop
-    is_unsaid new kept (ByFault Memory) why = (heard.3, subst (λ (o : Option (List ℕ)). Appends old.printed o heard.3) (sym why) heard.8, record {
-      because = tt;
-      before = inr (opened, held, (heard.0, heard.1, heard.2, heard.3, heard_here, inl refl));
-      files = kept.files ∙ files.files;
-      created = inl (kept.created ∙ files.created);
-    })
+    is_unsaid new kept (ByFault Memory) why = (
+      heard.3,
+      subst (λ (o : Option (List ℕ)). Appends old.printed o heard.3) (sym why) heard.8,
+      record {
+        because = tt;
+        before = inr (opened, held, (heard.0, heard.1, heard.2, heard.3, heard_here, inl refl));
+        files = kept.files ∙ files.files;
+        created = inl (kept.created ∙ files.created);
+      },
+    )
     is_unsaid new kept (ByFault (Open n)) why = absurd why
     is_unsaid new kept (ByFault (File n)) why = absurd why
     is_unsaid new kept (ByFault (Frame e)) why = absurd why

@@ -197,8 +197,10 @@ module _ (old new : World) (r : JoinRequest) (opened : List (Option (List ℕ)))
   join_fault Memory why = tt
   join_fault (Frame e) why =
       by_unread old new (Join r) [] (Frame e)
-      (inr (are_there old.files r.sessions.items opened are,
-      unjoined old r.sessions.items opened turns e sound failed before after room writer_failed are why.2 why.0 why.1))
+      (inr (
+        are_there old.files r.sessions.items opened are,
+        unjoined old r.sessions.items opened turns e sound failed before after room writer_failed are why.2 why.0 why.1,
+      ))
   join_fault (Certificate e) why = absurd why
   join_fault (Fti e) why = absurd why
   join_fault (Send e) why = absurd why

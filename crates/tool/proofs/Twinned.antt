@@ -84,8 +84,14 @@ module _ (files : Option Files) (r : TwinRequest) (inputs : Inputs) (given : Giv
   gives_twin twin (No NoCarrier, judged, (spelled, none)) = absurd (cc)
 
   pub may_create : (twin : Vec ℕ Global) → TellsTwin r.identity inputs (record { line = line; other = Some twin }) → MayCreate files (Twin r)
-  may_create twin tells = (Datagrams inputs.session ∷ Bytes inputs.object.items ∷ Polynomials inputs.certificate ∷ [],
-      record { text = line; status = 0; output = Some twin.items }, twin.items, given, gives_twin twin tells, refl)
+  may_create twin tells = (
+    Datagrams inputs.session ∷ Bytes inputs.object.items ∷ Polynomials inputs.certificate ∷ [],
+    record { text = line; status = 0; output = Some twin.items },
+    twin.items,
+    given,
+    gives_twin twin tells,
+    refl,
+  )
 
   -- without one
   pub gives_none : TellsTwin r.identity inputs (record { line = line; other = None })

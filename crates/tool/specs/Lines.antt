@@ -142,4 +142,3 @@ reading_text place (Ok p) =
     decimal place ++ named (codes " tsi") (decimal p.tsi) ++ named (codes " toi") (decimal p.toi)
     ++ fti_text p.fti (length p.bytes) ++ named (codes " sbn") (decimal p.block) ++ named (codes " esi") (decimal p.esi)
 reading_text place (Err fault) = decimal place ++ 32 ∷ [] ++ packet_words fault
-

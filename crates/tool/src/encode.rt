@@ -147,7 +147,16 @@ fn send_held<'a, W: Write>(
         ..
     } = *sending;
     let (tsi, toi) = (identity.tsi as u32, identity.toi as u32);
-    match coder::encode(alloc, object, tsi, toi, fti, u32::from(fti_every), order, writer) {
+    match coder::encode(
+        alloc,
+        object,
+        tsi,
+        toi,
+        fti,
+        u32::from(fti_every),
+        order,
+        writer,
+    ) {
         Ok(count) => Ok(count),
         Err(SendFault::Length) => unreachable!(),
         Err(SendFault::SymbolTooLong) => {

@@ -4,7 +4,6 @@ ghost use Rattle.std.specs.Io.KnownBytes.{Appends, Consumes, IsAtEnd};
 ghost use Rattle.session.specs.Frames.{frame, most_bytes};
 ghost use Rattle.decoder.specs.Receiving.{LeaveNoneShort, IsWrittenOf};
 ghost use Rattle.decoder.specs.Stands.{Stands};
-
 ghost use Rattle.request.specs.declared.requests.Request.TheVariants.{Follow};
 ghost use Rattle.tool.specs.World.{KeepsFiles, IsSilent};
 ghost use Rattle.tool.specs.Doing.{IsUndone, IsUnwritten};
@@ -201,7 +200,13 @@ fn write_object<'a, H: Host>(
 {
     let mut file = create(host, request.output)?;
     let written = write_taken(receiver, &mut file);
-    commit(host, request.output, file, written, Fault::File(request.output))
+    commit(
+        host,
+        request.output,
+        file,
+        written,
+        Fault::File(request.output),
+    )
 }
 
 // Answers the object's length in bytes.
@@ -220,11 +225,7 @@ fn write_taken<'a, W: Write>(receiver: &Receiver, writer: &mut W) -> Result<u64,
 }
 
 // Prints what lacks, and answers the status.
-fn tell_lack<'a, H: Host>(
-    alloc: Global,
-    host: &mut H,
-    receiver: &Receiver,
-) -> Result<u8, Stop<'a>>
+fn tell_lack<'a, H: Host>(alloc: Global, host: &mut H, receiver: &Receiver) -> Result<u8, Stop<'a>>
     ensures ok { (taken : List (List ℕ)) → Stands receiver.now taken
         → IfOk result (TellsAnswer receiver.now.identity taken
         (H.world host.old) (H.world host.new)) }

@@ -26,11 +26,7 @@ use std::alloc::Global;
 /// What is printed where there is no memory.
 pub(crate) const MEMORY_LINE: &[u8] = b"fault memory\n";
 
-fn perform<'a, H: Host>(
-    alloc: Global,
-    host: &mut H,
-    request: &Request<'a>,
-) -> Result<u8, Stop<'a>>
+fn perform<'a, H: Host>(alloc: Global, host: &mut H, request: &Request<'a>) -> Result<u8, Stop<'a>>
     ensures ok { IfOk result (IsDone (H.world host.old) (H.world host.new) request.now) }
     ensures fault { IfErr result (IsUndone (H.world host.old) (H.world host.new) request.now) }
     ensures small { IfOk result (λ status. status ≤ 3) }

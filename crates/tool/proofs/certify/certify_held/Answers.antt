@@ -18,7 +18,7 @@ returns-clause-ok g c =
     let blank = g.H.Output.Write.contents c.in_ok-file.file in
     let contents = g.H.Output.Write.contents c.write_held-written.new.writer in
     let s = committed c.write_held-written.result count (λ n. WritesCertificate object c.args.fti.now r.identity n blank contents)
-        c.in_ok-count.ensures.count c.write_held-written.ensures.written in
+    c.in_ok-count.ensures.count c.write_held-written.ensures.written in
     let text = count_line (codes "certified") count (codes " blocks") in
     record {
       outcome = record { text = text; status = 0; output = Some (certificate_text (named_as r.identity s.0.certificate)) };

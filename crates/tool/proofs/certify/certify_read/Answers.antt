@@ -19,7 +19,7 @@ returns-clause-ok g c =
     let blank = g.H.Output.Write.contents c.in_ok-file.file in
     let contents = g.H.Output.Write.contents c.write_read-written.new.writer in
     let read = committed c.write_read-written.result count (λ n. ReadsObject c.args.fti.now left (λ object. WritesCertificate object c.args.fti.now r.identity n blank contents))
-        c.in_ok-count.ensures.count c.write_read-written.ensures.written in
+    c.in_ok-count.ensures.count c.write_read-written.ensures.written in
     let object = read.object in
     let s = read.holds in
     let text = count_line (codes "certified") count (codes " blocks") in

@@ -22,8 +22,11 @@ returns-in_err-certificate-clause-fault g c =
     let fault = c.in_err-certificate.field-0.0 in
     passed_on c.from_residual-in_err-certificate.result fault _ c.from_residual-in_err-certificate.ensures.1
     (stopped w r fault (by_unread w w r [] fault
-    (inr (Opened (g.H.Input.Read.remaining c.in_ok-frames.frames), c.in_ok-frames.ensures.input.bytes,
-    inr (Bytes c.in_ok-object.object.items, c.in_ok-object.ensures.ok, inl c.in_err-certificate.ensures.fault)))))
+    (inr (
+      Opened (g.H.Input.Read.remaining c.in_ok-frames.frames),
+      c.in_ok-frames.ensures.input.bytes,
+      inr (Bytes c.in_ok-object.object.items, c.in_ok-object.ensures.ok, inl c.in_err-certificate.ensures.fault),
+    ))))
 
 pub returns-clause-ok : goal.returns-clause-ok
 returns-clause-ok g c =

@@ -30,7 +30,7 @@ returns-clause-ok g c =
     let blank = g.H.Output.Write.contents c.in_ok-file.file in
     let contents = g.H.Output.Write.contents c.write_object-written.new.writer in
     let w = committed c.write_object-written.result c.in_ok-length.length (IsWrittenOf r.identity given.0 blank contents) c.in_ok-length.ensures.count
-        (c.write_object-written.ensures.written r.identity given.0 given.2) in
+    (c.write_object-written.ensures.written r.identity given.0 given.2) in
     object_decoded old new r given.0 given.1 (c.commit.ensures.silent.printed ∙ c.create.ensures.silent.printed) w.0 c.in_ok-length.length w.1 w.3
     (kept_whole old.files (g.H.Host.world c.create.new.host).files new.files r.output.now w.0 blank contents c.in_ok-file.ensures.blank w.2 c.create.ensures.files c.in_ok-length.ensures.kept)
     (c.commit.ensures.created ∙ c.in_ok-file.ensures.created) c.counted.result (ap text_of (sym c.counted.ensures.told)) (sym c.counted.ensures.status)

@@ -38,7 +38,7 @@ returns-clause-ok g c =
     let blank = g.H.Output.Write.contents c.in_ok-file.file in
     let contents = g.H.Output.Write.contents c.thin_out-thinned.new.writer in
     let thin = committed c.thin_out-thinned.result count (IsThinned r.places.items opened left blank contents) c.in_ok-count.ensures.count
-        (rw c.as_slice.ensures.value at c.thin_out-thinned.ensures.thinned) in
+    (rw c.as_slice.ensures.value at c.thin_out-thinned.ensures.thinned) in
     let bytes = frames (rest (is_among r.places.items) thin.datagrams) in
     let text = count_line (codes "kept") count (codes " datagrams") in
     record {

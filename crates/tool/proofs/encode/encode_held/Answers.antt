@@ -18,7 +18,7 @@ returns-clause-ok g c =
     let blank = g.H.Output.Write.contents c.in_ok-file.file in
     let contents = g.H.Output.Write.contents c.send_held-sent.new.writer in
     let s = committed c.send_held-sent.result count (λ n. WritesSession object c.args.fti.now r.sending n blank contents)
-        c.in_ok-count.ensures.count c.send_held-sent.ensures.sent in
+    c.in_ok-count.ensures.count c.send_held-sent.ensures.sent in
     let text = count_line (codes "encoded") count (codes " datagrams") in
     record {
       outcome = record { text = text; status = 0; output = Some (frames s.datagrams) };

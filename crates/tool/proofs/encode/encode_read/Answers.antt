@@ -19,7 +19,7 @@ returns-clause-ok g c =
     let blank = g.H.Output.Write.contents c.in_ok-file.file in
     let contents = g.H.Output.Write.contents c.send_read-sent.new.writer in
     let read = committed c.send_read-sent.result count (λ n. ReadsObject c.args.fti.now left (λ object. WritesSession object c.args.fti.now r.sending n blank contents))
-        c.in_ok-count.ensures.count c.send_read-sent.ensures.sent in
+    c.in_ok-count.ensures.count c.send_read-sent.ensures.sent in
     let object = read.object in
     let s = read.holds in
     let text = count_line (codes "encoded") count (codes " datagrams") in

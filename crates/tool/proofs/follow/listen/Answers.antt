@@ -37,8 +37,7 @@ returns-in-Ok-Complete-clause-complete g c =
     let is = c.in-Ok-Complete.is in
     let counted : length heard.0 ≢ 2 ^ 64 - 1 = λ e. let f = (c.feed.ensures.full heard.0 heard.2).1 e in cc in
     let timely : ¬ ComesEarly who heard.0 d = λ early. let f = (rw (c.as_slice.ensures.value, same) at (c.feed.ensures.early heard.0 heard.2)).1 (counted, early) in cc in
-    let next = c.in-Some-checked_add.ensures in
-    (
+    let next = c.in-Some-checked_add.ensures in (
       g.R.Read.remaining c.next.new.frames,
       with_datagram heard.0 d,
       heard.1,

@@ -20,7 +20,7 @@ returns-in_err-count-clause-fault g c =
     let new = g.H.Host.world c.commit.new.host in
     let r = c.args.request.now in
     let are = subst (λ inputs. AreOpen old.files (texts r.sessions.items) (map g.H.Input.Read.remaining inputs)) (sym c.as_mut_slice.ensures.value)
-        (rw c.as_slice.ensures.value at c.in_ok-inputs.ensures.inputs) in
+    (rw c.as_slice.ensures.value at c.in_ok-inputs.ensures.inputs) in
     let fault = c.in_err-count.field-0.0 in
     passed_on c.from_residual-in_err-count.result fault _ c.from_residual-in_err-count.ensures.1
     (uncommitted old (g.H.Host.world c.create.new.host) (Join r) r.output.now refl c.create.ensures.files c.create.ensures.silent new c.in_ok-file.ensures.created
@@ -35,7 +35,7 @@ returns-clause-ok g c =
     let r = c.args.request.now in
     let count = c.in_ok-count.count in
     let are = subst (λ inputs. AreOpen old (texts r.sessions.items) (map g.H.Input.Read.remaining inputs)) (sym c.as_mut_slice.ensures.value)
-        (rw c.as_slice.ensures.value at c.in_ok-inputs.ensures.inputs) in
+    (rw c.as_slice.ensures.value at c.in_ok-inputs.ensures.inputs) in
     let blank = g.H.Output.Write.contents c.in_ok-file.file in
     let contents = g.H.Output.Write.contents c.join_all-joined.new.writer in
     let all = committed c.join_all-joined.result count (IsJoined r.turns _ _ blank contents) c.in_ok-count.ensures.count c.join_all-joined.ensures.joined in

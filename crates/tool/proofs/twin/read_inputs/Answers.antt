@@ -11,5 +11,8 @@ returns-in_err-read_object-clause-fault g c =
 pub returns-in_err-read_certificate-clause-fault : goal.returns-in_err-read_certificate-clause-fault
 returns-in_err-read_certificate-clause-fault g c =
     passed_on c.from_residual-in_err-read_certificate.result c.in_err-read_certificate.field-0.0 _ c.from_residual-in_err-read_certificate.ensures.1
-    (inr (Datagrams c.in_ok-read_session.field-0, c.in_ok-read_session.ensures.ok,
-    inr (Bytes c.in_ok-read_object.field-0.items, c.in_ok-read_object.ensures.ok, inl c.in_err-read_certificate.ensures.fault)))
+    (inr (
+      Datagrams c.in_ok-read_session.field-0,
+      c.in_ok-read_session.ensures.ok,
+      inr (Bytes c.in_ok-read_object.field-0.items, c.in_ok-read_object.ensures.ok, inl c.in_err-read_certificate.ensures.fault),
+    ))
