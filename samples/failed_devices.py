@@ -140,7 +140,7 @@ long close(long a) {
 }
 """
 
-# How a command tells that its output can't be written before the last bytes of it.
+# How a command tells that its output can't be written, or can't take its place; the others blame the file.
 WRITING = {
     "encode": "fault O3 Io",
     "certify": "fault Z4 Io",
@@ -181,10 +181,11 @@ class Call:
     def faults(self, words):
         """The lines that may tell that it failed."""
         moves = self.name.strip("_").startswith(("read", "write", "pread", "pwrite"))
+        written = WRITING.get(words[0], "fault file out")
         if self.name.startswith(("rename", "fsync")):
-            return ["fault file out"]
+            return [written]
         if self.file.startswith("out"):
-            return ["fault file out", WRITING.get(words[0])] if moves else ["fault open out"]
+            return [written] if moves else ["fault open out"]
         if not moves:
             return [f"fault open {self.file}"]
         inputs = INPUTS[words[0]]
