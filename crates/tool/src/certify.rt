@@ -1,5 +1,5 @@
 //! The command `certify`.
-ghost use Rattle.std.specs.Prelude.{◌≡◌, length, IfOk, IfErr};
+ghost use Rattle.std.specs.Prelude.{◌≡◌, true, length, IfOk, IfErr};
 ghost use Rattle.cert.specs.Certificate.{IsIdentity};
 ghost use Rattle.partition.specs.Fti.{block_count};
 ghost use Rattle.request.specs.declared.requests.Request.TheVariants.{Certify};
@@ -87,6 +87,7 @@ fn write_read<'a, R: Read, W: Write>(
         (W.contents writer.old) (W.contents writer.new))) }
     ensures fault { IfErr result (IsUncertifiedFrom fti.now (R.remaining reader.old)
         (R.sound reader.old) request.now.object.now) }
+    ensures writing { IfErr result (λ e. e ≡ Unwritten.Writing → W.failed writer.new ≡ true) }
 {
     match certify_from(alloc, reader, fti, request.identity, writer) {
         Ok(()) => Ok(u64::from(fti.block_count())),
@@ -132,6 +133,7 @@ fn write_held<'a, W: Write>(
     ensures written { IfOk result (λ count. WritesCertificate object.now fti.now identity count
         (W.contents writer.old) (W.contents writer.new)) }
     ensures fault { IfErr result IsUncertified }
+    ensures writing { IfErr result (λ e. e ≡ Unwritten.Writing → W.failed writer.new ≡ true) }
 {
     match certify_to(alloc, object, fti, identity, writer) {
         Ok(()) => Ok(u64::from(fti.block_count())),

@@ -1,5 +1,5 @@
 //! The command `convert`.
-ghost use Rattle.std.specs.Prelude.{IfOk, IfErr};
+ghost use Rattle.std.specs.Prelude.{◌≡◌, true, IfOk, IfErr};
 ghost use Rattle.cert.specs.Certificate.{IsIdentity};
 ghost use Rattle.request.specs.declared.requests.Request.TheVariants.{Convert};
 ghost use Rattle.tool.specs.Doing.{HasMade, HasStopped};
@@ -47,6 +47,7 @@ fn convert_file<'a, R: Read, W: Write>(
         (W.contents writer.old) (W.contents writer.new)) }
     ensures fault { IfErr result (IsUnconverted identity (R.remaining reader.old)
         (R.sound reader.old)) }
+    ensures writing { IfErr result (λ e. e ≡ Unwritten.Writing → W.failed writer.new ≡ true) }
 {
     match cert::convert(alloc, reader, writer, identity) {
         Ok(fti) => Ok(u64::from(fti.block_count())),

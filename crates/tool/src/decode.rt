@@ -1,5 +1,5 @@
 //! The command `decode`.
-ghost use Rattle.std.specs.Prelude.{◌≡◌, ◌≤◌, ◌++◌, ℕ, List, IfOk, IfErr, OnOk};
+ghost use Rattle.std.specs.Prelude.{◌≡◌, ◌≤◌, ◌++◌, ℕ, List, true, IfOk, IfErr, OnOk};
 ghost use Rattle.reception.specs.declared.scope.Identity.{Identity as IdentityValue};
 ghost use Rattle.request.specs.declared.requests.Request.TheVariants.{Decode};
 ghost use Rattle.decoder.specs.Answers.{answer_value, fault_value};
@@ -83,6 +83,7 @@ fn write_object<'a, W: Write>(
         → AreSymbolsOf who ds symbols.now
         → IfOk result (IsWrittenOf who ds (W.contents writer.old) (W.contents writer.new)) }
     ensures fault { IfErr result IsWriteBroken }
+    ensures writing { IfErr result (λ e. e ≡ Unwritten.Writing → W.failed writer.new ≡ true) }
 {
     match symbols.write(alloc, writer) {
         Ok(length) => Ok(length),

@@ -1,5 +1,5 @@
 //! The command `encode`.
-ghost use Rattle.std.specs.Prelude.{◌≡◌, length, IfOk, IfErr};
+ghost use Rattle.std.specs.Prelude.{◌≡◌, true, length, IfOk, IfErr};
 ghost use Rattle.partition.specs.declared.order.Order.TheVariants.{Blocks};
 ghost use Rattle.request.specs.declared.requests.Request.TheVariants.{Encode};
 ghost use Rattle.tool.specs.World.{GivesFile, LeavesBytes};
@@ -85,6 +85,7 @@ fn send_read<'a, R: Read, W: Write>(
         (W.contents writer.old) (W.contents writer.new))) }
     ensures fault { IfErr result (IsUnsentFrom fti.now (R.remaining reader.old)
         (R.sound reader.old) request.now.object.now) }
+    ensures writing { IfErr result (λ e. e ≡ Unwritten.Writing → W.failed writer.new ≡ true) }
 {
     fti.is_valid();
     let Sending {
@@ -138,6 +139,7 @@ fn send_held<'a, W: Write>(
     ensures sent { IfOk result (λ count. WritesSession object.now fti.now sending.now count
         (W.contents writer.old) (W.contents writer.new)) }
     ensures fault { IfErr result (IsUnsent fti.now) }
+    ensures writing { IfErr result (λ e. e ≡ Unwritten.Writing → W.failed writer.new ≡ true) }
 {
     fti.is_valid();
     let Sending {

@@ -1,5 +1,5 @@
 //! The command `follow`.
-ghost use Rattle.std.specs.Prelude.{◌≡◌, ◌<◌, ◌≤◌, ◌++◌, ℕ, List, [], None, false, length, IfOk, IfErr, IfSome, IfNone, OnOk};
+ghost use Rattle.std.specs.Prelude.{◌≡◌, ◌<◌, ◌≤◌, ◌++◌, ℕ, List, [], None, true, false, length, IfOk, IfErr, IfSome, IfNone, OnOk, OnErr};
 ghost use Rattle.std.specs.Io.KnownBytes.{Appends, Consumes, IsAtEnd};
 ghost use Rattle.session.specs.Frames.{frame, most_bytes};
 ghost use Rattle.decoder.specs.Receiving.{LeaveNoneShort, IsWrittenOf};
@@ -216,6 +216,9 @@ fn write_taken<'a, W: Write>(receiver: &Receiver, writer: &mut W) -> Result<u64,
         → IfOk result (IsWrittenOf receiver.now.identity taken
         (W.contents writer.old) (W.contents writer.new)) }
     ensures writing { IfErr result (λ e. e ≡ Unwritten.Writing) }
+    ensures fails { (taken : List (List ℕ)) → Stands receiver.now taken
+        → LeaveNoneShort receiver.now.identity taken
+        → OnErr result (W.failed writer.new ≡ true) }
 {
     match receiver.write_object(writer) {
         Ok(Some(length)) => Ok(length),
