@@ -10,7 +10,7 @@ use Rattle.request.specs.declared.requests.Request.TheVariants.{Follow}
 use Rattle.tool.specs.World.{Files, World, KeepsFiles, IsSilent, Replaces, one_more}
 use Rattle.tool.specs.Lines.{line_of, count_line, answer_text}
 use Rattle.tool.specs.Following.{complete_line}
-use Rattle.tool.specs.Outcomes.{IsUnmade}
+use Rattle.tool.specs.Outcomes.{MayCreate, IsUnmade}
 use Rattle.tool.specs.Doing.{IsUnwritten}
 use Rattle.tool.specs.Listening.{heard_of, IsWritten, IsDelivered, IsUndelivered}
 use Rattle.tool.specs.declared.fault.Fault.{Fault}
@@ -28,7 +28,7 @@ module _ (r : FollowRequest) (receiver : Receiver) (taken : List (List ℕ)) (re
   told = subst (λ (o : Option (List ℕ)). Appends old.printed o (complete_line read)) (sym (silent.printed ∙ passed)) first
 
   pub undelivered : (fault : Fault) → IsUnwritten (Follow r) b w fault → IsUndelivered r (heard_of receiver taken read) old w (ByFault fault)
-  undelivered fault why = (record { because = reason why.because; files = why.files ∙ before.files; created = count why.created }, told)
+  undelivered fault why = (record { because = λ may. reason (why.because (subst (λ (fs : Option Files). MayCreate fs (Follow r)) (sym before.files) may)); files = why.files ∙ before.files; created = count why.created }, told)
     where
       reason : (fault ≡ Memory) ⊎ IsUnmade b w (Follow r) fault → (fault ≡ Memory) ⊎ IsUnmade old w (Follow r) fault
       reason (inl none) = inl none

@@ -160,6 +160,9 @@ module _ (old : World) (r : FollowRequest) (opened : Option (List ℕ)) (held : 
       is_status = done;
     }
 
+    may_here : MayCreate old.files (Follow r)
+    may_here = (opened, held, made.0, read, made.1, made.2, heard_so, full_so)
+
     before_object : (new : World) → Appends mid.printed new.printed (complete_line read) → Appends old.printed new.printed (made.2 ++ complete_line read)
     before_object new printed = then_appends old.printed mid.printed new.printed made.2 (complete_line read) made.6 printed
 
@@ -170,7 +173,7 @@ module _ (old : World) (r : FollowRequest) (opened : Option (List ℕ)) (held : 
       made.2 ++ complete_line read,
       before_object new printed,
       record {
-        because = unwritten_so fault why.because;
+        because = unwritten_so fault (why.because (subst (λ (fs : Option Files). MayCreate fs (Follow r)) (sym files.files) may_here));
         before = inr (opened, held, (made.0, read, made.1, made.2, heard_so, inr (full_so, refl)));
         files = why.files ∙ files.files;
         created = created_so why.created;
@@ -179,7 +182,7 @@ module _ (old : World) (r : FollowRequest) (opened : Option (List ℕ)) (held : 
       where
         created_so : (new.created ≡ mid.created) ⊎ (new.created ≡ one_more mid.created) → (new.created ≡ old.created) ⊎ ((new.created ≡ one_more old.created) × MayCreate old.files (Follow r))
         created_so (inl none) = inl (none ∙ files.created)
-        created_so (inr one) = inr (one ∙ ap one_more files.created, (opened, held, made.0, read, made.1, made.2, heard_so, full_so))
+        created_so (inr one) = inr (one ∙ ap one_more files.created, may_here)
 
         unwritten_so : (fault : Fault) → (fault ≡ Memory) ⊎ IsUnmade mid new (Follow r) fault → IsBecause old new (Follow r) (made.2 ++ complete_line read) fault
         unwritten_so fault (inl none) = subst (λ (f : Fault). IsBecause old new (Follow r) (made.2 ++ complete_line read) f) (sym none) tt

@@ -59,14 +59,14 @@ may_fail old mid files silent (inl untold) = inl (sym files ∙ untold)
 may_fail old mid files silent (inr fallible) = inr (sym silent.fallible ∙ fallible)
 
 module _ (old mid : World) (r : Request) (name : List ℕ) (is : output_of r ≡ Some name) (files : mid.files ≡ old.files) (silent : IsSilent old mid) where
-  pub uncreated : (fault : Fault) → mid.created ≡ old.created → IsUncreated old name fault → HasStopped old mid r fault
-  uncreated fault created why = record {
+  pub uncreated : (fault : Fault) → mid.created ≡ old.created → MayCreate old.files r → IsUncreated old name fault → HasStopped old mid r fault
+  uncreated fault created may why = record {
     stopped = record { because = reason fault why; before = begins_nothing old.files r; files = files; created = inl created };
     silent = silent.printed;
   }
     where
       reason : (fault : Fault) → IsUncreated old name fault → IsBecause old mid r [] fault
-      reason (Open created_name) why = by_unmade old mid r [] (Open created_name) (why.1, is ∙ ap Some (sym why.0), created)
+      reason (Open created_name) why = by_unmade old mid r [] (Open created_name) (why.1, is ∙ ap Some (sym why.0), may, created)
       reason (File n) why = absurd why
       reason Memory why = tt
       reason (Frame e) why = absurd why
@@ -112,7 +112,7 @@ passed_on (Err x) e P h p = subst P (sym h) p
 -- a file that was to be made of bytes
 pub unkept : (old new : World) (r : Request) (name : List ℕ) → output_of r ≡ Some name → new.files ≡ old.files → IsSilent old new → MayCreate old.files r
     → (failure told : Fault) → (MayFail old → new.created ≡ one_more old.created → IsUnmade old new r failure) → IsUnkept old new name failure told → HasStopped old new r told
-unkept old new r name is files silent may failure told tells (inl (why, created)) = uncreated old new r name is files silent told created why
+unkept old new r name is files silent may failure told tells (inl (why, created)) = uncreated old new r name is files silent told created may why
 unkept old new r name is files silent may failure told tells (inr (inl none, created)) = record {
   stopped = record {
     because = subst (λ (f : Fault). IsBecause old new r [] f) (sym none) tt;
@@ -138,7 +138,8 @@ may_fail_before old mid files (inr fallible) = inr (sym files.fallible ∙ falli
 
 -- why an output isn't made, by a world with the same files before it
 pub unmade_before : (old mid new : World) (r : Request) → KeepsFiles old mid → (fault : Fault) → IsUnmade mid new r fault → IsUnmade old new r fault
-unmade_before old mid new r files (Open n) (may, is, created) = (may_fail_before old mid files may, is, created ∙ files.created)
+unmade_before old mid new r files (Open n) (may, is, create, created) =
+    (may_fail_before old mid files may, is, subst (λ (f : Option Files). MayCreate f r) files.files create, created ∙ files.created)
 unmade_before old mid new r files (File n) (may, is, created) = (may_fail_before old mid files may, is, created ∙ ap one_more files.created)
 unmade_before old mid new r files Memory (may, is, created) = (may_fail_before old mid files may, is, created ∙ ap one_more files.created)
 unmade_before old mid new r files (Frame e) (may, is, created) = (may_fail_before old mid files may, is, created ∙ ap one_more files.created)

@@ -4,7 +4,7 @@ use Rattle.request.specs.declared.requests.Request.{Request}
 use Rattle.tool.specs.World.{World, MayFail, one_more}
 use Rattle.tool.specs.Lines.{count_line}
 use Rattle.tool.specs.Commands.{Outcome}
-use Rattle.tool.specs.Outcomes.{Makes, IsUnmade, IsStopped, IsUnprinted}
+use Rattle.tool.specs.Outcomes.{Makes, MayCreate, IsUnmade, IsStopped, IsUnprinted}
 use Rattle.tool.specs.declared.done.Told.{Told}
 use Rattle.tool.specs.declared.done.Told.TheVariants.{Lines, Count}
 use Rattle.tool.specs.declared.done.Done.{Done}
@@ -56,8 +56,8 @@ IsUnkept old new name failure told =
     (IsUncreated old name told × (new.created ≡ old.created))
     ⊎ (((told ≡ Memory) ⊎ ((told ≡ failure) × MayFail old)) × (new.created ≡ one_more old.created))
 
--- the output of a request that was to be written isn't there
+-- the output of a request that was to be written, as it may be, isn't there
 pub record IsUnwritten (r : Request) (old new : World) (fault : Fault) : Type 0 where
-  pub because : (fault ≡ Memory) ⊎ IsUnmade old new r fault
+  pub because : MayCreate old.files r → (fault ≡ Memory) ⊎ IsUnmade old new r fault
   pub files : new.files ≡ old.files
   pub created : (new.created ≡ old.created) ⊎ (new.created ≡ one_more old.created)

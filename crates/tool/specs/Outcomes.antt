@@ -5,7 +5,7 @@ use Rattle.alc.specs.Reading.{Reading}
 use Rattle.reception.specs.Reception.{ReadAll}
 use Rattle.decoder.specs.Receiving.{LeaveNoneShort}
 use Rattle.request.specs.declared.requests.Request.{Request}
-use Rattle.request.specs.declared.requests.Request.TheVariants.{Twin, Show, Decode, Follow, Join}
+use Rattle.request.specs.declared.requests.Request.TheVariants.{Check, Twin, Show, Decode, Follow, Join}
 use Rattle.tool.specs.World.{Files, World, MayFail, Replaces, one_more}
 use Rattle.tool.specs.Inputs.{ASession, AStream, Value, Datagrams, Opened, HasValue, HaveValues, AreThere, IsFirstUnopened, IsFirstUnread, IsSomeUnread}
 use Rattle.tool.specs.Lines.{numbered, reading_text, TellsFault}
@@ -36,12 +36,6 @@ pub record IsDone (old new : World) (r : Request) (status : ℕ) : Type 0 where
 
 -- ---- faults
 
--- The output can't be created; or it was, and writing it has failed; where the host may fail.
-abbrev pub IsUnmade : World → World → Request → Fault → Type 0
-IsUnmade old new r (Open name) =
-    MayFail old × (output_of r ≡ Some name.now) × (new.created ≡ old.created)
-IsUnmade old new r fault = MayFail old × IsWriteFault r fault × (new.created ≡ one_more old.created)
-
 -- The first input that can't be had, in their order. Sessions that are joined are opened before one is read, and any of
 -- them may give no datagrams then.
 abbrev pub IsUnhad : World → Request → Fault → Type 0
@@ -49,12 +43,6 @@ IsUnhad world (Join r) fault =
     IsFirstUnopened world (inputs_of (Join r)) fault
     ⊎ (AreThere world.files (inputs_of (Join r)) × IsSomeUnread world (inputs_of (Join r)) fault)
 IsUnhad world r fault = IsFirstUnread world (inputs_of r) fault
-
--- Why the request wasn't done, by what was printed before: an input can't be had; or the request is refused; or its output
--- isn't made; or there is no memory.
-abbrev pub IsBecause : World → World → Request → List ℕ → Fault → Type 0
-IsBecause old new r text Memory = ⊤
-IsBecause old new r text fault = IsUnhad old r fault ⊎ Refuses old r text fault ⊎ IsUnmade old new r fault
 
 -- Whether an output may be created before a fault: of an object that datagrams give, once they do; else once all inputs are
 -- there.
@@ -64,6 +52,8 @@ GivesOutput files r =
     × HaveValues files (inputs_of r) values × Gives r values outcome × (outcome.output ≡ Some bytes)
 
 abbrev pub MayCreate : Option Files → Request → Type 0
+MayCreate files (Check r) = ⊥
+MayCreate files (Show r) = ⊥
 MayCreate files (Twin r) = GivesOutput files (Twin r)
 MayCreate files (Decode r) = GivesOutput files (Decode r)
 MayCreate files (Follow r) =
@@ -71,6 +61,18 @@ MayCreate files (Follow r) =
     × (left : Option (List ℕ)) × (read : ℕ) × (taken : List (List ℕ)) × (lines : List ℕ)
     × IsHeard r.identity opened left read taken lines × LeaveNoneShort r.identity taken
 MayCreate files r = AreThere files (inputs_of r)
+
+-- The output can't be created, where it may be; or it was, and writing it has failed; where the host may fail.
+abbrev pub IsUnmade : World → World → Request → Fault → Type 0
+IsUnmade old new r (Open name) =
+    MayFail old × (output_of r ≡ Some name.now) × MayCreate old.files r × (new.created ≡ old.created)
+IsUnmade old new r fault = MayFail old × IsWriteFault r fault × (new.created ≡ one_more old.created)
+
+-- Why the request wasn't done, by what was printed before: an input can't be had; or the request is refused; or its output
+-- isn't made; or there is no memory.
+abbrev pub IsBecause : World → World → Request → List ℕ → Fault → Type 0
+IsBecause old new r text Memory = ⊤
+IsBecause old new r text fault = IsUnhad old r fault ⊎ Refuses old r text fault ⊎ IsUnmade old new r fault
 
 -- what may be printed before a fault: of datagrams that are shown the lines of the first, of those that are followed the
 -- lines of some

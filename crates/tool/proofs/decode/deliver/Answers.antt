@@ -4,8 +4,18 @@ use Rattle.request.specs.declared.requests.Request.TheVariants.{Decode}
 use Rattle.tool.specs.Doing.{text_of}
 use Rattle.tool.proofs.Decoded.{object_decoded, may_write, because_unwritten}
 use Rattle.tool.proofs.Making.{committed}
-use Rattle.tool.proofs.Stopping.{kept_whole, passed_on, uncommitted}
+use Rattle.tool.proofs.Stopping.{kept_whole, passed_on, uncreated, uncommitted}
 use Rattle.tool.proofs.decode.deliver.Goals as goal
+
+pub returns-in_err-file-clause-fault : goal.returns-in_err-file-clause-fault
+returns-in_err-file-clause-fault g c =
+    let old = g.H.Host.world c.args.host.now in
+    let r = c.args.request.now in
+    let given = c.requires in
+    let fault = c.in_err-file.field-0.0 in
+    passed_on c.from_residual.result fault _ c.from_residual.ensures.1
+    (uncreated old (g.H.Host.world c.create.new.host) (Decode r) r.output.now refl c.create.ensures.files c.create.ensures.silent fault c.in_err-file.ensures.none
+    (may_write old r given.0 given.1 given.3 given.4) c.in_err-file.ensures.fault)
 
 pub returns-in_err-length-clause-fault : goal.returns-in_err-length-clause-fault
 returns-in_err-length-clause-fault g c =

@@ -11,8 +11,17 @@ use Rattle.tool.specs.Doing.{text_of}
 use Rattle.tool.specs.Opening.{AreOpen}
 use Rattle.tool.proofs.Joins.{texts, are_there, hold_sessions, because_unjoined}
 use Rattle.tool.proofs.Making.{committed}
-use Rattle.tool.proofs.Stopping.{kept_whole, passed_on, uncommitted}
+use Rattle.tool.proofs.Stopping.{kept_whole, passed_on, uncreated, uncommitted}
 use Rattle.tool.proofs.join.join.Goals as goal
+
+pub returns-in_err-file-clause-fault : goal.returns-in_err-file-clause-fault
+returns-in_err-file-clause-fault g c =
+    let old = g.H.Host.world c.args.host.now in
+    let r = c.args.request.now in
+    let fault = c.in_err-file.field-0.0 in
+    passed_on c.from_residual-in_err-file.result fault _ c.from_residual-in_err-file.ensures.1
+    (uncreated old (g.H.Host.world c.create.new.host) (Join r) r.output.now refl c.create.ensures.files c.create.ensures.silent fault c.in_err-file.ensures.none
+    (are_there old.files r.sessions.items _ (rw c.as_slice.ensures.value at c.in_ok-inputs.ensures.inputs)) c.in_err-file.ensures.fault)
 
 pub returns-in_err-count-clause-fault : goal.returns-in_err-count-clause-fault
 returns-in_err-count-clause-fault g c =
