@@ -5,5 +5,10 @@
 """
 import sys
 
-while length := sys.stdin.buffer.read(2):
-    print("000000", sys.stdin.buffer.read(int.from_bytes(length, "big")).hex(" "))
+from frames import read_frames
+
+try:
+    for datagram in read_frames(sys.stdin.buffer):
+        print("000000", datagram.hex(" "))
+except EOFError:
+    sys.exit("dump_of_session.py: the session is cut behind these datagrams")

@@ -11,6 +11,8 @@ import ipaddress
 import socket
 import sys
 
+from frames import write_frame
+
 # As much as may come while the output waits. The system may give less.
 WAITING = 16 << 20
 
@@ -33,13 +35,6 @@ def receiver_of(address, port, interface):
             request = ip.packed + bytes(4) + index.to_bytes(4, sys.byteorder)
             receiver.setsockopt(socket.IPPROTO_IP, socket.IP_ADD_MEMBERSHIP, request)
     return receiver
-
-
-def write_frame(output, datagram):
-    """Writes a datagram behind its length, at once."""
-    rest = memoryview(len(datagram).to_bytes(2, "big") + datagram)
-    while rest:
-        rest = rest[output.write(rest):]
 
 
 def main():

@@ -12,15 +12,7 @@ import socket
 import sys
 import time
 
-
-def datagrams(session):
-    """The datagrams of a session file, one at a time."""
-    while head := session.read(2):
-        length = int.from_bytes(head, "big")
-        datagram = session.read(length)
-        if len(head) < 2 or len(datagram) < length:
-            raise EOFError
-        yield datagram
+from frames import read_frames
 
 
 def sender_to(address, ttl, interface):
@@ -57,7 +49,7 @@ def main():
         to = (given.address, given.port)
         start = time.monotonic()
         try:
-            for datagram in datagrams(session):
+            for datagram in read_frames(session):
                 # what is due within a millisecond is sent at once, as a sleep takes no less
                 early = start + count / given.rate - time.monotonic()
                 if early > 0.001:

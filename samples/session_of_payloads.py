@@ -9,6 +9,8 @@ on standard error how many it took; that none came is a failure.
 """
 import sys
 
+from frames import write_frame
+
 
 def payload_of(line):
     """The payload of a line, or why it has none."""
@@ -21,13 +23,6 @@ def payload_of(line):
     if size != len(datagram):
         raise ValueError(f"the capture has {len(datagram)} of {size} bytes")
     return datagram
-
-
-def write_frame(output, datagram):
-    """Writes a datagram behind its length, at once."""
-    rest = memoryview(len(datagram).to_bytes(2, "big") + datagram)
-    while rest:
-        rest = rest[output.write(rest):]
 
 
 def main():

@@ -1,5 +1,7 @@
 //! The host's files and its standard output.
-ghost use Rattle.std.specs.Prelude.{◌≡◌, ◌^◌, ◌-◌, None, false, IfOk};
+ghost use Rattle.std.specs.Prelude.{◌≡◌, ◌^◌, ◌-◌, [], None, false, IfOk, OnOk, is_err};
+ghost use Rattle.std.specs.Io.KnownBytes.{Keeps};
+ghost use Rattle.std.specs.Io.Buffered.{writer_buffer, writer_contents};
 ghost use Rattle.tool.specs.Worlds.{untold};
 
 use session::{Device, Failed, Write, write_all};
@@ -32,8 +34,14 @@ impl<'a, R, O: std::io::Write + Drop> ProgramHost<'a, R, O> {
         ProgramHost { rt, alloc, out }
     }
 
-    /// Passes on all that was printed.
-    pub fn flush(&mut self) -> Result<(), Failed> {
+    /// Passes on all that was printed. `Failed` comes exactly where the output has failed, now or before.
+    pub fn flush(&mut self) -> Result<(), Failed>
+        ensures passed { OnOk result (writer_buffer self.new.out.inner ≡ []) }
+        ensures inner { Keeps (writer_contents O.contents self.old.out.inner)
+            (writer_contents O.contents self.new.out.inner) }
+        ensures failed { self.new.out.failed ≡ is_err result }
+        ensures works { OnOk result (self.old.out.failed ≡ false) }
+    {
         self.out.flush()
     }
 }
@@ -242,6 +250,6 @@ impl<R: Files, O: std::io::Write + Drop> Host for ProgramHost<'_, R, O> {
     }
 
     fn pass_on(&mut self) -> Result<(), Failed> {
-        self.out.flush()
+        self.flush()
     }
 }
