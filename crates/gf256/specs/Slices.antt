@@ -1,8 +1,11 @@
 -- The bits of coefficients in groups, and sums of sources looked up by them.
-use Rattle.std.specs.Prelude.{ℕ, ◌≡◌, ◌<◌, ◌-◌, zero, suc, slice_index_or, [], ◌+◌, ◌*◌, ◌/◌, ◌%◌, ◌^◌, ◌==◌, List, cond, slice_index}
+use Rattle.std.specs.Prelude.{ℕ, ◌≡◌, ◌<◌, ◌≤◌, ◌-◌, zero, suc, slice_index_or, [], ◌+◌, ◌*◌, ◌/◌, ◌%◌, ◌^◌, ◌==◌, List, cond, slice_index}
 use lib.Dec.{ltb}
 use Rattle.gf256.specs.Arithmetic.{sum_of, doubled}
 use Rattle.gf256.specs.ByteSums.{byte_sum}
+use Rattle.gf256.specs.declared.sources.Sources.{Sources}
+use Rattle.gf256.specs.declared.tiling.Columns.{Columns}
+use Rattle.gf256.specs.declared.tiling.Tiling.{Tiling}
 
 -- x where the bit is 1, else 0
 abbrev pub pick : ℕ → ℕ → ℕ
@@ -29,26 +32,42 @@ horner (suc n) f = sum_of (doubled (horner n f)) (f n)
 abbrev pub lane : List (List ℕ) → ℕ → ℕ → ℕ
 lane table place t = slice_index (slice_index_or table place []) t
 
--- the table has the sums of the groups below m, each of as many sources as the size tells
-abbrev pub IsFilled : List (List ℕ) → List ℕ → ℕ → ℕ → ℕ → ℕ → ℕ → ℕ → ℕ → Type 0
-IsFilled table sources taken groups size entries stride at m = (q p t : ℕ) → q < m → p < entries → t < 64
-    → lane table (q * entries + p) t
-    ≡ choice_sum size p (λ x. below taken (q + x * groups) (slice_index sources ((q + x * groups) * stride + (at + t))))
+-- byte j of source i
+abbrev pub source_byte : Sources → ℕ → ℕ → ℕ
+source_byte sources i j = slice_index sources.bytes.now (i * sources.stride + j)
 
--- from a place on there are the bits of a row's coefficients, the highest m bits so far, each bit a step behind the one above it
-abbrev pub IsList : List ℕ → ℕ → List ℕ → ℕ → ℕ → ℕ → ℕ → ℕ → ℕ → Type 0
-IsList lists at coefficients row taken groups size step m = (b q x : ℕ) → b < m → q < groups → x < size
-    → bit x (slice_index lists (at + b * step + q))
-    ≡ bit (7 - b) (below taken (q + x * groups) (slice_index coefficients (row + (q + x * groups))))
+-- the table has the sums of the groups below m, of the columns from one on
+abbrev pub IsFilled : List (List ℕ) → Sources → Tiling → ℕ → ℕ → Type 0
+IsFilled table sources tiling at m = (q p t : ℕ) → q < m → p < tiling.entries → t < 64
+    → lane table (q * tiling.entries + p) t ≡ choice_sum tiling.size p
+    (λ x. below sources.count (q + x * tiling.groups) (source_byte sources (q + x * tiling.groups) (at + t)))
+
+-- from a place on there are the bits of a row's coefficients, the highest m bits so far, each bit a step behind the one
+-- above it
+abbrev pub IsList : List ℕ → ℕ → List ℕ → ℕ → ℕ → Tiling → ℕ → Type 0
+IsList lists at coefficients row taken tiling m = (b q x : ℕ) → b < m → q < tiling.groups → x < tiling.size
+    → bit x (slice_index lists (at + b * tiling.step + q))
+    ≡ bit (7 - b) (below taken (q + x * tiling.groups) (slice_index coefficients (row + (q + x * tiling.groups))))
 
 -- a lane of the sum that the list from a place on looks up in the table
-abbrev pub sum_at : List (List ℕ) → List ℕ → ℕ → ℕ → ℕ → ℕ → ℕ → ℕ
-sum_at table lists groups entries step at t =
-    horner 8 (λ b. byte_sum groups (λ q. lane table (q * entries + slice_index lists (at + b * step + q)) t))
+abbrev pub sum_at : List (List ℕ) → List ℕ → Tiling → ℕ → ℕ → ℕ
+sum_at table lists tiling at t = horner 8 (λ b. byte_sum tiling.groups
+    (λ q. lane table (q * tiling.entries + slice_index lists (at + b * tiling.step + q)) t))
 
 -- the same for row r
-abbrev pub tile_sum : List (List ℕ) → List ℕ → ℕ → ℕ → ℕ → ℕ → ℕ → ℕ
-tile_sum table lists groups entries step r t = sum_at table lists groups entries step (r * (8 * step)) t
+abbrev pub tile_sum : List (List ℕ) → List ℕ → Tiling → ℕ → ℕ → ℕ
+tile_sum table lists tiling r t = sum_at table lists tiling (r * (8 * tiling.step)) t
+
+-- to some columns of each row a sum was added, and nothing else has changed
+pub record IsAdded (old new : List ℕ) (rows : ℕ) (columns : Columns) (sum : ℕ → ℕ → ℕ) : Type 0 where
+  pub within : (r t : ℕ) → r < rows → t < columns.used
+      → slice_index new (r * columns.width + (columns.at + t))
+      ≡ sum_of (slice_index old (r * columns.width + (columns.at + t))) (sum r t)
+  pub before : (r j : ℕ) → r < rows → j < columns.at
+      → slice_index new (r * columns.width + j) ≡ slice_index old (r * columns.width + j)
+  pub after : (r j : ℕ) → r < rows → j < columns.width → columns.at + columns.used ≤ j
+      → slice_index new (r * columns.width + j) ≡ slice_index old (r * columns.width + j)
+  pub above : (p : ℕ) → rows * columns.width ≤ p → slice_index new p ≡ slice_index old p
 
 -- each byte is below a limit
 abbrev pub AreSmall : List ℕ → ℕ → Type 0
