@@ -4,6 +4,7 @@ ghost use Rattle.std.specs.Io.KnownBytes.{Keeps};
 ghost use Rattle.std.specs.Io.Buffered.{writer_buffer, writer_contents};
 ghost use Rattle.tool.specs.Worlds.{untold};
 
+use crate::last::LastLine;
 use session::{Device, Failed, Write, write_all};
 use std::alloc::Global;
 use std::fs;
@@ -24,6 +25,7 @@ pub struct ProgramHost<'a, R, O: std::io::Write + Drop> {
     rt: &'a R,
     alloc: Global,
     out: Device<BufWriter<O>>,
+    last: LastLine,
 }
 
 impl<'a, R, O: std::io::Write + Drop> ProgramHost<'a, R, O> {
@@ -31,7 +33,17 @@ impl<'a, R, O: std::io::Write + Drop> ProgramHost<'a, R, O> {
     pub fn new(rt: &'a R, alloc: Global, out: Device<BufWriter<O>>) -> ProgramHost<'a, R, O>
         ensures { result.rt.now ≡ rt.now }
     {
-        ProgramHost { rt, alloc, out }
+        ProgramHost {
+            rt,
+            alloc,
+            out,
+            last: LastLine::new(),
+        }
+    }
+
+    /// What was printed last.
+    pub(crate) fn last(&self) -> &LastLine {
+        &self.last
     }
 
     /// Passes on all that was printed. `Failed` comes exactly where the output has failed, now or before.
@@ -246,6 +258,7 @@ impl<R: Files, O: std::io::Write + Drop> Host for ProgramHost<'_, R, O> {
     }
 
     fn print(&mut self, bytes: &[u8]) -> Result<(), Failed> {
+        self.last.note(bytes);
         write_all(&mut self.out, bytes)
     }
 

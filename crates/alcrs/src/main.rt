@@ -2,42 +2,55 @@
 #![tactic(auto)]
 
 mod host;
+mod last;
 mod words;
 
+use causes::{doubt, explain};
 use host::{BUFFER_SIZE, ProgramHost};
+use last::LastLine;
+use request::request;
 use session::Device;
 use std::alloc::{AllocError, Global};
 use std::io::BufWriter;
 use std::process::ExitCode;
-use tool::{Host, answer, refuse, refuse_memory, status_after};
+use std::rt::Files;
+use tool::{answer, refuse, refuse_memory, status_after};
 use words::{WordFault, read_words, refuse_word};
 
-// The answer to these words; the status.
-fn answer_words<H: Host>(
-    rt: &HostRuntime,
-    alloc: Global,
-    words: &[String],
-    host: &mut H,
-) -> Result<u8, AllocError> {
+// The words as they are taken by what reads them.
+fn views_of(alloc: Global, words: &[String]) -> Result<Vec<&str>, AllocError> {
     let mut views: Vec<&str> = Vec::new(alloc);
     for word in words {
         views.push(word.as_str())?;
     }
-    let mut err = Device::new(rt.stderr());
-    Ok(answer(alloc, &views, host, &mut err))
+    Ok(views)
 }
 
-// The answer to the program's words; the status.
-fn respond<H: Host>(rt: &HostRuntime, alloc: Global, host: &mut H) -> u8 {
-    let answered = match read_words(rt, alloc) {
-        Ok(words) => answer_words(rt, alloc, words.as_slice(), host),
-        Err(WordFault::NoText(place)) => return refuse_word(rt, place),
-        Err(WordFault::NoMemory) => Err(AllocError),
+// Says on standard error why the command ended as its last line tells, where there is more to say.
+fn tell_cause<R: Files + Eprint>(rt: &R, alloc: Global, words: &[&str], last: &LastLine) {
+    let Ok(request) = request(alloc, words) else {
+        return;
     };
-    match answered {
-        Ok(status) => status,
-        Err(AllocError) => refuse(host),
+    if let Ok(Some(sentence)) = explain(rt, alloc, &request, last.text()) {
+        let _ = eprintln!(rt; "alcrs: {sentence}");
     }
+    if let Ok(Some(sentence)) = doubt(alloc, &request, last.contradictions()) {
+        let _ = eprintln!(rt; "alcrs: {sentence}");
+    }
+}
+
+// Answers the words, and tells the cause; the status.
+fn respond<O: std::io::Write + Drop>(
+    rt: &HostRuntime,
+    alloc: Global,
+    words: &[&str],
+    host: &mut ProgramHost<'_, HostRuntime, O>,
+) -> u8 {
+    let mut err = Device::new(rt.stderr());
+    let status = answer(alloc, words, host, &mut err);
+    let status = status_after(status, host.flush());
+    tell_cause(rt, alloc, words, host.last());
+    status
 }
 
 fn main(rt: HostRuntime) -> ExitCode {
@@ -46,6 +59,17 @@ fn main(rt: HostRuntime) -> ExitCode {
         return ExitCode::from(refuse_memory(&mut Device::new(rt.stdout())));
     };
     let mut host = ProgramHost::new(&rt, alloc, Device::new(buffer));
-    let status = respond(&rt, alloc, &mut host);
-    ExitCode::from(status_after(status, host.flush()))
+    let words = match read_words(&rt, alloc) {
+        Ok(words) => words,
+        Err(WordFault::NoText(place)) => return ExitCode::from(refuse_word(&rt, place)),
+        Err(WordFault::NoMemory) => {
+            let status = refuse(&mut host);
+            return ExitCode::from(status_after(status, host.flush()));
+        }
+    };
+    let Ok(views) = views_of(alloc, words.as_slice()) else {
+        let status = refuse(&mut host);
+        return ExitCode::from(status_after(status, host.flush()));
+    };
+    ExitCode::from(respond(&rt, alloc, &views, &mut host))
 }

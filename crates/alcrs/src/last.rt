@@ -1,0 +1,56 @@
+//! What a command printed last, kept for the sentence on its cause.
+
+/// The most bytes of a line that are kept. The words that tell a fault are shorter.
+const MOST: usize = 160;
+
+/// The front of what was printed last, and how many lines told that a datagram contradicts those before it.
+#[derive(Drop)]
+pub(crate) struct LastLine {
+    front: [u8; 160],
+    length: usize,
+    contradictions: u64,
+}
+
+impl LastLine {
+    pub(crate) fn new() -> LastLine {
+        LastLine {
+            front: [0u8; MOST],
+            length: 0,
+            contradictions: 0,
+        }
+    }
+
+    /// Keeps the front of these bytes in place of what was kept.
+    pub(crate) fn note(&mut self, bytes: &[u8]) {
+        let length = bytes.len().min(MOST);
+        for place in 0..length {
+            self.front[place] = bytes[place];
+        }
+        self.length = length;
+        if is_contradiction(self.text()) {
+            self.contradictions = self.contradictions.saturating_add(1);
+        }
+    }
+
+    /// The first line of it, as far as it is ASCII.
+    pub(crate) fn text(&self) -> &str {
+        let mut end = 0;
+        while end < self.length.min(MOST) && is_of_line(self.front[end]) {
+            end += 1;
+        }
+        std::str::from_utf8(&self.front[..end]).unwrap_or("")
+    }
+
+    pub(crate) fn contradictions(&self) -> u64 {
+        self.contradictions
+    }
+}
+
+fn is_of_line(byte: u8) -> bool {
+    byte != b'\n' && byte < 128
+}
+
+// Whether `follow` told that a datagram's bytes contradict what was taken before.
+fn is_contradiction(line: &str) -> bool {
+    line.starts_with("refused ") && (line.contains(" R5 ") || line.contains(" R6 "))
+}

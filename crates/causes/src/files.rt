@@ -1,0 +1,130 @@
+//! Why a file can't be had, and what it is.
+use crate::names::Name;
+use session::{Device, Read, fill};
+use std::alloc::{AllocError, Global};
+use std::fs;
+use std::fs::OpenOptions;
+use std::rt::Files;
+
+/// What a file begins as.
+#[derive(Clone, Copy, PartialEq, Eq)]
+pub(crate) enum Kind {
+    Capture,
+    Certificate,
+    Text,
+    Other,
+}
+
+/// Whether this name leads to a regular file, which can be read again.
+pub(crate) fn is_regular<R: Files>(rt: &R, name: &str) -> bool {
+    match fs::metadata(rt, name) {
+        Ok(there) => there.is_file(),
+        Err(_) => false,
+    }
+}
+
+fn is_text(front: &[u8]) -> bool {
+    for byte in front {
+        let is_printable = (32..127).contains(byte) || *byte == 9 || *byte == 10 || *byte == 13;
+        if !is_printable {
+            return false;
+        }
+    }
+    !front.is_empty()
+}
+
+// By the first bytes: those of pcap in either order of bytes, with micro- or nanoseconds, those of pcapng, and those of
+// a certificate.
+fn kind_of_front(front: &[u8]) -> Kind {
+    match front {
+        [0xd4, 0xc3, 0xb2, 0xa1, ..]
+        | [0xa1, 0xb2, 0xc3, 0xd4, ..]
+        | [0x4d, 0x3c, 0xb2, 0xa1, ..]
+        | [0xa1, 0xb2, 0x3c, 0x4d, ..]
+        | [0x0a, 0x0d, 0x0d, 0x0a, ..] => Kind::Capture,
+        [b'R', b'S', b'C', b'1' | b'2', ..] => Kind::Certificate,
+        _ => {
+            if is_text(front) {
+                Kind::Text
+            } else {
+                Kind::Other
+            }
+        }
+    }
+}
+
+/// What a regular file is, by its first bytes.
+pub(crate) fn kind_of<R: Files>(rt: &R, name: &str) -> Kind {
+    if !is_regular(rt, name) {
+        return Kind::Other;
+    }
+    let Ok(file) = fs::open(rt, name) else {
+        return Kind::Other;
+    };
+    let mut front = [0u8; 16];
+    match fill(&mut Device::new(file), &mut front) {
+        Ok(got) => kind_of_front(&front[..got]),
+        Err(_) => Kind::Other,
+    }
+}
+
+/// The system's reason why a file can't be read, if it has one.
+pub(crate) fn unread<R: Files>(
+    rt: &R,
+    alloc: Global,
+    name: &str,
+) -> Result<Option<String>, AllocError> {
+    let shown = Name { text: name };
+    match fs::metadata(rt, name) {
+        Ok(there) if there.is_dir() => return Ok(Some(format!(in alloc; "{shown} is a folder")?)),
+        Ok(_) => {}
+        Err(error) => return Ok(Some(format!(in alloc; "{shown}: {error}")?)),
+    }
+    if !is_regular(rt, name) {
+        return Ok(None);
+    }
+    match fs::open(rt, name) {
+        Ok(_file) => Ok(None),
+        Err(error) => Ok(Some(format!(in alloc; "{shown}: {error}")?)),
+    }
+}
+
+// The folder of a file: what stands in front of the last slash.
+fn folder_of(name: &str) -> &str {
+    match name.rsplit_once('/') {
+        Some(("", _)) => "/",
+        Some((folder, _)) => folder,
+        None => ".",
+    }
+}
+
+/// Why a file can't be written, as far as the system tells without writing it.
+pub(crate) fn unwritten<R: Files>(rt: &R, alloc: Global, name: &str) -> Result<String, AllocError> {
+    let shown = Name { text: name };
+    let folder = folder_of(name);
+    match fs::metadata(rt, folder) {
+        Ok(there) if there.is_dir() => {}
+        Ok(_) => {
+            let folder = Name { text: folder };
+            return format!(in alloc; "{shown} can't be written: {folder} is no folder");
+        }
+        Err(error) => {
+            let folder = Name { text: folder };
+            return format!(in alloc; "{shown} can't be written: its folder {folder}: {error}");
+        }
+    }
+    match fs::metadata(rt, name) {
+        Ok(there) if there.is_dir() => return format!(in alloc; "{shown} is a folder"),
+        Ok(there) if there.is_file() => {
+            if let Err(error) = OpenOptions::new().write(true).open(rt, name) {
+                return format!(in alloc; "{shown} can't be written: {error}");
+            }
+        }
+        _ => {}
+    }
+    format!(in alloc;
+        "{shown} can't be written: is there room on the disk, may files be made in \
+        its folder, and do no hundred parts of it, {shown}.part and so on, stand there from runs \
+        that were cut off?"
+    )
+}

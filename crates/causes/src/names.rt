@@ -1,0 +1,84 @@
+//! Files' names in sentences.
+use request::Request;
+use std::fmt;
+
+/// A file's name as it can be shown: control characters can't move the cursor, nor end the line.
+#[derive(Clone, Copy)]
+pub(crate) struct Name<'a> {
+    pub(crate) text: &'a str,
+}
+
+impl fmt::Display for Name<'_> {
+    fn fmt<W: fmt::Write>(&self, f: &mut fmt::Formatter<W>) -> fmt::Result {
+        for letter in self.text.chars() {
+            if letter.is_control() {
+                write!(f, "?")?;
+            } else {
+                write!(f, "{letter}")?;
+            }
+        }
+        Ok(())
+    }
+}
+
+/// The session that a command reads, if it reads just one.
+pub(crate) fn session_of<'a>(request: &Request<'a>) -> Option<&'a str> {
+    match request {
+        Request::Check(request) => Some(request.session),
+        Request::Twin(request) => Some(request.session),
+        Request::Show(request) => Some(request.session),
+        Request::Decode(request) => Some(request.session),
+        Request::Follow(request) => Some(request.session),
+        Request::Drop(request) => Some(request.session),
+        _ => None,
+    }
+}
+
+/// The object that it reads.
+pub(crate) fn object_of<'a>(request: &Request<'a>) -> Option<&'a str> {
+    match request {
+        Request::Check(request) => Some(request.object),
+        Request::Twin(request) => Some(request.object),
+        Request::Encode(request) => Some(request.object),
+        Request::Certify(request) => Some(request.object),
+        _ => None,
+    }
+}
+
+/// The certificate that it reads.
+pub(crate) fn certificate_of<'a>(request: &Request<'a>) -> Option<&'a str> {
+    match request {
+        Request::Check(request) => Some(request.certificate),
+        Request::Twin(request) => Some(request.certificate),
+        Request::Convert(request) => Some(request.certificate),
+        _ => None,
+    }
+}
+
+/// What it writes.
+pub(crate) fn output_of<'a>(request: &Request<'a>) -> Option<&'a str> {
+    match request {
+        Request::Twin(request) => Some(request.output),
+        Request::Encode(request) => Some(request.output),
+        Request::Certify(request) => Some(request.output),
+        Request::Convert(request) => Some(request.output),
+        Request::Decode(request) => Some(request.output),
+        Request::Follow(request) => Some(request.output),
+        Request::Drop(request) => Some(request.output),
+        Request::Join(request) => Some(request.output),
+        Request::Check(_) | Request::Show(_) => None,
+    }
+}
+
+/// Whose packets it asks for.
+pub(crate) fn identity_of(request: &Request<'_>) -> Option<(u64, u128)> {
+    let identity = match request {
+        Request::Check(request) => request.identity,
+        Request::Twin(request) => request.identity,
+        Request::Decode(request) => request.identity,
+        Request::Follow(request) => request.identity,
+        Request::Convert(request) => request.identity,
+        _ => return None,
+    };
+    Some((identity.tsi, identity.toi))
+}
