@@ -188,10 +188,15 @@ class Rooms:
             parts = [name for name in os.listdir(room) if name.startswith("out.")]
             for name in parts:
                 os.remove(os.path.join(room, name))
-            return ran.returncode, ran.stdout, ran.stderr, left, parts
+            return ran.returncode, ran.stdout, without_causes(ran.stderr), left, parts
         finally:
             with self.lock:
                 self.free.append(room)
+
+
+def without_causes(messages):
+    """What stands on standard error beside the sentences on causes, which `causes.py` tries."""
+    return b"".join(line for line in messages.splitlines(keepends=True) if not line.startswith(b"alcrs: "))
 
 
 def build(source, library):

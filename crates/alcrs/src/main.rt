@@ -34,7 +34,7 @@ fn tell_cause<R: Files + Eprint>(rt: &R, alloc: Global, words: &[&str], last: &L
     if let Ok(Some(sentence)) = explain(rt, alloc, &request, last.text()) {
         let _ = eprintln!(rt; "alcrs: {sentence}");
     }
-    if let Ok(Some(sentence)) = doubt(alloc, &request, last.contradictions()) {
+    if let Ok(Some(sentence)) = doubt(rt, alloc, &request, last.contradictions()) {
         let _ = eprintln!(rt; "alcrs: {sentence}");
     }
 }

@@ -35,32 +35,39 @@ pub fn explain<R: Files>(
     match case.word(0) {
         "fault" => case.fault(),
         "no" => case.no(),
-        "missing" => case.missing(),
-        "empty" => case.empty(),
+        "missing" => case.say(
+            "{S} has {1} different symbols of block {0}, and {2} are needed: join it with what \
+            came of the same session at another time (alcrs join)",
+            &[case.number(2), case.number(4), case.number(6)],
+        ),
+        "empty" => case.say(
+            "{S} has no packet of TSI {T} and TOI {I} that carries the FTI: alcrs show {S} tells \
+            what it has",
+            &[],
+        ),
         _ => Ok(None),
     }
 }
 
 /// What to think of an object that was completed although datagrams contradicted it, so many of them.
-pub fn doubt(
+pub fn doubt<R: Files>(
+    rt: &R,
     alloc: Global,
     request: &Request<'_>,
     contradictions: u64,
 ) -> Result<Option<String>, AllocError> {
+    let case = Case {
+        rt,
+        alloc,
+        request,
+        line: "",
+    };
     match request {
-        Request::Follow(request) if contradictions > 0 => {
-            let session = Name {
-                text: request.session,
-            };
-            let output = Name {
-                text: request.output,
-            };
-            Ok(Some(format!(in alloc;
-                "{contradictions} datagrams of {session} contradict those that came before them: \
-                one that was taken may be damaged, and {output} wrong; \
-                keep the datagrams, and decode them"
-            )?))
-        }
+        Request::Follow(_) if contradictions > 0 => case.say(
+            "{0} datagrams of {S} contradict those that came before them: one that was taken may \
+            be damaged, and {W} wrong; keep the datagrams, and decode them",
+            &[contradictions],
+        ),
         _ => Ok(None),
     }
 }
@@ -75,32 +82,63 @@ impl<'a, R: Files> Case<'a, R> {
         self.word(place).parse::<u64>().unwrap_or(0)
     }
 
-    fn session(&self) -> Name<'a> {
-        Name {
-            text: session_of(self.request).unwrap_or("the session"),
+    fn session(&self) -> &'a str {
+        session_of(self.request).unwrap_or("the session")
+    }
+
+    fn certificate(&self) -> &'a str {
+        certificate_of(self.request).unwrap_or("the certificate")
+    }
+
+    // What stands for a key of a pattern: `S` the session, `O` the object, `C` the certificate, `W` what is written, `T` and
+    // `I` the TSI and the TOI, a digit the number at that place.
+    fn value(&self, key: &str, numbers: &[u64]) -> Result<String, AllocError> {
+        let name = match key {
+            "S" => self.session(),
+            "O" => object_of(self.request).unwrap_or("the object"),
+            "C" => self.certificate(),
+            "W" => output_of(self.request).unwrap_or("the output"),
+            _ => return self.figure(key, numbers),
+        };
+        Name { text: name }.to_string(self.alloc)
+    }
+
+    fn figure(&self, key: &str, numbers: &[u64]) -> Result<String, AllocError> {
+        let (tsi, toi) = identity_of(self.request).unwrap_or((0, 0));
+        match key {
+            "T" => tsi.to_string(self.alloc),
+            "I" => toi.to_string(self.alloc),
+            _ => {
+                let place = key.parse::<usize>().unwrap_or(0);
+                let number = numbers.get(place).copied().unwrap_or(0);
+                number.to_string(self.alloc)
+            }
         }
     }
 
-    fn object(&self) -> Name<'a> {
-        Name {
-            text: object_of(self.request).unwrap_or("the object"),
+    // The sentence of a pattern, whose keys stand in braces.
+    fn say(&self, pattern: &str, numbers: &[u64]) -> Sentence {
+        let mut text = String::new(self.alloc);
+        for piece in pattern.split('{') {
+            match piece.split_once('}') {
+                Some((key, rest)) => {
+                    let value = self.value(key, numbers)?;
+                    text.push_str(value.as_str())?;
+                    text.push_str(rest)?;
+                }
+                None => text.push_str(piece)?,
+            }
         }
+        Ok(Some(text))
     }
 
-    fn certificate(&self) -> Name<'a> {
-        Name {
-            text: certificate_of(self.request).unwrap_or("the certificate"),
+    // The same where the first key is a name.
+    fn say_of(&self, name: &str, pattern: &str, numbers: &[u64]) -> Sentence {
+        let mut text = Name { text: name }.to_string(self.alloc)?;
+        if let Some(rest) = self.say(pattern, numbers)? {
+            text.push_str(rest.as_str())?;
         }
-    }
-
-    fn output(&self) -> Name<'a> {
-        Name {
-            text: output_of(self.request).unwrap_or("the output"),
-        }
-    }
-
-    fn say(&self, text: Result<String, AllocError>) -> Sentence {
-        Ok(Some(text?))
+        Ok(Some(text))
     }
 
     fn fault(&self) -> Sentence {
@@ -109,19 +147,29 @@ impl<'a, R: Files> Case<'a, R> {
             "S1" | "S2" | "S3" => self.broken(),
             "S6" => self.no_such_place(),
             "Z1" | "Z2" | "Z3" => self.no_certificate(),
-            "Z6" => self.other_identity(),
-            "F1" | "F2" | "F3" | "F4" | "F5" | "F6" => self.no_fti(),
-            "R1" | "R3" | "R4" | "R5" | "R6" | "R7" => self.undecoded(),
-            "memory" => {
-                let alloc = self.alloc;
-                self.say(format!(in alloc; "there is too little memory; nothing was written"))
+            "Z6" => self.say(OTHER_IDENTITY, &[]),
+            "F1" | "F2" | "F3" | "F4" | "F5" | "F6" => self.say(no_fti(self.word(1)), &[]),
+            "R3" => self.two_ftis(self.number(4)),
+            "R1" | "R4" | "R5" | "R6" | "R7" => {
+                self.say(undecoded(self.word(1)), &[self.number(4)])
             }
+            "memory" => self.say("there is too little memory; no file was changed", &[]),
             _ => Ok(None),
         }
     }
 
     // The first input that can't be read, or else the output.
     fn io(&self) -> Sentence {
+        if let Some(text) = self.unread_input()? {
+            return Ok(Some(text));
+        }
+        match output_of(self.request) {
+            Some(name) => Ok(Some(unwritten(self.rt, self.alloc, name)?)),
+            None => self.say("reading {S} failed half way", &[]),
+        }
+    }
+
+    fn unread_input(&self) -> Sentence {
         if let Request::Join(request) = self.request {
             for name in &request.sessions {
                 if let Some(text) = unread(self.rt, self.alloc, *name)? {
@@ -134,19 +182,13 @@ impl<'a, R: Files> Case<'a, R> {
             object_of(self.request),
             certificate_of(self.request),
         ] {
-            if let Some(name) = name {
-                if let Some(text) = unread(self.rt, self.alloc, name)? {
+            if let Some(text) = unread(self.rt, self.alloc, name.unwrap_or("/"))? {
+                if name.is_some() {
                     return Ok(Some(text));
                 }
             }
         }
-        match output_of(self.request) {
-            Some(name) => self.say(unwritten(self.rt, self.alloc, name)),
-            None => {
-                let alloc = self.alloc;
-                self.say(format!(in alloc; "reading failed half way"))
-            }
-        }
+        Ok(None)
     }
 
     // The session whose frames stop, and where.
@@ -159,299 +201,213 @@ impl<'a, R: Files> Case<'a, R> {
             }
             return Ok(None);
         }
-        match session_of(self.request) {
-            Some(name) => self.broken_in(name),
-            None => Ok(None),
-        }
+        self.broken_in(self.session())
     }
 
-    fn broken_in(&self, name: &'a str) -> Sentence {
-        let alloc = self.alloc;
-        let shown = Name { text: name };
-        let Some((_, Some(at))) = walk(self.rt, alloc, name) else {
+    fn broken_in(&self, name: &str) -> Sentence {
+        let Some((_, Some(at))) = walk(self.rt, self.alloc, name) else {
             return Ok(None);
         };
-        if at.place == 0 {
-            match kind_of(self.rt, name) {
-                Kind::Capture => return self.say(format!(in alloc;
-                    "{shown} is a capture, and no \
-                    session: OPERATING, 'From a capture', makes a session of it"
-                )),
-                Kind::Certificate => return self.say(format!(in alloc;
-                    "{shown} is a \
-                    certificate, and no session"
-                )),
-                Kind::Text => return self.say(format!(in alloc;
-                    "{shown} begins as text, and is \
-                    no session"
-                )),
-                Kind::Other => {}
-            }
-        }
         let Break { place, byte, fault } = at;
-        match fault {
-            FrameFault::TooLong => self.say(format!(in alloc;
-                "{shown}: the frame of datagram \
-                {place}, at byte {byte}, tells a length above 65507: the file is no session, or \
-                is damaged there"
-            )),
-            _ => self.say(format!(in alloc;
-                "{shown} is cut off: it ends inside the frame of \
-                datagram {place}, which begins at byte {byte}; the {place} before it are whole"
-            )),
-        }
+        let kind = if place == 0 {
+            kind_of(self.rt, name)
+        } else {
+            Kind::Other
+        };
+        self.say_of(name, stop(kind, fault), &[place, byte])
     }
 
     fn no_such_place(&self) -> Sentence {
-        let alloc = self.alloc;
-        let shown = self.session();
-        let place = self.number(3);
-        match walk(self.rt, alloc, shown.text) {
-            Some((count, None)) => self.say(format!(in alloc;
-                "{shown} has {count} datagrams, \
-                whose places are counted from 0: there is none at place {place}"
-            )),
+        match walk(self.rt, self.alloc, self.session()) {
+            Some((count, None)) => self.say(
+                "{S} has {0} datagrams, whose places are counted from 0: there is none at place {1}",
+                &[count, self.number(3)],
+            ),
             _ => Ok(None),
         }
     }
 
     fn no_certificate(&self) -> Sentence {
-        let alloc = self.alloc;
-        let shown = self.certificate();
-        match (self.word(1), kind_of(self.rt, shown.text)) {
-            ("Z1", Kind::Text) => self.say(format!(in alloc;
-                "{shown} begins as text, and is no \
-                certificate: the order is SESSION OBJECT CERT"
-            )),
-            ("Z1", Kind::Capture) => self.say(format!(in alloc;
-                "{shown} is a capture, and no \
-                certificate"
-            )),
-            ("Z1", _) => self.say(format!(in alloc;
-                "{shown} is no certificate: one begins with \
-                RSC1 or RSC2, and alcrs certify makes it; the order is SESSION OBJECT CERT"
-            )),
-            ("Z2", _) => self.say(format!(in alloc;
-                "{shown}: the numbers in it are no FTI: the \
-                file is damaged"
-            )),
-            _ => self.say(format!(in alloc;
-                "{shown} is shorter or longer than its own numbers \
-                tell: it is cut off or damaged; make it again with alcrs certify"
-            )),
-        }
-    }
-
-    fn other_identity(&self) -> Sentence {
-        let alloc = self.alloc;
-        let shown = self.certificate();
-        match identity_of(self.request) {
-            Some((tsi, toi)) => self.say(format!(in alloc;
-                "{shown} is for another TSI or TOI \
-                than {tsi} and {toi}: make one for these with alcrs certify"
-            )),
-            None => Ok(None),
-        }
-    }
-
-    fn no_fti(&self) -> Sentence {
-        let alloc = self.alloc;
-        let shown = self.object();
-        match self.word(1) {
-            "F1" => self.say(format!(in alloc;
-                "{shown} is empty: an object has one byte at least"
-            )),
-            "F5" => self.say(format!(in alloc;
-                "--max is below --block: a block has its source \
-                symbols among its encoding symbols"
-            )),
-            "F6" => self.say(format!(in alloc;
-                "{shown} would have more than 16777216 blocks: \
-                take a greater --symbol or --block"
-            )),
-            _ => self.say(format!(in alloc; "{shown} and these numbers don't go together")),
-        }
+        let kind = kind_of(self.rt, self.certificate());
+        self.say(no_certificate(self.word(1), kind), &[])
     }
 
     fn no(&self) -> Sentence {
-        let alloc = self.alloc;
-        let session = self.session();
-        let object = self.object();
-        let certificate = self.certificate();
         let place = self.number(4);
         match self.word(1) {
-            "twin" => self.say(format!(in alloc;
-                "no block of {session} is short, or the check \
-                of it says no for another reason: alcrs check tells"
-            )),
-            "N1" => self.say(format!(in alloc;
-                "{object} hasn't the length that {certificate} is \
-                for: one of the two is another object's, or their order is wrong (SESSION OBJECT \
-                CERT)"
-            )),
-            "N2" => self.say(format!(in alloc;
-                "{certificate} isn't of {object}, whose bytes \
-                differ in block {}, column {}, symbol {}: certify this object",
-                self.number(4),
-                self.number(6),
-                self.number(8)
-            )),
-            "N3" => self.nothing_came(),
-            "N4" => self.say(format!(in alloc;
-                "{session}: datagram {place} is no packet: take \
-                strays out with alcrs drop, or sort them out when you capture"
-            )),
             "N6" => self.other_numbers(place),
-            "N7" => self.say(format!(in alloc;
-                "{session}: datagram {place} names a block or an \
-                encoding symbol that {certificate}'s FTI hasn't: the encoder has other numbers, \
-                or is wrong"
-            )),
-            "N8" => self.say(format!(in alloc;
-                "{session}: the symbol of datagram {place} isn't \
-                {object}'s: it differs at byte {}",
-                self.number(6)
-            )),
-            "N9" => self.say(format!(in alloc;
-                "{session} has {} different symbols of block {}, \
-                and {} are needed: nobody can decode {object} of it",
-                self.number(5),
-                self.number(3),
-                self.number(7)
-            )),
-            "N10" => self.say(format!(in alloc;
-                "{session}: the symbol of datagram {place} \
-                hasn't the length that {certificate}'s FTI tells"
-            )),
-            "N11" => self.say(format!(in alloc;
-                "{session}: no datagram of the object carries \
-                the FTI, so that no listener learns it: have the encoder send it in some \
-                datagrams at least"
-            )),
-            "N12" => self.other_identity(),
-            _ => Ok(None),
-        }
-    }
-
-    fn nothing_came(&self) -> Sentence {
-        let alloc = self.alloc;
-        let session = self.session();
-        match identity_of(self.request) {
-            Some((tsi, toi)) => self.say(format!(in alloc;
-                "{session} has no packet of TSI {tsi} \
-                and TOI {toi}: alcrs show {session} tells which it has"
-            )),
-            None => Ok(None),
+            "N2" => self.say(
+                "{C} isn't of {O}, whose bytes differ in block {0}, column {1}, symbol {2}: \
+                certify this object",
+                &[self.number(4), self.number(6), self.number(8)],
+            ),
+            "N8" => self.say(
+                "{S}: the symbol of datagram {0} isn't {O}'s: it differs at byte {1}",
+                &[place, self.number(6)],
+            ),
+            "N9" => self.say(
+                "{S} has {1} different symbols of block {0}, and {2} are needed: nobody can \
+                decode {O} of it",
+                &[self.number(3), self.number(5), self.number(7)],
+            ),
+            reason => match reason_text(reason) {
+                Some(pattern) => self.say(pattern, &[place]),
+                None => Ok(None),
+            },
         }
     }
 
     // The FTI of a carrier that isn't the certificate's.
     fn other_numbers(&self, place: u64) -> Sentence {
-        let alloc = self.alloc;
-        let session = self.session();
-        let certificate = self.certificate();
-        let Some(identity) = identity_of(self.request) else {
-            return Ok(None);
-        };
-        match carrier_from(self.rt, alloc, session.text, identity, place) {
-            Some(Carrier { fti, .. }) => self.say(format!(in alloc;
-                "{session}: datagram {place} \
-                tells a length of {}, --symbol {}, --block {}, --max {}, and {certificate} other \
-                numbers: certify with these, or encode again",
-                fti.transfer_length(),
-                fti.symbol_length(),
-                fti.block_length(),
-                fti.max_symbols()
-            )),
+        match self.carrier(place) {
+            Some(Carrier { fti, .. }) => self.say(
+                "{S}: datagram {0} tells a length of {1}, --symbol {2}, --block {3}, --max {4}, \
+                and {C} other numbers: certify with these, or encode again",
+                &[
+                    place,
+                    fti.transfer_length(),
+                    u64::from(fti.symbol_length()),
+                    u64::from(fti.block_length()),
+                    u64::from(fti.max_symbols()),
+                ],
+            ),
             None => Ok(None),
         }
     }
 
-    // Why datagrams are of no object.
-    fn undecoded(&self) -> Sentence {
-        let alloc = self.alloc;
-        let session = self.session();
-        let place = self.number(4);
-        match self.word(1) {
-            "R1" => self.say(format!(in alloc;
-                "{session}: datagram {place} is no packet: take \
-                it out with alcrs drop"
-            )),
-            "R3" => self.two_ftis(place),
-            "R4" => self.say(format!(in alloc;
-                "{session}: datagram {place} names a block or an \
-                encoding symbol that the FTI of the first carrier hasn't"
-            )),
-            "R5" => self.say(format!(in alloc;
-                "{session}: datagram {place} has the block and \
-                ESI of an earlier one, and other bytes: one of the two is damaged, or two \
-                senders are mixed"
-            )),
-            "R6" => self.say(format!(in alloc;
-                "{session}: the symbols of block {} are of no \
-                object: one of them is damaged, or the encoder is none of FEC Encoding ID 5",
-                self.number(4)
-            )),
-            _ => self.say(format!(in alloc;
-                "{session}: the symbol of datagram {place} hasn't \
-                the length that the FTI of the first carrier tells"
-            )),
-        }
+    // The first carrier from a place on.
+    fn carrier(&self, first: u64) -> Option<Carrier> {
+        let identity = identity_of(self.request)?;
+        carrier_from(self.rt, self.alloc, self.session(), identity, first)
     }
 
     // The two carriers that contradict each other.
     fn two_ftis(&self, place: u64) -> Sentence {
-        let alloc = self.alloc;
-        let session = self.session();
-        let Some(identity) = identity_of(self.request) else {
+        let (Some(first), Some(other)) = (self.carrier(0), self.carrier(place)) else {
             return Ok(None);
         };
-        let first = carrier_from(self.rt, alloc, session.text, identity, 0);
-        let other = carrier_from(self.rt, alloc, session.text, identity, place);
-        match (first, other) {
-            (Some(first), Some(other)) => {
-                let (a, b) = (first.fti, other.fti);
-                self.say(format!(in alloc;
-                    "{session}: datagram {} tells a length of {}, \
-                    --symbol {}, --block {}, --max {}, and datagram {place} {}, {}, {}, {}: \
-                    either may be the wrong one; alcrs show {session} tells which most have",
-                    first.place,
-                    a.transfer_length(),
-                    a.symbol_length(),
-                    a.block_length(),
-                    a.max_symbols(),
-                    b.transfer_length(),
-                    b.symbol_length(),
-                    b.block_length(),
-                    b.max_symbols()
-                ))
-            }
-            _ => Ok(None),
+        let (one, two) = (first.fti, other.fti);
+        self.say(
+            "{S}: datagram {0} tells a length of {1}, --symbol {2}, --block {3}, --max {4}, and \
+            datagram {5} tells {6}, {7}, {8}, {9}: either may be the wrong one; alcrs show {S} \
+            tells which most have",
+            &[
+                first.place,
+                one.transfer_length(),
+                u64::from(one.symbol_length()),
+                u64::from(one.block_length()),
+                u64::from(one.max_symbols()),
+                place,
+                two.transfer_length(),
+                u64::from(two.symbol_length()),
+                u64::from(two.block_length()),
+                u64::from(two.max_symbols()),
+            ],
+        )
+    }
+}
+
+const OTHER_IDENTITY: &str =
+    "{C} is for another TSI or TOI than {T} and {I}: make one for these with alcrs certify";
+
+// Why a session's frames stop, behind its name.
+fn stop(kind: Kind, fault: FrameFault) -> &'static str {
+    match (kind, fault) {
+        (Kind::Capture, _) => {
+            " is a capture, and no session: OPERATING, 'From a capture', makes a session of it"
+        }
+        (Kind::Certificate, _) => " is a certificate, and no session",
+        (Kind::Text, _) => " begins as text, and is no session",
+        (Kind::Other, FrameFault::TooLong) => {
+            ": the frame of datagram {0}, at byte {1}, tells a length above 65507: the file is no \
+            session, or is damaged there"
+        }
+        _ => {
+            " is cut off: it ends inside the frame of datagram {0}, which begins at byte {1}; \
+            those before it are whole"
         }
     }
+}
 
-    fn missing(&self) -> Sentence {
-        let alloc = self.alloc;
-        let session = self.session();
-        let block = self.number(2);
-        let have = self.number(4);
-        let need = self.number(6);
-        self.say(format!(in alloc;
-            "{session} has {have} different symbols of block {block}, and \
-            {need} are needed: join it with what came of the same session at another time (alcrs \
-            join)"
-        ))
-    }
-
-    fn empty(&self) -> Sentence {
-        let alloc = self.alloc;
-        let session = self.session();
-        match identity_of(self.request) {
-            Some((tsi, toi)) => self.say(format!(in alloc;
-                "{session} has no packet of TSI {tsi} \
-                and TOI {toi} that carries the FTI: alcrs show {session} tells what it has"
-            )),
-            None => Ok(None),
+fn no_certificate(code: &str, kind: Kind) -> &'static str {
+    match (code, kind) {
+        ("Z1", Kind::Text) => {
+            "{C} begins as text, and is no certificate: the order is SESSION OBJECT CERT"
+        }
+        ("Z1", Kind::Capture) => "{C} is a capture, and no certificate",
+        ("Z1", _) => {
+            "{C} is no certificate: one begins with RSC1 or RSC2, and alcrs certify makes it; the \
+            order is SESSION OBJECT CERT"
+        }
+        ("Z2", _) => "{C}: the numbers in it are no FTI: the file is damaged",
+        _ => {
+            "{C} is shorter or longer than its own numbers tell: it is cut off or damaged; make it \
+            again with alcrs certify"
         }
     }
+}
+
+fn no_fti(code: &str) -> &'static str {
+    match code {
+        "F1" => "{O} is empty: an object has one byte at least",
+        "F5" => {
+            "--max is below --block: a block has its source symbols among its encoding symbols"
+        }
+        "F6" => "{O} would have more than 16777216 blocks: take a greater --symbol or --block",
+        _ => "{O} and these numbers don't go together",
+    }
+}
+
+// Why datagrams are of no object.
+fn undecoded(code: &str) -> &'static str {
+    match code {
+        "R1" => "{S}: datagram {0} is no packet: take it out with alcrs drop",
+        "R4" => {
+            "{S}: datagram {0} names a block or an encoding symbol that the FTI of the first \
+            carrier hasn't"
+        }
+        "R5" => {
+            "{S}: datagram {0} has the block and ESI of an earlier one, and other bytes: one of \
+            the two is damaged, or two senders are mixed"
+        }
+        "R6" => {
+            "{S}: the symbols of block {0} are of no object: one of them is damaged, or the \
+            encoder is none of FEC Encoding ID 5"
+        }
+        _ => {
+            "{S}: the symbol of datagram {0} hasn't the length that the FTI of the first carrier \
+            tells"
+        }
+    }
+}
+
+// Why a check says no, where the line's numbers but the place aren't told again.
+fn reason_text(code: &str) -> Option<&'static str> {
+    let text = match code {
+        "twin" => {
+            "no block of {S} is short, or the check of it says no for another reason: alcrs check \
+            tells"
+        }
+        "N1" => {
+            "{O} hasn't the length that {C} is for: one of the two is another object's, or their \
+            order is wrong (SESSION OBJECT CERT)"
+        }
+        "N3" => "{S} has no packet of TSI {T} and TOI {I}: alcrs show {S} tells which it has",
+        "N4" => {
+            "{S}: datagram {0} is no packet: take strays out with alcrs drop, or sort them out \
+            when you capture"
+        }
+        "N7" => {
+            "{S}: datagram {0} names a block or an encoding symbol that {C}'s FTI hasn't: the \
+            encoder has other numbers, or is wrong"
+        }
+        "N10" => "{S}: the symbol of datagram {0} hasn't the length that {C}'s FTI tells",
+        "N11" => {
+            "{S}: no datagram of the object carries the FTI, so that no listener learns it: have \
+            the encoder send it in some datagrams at least"
+        }
+        "N12" => OTHER_IDENTITY,
+        _ => return None,
+    };
+    Some(text)
 }
