@@ -12,14 +12,17 @@
 //! - `window`: the narrowest run of places whose loss leaves a block short.
 //! - `weighing`: both of one block, and the places of the cheapest symbols.
 //! - `report`: margin, kill and burst, of the blocks together and the carriers.
+//! - `longest`: from each place on the longest run whose loss is harmless.
 #![tactic(auto)]
 
 mod counting;
 mod groups;
+mod longest;
 mod pricing;
 mod report;
 mod weighing;
 mod window;
 
 pub use groups::{Group, Member};
+pub use longest::{Run, runs_of};
 pub use report::{Figures, figures_of};
