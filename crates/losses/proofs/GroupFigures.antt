@@ -280,6 +280,15 @@ module _ (groups : List Group) (n : ℕ) (are : AreOrdered groups n) where
         subst (λ (ks : List ℕ). IsBlockKill (blocks_of_groups groups []) (places 0 n) (price - 1 + 1) ks) (sym e)
         (kill (blocks_of_groups groups []) (places 0 n) (λ b. line 0 n (group_at groups b).members) small len whole left at t last (price - 1) within cut is priced)
 
+    -- it leaves that group short
+    pub kill_short : is_enough (blocks_of_groups groups []) (rest (is_among (cheap_places (group_at groups at).members t last)) (places 0 n)) at ≡ false
+    kill_short =
+        let e : cheap_places (group_at groups at).members t last ≡ doomed 0 t last (line 0 n (group_at groups at).members) =
+        ap (λ (qs : List Member). cheap_places qs t last) (sym (of_line at within)) ∙ doomed_are 0 (line 0 n (group_at groups at).members) t last in
+        subst (λ (ks : List ℕ). is_enough (blocks_of_groups groups []) (rest (is_among ks) (places 0 n)) at ≡ false) (sym e)
+        (short_to (blocks_of_groups groups []) (places 0 n) (λ b. line 0 n (group_at groups b).members) small len whole left at (is_among (doomed 0 t last (line 0 n (group_at groups at).members))) within
+        (doomed_short 0 (group_at groups at).need t last (line 0 n (group_at groups at).members) (small at within) cut.count))
+
   pub burst_of_groups : (at gap : ℕ) → at < length groups → IsLeastGap (group_at groups at).members (group_at groups at).need gap
       → ((b : ℕ) → b < length groups → IsWideGroup (group_at groups b) gap) → IsBlockBurst (blocks_of_groups groups []) (places 0 n) gap
   burst_of_groups at gap within narrow wide =
