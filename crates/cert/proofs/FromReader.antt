@@ -11,6 +11,8 @@ use Rattle.reception.specs.Walks.{readings_of}
 use Rattle.cert.specs.declared.verdict.Reason.{Reason}
 use Rattle.cert.specs.declared.verdict.Reason.TheVariants.{OtherCertificate, ObjectLength, NotObject, Empty, Packet as NoPacket, OtherFti, SymbolLength, Range, Symbol, Thin, NoCarrier}
 use Rattle.cert.specs.declared.verdict.Report.{Report}
+use Rattle.cert.specs.declared.verdict.Survey.{Survey}
+use Rattle.cert.specs.Surveying.{IsSurvey, IsSurveyedFrom}
 use Rattle.cert.specs.declared.verdict.Verdict.TheVariants.{Yes, No}
 use Rattle.cert.specs.declared.walk.NoReport.{NoReport}
 use Rattle.cert.specs.declared.walk.NoReport.TheVariants.{Reason as ByReason, NoMemory}
@@ -187,7 +189,7 @@ module _ (who : Identity) (z : Certificate) (object : List ℕ) (name : is_for w
     }
 
   -- all is well
-  pub yes_from : (report : Report) → IsCertificate z → IsAtEnd new → AreEnoughCertified who ds z → IsReport who ds z.fti report → IsCheckedFrom who old new object z (Yes report)
+  unfoldable pub yes_from : (report : Report) → IsCertificate z → IsAtEnd new → AreEnoughCertified who ds z → IsReport who ds z.fti report → IsCheckedFrom who old new object z (Yes report)
   yes_from report valid end enough is =
       let judged = yes_all who ds object z report name form gives enough in
       record {
@@ -200,3 +202,9 @@ module _ (who : Identity) (z : Certificate) (object : List ℕ) (name : is_for w
         tells = tells who ds (readings_of ds) object z (read_all ds each) valid judged;
         report = is;
       }
+
+  -- and this is its survey
+  pub survey_yes : (report : Report) (survey : Survey) → IsCertificate z → IsAtEnd new → AreEnoughCertified who ds z → IsReport who ds z.fti report → IsSurvey who ds z.fti report survey
+      → IsSurveyedFrom who old new object z (Yes report) (Some survey)
+  unfolding yes_from
+  survey_yes report survey valid end enough is surveyed = record { checked = yes_from report valid end enough is; surveyed = surveyed }

@@ -1,14 +1,16 @@
 -- What datagrams can lose, by the groups of their places.
-use Rattle.std.proofs.Common.{◌≡◌, ℕ, zero, suc, ◌+◌, ◌<◌, Bool, true, false, cond, List, [], ◌∷◌, ◌++◌, Ok, Err, length, refl, sym, ap, ◌∙◌, arith}
+use Rattle.std.proofs.Common.{◌≡◌, ℕ, ◌+◌, ◌<◌, Bool, true, false, cond, List, [], ◌∷◌, ◌++◌, Ok, Err, Option, length, refl, sym, ap, ◌∙◌, arith}
 use Rattle.std.specs.Prelude.{◌==◌, if◌then◌else◌}
 use Rattle.std.specs.List.{list_any, AllByRecursion}
 use Rattle.lists.specs.Selection.{rest_from, rest}
 use Rattle.losses.specs.declared.groups.Member.{Member}
 use Rattle.losses.specs.Losses.{Blocks, places_from, IsMargin, IsKill, IsBurst, IsHarmless}
 use Rattle.losses.specs.Groups.{Group, group_at, places, is_at, blocks_of_groups, AreGroups}
-use Rattle.losses.proofs.Lines.{any_left}
+use Rattle.losses.proofs.Lines.{any_left, places_length}
 use Rattle.losses.proofs.Link.{is_left}
-use Rattle.losses.proofs.Transfer.{margin_same, kill_same, burst_same}
+use Rattle.losses.proofs.Transfer.{margin_same, kill_same, burst_same, lacks_same, runs_same}
+use Rattle.losses.specs.declared.longest.Run.{Run}
+use Rattle.losses.specs.Runs.{Lacks, AreRuns}
 use Rattle.losses.proofs.CarrierPlaces.{carriers_left, carriers_same}
 use Rattle.partition.specs.Fti.{Fti, IsValidFti, source_count}
 use Rattle.partition.proofs.Laws.{some_source}
@@ -47,10 +49,6 @@ members_above who z valid b i n (Ok p ∷ rs) h e =
             | false ↦ wider i n (members_of b (counted_from who (i + 1) rs)) later
           ])
     ]) h
-
-places_length : (i m : ℕ) → length (places i m) ≡ m
-places_length i zero = refl
-places_length i (suc m) = let e = places_length (i + 1) m in omega (arith, e)
 
 module _ (who : Identity) (z : Certificate) (valid : IsValidFti z.fti) (rs : List Reading) (packets : AllByRecursion (λ x. IsCertifiedReading z x.reading) (counted who rs))
     (groups : List Group) (are : AreGroupsOf z.fti (counted who rs) groups) where
@@ -104,6 +102,16 @@ module _ (who : Identity) (z : Certificate) (valid : IsValidFti z.fti) (rs : Lis
   pub burst_told : (m : ℕ) → IsBurst grouped (places 0 (length rs)) m → IsBurst (blocks_of who z.fti) rs m
   burst_told =
       burst_same grouped (blocks_of who z.fti) (places 0 (length rs)) rs (sym are.count) needed (sym (places_length 0 (length rs))) whole left
+      (λ lost. sym (carriers_left (is_carrier who) rs lost)) (sym (carriers_same (is_carrier who) rs))
+
+  pub lacks_told : (lost : ℕ → Bool) (o : Option ℕ) → Lacks grouped (rest lost (places 0 (length rs))) o → Lacks (blocks_of who z.fti) (rest lost rs) o
+  lacks_told =
+      lacks_same grouped (blocks_of who z.fti) (places 0 (length rs)) rs (sym are.count) needed (sym (places_length 0 (length rs))) whole left
+      (λ lost. sym (carriers_left (is_carrier who) rs lost)) (sym (carriers_same (is_carrier who) rs))
+
+  pub runs_told : (runs : List (Option Run)) → AreRuns grouped (places 0 (length rs)) runs → AreRuns (blocks_of who z.fti) rs runs
+  runs_told =
+      runs_same grouped (blocks_of who z.fti) (places 0 (length rs)) rs (sym are.count) needed (sym (places_length 0 (length rs))) whole left
       (λ lost. sym (carriers_left (is_carrier who) rs lost)) (sym (carriers_same (is_carrier who) rs))
 
 read_rest : (lost : ℕ → Bool) (i : ℕ) (ds : List (List ℕ)) (rs : List Reading) → ReadAll ds rs → ReadAll (rest_from i lost ds) (rest_from i lost rs)

@@ -1,5 +1,7 @@
 -- What is known of datagrams that were looked at one by one.
 use Rattle.std.specs.Prelude.{◌≡◌, ◌≢◌, ℕ, ◌+◌, Bool, true, false, nat_lt, List, [], length, Option, None, Some, IfSome, ⊤}
+use Rattle.std.specs.Io.KnownBytes.{Consumes, IsAtEnd}
+use Rattle.session.specs.Frames.{frames, AreDatagrams}
 use Rattle.losses.specs.Groups.{Group, groups_of}
 use Rattle.losses.specs.Losses.{places_from}
 use Rattle.alc.specs.Packet.{Packet}
@@ -72,3 +74,16 @@ abbrev pub IsNotKept : Certificate → ℕ → Packet → NoReport → Type 0
 IsNotKept z place p (ByReason (Symbol i c)) = (i ≡ place) × (uncertified z [] (symbol_of p) ≡ Some c)
 IsNotKept z place p (ByReason _) = ⊥
 IsNotKept z place p NoMemory = ⊤
+
+-- All that was left of a reader was read, just the frames of some datagrams, and the walk went over
+-- these.
+pub record IsWalkedFrom (who : Identity) (old new : Option (List ℕ)) (object : List ℕ)
+    (z : Certificate) (walk : Walk) : Type 0 where
+  pub datagrams : List (List ℕ)
+  pub each : AreDatagrams datagrams
+  pub consumed : Consumes old new (frames datagrams)
+  pub end : IsAtEnd new
+  pub walked : HasWalked walk datagrams
+  pub identity : walk.scope.identity ≡ who
+  pub certificate : walk.symbols ≡ z
+  pub object_is : walk.object.now ≡ object

@@ -7,6 +7,7 @@ pub mod Verdict
 pub mod Columns
 pub mod Scan
 pub mod Report
+pub mod Surveying
 pub mod Twins
 pub mod CertificateReading
 pub mod Converting

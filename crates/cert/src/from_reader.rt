@@ -1,5 +1,6 @@
 //! The check of datagrams that are read one at a time.
 ghost use Rattle.std.specs.Prelude.{◌≡◌, false, IfOk, IfErr};
+ghost use Rattle.cert.specs.DatagramWalk.{IsWalkedFrom};
 ghost use Rattle.cert.specs.Endings.{IsEnding};
 ghost use Rattle.cert.specs.FromReader.{IsCheckedFrom, IsRefusedBehind, IsCheckFault};
 
@@ -23,9 +24,9 @@ pub enum CheckFault {
     NoMemory,
 }
 
-// Why there is no report.
+/// Why there is no report.
 #[derive(Clone, Copy)]
-enum Ending {
+pub(crate) enum Ending {
     Reason(Reason),
     Fault(CheckFault),
 }
@@ -54,7 +55,35 @@ impl From<FrameFault> for Ending {
     }
 }
 
-// The report on all datagrams that are left, or why there is none. Reading goes no further than the first reason.
+/// The walk over all datagrams that are left, or why it ended before. Reading goes no further than
+/// the first reason.
+pub(crate) fn walk_from<'a, R: Read>(
+    alloc: Global,
+    reader: &mut R,
+    object: &'a [u8],
+    certificate: &'a Certificate,
+    identity: Identity,
+) -> Result<Walk<'a>, Ending>
+    ensures walked { IfOk result (IsWalkedFrom identity (R.remaining reader.old)
+        (R.remaining reader.new) object.now certificate.now) }
+    ensures no { IfErr result (IsEnding identity (R.remaining reader.old)
+        (R.remaining reader.new) (R.failed reader.new) object.now certificate.now) }
+    ensures unsound { IfErr result (λ ending.
+        ending ≡ Ending.Fault (CheckFault.Frame FrameFault.Io) → R.sound reader.old ≡ false) }
+    ensures stays { R.sound reader.new ≡ R.sound reader.old }
+{
+    let mut walk = Walk::new(alloc, object, certificate, identity)?;
+    loop {
+        let Some(datagram) = read_next(alloc, reader)? else {
+            return Ok(walk);
+        };
+        let bytes = datagram.as_slice();
+        are_bytes(bytes);
+        walk.step(bytes)?;
+    }
+}
+
+// The report on all datagrams that are left, or why there is none.
 fn report_from<R: Read>(
     alloc: Global,
     reader: &mut R,
@@ -70,15 +99,8 @@ fn report_from<R: Read>(
         ending ≡ Ending.Fault (CheckFault.Frame FrameFault.Io) → R.sound reader.old ≡ false) }
     ensures stays { R.sound reader.new ≡ R.sound reader.old }
 {
-    let mut walk = Walk::new(alloc, object, certificate, identity)?;
-    loop {
-        let Some(datagram) = read_next(alloc, reader)? else {
-            return Ok(walk.report(alloc)?);
-        };
-        let bytes = datagram.as_slice();
-        are_bytes(bytes);
-        walk.step(bytes)?;
-    }
+    let walk = walk_from(alloc, reader, object, certificate, identity)?;
+    Ok(walk.report(alloc)?)
 }
 
 /// The check of an identity's packets among the datagrams that are left of a reader, read one at a time: none before

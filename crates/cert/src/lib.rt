@@ -5,7 +5,8 @@
 //! column; `converting` gives a file a name, block by block. `verdict` has what a check answers, `specs/Verdict` which answer is right, `specs/Report` what a yes tells.
 //!
 //! A check asks for one identity's packets and is a walk over datagrams, one step each (`walk`), in two loops: [`check`]
-//! goes over a session (`checking`), [`check_from`] over what a reader gives (`from_reader`, `specs/FromReader`). The
+//! goes over a session (`checking`), [`check_from`] over what a reader gives (`from_reader`, `specs/FromReader`).
+//! [`survey_from`] is the same with what a picture of a yes shows (`surveying`, `specs/Surveying`). The
 //! certificate's FTI is known from the start, so a packet is judged whether a carrier came before it or not; that none came
 //! is told in the end.
 //!
@@ -35,6 +36,7 @@ mod laws;
 mod repair_symbols;
 mod runs;
 mod source;
+mod surveying;
 mod twins;
 mod verdict;
 mod walk;
@@ -48,5 +50,7 @@ pub use laws::{
     first_column, first_reason, one_verdict, own_name_changes_nothing, reason_order,
     texts_without_fault,
 };
+pub use losses::Run;
+pub use surveying::survey_from;
 pub use twins::{session_twin, twin};
-pub use verdict::{Reason, Report, Verdict};
+pub use verdict::{Reason, Report, Survey, Verdict};

@@ -1,5 +1,6 @@
 //! What a check answers.
 use alc::PacketFault;
+use losses::Run;
 
 /// What a check tells of a session that it says yes to. Losses are of datagrams, whosever packets they are.
 #[derive(Drop, Debug)]
@@ -18,6 +19,22 @@ pub struct Report {
     /// The greatest number of neighbouring datagrams whose loss, wherever they stand, leaves a carrier and no block
     /// short.
     pub burst: usize,
+}
+
+/// What a picture of a yes shows beside its report. Places are those of all datagrams, whosever
+/// packets they are, and count from 0.
+#[derive(Drop, Debug)]
+pub struct Survey {
+    /// How many datagrams were checked.
+    pub datagrams: usize,
+    /// The places of the carriers, rising.
+    pub carriers: Vec<usize>,
+    /// A block that the loss of the kill leaves short; `None` where it takes all carriers.
+    pub kill_block: Option<usize>,
+    /// For each place the longest run of neighbouring datagrams from there on whose loss leaves a
+    /// carrier and no block short, and a block that one more leaves short; `None` where every run
+    /// from there up to the end does.
+    pub runs: Vec<Option<Run>>,
 }
 
 /// Why a certificate isn't one of an identity's packets in a session, and of an object. Places are those of all datagrams,

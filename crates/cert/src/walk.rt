@@ -2,13 +2,18 @@
 ghost use Rattle.reception.specs.Walks.{in_range};
 ghost use Rattle.std.specs.Prelude.{◌≡◌, ◌<◌, ◌≤◌, ◌++◌, ◌∷◌, ◌^◌, [], true, None, ℕ, List, length, map, IfOk, IfErr, OnOk};
 ghost use Rattle.lists.specs.Below.{below};
-ghost use Rattle.losses.specs.Groups.{groups_of};
+ghost use Rattle.lists.specs.Selection.{rest, is_among};
+ghost use Rattle.losses.specs.Groups.{groups_of, InEachList};
+ghost use Rattle.losses.specs.Losses.{IsBurst};
+ghost use Rattle.losses.specs.Runs.{Lacks};
 ghost use Rattle.session.specs.Frames.{AreDatagrams};
 ghost use Rattle.alc.specs.Views.{packet_of};
 ghost use Rattle.reception.specs.Symbols.{IsObject};
 ghost use Rattle.reception.specs.Reception.{symbol_of};
 ghost use Rattle.cert.specs.Certificate.{IsCertificate, is_for};
-ghost use Rattle.cert.specs.Report.{IsReport};
+ghost use Rattle.reception.specs.Walks.{readings_of};
+ghost use Rattle.cert.specs.Report.{IsReport, blocks_of};
+ghost use Rattle.cert.specs.Surveying.{IsSurvey};
 ghost use Rattle.cert.specs.Scan.{line_in, with_carrier, AreEnough, AreEnoughCertified, IsShortGroup, IsPut, IsNoReport};
 ghost use Rattle.cert.specs.Verdict.{GivesObject, uncertified};
 
@@ -16,10 +21,10 @@ use crate::certificate::Certificate;
 use crate::certified_symbols::CertifiedSymbols;
 use crate::datagrams::{empty_groups, first_wrong_column_of, put, put_carrier, reason_of};
 use crate::source::first_not_given;
-use crate::verdict::{Reason, Report};
+use crate::verdict::{Reason, Report, Survey};
 use alc::Packet;
 use lists::are_bytes;
-use losses::{Figures, Group, figures_of};
+use losses::{Figures, Group, figures_of, runs_of};
 use reception::{Identity, Look, Scope};
 use std::alloc::{AllocError, Global};
 
@@ -165,6 +170,56 @@ impl<'a> Walk<'a> {
         ensures no_report { (datagrams : List (List ℕ)) → HasWalked self.now datagrams
             → IfErr result (IsNoReport self.now.scope.identity datagrams self.now.symbols) }
     {
+        let (report, _) = self.report_and_kill_block(alloc)?;
+        Ok(report)
+    }
+
+    /// The same, and what a picture shows beside the report.
+    pub(crate) fn survey(&self, alloc: Global) -> Result<(Report, Survey), NoReport>
+        requires { (datagrams : List (List ℕ)) × HasWalked self.now datagrams }
+        ensures report { (datagrams : List (List ℕ)) → AreDatagrams datagrams
+            → HasWalked self.now datagrams → IfOk result (λ r.
+            IsReport self.now.scope.identity datagrams self.now.symbols.fti r.0) }
+        ensures survey { (datagrams : List (List ℕ)) → AreDatagrams datagrams
+            → HasWalked self.now datagrams → IfOk result (λ r.
+            IsSurvey self.now.scope.identity datagrams self.now.symbols.fti r.0 r.1) }
+        ensures certified { (datagrams : List (List ℕ)) → HasWalked self.now datagrams
+            → OnOk result (AreEnoughCertified self.now.scope.identity datagrams
+            self.now.symbols) }
+        ensures no_report { (datagrams : List (List ℕ)) → HasWalked self.now datagrams
+            → IfErr result (IsNoReport self.now.scope.identity datagrams self.now.symbols) }
+    {
+        let (report, kill_block) = self.report_and_kill_block(alloc)?;
+        let runs = runs_of(alloc, &self.groups, &self.carriers, self.count)?;
+        let carriers = self.carriers.to_vec(alloc)?;
+        let survey = Survey {
+            datagrams: self.count,
+            carriers,
+            kill_block,
+            runs,
+        };
+        Ok((report, survey))
+    }
+
+    // The report, and a block that its kill leaves short.
+    fn report_and_kill_block(&self, alloc: Global) -> Result<(Report, Option<usize>), NoReport>
+        requires { (datagrams : List (List ℕ)) × HasWalked self.now datagrams }
+        ensures report { (datagrams : List (List ℕ)) → AreDatagrams datagrams
+            → HasWalked self.now datagrams → IfOk result (λ r.
+            IsReport self.now.scope.identity datagrams self.now.symbols.fti r.0) }
+        ensures kill_block { (datagrams : List (List ℕ)) → HasWalked self.now datagrams
+            → IfOk result (λ r. Lacks (blocks_of self.now.scope.identity self.now.symbols.fti)
+            (rest (is_among r.0.kill.items) (readings_of datagrams)) r.1) }
+        ensures burst { IfOk result (λ r.
+            InEachList (groups_of self.now.groups.items) self.now.carriers.items
+            (λ blocks xs. IsBurst blocks xs r.0.burst)) }
+        ensures enough { OnOk result (AreEnough (groups_of self.now.groups.items)) }
+        ensures certified { (datagrams : List (List ℕ)) → HasWalked self.now datagrams
+            → OnOk result (AreEnoughCertified self.now.scope.identity datagrams
+            self.now.symbols) }
+        ensures no_report { (datagrams : List (List ℕ)) → HasWalked self.now datagrams
+            → IfErr result (IsNoReport self.now.scope.identity datagrams self.now.symbols) }
+    {
         if !self.came {
             return Err(NoReport::Reason(Reason::Empty));
         }
@@ -175,15 +230,17 @@ impl<'a> Walk<'a> {
         let Figures {
             margin,
             kill,
+            kill_block,
             burst,
         } = figures_of(alloc, &self.groups, &self.carriers)?;
-        Ok(Report {
+        let report = Report {
             blocks,
             carriers: self.carriers.len(),
             margin,
             kill,
             burst,
-        })
+        };
+        Ok((report, kill_block))
     }
 }
 

@@ -1,16 +1,16 @@
 -- The carriers as one group more, behind the others: what it weighs, and what the list can lose with it.
-use Rattle.std.specs.Prelude.{◌≡◌, ℕ, zero, suc, ◌+◌, ◌-◌, ◌<◌, ◌≤◌, Bool, true, false, ◌&&◌, ◌||◌, ◌==◌, nat_lt, cond, List, [], ◌∷◌, ◌++◌, length, filter, map, count_by, take, drop, slice_index_or, refl}
+use Rattle.std.specs.Prelude.{◌≡◌, ℕ, zero, suc, ◌+◌, ◌-◌, ◌<◌, ◌≤◌, Bool, true, false, ◌&&◌, ◌||◌, ◌==◌, nat_lt, nat_le, cond, List, [], ◌∷◌, ◌++◌, length, filter, map, count_by, take, drop, slice_index_or, refl}
 use Rattle.std.specs.List.{list_any}
 use Rattle.std.proofs.Common.{◌∙◌, sym, ap, subst, arith, length-append}
 use Rattle.std.proofs.lemmas.Bool.{lt-ltb, le-ltb, ltb-false, eqb-true, eq-eqb}
 use Rattle.lists.specs.Below.{below}
-use Rattle.lists.specs.Selection.{rest, is_among}
+use Rattle.lists.specs.Selection.{rest, is_among, is_run}
 use Rattle.lists.proofs.Lists.{filter_same, all_of, at_old, at_end}
 use Rattle.losses.specs.declared.groups.Member.{Member}
 use Rattle.losses.specs.Members.{has_esi, outside, different_outside}
 use Rattle.losses.specs.Windows.{IsLeastGap, IsShortWindow, member, place_at}
 use Rattle.losses.specs.Costs.{IsWeighed, cheap_esis, cheap_places, esi_copies, esis, is_cheap, total}
-use Rattle.losses.specs.Losses.{IsMargin, IsBurst, IsKill}
+use Rattle.losses.specs.Losses.{IsMargin, IsBurst, IsKill, is_enough}
 use Rattle.losses.specs.Groups.{Group, no_group, group_at, places, is_at, blocks_of_groups}
 use Rattle.losses.proofs.BlockLosses.{IsBlockMargin, IsBlockBurst, IsBlockKill}
 use Rattle.losses.proofs.Carried.{carried, margin_with_carriers, burst_with_carriers, kill_with_carriers}
@@ -18,7 +18,7 @@ use Rattle.losses.proofs.Transfer.{block_margin_same, block_burst_same, block_ki
 use Rattle.losses.proofs.Grouping.{count_cons}
 use Rattle.losses.proofs.Gathered.{last_or}
 use Rattle.losses.specs.Lightest.{IsHeavyGroup, IsWideGroup, IsNarrowGroup}
-use Rattle.losses.proofs.GroupFigures.{heavy_new, heavy_same, wide_new, wide_same, margin_of_groups, kill_of_groups, burst_of_groups}
+use Rattle.losses.proofs.GroupFigures.{heavy_new, heavy_same, wide_new, wide_same, margin_of_groups, kill_of_groups, burst_of_groups, window_short, short_window_of}
 use Rattle.losses.specs.Ordered.{AreMembersFrom, ArePlacesFrom, AreOrdered, AreOrderedCarriers}
 
 abbrev pub carrier_members : List ℕ → List Member
@@ -175,6 +175,14 @@ span ps = slice_index_or ps (length ps - 1) 0 - slice_index_or ps 0 0
 pub span_fits : (n : ℕ) (ps : List ℕ) → AreOrderedCarriers ps n → slice_index_or ps 0 0 ≤ slice_index_or ps (length ps - 1) 0
 span_fits n ps are = let s = are.some in first_le 0 n (length ps - 1) ps are.places (omega (arith, s))
 
+below_end : (i n k : ℕ) (ps : List ℕ) → ArePlacesFrom i n ps → k < length ps → slice_index_or ps k 0 < n
+below_end i n k [] h l = absurd (omega arith)
+below_end i n zero (p ∷ ps) h l = h.1
+below_end i n (suc k) (p ∷ ps) h l = below_end (p + 1) n k ps h.2 (omega arith)
+
+pub last_below : (n : ℕ) (ps : List ℕ) → AreOrderedCarriers ps n → slice_index_or ps (length ps - 1) 0 < n
+last_below n ps are = let s = are.some in below_end 0 n (length ps - 1) ps are.places (omega (arith, s))
+
 whole_short : (ps : List ℕ) → different_outside (carrier_members ps) 0 (length ps) < 1
 whole_short ps =
     let e = different_is 0 (length ps) ps (omega arith) (omega arith) in
@@ -268,6 +276,17 @@ symbol_left left j (p ∷ ps) =
     ap (λ (v : Bool). (is_among left p && 0 == j) || v) (symbol_left left j ps)
     ∙ spread (is_among left p) (0 == j) (list_any (is_among ps) left)
     ∙ ap (λ (v : Bool). 0 == j && v) (sym (one_place p ps left))
+
+-- so what is left is enough for their group where a carrier is left
+carriers_enough : (ps left : List ℕ) → is_enough (blocks_of_groups (carrier_group ps ∷ []) []) left 0 ≡ list_any (is_among ps) left
+carriers_enough ps left =
+    ap (λ (js : List ℕ). nat_le 1 (length js))
+    (filter_same (λ j. list_any (is_at left j) (carrier_members ps)) (λ j. 0 == j && list_any (is_among ps) left) (below 256) (all_of _ (λ j. symbol_left left j ps) (below 256)))
+    ∙ ap (λ (m : ℕ). nat_le 1 m) (one_or_none (list_any (is_among ps) left)) ∙ at_least_one (list_any (is_among ps) left)
+  where
+    at_least_one : (v : Bool) → nat_le 1 (cond v 1 0) ≡ v
+    at_least_one true = refl
+    at_least_one false = refl
 
 module _ (groups : List Group) (ps : List ℕ) where
   pub count_with : length (with_carriers groups ps) ≡ length groups + 1
@@ -405,3 +424,34 @@ module _ (groups : List Group) (ps : List ℕ) where
       burst_carriers few =
           burst_of_all (length groups) (span ps) (let c = count_with in omega (arith, c)) gap_last
           (λ b l. wide_new (with_carriers groups ps) (length groups) burst (span ps) few wide_with gap_last b (let c = count_with in omega (arith, l, c)))
+
+-- ---- the runs that take all of them
+
+module _ (n : ℕ) (ps : List ℕ) (came : AreOrderedCarriers ps n) where
+  alone : AreOrdered (carrier_group ps ∷ []) n
+  alone = are_with [] ps n (record { some = λ b l. absurd (omega (arith, l)); members = λ b l. absurd (omega (arith, l)); enough = λ b l. absurd (omega (arith, l)) }) came
+
+  pub run_takes : (a m : ℕ) → a ≤ slice_index_or ps 0 0 → slice_index_or ps (length ps - 1) 0 < a + m → list_any (is_among ps) (rest (is_run a m) (places 0 n)) ≡ false
+  run_takes a m l g =
+      let first = place_is 0 ps in
+      let last = place_is (length ps - 1) ps in
+      let c = count_of_members ps in
+      let some = came.some in
+      sym (carriers_enough ps (rest (is_run a m) (places 0 n)))
+      ∙ window_short (carrier_group ps ∷ []) n alone 0 a m (slice_index_or ps (length ps - 1) 0) (omega arith)
+      (record { start = 0; end = length ps; is = record { some = some; within = omega (arith, c); short = whole_short ps }; from = omega (arith, first, l); to = omega (arith, last) }) g
+
+  pub taken_run : (a m : ℕ) → list_any (is_among ps) (rest (is_run a m) (places 0 n)) ≡ false → (a ≤ slice_index_or ps 0 0) × (slice_index_or ps (length ps - 1) 0 < a + m)
+  taken_run a m h =
+      let w : (x : ℕ) × (y : ℕ) × IsShortWindow (carrier_members ps) 1 x y × (a ≤ place_at (carrier_members ps) x) × (place_at (carrier_members ps) (y - 1) < a + m) =
+      short_window_of (carrier_group ps ∷ []) n alone 0 a m (omega arith) (carriers_enough ps (rest (is_run a m) (places 0 n)) ∙ h) in
+      let c = count_of_members ps in
+      let is : IsShortWindow (carrier_members ps) 1 w.0 w.1 = w.2 in
+      let s = is.some in
+      let i = is.within in
+      let both = all_inside w.0 w.1 ps (omega (arith, s, i, c)) (omega (arith, i, c)) is.short in
+      let x : place_at (carrier_members ps) w.0 ≡ slice_index_or ps 0 0 = ap (place_at (carrier_members ps)) both.0 ∙ place_is 0 ps in
+      let y : place_at (carrier_members ps) (w.1 - 1) ≡ slice_index_or ps (length ps - 1) 0 = ap (λ (k : ℕ). place_at (carrier_members ps) (k - 1)) both.1 ∙ place_is (length ps - 1) ps in
+      let from = w.3 in
+      let to = w.4 in
+      (omega (arith, x, from), omega (arith, y, to))

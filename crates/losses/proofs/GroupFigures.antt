@@ -1,6 +1,6 @@
 -- The computed figures of groups are those over all losses.
 use Rattle.std.proofs.lemmas.List.{get_or-map, length-map}
-use Rattle.std.specs.Prelude.{slice_index_or, ◌≡◌, ℕ, zero, suc, ◌+◌, ◌-◌, ◌<◌, ◌≤◌, Bool, true, false, not, nat_le, List, [], length, filter, min, refl}
+use Rattle.std.specs.Prelude.{slice_index_or, ◌≡◌, ℕ, ◌+◌, ◌-◌, ◌<◌, ◌≤◌, Bool, true, false, not, nat_le, List, [], length, filter, min, refl}
 use Rattle.std.specs.List.{AllByRecursion, list_any}
 use Rattle.std.proofs.Common.{◌∙◌, sym, ap, subst, arith, leb-true}
 use Rattle.std.proofs.lemmas.Bool.{leb-false, lt-leb}
@@ -10,7 +10,8 @@ use Rattle.losses.specs.declared.groups.Member.{Member}
 use Rattle.lists.specs.Below.{below}
 use Rattle.losses.specs.Numbers.{has, present}
 use Rattle.losses.specs.Members.{different_outside}
-use Rattle.losses.specs.Windows.{ArePlaced, IsLeastGap, members}
+use Rattle.losses.specs.Starts.{HaveWindow}
+use Rattle.losses.specs.Windows.{ArePlaced, IsLeastGap, IsShortWindow, members, place_at}
 use Rattle.losses.specs.Costs.{IsWeighed, cheap_places}
 use Rattle.losses.specs.Losses.{Blocks, IsBefore, is_enough, esis_in, taken_wholly}
 use Rattle.losses.proofs.BlockLosses.{IsBlockKill, IsBlockMargin, IsBlockBurst}
@@ -23,10 +24,10 @@ use Rattle.losses.proofs.Places.{marks_places, marks_size, places_below, places_
 use Rattle.losses.proofs.Block.{cheap, cost, doomed, doomed_short, doomed_size, doomed_taken, is_doomed, short_costs, short_first, taken}
 use Rattle.losses.proofs.Runs.{IsLeastRun, fewer_present, wider_run}
 use Rattle.losses.proofs.Margins.{IsCut}
-use Rattle.losses.proofs.Narrowest.{least_run, present_all}
+use Rattle.losses.proofs.Narrowest.{least_run, run_short, short_run, present_all}
 use Rattle.losses.proofs.Weights.{doomed_are}
 use Rattle.losses.proofs.Gathered.{cut_of, price_of, some_price, last_or, group_placed}
-use Rattle.losses.proofs.Lines.{line, line_length, line_members, line_small, line_left, line_whole}
+use Rattle.losses.proofs.Lines.{line, line_length, places_length, line_members, line_small, line_left, line_whole}
 use Rattle.losses.specs.Ordered.{AreOrdered}
 
 -- A group's cheapest such symbols cost no less than the least, and more before group `at`.
@@ -213,10 +214,6 @@ module _ (groups : List Group) (n : ℕ) (are : AreOrdered groups n) where
   lines : ℕ → List Number
   lines b = line 0 n (group_at groups b).members
 
-  places_length : (i m : ℕ) → length (places i m) ≡ m
-  places_length i zero = refl
-  places_length i (suc m) = let e = places_length (i + 1) m in omega (arith, e)
-
   small : (b : ℕ) → b < length groups → AllByRecursion HasByteEsi (line 0 n (group_at groups b).members)
   small b hb = line_small 0 n n _ (are.members b hb)
 
@@ -283,6 +280,15 @@ module _ (groups : List Group) (n : ℕ) (are : AreOrdered groups n) where
         subst (λ (ks : List ℕ). IsBlockKill (blocks_of_groups groups []) (places 0 n) (price - 1 + 1) ks) (sym e)
         (kill (blocks_of_groups groups []) (places 0 n) (λ b. line 0 n (group_at groups b).members) small len whole left at t last (price - 1) within cut is priced)
 
+    -- it leaves that group short
+    pub kill_short : is_enough (blocks_of_groups groups []) (rest (is_among (cheap_places (group_at groups at).members t last)) (places 0 n)) at ≡ false
+    kill_short =
+        let e : cheap_places (group_at groups at).members t last ≡ doomed 0 t last (line 0 n (group_at groups at).members) =
+        ap (λ (qs : List Member). cheap_places qs t last) (sym (of_line at within)) ∙ doomed_are 0 (line 0 n (group_at groups at).members) t last in
+        subst (λ (ks : List ℕ). is_enough (blocks_of_groups groups []) (rest (is_among ks) (places 0 n)) at ≡ false) (sym e)
+        (short_to (blocks_of_groups groups []) (places 0 n) (λ b. line 0 n (group_at groups b).members) small len whole left at (is_among (doomed 0 t last (line 0 n (group_at groups at).members))) within
+        (doomed_short 0 (group_at groups at).need t last (line 0 n (group_at groups at).members) (small at within) cut.count))
+
   pub burst_of_groups : (at gap : ℕ) → at < length groups → IsLeastGap (group_at groups at).members (group_at groups at).need gap
       → ((b : ℕ) → b < length groups → IsWideGroup (group_at groups b) gap) → IsBlockBurst (blocks_of_groups groups []) (places 0 n) gap
   burst_of_groups at gap within narrow wide =
@@ -292,6 +298,21 @@ module _ (groups : List Group) (n : ℕ) (are : AreOrdered groups n) where
       (let q = wide b hb in
       let y = q.low in
       record { size = q.gap + 1; run = least_run 0 (line 0 n (group_at groups b).members) (group_at groups b).need q.gap (enough_of b hb) (gap_of b _ q.gap hb q.is); low = omega (arith, y) }))
+
+  -- a run that has the places of a group's short window leaves it short
+  pub window_short : (b a m e : ℕ) → b < length groups → HaveWindow (group_at groups b).members (group_at groups b).need a e → e < a + m
+      → is_enough (blocks_of_groups groups []) (rest (is_run a m) (places 0 n)) b ≡ false
+  window_short b a m e hb h l =
+      short_to (blocks_of_groups groups []) (places 0 n) (λ b. line 0 n (group_at groups b).members) small len whole left b (is_run a m) hb
+      (run_short 0 (line 0 n (group_at groups b).members) (group_at groups b).need a m e (subst (λ (qs : List Member). HaveWindow qs (group_at groups b).need a e) (sym (of_line b hb)) h) l)
+
+  -- and one that leaves it short has those
+  pub short_window_of : (b a m : ℕ) → b < length groups → is_enough (blocks_of_groups groups []) (rest (is_run a m) (places 0 n)) b ≡ false
+      → (x : ℕ) × (y : ℕ) × IsShortWindow (group_at groups b).members (group_at groups b).need x y × (a ≤ place_at (group_at groups b).members x) × (place_at (group_at groups b).members (y - 1) < a + m)
+  short_window_of b a m hb h =
+      subst (λ (qs : List Member). (x : ℕ) × (y : ℕ) × IsShortWindow qs (group_at groups b).need x y × (a ≤ place_at qs x) × (place_at qs (y - 1) < a + m)) (of_line b hb)
+      (short_run 0 (line 0 n (group_at groups b).members) (group_at groups b).need a m (enough_of b hb)
+      (short_from (blocks_of_groups groups []) (places 0 n) (λ b. line 0 n (group_at groups b).members) small len whole left b (is_run a m) hb h))
 
   -- the members of a group stand at rising places
   pub placed_of : (b : ℕ) → b < length groups → ArePlaced (group_at groups b).members

@@ -22,3 +22,5 @@ pub mod GroupFigures
 pub mod CarrierGroup
 pub mod CarrierPlaces
 pub mod Ordering
+pub mod Starts
+pub mod LongestRuns

@@ -36,6 +36,10 @@ line_length i (suc n) (q ∷ qs) =
       | false ↦ omega (arith, b)
     ]
 
+pub places_length : (i n : ℕ) → length (places i n) ≡ n
+places_length i zero = refl
+places_length i (suc n) = let e = places_length (i + 1) n in omega (arith, e)
+
 -- the members of such a list
 pub line_members : (i n m : ℕ) (qs : List Member) → i + n ≡ m → AreMembersFrom i m qs → members 0 i (line i n qs) ≡ qs
 line_members i zero m [] e h = refl

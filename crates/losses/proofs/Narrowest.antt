@@ -6,9 +6,10 @@ use Rattle.losses.proofs.Grouping.{any_is}
 use Rattle.losses.proofs.Link.{IsWindow, has_rest, is_left, window_left}
 use Rattle.lists.proofs.Lists.{all_of, filter_same}
 use Rattle.losses.proofs.Runs.{IsLeastRun}
-use Rattle.losses.proofs.Windows.{place_le, short_some}
+use Rattle.losses.proofs.Windows.{different_le, place_le, short_some}
 use Rattle.losses.specs.Members.{different_outside, outside}
-use Rattle.losses.specs.Windows.{ArePlaced, IsLeastGap, member, members, place_at}
+use Rattle.losses.specs.Windows.{ArePlaced, IsLeastGap, IsShortWindow, member, members, place_at}
+use Rattle.losses.specs.Starts.{HaveWindow}
 use Rattle.lists.specs.Below.{below}
 use Rattle.losses.specs.Numbers.{has, present}
 use Rattle.losses.specs.declared.groups.Member.{Member}
@@ -57,6 +58,13 @@ pub record IsCutAt (qs : List Member) (a n x : ℕ) : Type 0 where
   pub within : x ≤ n
   pub early : (i : ℕ) → i < x → place_at qs i < a
   pub late : (i : ℕ) → i < n → x ≤ i → a ≤ place_at qs i
+
+-- from which member to which a run of n places from a on takes them, and how many it leaves
+record IsTaken (qs : List Member) (a n x y few : ℕ) : Type 0 where
+  pub order : x ≤ y
+  pub first : IsCutAt qs a (length qs) x
+  pub last : IsCutAt qs (a + n) (length qs) y
+  pub left : few ≡ different_outside qs x y
 
 cut_at : (qs : List Member) (a : ℕ) → ArePlaced qs → (n : ℕ) → n ≤ length qs → (x : ℕ) × IsCutAt qs a n x
 cut_at qs a placed zero l = (0, record { within = omega arith; early = λ i g. absurd (omega arith); late = λ i g h. absurd (omega arith) })
@@ -114,6 +122,34 @@ module _ (b : ℕ) (ps : List Number) where
       (filter_same (has b (rest lost ps)) (λ j. nat_lt 0 (outside (members b 0 ps) x y j)) (below 256)
       (all_of _ (λ j. has_rest b j lost 0 ps ∙ any_is (is_left lost j) (members b 0 ps) ∙ ap (nat_lt 0) (window_left (members b 0 ps) lost x y j w)) (below 256)))
 
+  -- the members that a run takes
+  run_window : (a n : ℕ) → (x : ℕ) × (y : ℕ) × IsTaken (members b 0 ps) a n x y (length (present b (rest (is_run a n) ps)))
+  run_window a n =
+      let m = members_between b 0 (length ps) ps (omega arith) in
+      let x = cut_at (members b 0 ps) a m.placed (length (members b 0 ps)) (omega arith) in
+      let y = cut_at (members b 0 ps) (a + n) m.placed (length (members b 0 ps)) (omega arith) in
+      let xw = x.1.within in
+      let order : x.0 ≤ y.0 =
+      elim (nat_le x.0 y.0) as (λ v. nat_le x.0 y.0 ≡ v → x.0 ≤ y.0) [
+        | true ↦ λ e. leb-true x.0 y.0 e
+        | false ↦ λ e. (let l = leb-false x.0 y.0 e in let p = x.1.early y.0 l in let q = y.1.late y.0 (omega (arith, l, xw)) (omega arith) in absurd (omega (arith, p, q)))
+      ] refl in (
+        x.0,
+        y.0,
+        record {
+          order = order;
+          first = x.1;
+          last = y.1;
+          left = present_window (is_run a n) x.0 y.0
+              (record {
+                order = order;
+                early = λ i l h. before_run a n (place_at (members b 0 ps) i) (x.1.early i h);
+                inner = λ i l h q. in_run a n (place_at (members b 0 ps) i) (x.1.late i l h) (y.1.early i q);
+                late = λ i l h. after_run a n (place_at (members b 0 ps) i) (y.1.late i l h);
+              });
+        },
+      )
+
   pub least_run : (k gap : ℕ) → k ≤ different_outside (members b 0 ps) 0 0 → IsLeastGap (members b 0 ps) k gap → IsLeastRun b k ps (gap + 1)
   least_run k gap enough g =
       let qs = members b 0 ps in
@@ -139,30 +175,54 @@ module _ (b : ℕ) (ps : List Number) where
               omega (arith, e, f));
         };
         least = λ a n r.
-            (let x = cut_at (members b 0 ps) a m.placed (length (members b 0 ps)) (omega arith) in
-            let y = cut_at (members b 0 ps) (a + n) m.placed (length (members b 0 ps)) (omega arith) in
-            let xw = x.1.within in
-            let yw = y.1.within in
-            let order : x.0 ≤ y.0 =
-            elim (nat_le x.0 y.0) as (λ v. nat_le x.0 y.0 ≡ v → x.0 ≤ y.0) [
-              | true ↦ λ e. leb-true x.0 y.0 e
-              | false ↦ λ e. (let l = leb-false x.0 y.0 e in let p = x.1.early y.0 l in let q = y.1.late y.0 (omega (arith, l, xw)) (omega arith) in absurd (omega (arith, p, q)))
-            ] refl in
-            let e = present_window (is_run a n) x.0 y.0
-            (record {
-              order = order;
-              early = λ i l h. before_run a n (place_at (members b 0 ps) i) (x.1.early i h);
-              inner = λ i l h q. in_run a n (place_at (members b 0 ps) i) (x.1.late i l h) (y.1.early i q);
-              late = λ i l h. after_run a n (place_at (members b 0 ps) i) (y.1.late i l h);
-            }) in
+            (let w = run_window a n in
             let f = r.short in
-            let few : different_outside (members b 0 ps) x.0 y.0 < k = omega (arith, e, f) in
-            let some = short_some (members b 0 ps) k m.placed enough x.0 y.0 order few in
-            let c = g.least x.0 y.0 (record { some = some; within = yw; short = few }) in
-            let p = x.1.late x.0 (omega (arith, some, yw)) (omega arith) in
-            let q = y.1.early (y.0 - 1) (omega (arith, some)) in
+            let e = w.2.left in
+            let o = w.2.order in
+            let few : different_outside (members b 0 ps) w.0 w.1 < k = omega (arith, e, f) in
+            let some = short_some (members b 0 ps) k m.placed enough w.0 w.1 o few in
+            let yw = w.2.last.within in
+            let c = g.least w.0 w.1 (record { some = some; within = yw; short = few }) in
+            let p = w.2.first.late w.0 (omega (arith, some, yw)) (omega arith) in
+            let q = w.2.last.early (w.1 - 1) (omega (arith, some)) in
             omega (arith, c, p, q));
       }
+
+  -- a run that has a short window's places leaves fewer
+  pub run_short : (k a n e : ℕ) → HaveWindow (members b 0 ps) k a e → e < a + n → length (present b (rest (is_run a n) ps)) < k
+  run_short k a n e h l =
+      let w = run_window a n in
+      let s = h.is.some in
+      let i = h.is.within in
+      let from = h.from in
+      let to = h.to in
+      let early : w.0 ≤ h.start =
+      elim (nat_le w.0 h.start) as (λ v. nat_le w.0 h.start ≡ v → w.0 ≤ h.start) [
+        | true ↦ λ t. leb-true w.0 h.start t
+        | false ↦ λ t. (let g = leb-false w.0 h.start t in let p = w.2.first.early h.start g in absurd (omega (arith, p, from)))
+      ] refl in
+      let late : h.end ≤ w.1 =
+      elim (nat_le h.end w.1) as (λ v. nat_le h.end w.1 ≡ v → h.end ≤ w.1) [
+        | true ↦ λ t. leb-true h.end w.1 t
+        | false ↦ λ t. (let g = leb-false h.end w.1 t in let p = w.2.last.late (h.end - 1) (omega (arith, s, i)) (omega (arith, g)) in absurd (omega (arith, p, to, l)))
+      ] refl in
+      let d = different_le (members b 0 ps) w.0 w.1 h.start h.end early late in
+      let f = h.is.short in
+      let left = w.2.left in
+      omega (arith, d, f, left)
+
+  -- and one that leaves fewer has those of a short window
+  pub short_run : (k a n : ℕ) → k ≤ different_outside (members b 0 ps) 0 0 → length (present b (rest (is_run a n) ps)) < k
+      → (x : ℕ) × (y : ℕ) × IsShortWindow (members b 0 ps) k x y × (a ≤ place_at (members b 0 ps) x) × (place_at (members b 0 ps) (y - 1) < a + n)
+  short_run k a n enough f =
+      let m = members_between b 0 (length ps) ps (omega arith) in
+      let w = run_window a n in
+      let e = w.2.left in
+      let o = w.2.order in
+      let few : different_outside (members b 0 ps) w.0 w.1 < k = omega (arith, e, f) in
+      let some = short_some (members b 0 ps) k m.placed enough w.0 w.1 o few in
+      let yw = w.2.last.within in
+      (w.0, w.1, record { some = some; within = yw; short = few }, w.2.first.late w.0 (omega (arith, some, yw)) (omega arith), w.2.last.early (w.1 - 1) (omega (arith, some)))
 
   -- with no loss
   pub present_all : length (present b ps) ≡ different_outside (members b 0 ps) 0 0

@@ -1,10 +1,12 @@
 -- Two lists of which each loss leaves the same symbols can lose the same.
-use Rattle.std.specs.Prelude.{◌≡◌, ℕ, ◌<◌, ◌≤◌, Bool, not, nat_le, List, length, filter}
+use Rattle.std.specs.Prelude.{◌≡◌, ℕ, ◌+◌, ◌<◌, ◌≤◌, Bool, not, nat_le, List, length, filter, Option, Some, None}
 use Rattle.std.specs.List.{AllByRecursion, list_any}
 use Rattle.std.proofs.Common.{◌∙◌, sym, ap, subst, arith}
 use Rattle.lists.specs.Selection.{rest, loss_size, lost_from, is_run, is_among}
 use Rattle.lists.specs.Below.{below}
 use Rattle.losses.specs.Losses.{Blocks, esis_in, is_enough, carrier_places, IsHarmless, IsMargin, IsBurst, IsBefore, taken_wholly, LeavesShort, KillsBlock, IsKill}
+use Rattle.losses.specs.declared.longest.Run.{Run}
+use Rattle.losses.specs.Runs.{Lacks, IsRunFrom, run_at, AreRuns}
 use Rattle.losses.proofs.BlockLosses.{KeepsBlocks, IsBlockMargin, IsBlockBurst, IsBlockKill}
 use Rattle.lists.proofs.Lists.{filter_same, all_of, all_to}
 
@@ -122,4 +124,22 @@ module _ {X Y : Type 0} (these : Blocks X) (those : Blocks Y) (xs : List X) (ys 
       within = (h.within.0, within_same places h.within.1);
       block = λ b lost s. killed_same n places (h.block b lost (short_from n b lost s));
       carriers = λ none. h.carriers (λ b lost s. none b lost (short_to n b lost s)) ∙ sym carriers;
+    }
+
+    pub lacks_same : (lost : ℕ → Bool) (o : Option ℕ) → Lacks these (rest lost xs) o → Lacks those (rest lost ys) o
+    lacks_same lost None h = carrier lost ∙ h
+    lacks_same lost (Some b) h = (let l = h.0 in omega (arith, l, count), enough_same lost b h.0 ∙ h.1)
+
+    run_same : (s : ℕ) (o : Option Run) → IsRunFrom these xs s o → IsRunFrom those ys s o
+    run_same s None h = λ m l. harmless_to (is_run s m) (h m (omega (arith, l, len)))
+    run_same s (Some run) h = record {
+      within = (let w = h.within in omega (arith, w, len));
+      harmless = harmless_to (is_run s run.length) h.harmless;
+      lacks = lacks_same (is_run s (run.length + 1)) run.block h.lacks;
+    }
+
+    pub runs_same : (runs : List (Option Run)) → AreRuns these xs runs → AreRuns those ys runs
+    runs_same runs h = record {
+      count = h.count ∙ sym len;
+      each = λ s l. run_same s (run_at runs s) (h.each s (omega (arith, l, len)));
     }

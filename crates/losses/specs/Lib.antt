@@ -7,3 +7,5 @@ pub mod Costs
 pub mod Windows
 pub mod Lightest
 pub mod Ordered
+pub mod Runs
+pub mod Starts

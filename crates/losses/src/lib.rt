@@ -1,5 +1,5 @@
 //! What a list can lose, by the places of each block's symbols and of the carriers, of which one has to be left: of all
-//! losses of places the margin, the kill and the burst.
+//! losses of places the margin, the kill and the burst, and from each place on the longest run that may be lost.
 //!
 //! A place may be in one group, in several or in none; nothing here knows of packets. The definitions are of all losses
 //! (`specs/Losses`), and hold of groups of places (`specs/Groups`) as of any list; the code counts copies and slides a window.
@@ -12,14 +12,17 @@
 //! - `window`: the narrowest run of places whose loss leaves a block short.
 //! - `weighing`: both of one block, and the places of the cheapest symbols.
 //! - `report`: margin, kill and burst, of the blocks together and the carriers.
+//! - `longest`: from each place on the longest run whose loss is harmless.
 #![tactic(auto)]
 
 mod counting;
 mod groups;
+mod longest;
 mod pricing;
 mod report;
 mod weighing;
 mod window;
 
 pub use groups::{Group, Member};
+pub use longest::{Run, runs_of};
 pub use report::{Figures, figures_of};

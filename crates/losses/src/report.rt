@@ -4,6 +4,8 @@ ghost use Rattle.losses.specs.Groups.{groups_of, AreOfAList, InEachList};
 ghost use Rattle.losses.specs.Ordered.{AreOrdered};
 ghost use Rattle.losses.specs.Losses.{IsMargin, IsKill, IsBurst};
 ghost use Rattle.losses.specs.Lightest.{IsLightest};
+ghost use Rattle.losses.specs.Runs.{Lacks};
+ghost use Rattle.lists.specs.Selection.{rest, is_among};
 
 use crate::groups::Group;
 use crate::pricing::Threshold;
@@ -17,6 +19,8 @@ pub struct Figures {
     pub margin: usize,
     /// One place more, rising, whose loss does leave a group short, or else no carrier.
     pub kill: Vec<usize>,
+    /// A group that the kill leaves short; `None` where it takes all carriers.
+    pub kill_block: Option<usize>,
     /// The greatest number of neighbouring places whose loss, wherever they stand, leaves no group short and a carrier.
     pub burst: usize,
 }
@@ -69,6 +73,8 @@ pub fn figures_of(
         (λ blocks xs. IsMargin blocks xs r.margin)) }
     ensures kill { IfOk result (λ r. InEachList (groups_of groups.now) carriers.now
         (λ blocks xs. IsKill blocks xs (r.margin + 1) r.kill.items)) }
+    ensures kill_block { IfOk result (λ r. InEachList (groups_of groups.now) carriers.now
+        (λ blocks xs. Lacks blocks (rest (is_among r.kill.items) xs) r.kill_block)) }
     ensures burst { IfOk result (λ r. InEachList (groups_of groups.now) carriers.now
         (λ blocks xs. IsBurst blocks xs r.burst)) }
 {
@@ -84,6 +90,7 @@ pub fn figures_of(
         return Ok(Figures {
             margin: carriers.len() - 1,
             kill: carriers.to_vec(alloc)?,
+            kill_block: None,
             burst,
         });
     }
@@ -91,6 +98,7 @@ pub fn figures_of(
     Ok(Figures {
         margin: block.threshold.cost - 1,
         kill,
+        kill_block: Some(block.at),
         burst,
     })
 }

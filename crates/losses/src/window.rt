@@ -1,7 +1,8 @@
 //! The narrowest run of places whose loss leaves a block short.
-ghost use Rattle.std.specs.Prelude.{◌≡◌, ℕ, ◌+◌, ◌-◌, ◌<◌, ◌≤◌, slice_index, slice_set, ◌^◌};
+ghost use Rattle.std.specs.Prelude.{◌≡◌, ℕ, ◌+◌, ◌<◌, ◌≤◌, slice_set, nat_lt, false, length};
 ghost use Rattle.losses.specs.Members.{different_outside};
 ghost use Rattle.losses.specs.Windows.{filled, ArePlaced, IsLeastGap};
+ghost use Rattle.losses.specs.Starts.{IsWindow};
 
 use crate::counting::{copies_of, different};
 use crate::groups::Member;
@@ -17,35 +18,85 @@ fn set_copies(copies: &mut [usize; 256], different: usize, esi: u8, count: usize
     different + usize::from(count > 0) - usize::from(before > 0)
 }
 
-/// From the first to the last place of the narrowest window whose loss leaves fewer than `need` different ESIs. The
-/// window's end never goes back: each member enters it once and leaves it once.
+/// The members of a block from `start` up to `end`, and what their loss leaves: how often each ESI,
+/// and how many different ones.
+#[derive(Drop)]
+pub(crate) struct Window {
+    pub(crate) start: usize,
+    pub(crate) end: usize,
+    copies: [usize; 256],
+    left: usize,
+}
+
+impl Window {
+    /// No member, before the first.
+    pub(crate) fn new(members: &[Member]) -> Window
+        ensures start { result.start ≡ 0 }
+        ensures window { (need : ℕ) → IsWindow members.now need result }
+    {
+        let copies = copies_of(members);
+        let left = different(&copies);
+        Window {
+            start: 0,
+            end: 0,
+            copies,
+            left,
+        }
+    }
+
+    /// Takes members at the end until fewer than `need` different ESIs are left: whether that came
+    /// about. The end never goes back, so that each member enters once and leaves once.
+    pub(crate) fn widen(&mut self, members: &[Member], need: usize) -> bool
+        requires { IsWindow members.now need self.old }
+        ensures start { self.new.start ≡ self.old.start }
+        ensures window { IsWindow members.now need self.new }
+        ensures short { result
+            ≡ nat_lt (different_outside members.now self.new.start self.new.end) need }
+        ensures all { result ≡ false → self.new.end ≡ length members.now }
+    {
+        while self.left >= need && self.end < members.len() {
+            let esi = members[self.end].esi;
+            let count = self.copies[esi as usize] - 1;
+            self.left = set_copies(&mut self.copies, self.left, esi, count);
+            self.end += 1;
+        }
+        self.left < need
+    }
+
+    /// Gives the first member back.
+    pub(crate) fn narrow(&mut self, members: &[Member])
+        requires window { (need : ℕ) × IsWindow members.now need self.old }
+        requires some { self.old.start < self.old.end }
+        ensures start { self.new.start ≡ self.old.start + 1 }
+        ensures window { (need : ℕ) → IsWindow members.now need self.old
+            → IsWindow members.now need self.new }
+    {
+        let esi = members[self.start].esi;
+        let count = self.copies[esi as usize] + 1;
+        self.left = set_copies(&mut self.copies, self.left, esi, count);
+        self.start += 1;
+    }
+}
+
+/// From the first to the last place of the narrowest window whose loss leaves fewer than `need`
+/// different ESIs.
 pub(crate) fn least_gap(members: &[Member], need: usize) -> usize
     requires placed { ArePlaced members.now }
     requires some { 0 < need }
     requires enough { need ≤ different_outside members.now 0 0 }
     ensures { IsLeastGap members.now need result }
 {
-    let mut copies = copies_of(members);
-    let mut left = different(&copies);
-    let mut end = 0;
+    let mut window = Window::new(members);
     let mut least = 0;
     for start in 0..members.len() {
-        while left >= need && end < members.len() {
-            let esi = members[end].esi;
-            let count = copies[esi as usize] - 1;
-            left = set_copies(&mut copies, left, esi, count);
-            end += 1;
-        }
-        if left >= need {
+        if !window.widen(members, need) {
             break;
         }
-        let gap = members[end - 1].place - members[start].place;
+        let gap = members[window.end - 1].place - members[start].place;
         if start == 0 || gap < least {
             least = gap;
         }
-        let esi = members[start].esi;
-        let count = copies[esi as usize] + 1;
-        left = set_copies(&mut copies, left, esi, count);
+        window.narrow(members);
     }
     least
 }

@@ -1,10 +1,13 @@
-use Rattle.std.proofs.Common.{◌<◌, ◌+◌, ◌-◌, ℕ, List, length, ap, sym, ◌∙◌, arith, subst}
+use Rattle.std.proofs.Common.{◌≡◌, false, ◌<◌, ◌+◌, ◌-◌, ℕ, List, length, ap, sym, ◌∙◌, arith, subst}
 use Rattle.std.proofs.lemmas.Grind.{common_steps}
 use Rattle.losses.specs.Costs.{cheap_places}
-use Rattle.losses.specs.Losses.{IsKill}
+use Rattle.losses.specs.Losses.{IsKill, is_enough}
 use Rattle.losses.specs.declared.groups.Member.{Member}
 use Rattle.losses.specs.Groups.{groups_of, places, blocks_of_groups}
-use Rattle.losses.proofs.GroupFigures.{members_seen, count_of, some}
+use Rattle.std.specs.List.{list_any}
+use Rattle.lists.specs.Selection.{rest, is_among}
+use Rattle.losses.proofs.CarrierPlaces.{none_taken}
+use Rattle.losses.proofs.GroupFigures.{members_seen, count_of, some, kill_short}
 use Rattle.losses.proofs.CarrierGroup.{span_fits, margin_blocks, margin_carriers, kill_blocks, kill_carriers, burst_blocks, burst_carriers}
 use Rattle.losses.proofs.Ordering.{carriers_ordered, groups_ordered}
 use Rattle.losses.proofs.report.figures_of.Goals as goal
@@ -29,6 +32,11 @@ returns-then-carriers-block-clause-kill c = λ n told came.
     let l = c.in_ok-block.block in
     subst (λ (ps : List ℕ). IsKill (blocks_of_groups (groups_of c.args.groups.now) c.args.carriers.now) (places 0 n) (length c.args.carriers.now - 1 + 1) ps) (sym (c.in_ok-to_vec.ensures.items_if_clones_equal (λ x y e. e)))
     (kill_carriers (groups_of c.args.groups.now) c.args.carriers.now n are carriers l.at l.threshold.cost l.threshold.most_copies l.threshold.last_esi w.within w.weighed w.heavy c.if-carriers-block.true)
+
+pub returns-then-carriers-block-clause-kill_block : goal.returns-then-carriers-block-clause-kill_block
+returns-then-carriers-block-clause-kill_block c = λ n told came.
+    subst (λ (ps : List ℕ). list_any (is_among c.args.carriers.now) (rest (is_among ps) (places 0 n)) ≡ false) (sym (c.in_ok-to_vec.ensures.items_if_clones_equal (λ x y e. e)))
+    (none_taken (is_among c.args.carriers.now) 0 n)
 
 pub returns-then-carriers-block-clause-burst : goal.returns-then-carriers-block-clause-burst
 returns-then-carriers-block-clause-burst c = λ n told came.
@@ -67,6 +75,20 @@ returns-clause-kill c = λ n told came.
     let places_are = c.in_ok-kill.ensures ∙ ap (λ (qs : List Member). cheap_places qs l.threshold.most_copies l.threshold.last_esi) is in
     subst (λ (ps : List ℕ). IsKill (blocks_of_groups (groups_of gs) c.args.carriers.now) (places 0 n) (c.in_ok-block.block.threshold.cost - 1 + 1) ps) (sym places_are)
     (kill_blocks (groups_of gs) c.args.carriers.now n are carriers l.at l.threshold.cost l.threshold.most_copies l.threshold.last_esi w.within w.weighed w.heavy c.if-carriers-block.false)
+
+pub returns-clause-kill_block : goal.returns-clause-kill_block
+returns-clause-kill_block c = λ n told came.
+    let are = groups_ordered (groups_of c.args.groups.now) n told in
+    let w = c.in_ok-block.ensures in
+    let l = c.in_ok-block.block in
+    let gs = c.args.groups.now in
+    let within : l.at < length c.args.groups.now = (let h = w.within in let k = count_of c.args.groups.now in omega (arith, h, k)) in
+    let is = c.deref.ensures.value ∙ sym (members_seen gs l.at c.index-groups-block.result within) in
+    let places_are = c.in_ok-kill.ensures ∙ ap (λ (qs : List Member). cheap_places qs l.threshold.most_copies l.threshold.last_esi) is in (
+      w.within,
+      subst (λ (ps : List ℕ). is_enough (blocks_of_groups (groups_of c.args.groups.now) c.args.carriers.now) (rest (is_among ps) (places 0 n)) c.in_ok-block.block.at ≡ false) (sym places_are)
+          (kill_short (groups_of gs) n are l.at l.threshold.cost l.threshold.most_copies l.threshold.last_esi w.within w.weighed w.heavy),
+    )
 
 pub returns-clause-burst : goal.returns-clause-burst
 returns-clause-burst c = λ n told came.

@@ -1,84 +1,53 @@
-use Rattle.std.proofs.Common.{◌≡◌, ℕ, ◌+◌, ◌-◌, ◌<◌, ◌≤◌, true, false, nat_lt, length, get_or, ap, arith, inl, inr, refl}
-use Rattle.std.proofs.lemmas.Bool.{ltb-true, ltb-false}
-use Rattle.std.proofs.lemmas.Grind.{common_steps}
-use Rattle.losses.proofs.Windows.{IsFound, different_le, done_all, done_early, filled_is, given_copies, lost_copies, more_least, place_le, short_some}
+use Rattle.std.proofs.Common.{◌≡◌, ℕ, ◌+◌, ◌-◌, ◌<◌, ◌≤◌, ◌∙◌, ap, sym, arith, inl, inr, refl, subst}
+use Rattle.std.proofs.lemmas.Bool.{ltb-false}
+use Rattle.losses.proofs.Starts.{short_window, window_places}
+use Rattle.losses.proofs.Windows.{IsFound, done_all, done_early, more_least}
 use Rattle.losses.specs.Members.{different_outside}
-use Rattle.losses.specs.Windows.{IsShortWindow, member, place_at}
+use Rattle.losses.specs.Windows.{IsShortWindow, place_at}
 use Rattle.losses.proofs.window.least_gap.Goals as goal
-use Rattle.losses.proofs.window.least_gap.Goals.{then-loop-left-test+else-end-members, else-loop-left-test, then-start-eq0, then-start-eq0-via-then-start-eq0, then-start-eq0-via-else-start-eq0+then-gap-least, else-start-eq0+else-gap-least}
+use Rattle.losses.proofs.window.least_gap.Goals.{then-start-eq0, then-start-eq0-via-then-start-eq0, then-start-eq0-via-else-start-eq0+then-gap-least, else-start-eq0+else-gap-least}
 
-pub loop-left-preserved : goal.loop-left-preserved
-loop-left-preserved c =
-    let qs = c.args.members.now in
-    let i = c.loop-left.invariant in
-    let f = filled_is c.args.members.now c.loop-left.copies c.loop-start.start c.loop-left.end i.copies in
-    let t = c.loop-left-test.true in
-    record {
-      size = c.set_copies-left.array_long;
-      copies =
-          lost_copies c.args.members.now c.loop-left.copies c.set_copies-left.new.copies c.loop-start.start c.loop-left.end (get_or c.args.members.now c.loop-left.end (member 0 0)).esi i.size (omega arith) i.copies
-          (omega arith) refl c.set_copies-left.ensures.copies;
-      left = c.set_copies-left.ensures.counted;
-      order = omega arith;
-      within = omega arith;
-      before = λ y l.
-          elim (nat_lt y c.loop-left.end) as (λ v. nat_lt y c.loop-left.end ≡ v → c.args.need ≤ different_outside c.args.members.now c.loop-start.start y) [
-            | true ↦ λ e. i.before y (ltb-true y c.loop-left.end e)
-            | false ↦ λ e.
-                (let g = ltb-false y c.loop-left.end e in
-                let same : y ≡ c.loop-left.end = omega (arith, l, g) in
-                let d = ap (λ (z : ℕ). different_outside c.args.members.now c.loop-start.start z) same in
-                let w = i.left in
-                omega (arith, d, f, w, t))
-          ] refl;
-    }
-
-pub overflow_sub-gap : goal.overflow_sub-gap
-overflow_sub-gap c =
-    let i = c.loop-left.invariant in
-    let f = filled_is c.args.members.now c.loop-left.copies c.loop-start.start c.loop-left.end i.copies in
-    let w = i.left in
-    let o = i.order in
-    let s = short_some c.args.members.now c.args.need c.requires.placed c.requires.enough c.loop-start.start c.loop-left.end o (omega arith) in
-    omega (arith, s)
+pub loop-start-init : goal.loop-start-init
+loop-start-init c = record {
+  at = c.new-window.ensures.start;
+  window = c.new-window.ensures.window c.args.need;
+  least = λ x y l. absurd (omega (arith, l));
+  found = inl refl;
+}
 
 pub overflow_sub-gap-in-loop-start : goal.overflow_sub-gap-in-loop-start
 overflow_sub-gap-in-loop-start c =
-    let i = c.loop-left.invariant in
-    let f = filled_is c.args.members.now c.loop-left.copies c.loop-start.start c.loop-left.end i.copies in
-    let w = i.left in
-    let o = i.order in
-    let n = i.within in
-    let s = short_some c.args.members.now c.args.need c.requires.placed c.requires.enough c.loop-start.start c.loop-left.end o (omega arith) in
-    place_le c.args.members.now c.args.need c.requires.placed c.requires.enough c.loop-start.start (c.loop-left.end - 1) (omega (arith, s)) (omega (arith, s, n))
+    let e = c.widen.ensures in
+    let s = short_window c.args.members.now c.args.need c.requires.placed c.requires.enough c.widen.new.self e.window c.widen.result e.short c.if-not-widen.false in
+    let p = window_places c.args.members.now c.args.need c.requires.placed c.requires.enough c.widen.new.self.start c.widen.new.self.end s in
+    let at : c.widen.new.self.start ≡ c.loop-start.start = e.start ∙ c.loop-start.invariant.at in
+    subst (λ (x : ℕ). place_at c.args.members.now x ≤ place_at c.args.members.now (c.widen.new.self.end - 1)) at p
+
+pub narrow-requires-clause-some : goal.narrow-requires-clause-some
+narrow-requires-clause-some c =
+    let e = c.widen.ensures in
+    (short_window c.args.members.now c.args.need c.requires.placed c.requires.enough c.widen.new.self e.window c.widen.result e.short c.if-not-widen.false).some
 
 pub loop-start-preserved : goal.loop-start-preserved
 loop-start-preserved c =
-    let i = c.loop-left.invariant in
-    let f = filled_is c.args.members.now c.loop-left.copies c.loop-start.start c.loop-left.end i.copies in
-    let w = i.left in
-    let o = i.order in
-    let n = i.within in
-    let t = c.if-left-need.false in
-    let few : different_outside c.args.members.now c.loop-start.start c.loop-left.end < c.args.need = omega (arith, f, w, t) in
-    let s = short_some c.args.members.now c.args.need c.requires.placed c.requires.enough c.loop-start.start c.loop-left.end o few in
-    let up = place_le c.args.members.now c.args.need c.requires.placed c.requires.enough c.loop-start.start (c.loop-left.end - 1) (omega (arith, s)) (omega (arith, s, n)) in
-    let window : IsShortWindow c.args.members.now c.args.need c.loop-start.start c.loop-left.end = record { some = s; within = n; short = few } in
-    let gap = place_at c.args.members.now (c.loop-left.end - 1) - place_at c.args.members.now c.loop-start.start in
-    let size : place_at c.args.members.now c.loop-start.start + (place_at c.args.members.now (c.loop-left.end - 1) - place_at c.args.members.now c.loop-start.start) ≡ place_at c.args.members.now (c.loop-left.end - 1) = omega (arith, up) in
-    let more = more_least c.args.members.now c.args.need c.requires.placed c.requires.enough c.loop-start.start c.loop-left.end c.loop-start.least c.if-start-eq0.least
-    (place_at c.args.members.now (c.loop-left.end - 1) - place_at c.args.members.now c.loop-start.start) window i.before size c.loop-start.invariant.least in
-    let found : c.if-start-eq0.least ≡ place_at c.args.members.now (c.loop-left.end - 1) - place_at c.args.members.now c.loop-start.start → IsFound c.args.members.now c.args.need c.if-start-eq0.least =
-    λ e. record { start = c.loop-start.start; end = c.loop-left.end; is = window; size = omega (arith, e, size) } in
+    let w = c.widen.ensures in
+    let start = c.loop-start.start in
+    let end = c.widen.new.self.end in
+    let at : c.widen.new.self.start ≡ c.loop-start.start = w.start ∙ c.loop-start.invariant.at in
+    let window : IsShortWindow c.args.members.now c.args.need c.loop-start.start c.widen.new.self.end =
+    subst (λ (x : ℕ). IsShortWindow c.args.members.now c.args.need x c.widen.new.self.end) at
+    (short_window c.args.members.now c.args.need c.requires.placed c.requires.enough c.widen.new.self w.window c.widen.result w.short c.if-not-widen.false) in
+    let before : (y : ℕ) → y < c.widen.new.self.end → c.args.need ≤ different_outside c.args.members.now c.loop-start.start y =
+    λ y l. subst (λ (x : ℕ). c.args.need ≤ different_outside c.args.members.now x y) at (w.window.before y l) in
+    let up = window_places c.args.members.now c.args.need c.requires.placed c.requires.enough c.loop-start.start c.widen.new.self.end window in
+    let size : place_at c.args.members.now c.loop-start.start + (place_at c.args.members.now (c.widen.new.self.end - 1) - place_at c.args.members.now c.loop-start.start) ≡ place_at c.args.members.now (c.widen.new.self.end - 1) = omega (arith, up) in
+    let more = more_least c.args.members.now c.args.need c.requires.placed c.requires.enough c.loop-start.start c.widen.new.self.end c.loop-start.least c.if-start-eq0.least
+    (place_at c.args.members.now (c.widen.new.self.end - 1) - place_at c.args.members.now c.loop-start.start) window before size c.loop-start.invariant.least in
+    let found : c.if-start-eq0.least ≡ place_at c.args.members.now (c.widen.new.self.end - 1) - place_at c.args.members.now c.loop-start.start → IsFound c.args.members.now c.args.need c.if-start-eq0.least =
+    λ e. record { start = c.loop-start.start; end = c.widen.new.self.end; is = window; size = omega (arith, e, size) } in
     record {
-      size = c.set_copies-left-in-loop-start.array_long;
-      copies =
-          given_copies c.args.members.now c.loop-left.copies c.set_copies-left-in-loop-start.new.copies c.loop-start.start c.loop-left.end (get_or c.args.members.now c.loop-start.start (member 0 0)).esi i.size (omega arith) i.copies
-          (omega arith) refl c.set_copies-left-in-loop-start.ensures.copies;
-      left = c.set_copies-left-in-loop-start.ensures.counted;
-      order = omega (arith, s);
-      within = n;
-      before = λ y l. (let b = i.before y l in let m = different_le c.args.members.now c.loop-start.start y (c.loop-start.start + 1) y (omega arith) (omega arith) in omega (arith, b, m));
+      at = c.narrow.ensures.start ∙ ap (λ (x : ℕ). x + 1) at;
+      window = c.narrow.ensures.window c.args.need w.window;
       least =
           elim c.if-start-eq0.branch [
             | then-start-eq0 z ↦
@@ -105,24 +74,13 @@ pub returns-after-loop-start : goal.returns-after-loop-start
 returns-after-loop-start c =
     done_all c.args.members.now c.args.need c.requires.placed c.requires.enough c.loop-start.start c.loop-start.least c.requires.some (omega arith) c.loop-start.invariant.least c.loop-start.invariant.found
 
-pub returns-then-left-need : goal.returns-then-left-need
-returns-then-left-need c =
-    let i = c.loop-left.invariant in
-    let f = filled_is c.args.members.now c.loop-left.copies c.loop-start.start c.loop-left.end i.copies in
-    let w = i.left in
-    let n = i.within in
-    let t = c.if-left-need.true in
-    let last : length c.args.members.now ≤ c.loop-left.end =
-    elim c.loop-left-test.branch [
-      | then-loop-left-test+else-end-members z ↦ omega (arith, z)
-      | else-loop-left-test z ↦ absurd (omega (arith, z, t))
-    ] in
-    let same : c.loop-left.end ≡ length c.args.members.now = omega (arith, last, n) in
-    let d = ap (λ (z : ℕ). different_outside c.args.members.now c.loop-start.start z) same in
-    done_early c.args.members.now c.args.need c.requires.placed c.requires.enough c.loop-start.start c.loop-start.least c.requires.some (omega (arith, d, f, w, t)) c.loop-start.invariant.least c.loop-start.invariant.found
-
-pub overflow_sub-count : goal.overflow_sub-count
-overflow_sub-count c = grind (arith, common_steps) steps 2000000
-
-pub overflow_add-count : goal.overflow_add-count
-overflow_add-count c = grind (arith, common_steps) steps 2000000
+pub returns-then-not-widen : goal.returns-then-not-widen
+returns-then-not-widen c =
+    let w = c.widen.ensures in
+    let at : c.widen.new.self.start ≡ c.loop-start.start = w.start ∙ c.loop-start.invariant.at in
+    let all = w.all c.if-not-widen.true in
+    let full = ltb-false _ _ (sym w.short ∙ c.if-not-widen.true) in
+    let d = ap (λ (x : ℕ). different_outside c.args.members.now x c.widen.new.self.end) at in
+    let b = ap (λ (y : ℕ). different_outside c.args.members.now c.loop-start.start y) all in
+    done_early c.args.members.now c.args.need c.requires.placed c.requires.enough c.loop-start.start c.loop-start.least c.requires.some
+    (omega (arith, full, d, b)) c.loop-start.invariant.least c.loop-start.invariant.found

@@ -19,8 +19,8 @@ use Rattle.cert.proofs.Judging.{read_all, are_certified, none_came, some_came, n
 use Rattle.cert.proofs.DatagramSteps.{passed_on}
 use Rattle.cert.proofs.Bridge.{lines_are, enough_full, counts_refused}
 use Rattle.cert.proofs.CarrierPlaces.{any_place, places_counted}
-use Rattle.cert.proofs.Losing.{are_groups, margin_told, kill_told, burst_told}
-use Rattle.cert.proofs.walk.Walk.report.Goals as goal
+use Rattle.cert.proofs.Losing.{are_groups, margin_told, kill_told, burst_told, lacks_told}
+use Rattle.cert.proofs.walk.Walk.report_and_kill_block.Goals as goal
 
 -- some came, all of them as certified
 all_certified : (walk : Walk) (datagrams : List (List ℕ)) → HasWalked walk datagrams → walk.came ≡ true → AreCertified walk.scope.identity (readings_of datagrams) walk.symbols
@@ -132,3 +132,17 @@ returns-clause-certified c = λ datagrams h. (
 
 pub block_lines-requires : goal.block_lines-requires
 block_lines-requires c = grind (arith, common_steps) steps 2000000
+
+pub returns-clause-kill_block : goal.returns-clause-kill_block
+returns-clause-kill_block c = λ datagrams h. (
+    let who = c.args.self.now.scope.identity in
+    let z = c.args.self.now.symbols in
+    let valid = c.args.self.now.valid.fti in
+    let all = all_certified c.args.self.now datagrams h c.if-not-self.false in
+    let rs = readings_of datagrams in
+    let groups = groups_of c.args.self.now.groups.items in
+    let enough = rw c.deref.ensures.value at c.in_ok-blocks.ensures.enough in
+    let are = are_groups who z valid rs all.packets groups h.grouped enough in
+    let carriers = rw h.placed at (carriers_are c.args.self.now datagrams h (sym c.is_empty.ensures ∙ c.if-is_empty.false)) in
+    let kill_block = rw (c.deref-2.ensures.value, c.deref-3.ensures.value, h.placed) at c.in_ok-margin.ensures.kill_block in
+    lacks_told who z valid rs all.packets groups h.grouped _ _ (kill_block (length rs) are carriers))

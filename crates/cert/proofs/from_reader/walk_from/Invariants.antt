@@ -2,7 +2,7 @@ use Rattle.std.proofs.Common.{◌≡◌, ℕ, List}
 use Rattle.std.specs.Io.KnownBytes.{Consumes}
 use Rattle.session.specs.Frames.{frames, AreDatagrams}
 use Rattle.cert.specs.DatagramWalk.{HasWalked}
-use Rattle.cert.proofs.from_reader.report_from.Given as goal
+use Rattle.cert.proofs.from_reader.walk_from.Given as goal
 
 abbrev pub invariant-loop-walk : goal.invariant-loop-walk
 invariant-loop-walk g l = record {
