@@ -54,10 +54,19 @@ pub(crate) struct Transmission {
     pub(crate) toi: u32,
     pub(crate) fti: Fti,
     pub(crate) every: u32,
+    pub(crate) order: Order,
     pub(crate) codes: BlockCodes,
     ghost short: { fti.symbol_length ≤ most_symbol_bytes },
     ghost valid: { IsValidFti fti },
     ghost some: { 1 ≤ every },
+}
+
+/// Encoding symbols of a block: `count` of them, from ESI `first` on.
+#[derive(Clone, Copy)]
+pub(crate) struct Run {
+    pub(crate) block: u32,
+    pub(crate) first: usize,
+    pub(crate) count: usize,
 }
 
 impl Transmission {
@@ -110,41 +119,44 @@ fn send_symbol<W: Write>(
     }
 }
 
-/// Sends encoding symbols of a block, as many as there is room for, from ESI `first` on, at the
-/// places of the session from `place` on. They are made of the block's source symbols.
+/// Sends a run of encoding symbols, as many as there is room for, at the places of the session from
+/// `place` on. They are made of the block's source symbols.
 pub(crate) fn send_symbols<W: Write>(
     t: &Transmission,
     sources: &[u8],
+    run: Run,
+    place: u64,
     symbols: &mut [u8],
     datagram: &mut [u8],
-    place: u64,
-    block: u32,
-    first: usize,
-    count: usize,
     writer: &mut W,
 ) -> Result<(), Failed>
     requires codes { EachBlockHas (IsCodeOf t.now.fti) t.now.fti t.now.codes }
-    requires place { place + count < 2 ^ 64 }
-    requires block { block < block_count t.now.fti }
-    requires within { first + count ≤ encoding_count t.now.fti block }
-    requires symbols { length symbols.old ≡ count * t.now.fti.symbol_length }
+    requires place { place + run.count < 2 ^ 64 }
+    requires block { run.block < block_count t.now.fti }
+    requires within { run.first + run.count ≤ encoding_count t.now.fti run.block }
+    requires symbols { length symbols.old ≡ run.count * t.now.fti.symbol_length }
     requires datagram { IsDatagramRoom t.now.fti datagram.old }
     ensures sent { (object : List ℕ) → AreBytes object
-        → AreSourcesOf t.now.fti object block sources.now
+        → AreSourcesOf t.now.fti object run.block sources.now
         → OnOk result (Sends object t.now.fti t.now.tsi t.now.toi t.now.every
-        (items_from place (run_of block first count))
+        (items_from place (run_of run.block run.first run.count))
         (W.contents writer.old) (W.contents writer.new)) }
     ensures some { (object : List ℕ) → AreBytes object
-        → AreSourcesOf t.now.fti object block sources.now
+        → AreSourcesOf t.now.fti object run.block sources.now
         → OnErr result (SendsSome object t.now.fti t.now.tsi t.now.toi t.now.every
-        (items_from place (run_of block first count))
+        (items_from place (run_of run.block run.first run.count))
         (W.contents writer.old) (W.contents writer.new)) }
     ensures fails { OnErr result (W.failed writer.new ≡ true) }
     ensures full { OnErr result (W.room writer.old
-        < session_bytes t.now.fti t.now.every (items_from place (run_of block first count))) }
+        < session_bytes t.now.fti t.now.every (items_from place (run_of run.block run.first run.count))) }
     ensures fills { OnOk result (W.room writer.old ≤ W.room writer.new
-        + session_bytes t.now.fti t.now.every (items_from place (run_of block first count))) }
+        + session_bytes t.now.fti t.now.every (items_from place (run_of run.block run.first run.count))) }
 {
+    let Run {
+        block,
+        first,
+        count,
+    } = run;
     let code = t.codes.of(t.fti.k(block));
     encoding_symbols(sources, &t.fti, block, code, first, count, symbols);
     let size = usize::from(t.fti.symbol_length());
@@ -156,19 +168,39 @@ pub(crate) fn send_symbols<W: Write>(
     Ok(())
 }
 
-// What a pass sends of a block: the first ESI, and how many encoding symbols.
-fn run(fti: &Fti, order: Order, pass: u8, block: u32) -> (usize, usize)
+// What a pass sends of a block.
+fn run_in_pass(fti: &Fti, order: Order, pass: u8, block: u32) -> Run
     requires valid { IsValidFti fti.now }
     requires block { block < block_count fti.now }
-    ensures within { result.0 + result.1 ≤ encoding_count fti.now block }
-    ensures most { result.1 ≤ at_once order fti.now }
-    ensures pairs { run_of block result.0 result.1 ≡ pairs_in order fti.now pass block }
+    ensures block { result.block ≡ block }
+    ensures within { result.first + result.count ≤ encoding_count fti.now block }
+    ensures most { result.count ≤ at_once order fti.now }
+    ensures pairs { run_of result.block result.first result.count
+        ≡ pairs_in order fti.now pass block }
 {
     let n = fti.n(block);
     let esi = usize::from(pass);
     match order {
-        Order::Blocks => (0, n),
-        Order::Rounds => { if esi < n { (esi, 1) } else { (0, 0) } }
+        Order::Blocks => Run {
+            block,
+            first: 0,
+            count: n,
+        },
+        Order::Rounds => {
+            if esi < n {
+                Run {
+                    block,
+                    first: esi,
+                    count: 1,
+                }
+            } else {
+                Run {
+                    block,
+                    first: 0,
+                    count: 0,
+                }
+            }
+        }
     }
 }
 
@@ -176,7 +208,6 @@ fn run(fti: &Fti, order: Order, pass: u8, block: u32) -> (usize, usize)
 fn send_pass<W: Write>(
     t: &Transmission,
     object: &[u8],
-    order: Order,
     pass: u8,
     place: u64,
     symbols: &mut [u8],
@@ -185,32 +216,30 @@ fn send_pass<W: Write>(
 ) -> Result<u64, Failed>
     requires codes { EachBlockHas (IsCodeOf t.now.fti) t.now.fti t.now.codes }
     requires place { place ≤ 2 ^ 40 }
-    requires room { length symbols.old ≡ at_once order t.now.fti * t.now.fti.symbol_length }
+    requires room { length symbols.old ≡ at_once t.now.order t.now.fti * t.now.fti.symbol_length }
     requires datagram { IsDatagramRoom t.now.fti datagram.old }
     ensures sent { OnOk result (Sends object.now t.now.fti t.now.tsi t.now.toi t.now.every
-        (items_from place (pairs_of_pass order t.now.fti pass))
+        (items_from place (pairs_of_pass t.now.order t.now.fti pass))
         (W.contents writer.old) (W.contents writer.new)) }
-    ensures next { IfOk result (λ n. n ≡ place + length (pairs_of_pass order t.now.fti pass)) }
+    ensures next { IfOk result (λ n. n ≡ place + length (pairs_of_pass t.now.order t.now.fti pass)) }
     ensures few { IfOk result (λ n. n ≤ place + 2 ^ 24 * 255) }
     ensures some { OnErr result (SendsSome object.now t.now.fti t.now.tsi t.now.toi
-        t.now.every (items_from place (pairs_of_pass order t.now.fti pass))
+        t.now.every (items_from place (pairs_of_pass t.now.order t.now.fti pass))
         (W.contents writer.old) (W.contents writer.new)) }
     ensures fails { OnErr result (W.failed writer.new ≡ true) }
     ensures full { OnErr result (W.room writer.old < session_bytes t.now.fti t.now.every
-        (items_from place (pairs_of_pass order t.now.fti pass))) }
+        (items_from place (pairs_of_pass t.now.order t.now.fti pass))) }
     ensures fills { OnOk result (W.room writer.old ≤ W.room writer.new + session_bytes t.now.fti
-        t.now.every (items_from place (pairs_of_pass order t.now.fti pass))) }
+        t.now.every (items_from place (pairs_of_pass t.now.order t.now.fti pass))) }
 {
     let size = usize::from(t.fti.symbol_length());
     let mut next = place;
     for block in 0..t.fti.block_count() {
-        let (first, count) = run(&t.fti, order, pass, block);
-        let room = &mut symbols[..count * size];
-        let sources = block_of(object, &t.fti, block);
-        send_symbols(
-            t, sources, room, datagram, next, block, first, count, writer,
-        )?;
-        next += count as u64;
+        let run = run_in_pass(&t.fti, t.order, pass, block);
+        let room = &mut symbols[..run.count * size];
+        let sources = block_of(object, &t.fti, run.block);
+        send_symbols(t, sources, run, next, room, datagram, writer)?;
+        next += run.count as u64;
     }
     Ok(next)
 }
@@ -231,28 +260,27 @@ fn pass_count(fti: &Fti, order: Order) -> u8
 fn send_all<W: Write>(
     t: &Transmission,
     object: &[u8],
-    order: Order,
     symbols: &mut [u8],
     datagram: &mut [u8],
     writer: &mut W,
 ) -> Result<u64, Failed>
     requires codes { EachBlockHas (IsCodeOf t.now.fti) t.now.fti t.now.codes }
-    requires room { length symbols.old ≡ at_once order t.now.fti * t.now.fti.symbol_length }
+    requires room { length symbols.old ≡ at_once t.now.order t.now.fti * t.now.fti.symbol_length }
     requires datagram { IsDatagramRoom t.now.fti datagram.old }
     ensures sent { OnOk result (Sends object.now t.now.fti t.now.tsi t.now.toi t.now.every
-        (items order t.now.fti) (W.contents writer.old) (W.contents writer.new)) }
-    ensures count { IfOk result (λ n. n ≡ length (pairs order t.now.fti)) }
+        (items t.now.order t.now.fti) (W.contents writer.old) (W.contents writer.new)) }
+    ensures count { IfOk result (λ n. n ≡ length (pairs t.now.order t.now.fti)) }
     ensures some { OnErr result (SendsSome object.now t.now.fti t.now.tsi t.now.toi
-        t.now.every (items order t.now.fti) (W.contents writer.old) (W.contents writer.new)) }
+        t.now.every (items t.now.order t.now.fti) (W.contents writer.old) (W.contents writer.new)) }
     ensures fails { OnErr result (W.failed writer.new ≡ true) }
     ensures full { OnErr result (W.room writer.old
-        < session_bytes t.now.fti t.now.every (items order t.now.fti)) }
+        < session_bytes t.now.fti t.now.every (items t.now.order t.now.fti)) }
     ensures fills { OnOk result (W.room writer.old ≤ W.room writer.new
-        + session_bytes t.now.fti t.now.every (items order t.now.fti)) }
+        + session_bytes t.now.fti t.now.every (items t.now.order t.now.fti)) }
 {
     let mut place = 0;
-    for pass in 0..pass_count(&t.fti, order) {
-        place = send_pass(t, object, order, pass, place, symbols, datagram, writer)?;
+    for pass in 0..pass_count(&t.fti, t.order) {
+        place = send_pass(t, object, pass, place, symbols, datagram, writer)?;
     }
     Ok(place)
 }
@@ -312,16 +340,10 @@ pub fn encode<W: Write>(
         toi,
         fti: *fti,
         every,
+        order,
         codes,
     };
-    let Ok(count) = send_all(
-        &transmission,
-        object,
-        order,
-        &mut symbols,
-        &mut datagram,
-        writer,
-    ) else {
+    let Ok(count) = send_all(&transmission, object, &mut symbols, &mut datagram, writer) else {
         return Err(SendFault::Io);
     };
     Ok(count)

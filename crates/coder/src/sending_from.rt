@@ -12,10 +12,10 @@ ghost use Rattle.coder.specs.SentFrom.{IsSendFromFault};
 ghost use Rattle.coder.specs.Passes.{IsDatagramRoom, IsBlocksFault};
 
 use crate::object::{ObjectFault, block_bytes, read_block, read_end};
-use crate::sending::{MOST_SYMBOL_BYTES, Transmission, send_symbols};
+use crate::sending::{MOST_SYMBOL_BYTES, Run, Transmission, send_symbols};
 use alc::HEADER_SIZE;
 use block_code::{BlockCodes, Kind};
-use partition::Fti;
+use partition::{Fti, Order};
 use session::{Read, Write};
 use std::alloc::{AllocError, Global};
 use thiserror::Error;
@@ -91,7 +91,12 @@ fn send_blocks<R: Read, W: Write>(
         read_block(reader, bytes)?;
         let count = t.fti.n(block);
         let room = &mut symbols[..count * size];
-        let Ok(()) = send_symbols(t, bytes, room, datagram, place, block, 0, count, writer) else {
+        let run = Run {
+            block,
+            first: 0,
+            count,
+        };
+        let Ok(()) = send_symbols(t, bytes, run, place, room, datagram, writer) else {
             return Err(SendFromFault::Write);
         };
         place += count as u64;
@@ -174,6 +179,7 @@ pub fn encode_from<R: Read, W: Write>(
         toi,
         fti: *fti,
         every,
+        order: Order::Blocks,
         codes,
     };
     send_object(

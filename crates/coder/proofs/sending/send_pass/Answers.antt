@@ -18,36 +18,36 @@ loop-block-init g c =
 pub returns-in_err-send_symbols-clause-some : goal.returns-in_err-send_symbols-clause-some
 returns-in_err-send_symbols-clause-some g c =
     let t = c.args.t.now in
-    let sent = pairs_in c.args.order t.fti c.args.pass in
+    let sent = pairs_in c.args.t.now.order t.fti c.args.pass in
     let b = c.loop-block.block in
     let parts = flat_parts sent b _ (rw c.block_count-block-end.ensures.value at c.loop-block-test.true) in
     if_err _ _ (behind_some c.args.object.now t.fti t.tsi t.toi t.every c.args.place c.loop-block.next (flat_map sent (below b)) (sent b) c.loop-block.invariant.next _ _ _ _
-    parts.0 parts.1 c.loop-block.invariant.sent (rw c.run-first.ensures.pairs at (c.in_err-send_symbols.ensures.some c.args.object.now (bytes_fit c.args.object.now c.type_inv.object) c.block_of-sources.ensures)))
+    parts.0 parts.1 c.loop-block.invariant.sent (rw c.run_in_pass-run.ensures.pairs at (c.in_err-send_symbols.ensures.some c.args.object.now (bytes_fit c.args.object.now c.type_inv.object) c.block_of-sources.ensures)))
 
 pub returns-in_err-send_symbols-clause-full : goal.returns-in_err-send_symbols-clause-full
 returns-in_err-send_symbols-clause-full g c =
     let t = c.args.t.now in
-    let sent = pairs_in c.args.order t.fti c.args.pass in
+    let sent = pairs_in c.args.t.now.order t.fti c.args.pass in
     let b = c.loop-block.block in
     let parts = flat_parts sent b _ (rw c.block_count-block-end.ensures.value at c.loop-block-test.true) in
     if_err _ _ (behind_short t.fti t.every c.args.place c.loop-block.next (flat_map sent (below b)) (sent b) c.loop-block.invariant.next _ _ _
-    parts.0 parts.1 c.loop-block.invariant.room (rw c.run-first.ensures.pairs at c.in_err-send_symbols.ensures.full))
+    parts.0 parts.1 c.loop-block.invariant.room (rw c.run_in_pass-run.ensures.pairs at c.in_err-send_symbols.ensures.full))
 
 pub loop-block-preserved : goal.loop-block-preserved
 loop-block-preserved g c =
     let t = c.args.t.now in
-    let sent = pairs_in c.args.order t.fti c.args.pass in
+    let sent = pairs_in c.args.t.now.order t.fti c.args.pass in
     let b = c.loop-block.block in
     let more = length_next sent b in
-    let long : length (sent b) ≡ c.run-first.result.1 = ap length (sym c.run-first.ensures.pairs) ∙ length-run_of b c.run-first.result.0 c.run-first.result.1 in
+    let long : length (sent b) ≡ c.run_in_pass-run.result.count = ap length (sym c.run_in_pass-run.ensures.pairs) ∙ length-run_of c.run_in_pass-run.result.block c.run_in_pass-run.result.first c.run_in_pass-run.result.count in
     let most = encoding_most t.fti c.symbol_length.ensures.valid b in
     record {
       sent = behind_sends c.args.object.now t.fti t.tsi t.toi t.every c.args.place c.loop-block.next (flat_map sent (below b)) (sent b) c.loop-block.invariant.next _ _ _ _ (flat_next sent b)
-          c.loop-block.invariant.sent (rw c.run-first.ensures.pairs at (c.in_ok-send_symbols.ensures.sent c.args.object.now (bytes_fit c.args.object.now c.type_inv.object) c.block_of-sources.ensures));
+          c.loop-block.invariant.sent (rw c.run_in_pass-run.ensures.pairs at (c.in_ok-send_symbols.ensures.sent c.args.object.now (bytes_fit c.args.object.now c.type_inv.object) c.block_of-sources.ensures));
       next = omega (arith, c.loop-block.invariant.next, more, long);
-      few = omega (arith, c.loop-block.invariant.few, c.run-first.ensures.within, most, c.symbol_length.ensures.valid.max_below);
+      few = omega (arith, c.loop-block.invariant.few, c.run_in_pass-run.ensures.within, most, c.symbol_length.ensures.valid.max_below);
       room = behind_room t.fti t.every c.args.place c.loop-block.next (flat_map sent (below b)) (sent b) c.loop-block.invariant.next _ _ _ _ (flat_next sent b)
-          c.loop-block.invariant.room (rw c.run-first.ensures.pairs at c.in_ok-send_symbols.ensures.fills);
+          c.loop-block.invariant.room (rw c.run_in_pass-run.ensures.pairs at c.in_ok-send_symbols.ensures.fills);
     }
 
 pub slice_bounds-room-end : goal.slice_bounds-room-end

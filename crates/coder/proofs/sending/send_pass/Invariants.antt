@@ -7,8 +7,8 @@ use Rattle.coder.proofs.sending.send_pass.Given as goal
 
 abbrev pub invariant-loop-block : goal.invariant-loop-block
 invariant-loop-block g l = record {
-  sent : Sends l.object l.t.fti l.t.tsi l.t.toi l.t.every (items_from l.place (flat_map (pairs_in l.order l.t.fti l.pass) (below l.block))) (g.W.Write.contents l.initial.writer) (g.W.Write.contents l.writer);
-  next : l.next ≡ l.place + length (flat_map (pairs_in l.order l.t.fti l.pass) (below l.block));
+  sent : Sends l.object l.t.fti l.t.tsi l.t.toi l.t.every (items_from l.place (flat_map (pairs_in l.t.order l.t.fti l.pass) (below l.block))) (g.W.Write.contents l.initial.writer) (g.W.Write.contents l.writer);
+  next : l.next ≡ l.place + length (flat_map (pairs_in l.t.order l.t.fti l.pass) (below l.block));
   few : l.next ≤ l.place + 255 * l.block;
-  room : g.W.Write.room l.initial.writer ≤ g.W.Write.room l.writer + session_bytes l.t.fti l.t.every (items_from l.place (flat_map (pairs_in l.order l.t.fti l.pass) (below l.block)));
+  room : g.W.Write.room l.initial.writer ≤ g.W.Write.room l.writer + session_bytes l.t.fti l.t.every (items_from l.place (flat_map (pairs_in l.t.order l.t.fti l.pass) (below l.block)));
 }

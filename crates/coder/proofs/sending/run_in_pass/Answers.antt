@@ -2,7 +2,7 @@ use Rattle.std.proofs.Common.{◌<◌, ◌≤◌, ◌∙◌, sym, arith}
 use Rattle.partition.specs.Fti.{encoding_count}
 use Rattle.coder.proofs.InPasses.{one_run, no_run, first_most}
 use Rattle.coder.proofs.Sent.{with_pair, without_pair}
-use Rattle.coder.proofs.sending.run.Goals as goal
+use Rattle.coder.proofs.sending.run_in_pass.Goals as goal
 
 pub returns-in-Blocks-clause-most : goal.returns-in-Blocks-clause-most
 returns-in-Blocks-clause-most c =
