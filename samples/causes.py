@@ -111,7 +111,7 @@ CASES = [
     (["decode", "damaged.session", "out", *OF_NOTE], 1, "fault R6", ["damaged.session", "block 0"]),
     (["decode", "thin.session", "out", *OF_NOTE], 3, "missing", ["thin.session has 3 different symbols of block 0", "alcrs join"]),
     (["decode", "bare.session", "out", *OF_NOTE], 3, "empty", ["bare.session", "carries the FTI"]),
-    (["follow", "damaged.session", "out", *OF_NOTE], 0, "object", ["contradict", "out wrong"]),
+    (["follow", "clash.session", "out", *OF_NOTE], 0, "object", ["1 datagrams of clash.session contradict", "out wrong"]),
     # What was done, or is told whole by its line, has no sentence.
     (["check", "note.session", *CHECK], 0, "burst", None),
     (["decode", "note.session", "out", *OF_NOTE], 0, "object", None),

@@ -34,16 +34,24 @@ impl LastLine {
 
     /// The first line of it, as far as it is ASCII.
     pub(crate) fn text(&self) -> &str {
-        let mut end = 0;
-        while end < self.length.min(MOST) && is_of_line(self.front[end]) {
-            end += 1;
-        }
-        std::str::from_utf8(&self.front[..end]).unwrap_or("")
+        let front = self.front.get(..self.length).unwrap_or(&[]);
+        let line = front.get(..line_length(front)).unwrap_or(&[]);
+        std::str::from_utf8(line).unwrap_or("")
     }
 
     pub(crate) fn contradictions(&self) -> u64 {
         self.contradictions
     }
+}
+
+// How many bytes of a line stand in front.
+fn line_length(front: &[u8]) -> usize {
+    for place in 0..front.len() {
+        if !is_of_line(front[place]) {
+            return place;
+        }
+    }
+    front.len()
 }
 
 fn is_of_line(byte: u8) -> bool {

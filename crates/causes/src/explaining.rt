@@ -248,7 +248,7 @@ impl<'a, R: Files> Case<'a, R> {
             "N9" => self.say(
                 "{S} has {1} different symbols of block {0}, and {2} are needed: nobody can \
                 decode {O} of it",
-                &[self.number(3), self.number(5), self.number(7)],
+                &[self.number(4), self.number(6), self.number(8)],
             ),
             reason => match reason_text(reason) {
                 Some(pattern) => self.say(pattern, &[place]),
