@@ -251,12 +251,16 @@ def main():
                 os.remove(told)
             whole = run(words, TOLD=told)
             calls = calls_in(told)
+            printed = max((place for place, call in enumerate(calls, 1) if call.descriptor == "1"), default=len(calls))
             tries = [(place, error) for place in range(1, len(calls) + 1) for error in ERRORS]
             answers = in_turn(
                 lambda t: run(words, FAILED=str(t[0]), ERROR=str(ERRORS[t[1]])), tries
             )
             for (place, error), ran in zip(tries, answers):
                 call = calls[place - 1]
+                # Behind its last line the program looks at files again for the cause: that changes no answer.
+                if place > printed and ran == whole:
+                    continue
                 if not is_told(words, call, whole, ran) and not (error == "EINTR" and ran == whole):
                     bad.append((words, f"{error} of {call.name} {call.descriptor} {call.file}", ran))
             runs += len(tries)
