@@ -5,8 +5,9 @@ use crate::canvas::{Canvas, MARKED, SMALL, SMALL_END, TITLE};
 use crate::columns::{column_of, place_of};
 use crate::panel::{Axis, Bar, Panel};
 use crate::scale::Scale;
-use crate::sheet::{Run, Sheet};
+use crate::sheet::Sheet;
 use crate::ticks::put_places;
+use losses::Run;
 use std::alloc::{AllocError, Global};
 
 /// Where the panel stands.

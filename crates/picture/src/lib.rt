@@ -35,4 +35,5 @@ mod spares;
 mod tests;
 mod ticks;
 
-pub use sheet::{Run, Sheet, draw};
+pub use losses::Run;
+pub use sheet::{Sheet, draw};

@@ -3,17 +3,8 @@ use crate::bursts::{lengths_of, put_bursts, shortest_of};
 use crate::canvas::Canvas;
 use crate::heading::{put_description, put_head, put_heading};
 use crate::spares::{put_spares, spares_of, weakest_of};
+use losses::Run;
 use std::alloc::{AllocError, Global};
-
-/// The longest run of neighbours from a place that may be missed, and the block that one more
-/// leaves short.
-#[derive(Clone, Copy, PartialEq, Eq, Debug)]
-pub struct Run {
-    /// How many neighbours.
-    pub length: usize,
-    /// The block; none where one more leaves no carrier.
-    pub block: Option<usize>,
-}
 
 /// What is drawn.
 #[derive(Clone, Copy)]

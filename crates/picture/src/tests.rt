@@ -1,7 +1,8 @@
 //! Values from outside, and one sheet.
 use crate::columns::{Column, column_of};
 use crate::scale::Scale;
-use crate::sheet::{Run, Sheet, draw};
+use crate::sheet::{Sheet, draw};
+use losses::Run;
 use std::alloc::AllocError;
 
 fn is(column: Column, places: (usize, usize), values: (usize, usize)) -> bool {
