@@ -10,6 +10,7 @@ use Rattle.clap.specs.Walk.{action_of, answers_to, finished, settled, Held, Name
 use Rattle.clap.specs.Facts.{explicit_source, unwrap_or_range}
 use Rattle.clap.specs.Faults.{check_fault, defaults_fault, settle_fault, entered_fault, fault_of, level_fault, other_fault, step_fault, turn_fault, walk_fault, word_fault}
 use Rattle.clap.specs.Simple.{App, Shape, argument_words, built, built_leaf, entered, filled, filled_from, help_rule, help_shape, index_after, inherited, label_of, marked_built, names_of, new_shape, on_top, rows_at, subcommand_of, with_index, with_leaf_noted}
+use Rattle.clap.specs.Words.{first_of}
 use Rattle.clap.specs.Kinds.{or_else}
 use Rattle.clap.specs.Lexer.{long_of, short_of}
 use Rattle.clap.specs.Takes.{is_given, value_passes}
@@ -20,7 +21,7 @@ use Rattle.clap.specs.declared.builder.action.ArgAction.{ArgAction}
 use Rattle.clap.specs.declared.builder.action.ArgAction.TheVariants.{Set, Append, Help, HelpLong, HelpShort, SetTrue, SetFalse, Count, Version}
 use Rattle.clap.specs.declared.builder.value_parser.ValueParser.TheVariants.{Bool as BoolParser, Names, Unsigned}
 use Rattle.clap.specs.declared.builder.value_parser.Reading.TheVariants.{AsWritten}
-use Rattle.request.specs.Arguments.{Argument, File, Number, Choice, Numbers, Files, Flag, AText, ANumber, AFlag, SomeNumbers, SomeTexts, IsNumber, rule_for}
+use Rattle.request.specs.Arguments.{Argument, File, Number, Choice, Numbers, Files, Flag, FileOption, AText, ANumber, AFlag, SomeNumbers, SomeTexts, MaybeText, IsNumber, rule_for}
 use Rattle.request.specs.Grammar.{commands, grammar_of}
 use Rattle.request.specs.Matching.{IsGiven, IsToldBy, row_of}
 use Rattle.request.proofs.Walks.{Each, found_each, both_none, checks_pass, HasValue as Passes, IsOwn, IsPassed, IsRight, flag_value, option_value, given_row, right_level, text_value}
@@ -98,6 +99,7 @@ Fits rules (Numbers name least most) = (a : Rule) × (arg_by_id rules name ≡ S
 Fits rules (Files name) = (a : Rule) × (arg_by_id rules name ≡ Some a) × (a.required ≡ true) × takes_one a
 Fits rules (Flag name) = (a : Rule) × (arg_by_id rules name ≡ Some a) × (a.defaults ≡ codes "false" ∷ []) × (0 < length a.missing)
     × (a.parser ≡ Some BoolParser)
+Fits rules (FileOption name) = ⊤
 
 module _ (s : Shape) (words : List Text) (right : IsRight s words) where
   abbrev rows : List Row
@@ -146,6 +148,7 @@ module _ (s : Shape) (words : List Text) (right : IsRight s words) where
       let (r, found, passed) = given_row s words a name right known wanted in
       (SomeTexts r.values, (rw found refl, passed.some (inl (omega (arith, one)))))
   given (Flag name) (a, known, is, some, parser) = flag_given a name parser (flag_value s words a name (codes "false") [] right known is some)
+  given (FileOption name) fits = (MaybeText (first_of name rows), refl)
 
   all_given : (arguments : List Argument) → AllByRecursion (Fits s.rules) arguments → AllByRecursion (IsGiven rows) arguments
   all_given [] fits = tt
@@ -236,6 +239,7 @@ fits c i (Choice name words default) own = (_, own.first, refl, refl, refl, refl
 fits c i (Numbers name least most) own = (_, own.first, refl, refl, refl)
 fits c i (Files name) own = (_, own.first, refl, refl)
 fits c i (Flag name) own = (_, own.first, refl, omega arith, refl)
+fits c i (FileOption name) own = tt
 
 all_fit : (c : List Rule) (i : ℕ) (arguments : List Argument) (others : List Rule) → Each (IsOwn c) (filled_from i (map rule_for arguments ++ others))
     → AllByRecursion (Fits c) arguments

@@ -9,7 +9,7 @@ use Rattle.clap.specs.Matches.{StepsValues, raw_values, values_left}
 use Rattle.clap.specs.declared.parser.matches.Found.{Found}
 use Rattle.clap.specs.declared.parser.matches.ValuesRef.{ValuesRef}
 use Rattle.clap.proofs.WalkLemmas.{raw_values-rows, typed_values-rows}
-use Rattle.request.specs.Arguments.{HasValue, IsNumber, AText, ANumber, AFlag, SomeNumbers, SomeTexts, Numbers, Files}
+use Rattle.request.specs.Arguments.{HasValue, IsNumber, AText, ANumber, AFlag, SomeNumbers, SomeTexts, MaybeText, Numbers, Files}
 use Rattle.request.specs.Matching.{IsGiven}
 
 -- ---- numbers
@@ -21,6 +21,7 @@ numbers_given rows name least most (AText text, has) = absurd has
 numbers_given rows name least most (ANumber n, has) = absurd has
 numbers_given rows name least most (SomeTexts texts, has) = absurd has
 numbers_given rows name least most (AFlag given, has) = absurd has
+numbers_given rows name least most (MaybeText text, has) = absurd has
 
 numbers_more : (least most : ℕ) (texts : List Text) (ns : List ℕ) (text : Text) (n : ℕ) → AllZip (IsNumber least most) texts ns → IsNumber least most text n
     → AllZip (IsNumber least most) (texts ++ text ∷ []) (ns ++ n ∷ [])
@@ -120,6 +121,7 @@ module _ (f : Found) (name : Text) (given : Option (Bor (List (Bor Text))))
       go (ANumber n, has) = absurd has
       go (SomeNumbers ns, has) = absurd has
       go (AFlag given, has) = absurd has
+      go (MaybeText text, has) = absurd has
 
   pub texts_found : IsSome given
   texts_found = go given are

@@ -1,5 +1,5 @@
 -- Command lines that are written out: what the grammar reads from them, and why they are refused.
-use Rattle.std.proofs.Common.{List, [], ◌∷◌, ◌≡◌, Option, Some, codes, option_map, refl}
+use Rattle.std.proofs.Common.{List, [], ◌∷◌, ◌≡◌, Option, Some, None, codes, option_map, refl}
 use Rattle.clap.specs.Words.{App, Text, fault_of, many_of, one_of, subcommand_of}
 use Rattle.clap.specs.declared.error.kind.ErrorKind.TheVariants as kind
 use Rattle.clap.proofs.OnLiterals.{clap_on_literals}
@@ -27,6 +27,30 @@ check_read = refl
 check_toi : read (codes "toi") (check (codes "--toi=1" ∷ [])) ≡ Some (codes "check", Some (codes "1"))
 unfolding clap_on_literals
 check_toi = refl
+
+-- a picture may be asked for, once
+abbrev drawn : List Text
+drawn = check (codes "--picture" ∷ codes "d" ∷ codes "--toi=1" ∷ [])
+
+drawn_taken : fault_of grammar drawn ≡ []
+unfolding clap_on_literals
+drawn_taken = refl
+
+drawn_read : read (codes "picture") drawn ≡ Some (codes "check", Some (codes "d"))
+unfolding clap_on_literals
+drawn_read = refl
+
+not_drawn_read : read (codes "picture") (check (codes "--toi=1" ∷ [])) ≡ Some (codes "check", None)
+unfolding clap_on_literals
+not_drawn_read = refl
+
+drawn_twice : fault_of grammar (check (codes "--toi=1" ∷ codes "--picture=d" ∷ codes "--picture=d" ∷ [])) ≡ kind.ArgumentConflict ∷ []
+unfolding clap_on_literals
+drawn_twice = refl
+
+picture_of_no_check : fault_of grammar (codes "alcrs" ∷ codes "show" ∷ codes "a" ∷ codes "--picture=d" ∷ []) ≡ kind.UnknownArgument ∷ []
+unfolding clap_on_literals
+picture_of_no_check = refl
 
 toi_missing : fault_of grammar (check []) ≡ kind.MissingRequiredArgument ∷ []
 unfolding clap_on_literals

@@ -11,7 +11,8 @@ use Rattle.clap.specs.declared.builder.value_parser.ValueParser.{ValueParser}
 use Rattle.clap.specs.declared.builder.value_parser.ValueParser.TheVariants.{Names, Unsigned}
 
 -- An argument by its name, and what it takes. A number is in a range, and may have a default. A
--- choice is one of some words, and has a default.
+-- choice is one of some words, and has a default. A file's name may be an option's value, which may be
+-- left out.
 pub data Argument : Type 0 where
   File : Text → Argument
   Number : Text → ℕ → ℕ → Option Text → Argument
@@ -19,6 +20,7 @@ pub data Argument : Type 0 where
   Numbers : Text → ℕ → ℕ → Argument
   Files : Text → Argument
   Flag : Text → Argument
+  FileOption : Text → Argument
 
 -- `--name VALUE`
 abbrev pub option : Text → ValueParser → Rule
@@ -41,6 +43,7 @@ rule_for (Choice name words word) = record (option name (Names words)) { default
 rule_for (Numbers name low high) = record (several name) { parser = Some (Unsigned low high) }
 rule_for (Files name) = several name
 rule_for (Flag name) = record (new_rule name) { long = Some name; action = Some SetTrue }
+rule_for (FileOption name) = record (new_rule name) { long = Some name; value_names = 1 }
 
 -- the value of an argument
 pub data Value : Type 0 where
@@ -49,6 +52,7 @@ pub data Value : Type 0 where
   SomeNumbers : List ℕ → Value
   SomeTexts : List Text → Value
   AFlag : Bool → Value
+  MaybeText : Option Text → Value
 
 -- a number in decimal digits, and in its range
 pub record IsNumber (low high : ℕ) (text : Text) (n : ℕ) : Type 0 where
@@ -73,4 +77,5 @@ HasValue rows (Numbers name low high) (SomeNumbers ns) =
     × (0 < length ns)
 HasValue rows (Files name) (SomeTexts texts) = (all_of name rows ≡ Some texts) × (0 < length texts)
 HasValue rows (Flag name) (AFlag given) = first_of name rows ≡ Some (flag_word given)
+HasValue rows (FileOption name) (MaybeText text) = first_of name rows ≡ text
 HasValue rows argument value = ⊥

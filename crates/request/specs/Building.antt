@@ -5,7 +5,7 @@ use Rattle.clap.specs.Words.{App, Rule, Shape, Text, app_of, shape_of, with_subc
 use Rattle.clap.specs.Simple.{new_shape}
 use Rattle.clap.specs.declared.builder.command.Command.{Command}
 use Rattle.clap.specs.declared.builder.command.Command.TheViews.{out-Command as fields_of}
-use Rattle.request.specs.Arguments.{Argument, File, Number, Choice, Numbers, Files, Flag, rule_for}
+use Rattle.request.specs.Arguments.{Argument, File, Number, Choice, Numbers, Files, Flag, FileOption, rule_for}
 use Rattle.request.specs.Grammar.{IsOrders, grammar_of}
 use Rattle.request.specs.declared.grammar.NumberOption.{NumberOption}
 use Rattle.request.specs.declared.grammar.ChoiceOption.{ChoiceOption}
@@ -49,6 +49,7 @@ argument_of (told.Choice option) = choice_of option
 argument_of (told.Numbers name help least most) = Numbers name.now least most
 argument_of (told.Files name help) = Files name.now
 argument_of (told.Flag name help) = Flag name.now
+argument_of (told.FileOption name value_name help) = FileOption name.now
 
 abbrev pub rule_told : Told → Rule
 rule_told argument = rule_for (argument_of argument)

@@ -4,7 +4,7 @@ use Rattle.std.specs.Prelude.{◌≡◌, ◌∷◌, ◌++◌, [], List, None, So
 use Rattle.std.specs.Borrow.{Bor}
 use Rattle.clap.specs.Words.{App, Text}
 use Rattle.clap.specs.Simple.{new_shape}
-use Rattle.request.specs.Arguments.{Argument, File, Number, Choice, Numbers, Files, Flag, rule_for}
+use Rattle.request.specs.Arguments.{Argument, File, Number, Choice, Numbers, Files, Flag, FileOption, rule_for}
 
 -- a command's name, with its arguments or their values
 abbrev pub command : {X : Type 0} → String → X → Text × X
@@ -31,7 +31,8 @@ commands orders =
     ∷ Choice (codes "order") orders (codes "blocks") ∷ [])
     ∷ command "certify" (file "OBJECT" ∷ file "OUT" ∷ identifiers ++ size_arguments)
     ∷ command "convert" (file "IN" ∷ file "OUT" ∷ identifiers)
-    ∷ command "check" (file "SESSION" ∷ file "OBJECT" ∷ file "CERT" ∷ identifiers)
+    ∷ command "check" (file "SESSION" ∷ file "OBJECT" ∷ file "CERT" ∷ identifiers
+    ++ FileOption (codes "picture") ∷ [])
     ∷ command "drop" (file "SESSION" ∷ file "OUT" ∷ Numbers (codes "PLACE") 0 4294967295 ∷ [])
     ∷ command "join" (file "OUT" ∷ Files (codes "SESSION") ∷ Flag (codes "turns") ∷ [])
     ∷ command "decode" (file "SESSION" ∷ file "OUT" ∷ identifiers)

@@ -1,5 +1,5 @@
 -- What the words of a command line ask for.
-use Rattle.std.specs.Prelude.{◌≡◌, ◌∷◌, ◌++◌, [], List, Option, Some, Result, Ok, Err, Contains, codes, map, ⊤}
+use Rattle.std.specs.Prelude.{◌≡◌, ◌∷◌, ◌++◌, [], List, Option, Some, Result, Ok, Err, Contains, codes, map, option_map, ⊤}
 use Rattle.std.specs.Borrow.{Bor}
 use Rattle.std.specs.List.{AllZip}
 use Rattle.clap.specs.Words.{IsAmong, Row, Text, fault_of, kind_of, subcommand_of}
@@ -11,7 +11,7 @@ use Rattle.request.specs.declared.requests.Request.{Request}
 use Rattle.request.specs.declared.requests.Request.TheVariants.{Check, Twin, Show, Encode, Certify, Convert, Decode, Follow, Drop, Join}
 use Rattle.request.specs.declared.usage.Usage.{Usage}
 use Rattle.request.specs.declared.usage.Usage.TheVariants.{Help, Line, NoMemory}
-use Rattle.request.specs.Arguments.{Argument, Value, AText, ANumber, AFlag, SomeNumbers, SomeTexts, HasValue}
+use Rattle.request.specs.Arguments.{Argument, Value, AText, ANumber, AFlag, SomeNumbers, SomeTexts, MaybeText, HasValue}
 use Rattle.request.specs.Grammar.{command, commands, grammar_of}
 use Rattle.request.specs.Usages.{IsAskedFor, IsRefusal}
 
@@ -41,7 +41,8 @@ asked_of (Certify r) =
     command "certify" (path r.object ∷ path r.output ∷ whose r.identity ++ size_values r.sizes)
 asked_of (Convert r) = command "convert" (path r.certificate ∷ path r.output ∷ whose r.identity)
 asked_of (Check r) =
-    command "check" (path r.session ∷ path r.object ∷ path r.certificate ∷ whose r.identity)
+    command "check" (path r.session ∷ path r.object ∷ path r.certificate ∷ whose r.identity
+    ++ MaybeText (option_map (λ name. name.now) r.picture) ∷ [])
 asked_of (Drop r) =
     command "drop" (path r.session ∷ path r.output ∷ SomeNumbers r.places.items ∷ [])
 asked_of (Join r) = command "join" (path r.output

@@ -67,6 +67,12 @@ enum Argument<'a> {
         name: &'a str,
         help: &'a str,
     },
+    /// `--name FILE`, which may be left out.
+    FileOption {
+        name: &'a str,
+        value_name: &'a str,
+        help: &'a str,
+    },
 }
 
 const SESSION: Argument<'static> = Argument::File {
@@ -144,6 +150,12 @@ const MAX: Argument<'static> = Argument::Number(NumberOption {
     default: None,
 });
 
+const PICTURE: Argument<'static> = Argument::FileOption {
+    name: "picture",
+    value_name: "OUT",
+    help: "The SVG file to draw a yes to: what each block has to spare, and which bursts may be missed",
+};
+
 /// A command: its name, its help and its arguments, in their order.
 struct Outline<'a> {
     name: &'a str,
@@ -220,7 +232,7 @@ const OUTLINES: [Outline<'static>; 10] = [
         name: "check",
         about: "Says whether a certificate proves that a session carries an object, and how many datagrams may be missed",
         after_help: help::CHECK,
-        arguments: &[SESSION, CARRIED_OBJECT, CERTIFICATE, TSI, TOI],
+        arguments: &[SESSION, CARRIED_OBJECT, CERTIFICATE, TSI, TOI, PICTURE],
     },
     Outline {
         name: "drop",
@@ -345,6 +357,14 @@ fn clap_argument<'a>(alloc: Global, argument: &Argument<'a>) -> Arg<'a>
         Argument::Flag { name, help } => Arg::new(alloc, *name)
             .long(*name)
             .action(ArgAction::SetTrue)
+            .help(*help),
+        Argument::FileOption {
+            name,
+            value_name,
+            help,
+        } => Arg::new(alloc, *name)
+            .long(*name)
+            .value_name(*value_name)
             .help(*help),
     }
 }

@@ -37,6 +37,7 @@ pub(crate) const CHECK: &str = "Prints `no` and the first reason, or `yes` and t
   burst N                any N neighbouring datagrams may be missed
 Blocks and places count from 0. Places are those of the whole session.
 Datagrams of another TSI or TOI are passed over.
+With --picture a yes is drawn too, and at a no OUT stays as it is.
 Statuses: 0 yes, 1 no or a fault, 2 the command line is refused.
 
 Example: alcrs check bulletin.session bulletin.txt bulletin.rsc --tsi 7 --toi 1";

@@ -1,6 +1,6 @@
 //! Requests of what the grammar matched. The grammar lets no line through that lacks a value, so
 //! each is there.
-ghost use Rattle.std.specs.Prelude.{◌≡◌, ◌≤◌, Some, true, IfOk, codes, is_some, map};
+ghost use Rattle.std.specs.Prelude.{◌≡◌, ◌≤◌, Some, true, IfOk, codes, is_some, map, option_map};
 ghost use Rattle.std.specs.List.{AllZip};
 ghost use Rattle.clap.specs.Words.{first_of, one_of, subcommand_rows_of};
 ghost use Rattle.request.specs.Arguments.{HasValue, Files as files_named, Numbers as numbers_named, SomeNumbers, SomeTexts, flag_word};
@@ -26,6 +26,13 @@ fn text<'a>(matches: &ArgMatches<'a>, name: &str) -> &'a str
     ensures { first_of name.now (rows_in matches.now) ≡ Some result.now }
 {
     matches.get_str(name).unwrap()
+}
+
+// The text of an argument that may be left out.
+fn given_text<'a>(matches: &ArgMatches<'a>, name: &str) -> Option<&'a str>
+    ensures { first_of name.now (rows_in matches.now) ≡ option_map (λ text. text.now) result }
+{
+    matches.get_str(name)
 }
 
 // The number of an option.
@@ -156,6 +163,7 @@ fn check_request<'a>(matches: &ArgMatches<'a>) -> Request<'a>
         object: text(matches, "OBJECT"),
         certificate: text(matches, "CERT"),
         identity: identity(matches),
+        picture: given_text(matches, "picture"),
     })
 }
 

@@ -34,13 +34,15 @@ pub struct Sending {
     ghost narrow: { IsNarrow identity },
 }
 
-/// Is the certificate one of the object and of the session's packets with this identity?
+/// Is the certificate one of the object and of the session's packets with this identity? With a
+/// picture, draw what may be missed.
 #[derive(Drop)]
 pub struct CheckRequest<'a> {
     pub session: &'a str,
     pub object: &'a str,
     pub certificate: &'a str,
     pub identity: Identity,
+    pub picture: Option<&'a str>,
     ghost narrow: { IsNarrow identity },
 }
 

@@ -5,6 +5,7 @@ mod Stopping
 mod Numbered
 mod Showed
 mod Twinned
+mod Pictured
 mod Making
 mod Joins
 mod Conversions

@@ -2,14 +2,16 @@
 use Rattle.std.proofs.Common.{◌≡◌, ◌⊎◌, ◌∙◌, ℕ, List, [], Option, Some, None, Result, Ok, Err, inl, inr, refl, sym, ap, subst}
 use Rattle.std.specs.Prelude.{IfSome, IfErr, IsErrAnd}
 use Rattle.std.specs.Io.KnownBytes.{Appends}
+use Rattle.std.proofs.KnownBytes.{Appends-nil}
 use Rattle.request.specs.declared.requests.Request.{Request}
 use Rattle.request.specs.declared.requests.Request.TheVariants.{Check, Twin, Show, Encode, Certify, Convert, Decode, Follow, Drop, Join}
 use Rattle.tool.specs.World.{Files, World, MayFail, KeepsFiles, IsSilent, Replaces, one_more}
 use Rattle.tool.specs.Commands.{output_of, Refuses}
 use Rattle.tool.specs.Outcomes.{IsUnmade, IsUnhad, IsBecause, BeginsText, MayCreate}
-use Rattle.tool.specs.Doing.{HasStopped, IsUncreated, IsUncommitted, IsUnkept}
+use Rattle.tool.specs.Doing.{HasStopped, IsUncreated, IsUncommitted, IsUndone, IsUnkept}
 use Rattle.tool.specs.declared.fault.Fault.{Fault}
 use Rattle.tool.specs.declared.fault.Fault.TheVariants.{Open, File, Memory, Frame, Certificate, Fti, Send}
+use Rattle.tool.specs.declared.fault.Stop.TheVariants.{ByFault}
 use Rattle.tool.specs.declared.output.Unwritten.{Unwritten}
 use Rattle.tool.specs.declared.output.Unwritten.TheVariants as unwritten
 
@@ -146,3 +148,7 @@ unmade_before old mid new r files (Frame e) (may, is, created) = (may_fail_befor
 unmade_before old mid new r files (Certificate e) (may, is, created) = (may_fail_before old mid files may, is, created ∙ ap one_more files.created)
 unmade_before old mid new r files (Fti e) (may, is, created) = (may_fail_before old mid files may, is, created ∙ ap one_more files.created)
 unmade_before old mid new r files (Send e) (may, is, created) = (may_fail_before old mid files may, is, created ∙ ap one_more files.created)
+
+-- nothing was printed, and the fault is to be told
+pub undone : (old new : World) (r : Request) (fault : Fault) → HasStopped old new r fault → IsUndone old new r (ByFault fault)
+undone old new r fault h = ([], subst (λ (o : Option (List ℕ)). Appends old.printed o []) (sym h.silent) (Appends-nil old.printed), h.stopped)

@@ -1,5 +1,6 @@
 -- What each command gives of what it reads.
-use Rattle.std.specs.Prelude.{◌≡◌, ◌<◌, ◌+◌, ℕ, Bool, true, List, [], ◌∷◌, ◌++◌, Option, Some, None, length, map, codes, Ok, Err}
+use Rattle.std.specs.Prelude.{◌≡◌, ◌<◌, ℕ, Bool, true, List, [], ◌∷◌, ◌++◌, Option, Some, None, IsSome, length, map, option_map, codes, Ok, Err}
+use Rattle.std.specs.Borrow.{Bor}
 use Rattle.lists.specs.Selection.{rest, is_among, first_outside}
 use Rattle.partition.specs.Fti.{Fti, IsValidFti, fti_from, block_count}
 use Rattle.partition.specs.FtiFault.{fti_fault}
@@ -48,7 +49,7 @@ inputs_of (Join r) = map (λ session. ASession session.now) r.sessions.items
 
 -- the name of its output, where it has one, and the fault that tells that writing has failed
 abbrev pub output_of : Request → Option (List ℕ)
-output_of (Check r) = None
+output_of (Check r) = option_map (λ name. name.now) r.picture
 output_of (Twin r) = Some r.output.now
 output_of (Show r) = None
 output_of (Encode r) = Some r.output.now
@@ -65,6 +66,7 @@ IsWriteFault (Certify r) fault = fault ≡ NoCertificate CertificateIo
 IsWriteFault (Convert r) fault = fault ≡ NoCertificate CertificateIo
 IsWriteFault (Drop r) fault = fault ≡ Frame FrameIo
 IsWriteFault (Join r) fault = fault ≡ Frame FrameIo
+IsWriteFault (Check r) (File name) = option_map (λ picture. picture.now) r.picture ≡ Some name.now
 IsWriteFault (Twin r) (File name) = name.now ≡ r.output.now
 IsWriteFault (Decode r) (File name) = name.now ≡ r.output.now
 IsWriteFault (Follow r) (File name) = name.now ≡ r.output.now
@@ -84,6 +86,11 @@ IsOutcome text status output outcome = (outcome.text ≡ text) × (outcome.statu
 abbrev pub status_of : Verdict → ℕ
 status_of (Yes report) = 0
 status_of (No reason) = 1
+
+-- a picture is there where one is asked for and the answer is yes; nothing is told of what it shows
+abbrev pub IsDrawn : Option (Bor (List ℕ)) → Verdict → Option (List ℕ) → Type 0
+IsDrawn (Some name) (Yes report) output = IsSome output
+IsDrawn picture verdict output = output ≡ None
 
 -- where a block is short, another object that agrees with all datagrams
 abbrev pub GivesTwin : Identity → Verdict → Fti → List (List ℕ) → List ℕ → Outcome → Type 0
@@ -134,7 +141,7 @@ object_of answer = None
 abbrev pub Gives : Request → List Value → Outcome → Type 0
 Gives (Check r) (Opened opened ∷ Bytes object ∷ Polynomials z ∷ []) outcome =
     (verdict : Verdict) × (left : Option (List ℕ)) × IsCheckedFrom r.identity opened left object z verdict
-    × IsOutcome (verdict_text verdict) (status_of verdict) None outcome
+    × (outcome.text ≡ verdict_text verdict) × (outcome.status ≡ status_of verdict) × IsDrawn r.picture verdict outcome.output
 Gives (Twin r) (Datagrams datagrams ∷ Bytes object ∷ Polynomials z ∷ []) outcome =
     (verdict : Verdict) × IsVerdict r.identity datagrams object z verdict
     × GivesTwin r.identity verdict z.fti datagrams object outcome

@@ -6,6 +6,7 @@ pub mod Converted
 pub mod Copying
 pub mod Decoding
 pub mod Doing
+pub mod Drawing
 pub mod Files
 pub mod Following
 pub mod Inputs

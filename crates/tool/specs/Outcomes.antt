@@ -44,15 +44,15 @@ IsUnhad world (Join r) fault =
     ⊎ (AreThere world.files (inputs_of (Join r)) × IsSomeUnread world (inputs_of (Join r)) fault)
 IsUnhad world r fault = IsFirstUnread world (inputs_of r) fault
 
--- Whether an output may be created before a fault: of an object that datagrams give, once they do; else once all inputs are
--- there.
+-- Whether an output may be created before a fault: of an object that datagrams give, once they do; of a picture, where the
+-- answer is yes; else once all inputs are there.
 abbrev pub GivesOutput : Option Files → Request → Type 0
 GivesOutput files r =
     (values : List Value) × (outcome : Outcome) × (bytes : List ℕ)
     × HaveValues files (inputs_of r) values × Gives r values outcome × (outcome.output ≡ Some bytes)
 
 abbrev pub MayCreate : Option Files → Request → Type 0
-MayCreate files (Check r) = ⊥
+MayCreate files (Check r) = GivesOutput files (Check r)
 MayCreate files (Show r) = ⊥
 MayCreate files (Twin r) = GivesOutput files (Twin r)
 MayCreate files (Decode r) = GivesOutput files (Decode r)

@@ -4,46 +4,116 @@ ghost use Rattle.cert.specs.FromReader.{IsCheckedFrom};
 ghost use Rattle.cert.specs.declared.verdict.Verdict.TheVariants.{No};
 ghost use Rattle.request.specs.declared.requests.Request.TheVariants.{Check};
 ghost use Rattle.tool.specs.Commands.{status_of as verdict_status};
-ghost use Rattle.tool.specs.Doing.{HasMade, HasStopped};
-ghost use Rattle.tool.specs.Checks.{IsNotChecked};
+ghost use Rattle.tool.specs.Doing.{HasMade, HasStopped, text_of};
+ghost use Rattle.tool.specs.Checks.{IsNotChecked, TellsCheck, TellsRequest};
+ghost use Rattle.tool.specs.Drawing.{IsSurveyed};
 ghost use Rattle.tool.specs.Lines.{named, block_text, kill_text, losses_text, report_text, reason_text, verdict_text as text_of_verdict};
 
 use crate::done::{Done, Told};
+use crate::drawing::{Drawn, picture_of};
 use crate::fault::Fault;
 use crate::host::Host;
 use crate::input::{open, read_certificate, read_object};
+use crate::output::write_output;
 use crate::print::Text;
 use crate::wording::put_packet_fault;
-use cert::{Certificate, CheckFault, Reason, Report, Verdict, check_from};
+use cert::{Certificate, CheckFault, Reason, Report, Survey, Verdict, check_from, survey_from};
 use reception::Identity;
 use request::CheckRequest;
 use session::{FrameFault, Read};
 use std::alloc::{AllocError, Global};
 
-/// The verdict. The session is opened first, but the object and the certificate are read before its frames.
+/// What is told of a check, and the picture, where one is asked for and the answer is yes.
+#[derive(Drop)]
+struct Answered<'a> {
+    done: Done,
+    picture: Option<Drawn<'a>>,
+}
+
+/// The verdict. The session is opened first, but the object and the certificate are read before its frames. A picture is
+/// created once it and the lines are there.
 pub(crate) fn check<'a, H: Host>(
     alloc: Global,
-    host: &H,
+    host: &mut H,
     request: &CheckRequest<'a>,
 ) -> Result<Done, Fault<'a>>
     ensures ok { IfOk result
-        (HasMade (H.world host.now) (H.world host.now) (Check request.now)) }
+        (HasMade (H.world host.old) (H.world host.new) (Check request.now)) }
+    ensures fault { IfErr result
+        (HasStopped (H.world host.old) (H.world host.new) (Check request.now)) }
+{
+    let Answered { done, picture } = read_and_answer(alloc, host, request)?;
+    match picture {
+        Some(drawn) => {
+            let failure = Fault::File(drawn.name);
+            write_output(host, drawn.name, drawn.text.as_bytes(), failure)?;
+            Ok(done)
+        }
+        None => Ok(done),
+    }
+}
+
+// What is told of the files of a request.
+fn read_and_answer<'a, H: Host>(
+    alloc: Global,
+    host: &H,
+    request: &CheckRequest<'a>,
+) -> Result<Answered<'a>, Fault<'a>>
+    ensures ok { IfOk result (TellsRequest (H.world host.now).files request.now) }
     ensures fault { IfErr result
         (HasStopped (H.world host.now) (H.world host.now) (Check request.now)) }
 {
     let mut frames = open(host, request.session)?;
     let object = read_object(alloc, host, request.object)?;
     let certificate = read_certificate(alloc, host, request.certificate)?;
-    let verdict = verdict_of(
-        alloc,
-        &mut frames,
-        object.as_slice(),
-        &certificate,
-        request.identity,
-    )?;
+    answer_of(alloc, &mut frames, object.as_slice(), &certificate, request)
+}
+
+// What is told of the frames that a reader has left.
+fn answer_of<'a, R: Read>(
+    alloc: Global,
+    frames: &mut R,
+    object: &[u8],
+    certificate: &Certificate,
+    request: &CheckRequest<'a>,
+) -> Result<Answered<'a>, Fault<'a>>
+    ensures ok { IfOk result (TellsCheck request.now (R.remaining frames.old)
+        (R.remaining frames.new) object.now certificate.now) }
+    ensures fault { IfErr result (IsNotChecked request.now.identity (R.sound frames.old)
+        (R.remaining frames.old) object.now certificate.now) }
+{
+    match request.picture {
+        None => {
+            let verdict = verdict_of(alloc, frames, object, certificate, request.identity)?;
+            let done = told_of(alloc, &verdict)?;
+            Ok(Answered {
+                done,
+                picture: None,
+            })
+        }
+        Some(name) => {
+            let (verdict, survey) = survey_of(
+                alloc,
+                frames,
+                object,
+                certificate,
+                request.identity,
+            )?;
+            let picture = picture_of(alloc, request, name, object, &verdict, survey)?;
+            let done = told_of(alloc, &verdict)?;
+            Ok(Answered { done, picture })
+        }
+    }
+}
+
+// What is told of a verdict.
+fn told_of(alloc: Global, verdict: &Verdict) -> Result<Done, AllocError>
+    ensures text { IfOk result (λ done. text_of done.told ≡ text_of_verdict verdict.now) }
+    ensures status { IfOk result (λ done. done.status ≡ verdict_status verdict.now) }
+{
     Ok(Done {
-        told: Told::Lines(verdict_text(alloc, &verdict)?),
-        status: status_of(&verdict),
+        told: Told::Lines(verdict_text(alloc, verdict)?),
+        status: status_of(verdict),
     })
 }
 
@@ -82,6 +152,27 @@ fn verdict_of<'a, R: Read>(
 {
     match check_from(alloc, frames, object, certificate, identity) {
         Ok(verdict) => Ok(verdict),
+        Err(CheckFault::NoMemory | CheckFault::Frame(FrameFault::NoMemory)) => Err(Fault::Memory),
+        Err(CheckFault::Frame(fault)) => Err(Fault::Frame(fault)),
+    }
+}
+
+// The same, with a survey at a yes.
+fn survey_of<'a, R: Read>(
+    alloc: Global,
+    frames: &mut R,
+    object: &[u8],
+    certificate: &Certificate,
+    identity: Identity,
+) -> Result<(Verdict, Option<Survey>), Fault<'a>>
+    ensures ok { IfOk result (λ found. IsCheckedFrom identity (R.remaining frames.old)
+        (R.remaining frames.new) object.now certificate.now found.0) }
+    ensures survey { IfOk result (λ found. IsSurveyed found.0 found.1) }
+    ensures fault { IfErr result (IsNotChecked identity (R.sound frames.old)
+        (R.remaining frames.old) object.now certificate.now) }
+{
+    match survey_from(alloc, frames, object, certificate, identity) {
+        Ok(found) => Ok(found),
         Err(CheckFault::NoMemory | CheckFault::Frame(FrameFault::NoMemory)) => Err(Fault::Memory),
         Err(CheckFault::Frame(fault)) => Err(Fault::Frame(fault)),
     }

@@ -7,6 +7,7 @@ mod check;
 mod convert;
 mod decode;
 mod done;
+mod drawing;
 mod drop;
 mod encode;
 mod fault;

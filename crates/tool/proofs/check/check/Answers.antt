@@ -1,45 +1,37 @@
-use Rattle.std.proofs.Common.{[], ◌∷◌, None, inl, inr, refl, sym}
-use Rattle.tool.specs.Inputs.{Opened, Bytes, Polynomials}
+use Rattle.std.proofs.Common.{Option, subst}
 use Rattle.request.specs.declared.requests.Request.TheVariants.{Check}
-use Rattle.tool.specs.Lines.{verdict_text}
-use Rattle.tool.specs.Commands.{status_of}
-use Rattle.tool.proofs.Stopping.{stopped, by_unread, passed_on}
+use Rattle.tool.specs.Checks.{TellsRequest}
+use Rattle.tool.specs.declared.drawing.Drawn.{Drawn}
+use Rattle.tool.proofs.Stopping.{passed_on, unkept}
+use Rattle.tool.proofs.Pictured.{named, may_draw, pictured, unpictured}
 use Rattle.tool.proofs.check.check.Goals as goal
 
-pub returns-in_err-object-clause-fault : goal.returns-in_err-object-clause-fault
-returns-in_err-object-clause-fault g c =
+pub returns-in_err-write_output-in-Some-clause-fault : goal.returns-in_err-write_output-in-Some-clause-fault
+returns-in_err-write_output-in-Some-clause-fault g c =
     let w = g.H.Host.world c.args.host.now in
-    let r = Check c.args.request.now in
-    let fault = c.in_err-object.field-0.0 in
-    passed_on c.from_residual-in_err-object.result fault _ c.from_residual-in_err-object.ensures.1
-    (stopped w r fault (by_unread w w r [] fault
-    (inr (Opened (g.H.Input.Read.remaining c.in_ok-frames.frames), c.in_ok-frames.ensures.input.bytes, inl c.in_err-object.ensures.fault))))
+    let new = g.H.Host.world c.write_output.new.host in
+    let r = c.args.request.now in
+    let done = c.in_ok-done.field-0.done in
+    let drawn = c.in-Some.drawn in
+    let tells = subst (λ (p : Option Drawn). TellsRequest w.files r (record { done = done; picture = p })) c.in-Some.is c.in_ok-done.ensures.ok in
+    let is = named w new r done drawn tells in
+    let fault = c.in_err-write_output-in-Some.field-0.0 in
+    passed_on c.from_residual-in_err-write_output-in-Some.result fault _ c.from_residual-in_err-write_output-in-Some.ensures.1
+    (unkept w new (Check r) drawn.name.now is c.in_err-write_output-in-Some.ensures.files c.write_output.ensures.silent
+    (may_draw w new r done drawn tells) _ fault (λ may more. (may, is, more)) c.in_err-write_output-in-Some.ensures.fault)
 
-pub returns-in_err-certificate-clause-fault : goal.returns-in_err-certificate-clause-fault
-returns-in_err-certificate-clause-fault g c =
+pub returns-in_ok-write_output-in-Some-clause-ok : goal.returns-in_ok-write_output-in-Some-clause-ok
+returns-in_ok-write_output-in-Some-clause-ok g c =
     let w = g.H.Host.world c.args.host.now in
-    let r = Check c.args.request.now in
-    let fault = c.in_err-certificate.field-0.0 in
-    passed_on c.from_residual-in_err-certificate.result fault _ c.from_residual-in_err-certificate.ensures.1
-    (stopped w r fault (by_unread w w r [] fault
-    (inr (
-      Opened (g.H.Input.Read.remaining c.in_ok-frames.frames),
-      c.in_ok-frames.ensures.input.bytes,
-      inr (Bytes c.in_ok-object.object.items, c.in_ok-object.ensures.ok, inl c.in_err-certificate.ensures.fault),
-    ))))
+    let r = c.args.request.now in
+    let done = c.in_ok-done.field-0.done in
+    let tells = subst (λ (p : Option Drawn). TellsRequest w.files r (record { done = done; picture = p })) c.in-Some.is c.in_ok-done.ensures.ok in
+    pictured w (g.H.Host.world c.write_output.new.host) r done c.in-Some.drawn tells _ c.in_ok-write_output-in-Some.ensures.made
+    c.in_ok-write_output-in-Some.ensures.created c.write_output.ensures.silent.printed
 
-pub returns-clause-ok : goal.returns-clause-ok
-returns-clause-ok g c =
-    let verdict = c.in_ok-verdict.verdict in
-    record {
-      outcome = record { text = verdict_text verdict; status = status_of verdict; output = None };
-      makes = record {
-        values = Opened (g.H.Input.Read.remaining c.in_ok-frames.frames) ∷ Bytes c.in_ok-object.object.items ∷ Polynomials c.in_ok-certificate.certificate ∷ [];
-        read = (c.in_ok-frames.ensures.input.bytes, (c.in_ok-object.ensures.ok, (c.in_ok-certificate.ensures.ok, tt)));
-        gives = (verdict, g.H.Input.Read.remaining c.verdict_of.new.frames, rw c.as_slice.ensures.value at c.in_ok-verdict.ensures.ok, (refl, refl, refl));
-        made = (refl, refl);
-      };
-      text = sym c.in_ok-verdict_text.ensures;
-      status = sym c.status_of.ensures.value;
-      silent = refl;
-    }
+pub returns-in-None-clause-ok : goal.returns-in-None-clause-ok
+returns-in-None-clause-ok g c =
+    let w = g.H.Host.world c.args.host.now in
+    let r = c.args.request.now in
+    let done = c.in_ok-done.field-0.done in
+    unpictured w r done (subst (λ (p : Option Drawn). TellsRequest w.files r (record { done = done; picture = p })) c.in-None.is c.in_ok-done.ensures.ok)

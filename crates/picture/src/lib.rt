@@ -1,0 +1,39 @@
+//! One sheet that shows what a session may lose, as the text of an SVG.
+//!
+//! The sheet has a heading in words and two panels: the symbols that each block has to spare,
+//! beside how many blocks have how many of them, and the longest run of neighbours that may be
+//! missed, by the place where it begins. Nothing here knows of packets or files: numbers and names
+//! come in, a text goes out. What doesn't fit together, as a block that has fewer symbols than it
+//! needs, is drawn as well as it can be.
+//!
+//! All is counted in units of half a pixel. However many datagrams and blocks there are, a list is
+//! drawn in at most so many columns as its panel has pixels, so the text has less than 100,000
+//! bytes, and the time goes with the lists' lengths.
+//!
+//! - `sheet`: what is drawn, and `draw`.
+//! - `heading`: the words above the panels, and the title and description of the document.
+//! - `spares`: the panel of the symbols to spare.
+//! - `histogram`: how many blocks have how many of them.
+//! - `bursts`: the panel of the runs.
+//! - `ticks`: the places beneath it.
+//! - `panel`: where a panel stands, its bars and its horizontal lines.
+//! - `columns`: a list in columns, and the least and the greatest value of each.
+//! - `scale`: where a place stands on a line.
+//! - `canvas`: the text that is being made.
+#![tactic(auto)]
+
+mod bursts;
+mod canvas;
+mod columns;
+mod heading;
+mod histogram;
+mod panel;
+mod scale;
+mod sheet;
+mod spares;
+#[cfg(test)]
+mod tests;
+mod ticks;
+
+pub use losses::Run;
+pub use sheet::{Sheet, draw};

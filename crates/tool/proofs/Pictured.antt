@@ -1,0 +1,102 @@
+-- What came of a check, by what was told of it.
+use Rattle.std.proofs.Common.{◌≡◌, ℕ, List, [], ◌∷◌, Option, Some, None, Bor, option_map, ap, refl, sym, subst}
+use Rattle.reception.specs.declared.scope.Identity.{Identity}
+use Rattle.cert.specs.Certificate.{Certificate}
+use Rattle.cert.specs.Surveying.{IsSurveyedFrom}
+use Rattle.cert.specs.declared.verdict.Survey.{Survey}
+use Rattle.cert.specs.declared.verdict.Verdict.{Verdict}
+use Rattle.cert.specs.declared.verdict.Verdict.TheVariants.{Yes, No}
+use Rattle.request.specs.declared.requests.CheckRequest.{CheckRequest}
+use Rattle.request.specs.declared.requests.Request.TheVariants.{Check}
+use Rattle.tool.specs.declared.done.Done.{Done}
+use Rattle.tool.specs.declared.drawing.Drawn.{Drawn}
+use Rattle.tool.specs.World.{World, Replaces, one_more}
+use Rattle.tool.specs.Inputs.{Value, Opened, Bytes, Polynomials}
+use Rattle.tool.specs.Commands.{Outcome, Gives, IsDrawn, output_of}
+use Rattle.tool.specs.Outcomes.{IsOutput, MayCreate}
+use Rattle.tool.specs.Doing.{text_of, HasMade}
+use Rattle.tool.specs.Drawing.{HasDrawn, IsSurveyed}
+use Rattle.tool.specs.Checks.{TellsRequest}
+
+-- at a yes there is a survey
+pub has_survey : (who : Identity) (old new : Option (List ℕ)) (object : List ℕ) (z : Certificate) (found : Verdict × Option Survey)
+    → IsSurveyedFrom who old new object z found.0 found.1 → IsSurveyed found.0 found.1
+has_survey who old new object z (Yes report, Some survey) h = tt
+has_survey who old new object z (Yes report, None) h = absurd h.surveyed
+has_survey who old new object z (No reason, survey) h = tt
+
+-- what was drawn was asked for, and is a picture
+asked : (p : Option (Bor (List ℕ))) (v : Verdict) (drawn : Drawn) → HasDrawn p v (Some drawn)
+    → (option_map (λ name. name.now) p ≡ Some drawn.name.now) × ((bytes : List ℕ) → IsDrawn p v (Some bytes))
+asked (Some name) (Yes report) drawn h = (ap Some (sym h), λ bytes. refl)
+asked (Some name) (No reason) drawn h = absurd (cc)
+asked None v drawn h = absurd (cc)
+
+undrawn : (p : Option (Bor (List ℕ))) (v : Verdict) → HasDrawn p v None → IsDrawn p v None
+undrawn (Some name) (Yes report) h = absurd h
+undrawn (Some name) (No reason) h = refl
+undrawn None v h = refl
+
+no_output : (old new : World) (name : Option (List ℕ)) → new.files ≡ old.files → new.created ≡ old.created → IsOutput old new name None
+no_output old new None files created = (files, created)
+no_output old new (Some name) files created = (files, created)
+
+module _ (old new : World) (r : CheckRequest) (done : Done) (drawn : Drawn) (tells : TellsRequest old.files r (record { done = done; picture = Some drawn })) where
+  abbrev outcome : List ℕ → Outcome
+  outcome bytes = record { text = text_of done.told; status = done.status; output = Some bytes }
+
+  abbrev values : List Value
+  values = Opened tells.opened ∷ Bytes tells.object ∷ Polynomials tells.z ∷ []
+
+  pub named : output_of (Check r) ≡ Some drawn.name.now
+  named = (asked r.picture tells.tells.verdict drawn tells.tells.picture).0
+
+  gives : (bytes : List ℕ) → Gives (Check r) values (outcome bytes)
+  gives bytes = (
+    tells.tells.verdict,
+    tells.left,
+    tells.tells.checked,
+    tells.tells.text,
+    tells.tells.status,
+    (asked r.picture tells.tells.verdict drawn tells.tells.picture).1 bytes,
+  )
+
+  pub may_draw : MayCreate old.files (Check r)
+  may_draw = (values, outcome [], [], tells.read, gives [], refl)
+
+  pub pictured : (bytes : List ℕ) → Replaces old.files new.files drawn.name.now bytes → new.created ≡ one_more old.created → new.printed ≡ old.printed
+      → HasMade old new (Check r) done
+  pictured bytes replaced created silent = record {
+    outcome = outcome bytes;
+    makes = record {
+      values = values;
+      read = tells.read;
+      gives = gives bytes;
+      made = subst (λ (n : Option (List ℕ)). IsOutput old new n (Some bytes)) (sym named) (replaced, created);
+    };
+    text = refl;
+    status = refl;
+    silent = silent;
+  }
+
+-- without a picture
+pub unpictured : (w : World) (r : CheckRequest) (done : Done) → TellsRequest w.files r (record { done = done; picture = None }) → HasMade w w (Check r) done
+unpictured w r done tells = record {
+  outcome = record { text = text_of done.told; status = done.status; output = None };
+  makes = record {
+    values = Opened tells.opened ∷ Bytes tells.object ∷ Polynomials tells.z ∷ [];
+    read = tells.read;
+    gives = (
+      tells.tells.verdict,
+      tells.left,
+      tells.tells.checked,
+      tells.tells.text,
+      tells.tells.status,
+      undrawn r.picture tells.tells.verdict tells.tells.picture,
+    );
+    made = no_output w w (output_of (Check r)) refl refl;
+  };
+  text = refl;
+  status = refl;
+  silent = refl;
+}

@@ -1,0 +1,63 @@
+//! The picture of a yes.
+ghost use Rattle.std.specs.Prelude.{Some, IfOk};
+ghost use Rattle.tool.specs.Drawing.{HasDrawn, IsSurveyed};
+
+use cert::{Report, Survey, Verdict};
+use picture::{Sheet, draw};
+use request::CheckRequest;
+use std::alloc::{AllocError, Global};
+
+/// A picture, and the name that it is to have.
+#[derive(Drop)]
+pub(crate) struct Drawn<'a> {
+    pub(crate) name: &'a str,
+    pub(crate) text: String,
+}
+
+/// The picture of a verdict, which is there at a yes.
+pub(crate) fn picture_of<'a>(
+    alloc: Global,
+    request: &CheckRequest<'_>,
+    name: &'a str,
+    object: &[u8],
+    verdict: &Verdict,
+    survey: Option<Survey>,
+) -> Result<Option<Drawn<'a>>, AllocError>
+    requires { IsSurveyed verdict.now survey }
+    ensures { IfOk result (HasDrawn (Some name.entry) verdict.now) }
+{
+    match (verdict, survey) {
+        (Verdict::Yes(report), Some(survey)) => {
+            let text = sheet_text(alloc, request, object, report, &survey)?;
+            Ok(Some(Drawn { name, text }))
+        }
+        (Verdict::Yes(_), None) => unreachable!(),
+        (Verdict::No(_), _) => Ok(None),
+    }
+}
+
+// The sheet of a report and a survey.
+fn sheet_text(
+    alloc: Global,
+    request: &CheckRequest<'_>,
+    object: &[u8],
+    report: &Report,
+    survey: &Survey,
+) -> Result<String, AllocError> {
+    let sheet = Sheet {
+        session: request.session,
+        object: request.object,
+        tsi: request.identity.tsi,
+        toi: request.identity.toi,
+        object_length: object.len() as u64,
+        datagrams: survey.datagrams,
+        blocks: report.blocks.as_slice(),
+        carriers: survey.carriers.as_slice(),
+        margin: report.margin,
+        kill: report.kill.as_slice(),
+        kill_block: survey.kill_block,
+        burst: report.burst,
+        runs: survey.runs.as_slice(),
+    };
+    draw(alloc, &sheet)
+}
