@@ -42,6 +42,8 @@ def main():
     except (BrokenPipeError, KeyboardInterrupt):
         # whoever reads needs no more
         pass
+    except OSError as fault:
+        sys.exit(f"session_of_payloads.py: {fault}")
     passed = f", passed over {empty} empty ones" if empty else ""
     print(f"took {taken} datagrams{passed}", file=sys.stderr)
     if not taken:
