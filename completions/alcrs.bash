@@ -23,6 +23,7 @@ _alcrs_files() {
 _alcrs_value() {
     case "$1" in
         --tsi | --toi | --symbol | --block | --max | --fti-every) echo number ;;
+        --picture) echo file ;;
         --order) echo blocks rounds ;;
     esac
 }
@@ -39,7 +40,7 @@ _alcrs() {
         encode) options="--tsi --toi --symbol --block --max --fti-every --order --help" files=2 ;;
         certify) options="--tsi --toi --symbol --block --max --help" files=2 ;;
         convert) options="--tsi --toi --help" files=2 ;;
-        check) options="--tsi --toi --help" files=3 ;;
+        check) options="--tsi --toi --picture --help" files=3 ;;
         drop) options="--help" files=2 ;;
         join) options="--turns --help" files=any ;;
         decode) options="--tsi --toi --help" files=2 ;;

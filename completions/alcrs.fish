@@ -82,6 +82,8 @@ complete -c alcrs -n '__alcrs_command_is check' -l tsi -x \
     -d 'The transport session identifier (TSI), 0 to 4294967295'
 complete -c alcrs -n '__alcrs_command_is check' -l toi -x \
     -d 'The transport object identifier (TOI), 0 to 4294967295'
+complete -c alcrs -n '__alcrs_command_is check' -l picture -r -F \
+    -d 'The SVG file to draw a yes to: what each block has to spare, and which bursts may be missed'
 complete -c alcrs -n '__alcrs_command_is check' -s h -l help \
     -d 'Print help'
 

@@ -66,7 +66,8 @@ pub(crate) fn output_of<'a>(request: &Request<'a>) -> Option<&'a str> {
         Request::Follow(request) => Some(request.output),
         Request::Drop(request) => Some(request.output),
         Request::Join(request) => Some(request.output),
-        Request::Check(_) | Request::Show(_) => None,
+        Request::Check(request) => request.picture,
+        Request::Show(_) => None,
     }
 }
 
