@@ -106,6 +106,8 @@ CASES = [
     (["check", "damaged.session", *CHECK], 1, "no N8", ["damaged.session", "datagram 1", "note.txt"]),
     (["check", "thin.session", *CHECK], 1, "no N9", ["thin.session has 3 different symbols of block 0", "4 are needed"]),
     (["check", "bare.session", *CHECK], 1, "no N11", ["bare.session", "FTI"]),
+    (["check", "thin.session", *CHECK, "--picture", "out.svg"], 1, "no N9", ["thin.session has 3", "no picture is drawn of a no"]),
+    (["check", "note.session", *CHECK, "--picture", "no/out.svg"], 1, "fault open", ["no/out.svg", "its folder no"]),
     (["decode", "stale.session", "out", *OF_NOTE], 1, "fault R3", ["datagram 0 tells a length of 28", "datagram 1 tells 29"]),
     (["decode", "clash.session", "out", *OF_NOTE], 1, "fault R5", ["clash.session", "datagram 2", "damaged"]),
     (["decode", "damaged.session", "out", *OF_NOTE], 1, "fault R6", ["damaged.session", "block 0"]),

@@ -34,7 +34,7 @@ pub fn explain<R: Files>(
     };
     match case.word(0) {
         "fault" => case.fault(),
-        "no" => case.no(),
+        "no" => case.no_and_no_picture(),
         "missing" => case.say(
             "{S} has {1} different symbols of block {0}, and {2} are needed: join it with what \
             came of the same session at another time (alcrs join)",
@@ -230,6 +230,17 @@ impl<'a, R: Files> Case<'a, R> {
     fn no_certificate(&self) -> Sentence {
         let kind = kind_of(self.rt, self.certificate());
         self.say(no_certificate(self.word(1), kind), &[])
+    }
+
+    // Why the answer is no, and that no picture is drawn of it, where one was asked for.
+    fn no_and_no_picture(&self) -> Sentence {
+        let Some(mut text) = self.no()? else {
+            return Ok(None);
+        };
+        if let (Request::Check(_), Some(_)) = (self.request, output_of(self.request)) {
+            text.push_str("; no picture is drawn of a no")?;
+        }
+        Ok(Some(text))
     }
 
     fn no(&self) -> Sentence {
