@@ -72,6 +72,8 @@ PROMISES = [
         ("coder", "sent_checks_yes", []),
     ], ["headline", "verdict"]),
     ("reading", "`check_from`: a check of what a reader gives", [("cert", "check_from", [])], ["headline", "verdict", "losses"]),
+    ("picture", "`survey_from`: a check with what a picture shows", [("cert", "survey_from", [])],
+     ["headline", "verdict", "losses", "reading"]),
     ("twins", "`twin`", [("cert", "twin", []), ("cert", "session_twin", [])], ["headline", "verdict"]),
     ("library", "every public call of the library", None, []),
     ("embedding", "the calls for C", [
