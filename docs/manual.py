@@ -473,8 +473,8 @@ def zsh_completion(top, helps):
     for help_ in helps:
         specs = [zsh_option(option) for option in help_.options]
         specs += [zsh_argument(argument, place) for place, argument in enumerate(help_.arguments, 1)]
-        lines += [f"_alcrs_{help_.name}() {{", "  _arguments -S \\"]
-        lines += [f"    {spec} \\" for spec in specs[:-1]] + [f"    {specs[-1]}", "}", ""]
+        lines += [f"_alcrs_{help_.name}() {{", "  local -a specs", "  specs=("]
+        lines += [f"  {spec}" for spec in specs] + ["  )", '  _arguments -S "${specs[@]}"', "}", ""]
     lines += ["_alcrs_commands() {", "  local -a commands", "  commands=("]
     lines += [f"    {quoted(name + ':' + zsh_text(text))}" for name, text in top.commands]
     lines += [
