@@ -18,6 +18,9 @@ ROOT = Path(__file__).resolve().parent.parent
 HELP = ROOT / "samples" / "help"
 MADE_BY = "docs/manual.py makes this file of samples/help"
 SECTIONS = ("Commands:", "Arguments:", "Options:")
+# An option's names and its value, or an argument, which may be repeated.
+HEAD = re.compile(r"((?:-\w, )?--[\w-]+)? ?(?:<([\w-]+)>)?(\.\.\.)?")
+# What takes a number tells its range.
 RANGE = re.compile(r"\b\d+ to \d+\b")
 # The command that has no help text of its own: it prints those of the others.
 HELP_COMMAND = "help"
@@ -50,15 +53,13 @@ class Entry:
     """An argument or an option: its names, the name of its value, its help, and what words it takes."""
 
     def __init__(self, head, text):
-        names, _, value = head.partition(" ")
-        if head.startswith("<"):
-            names, value = "", head
-        elif names.endswith(","):
-            names, _, value = value.partition(" ")
-            names = head.partition(",")[0] + " " + names
-        self.names = names.split()
-        self.is_repeated = value.endswith("...")
-        self.value = value.removesuffix("...").strip("<>")
+        found = HEAD.fullmatch(head)
+        if not found:
+            sys.exit(f"samples/help: neither an argument nor an option: {head}")
+        names, value, dots = found.groups()
+        self.names = names.split(", ") if names else []
+        self.value = value or ""
+        self.is_repeated = bool(dots)
         found = re.search(r" \[possible values: ([^\]]+)\]", text)
         self.words = found.group(1).split(", ") if found else []
         found = re.search(r" \[default: ([^\]]+)\]", text)
@@ -174,8 +175,7 @@ def prose(text):
             parts[place] = "\\fB" + part.replace("-", "\\-") + "\\fR"
         else:
             parts[place] = re.sub(r"(?<![\w-])-(-[\w-]+|\w\b)", lambda m: m.group(0).replace("-", "\\-"), part)
-    lines = re.sub(r"(?<=[a-z0-9)RFT][.:]) (?=[A-Z]|\\fB)", "\n", "".join(parts)).splitlines()
-    return "\n".join("\\&" + line if line[:1] in (".", "'") else line for line in lines)
+    return re.sub(r"(?<=[a-z0-9)RFT][.:]) (?=[A-Z]|\\fB)", "\n", "".join(parts))
 
 
 def synopsis_lines(help_):
@@ -272,7 +272,7 @@ def command_lines(help_):
 
 
 def man_page(top, helps):
-    purpose, _, form = top.about.partition(":")
+    purpose = top.about.partition(":")[0]
     told = [line for line in top.text if not line.startswith("Statuses:")]
     help_synopsis = [".HP 4", f"\\fBalcrs\\fR\\ \\fB{HELP_COMMAND}\\fR", "[\\fICOMMAND\\fR]"]
     lines = [
@@ -319,14 +319,15 @@ def folded(lines):
         if line.startswith(".") or is_shown or is_tag:
             yield line
         else:
-            yield from textwrap.wrap(line, 79, break_long_words=False, break_on_hyphens=False)
+            for part in textwrap.wrap(line, 77, break_long_words=False, break_on_hyphens=False):
+                yield "\\&" + part if part.startswith((".", "'")) else part
         is_tag = line.startswith(".TP")
 
 
 # ---- completions
 
 def quoted(text):
-    """A text between single quotes, as bash, zsh and fish read it."""
+    """A text between single quotes, as zsh reads it."""
     return "'" + text.replace("'", "'\\''") + "'"
 
 
@@ -472,31 +473,31 @@ def zsh_completion(top, helps):
     for help_ in helps:
         specs = [zsh_option(option) for option in help_.options]
         specs += [zsh_argument(argument, place) for place, argument in enumerate(help_.arguments, 1)]
-        lines += [f"_alcrs_{help_.name}() {{", "    _arguments -S \\"]
-        lines += [f"        {spec} \\" for spec in specs[:-1]] + [f"        {specs[-1]}", "}", ""]
-    lines += ["_alcrs_commands() {", "    local -a commands", "    commands=("]
+        lines += [f"_alcrs_{help_.name}() {{", "  local -a specs", "  specs=("]
+        lines += [f"  {spec}" for spec in specs] + ["  )", '  _arguments -S "${specs[@]}"', "}", ""]
+    lines += ["_alcrs_commands() {", "  local -a commands", "  commands=("]
     lines += [f"    {quoted(name + ':' + zsh_text(text))}" for name, text in top.commands]
     lines += [
-        "    )",
-        "    _describe -t commands command commands",
+        "  )",
+        "  _describe -t commands command commands",
         "}",
         "",
         f"_alcrs_{HELP_COMMAND}() {{",
-        "    (( CURRENT > 2 )) || _alcrs_commands",
+        "  (( CURRENT > 2 )) || _alcrs_commands",
         "}",
         "",
         "_alcrs() {",
-        "    local context state state_descr line",
-        "    typeset -A opt_args",
-        "    _arguments -C \\",
+        "  local context state state_descr line",
+        "  typeset -A opt_args",
+        "  _arguments -C \\",
     ]
-    lines += [f"        {zsh_option(option)} \\" for option in top.options]
+    lines += [f"    {zsh_option(option)} \\" for option in top.options]
     lines += [
-        "        '1:command:_alcrs_commands' \\",
-        "        '*::argument:->argument' && return 0",
-        '    if [[ "$state" = argument ]] && (( $+functions[_alcrs_$words[1]] )); then',
-        '        "_alcrs_$words[1]"',
-        "    fi",
+        "    '1:command:_alcrs_commands' \\",
+        "    '*::argument:->argument' && return 0",
+        '  if [[ "$state" = argument ]] && (( $+functions[_alcrs_$words[1]] )); then',
+        '    "_alcrs_$words[1]"',
+        "  fi",
         "}",
         "",
         '_alcrs "$@"',
