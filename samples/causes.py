@@ -57,6 +57,7 @@ def make_files():
     session("damaged.session", [note[0], bytes(damaged)] + note[2:])
     session("clash.session", [note[0], note[1], bytes(damaged)] + note[2:])
     session("thin.session", note[:3])
+    session("twice.session", note + note)
     write("older.txt", read("note.txt")[:28])
     run(["encode", "older.txt", "older.session", *OF_NOTE, *NUMBERS])
     session("stale.session", datagrams("older.session")[5:] + note)
@@ -113,6 +114,7 @@ CASES = [
     (["decode", "damaged.session", "out", *OF_NOTE], 1, "fault R6", ["damaged.session", "block 0"]),
     (["decode", "thin.session", "out", *OF_NOTE], 3, "missing", ["thin.session has 3 different symbols of block 0", "alcrs join"]),
     (["decode", "bare.session", "out", *OF_NOTE], 3, "empty", ["bare.session", "carries the FTI"]),
+    (["check", "twice.session", *CHECK], 0, "burst", ["6 datagrams of twice.session are repeats of others"]),
     (["follow", "clash.session", "out", *OF_NOTE], 0, "object", ["1 datagrams of clash.session contradict", "out wrong"]),
     # What was done, or is told whole by its line, has no sentence.
     (["check", "note.session", *CHECK], 0, "burst", None),

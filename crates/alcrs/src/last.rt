@@ -1,14 +1,17 @@
 //! What a command printed last, kept for the sentence on its cause.
+use causes::repeats_in;
 
 /// The most bytes of a line that are kept. The words that tell a fault are shorter.
 const MOST: usize = 160;
 
-/// The front of what was printed last, and how many lines told that a datagram contradicts those before it.
+/// The front of what was printed last; how many lines told that a datagram contradicts those before it; and how many
+/// repeats the lines of a yes tell.
 #[derive(Drop)]
 pub(crate) struct LastLine {
     front: [u8; 160],
     length: usize,
     contradictions: u64,
+    repeats: u64,
 }
 
 impl LastLine {
@@ -17,6 +20,7 @@ impl LastLine {
             front: [0u8; MOST],
             length: 0,
             contradictions: 0,
+            repeats: 0,
         }
     }
 
@@ -30,6 +34,7 @@ impl LastLine {
         if is_contradiction(self.text()) {
             self.contradictions = self.contradictions.saturating_add(1);
         }
+        self.repeats = repeats_in(std::str::from_utf8(bytes).unwrap_or(""));
     }
 
     /// The first line of it, as far as it is ASCII.
@@ -41,6 +46,10 @@ impl LastLine {
 
     pub(crate) fn contradictions(&self) -> u64 {
         self.contradictions
+    }
+
+    pub(crate) fn repeats(&self) -> u64 {
+        self.repeats
     }
 }
 

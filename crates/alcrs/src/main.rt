@@ -5,7 +5,7 @@ mod host;
 mod last;
 mod words;
 
-use causes::{doubt, explain};
+use causes::{doubt, explain, repeated};
 use host::{BUFFER_SIZE, ProgramHost};
 use last::LastLine;
 use request::request;
@@ -31,10 +31,13 @@ fn tell_cause<R: Files + Eprint>(rt: &R, alloc: Global, words: &[&str], last: &L
     let Ok(request) = request(alloc, words) else {
         return;
     };
-    if let Ok(Some(sentence)) = explain(rt, alloc, &request, last.text()) {
-        let _ = eprintln!(rt; "alcrs: {sentence}");
-    }
-    if let Ok(Some(sentence)) = doubt(rt, alloc, &request, last.contradictions()) {
+    tell(rt, explain(rt, alloc, &request, last.text()));
+    tell(rt, doubt(rt, alloc, &request, last.contradictions()));
+    tell(rt, repeated(rt, alloc, &request, last.repeats()));
+}
+
+fn tell<R: Eprint>(rt: &R, sentence: Result<Option<String>, AllocError>) {
+    if let Ok(Some(sentence)) = sentence {
         let _ = eprintln!(rt; "alcrs: {sentence}");
     }
 }

@@ -72,6 +72,29 @@ pub fn doubt<R: Files>(
     }
 }
 
+/// What to think of a yes to a session with repeats, at least so many.
+pub fn repeated<R: Files>(
+    rt: &R,
+    alloc: Global,
+    request: &Request<'_>,
+    repeats: u64,
+) -> Result<Option<String>, AllocError> {
+    let case = Case {
+        rt,
+        alloc,
+        request,
+        line: "",
+    };
+    match request {
+        Request::Check(_) if repeats > 0 => case.say(
+            "{0} datagrams of {S} are repeats of others, and margin and burst count them: what goes \
+            on air once may lose less",
+            &[repeats],
+        ),
+        _ => Ok(None),
+    }
+}
+
 impl<'a, R: Files> Case<'a, R> {
     // The word at a place of the line, counted from 0; nothing past its end.
     fn word(&self, place: usize) -> &'a str {

@@ -9,11 +9,14 @@
 //! - `files`: why a file can't be opened or written, and what it is instead of a session.
 //! - `sessions`: where a session's frames stop, and whose FTI its carriers have.
 //! - `names`: a file's name, as it can be shown.
+//! - `repeats`: how many datagrams are repeats of others, by the lines of a yes.
 #![tactic(auto)]
 
 mod explaining;
 mod files;
 mod names;
+mod repeats;
 mod sessions;
 
-pub use explaining::{doubt, explain};
+pub use explaining::{doubt, explain, repeated};
+pub use repeats::repeats_in;
