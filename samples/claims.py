@@ -62,7 +62,7 @@ LINES = {
         1: f"{REFUSALS}(?:{FRAMES})",
         3: REFUSALS + LACKS,
     },
-    "show": {0: f"(?:{SHOWN})*", 1: rf"(?:{SHOWN}|\d+ {PACKET}\n)+|{FRAMES}"},
+    "show": {0: f"(?:{SHOWN})*", 1: rf"(?:{SHOWN}|\d+ {PACKET}\n)+(?:{FRAMES})?|{FRAMES}"},
     "drop": {0: r"kept \d+ datagrams\n", 1: rf"fault S6 NoSuchPlace \d+\n|{FRAMES}"},
     "convert": {0: r"converted \d+ blocks\n", 1: rf"fault Z1 Magic\n|fault Z2 Fti (?:{FTI})\n|fault Z3 Size\n|fault Z6 OtherIdentity\n"},
     "twin": {0: r"twin block \d+ have \d+ need \d+\n", 1: f"no twin\n|{REASONS}|{FAULTS}"},

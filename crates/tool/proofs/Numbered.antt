@@ -1,13 +1,9 @@
 -- Numbered lines, and readings, one more.
-use Rattle.std.proofs.Common.{◌≡◌, ◌<◌, ◌∙◌, ◌+◌, ℕ, suc, List, [], ◌∷◌, ◌++◌, length, length-take, take, get_or, Option, Some, None, Ok, Err, refl, sym, ap, subst, arith, append_assoc}
+use Rattle.std.proofs.Common.{◌≡◌, ◌≢◌, ◌<◌, ◌∙◌, ◌+◌, ℕ, suc, List, [], ◌∷◌, ◌++◌, length, length-take, take, get_or, Ok, Err, refl, sym, ap, arith, append_assoc}
 use Rattle.std.proofs.lemmas.List.{append-nil, take_more}
 use Rattle.alc.specs.Reading.{Reading, Reads}
 use Rattle.reception.specs.Reception.{ReadAll}
-use Rattle.std.specs.Io.KnownBytes.{Appends}
-use Rattle.session.proofs.Writes.{then_appends}
-use Rattle.tool.specs.World.{World}
-use Rattle.tool.specs.Lines.{line_of, numbered, reading_text}
-use Rattle.tool.specs.Showing.{Shows}
+use Rattle.tool.specs.Lines.{line_of, numbered}
 use Rattle.tool.specs.Commands.{shown_status}
 
 pub numbered_more : {X : Type 0} (text : ℕ → X → List ℕ) (place : ℕ) (xs : List X) (x : X)
@@ -39,11 +35,6 @@ numbered_take text xs n d l =
     ap (numbered text 0) (take_more xs n d l) ∙ numbered_more text 0 (take n xs) (get_or xs n d)
     ∙ ap (λ (k : ℕ). numbered text 0 (take n xs) ++ line_of (text k (get_or xs n d))) many
 
-pub read_take : (ds : List (List ℕ)) (rs : List Reading) (n : ℕ) (r : Reading) (d : List ℕ) → n < length ds → ReadAll (take n ds) rs → Reads (get_or ds n d) r
-    → ReadAll (take (n + 1) ds) (rs ++ r ∷ [])
-read_take ds rs n r d l all one =
-    subst (λ (xs : List (List ℕ)). ReadAll xs (rs ++ r ∷ [])) (sym (take_more ds n d l)) (read_more (take n ds) rs (get_or ds n d) r all one)
-
 -- 1 once a reading is no packet
 abbrev pub worse : ℕ → Reading → ℕ
 worse status (Ok p) = status
@@ -56,24 +47,11 @@ status_more (Ok p ∷ rs) r = status_more rs r
 status_more (Err e ∷ rs) (Ok p) = refl
 status_more (Err e ∷ rs) (Err f) = refl
 
--- ---- datagrams that are shown
+-- the status with one reading more, by the one reading's
+pub status_bad : (rs : List Reading) (r : Reading) (one : ℕ) → one ≡ shown_status (r ∷ []) → one ≡ 1 → 1 ≡ shown_status (rs ++ r ∷ [])
+status_bad rs (Ok p) one is bad = absurd (omega (arith, is, bad))
+status_bad rs (Err e) one is bad = sym (status_more rs (Err e))
 
-pub nothing_appended : (a : Option (List ℕ)) → Appends a a []
-nothing_appended None = tt
-nothing_appended (Some xs) = sym (append-nil xs)
-
-pub none_shown : (ds : List (List ℕ)) (old : World) → Shows ds 0 old old 0
-none_shown ds old = ([], tt, nothing_appended old.printed, refl)
-
-module _ (ds : List (List ℕ)) (n : ℕ) (old mid new : World) (status : ℕ) (shows : Shows ds n old mid status) (d : List ℕ) (l : n < length ds) where
-  pub one_more_shown : (r : Reading) → Reads (get_or ds n d) r → Appends mid.printed new.printed (line_of (reading_text n r)) → Shows ds (n + 1) old new (worse status r)
-  one_more_shown r one printed =
-      let (rs, all, gained, is) = shows in
-      let many : 0 + length rs ≡ n = omega (arith, read_length (take n ds) rs all, length-take n ds, l) in
-      let text : numbered reading_text 0 (rs ++ r ∷ []) ≡ numbered reading_text 0 rs ++ line_of (reading_text n r) =
-      numbered_more reading_text 0 rs r ∙ ap (λ (k : ℕ). numbered reading_text 0 rs ++ line_of (reading_text k r)) many in (
-        rs ++ r ∷ [],
-        read_take ds rs n r d l all one,
-        subst (λ (t : List ℕ). Appends old.printed new.printed t) (sym text) (then_appends old.printed mid.printed new.printed (numbered reading_text 0 rs) (line_of (reading_text n r)) gained printed),
-        ap (λ (k : ℕ). worse k r) is ∙ sym (status_more rs r),
-      )
+pub status_same : (rs : List Reading) (r : Reading) (status one : ℕ) → status ≡ shown_status rs → one ≡ shown_status (r ∷ []) → one ≢ 1 → status ≡ shown_status (rs ++ r ∷ [])
+status_same rs (Ok p) status one before is good = before ∙ sym (status_more rs (Ok p))
+status_same rs (Err e) status one before is good = absurd (good is)

@@ -4,7 +4,7 @@ use Rattle.std.specs.Borrow.{Bor}
 use Rattle.lists.specs.Selection.{rest, is_among, first_outside}
 use Rattle.partition.specs.Fti.{Fti, IsValidFti, fti_from, block_count}
 use Rattle.partition.specs.FtiFault.{fti_fault}
-use Rattle.session.specs.Frames.{frames, IsReadFault}
+use Rattle.session.specs.Frames.{frames, HasRead, IsReadFault}
 use Rattle.session.specs.Joined.{joined}
 use Rattle.session.specs.declared.frame.FrameFault.TheVariants.{Io as FrameIo, NoSuchPlace}
 use Rattle.alc.specs.Reading.{Reading}
@@ -105,6 +105,11 @@ shown_status [] = 0
 shown_status (Ok packet ∷ readings) = shown_status readings
 shown_status (Err fault ∷ readings) = 1
 
+-- datagrams were read, just their frames; what each reads as
+abbrev pub AreReadAs : Option (List ℕ) → Option (List ℕ) → List Reading → Type 0
+AreReadAs opened left readings =
+    (datagrams : List (List ℕ)) × HasRead opened left datagrams × ReadAll datagrams readings
+
 -- the FTI of an object of so many bytes
 abbrev pub sized : Sizes → ℕ → Fti
 sized sizes l = fti_from l sizes.symbol sizes.block sizes.max_n
@@ -167,13 +172,20 @@ Gives (Join r) values outcome =
     (lists : List (List (List ℕ))) × (values ≡ map Datagrams lists) × GivesDatagrams (codes "joined") (joined r.turns lists) outcome
 Gives r values outcome = ⊥
 
--- Why nothing does, though the inputs are there, and what was printed before: a frame of a stream can't be read; an
--- object's length makes no FTI, or its symbols are too long; a certificate is another's; a session hasn't a place.
+-- Why nothing does, though the inputs are there, and what was printed before: a frame can't be read
+-- behind others; an object's length makes no FTI, or its symbols are too long; a certificate is
+-- another's; a session hasn't a place.
 abbrev pub Refuses : World → Request → List ℕ → Fault → Type 0
 Refuses world (Check r) text (Frame fault) =
     (opened : Option (List ℕ)) × (object : List ℕ) × (z : Certificate) × (left : Option (List ℕ)) × (failed : Bool)
     × HaveValues world.files (inputs_of (Check r)) (Opened opened ∷ Bytes object ∷ Polynomials z ∷ [])
     × IsRefusedBehind r.identity fault opened left failed object z × (fault ≡ FrameIo → MayFail world)
+Refuses world (Show r) text (Frame fault) =
+    (opened : Option (List ℕ)) × (left : Option (List ℕ)) × (readings : List Reading)
+    × (new : Option (List ℕ)) × (failed : Bool)
+    × HasValue world.files (AStream r.session.now) (Opened opened) × AreReadAs opened left readings
+    × (text ≡ numbered reading_text 0 readings)
+    × IsReadFault fault left new failed × (fault ≡ FrameIo → MayFail world)
 Refuses world (Follow r) text (Frame fault) =
     (opened : Option (List ℕ)) × (left : Option (List ℕ)) × (new : Option (List ℕ)) × (failed : Bool) × (read : ℕ) × (taken : List (List ℕ))
     × HasValue world.files (AStream r.session.now) (Opened opened) × IsHeard r.identity opened left read taken text

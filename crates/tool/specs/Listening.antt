@@ -58,11 +58,11 @@ IsUnheard who opened old new (ByFault fault) = ⊥
 IsUnheard who opened old new Unprinted = new.failed ≡ true
 
 -- why a datagram wasn't read
-abbrev pub IsUnread : Option (List ℕ) → Option (List ℕ) → Bool → Fault → Type 0
-IsUnread old new failed (Frame NoFrameMemory) = ⊥
-IsUnread old new failed (Frame fault) = IsReadFault fault old new failed
-IsUnread old new failed Memory = ⊤
-IsUnread old new failed fault = ⊥
+abbrev pub IsFrameUnread : Option (List ℕ) → Option (List ℕ) → Bool → Fault → Type 0
+IsFrameUnread old new failed (Frame NoFrameMemory) = ⊥
+IsFrameUnread old new failed (Frame fault) = IsReadFault fault old new failed
+IsFrameUnread old new failed Memory = ⊤
+IsFrameUnread old new failed fault = ⊥
 
 -- why a line wasn't printed: there was no memory for it, and nothing was, or printing has failed
 abbrev pub IsUnsaid : World → World → Stop → Type 0

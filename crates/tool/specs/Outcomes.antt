@@ -1,16 +1,15 @@
 -- What a command does.
-use Rattle.std.specs.Prelude.{◌≡◌, ◌⊎◌, ℕ, true, List, [], Option, Some, None, take, ⊤}
+use Rattle.std.specs.Prelude.{◌≡◌, ◌⊎◌, ℕ, true, List, [], Option, Some, None, ⊤}
 use Rattle.std.specs.Io.KnownBytes.{Appends}
 use Rattle.alc.specs.Reading.{Reading}
-use Rattle.reception.specs.Reception.{ReadAll}
 use Rattle.decoder.specs.Receiving.{LeaveNoneShort}
 use Rattle.request.specs.declared.requests.Request.{Request}
 use Rattle.request.specs.declared.requests.Request.TheVariants.{Check, Twin, Show, Decode, Follow, Join}
 use Rattle.tool.specs.World.{Files, World, MayFail, Replaces, one_more}
-use Rattle.tool.specs.Inputs.{ASession, AStream, Value, Datagrams, Opened, HasValue, HaveValues, AreThere, IsFirstUnopened, IsFirstUnread, IsSomeUnread}
+use Rattle.tool.specs.Inputs.{AStream, Value, Opened, HasValue, HaveValues, AreThere, IsUnopened, IsFirstUnopened, IsFirstUnread, IsSomeUnread}
 use Rattle.tool.specs.Lines.{numbered, reading_text, TellsFault}
 use Rattle.tool.specs.Following.{IsHeard, IsHeardInPart}
-use Rattle.tool.specs.Commands.{inputs_of, output_of, IsWriteFault, Outcome, Gives, Refuses}
+use Rattle.tool.specs.Commands.{inputs_of, output_of, IsWriteFault, Outcome, AreReadAs, Gives, Refuses}
 use Rattle.tool.specs.declared.fault.Fault.{Fault}
 use Rattle.tool.specs.declared.fault.Fault.TheVariants.{Open, Memory}
 
@@ -36,12 +35,14 @@ pub record IsDone (old new : World) (r : Request) (status : ℕ) : Type 0 where
 
 -- ---- faults
 
--- The first input that can't be had, in their order. Sessions that are joined are opened before one is read, and any of
--- them may give no datagrams then.
+-- The first input that can't be had, in their order. A session that is shown is only opened: what
+-- can't be read of it is told behind the lines of what was (`Refuses`). Sessions that are joined
+-- are opened before one is read, and any of them may give no datagrams then.
 abbrev pub IsUnhad : World → Request → Fault → Type 0
 IsUnhad world (Join r) fault =
     IsFirstUnopened world (inputs_of (Join r)) fault
     ⊎ (AreThere world.files (inputs_of (Join r)) × IsSomeUnread world (inputs_of (Join r)) fault)
+IsUnhad world (Show r) fault = IsUnopened world r.session.now fault
 IsUnhad world r fault = IsFirstUnread world (inputs_of r) fault
 
 -- Whether an output may be created before a fault: of an object that datagrams give, once they do; of a picture, where the
@@ -74,12 +75,12 @@ abbrev pub IsBecause : World → World → Request → List ℕ → Fault → Ty
 IsBecause old new r text Memory = ⊤
 IsBecause old new r text fault = IsUnhad old r fault ⊎ Refuses old r text fault ⊎ IsUnmade old new r fault
 
--- what may be printed before a fault: of datagrams that are shown the lines of the first, of those that are followed the
--- lines of some
+-- what may be printed before a fault: of datagrams that are shown the lines of the first that the
+-- file begins with, of those that are followed the lines of some
 abbrev pub BeginsText : Option Files → Request → List ℕ → Type 0
 BeginsText files (Show r) text =
-    (text ≡ []) ⊎ ((datagrams : List (List ℕ)) × (n : ℕ) × (readings : List Reading)
-    × HasValue files (ASession r.session.now) (Datagrams datagrams) × ReadAll (take n datagrams) readings
+    (text ≡ []) ⊎ ((opened : Option (List ℕ)) × (left : Option (List ℕ)) × (readings : List Reading)
+    × HasValue files (AStream r.session.now) (Opened opened) × AreReadAs opened left readings
     × (text ≡ numbered reading_text 0 readings))
 BeginsText files (Follow r) text =
     (text ≡ []) ⊎ ((opened : Option (List ℕ)) × HasValue files (AStream r.session.now) (Opened opened)

@@ -1,23 +1,46 @@
 -- What is printed of datagrams that are shown.
-use Rattle.std.specs.Prelude.{◌≡◌, ℕ, true, List, take}
-use Rattle.std.specs.Io.KnownBytes.{Appends}
-use Rattle.alc.specs.Reading.{Reading}
-use Rattle.reception.specs.Reception.{ReadAll}
+use Rattle.std.specs.Prelude.{◌≡◌, ℕ, Bool, true, List, [], ◌∷◌, Option}
+use Rattle.std.specs.Io.KnownBytes.{IsAtEnd, Appends}
+use Rattle.session.specs.Frames.{IsReadFault}
+use Rattle.session.specs.declared.frame.FrameFault.{FrameFault}
+use Rattle.session.specs.declared.frame.FrameFault.TheVariants.{NoMemory as NoFrameMemory}
+use Rattle.alc.specs.Reading.{Reading, Reads}
 use Rattle.tool.specs.World.{World}
-use Rattle.tool.specs.Lines.{numbered, reading_text}
-use Rattle.tool.specs.Commands.{shown_status}
-use Rattle.tool.specs.declared.fault.Fault.TheVariants.{Memory}
+use Rattle.tool.specs.Lines.{line_of, numbered, reading_text}
+use Rattle.tool.specs.Commands.{AreReadAs, shown_status}
+use Rattle.tool.specs.declared.fault.Fault.TheVariants.{Memory, Frame}
 use Rattle.tool.specs.declared.fault.Stop.{Stop}
 use Rattle.tool.specs.declared.fault.Stop.TheVariants.{ByFault, Unprinted}
 
--- the lines of the first n were printed; their status
-abbrev pub Shows : List (List ℕ) → ℕ → World → World → ℕ → Type 0
-Shows datagrams n old new status =
-    (readings : List Reading) × ReadAll (take n datagrams) readings
-    × Appends old.printed new.printed (numbered reading_text 0 readings) × (status ≡ shown_status readings)
+-- the line of the datagram at a place was printed; its status
+abbrev pub ShowsOne : ℕ → List ℕ → World → World → ℕ → Type 0
+ShowsOne place d old new status =
+    (reading : Reading) × Reads d reading × (status ≡ shown_status (reading ∷ []))
+    × Appends old.printed new.printed (line_of (reading_text place reading))
 
--- those of some were printed, and there is no memory for more, or printing has failed
-abbrev pub IsUnshown : List (List ℕ) → World → World → Stop → Type 0
-IsUnshown datagrams old new (ByFault Memory) = (n : ℕ) × (status : ℕ) × Shows datagrams n old new status
-IsUnshown datagrams old new (ByFault fault) = ⊥
-IsUnshown datagrams old new Unprinted = new.failed ≡ true
+-- the lines of the datagrams that were read were printed
+abbrev pub Shows : Option (List ℕ) → Option (List ℕ) → List Reading → World → World → Type 0
+Shows opened left readings old new =
+    AreReadAs opened left readings
+    × Appends old.printed new.printed (numbered reading_text 0 readings)
+
+-- those were all; their status
+abbrev pub ShowsAll : Option (List ℕ) → World → World → ℕ → Type 0
+ShowsAll opened old new status =
+    (left : Option (List ℕ)) × (readings : List Reading) × Shows opened left readings old new
+    × IsAtEnd left × (status ≡ shown_status readings)
+
+-- behind them comes no frame
+abbrev pub IsCutBehind : FrameFault → Option (List ℕ) → World → World → Type 0
+IsCutBehind fault opened old new =
+    (left : Option (List ℕ)) × (readings : List Reading) × Shows opened left readings old new
+    × (rest : Option (List ℕ)) × (failed : Bool) × IsReadFault fault left rest failed
+
+-- why no more are shown
+abbrev pub IsUnshown : Option (List ℕ) → World → World → Stop → Type 0
+IsUnshown opened old new (ByFault (Frame NoFrameMemory)) = ⊥
+IsUnshown opened old new (ByFault (Frame fault)) = IsCutBehind fault opened old new
+IsUnshown opened old new (ByFault Memory) =
+    (left : Option (List ℕ)) × (readings : List Reading) × Shows opened left readings old new
+IsUnshown opened old new (ByFault fault) = ⊥
+IsUnshown opened old new Unprinted = new.failed ≡ true

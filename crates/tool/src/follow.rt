@@ -9,7 +9,7 @@ ghost use Rattle.tool.specs.World.{KeepsFiles, IsSilent};
 ghost use Rattle.tool.specs.Doing.{IsUndone, IsUnwritten};
 ghost use Rattle.tool.specs.Following.{refusal_line};
 ghost use Rattle.tool.specs.Lines.{refusal_words};
-ghost use Rattle.tool.specs.Listening.{HasMadeUp, HasHeardAll, IsUnheard, IsUnread, IsUnsaid, heard_of, IsWritten, IsDelivered, IsUndelivered, TellsAnswer};
+ghost use Rattle.tool.specs.Listening.{HasMadeUp, HasHeardAll, IsUnheard, IsUnsaid, heard_of, IsWritten, IsDelivered, IsUndelivered, TellsAnswer};
 ghost use Rattle.tool.specs.Outcomes.{IsDone};
 ghost use Rattle.tool.specs.declared.fault.Fault.TheVariants.{Frame};
 ghost use Rattle.tool.specs.declared.fault.Stop.TheVariants.{ByFault};
@@ -17,13 +17,13 @@ ghost use Rattle.tool.specs.declared.fault.Stop.TheVariants.{ByFault};
 use crate::decode::told_of;
 use crate::fault::{Fault, Stop};
 use crate::host::Host;
-use crate::input::open;
+use crate::input::{next_datagram, open};
 use crate::output::{Unwritten, commit, create};
 use crate::print::{Text, print_count};
 use crate::wording::put_packet_fault;
 use coder::{DecodeFault, FeedFault, Progress, Receiver};
 use request::FollowRequest;
-use session::{FrameFault, Read, Write, read_next};
+use session::{FrameFault, Read, Write};
 use std::alloc::{AllocError, Global};
 
 /// Takes the session's datagrams one by one, and prints a line for each that is refused. Once they give the object no more
@@ -69,7 +69,7 @@ fn listen<'a, R: Read, H: Host>(
 {
     let mut count = 0usize;
     loop {
-        let Some(datagram) = next(alloc, frames)? else {
+        let Some(datagram) = next_datagram(alloc, frames)? else {
             return Ok(None);
         };
         let Some(read) = count.checked_add(1) else {
@@ -86,29 +86,6 @@ fn listen<'a, R: Read, H: Host>(
             }
         }
         count = read;
-    }
-}
-
-// The next datagram, or `None` at the end.
-fn next<'a, R: Read>(alloc: Global, frames: &mut R) -> Result<Option<Vec<u8>>, Fault<'a>>
-    ensures some { IfOk result (λ o. IfSome o (λ d.
-        Consumes (R.remaining frames.old) (R.remaining frames.new) (frame d.items))) }
-    ensures short { IfOk result (λ o. IfSome o (λ d. length d.items ≤ most_bytes)) }
-    ensures none { IfOk result (λ o.
-        o ≡ None → IsAtEnd (R.remaining frames.old) × IsAtEnd (R.remaining frames.new)) }
-    ensures nothing { IfOk result (λ o.
-        o ≡ None → Consumes (R.remaining frames.old) (R.remaining frames.new) []) }
-    ensures fault { IfErr result (IsUnread (R.remaining frames.old)
-        (R.remaining frames.new) (R.failed frames.new)) }
-    ensures unsound { IfErr result (λ fault.
-        fault ≡ Frame FrameFault.Io → R.sound frames.old ≡ false) }
-    ensures falls { IfOk result (λ o. IfSome o (λ d. R.left frames.new < R.left frames.old)) }
-    ensures stays { R.sound frames.new ≡ R.sound frames.old }
-{
-    match read_next(alloc, frames) {
-        Ok(datagram) => Ok(datagram),
-        Err(FrameFault::NoMemory) => Err(Fault::Memory),
-        Err(fault) => Err(Fault::Frame(fault)),
     }
 }
 

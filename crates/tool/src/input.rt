@@ -1,13 +1,17 @@
 //! Input files.
-ghost use Rattle.std.specs.Prelude.{◌≡◌, IfOk, IfErr, IfSome};
+ghost use Rattle.std.specs.Prelude.{◌≡◌, ◌<◌, ◌≤◌, [], None, false, length, IfOk, IfErr, IfSome};
+ghost use Rattle.std.specs.Io.KnownBytes.{Consumes, IsAtEnd};
+ghost use Rattle.session.specs.Frames.{frame, most_bytes};
 ghost use Rattle.tool.specs.World.{GivesFile};
 ghost use Rattle.tool.specs.Inputs.{AnObject, ASession, ACertificate, Bytes, Datagrams, Polynomials, HasValue, IsUnopened, IsUnread};
 ghost use Rattle.tool.specs.ReadingObjects.{IsRestUnread};
+ghost use Rattle.tool.specs.Listening.{IsFrameUnread};
+ghost use Rattle.tool.specs.declared.fault.Fault.TheVariants.{Frame};
 
 use crate::fault::Fault;
 use crate::host::{FileFault, Host};
 use cert::Certificate;
-use session::{Read, ReadFault, Session, read_to_end};
+use session::{FrameFault, Read, ReadFault, Session, read_next, read_to_end};
 use std::alloc::Global;
 
 /// A file to be read.
@@ -35,6 +39,32 @@ pub(crate) fn read_session<'a, H: Host>(
 {
     let mut input = open(host, name)?;
     Ok(Session::read(alloc, &mut input)?)
+}
+
+/// The next datagram of a session, or `None` at the end.
+pub(crate) fn next_datagram<'a, R: Read>(
+    alloc: Global,
+    frames: &mut R,
+) -> Result<Option<Vec<u8>>, Fault<'a>>
+    ensures some { IfOk result (λ o. IfSome o (λ d.
+        Consumes (R.remaining frames.old) (R.remaining frames.new) (frame d.items))) }
+    ensures short { IfOk result (λ o. IfSome o (λ d. length d.items ≤ most_bytes)) }
+    ensures none { IfOk result (λ o.
+        o ≡ None → IsAtEnd (R.remaining frames.old) × IsAtEnd (R.remaining frames.new)) }
+    ensures nothing { IfOk result (λ o.
+        o ≡ None → Consumes (R.remaining frames.old) (R.remaining frames.new) []) }
+    ensures fault { IfErr result (IsFrameUnread (R.remaining frames.old)
+        (R.remaining frames.new) (R.failed frames.new)) }
+    ensures unsound { IfErr result (λ fault.
+        fault ≡ Frame FrameFault.Io → R.sound frames.old ≡ false) }
+    ensures falls { IfOk result (λ o. IfSome o (λ d. R.left frames.new < R.left frames.old)) }
+    ensures stays { R.sound frames.new ≡ R.sound frames.old }
+{
+    match read_next(alloc, frames) {
+        Ok(datagram) => Ok(datagram),
+        Err(FrameFault::NoMemory) => Err(Fault::Memory),
+        Err(fault) => Err(Fault::Frame(fault)),
+    }
 }
 
 /// The certificate in a file.

@@ -1,25 +1,29 @@
 //! The command `show`.
-ghost use Rattle.std.specs.Prelude.{◌≡◌, ◌≤◌, ◌++◌, length, Ok, Err, IfOk, IfErr, OnOk};
+ghost use Rattle.std.specs.Prelude.{◌≡◌, ◌≤◌, ◌++◌, false, Ok, Err, IfOk, IfErr, OnOk};
 ghost use Rattle.alc.specs.Views.{packet_of};
 ghost use Rattle.request.specs.declared.requests.Request.TheVariants.{Show};
 ghost use Rattle.tool.specs.World.{KeepsFiles};
 ghost use Rattle.tool.specs.Doing.{IsUndone};
 ghost use Rattle.tool.specs.Outcomes.{IsDone};
 ghost use Rattle.tool.specs.Lines.{line_of, fti_text, reading_text};
-ghost use Rattle.tool.specs.Showing.{Shows, IsUnshown};
+ghost use Rattle.tool.specs.Listening.{IsUnsaid};
+ghost use Rattle.tool.specs.Showing.{ShowsOne, ShowsAll, IsUnshown};
+ghost use Rattle.tool.specs.declared.fault.Fault.TheVariants.{Frame};
+ghost use Rattle.tool.specs.declared.fault.Stop.TheVariants.{ByFault};
 
-use crate::fault::Stop;
+use crate::fault::{Fault, Stop};
 use crate::host::Host;
-use crate::input::read_session;
+use crate::input::{next_datagram, open};
 use crate::print::Text;
 use crate::wording::put_packet_fault;
 use alc::{Packet, PacketFault, read};
 use partition::Fti;
 use request::ShowRequest;
-use session::Session;
+use session::{FrameFault, Read};
 use std::alloc::{AllocError, Global};
 
-/// Prints a line for each datagram, and answers the status: 0 where all are packets.
+/// Prints a line for each datagram, and passes it on before the next is read. Answers the status: 0
+/// where all are packets.
 pub(crate) fn show<'a, H: Host>(
     alloc: Global,
     host: &mut H,
@@ -31,33 +35,67 @@ pub(crate) fn show<'a, H: Host>(
         (IsUndone (H.world host.old) (H.world host.new) (Show request.now)) }
     ensures small { IfOk result (λ status. status ≤ 3) }
 {
-    let session = read_session(alloc, host, request.session)?;
-    print_datagrams(alloc, host, &session)
+    let mut frames = open(host, request.session)?;
+    print_datagrams(alloc, &mut frames, host)
 }
 
-fn print_datagrams<'a, H: Host>(
+// Prints a line for each datagram that a reader has left, up to its end or a fault. Answers the
+// status.
+fn print_datagrams<'a, R: Read, H: Host>(
     alloc: Global,
+    frames: &mut R,
     host: &mut H,
-    session: &Session,
 ) -> Result<u8, Stop<'a>>
-    ensures shown { IfOk result (Shows session.now (length session.now)
-        (H.world host.old) (H.world host.new)) }
+    ensures shown { IfOk result
+        (ShowsAll (R.remaining frames.old) (H.world host.old) (H.world host.new)) }
     ensures fault { IfErr result
-        (IsUnshown session.now (H.world host.old) (H.world host.new)) }
+        (IsUnshown (R.remaining frames.old) (H.world host.old) (H.world host.new)) }
+    ensures unsound { IfErr result (λ stop.
+        stop ≡ ByFault (Frame FrameFault.Io) → R.sound frames.old ≡ false) }
     ensures files { KeepsFiles (H.world host.old) (H.world host.new) }
     ensures small { IfOk result (λ status. status ≤ 3) }
 {
     let mut status = 0;
-    for place in 0..session.len() {
-        match read(session.get(place)) {
-            Ok(packet) => packet_line(alloc, place, &packet)?.print(host)?,
-            Err(fault) => {
-                status = 1;
-                fault_line(alloc, place, fault)?.print(host)?;
-            }
+    let mut place = 0usize;
+    loop {
+        let Some(datagram) = next_datagram(alloc, frames)? else {
+            return Ok(status);
+        };
+        let Some(next) = place.checked_add(1) else {
+            return Err(Stop::ByFault(Fault::Memory));
+        };
+        if print_datagram(alloc, host, place, datagram.as_slice())? == 1 {
+            status = 1;
+        }
+        place = next;
+    }
+}
+
+// Prints the line of the datagram at a place, and passes it on. Answers its status: 0 of a packet,
+// else 1.
+fn print_datagram<'a, H: Host>(
+    alloc: Global,
+    host: &mut H,
+    place: usize,
+    datagram: &[u8],
+) -> Result<u8, Stop<'a>>
+    ensures ok { IfOk result
+        (ShowsOne place datagram.now (H.world host.old) (H.world host.new)) }
+    ensures fault { IfErr result (IsUnsaid (H.world host.old) (H.world host.new)) }
+    ensures files { KeepsFiles (H.world host.old) (H.world host.new) }
+{
+    match read(datagram) {
+        Ok(packet) => {
+            packet_line(alloc, place, &packet)?.print(host)?;
+            host.pass_on()?;
+            Ok(0)
+        }
+        Err(fault) => {
+            fault_line(alloc, place, fault)?.print(host)?;
+            host.pass_on()?;
+            Ok(1)
         }
     }
-    Ok(status)
 }
 
 // Puts the FTI of a carrier, or how many bytes of symbol another packet has.

@@ -38,13 +38,13 @@ returns-in-Ok-Complete-clause-complete g c =
     let counted : length heard.0 ≢ 2 ^ 64 - 1 = λ e. let f = (c.feed.ensures.full heard.0 heard.2).1 e in cc in
     let timely : ¬ ComesEarly who heard.0 d = λ early. let f = (rw (c.as_slice.ensures.value, same) at (c.feed.ensures.early heard.0 heard.2)).1 (counted, early) in cc in
     let next = c.in-Some-checked_add.ensures in (
-      g.R.Read.remaining c.next.new.frames,
+      g.R.Read.remaining c.next_datagram.new.frames,
       with_datagram heard.0 d,
       heard.1,
       stands,
       subst (λ (x : Identity). LeaveNoneShort x (with_datagram heard.0 d)) (sym identity) full,
-      subst (λ (x : Identity). IsHeard x (g.R.Read.remaining c.args.frames.now) (g.R.Read.remaining c.next.new.frames) c.in-Some-checked_add.read (with_datagram heard.0 d) heard.1) (sym identity)
-          (heard_taken who (g.R.Read.remaining c.args.frames.now) (g.R.Read.remaining c.loop-datagram.frames) (g.R.Read.remaining c.next.new.frames) heard.0 heard.1 c.loop-datagram.count
+      subst (λ (x : Identity). IsHeard x (g.R.Read.remaining c.args.frames.now) (g.R.Read.remaining c.next_datagram.new.frames) c.in-Some-checked_add.read (with_datagram heard.0 d) heard.1) (sym identity)
+          (heard_taken who (g.R.Read.remaining c.args.frames.now) (g.R.Read.remaining c.loop-datagram.frames) (g.R.Read.remaining c.next_datagram.new.frames) heard.0 heard.1 c.loop-datagram.count
           c.in-Some-checked_add.read d heard.4 heard.3 (omega (arith, next)) one brief (nothing_against who heard.0 d sound counted timely)),
       heard.5,
     )
@@ -59,12 +59,12 @@ loop-datagram-preserved g c =
     let next : c.in-Some-checked_add.read ≡ c.loop-datagram.count + 1 = omega (arith, step) in
     let opened = g.R.Read.remaining c.args.frames.now in
     let a = g.R.Read.remaining c.loop-datagram.frames in
-    let b = g.R.Read.remaining c.next.new.frames in
+    let b = g.R.Read.remaining c.next_datagram.new.frames in
     let count = c.loop-datagram.count in
     let n = c.in-Some-checked_add.read in
     let who = c.args.receiver.now.identity in
     let same = c.loop-datagram.invariant.identity in
-    let stays = c.next.ensures.stays ∙ c.loop-datagram.invariant.stays in
+    let stays = c.next_datagram.ensures.stays ∙ c.loop-datagram.invariant.stays in
     let old = g.H.Host.world c.args.host.now in
     let mid = g.H.Host.world c.loop-datagram.host in
     let files = c.loop-datagram.invariant.files in

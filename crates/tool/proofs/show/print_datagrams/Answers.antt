@@ -1,32 +1,50 @@
-use Rattle.std.proofs.Common.{◌<◌, Ok, Err, length, arith}
-use Rattle.alc.specs.Views.{packet_of}
-use Rattle.tool.proofs.Numbered.{one_more_shown}
-use Rattle.tool.proofs.Showed.{keeps}
+use Rattle.std.proofs.Common.{◌≡◌, ◌∙◌, ◌+◌, ◌++◌, ◌∷◌, [], arith, refl}
+use Rattle.tool.proofs.Numbered.{status_bad, status_same}
+use Rattle.tool.proofs.Showed.{none_shown, one_more_shown, one_longer, keeps, keeps_all}
 use Rattle.tool.proofs.show.print_datagrams.Goals as goal
-use Rattle.tool.proofs.show.print_datagrams.Goals.{in-Ok+in_ok-packet_line-in-Ok+in_ok-print-in-Ok, in-Err+in_ok-fault_line-in-Err+in_ok-print-in-Err}
+use Rattle.tool.proofs.show.print_datagrams.Goals.{then-branch-eq1, else-branch-eq1}
 
-pub loop-place-preserved : goal.loop-place-preserved
-loop-place-preserved g c =
-    let ds = c.args.session.now in
-    let n = c.loop-place.place in
+pub loop-datagram-init : goal.loop-datagram-init
+loop-datagram-init g c =
+    let w = g.H.Host.world c.args.host.now in
+    record {
+      shown = ([], none_shown (g.R.Read.remaining c.args.frames.now) w, refl, refl);
+      stays = refl;
+      files = keeps_all w;
+      small = omega arith;
+    }
+
+pub loop-datagram-preserved : goal.loop-datagram-preserved
+loop-datagram-preserved g c =
+    let (rs, before, at, status) = c.loop-datagram.invariant.shown in
+    let (r, reads, one, printed) = c.in_ok-print_datagram.ensures.ok in
+    let step = c.in-Some-checked_add.ensures in
+    let next : c.in-Some-checked_add.next ≡ c.loop-datagram.place + 1 = omega (arith, step) in
     let old = g.H.Host.world c.args.host.now in
-    let mid = g.H.Host.world c.loop-place.host in
-    let l : n < length ds = let t = c.loop-place-test.true in let e = c.len-place-end.ensures.value in omega (arith, t, e) in
-    elim c.match-read.branch [
-      | in-Ok+in_ok-packet_line-in-Ok+in_ok-print-in-Ok w ↦
-          (let r = Ok (packet_of w.in-Ok.packet) in
-          rw (w.status-is, w.host-is) (record {
-            shown = one_more_shown ds n old mid (g.H.Host.world w.print-in-Ok.new.host) c.loop-place.status c.loop-place.invariant.shown _ l r
-                (rw c.get.ensures at w.in-Ok.ensures.reads) (rw w.in_ok-packet_line-in-Ok.ensures at w.in_ok-print-in-Ok.ensures.printed);
-            files = keeps old mid (g.H.Host.world w.print-in-Ok.new.host) c.loop-place.invariant.files w.print-in-Ok.ensures.files;
-            small = c.loop-place.invariant.small;
-          }))
-      | in-Err+in_ok-fault_line-in-Err+in_ok-print-in-Err w ↦
-          (let r = Err w.in-Err.fault in
-          rw (w.status-is, w.host-is) (record {
-            shown = one_more_shown ds n old mid (g.H.Host.world w.print-in-Err-2.new.host) c.loop-place.status c.loop-place.invariant.shown _ l r
-                (rw c.get.ensures at w.in-Err.ensures.reads) (rw w.in_ok-fault_line-in-Err.ensures at w.in_ok-print-in-Err.ensures.printed);
-            files = keeps old mid (g.H.Host.world w.print-in-Err-2.new.host) c.loop-place.invariant.files w.print-in-Err-2.ensures.files;
+    let mid = g.H.Host.world c.loop-datagram.host in
+    let new = g.H.Host.world c.print_datagram.new.host in
+    let shown = one_more_shown (g.R.Read.remaining c.args.frames.now) (g.R.Read.remaining c.loop-datagram.frames) (g.R.Read.remaining c.next_datagram.new.frames) rs old mid new
+    c.loop-datagram.place c.in-Some.datagram.items r before at (rw c.in-Some.is at c.in_ok-datagram.ensures.some) (rw c.in-Some.is at c.in_ok-datagram.ensures.short)
+    (rw c.as_slice.ensures.value at reads) printed in
+    let longer = one_longer rs r c.loop-datagram.place c.in-Some-checked_add.next at next in
+    let stays = c.next_datagram.ensures.stays ∙ c.loop-datagram.invariant.stays in
+    let files = keeps old mid new c.loop-datagram.invariant.files c.print_datagram.ensures.files in
+    let small = c.loop-datagram.invariant.small in
+    elim c.if-branch-eq1.branch [
+      | then-branch-eq1 w ↦
+          rw w.status-is
+          record {
+            shown = (rs ++ r ∷ [], shown, longer, status_bad rs r c.in_ok-print_datagram.field-0 one w.if-branch-eq1.true);
+            stays = stays;
+            files = files;
             small = omega arith;
-          }))
+          }
+      | else-branch-eq1 w ↦
+          rw w.status-is
+          record {
+            shown = (rs ++ r ∷ [], shown, longer, status_same rs r c.loop-datagram.status c.in_ok-print_datagram.field-0 status one w.if-branch-eq1.false);
+            stays = stays;
+            files = files;
+            small = small;
+          }
     ]

@@ -1,11 +1,20 @@
-use Rattle.std.proofs.Common.{◌≤◌}
+use Rattle.std.proofs.Common.{◌≡◌, ◌≤◌, List, length}
+use Rattle.alc.specs.Reading.{Reading}
 use Rattle.tool.specs.World.{KeepsFiles}
+use Rattle.tool.specs.Commands.{shown_status}
 use Rattle.tool.specs.Showing.{Shows}
 use Rattle.tool.proofs.show.print_datagrams.Given as goal
 
-abbrev pub invariant-loop-place : goal.invariant-loop-place
-invariant-loop-place g l = record {
-  shown : Shows l.session l.place (g.H.Host.world l.initial.host) (g.H.Host.world l.host) l.status;
+abbrev pub invariant-loop-datagram : goal.invariant-loop-datagram
+invariant-loop-datagram g l = record {
+  shown :
+      (readings : List Reading)
+      × Shows (g.R.Read.remaining l.initial.frames) (g.R.Read.remaining l.frames) readings (g.H.Host.world l.initial.host) (g.H.Host.world l.host)
+      × (l.place ≡ length readings) × (l.status ≡ shown_status readings);
+  stays : g.R.Read.sound l.frames ≡ g.R.Read.sound l.initial.frames;
   files : KeepsFiles (g.H.Host.world l.initial.host) (g.H.Host.world l.host);
   small : l.status ≤ 3;
 }
+
+abbrev pub decreases-loop-datagram : goal.decreases-loop-datagram
+decreases-loop-datagram g l = g.R.Read.left l.frames
