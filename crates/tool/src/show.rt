@@ -1,5 +1,5 @@
 //! The command `show`.
-ghost use Rattle.std.specs.Prelude.{◌≡◌, ◌≤◌, ◌++◌, false, Ok, Err, IfOk, IfErr, OnOk};
+ghost use Rattle.std.specs.Prelude.{◌≡◌, ◌≤◌, ◌++◌, true, false, Ok, Err, IfOk, IfErr, OnOk, OnErr};
 ghost use Rattle.alc.specs.Views.{packet_of};
 ghost use Rattle.request.specs.declared.requests.Request.TheVariants.{Show};
 ghost use Rattle.tool.specs.World.{KeepsFiles};
@@ -19,11 +19,11 @@ use crate::wording::put_packet_fault;
 use alc::{Packet, PacketFault, read};
 use partition::Fti;
 use request::ShowRequest;
-use session::{FrameFault, Read};
+use session::{Failed, FrameFault, Read};
 use std::alloc::{AllocError, Global};
 
-/// Prints a line for each datagram, and passes it on before the next is read. Answers the status: 0
-/// where all are packets.
+/// Prints a line for each datagram. Answers the status: 0 where all are packets. Where the session
+/// comes as it is sent, a line is passed on before the next datagram is read.
 pub(crate) fn show<'a, H: Host>(
     alloc: Global,
     host: &mut H,
@@ -36,7 +36,9 @@ pub(crate) fn show<'a, H: Host>(
     ensures small { IfOk result (λ status. status ≤ 3) }
 {
     let mut frames = open(host, request.session)?;
-    print_datagrams(alloc, &mut frames, host)
+    // What has no length comes as it is sent.
+    let is_live = host.length_of(&frames).is_none();
+    print_datagrams(alloc, &mut frames, host, is_live)
 }
 
 // Prints a line for each datagram that a reader has left, up to its end or a fault. Answers the
@@ -45,6 +47,7 @@ fn print_datagrams<'a, R: Read, H: Host>(
     alloc: Global,
     frames: &mut R,
     host: &mut H,
+    is_live: bool,
 ) -> Result<u8, Stop<'a>>
     ensures shown { IfOk result
         (ShowsAll (R.remaining frames.old) (H.world host.old) (H.world host.new)) }
@@ -64,20 +67,20 @@ fn print_datagrams<'a, R: Read, H: Host>(
         let Some(next) = place.checked_add(1) else {
             return Err(Stop::ByFault(Fault::Memory));
         };
-        if print_datagram(alloc, host, place, datagram.as_slice())? == 1 {
+        if print_datagram(alloc, host, place, datagram.as_slice(), is_live)? == 1 {
             status = 1;
         }
         place = next;
     }
 }
 
-// Prints the line of the datagram at a place, and passes it on. Answers its status: 0 of a packet,
-// else 1.
+// Prints the line of the datagram at a place. Answers its status: 0 of a packet, else 1.
 fn print_datagram<'a, H: Host>(
     alloc: Global,
     host: &mut H,
     place: usize,
     datagram: &[u8],
+    is_live: bool,
 ) -> Result<u8, Stop<'a>>
     ensures ok { IfOk result
         (ShowsOne place datagram.now (H.world host.old) (H.world host.new)) }
@@ -87,15 +90,24 @@ fn print_datagram<'a, H: Host>(
     match read(datagram) {
         Ok(packet) => {
             packet_line(alloc, place, &packet)?.print(host)?;
-            host.pass_on()?;
+            pass_on_live(host, is_live)?;
             Ok(0)
         }
         Err(fault) => {
             fault_line(alloc, place, fault)?.print(host)?;
-            host.pass_on()?;
+            pass_on_live(host, is_live)?;
             Ok(1)
         }
     }
+}
+
+// Passes on what was printed, where the next datagram may be long in coming.
+fn pass_on_live<H: Host>(host: &mut H, is_live: bool) -> Result<(), Failed>
+    ensures stays { OnOk result ((H.world host.new).printed ≡ (H.world host.old).printed) }
+    ensures fails { OnErr result ((H.world host.new).failed ≡ true) }
+    ensures files { KeepsFiles (H.world host.old) (H.world host.new) }
+{
+    if is_live { host.pass_on() } else { Ok(()) }
 }
 
 // Puts the FTI of a carrier, or how many bytes of symbol another packet has.
