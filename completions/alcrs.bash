@@ -29,7 +29,7 @@ _alcrs_value() {
 }
 
 _alcrs() {
-    local commands="encode certify convert check drop join decode follow twin show help"
+    local commands="encode certify convert check drop salvage join decode follow twin show help"
     local typed="${COMP_WORDS[COMP_CWORD]}" before="" given=" " places=0 only_arguments="" options files at word
     COMPREPLY=()
     if [ "$COMP_CWORD" -le 1 ]; then
@@ -42,6 +42,7 @@ _alcrs() {
         convert) options="--tsi --toi --help" files=2 ;;
         check) options="--tsi --toi --picture --help" files=3 ;;
         drop) options="--help" files=2 ;;
+        salvage) options="--help" files=2 ;;
         join) options="--turns --help" files=any ;;
         decode) options="--tsi --toi --help" files=2 ;;
         follow) options="--tsi --toi --help" files=2 ;;

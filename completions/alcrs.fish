@@ -25,6 +25,8 @@ complete -c alcrs -n __alcrs_has_no_command -a check \
     -d 'Says whether a certificate proves that a session carries an object, and how many datagrams may be missed'
 complete -c alcrs -n __alcrs_has_no_command -a drop \
     -d 'Writes a session without the datagrams at some places'
+complete -c alcrs -n __alcrs_has_no_command -a salvage \
+    -d 'Writes a session up to the place where it is cut or broken'
 complete -c alcrs -n __alcrs_has_no_command -a join \
     -d 'Writes the datagrams of several sessions as one session'
 complete -c alcrs -n __alcrs_has_no_command -a decode \
@@ -39,7 +41,7 @@ complete -c alcrs -n __alcrs_has_no_command -a help \
     -d 'Print this message or the help of the given subcommand(s)'
 
 complete -c alcrs -n '__alcrs_command_is help' -f \
-    -a 'encode certify convert check drop join decode follow twin show help'
+    -a 'encode certify convert check drop salvage join decode follow twin show help'
 
 complete -c alcrs -n '__alcrs_command_is encode' -l tsi -x \
     -d 'The transport session identifier (TSI), 0 to 4294967295'
@@ -88,6 +90,9 @@ complete -c alcrs -n '__alcrs_command_is check' -s h -l help \
     -d 'Print help'
 
 complete -c alcrs -n '__alcrs_command_is drop' -s h -l help \
+    -d 'Print help'
+
+complete -c alcrs -n '__alcrs_command_is salvage' -s h -l help \
     -d 'Print help'
 
 complete -c alcrs -n '__alcrs_command_is join' -l turns \

@@ -35,6 +35,8 @@ pub fn explain<R: Files>(
     match case.word(0) {
         "fault" => case.fault(),
         "no" => case.no_and_no_picture(),
+        // The line `kept d datagrams` is printed in pieces, and the last of them has no words.
+        "kept" | "" => case.kept(),
         "missing" => case.say(
             "{S} has {1} different symbols of block {0}, and {2} are needed: join it with what \
             came of the same session at another time (alcrs join)",
@@ -225,6 +227,14 @@ impl<'a, R: Files> Case<'a, R> {
             return Ok(None);
         }
         self.broken_in(self.session())
+    }
+
+    // Where the session is cut that was salvaged; nothing where it is whole, and of other requests.
+    fn kept(&self) -> Sentence {
+        match self.request {
+            Request::Salvage(request) => self.broken_in(request.session),
+            _ => Ok(None),
+        }
     }
 
     fn broken_in(&self, name: &str) -> Sentence {

@@ -30,6 +30,7 @@ pub(crate) fn session_of<'a>(request: &Request<'a>) -> Option<&'a str> {
         Request::Decode(request) => Some(request.session),
         Request::Follow(request) => Some(request.session),
         Request::Drop(request) => Some(request.session),
+        Request::Salvage(request) => Some(request.session),
         _ => None,
     }
 }
@@ -65,6 +66,7 @@ pub(crate) fn output_of<'a>(request: &Request<'a>) -> Option<&'a str> {
         Request::Decode(request) => Some(request.output),
         Request::Follow(request) => Some(request.output),
         Request::Drop(request) => Some(request.output),
+        Request::Salvage(request) => Some(request.output),
         Request::Join(request) => Some(request.output),
         Request::Check(request) => request.picture,
         Request::Show(_) => None,

@@ -43,9 +43,9 @@ module _ {N E : Type 0} (gives : Text → Result N E → Type 0) (f : Found) (na
 -- ---- the command
 
 -- a name that is none of these is no command's
-pub other_name : (name : Text) (rows : List Row) → IsTold (Some (name, rows)) → (name ≡ codes "encode" → ⊥) → (name ≡ codes "certify" → ⊥) → (name ≡ codes "convert" → ⊥) → (name ≡ codes "check" → ⊥) → (name ≡ codes "drop" → ⊥) → (name ≡ codes "join" → ⊥) → (name ≡ codes "decode" → ⊥) → (name ≡ codes "follow" → ⊥) → (name ≡ codes "twin" → ⊥) → (name ≡ codes "show" → ⊥) → ⊥
-other_name name rows (orders, are, (known, given)) not_encode not_certify not_convert not_check not_drop not_join not_decode not_follow not_twin not_show =
-    let bad : false ≡ true = rw (unlike (codes "encode") name not_encode, unlike (codes "certify") name not_certify, unlike (codes "convert") name not_convert, unlike (codes "check") name not_check, unlike (codes "drop") name not_drop, unlike (codes "join") name not_join, unlike (codes "decode") name not_decode, unlike (codes "follow") name not_follow, unlike (codes "twin") name not_twin, unlike (codes "show") name not_show) at known in cc
+pub other_name : (name : Text) (rows : List Row) → IsTold (Some (name, rows)) → (name ≡ codes "encode" → ⊥) → (name ≡ codes "certify" → ⊥) → (name ≡ codes "convert" → ⊥) → (name ≡ codes "check" → ⊥) → (name ≡ codes "drop" → ⊥) → (name ≡ codes "salvage" → ⊥) → (name ≡ codes "join" → ⊥) → (name ≡ codes "decode" → ⊥) → (name ≡ codes "follow" → ⊥) → (name ≡ codes "twin" → ⊥) → (name ≡ codes "show" → ⊥) → ⊥
+other_name name rows (orders, are, (known, given)) not_encode not_certify not_convert not_check not_drop not_salvage not_join not_decode not_follow not_twin not_show =
+    let bad : false ≡ true = rw (unlike (codes "encode") name not_encode, unlike (codes "certify") name not_certify, unlike (codes "convert") name not_convert, unlike (codes "check") name not_check, unlike (codes "drop") name not_drop, unlike (codes "salvage") name not_salvage, unlike (codes "join") name not_join, unlike (codes "decode") name not_decode, unlike (codes "follow") name not_follow, unlike (codes "twin") name not_twin, unlike (codes "show") name not_show) at known in cc
   where
     unlike : (word name : Text) → (name ≡ word → ⊥) → bytes_eq word name ≡ false
     unlike word name other = go (bytes_eq word name) refl

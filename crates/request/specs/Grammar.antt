@@ -34,6 +34,7 @@ commands orders =
     ∷ command "check" (file "SESSION" ∷ file "OBJECT" ∷ file "CERT" ∷ identifiers
     ++ FileOption (codes "picture") ∷ [])
     ∷ command "drop" (file "SESSION" ∷ file "OUT" ∷ Numbers (codes "PLACE") 0 4294967295 ∷ [])
+    ∷ command "salvage" (file "SESSION" ∷ file "OUT" ∷ [])
     ∷ command "join" (file "OUT" ∷ Files (codes "SESSION") ∷ Flag (codes "turns") ∷ [])
     ∷ command "decode" (file "SESSION" ∷ file "OUT" ∷ identifiers)
     ∷ command "follow" (file "SESSION" ∷ file "OUT" ∷ identifiers)

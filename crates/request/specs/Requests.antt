@@ -8,7 +8,7 @@ use Rattle.partition.specs.declared.order.Order.TheVariants.{Blocks, Rounds}
 use Rattle.reception.specs.declared.scope.Identity.{Identity}
 use Rattle.request.specs.declared.requests.Sizes.{Sizes}
 use Rattle.request.specs.declared.requests.Request.{Request}
-use Rattle.request.specs.declared.requests.Request.TheVariants.{Check, Twin, Show, Encode, Certify, Convert, Decode, Follow, Drop, Join}
+use Rattle.request.specs.declared.requests.Request.TheVariants.{Check, Twin, Show, Encode, Certify, Convert, Decode, Follow, Drop, Salvage, Join}
 use Rattle.request.specs.declared.usage.Usage.{Usage}
 use Rattle.request.specs.declared.usage.Usage.TheVariants.{Help, Line, NoMemory}
 use Rattle.request.specs.Arguments.{Argument, Value, AText, ANumber, AFlag, SomeNumbers, SomeTexts, MaybeText, HasValue}
@@ -45,6 +45,7 @@ asked_of (Check r) =
     ++ MaybeText (option_map (λ name. name.now) r.picture) ∷ [])
 asked_of (Drop r) =
     command "drop" (path r.session ∷ path r.output ∷ SomeNumbers r.places.items ∷ [])
+asked_of (Salvage r) = command "salvage" (path r.session ∷ path r.output ∷ [])
 asked_of (Join r) = command "join" (path r.output
     ∷ SomeTexts (map (λ name. name.now) r.sessions.items) ∷ AFlag r.turns ∷ [])
 asked_of (Decode r) = command "decode" (path r.session ∷ path r.output ∷ whose r.identity)

@@ -164,7 +164,7 @@ struct Outline<'a> {
     arguments: &'a [Argument<'a>],
 }
 
-const OUTLINES: [Outline<'static>; 10] = [
+const OUTLINES: [Outline<'static>; 11] = [
     Outline {
         name: "encode",
         about: "Writes the session of an object: every encoding symbol of every block once",
@@ -248,6 +248,12 @@ const OUTLINES: [Outline<'static>; 10] = [
                 most: 4_294_967_295,
             },
         ],
+    },
+    Outline {
+        name: "salvage",
+        about: "Writes a session up to the place where it is cut or broken",
+        after_help: help::SALVAGE,
+        arguments: &[SESSION, SESSION_TO_WRITE],
     },
     Outline {
         name: "join",

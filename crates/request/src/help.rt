@@ -48,6 +48,14 @@ Statuses: 0 done, 1 a fault, 2 the command line is refused.
 
 Example: alcrs drop note.session thin.session 0 1 2";
 
+pub(crate) const SALVAGE: &str =
+    "Keeps the datagrams whose frames SESSION begins with: all of them, or those before the place
+where it ends inside a frame, or where a frame tells a length above 65507.
+Prints `kept D datagrams`. SESSION may be a pipe.
+Statuses: 0 SESSION is whole, 1 it isn't or a fault, 2 the command line is refused.
+
+Example: alcrs salvage cut.session whole.session";
+
 pub(crate) const JOIN: &str =
     "Writes all datagrams of the first session, then all of the second, and so on.
 With --turns it writes one datagram of each session in turn. A session that has ended is passed over.

@@ -18,6 +18,6 @@ mod usage;
 pub use line::request;
 pub use requests::{
     CertifyRequest, CheckRequest, ConvertRequest, DecodeRequest, DropRequest, EncodeRequest,
-    FollowRequest, JoinRequest, Request, Sending, ShowRequest, Sizes, TwinRequest,
+    FollowRequest, JoinRequest, Request, SalvageRequest, Sending, ShowRequest, Sizes, TwinRequest,
 };
 pub use usage::Usage;

@@ -11,7 +11,7 @@ ghost use Rattle.request.specs.Matching.{AreGiven, Gives, IsAsked, IsGiven, IsMa
 
 use crate::requests::{
     CertifyRequest, CheckRequest, ConvertRequest, DecodeRequest, DropRequest, EncodeRequest,
-    FollowRequest, JoinRequest, Request, Sending, ShowRequest, Sizes, TwinRequest,
+    FollowRequest, JoinRequest, Request, SalvageRequest, Sending, ShowRequest, Sizes, TwinRequest,
 };
 use crate::usage::Usage;
 use clap::ArgMatches;
@@ -178,6 +178,16 @@ fn drop_request<'a>(alloc: Global, matches: &ArgMatches<'a>) -> Result<Request<'
     }))
 }
 
+fn salvage_request<'a>(matches: &ArgMatches<'a>) -> Request<'a>
+    requires { IsTold (Some (codes "salvage", rows_in matches.now)) }
+    ensures { IsAsked (codes "salvage") (rows_in matches.now) result }
+{
+    Request::Salvage(SalvageRequest {
+        session: text(matches, "SESSION"),
+        output: text(matches, "OUT"),
+    })
+}
+
 fn join_request<'a>(alloc: Global, matches: &ArgMatches<'a>) -> Result<Request<'a>, AllocError>
     requires { IsTold (Some (codes "join", rows_in matches.now)) }
     ensures { IfOk result (IsAsked (codes "join") (rows_in matches.now)) }
@@ -248,6 +258,7 @@ fn command_request<'a>(
         "convert" => convert_request(matches),
         "check" => check_request(matches),
         "drop" => drop_request(alloc, matches)?,
+        "salvage" => salvage_request(matches),
         "join" => join_request(alloc, matches)?,
         "decode" => decode_request(matches),
         "follow" => follow_request(matches),

@@ -117,6 +117,13 @@ pub struct DropRequest<'a> {
     pub places: Vec<usize>,
 }
 
+/// Keep the whole frames that the session begins with.
+#[derive(Drop)]
+pub struct SalvageRequest<'a> {
+    pub session: &'a str,
+    pub output: &'a str,
+}
+
 /// Join the sessions: one after the other, or, with `turns`, one datagram of each in turn; one
 /// session or more.
 #[derive(Drop)]
@@ -139,5 +146,6 @@ pub enum Request<'a> {
     Decode(DecodeRequest<'a>),
     Follow(FollowRequest<'a>),
     Drop(DropRequest<'a>),
+    Salvage(SalvageRequest<'a>),
     Join(JoinRequest<'a>),
 }

@@ -12,3 +12,4 @@ mod Conversions
 mod Decoded
 mod Followed
 mod Delivered
+mod Salvaged

@@ -4,7 +4,7 @@ use Rattle.std.specs.Prelude.{IfSome, IfErr, IsErrAnd}
 use Rattle.std.specs.Io.KnownBytes.{Appends}
 use Rattle.std.proofs.KnownBytes.{Appends-nil}
 use Rattle.request.specs.declared.requests.Request.{Request}
-use Rattle.request.specs.declared.requests.Request.TheVariants.{Check, Twin, Show, Encode, Certify, Convert, Decode, Follow, Drop, Join}
+use Rattle.request.specs.declared.requests.Request.TheVariants.{Check, Twin, Show, Encode, Certify, Convert, Decode, Follow, Drop, Salvage, Join}
 use Rattle.tool.specs.World.{Files, World, MayFail, KeepsFiles, IsSilent, Replaces, one_more}
 use Rattle.tool.specs.Commands.{output_of, Refuses}
 use Rattle.tool.specs.Outcomes.{IsUnmade, IsUnhad, IsBecause, BeginsText, MayCreate}
@@ -26,6 +26,7 @@ begins_nothing files (Convert r) = refl
 begins_nothing files (Decode r) = refl
 begins_nothing files (Follow r) = inl refl
 begins_nothing files (Drop r) = refl
+begins_nothing files (Salvage r) = refl
 begins_nothing files (Join r) = refl
 
 module _ (old new : World) (r : Request) (text : List ℕ) where

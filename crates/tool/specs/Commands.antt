@@ -1,11 +1,12 @@
 -- What each command gives of what it reads.
-use Rattle.std.specs.Prelude.{◌≡◌, ◌<◌, ℕ, Bool, true, List, [], ◌∷◌, ◌++◌, Option, Some, None, IsSome, length, map, option_map, codes, Ok, Err}
+use Rattle.std.specs.Prelude.{◌≡◌, ◌⊎◌, ◌<◌, ℕ, Bool, true, List, [], ◌∷◌, ◌++◌, Option, Some, None, IsSome, IfSome, length, map, option_map, codes, Ok, Err}
 use Rattle.std.specs.Borrow.{Bor}
 use Rattle.lists.specs.Selection.{rest, is_among, first_outside}
 use Rattle.partition.specs.Fti.{Fti, IsValidFti, fti_from, block_count}
 use Rattle.partition.specs.FtiFault.{fti_fault}
-use Rattle.session.specs.Frames.{frames, HasRead, IsReadFault}
+use Rattle.session.specs.Frames.{frames, HasRead, IsFramed, IsReadFault, StopsAt}
 use Rattle.session.specs.Joined.{joined}
+use Rattle.session.specs.declared.frame.FrameFault.{FrameFault}
 use Rattle.session.specs.declared.frame.FrameFault.TheVariants.{Io as FrameIo, NoSuchPlace}
 use Rattle.alc.specs.Reading.{Reading}
 use Rattle.reception.specs.declared.scope.Identity.{Identity}
@@ -26,7 +27,7 @@ use Rattle.coder.specs.declared.sending.SendFault.TheVariants.{SymbolTooLong, Io
 use Rattle.request.specs.declared.requests.Sizes.{Sizes}
 use Rattle.request.specs.declared.requests.Sending.{Sending}
 use Rattle.request.specs.declared.requests.Request.{Request}
-use Rattle.request.specs.declared.requests.Request.TheVariants.{Check, Twin, Show, Encode, Certify, Convert, Decode, Follow, Drop, Join}
+use Rattle.request.specs.declared.requests.Request.TheVariants.{Check, Twin, Show, Encode, Certify, Convert, Decode, Follow, Drop, Salvage, Join}
 use Rattle.tool.specs.World.{World, Holds, MayFail}
 use Rattle.tool.specs.Inputs.{Input, AnObject, ASession, ACertificate, AStream, Value, Bytes, Datagrams, Polynomials, Opened, HasValue, HaveValues}
 use Rattle.tool.specs.Lines.{line_of, count_line, short_text, numbered, verdict_text, answer_text, reading_text}
@@ -45,6 +46,7 @@ inputs_of (Convert r) = ACertificate r.certificate.now ∷ []
 inputs_of (Decode r) = ASession r.session.now ∷ []
 inputs_of (Follow r) = AStream r.session.now ∷ []
 inputs_of (Drop r) = ASession r.session.now ∷ []
+inputs_of (Salvage r) = AStream r.session.now ∷ []
 inputs_of (Join r) = map (λ session. ASession session.now) r.sessions.items
 
 -- the name of its output, where it has one, and the fault that tells that writing has failed
@@ -58,6 +60,7 @@ output_of (Convert r) = Some r.output.now
 output_of (Decode r) = Some r.output.now
 output_of (Follow r) = Some r.output.now
 output_of (Drop r) = Some r.output.now
+output_of (Salvage r) = Some r.output.now
 output_of (Join r) = Some r.output.now
 
 abbrev pub IsWriteFault : Request → Fault → Type 0
@@ -65,6 +68,7 @@ IsWriteFault (Encode r) fault = fault ≡ Send SendIo
 IsWriteFault (Certify r) fault = fault ≡ NoCertificate CertificateIo
 IsWriteFault (Convert r) fault = fault ≡ NoCertificate CertificateIo
 IsWriteFault (Drop r) fault = fault ≡ Frame FrameIo
+IsWriteFault (Salvage r) fault = fault ≡ Frame FrameIo
 IsWriteFault (Join r) fault = fault ≡ Frame FrameIo
 IsWriteFault (Check r) (File name) = option_map (λ picture. picture.now) r.picture ≡ Some name.now
 IsWriteFault (Twin r) (File name) = name.now ≡ r.output.now
@@ -130,6 +134,14 @@ abbrev pub GivesDatagrams : List ℕ → List (List ℕ) → Outcome → Type 0
 GivesDatagrams name datagrams outcome =
     IsOutcome (count_line name (length datagrams) (codes " datagrams")) 0 (Some (frames datagrams)) outcome
 
+-- The datagrams of the frames that these bytes begin with, all of them: the bytes end there, and the
+-- status is 0; or no frame follows, and it is 1.
+abbrev pub IsSalvaged : List (List ℕ) → ℕ → List ℕ → Type 0
+IsSalvaged datagrams status x =
+    (IsFramed datagrams x × (status ≡ 0))
+    ⊎ ((fault : FrameFault) × (stops : StopsAt fault x) × (stops.datagrams ≡ datagrams)
+    × (status ≡ 1))
+
 -- 0 where there is an object, 1 where there is a fault, and 3 where too little came
 abbrev pub answer_status : Answer → ℕ
 answer_status (Object object) = 0
@@ -168,6 +180,10 @@ Gives (Follow r) (Opened opened ∷ []) outcome =
 Gives (Drop r) (Datagrams datagrams ∷ []) outcome =
     (first_outside (length datagrams) r.places.items ≡ None)
     × GivesDatagrams (codes "kept") (rest (is_among r.places.items) datagrams) outcome
+Gives (Salvage r) (Opened opened ∷ []) outcome =
+    (datagrams : List (List ℕ)) × (status : ℕ) × IfSome opened (IsSalvaged datagrams status)
+    × IsOutcome (count_line (codes "kept") (length datagrams) (codes " datagrams")) status
+    (Some (frames datagrams)) outcome
 Gives (Join r) values outcome =
     (lists : List (List (List ℕ))) × (values ≡ map Datagrams lists) × GivesDatagrams (codes "joined") (joined r.turns lists) outcome
 Gives r values outcome = ⊥
@@ -201,4 +217,5 @@ Refuses world (Convert r) text (NoCertificate OtherIdentity) = Holds world.files
 Refuses world (Drop r) text (Frame (NoSuchPlace place)) =
     (datagrams : List (List ℕ)) × HasValue world.files (ASession r.session.now) (Datagrams datagrams)
     × (first_outside (length datagrams) r.places.items ≡ Some place)
+Refuses world (Salvage r) text (Frame FrameIo) = MayFail world
 Refuses world r text fault = ⊥

@@ -15,6 +15,7 @@ pub mod Listening
 pub mod Opening
 pub mod Outcomes
 pub mod ReadingObjects
+pub mod Salvaging
 pub mod Sending
 pub mod ShortBlocks
 pub mod Showing

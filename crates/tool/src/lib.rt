@@ -19,6 +19,7 @@ mod memory;
 mod output;
 mod print;
 mod running;
+mod salvage;
 mod show;
 mod sizes;
 mod telling;

@@ -16,6 +16,7 @@ use crate::fault::{Fault, Stop};
 use crate::follow::follow;
 use crate::host::Host;
 use crate::join::join;
+use crate::salvage::salvage;
 use crate::show::show;
 use crate::telling::finish;
 use crate::twin::twin;
@@ -41,6 +42,7 @@ fn perform<'a, H: Host>(alloc: Global, host: &mut H, request: &Request<'a>) -> R
         Request::Convert(request) => convert(alloc, host, request),
         Request::Decode(request) => decode(alloc, host, request),
         Request::Drop(request) => drop_places(alloc, host, request),
+        Request::Salvage(request) => salvage(alloc, host, request),
         Request::Join(request) => join(alloc, host, request),
     };
     finish(host, done)
