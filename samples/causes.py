@@ -86,6 +86,8 @@ CASES = [
     (["encode", "empty.txt", "out", *OF_NOTE, *NUMBERS], 1, "fault F1", ["empty.txt is empty"]),
     (["encode", "note.txt", "out", *OF_NOTE, "--symbol", "8", "--block", "8", "--max", "4"], 1, "fault F5", ["--max is below --block"]),
     (["show", "cut.session"], 1, "fault S2", ["cut.session is cut off", "datagram 5", "byte "]),
+    (["salvage", "cut.session", "out"], 1, "kept 5 datagrams", ["cut.session is cut off", "datagram 5"]),
+    (["salvage", "note.session", "out"], 0, "kept 6 datagrams", None),
     (["decode", "cut.session", "out", *OF_NOTE], 1, "fault S2", ["cut.session is cut off", "datagram 5"]),
     (["join", "out", "note.session", "cut.session"], 1, "fault S2", ["cut.session is cut off", "datagram 5"]),
     (["show", "long.session"], 1, "fault S3", ["long.session", "datagram 0", "above 65507"]),

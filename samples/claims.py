@@ -64,6 +64,7 @@ LINES = {
     },
     "show": {0: f"(?:{SHOWN})*", 1: rf"(?:{SHOWN}|\d+ {PACKET}\n)+(?:{FRAMES})?|{FRAMES}"},
     "drop": {0: r"kept \d+ datagrams\n", 1: rf"fault S6 NoSuchPlace \d+\n|{FRAMES}"},
+    "salvage": {0: r"kept \d+ datagrams\n", 1: r"kept \d+ datagrams\n"},
     "convert": {0: r"converted \d+ blocks\n", 1: rf"fault Z1 Magic\n|fault Z2 Fti (?:{FTI})\n|fault Z3 Size\n|fault Z6 OtherIdentity\n"},
     "twin": {0: r"twin block \d+ have \d+ need \d+\n", 1: f"no twin\n|{REASONS}|{FAULTS}"},
 }
@@ -76,6 +77,7 @@ WORDS = {
     "follow": ["follow", "s", "out", *OF_NOTE],
     "show": ["show", "s"],
     "drop": ["drop", "s", "out", "0"],
+    "salvage": ["salvage", "s", "out"],
     "twin": ["twin", "s", "o", "c", "out", *OF_NOTE],
     "convert": ["convert", "c", "out", *OF_NOTE],
 }
@@ -104,7 +106,7 @@ class Try:
 
     def is_answered(self, ran):
         status, output, messages, left, parts = ran
-        if messages or parts or (left != BEFORE and status != 0):
+        if messages or parts or (left != BEFORE and status != 0 and self.words[0] != "salvage"):
             return False
         if self.wanted is not None:
             return (status, output.decode()) == self.wanted
@@ -125,6 +127,10 @@ def of_beginning(command, session):
     count, rest = frames_in(session)
     if command == "follow" and count >= 4:
         return 0, "complete after 4 datagrams\nobject 29 bytes\n"
+    if command == "salvage":
+        return 1 if rest else 0, f"kept {count} datagrams\n"
+    if command == "show" and count:
+        return None
     if rest:
         return 1, "fault S1 CutLength\n" if rest == 1 else "fault S2 CutDatagram\n"
     short = f"block 0 have {count} need 4\n"

@@ -146,6 +146,7 @@ WRITING = {
     "certify": "fault Z4 Io",
     "convert": "fault Z4 Io",
     "drop": "fault S4 Io",
+    "salvage": "fault S4 Io",
     "join": "fault S4 Io",
 }
 
@@ -158,6 +159,7 @@ INPUTS = {
     "convert": [CERTIFICATE],
     "check": [FRAMES, OBJECT, CERTIFICATE],
     "drop": [FRAMES],
+    "salvage": [FRAMES],
     "join": ["", FRAMES, FRAMES, FRAMES],
     "decode": [FRAMES],
     "follow": [FRAMES],

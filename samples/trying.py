@@ -61,6 +61,8 @@ COMMANDS = [
     ["drop", "bulletin.session", "out", "0", "3", "7"],
     ["drop", "bulletin.session", "out", "99"],
     ["drop", "cut.session", "out", "0"],
+    ["salvage", "cut.session", "out"],
+    ["salvage", "bulletin.session", "out"],
     ["join", "out", "note.session"],
     ["join", "out", "note.session", "bulletin.session", "note.session", "--turns"],
     ["join", "out", "note.session", "cut.session"],

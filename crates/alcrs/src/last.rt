@@ -10,6 +10,7 @@ const MOST: usize = 160;
 pub(crate) struct LastLine {
     front: [u8; 160],
     length: usize,
+    is_open: bool,
     contradictions: u64,
     repeats: u64,
 }
@@ -19,22 +20,35 @@ impl LastLine {
         LastLine {
             front: [0u8; MOST],
             length: 0,
+            is_open: false,
             contradictions: 0,
             repeats: 0,
         }
     }
 
-    /// Keeps the front of these bytes in place of what was kept.
+    /// Keeps the front of these bytes in place of what was kept, or behind it, where its line hasn't ended.
     pub(crate) fn note(&mut self, bytes: &[u8]) {
-        let length = bytes.len().min(MOST);
-        for place in 0..length {
-            self.front[place] = bytes[place];
+        if !self.is_open {
+            self.length = 0;
         }
-        self.length = length;
+        for byte in bytes.iter().take(MOST) {
+            self.push(*byte);
+        }
+        self.is_open = match bytes.last() {
+            Some(byte) => *byte != b'\n',
+            None => self.is_open,
+        };
         if is_contradiction(self.text()) {
             self.contradictions = self.contradictions.saturating_add(1);
         }
         self.repeats = repeats_in(std::str::from_utf8(bytes).unwrap_or(""));
+    }
+
+    fn push(&mut self, byte: u8) {
+        if self.length < MOST {
+            self.front[self.length] = byte;
+            self.length += 1;
+        }
     }
 
     /// The first line of it, as far as it is ASCII.

@@ -26,12 +26,20 @@ fn views_of(alloc: Global, words: &[String]) -> Result<Vec<&str>, AllocError> {
     Ok(views)
 }
 
-// Says on standard error why the command ended as its last line tells, where there is more to say.
-fn tell_cause<R: Files + Eprint>(rt: &R, alloc: Global, words: &[&str], last: &LastLine) {
+// Says on standard error why the command ended with its status, as its last line tells, where there is more to say.
+fn tell_cause<R: Files + Eprint>(
+    rt: &R,
+    alloc: Global,
+    words: &[&str],
+    last: &LastLine,
+    status: u8,
+) {
     let Ok(request) = request(alloc, words) else {
         return;
     };
-    tell(rt, explain(rt, alloc, &request, last.text()));
+    if status != 0 {
+        tell(rt, explain(rt, alloc, &request, last.text()));
+    }
     tell(rt, doubt(rt, alloc, &request, last.contradictions()));
     tell(rt, repeated(rt, alloc, &request, last.repeats()));
 }
@@ -52,7 +60,7 @@ fn respond<O: std::io::Write + Drop>(
     let mut err = Device::new(rt.stderr());
     let status = answer(alloc, words, host, &mut err);
     let status = status_after(status, host.flush());
-    tell_cause(rt, alloc, words, host.last());
+    tell_cause(rt, alloc, words, host.last(), status);
     status
 }
 

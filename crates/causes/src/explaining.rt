@@ -35,8 +35,7 @@ pub fn explain<R: Files>(
     match case.word(0) {
         "fault" => case.fault(),
         "no" => case.no_and_no_picture(),
-        // The line `kept d datagrams` is printed in pieces, and the last of them has no words.
-        "kept" | "" => case.kept(),
+        "kept" => case.kept(),
         "missing" => case.say(
             "{S} has {1} different symbols of block {0}, and {2} are needed: join it with what \
             came of the same session at another time (alcrs join)",
