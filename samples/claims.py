@@ -229,7 +229,8 @@ def great_claims():
         yield Try(f"packet without FTI, of {size} bytes", WORDS["decode"], {"s": behind}, wanted)
     for length, text in [(65507, "fault S2 CutDatagram\n"), (65508, "fault S3 TooLong\n"), (65535, "fault S3 TooLong\n")]:
         for command in OF_SESSION:
-            yield Try(f"frame of {length} bytes", WORDS[command], {"s": struct.pack(">H", length) + bytes(100)}, (1, text))
+            wanted = 1, "kept 0 datagrams\n" if command == "salvage" else text
+            yield Try(f"frame of {length} bytes", WORDS[command], {"s": struct.pack(">H", length) + bytes(100)}, wanted)
     sizes = ["--symbol", "65475", "--block", "1", "--max", "255"]
     yield Try("great symbols", ["encode", "o", "out", *OF_NOTE, *sizes], {}, (0, "encoded 255 datagrams\n"))
     yield Try("great symbols", ["certify", "o", "out", *OF_NOTE, *sizes], {}, (0, "certified 1 blocks\n"))
