@@ -4,13 +4,16 @@
 Of each sheet: it is XML, in UTF-8, and short; its words tell the margin, the burst, the weakest block, the kill and the
 carriers that the lines tell; its columns stand as high as what each block has to spare, and its curve as high as the longest
 run from each place that may be missed, which are counted here one by one of the session's datagrams. The lines and the status
-are those without a picture. At a no, and at a fault, the file stays what it was. After `./alcrs` has built the program.
+are those without a picture. At a no, and at a fault, the file stays what it was. Where `rsvg-convert` is installed, one
+sheet is made an image, whose size and some of whose pixels are looked at. After `./alcrs` has built the program.
 """
 import os
 import re
+import shutil
 import subprocess
 import sys
 import tempfile
+import zlib
 import xml.etree.ElementTree as ElementTree
 
 from trying import BEFORE, OF_BULLETIN, OF_NOTE, PROGRAM, make_inputs
@@ -206,12 +209,63 @@ def make_more(room):
     alcrs("join", DRAWN[-1][0], "note.session")
 
 
+# Pixels of the bulletin's sheet, and their colours: the paper, a bar, the shaded run, and the end from which all may be missed.
+PIXELS = {
+    (5, 5): (255, 255, 255),
+    (186, 250): (47, 108, 168),
+    (110, 450): (242, 219, 223),
+    (925, 450): (236, 236, 236),
+}
+
+
+def image_of(png):
+    """Width, height, bytes of a pixel and rows of a PNG in colours of eight bits."""
+    width, height = (int.from_bytes(png[at : at + 4], "big") for at in (16, 20))
+    if png[24] != 8 or png[25] not in (2, 6) or png[26:29] != bytes(3):
+        wrong("the image is none in colours of eight bits")
+    size = 3 if png[25] == 2 else 4
+    packed, at = b"", 8
+    while at < len(png):
+        length = int.from_bytes(png[at : at + 4], "big")
+        if png[at + 4 : at + 8] == b"IDAT":
+            packed += png[at + 8 : at + 8 + length]
+        at += 12 + length
+    data, rows, above = zlib.decompress(packed), [], bytes(size * width)
+    for start in range(0, len(data), size * width + 1):
+        kind, row = data[start], bytearray(data[start + 1 : start + 1 + size * width])
+        for i in range(len(row)):
+            left, up, corner = (row[i - size], above[i], above[i - size]) if i >= size else (0, above[i], 0)
+            near = left + up - corner
+            paeth = min((left, up, corner), key=lambda value: abs(near - value))
+            row[i] = (row[i] + (0, left, up, (left + up) // 2, paeth)[kind]) & 255
+        rows.append(row)
+        above = row
+    return width, height, size, rows
+
+
+def compare_image(room):
+    """Looks at the image of one sheet, where the program that makes it is there."""
+    if shutil.which("rsvg-convert") is None:
+        print("pictures.py: no image is made, as there is no rsvg-convert")
+        return
+    run(room, "check", "bulletin.session", "bulletin.txt", "bulletin.rsc", *OF_BULLETIN, "--picture", "sheet.svg")
+    made = subprocess.run(["rsvg-convert", "sheet.svg"], cwd=room, capture_output=True, check=True)
+    width, height, size, rows = image_of(made.stdout)
+    if (width, height) != (1000, 700):
+        wrong(f"the image has {width} by {height} pixels")
+    for (x, y), colour in PIXELS.items():
+        found = tuple(rows[y][size * x : size * x + 3])
+        if max(abs(one - other) for one, other in zip(found, colour)) > 3:
+            wrong(f"the pixel at {x}, {y} is {found}")
+
+
 def main():
     with tempfile.TemporaryDirectory() as room:
         make_inputs(room)
         make_more(room)
         for case in DRAWN:
             compare_drawn(room, *case)
+        compare_image(room)
         for case in NOT_DRAWN:
             (status, _), data = compare(room, *case)
             if status != 1 or data != BEFORE:
