@@ -1,5 +1,5 @@
-//! Whole commands over files in memory whose inputs a program makes, or whose output has little room. What is data stands
-//! in the transcripts of the crate `transcripts`.
+//! Whole commands over files in memory whose inputs a program makes, or whose output has little
+//! room. What is data stands in the transcripts of the crate `transcripts`.
 #![tactic(auto)]
 
 #[cfg(test)]

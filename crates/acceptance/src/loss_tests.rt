@@ -139,7 +139,8 @@ fn is_too_much(plan: &Plan<'_>, places: &[Place], lost: usize) -> bool {
     short_block(plan, places, lost).is_some() || carriers_left(places, lost) == 0
 }
 
-// The ESIs of a block that a loss takes away wholly, as a number: such numbers stand in the order of a dictionary.
+// The ESIs of a block that a loss takes away wholly, as a number: such numbers stand in the order
+// of a dictionary.
 fn taken_esis(plan: &Plan<'_>, places: &[Place], lost: usize, block: usize) -> usize {
     let all = kinds_left(places, 0);
     let left = kinds_left(places, lost);
@@ -166,7 +167,8 @@ fn size_of(lost: usize) -> usize {
 #[derive(Drop)]
 struct Losses {
     carriers: usize,
-    /// How many places the least loss that is too much takes, the block that it leaves short, the ESIs taken, and the loss.
+    /// How many places the least loss that is too much takes, the block that it leaves short, the
+    /// ESIs taken, and the loss.
     least: (usize, usize, usize, usize),
     burst: usize,
 }
@@ -262,8 +264,8 @@ fn printed(alloc: Global, plan: &Plan<'_>, places: &[Place]) -> Result<String, F
     Ok(told.text)
 }
 
-// How many different packets a place may hold, at least one: each kind of symbol in so many forms, with the FTI, and
-// without it where there are two.
+// How many different packets a place may hold, at least one: each kind of symbol in so many forms,
+// with the FTI, and without it where there are two.
 fn choices(plan: &Plan<'_>, forms: usize) -> usize {
     plan.kinds.len().saturating_mul(forms).max(1)
 }
@@ -291,8 +293,8 @@ fn session_at(
     Ok(places)
 }
 
-// Every session of up to `most` packets: the report's lines are those of all losses, where no block is short and there is a
-// carrier.
+// Every session of up to `most` packets: the report's lines are those of all losses, where no block
+// is short and there is a carrier.
 fn try_sessions(
     rt: &impl Abort,
     alloc: Global,

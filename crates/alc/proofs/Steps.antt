@@ -1,4 +1,5 @@
--- A loop over extensions keeps the answer: what a walk over the bytes that are left gives is what the whole walk gives.
+-- A loop over extensions keeps the answer: what a walk over the bytes that are left gives is what
+-- the whole walk gives.
 use Rattle.std.proofs.Common.{◌≡◌, ℕ, suc, ◌+◌, ◌-◌, ◌<◌, ◌≤◌, ◌⊎◌, inl, inr, true, false, cond, List, [], ◌∷◌, ◌++◌, length, take, drop, get_or, arith, refl, ap, sym, ◌∙◌, Option, Some, None, Result, Ok, Err}
 use Rattle.std.specs.Prelude.{is_some, option_map}
 use Rattle.std.proofs.lemmas.Bool.{eq-eqb, ne_eqb}

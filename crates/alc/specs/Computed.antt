@@ -1,5 +1,7 @@
 -- Reading as a function that computes: the packet of a datagram, or the first fault.
-use Rattle.std.specs.Prelude.{ℕ, zero, suc, ◌+◌, ◌*◌, ◌/◌, ◌%◌, Bool, true, false, ◌||◌, ◌==◌, nat_le, nat_lt, is_some, if◌then◌else◌, not, List, [], ◌∷◌, length, take, drop, slice_index, Option, Some, None, Result, Ok, Err}
+use Rattle.std.specs.Prelude.{ℕ, zero, suc, ◌+◌, ◌*◌, ◌/◌, ◌%◌, Bool, true, false, ◌||◌, ◌==◌}
+use Rattle.std.specs.Prelude.{nat_le, nat_lt, is_some, if◌then◌else◌, not, List, [], ◌∷◌, length}
+use Rattle.std.specs.Prelude.{take, drop, slice_index, Option, Some, None, Result, Ok, Err}
 use Rattle.byteorder.specs.Endian.{big_number}
 use Rattle.partition.specs.Fti.{Fti}
 use Rattle.alc.specs.Packet.{Packet, type_of}
@@ -7,7 +9,10 @@ use Rattle.partition.specs.FtiFault.{fti_fault}
 use Rattle.partition.specs.declared.FtiError.{FtiError}
 use Rattle.alc.specs.PacketFault.{c_of, s_of, o_of, h_of, fixed_words, header_end, extension_bytes}
 use Rattle.alc.specs.declared.fault.PacketFault.{PacketFault}
-use Rattle.alc.specs.declared.fault.PacketFault.TheVariants.{TooShort, Version, Psi, Codepoint, NoIdentity, HeaderLength, Extension, FtiLength, TwoFti, FtiValue, PayloadLength}
+use Rattle.alc.specs.declared.fault.PacketFault.TheVariants.{TooShort, Version, Psi, Codepoint}
+use Rattle.alc.specs.declared.fault.PacketFault.TheVariants.{NoIdentity, HeaderLength, Extension}
+use Rattle.alc.specs.declared.fault.PacketFault.TheVariants.{FtiLength, TwoFti, FtiValue}
+use Rattle.alc.specs.declared.fault.PacketFault.TheVariants.{PayloadLength}
 
 -- the number that bytes stand for, the highest first
 unfoldable pub number_of : List ℕ → ℕ
@@ -23,7 +28,8 @@ size_of [] = 0
 size_of (t ∷ []) = 4
 size_of (t ∷ words ∷ rest) = if nat_le 128 t then 4 else 4 * words
 
--- the content of EXT_FTI among these extensions, of which one may have come before; or the first fault
+-- the content of EXT_FTI among these extensions, of which one may have come before; or the first
+-- fault
 unfoldable pub walk : ℕ → List ℕ → Option (List ℕ) → Result (Option (List ℕ)) PacketFault
 walk zero rest seen = Ok seen
 walk (suc n) rest seen =
@@ -45,12 +51,20 @@ walk (suc n) rest seen =
     ]
 
 abbrev pub fti_in : List ℕ → Fti
-fti_in e = record { transfer_length = number_of (part 0 6 e); symbol_length = number_of (part 6 2 e); block_length = slice_index e 8; max_symbols = slice_index e 9 }
+fti_in e =
+    record {
+      transfer_length = number_of (part 0 6 e);
+      symbol_length = number_of (part 6 2 e);
+      block_length = slice_index e 8;
+      max_symbols = slice_index e 9;
+    }
 
 abbrev pub packet_with : List ℕ → Option Fti → Packet
 packet_with d fti = record {
   tsi = number_of (part (4 + 4 * (c_of d + 1)) (4 * s_of d + 2 * h_of d) d);
-  toi = number_of (part (4 + 4 * (c_of d + 1) + (4 * s_of d + 2 * h_of d)) (4 * o_of d + 2 * h_of d) d);
+  toi =
+      number_of
+      (part (4 + 4 * (c_of d + 1) + (4 * s_of d + 2 * h_of d)) (4 * o_of d + 2 * h_of d) d);
   fti = fti;
   block = number_of (part (header_end d) 3 d);
   esi = slice_index d (header_end d + 3);
@@ -69,7 +83,8 @@ abbrev pub with_fti : List ℕ → Fti → Option FtiError → Result Packet Pac
 with_fti d f (Some x) = Err (FtiValue x)
 with_fti d f None = with_payload d (Some f)
 
-abbrev pub with_extensions : List ℕ → Result (Option (List ℕ)) PacketFault → Result Packet PacketFault
+abbrev pub with_extensions : List ℕ → Result (Option (List ℕ)) PacketFault
+    → Result Packet PacketFault
 with_extensions d (Err r) = Err r
 with_extensions d (Ok None) = with_payload d None
 with_extensions d (Ok (Some e)) = with_fti d (fti_in e) (fti_fault (fti_in e))
@@ -81,5 +96,6 @@ read_of d =
     else if not (slice_index d 0 % 4 == 0) then Err Psi
     else if not (slice_index d 3 == 5) then Err Codepoint
     else if s_of d + h_of d == 0 || o_of d + h_of d == 0 then Err NoIdentity
-    else if nat_lt (slice_index d 2) (fixed_words d) || nat_lt (length d) (header_end d) then Err HeaderLength
+    else if nat_lt (slice_index d 2) (fixed_words d)
+    || nat_lt (length d) (header_end d) then Err HeaderLength
     else with_extensions d (walk (length d) (extension_bytes d) None)

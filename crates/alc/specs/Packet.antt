@@ -1,12 +1,16 @@
--- The ALC packet (RFC 5775): LCT header (RFC 5651, section 5.1), header extensions (RFC 5651, section 5.2), EXT_FTI and
--- FEC payload ID for FEC Encoding ID 5 (RFC 5510, section 5), encoding symbol.
-use Rattle.std.specs.Prelude.{◌≡◌, ℕ, ◌+◌, ◌*◌, ◌/◌, ◌^◌, ◌<◌, ◌≤◌, Bool, true, false, ◌&&◌, ◌==◌, nat_le, if◌then◌else◌, not, List, [], ◌∷◌, ◌++◌, length, flat_map, Option, Some, None, IfSome}
+-- The ALC packet (RFC 5775): LCT header (RFC 5651, section 5.1), header extensions (RFC 5651,
+-- section 5.2), EXT_FTI and FEC payload ID for FEC Encoding ID 5 (RFC 5510, section 5), encoding
+-- symbol.
+use Rattle.std.specs.Prelude.{◌≡◌, ℕ, ◌+◌, ◌*◌, ◌/◌, ◌^◌, ◌<◌, ◌≤◌, Bool, true, false, ◌&&◌, ◌==◌}
+use Rattle.std.specs.Prelude.{nat_le, if◌then◌else◌, not, List, [], ◌∷◌, ◌++◌, length, flat_map}
+use Rattle.std.specs.Prelude.{Option, Some, None, IfSome}
 use Rattle.std.specs.List.{list_all}
 use Rattle.byteorder.specs.Endian.{big_bytes}
 use Rattle.lists.specs.Bytes.{AreBytes}
 use Rattle.partition.specs.Fti.{Fti, IsValidFti}
 
--- TSI, TOI, the FTI where the packet carries one, source block number, encoding symbol ID, and the symbol's bytes
+-- TSI, TOI, the FTI where the packet carries one, source block number, encoding symbol ID, and the
+-- symbol's bytes
 pub record Packet : Type 0 where
   pub tsi : ℕ
   pub toi : ℕ
@@ -35,7 +39,8 @@ is_other e = is_extension e && not (type_of e == 64)
 
 abbrev pub fti_extension : Fti → List ℕ
 fti_extension f =
-    64 ∷ 3 ∷ big_bytes 6 f.transfer_length ++ big_bytes 2 f.symbol_length ++ f.block_length ∷ f.max_symbols ∷ []
+    64 ∷ 3 ∷ big_bytes 6 f.transfer_length ++ big_bytes 2 f.symbol_length
+    ++ f.block_length ∷ f.max_symbols ∷ []
 
 -- where there is no FTI, there is no extension for it
 abbrev pub fti_bytes : Option Fti → List ℕ
@@ -47,7 +52,8 @@ abbrev pub IsSymbolLength : Option Fti → ℕ → Type 0
 IsSymbolLength None size = 1 ≤ size
 IsSymbolLength (Some f) size = size ≡ f.symbol_length
 
--- what a header may choose: its flags (low: Res, A and B), its congestion control bytes and its other extensions
+-- what a header may choose: its flags (low: Res, A and B), its congestion control bytes and its
+-- other extensions
 pub record Form : Type 0 where
   pub c : ℕ
   pub s : ℕ
@@ -66,12 +72,14 @@ extensions form fti = joined form.before ++ fti_bytes fti ++ joined form.after
 
 abbrev pub header_length : Form → Option Fti → ℕ
 header_length form fti =
-    4 + 4 * (form.c + 1) + (4 * form.s + 2 * form.h) + (4 * form.o + 2 * form.h) + length (extensions form fti)
+    4 + 4 * (form.c + 1) + (4 * form.s + 2 * form.h) + (4 * form.o + 2 * form.h)
+    + length (extensions form fti)
 
 -- all but the symbol, in this form
 abbrev pub head_of : Form → Packet → List ℕ
 head_of form p =
-    ((16 + 4 * form.c) ∷ (128 * form.s + 32 * form.o + 16 * form.h + form.low) ∷ header_length form p.fti / 4 ∷ 5 ∷ [])
+    ((16 + 4 * form.c) ∷ (128 * form.s + 32 * form.o + 16 * form.h + form.low)
+    ∷ header_length form p.fti / 4 ∷ 5 ∷ [])
     ++ form.control
     ++ big_bytes (4 * form.s + 2 * form.h) p.tsi
     ++ big_bytes (4 * form.o + 2 * form.h) p.toi
@@ -111,7 +119,17 @@ pub record IsPacket (d : List ℕ) (p : Packet) : Type 0 where
 
 -- the form that is written
 abbrev pub written_form : Form
-written_form = record { c = 0; s = 1; o = 1; h = 0; low = 0; control = 0 ∷ 0 ∷ 0 ∷ 0 ∷ []; before = []; after = [] }
+written_form =
+    record {
+      c = 0;
+      s = 1;
+      o = 1;
+      h = 0;
+      low = 0;
+      control = 0 ∷ 0 ∷ 0 ∷ 0 ∷ [];
+      before = [];
+      after = [];
+    }
 
 abbrev pub written : Packet → List ℕ
 written p = spelled written_form p

@@ -1,12 +1,18 @@
--- Why a datagram is no packet: the first fault, in the order of the variants of PacketFault; those of the header extensions
--- go by the extension at which reading stops.
-use Rattle.std.specs.Prelude.{◌≡◌, ℕ, ◌+◌, ◌-◌, ◌*◌, ◌/◌, ◌%◌, ◌<◌, ◌≤◌, ◌⊎◌, Bool, true, ◌&&◌, ◌||◌, ◌==◌, not, List, ◌++◌, length, take, drop, slice_index, count_by, ◌^◌, Option, Some, None}
+-- Why a datagram is no packet: the first fault, in the order of the variants of PacketFault; those
+-- of the header extensions go by the extension at which reading stops.
+use Rattle.std.specs.Prelude.{◌≡◌, ℕ, ◌+◌, ◌-◌, ◌*◌, ◌/◌, ◌%◌, ◌<◌, ◌≤◌, ◌⊎◌, Bool, true, ◌&&◌}
+use Rattle.std.specs.Prelude.{◌||◌, ◌==◌, not, List, ◌++◌, length, take, drop, slice_index}
+use Rattle.std.specs.Prelude.{count_by, ◌^◌, Option, Some, None}
 use Rattle.std.specs.List.{list_all, list_any}
 use Rattle.partition.specs.Fti.{Fti}
 use Rattle.partition.specs.FtiFault.{fti_fault}
-use Rattle.alc.specs.Packet.{Packet, IsPacket, IsSymbolLength, is_extension, type_of, joined, fti_extension}
+use Rattle.alc.specs.Packet.{Packet, IsPacket, IsSymbolLength, is_extension, type_of, joined}
+use Rattle.alc.specs.Packet.{fti_extension}
 use Rattle.alc.specs.declared.fault.PacketFault.{PacketFault}
-use Rattle.alc.specs.declared.fault.PacketFault.TheVariants.{TooShort, Version, Psi, Codepoint, NoIdentity, HeaderLength, Extension, FtiLength, TwoFti, FtiValue, PayloadLength}
+use Rattle.alc.specs.declared.fault.PacketFault.TheVariants.{TooShort, Version, Psi, Codepoint}
+use Rattle.alc.specs.declared.fault.PacketFault.TheVariants.{NoIdentity, HeaderLength, Extension}
+use Rattle.alc.specs.declared.fault.PacketFault.TheVariants.{FtiLength, TwoFti, FtiValue}
+use Rattle.alc.specs.declared.fault.PacketFault.TheVariants.{PayloadLength}
 use Rattle.std.specs.Str.{bytes_eq}
 
 -- the numbers in the first bytes, whatever they are
@@ -55,15 +61,19 @@ pub record StopsAt (d : List ℕ) (es : List (List ℕ)) (rest : List ℕ) : Typ
 
 abbrev pub StopsBy : PacketFault → List (List ℕ) → List ℕ → Type 0
 StopsBy Extension es rest = (e : List ℕ) → ¬ BeginsWith rest e
-StopsBy FtiLength es rest = (e : List ℕ) × BeginsWith rest e × (is_fti e ≡ true) × (¬ (length e ≡ 12))
-StopsBy TwoFti es rest = (e : List ℕ) × BeginsWith rest e × (is_fti e ≡ true) × (count_by is_fti es ≡ 1) × (length e ≡ 12)
+StopsBy FtiLength es rest =
+    (e : List ℕ) × BeginsWith rest e × (is_fti e ≡ true) × (¬ (length e ≡ 12))
+StopsBy TwoFti es rest =
+    (e : List ℕ) × BeginsWith rest e × (is_fti e ≡ true) × (count_by is_fti es ≡ 1)
+    × (length e ≡ 12)
 StopsBy _ es rest = ⊥
 
 -- the extensions are sound to the end
 abbrev pub WalkEnds : List ℕ → List (List ℕ) → Type 0
 WalkEnds d es = (extension_bytes d ≡ joined es) × AreSound es
 
--- The fields of an EXT_FTI: without these bounds every extension would also spell numbers that are too large.
+-- The fields of an EXT_FTI: without these bounds every extension would also spell numbers that are
+-- too large.
 pub record HasFields (f : Fti) : Type 0 where
   pub length_below : f.transfer_length < 2 ^ 48
   pub symbol_below : f.symbol_length < 2 ^ 16
@@ -92,10 +102,13 @@ FaultHolds d Psi = ¬ (slice_index d 0 % 4 ≡ 0)
 FaultHolds d Codepoint = ¬ (slice_index d 3 ≡ 5)
 FaultHolds d NoIdentity = (s_of d + h_of d ≡ 0) ⊎ (o_of d + h_of d ≡ 0)
 FaultHolds d HeaderLength = (slice_index d 2 < fixed_words d) ⊎ (length d < header_end d)
-FaultHolds d (FtiValue x) = (es : List (List ℕ)) × (f : Fti) × WalkEnds d es × Carries es f × (fti_fault f ≡ Some x)
+FaultHolds d (FtiValue x) =
+    (es : List (List ℕ)) × (f : Fti) × WalkEnds d es × Carries es f × (fti_fault f ≡ Some x)
 FaultHolds d PayloadLength =
-    (es : List (List ℕ)) × (fti : Option Fti) × WalkEnds d es × CarriesValid es fti × (¬ HasPayload d fti)
-FaultHolds d fault = (es : List (List ℕ)) × (rest : List ℕ) × StopsAt d es rest × StopsBy fault es rest
+    (es : List (List ℕ)) × (fti : Option Fti) × WalkEnds d es × CarriesValid es fti
+    × (¬ HasPayload d fti)
+FaultHolds d fault =
+    (es : List (List ℕ)) × (rest : List ℕ) × StopsAt d es rest × StopsBy fault es rest
 
 -- the place of a fault in the table; the three of one extension go by the extension
 abbrev pub rank : PacketFault → ℕ

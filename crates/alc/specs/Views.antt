@@ -1,4 +1,5 @@
--- The packet that the code reads, as a value, and so its answer as a reading; and the FTI that is lent to be written.
+-- The packet that the code reads, as a value, and so its answer as a reading; and the FTI that is
+-- lent to be written.
 use Rattle.std.specs.Prelude.{Option, Result, Ok, Err, option_map}
 use Rattle.std.specs.Borrow.{Bor}
 use Rattle.partition.specs.Fti.{Fti}
@@ -8,7 +9,15 @@ use Rattle.alc.specs.declared.reading.Packet.{Packet}
 use Rattle.alc.specs.declared.fault.PacketFault.{PacketFault}
 
 abbrev pub packet_of : Packet → PacketValue
-packet_of p = record { tsi = p.tsi; toi = p.toi; fti = p.fti; block = p.sbn; esi = p.esi; bytes = p.symbol.now }
+packet_of p =
+    record {
+      tsi = p.tsi;
+      toi = p.toi;
+      fti = p.fti;
+      block = p.sbn;
+      esi = p.esi;
+      bytes = p.symbol.now;
+    }
 
 abbrev pub reading_of : Result Packet PacketFault → Reading
 reading_of (Ok p) = Ok (packet_of p)

@@ -13,8 +13,8 @@ abbrev pub packet_from : ℕ → ℕ → Option Fti → ℕ → ℕ → List ℕ
 packet_from tsi toi fti block esi symbol =
     record { tsi = tsi; toi = toi; fti = fti; block = block; esi = esi; bytes = symbol }
 
--- A packet with an FTI is written of a block and a symbol that the FTI has, and in its length. One without is written
--- of any block that its field holds, and some bytes.
+-- A packet with an FTI is written of a block and a symbol that the FTI has, and in its length. One
+-- without is written of any block that its field holds, and some bytes.
 abbrev pub IsWritable : Option Fti → ℕ → ℕ → ℕ → Type 0
 IsWritable None block esi size = (block < 2 ^ 24) × (1 ≤ size)
 IsWritable (Some f) block esi size =

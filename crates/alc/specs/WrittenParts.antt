@@ -5,10 +5,14 @@ use Rattle.partition.specs.Fti.{Fti}
 
 -- no other form is written: TSI and TOI of 32 bits, no congestion control, so many words of header
 abbrev pub fixed_part : ℕ → ℕ → ℕ → List ℕ
-fixed_part words tsi toi = (0x10 ∷ 0xA0 ∷ words ∷ 5 ∷ 0 ∷ 0 ∷ 0 ∷ 0 ∷ []) ++ (big_bytes 4 tsi ++ big_bytes 4 toi)
+fixed_part words tsi toi =
+    (0x10 ∷ 0xA0 ∷ words ∷ 5 ∷ 0 ∷ 0 ∷ 0 ∷ 0 ∷ []) ++ (big_bytes 4 tsi ++ big_bytes 4 toi)
 
 abbrev pub fti_part : Fti → List ℕ
-fti_part f = (64 ∷ 3 ∷ []) ++ (big_bytes 6 f.transfer_length ++ (big_bytes 2 f.symbol_length ++ (f.block_length ∷ f.max_symbols ∷ [])))
+fti_part f =
+    (64 ∷ 3 ∷ [])
+    ++ (big_bytes 6 f.transfer_length
+    ++ (big_bytes 2 f.symbol_length ++ (f.block_length ∷ f.max_symbols ∷ [])))
 
 abbrev pub payload_id : ℕ → ℕ → List ℕ
 payload_id block esi = big_bytes 3 block ++ (esi ∷ [])

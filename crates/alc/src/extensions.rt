@@ -1,5 +1,7 @@
-//! The header extensions (RFC 5651, section 5.2), and EXT_FTI among them (RFC 5510, section 5.2.4.1).
-ghost use Rattle.std.specs.Prelude.{◌≡◌, ◌<◌, length, IfOk, IfErr, IfSome, None, Some, option_map, Ok, Err};
+//! The header extensions (RFC 5651, section 5.2), and EXT_FTI among them (RFC 5510, section
+//! 5.2.4.1).
+ghost use Rattle.std.specs.Prelude.{◌≡◌, ◌<◌, length, IfOk, IfErr, IfSome, None, Some, option_map};
+ghost use Rattle.std.specs.Prelude.{Ok, Err};
 ghost use Rattle.partition.specs.FtiFault.{fti_fault};
 ghost use Rattle.alc.specs.Computed.{size_of, walk, fti_in};
 
@@ -13,7 +15,8 @@ pub(crate) const EXT_FTI: u8 = 64;
 /// The bytes of EXT_FTI: its type, its length in words, and ten bytes of content.
 pub(crate) const EXT_FTI_SIZE: usize = 12;
 
-// The bytes that the extension in front says it takes: one word, or below type 128 as many as its second byte says.
+// The bytes that the extension in front says it takes: one word, or below type 128 as many as its
+// second byte says.
 fn size_in_front(rest: &[u8]) -> usize
     requires { 0 < length rest.now }
     ensures { result ≡ size_of rest.now }
@@ -24,7 +27,8 @@ fn size_in_front(rest: &[u8]) -> usize
     }
 }
 
-/// The content of EXT_FTI among the header extensions, where they are whole and at most one of them is EXT_FTI.
+/// The content of EXT_FTI among the header extensions, where they are whole and at most one of them
+/// is EXT_FTI.
 pub(crate) fn fti_content(extensions: &[u8]) -> Result<Option<&[u8]>, PacketFault>
     ensures found { IfOk result (λ found.
         walk (length extensions.now) extensions.now None

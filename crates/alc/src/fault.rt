@@ -2,8 +2,9 @@
 use partition::FtiError;
 use thiserror::Error;
 
-/// Why a datagram is no packet: the first that holds, in this order. The header extensions are looked at one after the
-/// other from the front, and each for `Extension`, `FtiLength` and `TwoFti` in turn.
+/// Why a datagram is no packet: the first that holds, in this order. The header extensions are
+/// looked at one after the other from the front, and each for `Extension`, `FtiLength` and `TwoFti`
+/// in turn.
 #[derive(Debug, Clone, Copy, PartialEq, Eq, Error)]
 pub enum PacketFault {
     /// There are fewer than the 4 bytes that tell the header's form.
@@ -36,8 +37,8 @@ pub enum PacketFault {
     /// The numbers in EXT_FTI are no valid FTI.
     #[error("P11 FtiValue {0}")]
     FtiValue(FtiError),
-    /// What follows the header isn't a payload ID of 4 bytes and a symbol of the length that the FTI tells, or, where
-    /// there is no EXT_FTI, of at least one byte.
+    /// What follows the header isn't a payload ID of 4 bytes and a symbol of the length that the
+    /// FTI tells, or, where there is no EXT_FTI, of at least one byte.
     #[error("P12 PayloadLength")]
     PayloadLength,
 }

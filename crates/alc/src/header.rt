@@ -5,8 +5,8 @@ ghost use Rattle.alc.specs.Layout.{Lies};
 
 use crate::fault::PacketFault;
 
-/// Where the fields of a header begin, as places in the datagram. Each ends where the next begins, and behind `end`
-/// stands the payload ID.
+/// Where the fields of a header begin, as places in the datagram. Each ends where the next begins,
+/// and behind `end` stands the payload ID.
 #[derive(Clone, Copy)]
 pub(crate) struct Header {
     pub(crate) tsi: usize,

@@ -1,8 +1,9 @@
-//! Packets of Asynchronous Layered Coding (ALC, RFC 5775) with FEC Encoding ID 5 (RFC 5510, section 5): the header of
-//! Layered Coding Transport (LCT, RFC 5651) with its extensions, among them EXT_FTI, then the FEC payload ID and one
-//! encoding symbol.
+//! Packets of Asynchronous Layered Coding (ALC, RFC 5775) with FEC Encoding ID 5 (RFC 5510, section
+//! 5): the header of Layered Coding Transport (LCT, RFC 5651) with its extensions, among them
+//! EXT_FTI, then the FEC payload ID and one encoding symbol.
 //!
-//! Numbers of more than one byte are big-endian. No call takes memory: a packet borrows its symbol from its datagram.
+//! Numbers of more than one byte are big-endian. No call takes memory: a packet borrows its symbol
+//! from its datagram.
 //!
 //! - `fault`: why a datagram is no packet.
 //! - `header`: the fixed part of the header, and where its fields begin.

@@ -27,7 +27,8 @@ pub struct Packet<'a> {
     pub sbn: u32,
     /// The encoding symbol ID. It may be past the encoding symbols of the block.
     pub esi: u8,
-    /// The encoding symbol, of the length that the FTI tells, else of at least one byte; the bytes are the datagram's.
+    /// The encoding symbol, of the length that the FTI tells, else of at least one byte; the bytes
+    /// are the datagram's.
     pub symbol: &'a [u8],
 }
 
@@ -66,8 +67,9 @@ fn parse(datagram: &[u8]) -> Result<Packet<'_>, PacketFault>
     Ok(packet_with_fti(datagram, header, Some(fti)))
 }
 
-/// The packet that the datagram is, or the first fault for which it is none, in the order of `PacketFault`'s variants.
-/// Any bytes may be given. The packet's symbol is the end of the datagram.
+/// The packet that the datagram is, or the first fault for which it is none, in the order of
+/// `PacketFault`'s variants. Any bytes may be given. The packet's symbol is the end of the
+/// datagram.
 pub fn read(datagram: &[u8]) -> Result<Packet<'_>, PacketFault>
     // The datagram is that packet, or has that fault and none before it.
     ensures reads { Reads datagram.now (reading_of result) }
@@ -82,8 +84,8 @@ pub fn read(datagram: &[u8]) -> Result<Packet<'_>, PacketFault>
     parse(datagram)
 }
 
-/// Every list of bytes has one reading: it is a packet, or isn't one for one reason. A list that isn't of bytes has one at
-/// most.
+/// Every list of bytes has one reading: it is a packet, or isn't one for one reason. A list that
+/// isn't of bytes has one at most.
 pub fn one_reading()
     ensures some { (d : List ℕ) → AreBytes d → (r : Reading) × Reads d r }
     ensures only { (d : List ℕ) (r s : Reading) → Reads d r → Reads d s → r ≡ s }

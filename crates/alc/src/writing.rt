@@ -1,11 +1,12 @@
-//! Writing a datagram, in the one form that is written: TSI and TOI of 32 bits, CCI of 32 bits, all zero, and no header
-//! extension but EXT_FTI, which may be left out.
+//! Writing a datagram, in the one form that is written: TSI and TOI of 32 bits, CCI of 32 bits, all
+//! zero, and no header extension but EXT_FTI, which may be left out.
 ghost use Rattle.std.specs.Prelude.{◌≡◌, ◌+◌, ◌<◌, ◌≤◌, ◌++◌, ◌^◌, length, drop, take, IfSome};
 ghost use Rattle.partition.specs.Fti.{IsValidFti};
 ghost use Rattle.alc.specs.Packet.{IsPacket, written};
 ghost use Rattle.alc.specs.Views.{lent};
 ghost use Rattle.alc.specs.Written.{IsWritable, header_size, packet_from};
-ghost use Rattle.alc.specs.WrittenParts.{fixed_part, header_part, fti_part, payload_id, payload_part};
+ghost use Rattle.alc.specs.WrittenParts.{fixed_part, header_part, fti_part, payload_id};
+ghost use Rattle.alc.specs.WrittenParts.{payload_part};
 
 use crate::extensions::{EXT_FTI, EXT_FTI_SIZE};
 use byteorder::{BigEndian, ByteOrder};
@@ -16,7 +17,8 @@ const FIXED_SIZE: usize = 16;
 
 const PAYLOAD_ID_SIZE: usize = 4;
 
-/// The bytes of a datagram that is written before its encoding symbol: the header with EXT_FTI, and the FEC payload ID.
+/// The bytes of a datagram that is written before its encoding symbol: the header with EXT_FTI, and
+/// the FEC payload ID.
 pub const HEADER_SIZE: usize = FIXED_SIZE + EXT_FTI_SIZE + PAYLOAD_ID_SIZE;
 
 /// The same of one without EXT_FTI.
@@ -52,7 +54,8 @@ fn write_payload_id(out: &mut [u8], sbn: u32, esi: u8)
     out[3] = esi;
 }
 
-// The header, of seven words with EXT_FTI and of four without, and its size. What is behind it stays.
+// The header, of seven words with EXT_FTI and of four without, and its size. What is behind it
+// stays.
 fn write_header(out: &mut [u8], tsi: u32, toi: u32, fti: Option<&Fti>) -> usize
     requires { length (header_part tsi toi (lent fti)) ≤ length out.old }
     ensures size { result ≡ length (header_part tsi toi (lent fti.entry)) }
@@ -85,11 +88,13 @@ fn write_payload(out: &mut [u8], sbn: u32, esi: u8, symbol: &[u8])
     rest[..symbol.len()].copy_from_slice(symbol);
 }
 
-/// Writes the datagram of this packet at the front of `out`, and returns the datagram's length: [`HEADER_SIZE`] bytes,
-/// or [`HEADER_SIZE_WITHOUT_FTI`] where there is no `fti`, and the symbol's. The rest of `out` stays as it was.
+/// Writes the datagram of this packet at the front of `out`, and returns the datagram's length:
+/// [`HEADER_SIZE`] bytes, or [`HEADER_SIZE_WITHOUT_FTI`] where there is no `fti`, and the symbol's.
+/// The rest of `out` stays as it was.
 ///
-/// With an `fti`, `sbn` is one of its blocks, `esi` one of that block's encoding symbols, and `symbol` has E bytes.
-/// Without one, `sbn` is below 2^24, and `symbol` has at least one byte. `out` has room for the whole datagram.
+/// With an `fti`, `sbn` is one of its blocks, `esi` one of that block's encoding symbols, and
+/// `symbol` has E bytes. Without one, `sbn` is below 2^24, and `symbol` has at least one byte.
+/// `out` has room for the whole datagram.
 pub fn write(
     tsi: u32,
     toi: u32,

@@ -16,7 +16,8 @@ use tool::{FileFault, Host};
 /// How many bytes stand between a file, or the output, and its reader or writer.
 pub(crate) const BUFFER_SIZE: usize = 65536;
 
-/// How many files may stand beside an output under the names for its parts, as those of runs that were cut off.
+/// How many files may stand beside an output under the names for its parts, as those of runs that
+/// were cut off.
 const MOST_PARTS: u8 = 100;
 
 /// The files that names lead to as paths, and standard output.
@@ -46,7 +47,8 @@ impl<'a, R, O: std::io::Write + Drop> ProgramHost<'a, R, O> {
         &self.last
     }
 
-    /// Passes on all that was printed. `Failed` comes exactly where the output has failed, now or before.
+    /// Passes on all that was printed. `Failed` comes exactly where the output has failed, now or
+    /// before.
     pub fn flush(&mut self) -> Result<(), Failed>
         ensures passed { OnOk result (writer_buffer self.new.out.inner ≡ []) }
         ensures inner { Keeps (writer_contents O.contents self.old.out.inner)
@@ -65,7 +67,8 @@ struct Part {
     target: String,
 }
 
-/// A file that is written: beside its name until it is kept, or, where a device or a pipe has that, straight.
+/// A file that is written: beside its name until it is kept, or, where a device or a pipe has that,
+/// straight.
 pub struct HostOutput<T: std::io::Write + Drop> {
     device: Device<BufWriter<T>>,
     part: Option<Part>,
@@ -203,8 +206,8 @@ impl<R: Files, O: std::io::Write + Drop> Host for ProgramHost<'_, R, O> {
         }
     }
 
-    // A device or a pipe doesn't tell its length, nor does a file of the system's own, whose bytes are made as they are
-    // read and which calls itself empty.
+    // A device or a pipe doesn't tell its length, nor does a file of the system's own, whose bytes
+    // are made as they are read and which calls itself empty.
     fn length_of(&self, input: &Device<BufReader<R::File>>) -> Option<u64> {
         match input.get_ref().get_ref().metadata() {
             Ok(there) if there.is_file() && there.len() > 0 => Some(there.len()),

@@ -4,8 +4,8 @@ use causes::repeats_in;
 /// The most bytes of a line that are kept. The words that tell a fault are shorter.
 const MOST: usize = 160;
 
-/// The front of what was printed last; how many lines told that a datagram contradicts those before it; and how many
-/// repeats the lines of a yes tell.
+/// The front of what was printed last; how many lines told that a datagram contradicts those before
+/// it; and how many repeats the lines of a yes tell.
 #[derive(Drop)]
 pub(crate) struct LastLine {
     front: [u8; 160],
@@ -26,7 +26,8 @@ impl LastLine {
         }
     }
 
-    /// Keeps the front of these bytes in place of what was kept, or behind it, where its line hasn't ended.
+    /// Keeps the front of these bytes in place of what was kept, or behind it, where its line
+    /// hasn't ended.
     pub(crate) fn note(&mut self, bytes: &[u8]) {
         if !self.is_open {
             self.length = 0;

@@ -26,7 +26,8 @@ fn views_of(alloc: Global, words: &[String]) -> Result<Vec<&str>, AllocError> {
     Ok(views)
 }
 
-// Says on standard error why the command ended with its status, as its last line tells, where there is more to say.
+// Says on standard error why the command ended with its status, as its last line tells, where there
+// is more to say.
 fn tell_cause<R: Files + Eprint>(
     rt: &R,
     alloc: Global,

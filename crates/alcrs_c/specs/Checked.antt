@@ -10,7 +10,8 @@ use Rattle.cert.specs.declared.verdict.Verdict.{Verdict}
 -- The certificate's bytes are a certificate's. The session's bytes were read from the front, as far
 -- as the verdict needs, and this is the verdict on the datagrams in them, with all that a yes
 -- promises.
-pub record IsChecked (who : Identity) (session object certificate : List ℕ) (verdict : Verdict) : Type 0 where
+pub record IsChecked (who : Identity) (session object certificate : List ℕ)
+    (verdict : Verdict) : Type 0 where
   pub z : Certificate
   pub is : IsCertificate z
   pub text : certificate ≡ certificate_text z
@@ -19,7 +20,8 @@ pub record IsChecked (who : Identity) (session object certificate : List ℕ) (v
 
 -- The certificate's bytes are a certificate's. The session's bytes begin with frames that give no
 -- reason for a no, and then comes something that is no frame, for this fault.
-pub record IsCutOff (who : Identity) (session object certificate : List ℕ) (fault : FrameFault) : Type 0 where
+pub record IsCutOff (who : Identity) (session object certificate : List ℕ)
+    (fault : FrameFault) : Type 0 where
   pub z : Certificate
   pub is : IsCertificate z
   pub text : certificate ≡ certificate_text z

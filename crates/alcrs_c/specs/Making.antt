@@ -21,14 +21,16 @@ order_of true = Rounds
 order_of false = Blocks
 
 -- the bytes are the session of the object
-pub record IsEncoded (object : List ℕ) (tsi toi : ℕ) (numbers : ℕ × ℕ × ℕ) (every : ℕ) (rounds : Bool) (bytes : List ℕ) : Type 0 where
+pub record IsEncoded (object : List ℕ) (tsi toi : ℕ) (numbers : ℕ × ℕ × ℕ) (every : ℕ)
+    (rounds : Bool) (bytes : List ℕ) : Type 0 where
   pub valid : IsValidFti (fti_of object numbers)
   pub datagrams : List (List ℕ)
   pub session : IsSessionOf object (fti_of object numbers) tsi toi every (order_of rounds) datagrams
   pub text : bytes ≡ frames datagrams
 
 -- the bytes are the certificate of the object, with this name
-pub record IsCertified (object : List ℕ) (numbers : ℕ × ℕ × ℕ) (who : Identity) (bytes : List ℕ) : Type 0 where
+pub record IsCertified (object : List ℕ) (numbers : ℕ × ℕ × ℕ) (who : Identity)
+    (bytes : List ℕ) : Type 0 where
   pub valid : IsValidFti (fti_of object numbers)
   pub text : IsCertifiedTo object (fti_of object numbers) who (Some []) (Some bytes)
 

@@ -11,7 +11,8 @@ use Rattle.cert.specs.declared.verdict.Reason.{Reason}
 use Rattle.cert.specs.declared.verdict.Reason.TheVariants.{Thin}
 
 -- the bytes are the frames of datagrams and the text of a certificate, of which this holds
-pub record OfRead (session certificate : List ℕ) (Fact : List (List ℕ) → Certificate → Type 0) : Type 0 where
+pub record OfRead (session certificate : List ℕ)
+    (Fact : List (List ℕ) → Certificate → Type 0) : Type 0 where
   pub datagrams : List (List ℕ)
   pub framed : IsFramed datagrams session
   pub z : Certificate

@@ -8,7 +8,9 @@ use Rattle.cert.specs.declared.verdict.Report.{Report}
 use Rattle.cert.specs.declared.verdict.Verdict.TheVariants.{Yes, No as SaysNo}
 use Rattle.alcrs_c.specs.Twinned.{IsJudged, short_of}
 use Rattle.alcrs_c.specs.declared.twin.Untwinned.{Untwinned}
-use Rattle.alcrs_c.specs.declared.twin.Untwinned.TheVariants.{NoneShort, No, Session, Certificate as NoCertificate, NoMemory}
+use Rattle.alcrs_c.specs.declared.twin.Untwinned.TheVariants.{NoneShort, No, Session}
+use Rattle.alcrs_c.specs.declared.twin.Untwinned.TheVariants.{Certificate as NoCertificate}
+use Rattle.alcrs_c.specs.declared.twin.Untwinned.TheVariants.{NoMemory}
 
 -- of datagrams and a certificate: the verdict is yes, or a no for another reason; or memory is
 -- wanting

@@ -9,8 +9,10 @@ ghost use Rattle.cert.specs.declared.verdict.Reason.{Reason as ReasonValue};
 ghost use Rattle.alcrs_c.specs.Asked.{identity_of};
 ghost use Rattle.alcrs_c.specs.Checked.{IsChecked, IsCutOff};
 ghost use Rattle.alcrs_c.specs.Unchecked.{IsUnchecked};
-ghost use Rattle.alcrs_c.specs.Statuses.{ok, no, no_session, no_certificate, no_memory, IsOneOf, in_front};
-ghost use Rattle.alcrs_c.specs.Told.{told_reason, told_report, told_block, told_frame, told_certificate};
+ghost use Rattle.alcrs_c.specs.Statuses.{ok, no, no_session, no_certificate, no_memory, IsOneOf};
+ghost use Rattle.alcrs_c.specs.Statuses.{in_front};
+ghost use Rattle.alcrs_c.specs.Told.{told_reason, told_report, told_block, told_frame};
+ghost use Rattle.alcrs_c.specs.Told.{told_certificate};
 
 use crate::input::{identity, read_certificate};
 use crate::status;
@@ -79,8 +81,8 @@ fn verdict_of(
 ///   as they have room for.
 /// - `NO`: no. `fault` is the first reason.
 /// - `NO_CERTIFICATE`: the bytes are no certificate's. `fault` tells why.
-/// - `NO_SESSION`: the session is cut or has a frame that is too long, and nothing before that gives
-///   a no. `fault` tells which.
+/// - `NO_SESSION`: the session is cut or has a frame that is too long, and nothing before that
+///   gives a no. `fault` tells which.
 /// - `NO_MEMORY`: memory is wanting.
 ///
 /// What a status doesn't name stays as it was.

@@ -1,5 +1,6 @@
 //! Decoding.
-ghost use Rattle.std.specs.Prelude.{◌≡◌, ◌≢◌, ◌<◌, ◌++◌, ◌∷◌, [], ℕ, List, Some, None, IfOk, IfErr, drop, length};
+ghost use Rattle.std.specs.Prelude.{◌≡◌, ◌≢◌, ◌<◌, ◌++◌, ◌∷◌, [], ℕ, List, Some, None, IfOk, IfErr};
+ghost use Rattle.std.specs.Prelude.{drop, length};
 ghost use Rattle.partition.specs.Fti.{Fti as FtiValue};
 ghost use Rattle.session.specs.Frames.{StopsAt};
 ghost use Rattle.session.specs.declared.frame.FrameFault.{FrameFault as FrameFaultValue};
@@ -9,7 +10,8 @@ ghost use Rattle.decoder.specs.declared.answer.DecodeFault.{DecodeFault as Decod
 ghost use Rattle.alcrs_c.specs.Asked.{identity_of};
 ghost use Rattle.alcrs_c.specs.Decoded.{IsDecoded, HasFti};
 ghost use Rattle.alcrs_c.specs.Undecoded.{IsUndecoded};
-ghost use Rattle.alcrs_c.specs.Statuses.{ok, missing, empty, refused, no_session, no_room, no_memory, IsOneOf};
+ghost use Rattle.alcrs_c.specs.Statuses.{ok, missing, empty, refused, no_session, no_room};
+ghost use Rattle.alcrs_c.specs.Statuses.{no_memory, IsOneOf};
 ghost use Rattle.alcrs_c.specs.Told.{told_decode, told_frame, told_missing};
 
 use crate::frames::datagrams_of;
@@ -55,8 +57,8 @@ fn fti_of(alloc: Global, session: &[u8], identity: Identity) -> Result<Option<Ft
     Ok(Scope::found_in(identity, &datagrams).fti)
 }
 
-/// Tells the length in bytes of the object that is sent under an identity in a session, as the first
-/// carrier has it. Nothing is decoded. The TOI is `toi_high` * 2^64 + `toi_low`.
+/// Tells the length in bytes of the object that is sent under an identity in a session, as the
+/// first carrier has it. Nothing is decoded. The TOI is `toi_high` * 2^64 + `toi_low`.
 ///
 /// - `OK`: `size` is the length.
 /// - `EMPTY`: no carrier came.

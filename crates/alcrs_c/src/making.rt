@@ -1,12 +1,14 @@
 //! Encoding and certifying.
-ghost use Rattle.std.specs.Prelude.{◌≡◌, ◌≢◌, ◌<◌, ◌++◌, ◌∷◌, [], ℕ, List, IfOk, IfErr, drop, length};
+ghost use Rattle.std.specs.Prelude.{◌≡◌, ◌≢◌, ◌<◌, ◌++◌, ◌∷◌, [], ℕ, List, IfOk, IfErr, drop};
+ghost use Rattle.std.specs.Prelude.{length};
 ghost use Rattle.partition.specs.declared.FtiError.{FtiError as FtiErrorValue};
 ghost use Rattle.cert.specs.Certificate.{IsIdentity};
 ghost use Rattle.coder.specs.Sending.{most_symbol_bytes};
 ghost use Rattle.alcrs_c.specs.Asked.{identity_of};
 ghost use Rattle.alcrs_c.specs.Making.{IsEncoded, IsCertified, IsNoFti};
 ghost use Rattle.alcrs_c.specs.Unmade.{IsUnsent, IsUncertified};
-ghost use Rattle.alcrs_c.specs.Statuses.{ok, no_fti, too_long, no_room, no_memory, out_of_range, IsOneOf};
+ghost use Rattle.alcrs_c.specs.Statuses.{ok, no_fti, too_long, no_room, no_memory, out_of_range};
+ghost use Rattle.alcrs_c.specs.Statuses.{IsOneOf};
 ghost use Rattle.alcrs_c.specs.Told.{told_fti};
 
 use crate::input::identity;
@@ -79,8 +81,8 @@ fn certified(
     }
 }
 
-/// Makes the session of an object. An encoding symbol has `symbol_length` bytes. A block has at most
-/// `block_length` source symbols and `max_symbols` encoding symbols. Each datagram whose place
+/// Makes the session of an object. An encoding symbol has `symbol_length` bytes. A block has at
+/// most `block_length` source symbols and `max_symbols` encoding symbols. Each datagram whose place
 /// `fti_every` divides carries the FTI. The datagrams stand block after block, or where `rounds` is
 /// set, in rounds of one symbol of each block.
 ///

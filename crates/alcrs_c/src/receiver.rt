@@ -1,5 +1,6 @@
 //! A receiver behind a handle: the calls. A flag tells whether there is one.
-ghost use Rattle.std.specs.Prelude.{◌≡◌, ◌≢◌, ◌<◌, ◌↔◌, ◌++◌, ◌∷◌, ℕ, List, [], true, false, drop, length, IsNone, IfSome};
+ghost use Rattle.std.specs.Prelude.{◌≡◌, ◌≢◌, ◌<◌, ◌↔◌, ◌++◌, ◌∷◌, ℕ, List, [], true, false, drop};
+ghost use Rattle.std.specs.Prelude.{length, IsNone, IfSome};
 ghost use Rattle.reception.specs.declared.scope.Identity.{Identity as IdentityValue};
 ghost use Rattle.reception.specs.Answer.{Empty, Missing, Object, IsAnswer};
 ghost use Rattle.decoder.specs.Answers.{fault_value};
@@ -7,7 +8,8 @@ ghost use Rattle.decoder.specs.Receiving.{with_datagram, LeaveNoneShort, ComesEa
 ghost use Rattle.decoder.specs.declared.answer.DecodeFault.{DecodeFault as DecodeFaultValue};
 ghost use Rattle.alcrs_c.specs.Asked.{identity_of};
 ghost use Rattle.alcrs_c.specs.Handles.{IsHandle, IsOpen};
-ghost use Rattle.alcrs_c.specs.Statuses.{ok, missing, empty, refused, no_room, no_memory, is_open, not_open, more, early, full, IsOneOf};
+ghost use Rattle.alcrs_c.specs.Statuses.{ok, missing, empty, refused, no_room, no_memory, is_open};
+ghost use Rattle.alcrs_c.specs.Statuses.{not_open, more, early, full, IsOneOf};
 ghost use Rattle.alcrs_c.specs.Told.{told_decode, told_missing};
 
 use crate::apart::Apart;

@@ -1,7 +1,9 @@
 //! What C is told: structs of numbers in place of enums.
 ghost use Rattle.std.specs.Prelude.{◌≡◌, ◌<◌, ◌++◌, true, false, length, drop, map};
 ghost use Rattle.alcrs_c.specs.Statuses.{in_front};
-ghost use Rattle.alcrs_c.specs.Told.{numbered, fti_number, packet_number, packet_fti, told_packet, told_reason, told_decode, told_missing, told_fti, told_frame, told_certificate, told_block, told_report};
+ghost use Rattle.alcrs_c.specs.Told.{numbered, fti_number, packet_number, packet_fti, told_packet};
+ghost use Rattle.alcrs_c.specs.Told.{told_reason, told_decode, told_missing, told_fti, told_frame};
+ghost use Rattle.alcrs_c.specs.Told.{told_certificate, told_block, told_report};
 
 use alc::PacketFault;
 use cert::{CertFault, Reason, Report};

@@ -1,5 +1,6 @@
 //! The twin.
-ghost use Rattle.std.specs.Prelude.{◌≡◌, ◌≢◌, ◌<◌, ◌++◌, ◌∷◌, [], ℕ, List, Some, None, IfOk, IfErr, drop, length};
+ghost use Rattle.std.specs.Prelude.{◌≡◌, ◌≢◌, ◌<◌, ◌++◌, ◌∷◌, [], ℕ, List, Some, None, IfOk, IfErr};
+ghost use Rattle.std.specs.Prelude.{drop, length};
 ghost use Rattle.session.specs.Frames.{StopsAt};
 ghost use Rattle.session.specs.declared.frame.FrameFault.{FrameFault as FrameFaultValue};
 ghost use Rattle.cert.specs.Certificate.{text_fault};
@@ -9,7 +10,8 @@ ghost use Rattle.cert.specs.declared.verdict.Reason.{Reason as ReasonValue};
 ghost use Rattle.alcrs_c.specs.Asked.{identity_of};
 ghost use Rattle.alcrs_c.specs.Twinned.{IsTwinIn, IsTwinned, IsJudged, short_of};
 ghost use Rattle.alcrs_c.specs.Untwinned.{IsNoTwin, IsUntwinned};
-ghost use Rattle.alcrs_c.specs.Statuses.{ok, no, no_session, no_certificate, no_room, no_memory, none_short, IsOneOf};
+ghost use Rattle.alcrs_c.specs.Statuses.{ok, no, no_session, no_certificate, no_room, no_memory};
+ghost use Rattle.alcrs_c.specs.Statuses.{none_short, IsOneOf};
 ghost use Rattle.alcrs_c.specs.Told.{told_reason, told_frame, told_certificate};
 
 use crate::input::{identity, read_certificate, read_session};
@@ -118,7 +120,8 @@ fn twin_of(
 ///
 /// - `OK`: the twin stands in front of `twin`, and `size` is its length in bytes. `fault` has the
 ///   block, `have` and `need`.
-/// - `NO_ROOM`: the twin is longer than the buffer, and `size` is its length. `fault` is as at `OK`.
+/// - `NO_ROOM`: the twin is longer than the buffer, and `size` is its length. `fault` is as at
+///   `OK`.
 /// - `NONE_SHORT`: the check says yes.
 /// - `NO`: the check says no for another reason. `fault` tells it.
 /// - `NO_SESSION`, `NO_CERTIFICATE`: the bytes are none. `fault` tells why.

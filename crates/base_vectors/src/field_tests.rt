@@ -112,7 +112,8 @@ fn adds_a_scaled_row_of_blocks(rt: HostRuntime) {
     assert!(rt; bytes == sums);
 }
 
-// Whether the front of a row of elements gains what a row of the same bytes does, and the rest of it stays.
+// Whether the front of a row of elements gains what a row of the same bytes does, and the rest of
+// it stays.
 fn adds_elements_as_bytes(length: usize) -> bool
     requires { length ≤ 300 }
 {
@@ -146,8 +147,8 @@ fn adds_a_scaled_row_of_elements(rt: HostRuntime) {
     }
 }
 
-// Whether the front of a row gains the products of the definition, whatever the element, and the rest of
-// it stays.
+// Whether the front of a row gains the products of the definition, whatever the element, and the
+// rest of it stays.
 fn scales_as_defined(length: usize) -> bool
     requires { length ≤ 65 }
 {

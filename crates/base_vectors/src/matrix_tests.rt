@@ -118,7 +118,8 @@ fn begins_generators_with_the_identity(rt: HostRuntime) -> Result<(), Fail> {
     Ok(())
 }
 
-/// Whether the longer matrix of `rows` rows begins with the columns of the shorter one, of which there are `cols`.
+/// Whether the longer matrix of `rows` rows begins with the columns of the shorter one, of which
+/// there are `cols`.
 fn begins_with_columns(longer: &Matrix<Gf>, shorter: &Matrix<Gf>, rows: usize, cols: usize) -> bool
     requires rows { rows ≤ shorter.now.rows }
     requires cols { cols ≤ shorter.now.cols }

@@ -102,7 +102,8 @@ fn other_lengths(rt: HostRuntime) {
     assert!(rt; has_fault(&longer, PacketFault::PayloadLength));
 }
 
-// Where the header ends before EXT_FTI its bytes are payload ID and symbol, and one of another type is passed over.
+// Where the header ends before EXT_FTI its bytes are payload ID and symbol, and one of another type
+// is passed over.
 #[test]
 fn packets_without_fti(rt: HostRuntime) {
     assert!(rt; is_plain(&PLAIN, 0, 0, &[1]));

@@ -3,7 +3,8 @@ use crate::is_shown_as;
 use partition::Fti;
 use std::test::Fail;
 
-// Whether the object has block `b`, of `k` source symbols and `n` encoding symbols, the first of which is at `start`.
+// Whether the object has block `b`, of `k` source symbols and `n` encoding symbols, the first of
+// which is at `start`.
 fn has_block(fti: &Fti, b: u32, k: usize, n: usize, start: u64) -> bool {
     b < fti.block_count() && fti.k(b) == k && fti.n(b) == n && fti.start(b) == start
 }

@@ -24,7 +24,8 @@ pub record IsInterpolator (k : ℕ) (g : Grid ℕ) : Type 0 where
 abbrev pub least_by_values : ℕ
 least_by_values = 180
 
--- a row of k source symbols times it is the coefficients of their polynomial, or its values at all points
+-- a row of k source symbols times it is the coefficients of their polynomial, or its values at all
+-- points
 pub record MakesCoefficients (k : ℕ) (g : Grid ℕ) : Type 0 where
   pub rows : g.rows ≡ k
   pub at_once : k < least_by_values → IsInterpolator k g

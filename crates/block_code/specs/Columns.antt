@@ -7,4 +7,5 @@ use Rattle.elim.specs.Grid.{Grid, entry}
 pub record AreColumns (g : Grid ℕ) (bytes : List ℕ) : Type 0 where
   pub count : length bytes ≡ g.cols * g.rows
   pub small : AreBytes bytes
-  pub entries : (i j : ℕ) → i < g.rows → j < g.cols → slice_index bytes (j * g.rows + i) ≡ entry 0 g i j
+  pub entries : (i j : ℕ) → i < g.rows → j < g.cols
+      → slice_index bytes (j * g.rows + i) ≡ entry 0 g i j

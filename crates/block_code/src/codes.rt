@@ -1,7 +1,8 @@
 //! A code for each size that a source block has.
 ghost use Rattle.std.specs.Prelude.{◌≡◌, ◌<◌, ◌≤◌, IfOk};
 ghost use Rattle.partition.specs.Fti.{block_count};
-ghost use Rattle.block_code.specs.Codes.{code_for, EachBlockHas, IsOfKind, IsOfBlock, MakesCoefficients};
+ghost use Rattle.block_code.specs.Codes.{code_for, EachBlockHas, IsOfKind, IsOfBlock};
+ghost use Rattle.block_code.specs.Codes.{MakesCoefficients};
 
 use crate::code::Code;
 use elim::{Matrix, generator, interpolator};
@@ -25,8 +26,8 @@ pub struct BlockCodes {
 pub enum Kind {
     /// The encoding symbols.
     Generator,
-    /// The coefficients of their polynomials. From [`LEAST_BY_VALUES`] source symbols on, the values of
-    /// these at all 255 points, by which `evaluation` makes the coefficients.
+    /// The coefficients of their polynomials. From [`LEAST_BY_VALUES`] source symbols on, the
+    /// values of these at all 255 points, by which `evaluation` makes the coefficients.
     Interpolator,
 }
 

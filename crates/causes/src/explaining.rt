@@ -50,7 +50,8 @@ pub fn explain<R: Files>(
     }
 }
 
-/// What to think of an object that was completed although datagrams contradicted it, so many of them.
+/// What to think of an object that was completed although datagrams contradicted it, so many of
+/// them.
 pub fn doubt<R: Files>(
     rt: &R,
     alloc: Global,
@@ -88,8 +89,8 @@ pub fn repeated<R: Files>(
     };
     match request {
         Request::Check(_) if repeats > 0 => case.say(
-            "{0} datagrams of {S} are repeats of others, and margin and burst count them: what goes \
-            on air once may lose less",
+            "{0} datagrams of {S} are repeats of others, and margin and burst count them: what \
+            goes on air once may lose less",
             &[repeats],
         ),
         _ => Ok(None),
@@ -114,8 +115,8 @@ impl<'a, R: Files> Case<'a, R> {
         certificate_of(self.request).unwrap_or("the certificate")
     }
 
-    // What stands for a key of a pattern: `S` the session, `O` the object, `C` the certificate, `W` what is written, `T` and
-    // `I` the TSI and the TOI, a digit the number at that place.
+    // What stands for a key of a pattern: `S` the session, `O` the object, `C` the certificate, `W`
+    // what is written, `T` and `I` the TSI and the TOI, a digit the number at that place.
     fn value(&self, key: &str, numbers: &[u64]) -> Result<String, AllocError> {
         let name = match key {
             "S" => self.session(),
@@ -252,7 +253,8 @@ impl<'a, R: Files> Case<'a, R> {
     fn no_such_place(&self) -> Sentence {
         match walk(self.rt, self.alloc, self.session()) {
             Some((count, None)) => self.say(
-                "{S} has {0} datagrams, whose places are counted from 0: there is none at place {1}",
+                "{S} has {0} datagrams, whose places are counted from 0: there is none at place \
+                {1}",
                 &[count, self.number(3)],
             ),
             _ => Ok(None),

@@ -33,8 +33,8 @@ fn is_text(front: &[u8]) -> bool {
     !front.is_empty()
 }
 
-// By the first bytes: those of pcap in either order of bytes, with micro- or nanoseconds, those of pcapng, and those of
-// a certificate.
+// By the first bytes: those of pcap in either order of bytes, with micro- or nanoseconds, those of
+// pcapng, and those of a certificate.
 fn kind_of_front(front: &[u8]) -> Kind {
     match front {
         [0xd4, 0xc3, 0xb2, 0xa1, ..]

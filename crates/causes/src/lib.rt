@@ -1,9 +1,10 @@
 //! What a command's last line means, and what to do, in a sentence for people.
 //!
-//! The lines of a command are for programs: they name a fault by its letter and number. The sentence names the file and
-//! the place in it, the system's own reason where it has one, and the one thing to do where there is one. It is made of
-//! the request and the line. Files are looked at again for it, unless they are pipes or devices. Nothing that a command
-//! does rests on it, so its calls promise no more than that they end.
+//! The lines of a command are for programs: they name a fault by its letter and number. The
+//! sentence names the file and the place in it, the system's own reason where it has one, and the
+//! one thing to do where there is one. It is made of the request and the line. Files are looked at
+//! again for it, unless they are pipes or devices. Nothing that a command does rests on it, so its
+//! calls promise no more than that they end.
 //!
 //! - `explaining`: the sentence for a line.
 //! - `files`: why a file can't be opened or written, and what it is instead of a session.

@@ -9,8 +9,9 @@ fn last_number(line: &str) -> u64 {
         .unwrap_or(0)
 }
 
-/// How many datagrams are repeats of others, at least, by the lines of a yes: as many as there are more carriers than
-/// different symbols. Where each datagram carries the FTI, that is exactly how many. 0 of any other text.
+/// How many datagrams are repeats of others, at least, by the lines of a yes: as many as there are
+/// more carriers than different symbols. Where each datagram carries the FTI, that is exactly how
+/// many. 0 of any other text.
 pub fn repeats_in(text: &str) -> u64 {
     if !text.starts_with("yes\n") {
         return 0;

@@ -28,7 +28,8 @@ pub(crate) struct Carrier {
     pub(crate) fti: Fti,
 }
 
-/// How many datagrams a session has, and where its frames stop, if they aren't whole. `None` where it can't be read again.
+/// How many datagrams a session has, and where its frames stop, if they aren't whole. `None` where
+/// it can't be read again.
 pub(crate) fn walk<R: Files>(rt: &R, alloc: Global, name: &str) -> Option<(u64, Option<Break>)> {
     if !is_regular(rt, name) {
         return None;

@@ -1,5 +1,5 @@
--- Lists of readings worked by hand: what a check says of them. The object is 01 02, of two source symbols and one repair
--- symbol, of a byte each; the certificate's polynomial is z.
+-- Lists of readings worked by hand: what a check says of them. The object is 01 02, of two source
+-- symbols and one repair symbol, of a byte each; the certificate's polynomial is z.
 use Rattle.std.specs.Prelude.{◌≡◌, ℕ, List, [], ◌∷◌, map, count_by, Option, Some, None, Ok, Err, refl}
 use Rattle.lists.specs.Below.{below}
 use Rattle.gf256.specs.Arithmetic.{product, product_over, doubled, alpha_to}

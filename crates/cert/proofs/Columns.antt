@@ -1,4 +1,5 @@
--- The least column in which a symbol isn't the certified one: what is found is what the definition says.
+-- The least column in which a symbol isn't the certified one: what is found is what the definition
+-- says.
 use Rattle.std.proofs.Common.{◌≡◌, ◌≢◌, ℕ, zero, suc, ◌+◌, ◌<◌, ◌≤◌, true, false, not, cond, List, [], ◌∷◌, ◌++◌, length, Option, Some, None, refl, sym, ap, subst, ◌∙◌, arith}
 use Rattle.std.specs.Prelude.{slice_index, find, ◌==◌, IsNone, IfSome}
 use Rattle.std.specs.List.{range_with_len}

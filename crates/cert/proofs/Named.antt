@@ -1,4 +1,5 @@
--- A name that lets through is looked at no further: what else a verdict says is of the FTI and the coefficients.
+-- A name that lets through is looked at no further: what else a verdict says is of the FTI and the
+-- coefficients.
 use Rattle.std.specs.Prelude.{◌≡◌, ◌↔◌, ◌+◌, ◌==◌, true, if◌then◌else◌, ℕ, zero, suc, List, Option, Some, Ok, Err, option_map, slice_index, refl}
 use Rattle.std.proofs.Common.{◌∙◌, sym, ap}
 use Rattle.std.proofs.lemmas.Bool.{eq-eqb}

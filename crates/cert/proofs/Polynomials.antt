@@ -1,4 +1,5 @@
--- A certificate's polynomials have as many coefficients as their block has source symbols, each in its row.
+-- A certificate's polynomials have as many coefficients as their block has source symbols, each in
+-- its row.
 use Rattle.std.specs.Prelude.{◌≡◌, ◌<◌, ℕ, zero, suc, List, [], ◌∷◌, ◌++◌, length, map, slice_index}
 use Rattle.std.proofs.Common.{◌∙◌, sym, ap, arith, inl, inr}
 use Rattle.std.proofs.lemmas.List.{length-map, map-append, get_or_past}

@@ -1,5 +1,5 @@
--- A yes: every selection that leaves a block short leaves a twin, and of every one that isn't enough the decoder says what
--- lacks.
+-- A yes: every selection that leaves a block short leaves a twin, and of every one that isn't
+-- enough the decoder says what lacks.
 use Rattle.std.specs.Prelude.{◌≡◌, ◌≢◌, ◌<◌, ◌+◌, ◌⊎◌, ◌==◌, Bool, true, false, cond, ℕ, zero, suc, List, [], ◌∷◌, ◌++◌, length, Ok, Err, refl}
 use Rattle.std.specs.List.{list_any, AllByRecursion}
 use Rattle.std.proofs.Common.{sym, subst, arith, inl, inr}

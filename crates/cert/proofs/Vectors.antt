@@ -1,4 +1,5 @@
--- A certificate's two texts worked by hand, computed from the definitions: without a name, and named for TSI 1 and TOI 1.
+-- A certificate's two texts worked by hand, computed from the definitions: without a name, and
+-- named for TSI 1 and TOI 1.
 use Rattle.std.specs.Prelude.{◌≡◌, ℕ, true, false, List, [], ◌∷◌, ◌++◌, map, take, Some, None, refl}
 use Rattle.std.proofs.Common.{set}
 use Rattle.lists.specs.Below.{below}

@@ -1,19 +1,25 @@
--- The certificate: an FTI, for each byte column of each block the coefficients of its polynomial, and maybe whose it is.
-use Rattle.std.specs.Prelude.{◌≡◌, ℕ, ◌+◌, ◌-◌, ◌*◌, ◌^◌, ◌<◌, List, [], ◌∷◌, ◌++◌, length, drop, map, flat_map, slice_index, nat_eq, nat_lt, ◌==◌, ◌&&◌, Bool, true, if◌then◌else◌, Option, Some, None, IfSome}
+-- The certificate: an FTI, for each byte column of each block the coefficients of its polynomial,
+-- and maybe whose it is.
+use Rattle.std.specs.Prelude.{◌≡◌, ℕ, ◌+◌, ◌-◌, ◌*◌, ◌^◌, ◌<◌, List, [], ◌∷◌, ◌++◌, length, drop}
+use Rattle.std.specs.Prelude.{map, flat_map, slice_index, nat_eq, nat_lt, ◌==◌, ◌&&◌, Bool, true}
+use Rattle.std.specs.Prelude.{if◌then◌else◌, Option, Some, None, IfSome}
 use Rattle.std.specs.List.{starts_with}
 use Rattle.byteorder.specs.Endian.{big_bytes, big_number}
 use Rattle.lists.specs.Below.{below}
 use Rattle.lists.specs.Bytes.{AreBytes}
 use Rattle.gf256.specs.Arithmetic.{point}
 use Rattle.poly.specs.Polynomial.{value}
-use Rattle.partition.specs.Fti.{Fti, IsValidFti, symbol_count, block_count, source_count, source_place, fti_from}
+use Rattle.partition.specs.Fti.{Fti, IsValidFti, symbol_count, block_count, source_count}
+use Rattle.partition.specs.Fti.{source_place, fti_from}
 use Rattle.partition.specs.FtiFault.{fti_fault}
 use Rattle.partition.specs.declared.FtiError.{FtiError}
 use Rattle.reception.specs.declared.scope.Identity.{Identity}
 use Rattle.cert.specs.declared.certificate.CertFault.{CertFault}
-use Rattle.cert.specs.declared.certificate.CertFault.TheVariants.{Magic, Fti as WrongFti, Size, Io, NoMemory, OtherIdentity}
+use Rattle.cert.specs.declared.certificate.CertFault.TheVariants.{Magic, Fti as WrongFti, Size, Io}
+use Rattle.cert.specs.declared.certificate.CertFault.TheVariants.{NoMemory, OtherIdentity}
 
--- Coefficient i of a column's polynomial stands where byte c of source symbol i stands in an object: row by row.
+-- Coefficient i of a column's polynomial stands where byte c of source symbol i stands in an
+-- object: row by row.
 pub record Certificate : Type 0 where
   pub fti : Fti
   pub name : Option Identity
@@ -77,7 +83,9 @@ name_text who = big_bytes 6 who.tsi ++ big_bytes 14 who.toi
 
 -- the FTI in ten bytes
 abbrev pub fti_text : Fti → List ℕ
-fti_text f = big_bytes 6 f.transfer_length ++ big_bytes 2 f.symbol_length ++ (f.block_length ∷ f.max_symbols ∷ [])
+fti_text f =
+    big_bytes 6 f.transfer_length ++ big_bytes 2 f.symbol_length
+    ++ (f.block_length ∷ f.max_symbols ∷ [])
 
 -- what stands before the coefficients
 unfoldable pub head_text : Option Identity → Fti → List ℕ
@@ -106,7 +114,8 @@ IsTextOfSome x = (z : Certificate) × IsCertificate z × (x ≡ certificate_text
 -- the FTI in ten bytes from a place on
 abbrev pub told_fti : ℕ → List ℕ → Fti
 told_fti from x =
-    fti_from (big_number 6 (drop from x)) (big_number 2 (drop (from + 6) x)) (slice_index x (from + 8)) (slice_index x (from + 9))
+    fti_from (big_number 6 (drop from x)) (big_number 2 (drop (from + 6) x))
+    (slice_index x (from + 8)) (slice_index x (from + 9))
 
 abbrev pub size_fault : ℕ → List ℕ → Option FtiError → Option CertFault
 size_fault head x (Some e) = Some (WrongFti e)
@@ -116,7 +125,8 @@ size_fault head x None =
 -- the fault behind the magic number of a head so long
 abbrev pub fault_behind : ℕ → List ℕ → Option CertFault
 fault_behind head x =
-    if nat_lt (length x) head then Some Size else size_fault head x (fti_fault (told_fti (head - 10) x))
+    if nat_lt (length x) head then Some Size
+    else size_fault head x (fti_fault (told_fti (head - 10) x))
 
 -- why these bytes are no certificate's, if they aren't, in the order in which they come
 unfoldable pub text_fault : List ℕ → Option CertFault

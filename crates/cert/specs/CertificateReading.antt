@@ -1,5 +1,6 @@
 -- What is known of a certificate while it is read.
-use Rattle.std.specs.Prelude.{◌≡◌, ℕ, ◌<◌, List, [], ◌++◌, length, drop, nat_eq, if◌then◌else◌, Bool, true, Some, None, IfSome}
+use Rattle.std.specs.Prelude.{◌≡◌, ℕ, ◌<◌, List, [], ◌++◌, length, drop, nat_eq, if◌then◌else◌}
+use Rattle.std.specs.Prelude.{Bool, true, Some, None, IfSome}
 use Rattle.std.specs.List.{starts_with}
 use Rattle.byteorder.specs.Endian.{big_number}
 use Rattle.partition.specs.FtiFault.{fti_fault}
@@ -31,9 +32,11 @@ IsTold NoMemory = ⊥
 IsTold OtherIdentity = ⊥
 IsTold _ = Unit {0}
 
--- the fault of a text that begins with these bytes, of which there are fewer than a head has only where it ends
+-- the fault of a text that begins with these bytes, of which there are fewer than a head has only
+-- where it ends
 abbrev pub IsHeadFault : List ℕ → CertFault → Type 0
-IsHeadFault x e = (rest : List ℕ) → (length x < head_length x → rest ≡ []) → text_fault (x ++ rest) ≡ Some e
+IsHeadFault x e =
+    (rest : List ℕ) → (length x < head_length x → rest ≡ []) → text_fault (x ++ rest) ≡ Some e
 
 -- bytes that are this head, of a valid FTI
 pub record IsHeadOf (x : List ℕ) (h : Head) : Type 0 where

@@ -4,4 +4,5 @@ use Rattle.cert.specs.Certificate.{Certificate, certified_byte}
 
 -- what the certificate says of symbol j of block b
 abbrev pub IsCertifiedSymbol : Certificate → ℕ → ℕ → List ℕ → Type 0
-IsCertifiedSymbol z b j symbol = (c : ℕ) → c < z.fti.symbol_length → slice_index symbol c ≡ certified_byte z b j c
+IsCertifiedSymbol z b j symbol =
+    (c : ℕ) → c < z.fti.symbol_length → slice_index symbol c ≡ certified_byte z b j c

@@ -11,7 +11,8 @@ AreRowsOf z b rows =
 
 -- these bytes, with zeros behind them, are source symbol i of block b of the object
 abbrev pub IsSourceSymbol : Fti → List ℕ → ℕ → ℕ → List ℕ → Type 0
-IsSourceSymbol f object b i bytes = (c : ℕ) → c < f.symbol_length → slice_index bytes c ≡ source_byte f object b i c
+IsSourceSymbol f object b i bytes =
+    (c : ℕ) → c < f.symbol_length → slice_index bytes c ≡ source_byte f object b i c
 
 -- where coefficient i of column c of block b stands among those that are told column by column
 abbrev pub text_place : Fti → ℕ → ℕ → ℕ → ℕ

@@ -1,5 +1,6 @@
 -- What converting a certificate's coefficients block by block has read and written.
-use Rattle.std.specs.Prelude.{◌≡◌, ◌≢◌, ℕ, ◌<◌, ◌≤◌, ◌+◌, ◌*◌, List, length, slice_index, Bool, true, Option, Some, None, IfSome}
+use Rattle.std.specs.Prelude.{◌≡◌, ◌≢◌, ℕ, ◌<◌, ◌≤◌, ◌+◌, ◌*◌, List, length, slice_index, Bool}
+use Rattle.std.specs.Prelude.{true, Option, Some, None, IfSome}
 use Rattle.std.specs.Io.KnownBytes.{Consumes, Appends}
 use Rattle.lists.specs.Bytes.{AreBytes}
 use Rattle.session.specs.Pieces.{AppendsSome}
@@ -7,7 +8,8 @@ use Rattle.partition.specs.Fti.{Fti, block_count, start_of, source_count, source
 use Rattle.reception.specs.declared.scope.Identity.{Identity}
 use Rattle.cert.specs.declared.certificate.CertFault.TheVariants.{Size}
 use Rattle.cert.specs.declared.converting.ConvertFault.{ConvertFault}
-use Rattle.cert.specs.declared.converting.ConvertFault.TheVariants.{Certificate as OfCertificate, Write}
+use Rattle.cert.specs.declared.converting.ConvertFault.TheVariants.{Certificate as OfCertificate}
+use Rattle.cert.specs.declared.converting.ConvertFault.TheVariants.{Write}
 use Rattle.cert.specs.Certificate.{coefficient_count}
 use Rattle.cert.specs.CoefficientRows.{text_place}
 use Rattle.cert.specs.CertificateReading.{IsReadFault}
@@ -16,7 +18,8 @@ use Rattle.cert.specs.CertificateReading.{IsReadFault}
 abbrev pub AreBlockRows : Option Identity → ℕ → ℕ → List ℕ → List ℕ → Type 0
 AreBlockRows (Some who) count width told rows = told ≡ rows
 AreBlockRows None count width told rows =
-    (i c : ℕ) → i < count → c < width → slice_index rows (i * width + c) ≡ slice_index told (c * count + i)
+    (i c : ℕ) → i < count → c < width
+    → slice_index rows (i * width + c) ≡ slice_index told (c * count + i)
 
 -- the same of the first n blocks
 abbrev pub AreSame : Option Identity → Fti → ℕ → List ℕ → List ℕ → Type 0
@@ -26,7 +29,8 @@ AreSame None f n told rows =
     → slice_index rows (source_place f b i c) ≡ slice_index told (text_place f b c i)
 
 -- which were read, and written row by row
-pub record Converts (name : Option Identity) (f : Fti) (n : ℕ) (left here before after : Option (List ℕ)) : Type 0 where
+pub record Converts (name : Option Identity) (f : Fti) (n : ℕ)
+    (left here before after : Option (List ℕ)) : Type 0 where
   pub told : List ℕ
   pub rows : List ℕ
   pub told_count : length told ≡ start_of f n * f.symbol_length
@@ -37,7 +41,8 @@ pub record Converts (name : Option Identity) (f : Fti) (n : ℕ) (left here befo
   pub gained : Appends before after rows
 
 -- a beginning of the rows of some blocks was written, which were read
-pub record ConvertsSome (name : Option Identity) (f : Fti) (left before after : Option (List ℕ)) : Type 0 where
+pub record ConvertsSome (name : Option Identity) (f : Fti)
+    (left before after : Option (List ℕ)) : Type 0 where
   pub blocks : ℕ
   pub inside : blocks ≤ block_count f
   pub here : Option (List ℕ)

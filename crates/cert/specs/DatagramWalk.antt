@@ -1,5 +1,6 @@
 -- What is known of datagrams that were looked at one by one.
-use Rattle.std.specs.Prelude.{◌≡◌, ◌≢◌, ℕ, ◌+◌, Bool, true, false, nat_lt, List, [], length, Option, None, Some, IfSome, ⊤}
+use Rattle.std.specs.Prelude.{◌≡◌, ◌≢◌, ℕ, ◌+◌, Bool, true, false, nat_lt, List, [], length, Option}
+use Rattle.std.specs.Prelude.{None, Some, IfSome, ⊤}
 use Rattle.std.specs.Io.KnownBytes.{Consumes, IsAtEnd}
 use Rattle.session.specs.Frames.{frames, AreDatagrams}
 use Rattle.losses.specs.Groups.{Group, groups_of}
@@ -13,14 +14,18 @@ use Rattle.cert.specs.declared.walk.Walk.{Walk}
 use Rattle.cert.specs.declared.walk.NoReport.{NoReport}
 use Rattle.cert.specs.declared.walk.NoReport.TheVariants.{Reason as ByReason, NoMemory}
 use Rattle.cert.specs.declared.verdict.Reason.{Reason}
-use Rattle.cert.specs.declared.verdict.Reason.TheVariants.{OtherCertificate, ObjectLength, NotObject, Packet as NoPacket, OtherFti, SymbolLength, Range, Symbol}
+use Rattle.cert.specs.declared.verdict.Reason.TheVariants.{OtherCertificate, ObjectLength}
+use Rattle.cert.specs.declared.verdict.Reason.TheVariants.{NotObject, Packet as NoPacket, OtherFti}
+use Rattle.cert.specs.declared.verdict.Reason.TheVariants.{SymbolLength, Range, Symbol}
 use Rattle.cert.specs.declared.verdict.Verdict.TheVariants.{No}
 use Rattle.cert.specs.Certificate.{Certificate, is_for}
 use Rattle.cert.specs.Scan.{AreGroupsOf}
 use Rattle.cert.specs.Verdict.{IsFirstNotGiven, reception_to, first_reason, VerdictOn, uncertified}
 
--- these datagrams came to the check of a certificate, none with a reason against it: what is known of them
-pub record AreWalked (who : Identity) (z : Certificate) (scope : Scope) (count : ℕ) (came : Bool) (groups : List Group) (carriers : List ℕ) (datagrams : List (List ℕ)) : Type 0 where
+-- these datagrams came to the check of a certificate, none with a reason against it: what is known
+-- of them
+pub record AreWalked (who : Identity) (z : Certificate) (scope : Scope) (count : ℕ) (came : Bool)
+    (groups : List Group) (carriers : List ℕ) (datagrams : List (List ℕ)) : Type 0 where
   pub clean : (reception_to who z (readings_of datagrams)).wrong ≡ None
   pub holds : (reception_to who z (readings_of datagrams)).scope ≡ scope
   pub many : length datagrams ≡ count
@@ -30,15 +35,18 @@ pub record AreWalked (who : Identity) (z : Certificate) (scope : Scope) (count :
 
 abbrev pub HasWalked : Walk → List (List ℕ) → Type 0
 HasWalked walk datagrams =
-    AreWalked walk.scope.identity walk.symbols walk.scope walk.count walk.came (groups_of walk.groups.items)
+    AreWalked walk.scope.identity walk.symbols walk.scope walk.count walk.came
+    (groups_of walk.groups.items)
     walk.carriers.items datagrams
 
 -- a reason against the certificate's name or the object, whatever datagrams come
 abbrev pub IsAgainstObject : Identity → Reason → List ℕ → Certificate → Type 0
 IsAgainstObject who OtherCertificate object z = is_for who z.name ≡ false
-IsAgainstObject who ObjectLength object z = (is_for who z.name ≡ true) × (length object ≢ z.fti.transfer_length)
+IsAgainstObject who ObjectLength object z =
+    (is_for who z.name ≡ true) × (length object ≢ z.fti.transfer_length)
 IsAgainstObject who (NotObject b c i) object z =
-    (is_for who z.name ≡ true) × (length object ≡ z.fti.transfer_length) × IsFirstNotGiven object z b c i
+    (is_for who z.name ≡ true) × (length object ≡ z.fti.transfer_length)
+    × IsFirstNotGiven object z b c i
 IsAgainstObject who _ object z = ⊥
 
 -- why no datagram is looked at
@@ -61,7 +69,8 @@ IsAtLast datagrams reason = IfSome (place_of reason) (λ i. length datagrams ≡
 
 -- why the last of these datagrams isn't passed: it has the first reason at a place
 abbrev pub IsNotPassed : Identity → List (List ℕ) → Certificate → NoReport → Type 0
-IsNotPassed who datagrams z (ByReason r) = (first_reason who z (readings_of datagrams) ≡ Some r) × IsAtLast datagrams r
+IsNotPassed who datagrams z (ByReason r) =
+    (first_reason who z (readings_of datagrams) ≡ Some r) × IsAtLast datagrams r
 IsNotPassed who datagrams z NoMemory = ⊤
 
 -- the no to these datagrams and this object
@@ -71,7 +80,8 @@ IsNo who datagrams object z NoMemory = ⊤
 
 -- why a packet's symbol isn't kept: it isn't the certified one
 abbrev pub IsNotKept : Certificate → ℕ → Packet → NoReport → Type 0
-IsNotKept z place p (ByReason (Symbol i c)) = (i ≡ place) × (uncertified z [] (symbol_of p) ≡ Some c)
+IsNotKept z place p (ByReason (Symbol i c)) =
+    (i ≡ place) × (uncertified z [] (symbol_of p) ≡ Some c)
 IsNotKept z place p (ByReason _) = ⊥
 IsNotKept z place p NoMemory = ⊤
 

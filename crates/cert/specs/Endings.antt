@@ -4,7 +4,8 @@ use Rattle.reception.specs.declared.scope.Identity.{Identity}
 use Rattle.cert.specs.Certificate.{Certificate}
 use Rattle.cert.specs.FromReader.{IsCheckedFrom, IsRefusedBehind, IsCheckFault}
 use Rattle.cert.specs.declared.walk.NoReport.{NoReport}
-use Rattle.cert.specs.declared.walk.NoReport.TheVariants.{Reason as ByReason, NoMemory as NoReportMemory}
+use Rattle.cert.specs.declared.walk.NoReport.TheVariants.{Reason as ByReason}
+use Rattle.cert.specs.declared.walk.NoReport.TheVariants.{NoMemory as NoReportMemory}
 use Rattle.cert.specs.declared.from_reader.Ending.{Ending}
 use Rattle.cert.specs.declared.from_reader.Ending.TheVariants.{Reason, Fault}
 use Rattle.cert.specs.declared.from_reader.CheckFault.TheVariants.{NoMemory}
@@ -15,6 +16,9 @@ ending_of (ByReason reason) = Reason reason
 ending_of NoReportMemory = Fault NoMemory
 
 -- a reason, which is the verdict then, or a fault
-abbrev pub IsEnding : Identity → Option (List ℕ) → Option (List ℕ) → Bool → List ℕ → Certificate → Ending → Type 0
-IsEnding who old new failed object z (Reason reason) = IsCheckedFrom who old new object z (No reason)
-IsEnding who old new failed object z (Fault fault) = IsCheckFault (λ e. IsRefusedBehind who e old new failed object z) fault
+abbrev pub IsEnding : Identity → Option (List ℕ) → Option (List ℕ) → Bool → List ℕ → Certificate
+    → Ending → Type 0
+IsEnding who old new failed object z (Reason reason) =
+    IsCheckedFrom who old new object z (No reason)
+IsEnding who old new failed object z (Fault fault) =
+    IsCheckFault (λ e. IsRefusedBehind who e old new failed object z) fault

@@ -13,12 +13,14 @@ use Rattle.cert.specs.Report.{IsReport, OnYes}
 use Rattle.cert.specs.Verdict.{GivesObject, first_reason, IsVerdict}
 use Rattle.cert.specs.declared.verdict.Verdict.{Verdict}
 use Rattle.cert.specs.declared.verdict.Verdict.TheVariants.{No}
-use Rattle.cert.specs.declared.verdict.Reason.TheVariants.{OtherCertificate, ObjectLength, NotObject, Packet as NoPacket, OtherFti, SymbolLength, Range, Symbol}
+use Rattle.cert.specs.declared.verdict.Reason.TheVariants.{OtherCertificate, ObjectLength}
+use Rattle.cert.specs.declared.verdict.Reason.TheVariants.{NotObject, Packet as NoPacket, OtherFti}
+use Rattle.cert.specs.declared.verdict.Reason.TheVariants.{SymbolLength, Range, Symbol}
 use Rattle.cert.specs.declared.from_reader.CheckFault.{CheckFault}
 use Rattle.cert.specs.declared.from_reader.CheckFault.TheVariants.{Frame, NoMemory}
 
--- How many datagrams a verdict reads, if not all: none for a reason against the certificate's name or the object, and for
--- one at a place none behind it.
+-- How many datagrams a verdict reads, if not all: none for a reason against the certificate's name
+-- or the object, and for one at a place none behind it.
 abbrev pub read_for : Verdict → Option ℕ
 read_for (No OtherCertificate) = Some 0
 read_for (No ObjectLength) = Some 0
@@ -30,15 +32,17 @@ read_for (No (Range i)) = Some (i + 1)
 read_for (No (Symbol i c)) = Some (i + 1)
 read_for _ = None
 
--- A fact is known once so many datagrams were read, and holds whatever follows; or it is one of all of them.
+-- A fact is known once so many datagrams were read, and holds whatever follows; or it is one of all
+-- of them.
 abbrev pub IsKnown : Option ℕ → List (List ℕ) → Option (List ℕ) → (List (List ℕ) → Type 0) → Type 0
 IsKnown None datagrams left Fact = IsAtEnd left × Fact datagrams
 IsKnown (Some n) datagrams left Fact =
     (length datagrams ≡ n) × ((rest : List (List ℕ)) → AreDatagrams rest → Fact (datagrams ++ rest))
 
--- Just the frames of some datagrams were read, and the verdict is theirs. At yes it promises of them what a check of a
--- session does.
-pub record IsCheckedFrom (who : Identity) (old new : Option (List ℕ)) (object : List ℕ) (z : Certificate) (verdict : Verdict) : Type 0 where
+-- Just the frames of some datagrams were read, and the verdict is theirs. At yes it promises of
+-- them what a check of a session does.
+pub record IsCheckedFrom (who : Identity) (old new : Option (List ℕ)) (object : List ℕ)
+    (z : Certificate) (verdict : Verdict) : Type 0 where
   pub datagrams : List (List ℕ)
   pub each : AreDatagrams datagrams
   pub consumed : Consumes old new (frames datagrams)
@@ -48,9 +52,10 @@ pub record IsCheckedFrom (who : Identity) (old new : Option (List ℕ)) (object 
   pub tells : OnYes verdict (λ _. TellsElse who z.fti datagrams)
   pub report : OnYes verdict (IsReport who datagrams z.fti)
 
--- The frames of some datagrams were read that have no reason at their places, nor have the certificate's name and the
--- object, and then no datagram, for this fault.
-pub record IsRefusedBehind (who : Identity) (fault : FrameFault) (old new : Option (List ℕ)) (failed : Bool) (object : List ℕ) (z : Certificate) : Type 0 where
+-- The frames of some datagrams were read that have no reason at their places, nor have the
+-- certificate's name and the object, and then no datagram, for this fault.
+pub record IsRefusedBehind (who : Identity) (fault : FrameFault) (old new : Option (List ℕ))
+    (failed : Bool) (object : List ℕ) (z : Certificate) : Type 0 where
   pub datagrams : List (List ℕ)
   pub each : AreDatagrams datagrams
   pub name : is_for who z.name ≡ true

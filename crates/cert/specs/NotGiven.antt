@@ -1,4 +1,5 @@
--- The reason against an object that the polynomials don't give, and how it is looked for: block by block.
+-- The reason against an object that the polynomials don't give, and how it is looked for: block by
+-- block.
 use Rattle.std.specs.Prelude.{ℕ, ◌<◌, List}
 use Rattle.partition.specs.Fti.{source_count}
 use Rattle.cert.specs.declared.verdict.Reason.{Reason}

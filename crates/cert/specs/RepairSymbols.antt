@@ -16,7 +16,8 @@ kept_of z n blocks = record { certificate = z; count = n; blocks = blocks }
 abbrev pub AreKeptOf : Certificate → ℕ → ℕ → List ℕ → Type 0
 AreKeptOf z n b bytes =
     (r c : ℕ) → r < n → c < z.fti.symbol_length
-    → slice_index bytes (b * (n * z.fti.symbol_length) + (r * z.fti.symbol_length + c)) ≡ certified_byte z b (source_count z.fti b + r) c
+    → slice_index bytes (b * (n * z.fti.symbol_length) + (r * z.fti.symbol_length + c))
+    ≡ certified_byte z b (source_count z.fti b + r) c
 
 -- those of the first blocks, as many of each as the greatest block has repair symbols
 pub record AreKept (z : Certificate) (n blocks : ℕ) (bytes : List ℕ) : Type 0 where

@@ -11,8 +11,8 @@ use Rattle.reception.specs.declared.scope.Identity.{Identity}
 use Rattle.reception.specs.Symbols.{has_arrived, arrived_count}
 use Rattle.reception.specs.Reception.{ReadAll, counted, symbols, is_carrier}
 
--- the blocks of an FTI, which of their symbols the identity's packets among a list of readings hold, and which readings are
--- carriers of the identity
+-- the blocks of an FTI, which of their symbols the identity's packets among a list of readings
+-- hold, and which readings are carriers of the identity
 abbrev pub blocks_of : Identity → Fti → Blocks Reading
 blocks_of who f = record {
   count = block_count f;
@@ -21,13 +21,16 @@ blocks_of who f = record {
   is_carrier = is_carrier who;
 }
 
--- For each block its source symbols, and how many different ESIs of it came; how many carriers; and what may be lost. A loss
--- is of datagrams, whosever packets they are, and its places are those of all of them.
-pub record IsReport (who : Identity) (datagrams : List (List ℕ)) (f : Fti) (report : Report) : Type 0 where
+-- For each block its source symbols, and how many different ESIs of it came; how many carriers; and
+-- what may be lost. A loss is of datagrams, whosever packets they are, and its places are those of
+-- all of them.
+pub record IsReport (who : Identity) (datagrams : List (List ℕ)) (f : Fti)
+    (report : Report) : Type 0 where
   pub readings : List Reading
   pub read : ReadAll datagrams readings
   pub blocks : report.blocks.items
-      ≡ map (λ b. (source_count f b, arrived_count (symbols (counted who readings)) b)) (below (block_count f))
+      ≡ map (λ b. (source_count f b, arrived_count (symbols (counted who readings)) b))
+      (below (block_count f))
   pub carriers : report.carriers ≡ count_by (is_carrier who) readings
   pub margin : IsMargin (blocks_of who f) readings report.margin
   pub kill : IsKill (blocks_of who f) readings (report.margin + 1) report.kill.items

@@ -1,5 +1,6 @@
 -- What a scan over the datagrams finds.
-use Rattle.std.specs.Prelude.{◌≡◌, ◌≢◌, ℕ, ◌<◌, ◌≤◌, ◌==◌, cond, List, [], ◌∷◌, ◌++◌, length, true, Option, Some, None, map}
+use Rattle.std.specs.Prelude.{◌≡◌, ◌≢◌, ℕ, ◌<◌, ◌≤◌, ◌==◌, cond, List, [], ◌∷◌, ◌++◌, length, true}
+use Rattle.std.specs.Prelude.{Option, Some, None, map}
 use Rattle.std.specs.List.{list_any}
 use Rattle.losses.specs.declared.groups.Member.{Member}
 use Rattle.losses.specs.Groups.{Group, group_at, different}
@@ -18,7 +19,8 @@ use Rattle.lists.specs.Below.{below}
 -- the symbols of block b among these, which stand at place i
 abbrev pub members_at : ℕ → ℕ → List Symbol → List Member
 members_at b i [] = []
-members_at b i (s ∷ ss) = cond (s.block == b) (record { place = i; esi = s.esi } ∷ members_at b i ss) (members_at b i ss)
+members_at b i (s ∷ ss) =
+    cond (s.block == b) (record { place = i; esi = s.esi } ∷ members_at b i ss) (members_at b i ss)
 
 -- the places and ESIs of the symbols of block b
 abbrev pub members_of : ℕ → List Placed → List Member
@@ -35,8 +37,10 @@ pub record AreGroupsOf (f : Fti) (xs : List Placed) (groups : List Group) : Type
 pub record IsPut (old : List Group) (place : ℕ) (s : Symbol) (new : List Group) : Type 0 where
   pub count : length new ≡ length old
   pub need : (b : ℕ) → b < length old → (group_at new b).need ≡ (group_at old b).need
-  pub here : (group_at new s.block).members ≡ (group_at old s.block).members ++ record { place = place; esi = s.esi } ∷ []
-  pub elsewhere : (b : ℕ) → b < length old → b ≢ s.block → (group_at new b).members ≡ (group_at old b).members
+  pub here : (group_at new s.block).members ≡ (group_at old s.block).members
+      ++ record { place = place; esi = s.esi } ∷ []
+  pub elsewhere : (b : ℕ) → b < length old → b ≢ s.block
+      → (group_at new b).members ≡ (group_at old b).members
 
 -- the places of the carriers, and with them that of a packet which carries an FTI
 abbrev pub with_carrier : List ℕ → ℕ → Option Fti → List ℕ
@@ -74,7 +78,8 @@ IsShortGroup groups (ByReason _) = ⊥
 IsShortGroup groups NoMemory = Unit {0}
 
 -- what a yes says of the datagrams
-pub record AreEnoughCertified (who : Identity) (datagrams : List (List ℕ)) (z : Certificate) : Type 0 where
+pub record AreEnoughCertified (who : Identity) (datagrams : List (List ℕ))
+    (z : Certificate) : Type 0 where
   pub all : AreCertified who (readings_of datagrams) z
   pub full : Suffices who z.fti (readings_of datagrams)
   pub carrier : list_any (is_carrier who) (readings_of datagrams) ≡ true

@@ -1,5 +1,6 @@
 -- Columns of a symbol, one after the other.
-use Rattle.std.specs.Prelude.{ℕ, zero, suc, ◌+◌, ◌==◌, if◌then◌else◌, slice_index, Option, Some, None}
+use Rattle.std.specs.Prelude.{ℕ, zero, suc, ◌+◌, ◌==◌, if◌then◌else◌, slice_index, Option, Some}
+use Rattle.std.specs.Prelude.{None}
 use Rattle.reception.specs.Symbols.{Symbol}
 use Rattle.cert.specs.Certificate.{Certificate, certified_byte}
 
@@ -7,4 +8,5 @@ use Rattle.cert.specs.Certificate.{Certificate, certified_byte}
 abbrev pub wrong_column : Certificate → Symbol → ℕ → ℕ → Option ℕ
 wrong_column z s c zero = None
 wrong_column z s c (suc n) =
-    if slice_index s.bytes c == certified_byte z s.block s.esi c then wrong_column z s (c + 1) n else Some c
+    if slice_index s.bytes c == certified_byte z s.block s.esi c then wrong_column z s (c + 1) n
+    else Some c

@@ -32,8 +32,8 @@ fn put_symbols(certificate: &Certificate, block: u32, first: usize, count: usize
     );
 }
 
-/// Some symbols of one block, those that were made last, in room for all of the greatest block. Contracts see of which
-/// certificate and block they are, and their ESIs.
+/// Some symbols of one block, those that were made last, in room for all of the greatest block.
+/// Contracts see of which certificate and block they are, and their ESIs.
 #[derive(Drop)]
 pub(crate) struct BlockSymbols<'a> {
     certificate: &'a Certificate,

@@ -1,9 +1,15 @@
 //! The certificate: the polynomial of each byte column of each block.
-ghost use Rattle.std.specs.Prelude.{◌≡◌, ◌≢◌, ◌+◌, ◌*◌, ◌<◌, ◌≤◌, ℕ, List, None, true, false, take, drop, length, vec_len, MatchOption, OnOk, OnErr, IfOk, IfErr, IfSome, slice_index};
+ghost use Rattle.std.specs.Prelude.{◌≡◌, ◌≢◌, ◌+◌, ◌*◌, ◌<◌, ◌≤◌, ℕ, List, None, true, false, take};
+ghost use Rattle.std.specs.Prelude.{drop, length, vec_len, MatchOption, OnOk, OnErr, IfOk, IfErr};
+ghost use Rattle.std.specs.Prelude.{IfSome, slice_index};
 ghost use Rattle.std.specs.Io.KnownBytes.{Consumes, IsAtEnd, Appends};
 ghost use Rattle.session.specs.Pieces.{AppendsSome};
 ghost use Rattle.partition.specs.Fti.{IsValidFti, source_count, block_count};
-ghost use Rattle.cert.specs.Certificate.{Certificate as CertificateValue, IsCertificate, IsIdentity, is_for as is_for_name, coefficient_count, coefficient as coefficient_of, unnamed, named_as, coefficients_text, certificate_text, text_fault, IsCertFault, IsRowOf};
+ghost use Rattle.cert.specs.Certificate.{Certificate as CertificateValue, IsCertificate};
+ghost use Rattle.cert.specs.Certificate.{IsIdentity, is_for as is_for_name, coefficient_count};
+ghost use Rattle.cert.specs.Certificate.{coefficient as coefficient_of, unnamed, named_as};
+ghost use Rattle.cert.specs.Certificate.{coefficients_text, certificate_text, text_fault};
+ghost use Rattle.cert.specs.Certificate.{IsCertFault, IsRowOf};
 ghost use Rattle.cert.specs.CertificateReading.{IsReadFault};
 ghost use Rattle.cert.specs.CoefficientRows.{AreRowsOf};
 
@@ -17,18 +23,19 @@ use std::alloc::Global;
 use std::marker::Model;
 use thiserror::Error;
 
-/// Why a certificate wasn't read, written or named. `Magic`, `Fti` and `Size` tell why bytes are no certificate, in the
-/// order in which they are looked at.
+/// Why a certificate wasn't read, written or named. `Magic`, `Fti` and `Size` tell why bytes are no
+/// certificate, in the order in which they are looked at.
 #[derive(Debug, Clone, Copy, PartialEq, Eq, Error)]
 pub enum CertFault {
     /// The first four bytes are neither `RSC1` nor `RSC2`.
     #[error("Z1 Magic")]
     Magic,
-    /// The FTI in bytes 4 to 13, behind a name in bytes 24 to 33, isn't valid; the first fault of it.
+    /// The FTI in bytes 4 to 13, behind a name in bytes 24 to 33, isn't valid; the first fault of
+    /// it.
     #[error("Z2 Fti {0}")]
     Fti(FtiError),
-    /// There are other than 14 bytes, with a name 34, and T·E coefficients, T being the object's source symbols and E the
-    /// symbol's bytes.
+    /// There are other than 14 bytes, with a name 34, and T·E coefficients, T being the object's
+    /// source symbols and E the symbol's bytes.
     #[error("Z3 Size")]
     Size,
     /// The reader or writer has failed.
@@ -42,8 +49,8 @@ pub enum CertFault {
     OtherIdentity,
 }
 
-/// An FTI, for each byte column of each block the coefficients of its polynomial, the constant one first, and maybe a name:
-/// whose packets they are certified for.
+/// An FTI, for each byte column of each block the coefficients of its polynomial, the constant one
+/// first, and maybe a name: whose packets they are certified for.
 #[derive(Drop)]
 pub struct Certificate {
     fti: Fti,
@@ -72,7 +79,8 @@ pub(crate) fn coefficients_of(fti: &Fti) -> u64
     fti.symbol_count() * u64::from(fti.symbol_length())
 }
 
-// Whether a certificate with this name can be one of the identity's packets: it has none, or this one.
+// Whether a certificate with this name can be one of the identity's packets: it has none, or this
+// one.
 pub(crate) fn is_for(identity: &Identity, name: &Option<Identity>) -> bool
     ensures { result ≡ is_for_name identity.now name.now }
 {
@@ -115,9 +123,10 @@ fn read_coefficients<R: Read>(
 }
 
 impl Certificate {
-    /// The certificate without a name of these coefficients: blocks rising, in a block rows rising, one of each coefficient
-    /// from the constant one on, with its byte of each column. `None` where there are other than T·E, source symbols of the
-    /// object times bytes of a symbol, and only then.
+    /// The certificate without a name of these coefficients: blocks rising, in a block rows rising,
+    /// one of each coefficient from the constant one on, with its byte of each column. `None` where
+    /// there are other than T·E, source symbols of the object times bytes of a symbol, and only
+    /// then.
     pub fn from_parts(fti: Fti, coefficients: Vec<u8>) -> Option<Certificate>
         ensures parts { MatchOption result (vec_len coefficients ≢ coefficient_count fti)
             (λ z. z ≡ unnamed fti coefficients.items) }
@@ -171,8 +180,8 @@ impl Certificate {
         }
     }
 
-    /// The same polynomials with this name. `OtherIdentity` where the certificate has another one, and only then; `NoMemory`
-    /// where there is no memory for a copy.
+    /// The same polynomials with this name. `OtherIdentity` where the certificate has another one,
+    /// and only then; `NoMemory` where there is no memory for a copy.
     ///
     /// The identity's TSI is below 2^48, its TOI below 2^112 (RFC 5651, section 5.1).
     pub fn named(&self, alloc: Global, identity: Identity) -> Result<Certificate, CertFault>
@@ -221,8 +230,8 @@ impl Certificate {
         part(self.coefficients.as_slice(), from, self.fti.k(b) * width)
     }
 
-    /// Coefficient `i` of the polynomials of block `b`: its byte of each column, E bytes. It needs that the FTI has the block
-    /// and this as many source symbols.
+    /// Coefficient `i` of the polynomials of block `b`: its byte of each column, E bytes. It needs
+    /// that the FTI has the block and this as many source symbols.
     pub fn row(&self, b: u32, i: usize) -> &[u8]
         requires block { b < block_count self.now.fti }
         requires symbol { i < source_count self.now.fti b }
@@ -243,10 +252,10 @@ impl Certificate {
         self.row(b, i)[c]
     }
 
-    /// The certificate in all bytes up to the reader's end, where the reader then is. Memory grows with the bytes that
-    /// come, never with what the first ones claim. `Magic`, `Fti` and `Size` tell why the bytes are none, `Io` that the
-    /// reader has failed, which a sound one never does, `NoMemory` that memory lacks. After a fault it isn't told how much
-    /// was consumed.
+    /// The certificate in all bytes up to the reader's end, where the reader then is. Memory grows
+    /// with the bytes that come, never with what the first ones claim. `Magic`, `Fti` and `Size`
+    /// tell why the bytes are none, `Io` that the reader has failed, which a sound one never does,
+    /// `NoMemory` that memory lacks. After a fault it isn't told how much was consumed.
     pub fn read<R: Read>(alloc: Global, reader: &mut R) -> Result<Certificate, CertFault>
         // All that was left is the certificate's text.
         ensures ok { IfOk result (λ z.
@@ -277,9 +286,9 @@ impl Certificate {
         })
     }
 
-    /// Writes the certificate's text, `RSC1` where it has no name, else `RSC2`: the name, the FTI in ten bytes and the
-    /// coefficients. `Io`, the only fault, comes only where the writer has failed, and never where it has room for the text.
-    /// It has a beginning of it then.
+    /// Writes the certificate's text, `RSC1` where it has no name, else `RSC2`: the name, the FTI
+    /// in ten bytes and the coefficients. `Io`, the only fault, comes only where the writer has
+    /// failed, and never where it has room for the text. It has a beginning of it then.
     pub fn write<W: Write>(&self, writer: &mut W) -> Result<(), CertFault>
         ensures ok { OnOk result
             (Appends (W.contents writer.old) (W.contents writer.new) (certificate_text self.now)) }

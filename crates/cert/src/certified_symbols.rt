@@ -1,7 +1,8 @@
 //! The symbols that a certificate gives, made when they are asked for.
 //!
-//! The object's come first, block by block. With them a block's repair symbols are made and kept, as all of a block's symbols
-//! cost little more than some. Where they would be more bytes than the object, they are made when a datagram asks for them.
+//! The object's come first, block by block. With them a block's repair symbols are made and kept,
+//! as all of a block's symbols cost little more than some. Where they would be more bytes than the
+//! object, they are made when a datagram asks for them.
 ghost use Rattle.std.specs.Prelude.{◌≡◌, ◌↔◌, ◌<◌, ◌≤◌, ◌-◌, ◌*◌, IsTrue, IsNone, IfSome, IfOk};
 ghost use Rattle.partition.specs.Fti.{symbol_count, block_count, source_count, encoding_count};
 ghost use Rattle.cert.specs.Certificate.{IsCertificate};
@@ -38,7 +39,8 @@ impl<'a> Model for CertifiedSymbols<'a> {
     ghost invariant = { λ s. IfSome s.kept (λ k. k.certificate ≡ s.latest.certificate) };
 }
 
-// Whether the repair symbols of all blocks, as many of each as of the greatest, are no more than the source symbols.
+// Whether the repair symbols of all blocks, as many of each as of the greatest, are no more than
+// the source symbols.
 fn are_few(fti: &Fti) -> bool
     ensures { IsTrue result
         ↔ (block_count fti.now * (encoding_count fti.now 0 - source_count fti.now 0)
@@ -49,7 +51,8 @@ fn are_few(fti: &Fti) -> bool
     blocks * most <= fti.symbol_count()
 }
 
-// Makes all source symbols of a block, and its repair symbols with them where they are the next to be kept.
+// Makes all source symbols of a block, and its repair symbols with them where they are the next to
+// be kept.
 fn make_source<'a>(latest: &mut BlockSymbols<'a>, kept: &mut Option<RepairSymbols<'a>>, block: u32)
     requires block { block < block_count latest.old.certificate.fti }
     requires kept { IfSome kept.old (λ s. s.certificate ≡ latest.old.certificate) }
@@ -128,7 +131,8 @@ impl<'a> CertifiedSymbols<'a> {
         }
     }
 
-    /// The least column in which these bytes, with zeros behind them, aren't the symbol of a block that has this ESI.
+    /// The least column in which these bytes, with zeros behind them, aren't the symbol of a block
+    /// that has this ESI.
     pub(crate) fn first_wrong_column(&mut self, block: u32, esi: u8, bytes: &[u8]) -> Option<usize>
         requires block { block < block_count self.old.fti }
         requires esi { esi < 255 }

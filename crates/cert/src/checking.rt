@@ -56,10 +56,11 @@ fn verdict_of(
     }
 }
 
-/// Whether the certificate is one of the identity's packets in the session, and of the object, and at yes what the session
-/// can lose. The session may have packets of other identities, which don't count: a check of one identity says nothing of
-/// another. Neither the session's sender nor the certificate's maker is trusted, so any session, object, certificate and
-/// identity will do. `No` has the first reason, in the order of [`Reason`]. Want of memory is the only error, and says
+/// Whether the certificate is one of the identity's packets in the session, and of the object, and
+/// at yes what the session can lose. The session may have packets of other identities, which don't
+/// count: a check of one identity says nothing of another. Neither the session's sender nor the
+/// certificate's maker is trusted, so any session, object, certificate and identity will do. `No`
+/// has the first reason, in the order of [`Reason`]. Want of memory is the only error, and says
 /// nothing of the four.
 pub fn check(
     alloc: Global,
@@ -70,18 +71,20 @@ pub fn check(
 ) -> Result<Verdict, AllocError>
     // The verdict: yes exactly where the certificate is one, and else the first reason.
     ensures verdict { IfOk result (IsVerdict identity session.now object.now certificate.now) }
-    // At yes, each selection of the datagrams whose packets of the identity leave no block short, and of which one is a
-    // carrier, decodes to the object.
+    // At yes, each selection of the datagrams whose packets of the identity leave no block short,
+    // and of which one is a carrier, decodes to the object.
     ensures decodes { IfOk result (λ v. OnYes v
         (λ _. DecodesWhereEnough identity certificate.now.fti session.now object.now)) }
-    // At yes, each selection that leaves a block short leaves another object that agrees with all of it.
+    // At yes, each selection that leaves a block short leaves another object that agrees with all
+    // of it.
     ensures undecided { IfOk result (λ v. OnYes v
         (λ _. TwinWhereShort identity certificate.now.fti session.now object.now)) }
-    // At yes, of each selection that isn't enough a decoder says what lacks: a short block, or a carrier.
+    // At yes, of each selection that isn't enough a decoder says what lacks: a short block, or a
+    // carrier.
     ensures tells { IfOk result (λ v. OnYes v
         (λ _. TellsElse identity certificate.now.fti session.now)) }
-    // At yes, what each block needs and has, how many carriers came, and of all losses of datagrams the margin, the
-    // kill and the burst.
+    // At yes, what each block needs and has, how many carriers came, and of all losses of datagrams
+    // the margin, the kill and the burst.
     ensures report { IfOk result (λ v.
         OnYes v (IsReport identity session.now certificate.now.fti)) }
 {

@@ -1,9 +1,11 @@
 //! Coefficients column by column, as the text of a certificate without a name has them.
-ghost use Rattle.std.specs.Prelude.{◌≡◌, ◌<◌, ◌≤◌, ◌*◌, ◌+◌, ℕ, None, true, slice_index, take, length, OnOk, OnErr, IfOk};
+ghost use Rattle.std.specs.Prelude.{◌≡◌, ◌<◌, ◌≤◌, ◌*◌, ◌+◌, ℕ, None, true, slice_index, take};
+ghost use Rattle.std.specs.Prelude.{length, OnOk, OnErr, IfOk};
 ghost use Rattle.std.specs.Io.KnownBytes.{Appends};
 ghost use Rattle.session.specs.Pieces.{AppendsSome};
 ghost use Rattle.partition.specs.Fti.{source_count, block_count, start_of, source_place};
-ghost use Rattle.cert.specs.Certificate.{polynomial, block_columns, coefficients_text, coefficient_count, unnamed};
+ghost use Rattle.cert.specs.Certificate.{polynomial, block_columns, coefficients_text};
+ghost use Rattle.cert.specs.Certificate.{coefficient_count, unnamed};
 ghost use Rattle.cert.specs.CoefficientRows.{text_place};
 
 use crate::certificate::Certificate;
@@ -12,7 +14,8 @@ use session::{Failed, Write, write_all};
 use std::alloc::{AllocError, Global};
 use transpose::rows_from_columns;
 
-/// Turns columns at the front of bytes into rows at the front of others: byte `i` of column `c` comes to place `c` of row `i`.
+/// Turns columns at the front of bytes into rows at the front of others: byte `i` of column `c`
+/// comes to place `c` of row `i`.
 pub(crate) fn turn_front(rows: &mut [u8], columns: &[u8], count: usize, width: usize)
     requires rows { count * width ≤ length rows.old }
     requires columns { count * width ≤ length columns.now }
@@ -24,7 +27,8 @@ pub(crate) fn turn_front(rows: &mut [u8], columns: &[u8], count: usize, width: u
     rows_from_columns(&mut rows[..size], &columns[..size], count, width);
 }
 
-// Turns the columns of a block, where they stand in a text, into rows, where a certificate has them.
+// Turns the columns of a block, where they stand in a text, into rows, where a certificate has
+// them.
 fn turn_block(rows: &mut [u8], text: &[u8], fti: &Fti, b: u32)
     requires block { b < block_count fti.now }
     requires rows { length rows.old ≡ coefficient_count fti.now }

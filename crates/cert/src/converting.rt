@@ -1,5 +1,6 @@
 //! A certificate's file that is given a name, block by block.
-ghost use Rattle.std.specs.Prelude.{◌≡◌, ◌≢◌, ◌<◌, ◌*◌, true, false, length, IfOk, IfErr, OnOk, OnErr, IfSome};
+ghost use Rattle.std.specs.Prelude.{◌≡◌, ◌≢◌, ◌<◌, ◌*◌, true, false, length, IfOk, IfErr, OnOk};
+ghost use Rattle.std.specs.Prelude.{OnErr, IfSome};
 ghost use Rattle.std.specs.Io.KnownBytes.{Consumes, IsAtEnd};
 ghost use Rattle.lists.specs.Bytes.{AreBytes};
 ghost use Rattle.partition.specs.Fti.{block_count};
@@ -21,7 +22,8 @@ use thiserror::Error;
 /// Why a certificate's file wasn't converted.
 #[derive(Debug, Clone, Copy, PartialEq, Eq, Error)]
 pub enum ConvertFault {
-    /// What was read isn't a certificate, or is one with another name; or the reader has failed, or memory lacks.
+    /// What was read isn't a certificate, or is one with another name; or the reader has failed, or
+    /// memory lacks.
     #[error(transparent)]
     Certificate(CertFault),
     /// The writer has failed.
@@ -165,18 +167,19 @@ fn convert_blocks<R: Read, W: Write>(
     Ok(())
 }
 
-/// Reads the text of a certificate, up to the reader's end, and writes the text that it has with this name. The answer is its
-/// FTI.
+/// Reads the text of a certificate, up to the reader's end, and writes the text that it has with
+/// this name. The answer is its FTI.
 ///
-/// One block is held at a time, its bytes and where there was no name its rows beside them, and memory grows with the bytes
-/// that come, never with what the first ones claim.
+/// One block is held at a time, its bytes and where there was no name its rows beside them, and
+/// memory grows with the bytes that come, never with what the first ones claim.
 ///
-/// `OtherIdentity` comes where the certificate has another name, and only then. The other faults of reading tell why there is
-/// none, and `Write` that the writer has failed, which it never has where there is room for the bytes that are left to read
-/// and twenty more. With `Magic`, `Fti` and `OtherIdentity` nothing was written. `Size`, too few bytes or too many, is only
-/// told once they have come, behind what was written of them. At each fault what was written begins the text, with this name,
-/// of every certificate that what was left to read can be: one whose text is the same as far as both go. So no byte is
-/// written that doesn't follow from what was left.
+/// `OtherIdentity` comes where the certificate has another name, and only then. The other faults of
+/// reading tell why there is none, and `Write` that the writer has failed, which it never has where
+/// there is room for the bytes that are left to read and twenty more. With `Magic`, `Fti` and
+/// `OtherIdentity` nothing was written. `Size`, too few bytes or too many, is only told once they
+/// have come, behind what was written of them. At each fault what was written begins the text, with
+/// this name, of every certificate that what was left to read can be: one whose text is the same as
+/// far as both go. So no byte is written that doesn't follow from what was left.
 ///
 /// The identity's TSI is below 2^48, its TOI below 2^112 (RFC 5651, section 5.1).
 pub fn convert<R: Read, W: Write>(

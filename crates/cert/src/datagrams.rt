@@ -17,7 +17,8 @@ use partition::Fti;
 use reception::PlaceFault;
 use std::alloc::{AllocError, Global};
 
-/// The least column in which a packet's symbol isn't the certified one, which is the object's where it is a source symbol.
+/// The least column in which a packet's symbol isn't the certified one, which is the object's where
+/// it is a source symbol.
 pub(crate) fn first_wrong_column_of(
     symbols: &mut CertifiedSymbols<'_>,
     object: &[u8],

@@ -103,11 +103,12 @@ fn report_from<R: Read>(
     Ok(walk.report(alloc)?)
 }
 
-/// The check of an identity's packets among the datagrams that are left of a reader, read one at a time: none before
-/// the certificate's name is compared with the identity and the object with the polynomials, and none behind the first
-/// reason at a place. One datagram is held at a time, and of the others the places and the ESIs of their symbols. What
-/// can't be read is told as a fault where no reason stands before it; `Io` that the reader has failed, which a sound
-/// one never does. Want of memory says nothing of the session.
+/// The check of an identity's packets among the datagrams that are left of a reader, read one at a
+/// time: none before the certificate's name is compared with the identity and the object with the
+/// polynomials, and none behind the first reason at a place. One datagram is held at a time, and of
+/// the others the places and the ESIs of their symbols. What can't be read is told as a fault where
+/// no reason stands before it; `Io` that the reader has failed, which a sound one never does. Want
+/// of memory says nothing of the session.
 pub fn check_from<R: Read>(
     alloc: Global,
     reader: &mut R,
@@ -115,7 +116,8 @@ pub fn check_from<R: Read>(
     certificate: &Certificate,
     identity: Identity,
 ) -> Result<Verdict, CheckFault>
-    // The frames of some datagrams were read, and the verdict is theirs, whatever follows, or they are all.
+    // The frames of some datagrams were read, and the verdict is theirs, whatever follows, or they
+    // are all.
     ensures verdict { IfOk result (IsCheckedFrom identity (R.remaining reader.old)
         (R.remaining reader.new) object.now certificate.now) }
     // They have no reason against them, and what follows is no frame.

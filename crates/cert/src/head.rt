@@ -1,11 +1,15 @@
-//! What stands in a certificate's file before the coefficients: a magic number, maybe whose certificate it is, and the FTI.
-ghost use Rattle.std.specs.Prelude.{◌≡◌, ◌≤◌, ◌<◌, ◌+◌, length, take, drop, None, IfOk, IfErr, IfSome, OnOk, OnErr, true, false, nat_eq};
+//! What stands in a certificate's file before the coefficients: a magic number, maybe whose
+//! certificate it is, and the FTI.
+ghost use Rattle.std.specs.Prelude.{◌≡◌, ◌≤◌, ◌<◌, ◌+◌, length, take, drop, None, IfOk, IfErr};
+ghost use Rattle.std.specs.Prelude.{IfSome, OnOk, OnErr, true, false, nat_eq};
 ghost use Rattle.std.specs.List.{starts_with};
 ghost use Rattle.std.specs.Io.KnownBytes.{Consumes, IsAtEnd, Appends};
 ghost use Rattle.session.specs.Pieces.{AppendsSome};
 ghost use Rattle.partition.specs.FtiFault.{fti_fault};
-ghost use Rattle.cert.specs.Certificate.{IsIdentity, magic, magic_of_named, name_text, fti_text, head_text, told_fti, IsCertFault};
-ghost use Rattle.cert.specs.CertificateReading.{told_name, IsTold, IsHeadFault, IsHeadOf, head_length as length_of};
+ghost use Rattle.cert.specs.Certificate.{IsIdentity, magic, magic_of_named, name_text, fti_text};
+ghost use Rattle.cert.specs.Certificate.{head_text, told_fti, IsCertFault};
+ghost use Rattle.cert.specs.CertificateReading.{told_name, IsTold, IsHeadFault, IsHeadOf};
+ghost use Rattle.cert.specs.CertificateReading.{head_length as length_of};
 
 use crate::certificate::CertFault;
 use byteorder::{BigEndian, ByteOrder};
@@ -71,9 +75,9 @@ fn put_head(out: &mut [u8], name: &Option<Identity>, fti: &Fti) -> usize
     }
 }
 
-/// Writes what stands before the coefficients in the file of a certificate with this name, or without one, and this FTI: 34
-/// or 14 bytes. `Failed` comes only where the writer has failed, and never where it has room for them. It has a beginning of
-/// them then.
+/// Writes what stands before the coefficients in the file of a certificate with this name, or
+/// without one, and this FTI: 34 or 14 bytes. `Failed` comes only where the writer has failed, and
+/// never where it has room for them. It has a beginning of them then.
 ///
 /// The name's TSI is below 2^48, its TOI below 2^112 (RFC 5651, section 5.1).
 pub fn write_head<W: Write>(
@@ -183,8 +187,8 @@ fn told_head(bytes: &[u8]) -> Result<Head, CertFault>
     Err(CertFault::Magic)
 }
 
-// Fills these bytes with a head: fourteen, and twenty more where the magic number is that of a head with a name. Answers how
-// many came, fewer only at the end.
+// Fills these bytes with a head: fourteen, and twenty more where the magic number is that of a head
+// with a name. Answers how many came, fewer only at the end.
 fn fill_head<R: Read>(reader: &mut R, bytes: &mut [u8]) -> Result<usize, Failed>
     requires { length bytes.old ≡ LENGTH_OF_NAMED }
     ensures len { length bytes.new ≡ LENGTH_OF_NAMED }
@@ -206,8 +210,9 @@ fn fill_head<R: Read>(reader: &mut R, bytes: &mut [u8]) -> Result<usize, Failed>
     Ok(LENGTH + more)
 }
 
-/// The head in a reader's next bytes: fourteen, or where these begin with the magic number of a head with a name, twenty
-/// more. `Magic`, `Fti` and `Size` tell why no certificate begins there, `Io` that the reader has failed.
+/// The head in a reader's next bytes: fourteen, or where these begin with the magic number of a
+/// head with a name, twenty more. `Magic`, `Fti` and `Size` tell why no certificate begins there,
+/// `Io` that the reader has failed.
 pub(crate) fn read_head<R: Read>(reader: &mut R) -> Result<Head, CertFault>
     ensures ok { IfOk result (λ h.
         Consumes (R.remaining reader.old) (R.remaining reader.new) (head_text h.name h.fti)) }

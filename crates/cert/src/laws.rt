@@ -7,7 +7,8 @@ ghost use Rattle.reception.specs.Reception.{with_fti};
 ghost use Rattle.reception.specs.First.{TellsTheFirst};
 ghost use Rattle.reception.specs.Order.{TellsInOrder};
 ghost use Rattle.cert.specs.declared.verdict.Verdict.{Verdict as VerdictValue};
-ghost use Rattle.cert.specs.Certificate.{Certificate as CertificateValue, named_as, is_for, text_fault, IsTextOfSome};
+ghost use Rattle.cert.specs.Certificate.{Certificate as CertificateValue, named_as, is_for};
+ghost use Rattle.cert.specs.Certificate.{text_fault, IsTextOfSome};
 ghost use Rattle.cert.specs.Verdict.{uncertified, IsVerdict, AreOneVerdict};
 ghost use Rattle.cert.specs.Columns.{TellsFirstWrong};
 
@@ -16,8 +17,9 @@ pub fn texts_without_fault()
     ensures { (x : List ℕ) → AreBytes x → (text_fault x ≡ None) ↔ IsTextOfSome x }
 {}
 
-/// An identity's packets in a session, an object and a certificate have one verdict: two that meet its definition are both
-/// yes, or both no for one reason. So `check` says yes exactly where the certificate is one.
+/// An identity's packets in a session, an object and a certificate have one verdict: two that meet
+/// its definition are both yes, or both no for one reason. So `check` says yes exactly where the
+/// certificate is one.
 pub fn one_verdict()
     ensures { (who : Identity) (datagrams : List (List ℕ)) (object : List ℕ)
         (z : CertificateValue) (a b : VerdictValue)
@@ -26,7 +28,8 @@ pub fn one_verdict()
         → AreOneVerdict a b }
 {}
 
-/// The identity's own name changes no verdict: a certificate without a name has the same as with that name.
+/// The identity's own name changes no verdict: a certificate without a name has the same as with
+/// that name.
 pub fn own_name_changes_nothing()
     ensures { (who : Identity) (datagrams : List (List ℕ)) (object : List ℕ)
         (z : CertificateValue) (v : VerdictValue)
@@ -35,21 +38,22 @@ pub fn own_name_changes_nothing()
         ↔ IsVerdict who datagrams object (named_as who z) v }
 {}
 
-/// The reason of a check at a place is the one at the least place that has one, and there the first in the order of the
-/// definition.
+/// The reason of a check at a place is the one at the least place that has one, and there the first
+/// in the order of the definition.
 pub fn first_reason()
     ensures { (who : Identity) (z : CertificateValue)
         → TellsTheFirst (uncertified z) (with_fti who z.fti) }
 {}
 
-/// At one place a check's reasons come in this order: no packet, another FTI in a carrier, a symbol of another length, out
-/// of range, a symbol that isn't certified. Each is told exactly where it holds and none before it does.
+/// At one place a check's reasons come in this order: no packet, another FTI in a carrier, a symbol
+/// of another length, out of range, a symbol that isn't certified. Each is told exactly where it
+/// holds and none before it does.
 pub fn reason_order()
     ensures { (z : CertificateValue) → TellsInOrder (uncertified z) }
 {}
 
-/// The column that a check tells of a symbol is the least in which it isn't the certified one, and it tells one exactly
-/// where there is one.
+/// The column that a check tells of a symbol is the least in which it isn't the certified one, and
+/// it tells one exactly where there is one.
 pub fn first_column()
     ensures { (z : CertificateValue) (earlier : List Symbol) (s : Symbol)
         → TellsFirstWrong z earlier s }

@@ -1,25 +1,30 @@
 //! Certificates of sessions, and their check.
 //!
-//! `certificate` has the certificate, its file and the faults of one (`specs/Certificate`); `head` reads and writes what
-//! stands in the file before the coefficients, `column_text` the coefficients of a certificate without a name, column by
-//! column; `converting` gives a file a name, block by block. `verdict` has what a check answers, `specs/Verdict` which answer is right, `specs/Report` what a yes tells.
+//! `certificate` has the certificate, its file and the faults of one (`specs/Certificate`); `head`
+//! reads and writes what stands in the file before the coefficients, `column_text` the coefficients
+//! of a certificate without a name, column by column; `converting` gives a file a name, block by
+//! block. `verdict` has what a check answers, `specs/Verdict` which answer is right, `specs/Report`
+//! what a yes tells.
 //!
-//! A check asks for one identity's packets and is a walk over datagrams, one step each (`walk`), in two loops: [`check`]
-//! goes over a session (`checking`), [`check_from`] over what a reader gives (`from_reader`, `specs/FromReader`).
-//! [`survey_from`] is the same with what a picture of a yes shows (`surveying`, `specs/Surveying`). The
-//! certificate's FTI is known from the start, so a packet is judged whether a carrier came before it or not; that none came
-//! is told in the end.
+//! A check asks for one identity's packets and is a walk over datagrams, one step each (`walk`), in
+//! two loops: [`check`] goes over a session (`checking`), [`check_from`] over what a reader gives
+//! (`from_reader`, `specs/FromReader`). [`survey_from`] is the same with what a picture of a yes
+//! shows (`surveying`, `specs/Surveying`). The certificate's FTI is known from the start, so a
+//! packet is judged whether a carrier came before it or not; that none came is told in the end.
 //!
-//! The walk puts three parts together: `certified_symbols` makes each symbol that the certificate gives, `source` compares
-//! them with the object and `datagrams` with a datagram, whose place it puts into its block's group for `losses`, and that
-//! of a carrier behind the other carriers. `block_symbols` makes many symbols of a block at once, `repair_symbols` keeps
-//! those that datagrams are compared with, and `runs` tells how many pay where they aren't kept. `differing` finds the first byte in which two rows differ, which
-//! is how a column is told. `twins` makes the object that can't be told from the true one where a block is short
-//! (`specs/Twins`). `laws` says of the definitions which bytes are a certificate, that
-//! there is one verdict, and which reason and which column it has.
+//! The walk puts three parts together: `certified_symbols` makes each symbol that the certificate
+//! gives, `source` compares them with the object and `datagrams` with a datagram, whose place it
+//! puts into its block's group for `losses`, and that of a carrier behind the other carriers.
+//! `block_symbols` makes many symbols of a block at once, `repair_symbols` keeps those that
+//! datagrams are compared with, and `runs` tells how many pay where they aren't kept. `differing`
+//! finds the first byte in which two rows differ, which is how a column is told. `twins` makes the
+//! object that can't be told from the true one where a block is short (`specs/Twins`). `laws` says
+//! of the definitions which bytes are a certificate, that there is one verdict, and which reason
+//! and which column it has.
 //!
-//! Nothing is solved here: a check evaluates polynomials and compares bytes. What a yes promises of every selection is
-//! `reception`'s `specs/Headline`; the theorems behind it stand in `proofs/Promise`, `Twinning` and `Undecided`.
+//! Nothing is solved here: a check evaluates polynomials and compares bytes. What a yes promises of
+//! every selection is `reception`'s `specs/Headline`; the theorems behind it stand in
+//! `proofs/Promise`, `Twinning` and `Undecided`.
 #![tactic(auto)]
 
 mod block_symbols;

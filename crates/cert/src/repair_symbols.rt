@@ -9,8 +9,9 @@ use crate::certificate::Certificate;
 use std::alloc::{AllocError, Global};
 use std::marker::Model;
 
-/// As many symbols of each of the first blocks, from the block's first repair symbol on, as the greatest block has repair
-/// symbols. Contracts see of which certificate, how many, and of how many blocks.
+/// As many symbols of each of the first blocks, from the block's first repair symbol on, as the
+/// greatest block has repair symbols. Contracts see of which certificate, how many, and of how many
+/// blocks.
 #[derive(Drop)]
 pub(crate) struct RepairSymbols<'a> {
     certificate: &'a Certificate,

@@ -1,10 +1,12 @@
-//! How the repair symbols that are asked for follow one another. It tells what is worth making, and no answer hangs on it.
+//! How the repair symbols that are asked for follow one another. It tells what is worth making, and
+//! no answer hangs on it.
 ghost use Rattle.std.specs.Prelude.{◌≡◌, ◌≤◌, ◌↔◌, IsTrue};
 
 /// So many runs that were left early, one behind the other, tell that blocks come again and again.
 const SHORT_RUNS: usize = 2;
 
-/// A run is made of the symbols of one block. It is short where no more than half of the block's repair symbols came.
+/// A run is made of the symbols of one block. It is short where no more than half of the block's
+/// repair symbols came.
 #[derive(Clone, Copy)]
 pub(crate) struct Runs {
     block: u32,

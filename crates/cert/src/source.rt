@@ -29,7 +29,8 @@ pub(crate) fn source_symbol<'a>(object: &'a [u8], fti: &Fti, block: u32, i: usiz
     part_of(object, from, length)
 }
 
-// The least column of a block in which the polynomials don't give the object, and the least symbol there.
+// The least column of a block in which the polynomials don't give the object, and the least symbol
+// there.
 fn first_not_given_in(
     object: &[u8],
     symbols: &mut CertifiedSymbols<'_>,
@@ -42,7 +43,8 @@ fn first_not_given_in(
 {
     let fti = symbols.fti();
     let length = usize::from(fti.symbol_length());
-    // As many columns are right in all symbols so far; the next isn't in this symbol, the first of them.
+    // As many columns are right in all symbols so far; the next isn't in this symbol, the first of
+    // them.
     let mut right = length;
     let mut symbol = 0;
     for i in 0..fti.k(block) {
@@ -61,8 +63,8 @@ fn first_not_given_in(
     }
 }
 
-/// The reason against the object, if the polynomials don't give it: the least block, in it the least column, in that
-/// the least symbol.
+/// The reason against the object, if the polynomials don't give it: the least block, in it the
+/// least column, in that the least symbol.
 pub(crate) fn first_not_given(object: &[u8], symbols: &mut CertifiedSymbols<'_>) -> Option<Reason>
     ensures certificate { symbols.new ≡ symbols.old }
     ensures none { IsNone result → GivesObject object.now symbols.old }

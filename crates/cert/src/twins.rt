@@ -50,12 +50,12 @@ fn add_values(object: &mut [u8], fti: &Fti, block: u32, polynomial: &Poly<Gf>)
     }
 }
 
-/// A twin: another object of this FTI that agrees with every symbol of other blocks with which the object does, and with
-/// every one of this block whose ESI is held.
+/// A twin: another object of this FTI that agrees with every symbol of other blocks with which the
+/// object does, and with every one of this block whose ESI is held.
 ///
-/// It needs that the object has the FTI's length, that the FTI has the block, and that there are fewer different ESIs held
-/// than the block has source symbols. ESIs may come in any order and more than once, and those past 254 are passed over.
-/// Want of memory is the only error.
+/// It needs that the object has the FTI's length, that the FTI has the block, and that there are
+/// fewer different ESIs held than the block has source symbols. ESIs may come in any order and more
+/// than once, and those past 254 are passed over. Want of memory is the only error.
 pub fn twin(
     alloc: Global,
     object: &[u8],
@@ -76,8 +76,8 @@ pub fn twin(
     Ok(other)
 }
 
-// The ESIs of a block's symbols in the identity's packets of the session, as they came, where no datagram has a reason
-// against it.
+// The ESIs of a block's symbols in the identity's packets of the session, as they came, where no
+// datagram has a reason against it.
 fn esis_held(
     alloc: Global,
     session: &Session,
@@ -106,8 +106,9 @@ fn esis_held(
     Ok(arrived_esis)
 }
 
-/// A twin of the object where the check of the identity says `Thin` of this block, as it needs: another object of the
-/// certificate's FTI that agrees with all of the identity's packets in the session. Want of memory is the only error.
+/// A twin of the object where the check of the identity says `Thin` of this block, as it needs:
+/// another object of the certificate's FTI that agrees with all of the identity's packets in the
+/// session. Want of memory is the only error.
 pub fn session_twin(
     alloc: Global,
     session: &Session,

@@ -2,22 +2,25 @@
 use alc::PacketFault;
 use losses::Run;
 
-/// What a check tells of a session that it says yes to. Losses are of datagrams, whosever packets they are.
+/// What a check tells of a session that it says yes to. Losses are of datagrams, whosever packets
+/// they are.
 #[derive(Drop, Debug)]
 pub struct Report {
-    /// For each block, rising, how many source symbols it has and how many different ESIs of it the identity's packets hold.
+    /// For each block, rising, how many source symbols it has and how many different ESIs of it the
+    /// identity's packets hold.
     pub blocks: Vec<(usize, usize)>,
-    /// How many places hold a carrier: a packet of the identity that carries an FTI. A datagram that comes again counts
-    /// again.
+    /// How many places hold a carrier: a packet of the identity that carries an FTI. A datagram
+    /// that comes again counts again.
     pub carriers: usize,
-    /// The greatest number of datagrams whose loss, whichever of all they are, leaves a carrier and no block short.
+    /// The greatest number of datagrams whose loss, whichever of all they are, leaves a carrier and
+    /// no block short.
     pub margin: usize,
-    /// The places of one datagram more, rising, whose loss is too much: where a loss of so many can leave a block short,
-    /// it leaves short the least block that one can, and of those losses is the one whose lost ESIs, rising, stand first
-    /// in a dictionary; else it takes all carriers.
+    /// The places of one datagram more, rising, whose loss is too much: where a loss of so many can
+    /// leave a block short, it leaves short the least block that one can, and of those losses is
+    /// the one whose lost ESIs, rising, stand first in a dictionary; else it takes all carriers.
     pub kill: Vec<usize>,
-    /// The greatest number of neighbouring datagrams whose loss, wherever they stand, leaves a carrier and no block
-    /// short.
+    /// The greatest number of neighbouring datagrams whose loss, wherever they stand, leaves a
+    /// carrier and no block short.
     pub burst: usize,
 }
 
@@ -37,19 +40,20 @@ pub struct Survey {
     pub runs: Vec<Option<Run>>,
 }
 
-/// Why a certificate isn't one of an identity's packets in a session, and of an object. Places are those of all datagrams,
-/// whosever packets they are; they and blocks, columns and symbols count from 0.
+/// Why a certificate isn't one of an identity's packets in a session, and of an object. Places are
+/// those of all datagrams, whosever packets they are; they and blocks, columns and symbols count
+/// from 0.
 ///
-/// The first of these is told: `OtherCertificate`, `ObjectLength`, `NotObject`, the reason at the least place (`Packet`
-/// to `Symbol`, at one place in this order), `Empty`, `Thin`, `NoCarrier`.
+/// The first of these is told: `OtherCertificate`, `ObjectLength`, `NotObject`, the reason at the
+/// least place (`Packet` to `Symbol`, at one place in this order), `Empty`, `Thin`, `NoCarrier`.
 #[derive(Clone, Copy, Debug, PartialEq, Eq)]
 pub enum Reason {
     /// N12: the certificate has a name, and it isn't the identity.
     OtherCertificate,
     /// N1: the object hasn't the certificate's length.
     ObjectLength,
-    /// N2: a polynomial doesn't give the object's byte, or zero where there is padding, at a source symbol's point; the
-    /// least block, in it the least column, in that the least symbol.
+    /// N2: a polynomial doesn't give the object's byte, or zero where there is padding, at a source
+    /// symbol's point; the least block, in it the least column, in that the least symbol.
     NotObject {
         block: u32,
         column: usize,
@@ -67,8 +71,8 @@ pub enum Reason {
     Range(usize),
     /// N8: its symbol isn't the polynomials' value at its point; the place and the least column.
     Symbol(usize, usize),
-    /// N9: the identity's packets hold fewer different ESIs (`have`) of a block than it has source symbols (`need`); the least
-    /// block.
+    /// N9: the identity's packets hold fewer different ESIs (`have`) of a block than it has source
+    /// symbols (`need`); the least block.
     Thin {
         block: u32,
         have: usize,

@@ -1,6 +1,7 @@
 //! A check's walk over datagrams, one step each.
 ghost use Rattle.reception.specs.Walks.{in_range};
-ghost use Rattle.std.specs.Prelude.{◌≡◌, ◌<◌, ◌≤◌, ◌++◌, ◌∷◌, ◌^◌, [], true, None, ℕ, List, length, map, IfOk, IfErr, OnOk};
+ghost use Rattle.std.specs.Prelude.{◌≡◌, ◌<◌, ◌≤◌, ◌++◌, ◌∷◌, ◌^◌, [], true, None, ℕ, List, length};
+ghost use Rattle.std.specs.Prelude.{map, IfOk, IfErr, OnOk};
 ghost use Rattle.lists.specs.Below.{below};
 ghost use Rattle.lists.specs.Selection.{rest, is_among};
 ghost use Rattle.losses.specs.Groups.{groups_of, InEachList};
@@ -14,7 +15,8 @@ ghost use Rattle.cert.specs.Certificate.{IsCertificate, is_for};
 ghost use Rattle.reception.specs.Walks.{readings_of};
 ghost use Rattle.cert.specs.Report.{IsReport, blocks_of};
 ghost use Rattle.cert.specs.Surveying.{IsSurvey};
-ghost use Rattle.cert.specs.Scan.{line_in, with_carrier, AreEnough, AreEnoughCertified, IsShortGroup, IsPut, IsNoReport};
+ghost use Rattle.cert.specs.Scan.{line_in, with_carrier, AreEnough, AreEnoughCertified};
+ghost use Rattle.cert.specs.Scan.{IsShortGroup, IsPut, IsNoReport};
 ghost use Rattle.cert.specs.Verdict.{GivesObject, uncertified};
 
 use crate::certificate::Certificate;
@@ -45,9 +47,10 @@ impl From<AllocError> for NoReport {
     }
 }
 
-/// A check on its way over datagrams: the certificate has no other identity's name, its polynomials give the object,
-/// and no datagram so far has a reason against it. None is kept, only the place and the ESI of its symbol, in its
-/// block's group, and a carrier's place. Packets of another identity are passed over, and their places are counted.
+/// A check on its way over datagrams: the certificate has no other identity's name, its polynomials
+/// give the object, and no datagram so far has a reason against it. None is kept, only the place
+/// and the ESI of its symbol, in its block's group, and a carrier's place. Packets of another
+/// identity are passed over, and their places are counted.
 #[derive(Drop)]
 pub(crate) struct Walk<'a> {
     symbols: CertifiedSymbols<'a>,
@@ -129,8 +132,8 @@ impl<'a> Walk<'a> {
         }
     }
 
-    // Puts the symbol of the packet at a place into its block's group, and the place behind the carriers' where it is one,
-    // or tells the column in which the symbol isn't certified.
+    // Puts the symbol of the packet at a place into its block's group, and the place behind the
+    // carriers' where it is one, or tells the column in which the symbol isn't certified.
     fn keep(&mut self, place: usize, packet: &Packet<'_>) -> Result<(), NoReport>
         requires range { in_range (packet_of packet.now) self.old.symbols.fti ≡ true }
         requires symbol { length packet.now.symbol.now ≡ self.old.symbols.fti.symbol_length }
@@ -244,7 +247,8 @@ impl<'a> Walk<'a> {
     }
 }
 
-// For each block its source symbols and its different ESIs, or the reason of the least block that has too few.
+// For each block its source symbols and its different ESIs, or the reason of the least block that
+// has too few.
 fn block_lines(alloc: Global, groups: &[Group]) -> Result<Vec<(usize, usize)>, NoReport>
     requires { length groups.now ≤ 2 ^ 24 }
     ensures lines { IfOk result (λ v.

@@ -1,4 +1,5 @@
--- The values at all 255 points that a matrix makes of a block's source symbols, and the certificate that has their polynomials.
+-- The values at all 255 points that a matrix makes of a block's source symbols, and the certificate
+-- that has their polynomials.
 use Rattle.std.proofs.Common.{◌≡◌, ℕ, ◌+◌, ◌-◌, ◌*◌, ◌<◌, ◌≤◌, List, length, get_or, take, drop, arith, ap, subst, ◌∙◌, sym, inl, inr, get_or-take}
 use Rattle.std.proofs.lemmas.Bool.{cases_lt}
 use Rattle.std.proofs.lemmas.List.{ext_get_or}

@@ -1,4 +1,5 @@
--- A byte column of a block: its source symbols' bytes as a row, and the encoding symbols' bytes that the generator makes.
+-- A byte column of a block: its source symbols' bytes as a row, and the encoding symbols' bytes
+-- that the generator makes.
 use Rattle.std.proofs.Common.{◌≡◌, ℕ, ◌<◌, ◌≤◌, List, length, get_or, take, arith, ap, ◌∙◌, sym, get_or-take, length-take}
 use Rattle.lists.specs.Bytes.{AreBytes}
 use Rattle.gf256.specs.Arithmetic.{sum_of, product}

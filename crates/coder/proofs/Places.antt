@@ -1,4 +1,5 @@
--- The places of coefficients: block after block, in a block row after row, as the bytes of its source symbols stand in an object.
+-- The places of coefficients: block after block, in a block row after row, as the bytes of its
+-- source symbols stand in an object.
 use Rattle.std.proofs.Common.{◌≡◌, ℕ, suc, ◌+◌, ◌*◌, ◌<◌, ◌≤◌, List, length, get_or, arith, ap, ◌∙◌, sym}
 use Rattle.std.proofs.lemmas.List.{ext_get_or}
 use Rattle.std.proofs.Math.Nat.{mul-le-mul_right}

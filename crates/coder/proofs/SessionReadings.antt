@@ -1,4 +1,5 @@
--- The datagrams that are sent of an object are packets, as its certificate says, and leave no block short.
+-- The datagrams that are sent of an object are packets, as its certificate says, and leave no block
+-- short.
 use Rattle.std.proofs.Common.{◌≡◌, ◌≢◌, ℕ, ◌+◌, ◌%◌, ◌^◌, ◌<◌, ◌≤◌, Bool, true, false, ◌&&◌, ◌||◌, ◌==◌, List, [], ◌∷◌, ◌++◌, get_or, map, Option, Some, None, Ok, arith, refl, ap, sym, subst, ◌∙◌, inl, inr}
 use Rattle.std.specs.Prelude.{cond, flat_map, is_some, nat_le, nat_lt, if◌then◌else◌}
 use Rattle.std.specs.List.{list_any, AllByRecursion}
@@ -261,8 +262,8 @@ module _ (z : Certificate) (good : IsCertificate z) (object : List ℕ) (gives :
         };
       }
 
--- a certificate without a name whose polynomials give the object is one of every session that is sent of it, and so is its
--- form with a name
+-- a certificate without a name whose polynomials give the object is one of every session that is
+-- sent of it, and so is its form with a name
 abbrev identity : ℕ → ℕ → Identity
 identity tsi toi = record { tsi = tsi; toi = toi }
 

@@ -1,4 +1,5 @@
--- Sessions worked by hand, computed from the definitions: two bytes in one block of two source symbols and a third one.
+-- Sessions worked by hand, computed from the definitions: two bytes in one block of two source
+-- symbols and a third one.
 use Rattle.std.specs.Prelude.{◌≡◌, ℕ, [], ◌∷◌, map, refl, true, false}
 use Rattle.lists.specs.Below.{below}
 use Rattle.partition.specs.Fti.{Fti, fti_from, ceiling, symbol_count, block_count, large_blocks, source_count, encoding_count}

@@ -11,7 +11,8 @@ pub record IsExtended (object : List ℕ) (f : Fti) (b : ℕ) (rows : List ℕ) 
   pub polynomial : List ℕ
   pub form : IsPolynomial (source_count f b) polynomial
   pub values : HasValues polynomial rows f.symbol_length c
-  pub sources : (i : ℕ) → i < source_count f b → value polynomial (point i) ≡ source_byte f object b i c
+  pub sources : (i : ℕ) → i < source_count f b
+      → value polynomial (point i) ≡ source_byte f object b i c
 
 -- room for these rows, where any block is made by way of them
 abbrev pub IsRoom : Fti → List ℕ → Type 0

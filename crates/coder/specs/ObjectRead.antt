@@ -1,5 +1,6 @@
 -- An object that comes from a reader, by the bytes that the reader had left before.
-use Rattle.std.specs.Prelude.{◌≡◌, ◌≢◌, ℕ, ◌≤◌, List, ◌++◌, length, Bool, true, false, Option, IfSome}
+use Rattle.std.specs.Prelude.{◌≡◌, ◌≢◌, ℕ, ◌≤◌, List, ◌++◌, length, Bool, true, false, Option}
+use Rattle.std.specs.Prelude.{IfSome}
 use Rattle.lists.specs.Bytes.{AreBytes}
 use Rattle.partition.specs.Fti.{Fti}
 use Rattle.reception.specs.Symbols.{IsObject}
@@ -17,7 +18,8 @@ pub record ReadsObject (f : Fti) (left : Option (List ℕ)) (Holds : List ℕ �
   pub all : IfSome left (λ x. x ≡ object)
   pub holds : Holds object
 
--- what was left begins with some bytes, and this holds of each object of the FTI's length that begins with them
+-- what was left begins with some bytes, and this holds of each object of the FTI's length that
+-- begins with them
 pub record ReadsSome (f : Fti) (left : Option (List ℕ)) (Holds : List ℕ → Type 0) : Type 0 where
   pub front : List ℕ
   pub few : length front ≤ f.transfer_length

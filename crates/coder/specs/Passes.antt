@@ -5,7 +5,8 @@ use Rattle.partition.specs.Fti.{Fti, block_count, encoding_count}
 use Rattle.partition.specs.declared.order.Order.{Order}
 use Rattle.partition.specs.declared.order.Order.TheVariants.{Blocks, Rounds}
 use Rattle.coder.specs.declared.sending_from.SendFromFault.{SendFromFault}
-use Rattle.coder.specs.declared.sending_from.SendFromFault.TheVariants.{Object, SymbolTooLong, Write, NoMemory}
+use Rattle.coder.specs.declared.sending_from.SendFromFault.TheVariants.{Object, SymbolTooLong}
+use Rattle.coder.specs.declared.sending_from.SendFromFault.TheVariants.{Write, NoMemory}
 use Rattle.coder.specs.ObjectRead.{IsObjectFault}
 use Rattle.coder.specs.Sending.{pairs_of_block, pair_with}
 
@@ -38,7 +39,8 @@ IsDatagramRoom f bytes = length bytes ≡ 32 + f.symbol_length
 
 -- why the encoding symbols of the blocks that a reader had weren't all sent
 abbrev pub IsBlocksFault : SendFromFault → Fti → Option (List ℕ) → Bool → Bool → Bool → Type 0
-IsBlocksFault (Object e) f left sound reader_failed writer_failed = IsObjectFault e f left sound reader_failed
+IsBlocksFault (Object e) f left sound reader_failed writer_failed =
+    IsObjectFault e f left sound reader_failed
 IsBlocksFault Write f left sound reader_failed writer_failed = writer_failed ≡ true
 IsBlocksFault SymbolTooLong f left sound reader_failed writer_failed = ⊥
 IsBlocksFault NoMemory f left sound reader_failed writer_failed = ⊥

@@ -8,14 +8,16 @@ use Rattle.cert.specs.CoefficientRows.{AreRowsOf}
 use Rattle.cert.specs.Verdict.{GivesBlock}
 use Rattle.session.specs.Pieces.{AppendsSome}
 use Rattle.coder.specs.declared.certifying_from.CertifyFromFault.{CertifyFromFault}
-use Rattle.coder.specs.declared.certifying_from.CertifyFromFault.TheVariants.{Object, Write, NoMemory}
+use Rattle.coder.specs.declared.certifying_from.CertifyFromFault.TheVariants.{Object, Write}
+use Rattle.coder.specs.declared.certifying_from.CertifyFromFault.TheVariants.{NoMemory}
 use Rattle.coder.specs.ObjectRead.{IsObjectFault}
 use Rattle.coder.specs.Certified.{AreFirstRows}
 
 -- a certificate with these rows of coefficients in block b gives the object's symbols there
 abbrev pub RowsGive : List ℕ → Fti → ℕ → List ℕ → Type 0
 RowsGive object f b rows =
-    (coefficients : List ℕ) → AreRowsOf (unnamed f coefficients) b rows → GivesBlock object (unnamed f coefficients) b
+    (coefficients : List ℕ) → AreRowsOf (unnamed f coefficients) b rows
+    → GivesBlock object (unnamed f coefficients) b
 
 -- such rows
 pub record AreBlockRows (object : List ℕ) (f : Fti) (b : ℕ) (rows : List ℕ) : Type 0 where
@@ -24,13 +26,15 @@ pub record AreBlockRows (object : List ℕ) (f : Fti) (b : ℕ) (rows : List ℕ
   pub gives : RowsGive object f b rows
 
 -- such rows were written
-pub record WritesBlock (object : List ℕ) (f : Fti) (b : ℕ) (old new : Option (List ℕ)) : Type 0 where
+pub record WritesBlock (object : List ℕ) (f : Fti) (b : ℕ)
+    (old new : Option (List ℕ)) : Type 0 where
   pub rows : List ℕ
   pub are : AreBlockRows object f b rows
   pub gained : Appends old new rows
 
 -- a beginning of them was
-pub record BeginsBlock (object : List ℕ) (f : Fti) (b : ℕ) (old new : Option (List ℕ)) : Type 0 where
+pub record BeginsBlock (object : List ℕ) (f : Fti) (b : ℕ)
+    (old new : Option (List ℕ)) : Type 0 where
   pub rows : List ℕ
   pub are : AreBlockRows object f b rows
   pub gained : AppendsSome old new rows
@@ -43,6 +47,7 @@ pub record WritesRows (object : List ℕ) (f : Fti) (n : ℕ) (old new : Option 
 
 -- why the rows of the blocks that a reader had weren't all written
 abbrev pub IsRowsFault : CertifyFromFault → Fti → Option (List ℕ) → Bool → Bool → Bool → Type 0
-IsRowsFault (Object e) f left sound reader_failed writer_failed = IsObjectFault e f left sound reader_failed
+IsRowsFault (Object e) f left sound reader_failed writer_failed =
+    IsObjectFault e f left sound reader_failed
 IsRowsFault Write f left sound reader_failed writer_failed = writer_failed ≡ true
 IsRowsFault NoMemory f left sound reader_failed writer_failed = ⊥

@@ -1,5 +1,8 @@
--- The session that is sent of an object: which encoding symbols, in which order, in which datagrams.
-use Rattle.std.specs.Prelude.{◌≡◌, ◌≢◌, ℕ, ◌<◌, ◌≤◌, ◌+◌, ◌-◌, ◌%◌, ◌==◌, Bool, true, nat_lt, List, [], ◌∷◌, ◌++◌, length, map, flat_map, if◌then◌else◌, Option, Some, None}
+-- The session that is sent of an object: which encoding symbols, in which order, in which
+-- datagrams.
+use Rattle.std.specs.Prelude.{◌≡◌, ◌≢◌, ℕ, ◌<◌, ◌≤◌, ◌+◌, ◌-◌, ◌%◌, ◌==◌, Bool, true, nat_lt, List}
+use Rattle.std.specs.Prelude.{[], ◌∷◌, ◌++◌, length, map, flat_map, if◌then◌else◌, Option, Some}
+use Rattle.std.specs.Prelude.{None}
 use Rattle.std.specs.List.{sum_by}
 use Rattle.std.specs.Io.KnownBytes.{Appends}
 use Rattle.lists.specs.Below.{below}
@@ -54,15 +57,18 @@ abbrev pub fti_at : Fti → ℕ → ℕ → Option Fti
 fti_at f every place = if is_carrier_at every place then Some f else None
 
 -- the datagram is that of this encoding symbol of the object, at its place
-pub record IsSent (object : List ℕ) (f : Fti) (tsi toi every : ℕ) (x : Item) (datagram : List ℕ) : Type 0 where
+pub record IsSent (object : List ℕ) (f : Fti) (tsi toi every : ℕ) (x : Item)
+    (datagram : List ℕ) : Type 0 where
   pub symbol : List ℕ
   pub agrees : Agrees f object (record { block = x.block; esi = x.esi; bytes = symbol })
-  pub spelling : datagram ≡ written (packet_from tsi toi (fti_at f every x.place) x.block x.esi symbol)
+  pub spelling : datagram
+      ≡ written (packet_from tsi toi (fti_at f every x.place) x.block x.esi symbol)
 
 -- the datagrams are those of these encoding symbols, one by one
 abbrev pub AreSent : List ℕ → Fti → ℕ → ℕ → ℕ → List Item → List (List ℕ) → Type 0
 AreSent object f tsi toi every [] [] = Unit {0}
-AreSent object f tsi toi every (x ∷ xs) (d ∷ ds) = IsSent object f tsi toi every x d × AreSent object f tsi toi every xs ds
+AreSent object f tsi toi every (x ∷ xs) (d ∷ ds) =
+    IsSent object f tsi toi every x d × AreSent object f tsi toi every xs ds
 AreSent object f tsi toi every _ _ = ⊥
 
 -- the session of the object in this order
@@ -70,13 +76,15 @@ abbrev pub IsSessionOf : List ℕ → Fti → ℕ → ℕ → ℕ → Order → 
 IsSessionOf object f tsi toi every order = AreSent object f tsi toi every (items order f)
 
 -- the frames of the datagrams of these encoding symbols were written, where it is told what was
-pub record Sends (object : List ℕ) (f : Fti) (tsi toi every : ℕ) (xs : List Item) (old new : Option (List ℕ)) : Type 0 where
+pub record Sends (object : List ℕ) (f : Fti) (tsi toi every : ℕ) (xs : List Item)
+    (old new : Option (List ℕ)) : Type 0 where
   pub datagrams : List (List ℕ)
   pub sent : AreSent object f tsi toi every xs datagrams
   pub gained : Appends old new (frames datagrams)
 
 -- a beginning of them was
-pub record SendsSome (object : List ℕ) (f : Fti) (tsi toi every : ℕ) (xs : List Item) (old new : Option (List ℕ)) : Type 0 where
+pub record SendsSome (object : List ℕ) (f : Fti) (tsi toi every : ℕ) (xs : List Item)
+    (old new : Option (List ℕ)) : Type 0 where
   pub front : List Item
   pub later : List Item
   pub whole : xs ≡ front ++ later
@@ -102,7 +110,8 @@ pub record CanBeSent (object : List ℕ) (f : Fti) : Type 0 where
   pub short : f.symbol_length ≤ most_symbol_bytes
 
 -- Why nothing was sent, or only a beginning.
-abbrev pub IsSendFault : SendFault → List ℕ → Fti → ℕ → ℕ → ℕ → Order → Option (List ℕ) → Option (List ℕ) → Bool → Type 0
+abbrev pub IsSendFault : SendFault → List ℕ → Fti → ℕ → ℕ → ℕ → Order → Option (List ℕ)
+    → Option (List ℕ) → Bool → Type 0
 IsSendFault Length object f _ _ _ _ old new _ = (length object ≢ f.transfer_length) × (new ≡ old)
 IsSendFault SymbolTooLong object f _ _ _ _ old new _ =
     (length object ≡ f.transfer_length) × (most_symbol_bytes < f.symbol_length) × (new ≡ old)

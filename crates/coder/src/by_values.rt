@@ -1,5 +1,5 @@
-//! A large block's coefficients, by the values at all 255 points: repair symbols up to the last point
-//! cost less than a product with a matrix of all coefficients.
+//! A large block's coefficients, by the values at all 255 points: repair symbols up to the last
+//! point cost less than a product with a matrix of all coefficients.
 ghost use Rattle.std.specs.Prelude.{◌≡◌, ◌<◌, ◌≤◌, ◌*◌, ℕ, List, length};
 ghost use Rattle.lists.specs.Bytes.{AreBytes};
 ghost use Rattle.partition.specs.Fti.{block_count, source_count};
@@ -17,8 +17,8 @@ use partition::Fti;
 /// How many points there are.
 const POINTS: usize = 255;
 
-/// How many bytes of room certifying takes beside the rows of coefficients: a row of values for each
-/// point, or none where no block is so large.
+/// How many bytes of room certifying takes beside the rows of coefficients: a row of values for
+/// each point, or none where no block is so large.
 pub(crate) fn room(fti: &Fti) -> usize
     ensures few { source_count fti.now 0 < least_by_values → result ≡ 0 }
     ensures many { least_by_values ≤ source_count fti.now 0
@@ -32,8 +32,8 @@ pub(crate) fn room(fti: &Fti) -> usize
     }
 }
 
-// Writes the values at all points, a row for each: the source symbols, and repair symbols up to the last
-// point.
+// Writes the values at all points, a row for each: the source symbols, and repair symbols up to the
+// last point.
 fn write_values(sources: &[u8], fti: &Fti, b: u32, code: &Code, values: &mut [u8])
     requires block { b < block_count fti.now }
     requires code { IsEncoder (source_count fti.now b) 255 code.now.matrix }
@@ -51,8 +51,8 @@ fn write_values(sources: &[u8], fti: &Fti, b: u32, code: &Code, values: &mut [u8
     combine(sources, fti, b, repair_columns, POINTS - k, repair_rows);
 }
 
-/// Makes a block's rows of coefficients of its source symbols, from the constant ones on. `code` makes
-/// the values at all points.
+/// Makes a block's rows of coefficients of its source symbols, from the constant ones on. `code`
+/// makes the values at all points.
 pub(crate) fn certify_by_values(
     sources: &[u8],
     fti: &Fti,

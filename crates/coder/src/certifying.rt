@@ -1,5 +1,6 @@
 //! The certificate of an object: the polynomial of each byte column of each block.
-ghost use Rattle.std.specs.Prelude.{◌≡◌, ◌<◌, ◌≤◌, ◌+◌, ◌*◌, ℕ, List, [], true, Some, None, IfOk, IfErr, OnOk, OnErr, length, slice_index};
+ghost use Rattle.std.specs.Prelude.{◌≡◌, ◌<◌, ◌≤◌, ◌+◌, ◌*◌, ℕ, List, [], true, Some, None, IfOk};
+ghost use Rattle.std.specs.Prelude.{IfErr, OnOk, OnErr, length, slice_index};
 ghost use Rattle.lists.specs.Bytes.{AreBytes};
 ghost use Rattle.partition.specs.Fti.{block_count, source_count, start_of};
 ghost use Rattle.cert.specs.Certificate.{IsIdentity, coefficient_count, unnamed, head_text};
@@ -7,7 +8,8 @@ ghost use Rattle.cert.specs.Verdict.{GivesObject, GivesBlock};
 ghost use Rattle.block_code.specs.Codes.{EachBlockHas, IsInterpolator};
 ghost use Rattle.block_code.specs.CodesOf.{IsInterpolatorOf};
 ghost use Rattle.coder.specs.AllValues.{IsRoom};
-ghost use Rattle.coder.specs.Certified.{CertifiesSent, BeginsRows, IsCertifiedTo, IsCertifyFault, IsCertifyToFault};
+ghost use Rattle.coder.specs.Certified.{CertifiesSent, BeginsRows, IsCertifiedTo, IsCertifyFault};
+ghost use Rattle.coder.specs.Certified.{IsCertifyToFault};
 ghost use Rattle.coder.specs.Rows.{AreSourcesOf};
 ghost use Rattle.coder.specs.RowsWritten.{RowsGive, WritesRows, WritesBlock, BeginsBlock};
 
@@ -50,8 +52,8 @@ fn interpolators(alloc: Global, object: &[u8], fti: &Fti) -> Result<BlockCodes, 
     }
 }
 
-// Makes a block's rows of coefficients of its source symbols at once, by the columns of the matrix that
-// makes them.
+// Makes a block's rows of coefficients of its source symbols at once, by the columns of the matrix
+// that makes them.
 fn certify_at_once(sources: &[u8], fti: &Fti, b: u32, interpolator: &Code, rows: &mut [u8])
     requires block { b < block_count fti.now }
     requires interpolator { IsInterpolator (source_count fti.now b) interpolator.now.matrix }
@@ -137,8 +139,8 @@ fn certify_blocks(
 
 /// The certificate of the object, without a name: one of each session that is sent of it, whatever
 /// its TSI, TOI, order and carriers of the FTI, and so is its form with the session's TSI and TOI.
-/// Memory is asked for two matrices at most, for the coefficients, and for 255 symbols to work in where
-/// the greatest block has many source symbols (`block_code::LEAST_BY_VALUES`).
+/// Memory is asked for two matrices at most, for the coefficients, and for 255 symbols to work in
+/// where the greatest block has many source symbols (`block_code::LEAST_BY_VALUES`).
 pub fn certify(alloc: Global, object: &[u8], fti: &Fti) -> Result<Certificate, CertifyFault>
     ensures fti { IfOk result (λ z. z.fti ≡ fti.now) }
     ensures name { IfOk result (λ z. z.name ≡ None) }
@@ -197,8 +199,8 @@ pub(crate) fn write_block<W: Write>(
     write_all(writer, block)
 }
 
-// Writes the rows of coefficients of all blocks, one block behind the other. `rows` has room for those
-// of the greatest, and `work` is room to work in.
+// Writes the rows of coefficients of all blocks, one block behind the other. `rows` has room for
+// those of the greatest, and `work` is room to work in.
 fn write_rows<W: Write>(
     object: &[u8],
     fti: &Fti,
@@ -231,14 +233,14 @@ fn write_rows<W: Write>(
     Ok(())
 }
 
-/// Writes the text of such a certificate, but with this name: the object's identity in a session. The
-/// rows of one block are made at a time, so that beside the object memory is asked for two matrices at
-/// most, for the rows of the greatest block and for room to work in as `certify` asks for it, and all of
-/// it before the first byte is written.
+/// Writes the text of such a certificate, but with this name: the object's identity in a session.
+/// The rows of one block are made at a time, so that beside the object memory is asked for two
+/// matrices at most, for the rows of the greatest block and for room to work in as `certify` asks
+/// for it, and all of it before the first byte is written.
 ///
 /// `Io` comes only where the writer has failed, and never where it has room for the text. It has a
-/// beginning of it then, and nothing after the other faults. The identity's TSI is below 2^48, its TOI
-/// below 2^112 (RFC 5651, section 5.1).
+/// beginning of it then, and nothing after the other faults. The identity's TSI is below 2^48, its
+/// TOI below 2^112 (RFC 5651, section 5.1).
 pub fn certify_to<W: Write>(
     alloc: Global,
     object: &[u8],

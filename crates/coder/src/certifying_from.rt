@@ -66,8 +66,8 @@ impl From<AllocError> for CertifyFromFault {
     }
 }
 
-// Reads the blocks, and writes the rows of coefficients of each before it reads the next. There is room
-// for the bytes and for the rows of the greatest block, and `work` is room to work in.
+// Reads the blocks, and writes the rows of coefficients of each before it reads the next. There is
+// room for the bytes and for the rows of the greatest block, and `work` is room to work in.
 fn write_rows<R: Read, W: Write>(
     reader: &mut R,
     fti: &Fti,
@@ -102,8 +102,8 @@ fn write_rows<R: Read, W: Write>(
     Ok(())
 }
 
-// Writes the whole text of the object that is read. There is room for the bytes and for the rows of the
-// greatest block, and `work` is room to work in.
+// Writes the whole text of the object that is read. There is room for the bytes and for the rows of
+// the greatest block, and `work` is room to work in.
 fn write_certificate<R: Read, W: Write>(
     reader: &mut R,
     fti: &Fti,
@@ -136,16 +136,16 @@ fn write_certificate<R: Read, W: Write>(
     Ok(())
 }
 
-/// Reads the object, all up to the reader's end, and writes what `certify_to` writes of it. One block is
-/// held at a time: memory is asked for two matrices at most, for the bytes and the rows of the greatest
-/// block, and for room to work in as `certify` asks for it, and all of it before the first byte is
-/// written.
+/// Reads the object, all up to the reader's end, and writes what `certify_to` writes of it. One
+/// block is held at a time: memory is asked for two matrices at most, for the bytes and the rows of
+/// the greatest block, and for room to work in as `certify` asks for it, and all of it before the
+/// first byte is written.
 ///
-/// `Object` tells that the object has another length than the FTI's, or that the reader has failed, which
-/// a sound one never does; `Write` comes only where the writer has failed, and never where it has room
-/// for the text. A beginning of the text was written then, of each object of the FTI's length that begins
-/// with the blocks that were read, and nothing with `NoMemory`. The identity's TSI is below 2^48, its TOI
-/// below 2^112 (RFC 5651, section 5.1).
+/// `Object` tells that the object has another length than the FTI's, or that the reader has failed,
+/// which a sound one never does; `Write` comes only where the writer has failed, and never where it
+/// has room for the text. A beginning of the text was written then, of each object of the FTI's
+/// length that begins with the blocks that were read, and nothing with `NoMemory`. The identity's
+/// TSI is below 2^48, its TOI below 2^112 (RFC 5651, section 5.1).
 pub fn certify_from<R: Read, W: Write>(
     alloc: Global,
     reader: &mut R,

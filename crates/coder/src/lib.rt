@@ -1,11 +1,12 @@
 //! The coder: an object's encoding symbols as a session, and its certificate.
 //!
-//! - `rows`: encoding symbols and coefficients of a block, as sums of the rows of its source symbols;
+//! - `rows`: encoding symbols and coefficients of a block, as sums of the rows of its source
+//!   symbols;
 //! - `sending`: the datagrams of an object's encoding symbols, in either order;
-//! - `certifying`: the polynomials of its byte columns; `by_values`: those of large blocks, by the values at
-//!   all points;
-//! - `object`: an object that comes from a reader, block by block; `sending_from`: its session in order
-//!   `Blocks`; `certifying_from`: its certificate;
+//! - `certifying`: the polynomials of its byte columns; `by_values`: those of large blocks, by the
+//!   values at all points;
+//! - `object`: an object that comes from a reader, block by block; `sending_from`: its session in
+//!   order `Blocks`; `certifying_from`: its certificate;
 //! - `laws`: what encoding, certifying and checking give together.
 //!
 //! Decoding is a crate of its own, `decoder`, whose calls can be named from here, too.

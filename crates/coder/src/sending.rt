@@ -1,5 +1,6 @@
 //! Sending an object: its encoding symbols as the datagrams of a session.
-ghost use Rattle.std.specs.Prelude.{ℕ, List, ◌≡◌, ◌^◌, ◌≤◌, ◌<◌, ◌+◌, ◌*◌, ◌∷◌, [], true, length, IfOk, IfErr, OnOk, OnErr};
+ghost use Rattle.std.specs.Prelude.{ℕ, List, ◌≡◌, ◌^◌, ◌≤◌, ◌<◌, ◌+◌, ◌*◌, ◌∷◌, [], true, length};
+ghost use Rattle.std.specs.Prelude.{IfOk, IfErr, OnOk, OnErr};
 ghost use Rattle.alc.specs.Views.{lent};
 ghost use Rattle.reception.specs.Symbols.{Agrees};
 ghost use Rattle.partition.specs.Fti.{IsValidFti, block_count, encoding_count};
@@ -7,8 +8,11 @@ ghost use Rattle.block_code.specs.Codes.{EachBlockHas};
 ghost use Rattle.block_code.specs.CodesOf.{IsCodeOf};
 ghost use Rattle.lists.specs.Bytes.{AreBytes};
 ghost use Rattle.coder.specs.Rows.{AreSourcesOf};
-ghost use Rattle.coder.specs.Passes.{IsDatagramRoom, run_of, pairs_in, pairs_of_pass, passes, at_once};
-ghost use Rattle.coder.specs.Sending.{pairs, items, items_from, fti_at, Sends, SendsSome, CanBeSent, IsSendFault, most_symbol_bytes, frame_bytes, session_bytes};
+ghost use Rattle.coder.specs.Passes.{IsDatagramRoom, run_of, pairs_in, pairs_of_pass, passes};
+ghost use Rattle.coder.specs.Passes.{at_once};
+ghost use Rattle.coder.specs.Sending.{pairs, items, items_from, fti_at, Sends, SendsSome};
+ghost use Rattle.coder.specs.Sending.{CanBeSent, IsSendFault, most_symbol_bytes, frame_bytes};
+ghost use Rattle.coder.specs.Sending.{session_bytes};
 
 use crate::rows::{block_of, encoding_symbols};
 use alc::{HEADER_SIZE, write};
@@ -82,7 +86,8 @@ impl Transmission {
     }
 }
 
-// Sends the datagram of an encoding symbol, at this place of the session. `datagram` has room for it.
+// Sends the datagram of an encoding symbol, at this place of the session. `datagram` has room for
+// it.
 fn send_symbol<W: Write>(
     t: &Transmission,
     place: u64,
@@ -148,9 +153,11 @@ pub(crate) fn send_symbols<W: Write>(
         (W.contents writer.old) (W.contents writer.new)) }
     ensures fails { OnErr result (W.failed writer.new ≡ true) }
     ensures full { OnErr result (W.room writer.old
-        < session_bytes t.now.fti t.now.every (items_from place (run_of run.block run.first run.count))) }
+        < session_bytes t.now.fti t.now.every
+        (items_from place (run_of run.block run.first run.count))) }
     ensures fills { OnOk result (W.room writer.old ≤ W.room writer.new
-        + session_bytes t.now.fti t.now.every (items_from place (run_of run.block run.first run.count))) }
+        + session_bytes t.now.fti t.now.every
+        (items_from place (run_of run.block run.first run.count))) }
 {
     let Run {
         block,
@@ -221,7 +228,8 @@ fn send_pass<W: Write>(
     ensures sent { OnOk result (Sends object.now t.now.fti t.now.tsi t.now.toi t.now.every
         (items_from place (pairs_of_pass t.now.order t.now.fti pass))
         (W.contents writer.old) (W.contents writer.new)) }
-    ensures next { IfOk result (λ n. n ≡ place + length (pairs_of_pass t.now.order t.now.fti pass)) }
+    ensures next { IfOk result (λ n.
+        n ≡ place + length (pairs_of_pass t.now.order t.now.fti pass)) }
     ensures few { IfOk result (λ n. n ≤ place + 2 ^ 24 * 255) }
     ensures some { OnErr result (SendsSome object.now t.now.fti t.now.tsi t.now.toi
         t.now.every (items_from place (pairs_of_pass t.now.order t.now.fti pass))

@@ -7,7 +7,8 @@ ghost use Rattle.block_code.specs.Codes.{EachBlockHas};
 ghost use Rattle.block_code.specs.CodesOf.{IsCodeOf};
 ghost use Rattle.coder.specs.ObjectRead.{ReadsObject, ReadsSome};
 ghost use Rattle.coder.specs.BlocksRead.{HasRead};
-ghost use Rattle.coder.specs.Sending.{pairs, items, Sends, SendsSome, most_symbol_bytes, session_bytes};
+ghost use Rattle.coder.specs.Sending.{pairs, items, Sends, SendsSome, most_symbol_bytes};
+ghost use Rattle.coder.specs.Sending.{session_bytes};
 ghost use Rattle.coder.specs.SentFrom.{IsSendFromFault};
 ghost use Rattle.coder.specs.Passes.{IsDatagramRoom, IsBlocksFault};
 
@@ -56,8 +57,8 @@ impl From<AllocError> for SendFromFault {
     }
 }
 
-// Reads the blocks, and sends the encoding symbols of each before it reads the next. There is room for
-// the bytes and for the encoding symbols of the greatest block. Tells how many datagrams.
+// Reads the blocks, and sends the encoding symbols of each before it reads the next. There is room
+// for the bytes and for the encoding symbols of the greatest block. Tells how many datagrams.
 fn send_blocks<R: Read, W: Write>(
     t: &Transmission,
     reader: &mut R,
@@ -133,17 +134,19 @@ fn send_object<R: Read, W: Write>(
     Ok(count)
 }
 
-/// Reads the object, all up to the reader's end, and writes what `encode` writes of it in order `Blocks`;
-/// tells how many datagrams. In order `Rounds` the whole object has to be held, and `encode` sends it.
+/// Reads the object, all up to the reader's end, and writes what `encode` writes of it in order
+/// `Blocks`; tells how many datagrams. In order `Rounds` the whole object has to be held, and
+/// `encode` sends it.
 ///
-/// One block is held at a time: memory is asked for two generator matrices at most, and for the bytes and
-/// the encoding symbols of the greatest block and one datagram, and all of it before the first byte is
-/// written.
+/// One block is held at a time: memory is asked for two generator matrices at most, and for the
+/// bytes and the encoding symbols of the greatest block and one datagram, and all of it before the
+/// first byte is written.
 ///
-/// `Object` tells that the object has another length than the FTI's, or that the reader has failed, which
-/// a sound one never does; `Write` comes only where the writer has failed, and never where it is sure to
-/// have room for the whole session. A beginning of the session was written then, of each object of the
-/// FTI's length that begins with the blocks that were read, and nothing after the other faults.
+/// `Object` tells that the object has another length than the FTI's, or that the reader has failed,
+/// which a sound one never does; `Write` comes only where the writer has failed, and never where it
+/// is sure to have room for the whole session. A beginning of the session was written then, of each
+/// object of the FTI's length that begins with the blocks that were read, and nothing after the
+/// other faults.
 pub fn encode_from<R: Read, W: Write>(
     alloc: Global,
     reader: &mut R,

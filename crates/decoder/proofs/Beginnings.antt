@@ -1,4 +1,5 @@
--- What was put together of the blocks before one is a beginning of the object, if all that came is of one.
+-- What was put together of the blocks before one is a beginning of the object, if all that came is
+-- of one.
 use Rattle.std.proofs.Common.{◌≡◌, ℕ, ◌+◌, ◌-◌, ◌*◌, ◌<◌, ◌≤◌, List, ◌++◌, Option, Some, length, drop, get_or, length-append, arith, ap, ◌∙◌, sym, subst, inl, inr, suc}
 use Rattle.std.proofs.lemmas.Bool.{cases_lt}
 use Rattle.std.proofs.Math.Nat.{mul-le-mul_right}

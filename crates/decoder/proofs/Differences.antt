@@ -1,5 +1,5 @@
--- Values of a polynomial at more points than it has coefficients, each divided by the product of the differences between its
--- point and the others, add up to nothing.
+-- Values of a polynomial at more points than it has coefficients, each divided by the product of
+-- the differences between its point and the others, add up to nothing.
 use Rattle.std.specs.Prelude.{◌==◌}
 use Rattle.std.proofs.Common.{◌≡◌, ◌≢◌, ℕ, ◌<◌, true, false, List, [], ◌∷◌, ◌++◌, length, refl, sym, ap, subst, ◌∙◌, inl, inr, arith}
 use Rattle.std.proofs.Math.Path.{fun_ext}
@@ -132,7 +132,8 @@ module _ {F : Type 0} (element : F → Type 0) (add mul : F → F → F) (none o
       let e2 = field.add_zero (total v js) (total_element v ev js) in
       (cc)
 
-  -- the weights of two points or more add up to nothing, where those with either point less add up to the same
+  -- the weights of two points or more add up to nothing, where those with either point less add up
+  -- to the same
   none_from_same : (j c : ℕ) (js : List ℕ) (w : ℕ → F) → ((i : ℕ) → element (w i)) → at c ≢ at j
       → total (without j w) (c ∷ js) ≡ total (without c w) (j ∷ js) → total w (j ∷ c ∷ js) ≡ none
   none_from_same j c js w ew apart same =
@@ -284,7 +285,8 @@ sum_is_total w v u (j ∷ esis) same =
     ap (λ (x : ℕ). sum_of (product (w j) x) (weighted_sum w v esis)) same.0
     ∙ ap (sum_of (product (w j) (u j))) (sum_is_total w v u esis same.1)
 
--- the values of a polynomial of fewer coefficients than there are points, each times its weight, add up to zero
+-- the values of a polynomial of fewer coefficients than there are points, each times its weight,
+-- add up to zero
 pub values_cancel : (k : ℕ) (p esis : List ℕ) (v : ℕ → ℕ) → IsPolynomial k p → k < length esis → AllByRecursion (λ i. i < 255) esis → AreDifferent esis
     → AllByRecursion (λ j. v j ≡ value p (point j)) esis → weighted_sum (weight esis) v esis ≡ 0
 values_cancel k p esis v form fewer small different same =

@@ -1,5 +1,6 @@
--- A byte column of a block of which source symbols are missing: the bytes that its repair symbols give back. `held` has
--- the others and zeros, and `lacks` is what the missing ones add to the repair symbols.
+-- A byte column of a block of which source symbols are missing: the bytes that its repair symbols
+-- give back. `held` has the others and zeros, and `lacks` is what the missing ones add to the
+-- repair symbols.
 use Rattle.std.proofs.Common.{◌≡◌, ◌≢◌, ℕ, ◌<◌, ◌≤◌, List, length, get_or, ap, ◌∙◌, sym}
 use Rattle.std.specs.Int.Bits.{xor_assoc, xor_self, xor_zero_r}
 use Rattle.std.proofs.lemmas.Nat.{xor_comm}

@@ -1,4 +1,5 @@
--- As many symbols of a block as it has source symbols are those of some polynomials, where it has no padding.
+-- As many symbols of a block as it has source symbols are those of some polynomials, where it has
+-- no padding.
 use Rattle.std.specs.Prelude.{filter, is_some}
 use Rattle.std.proofs.Common.{◌≡◌, ◌∙◌, ℕ, suc, ◌+◌, ◌*◌, ◌<◌, ◌≤◌, List, Option, Some, None, length, refl, ap, subst, arith}
 use Rattle.std.proofs.Math.Nat.{mul-le-mul_right}

@@ -19,8 +19,8 @@ use Rattle.reception.proofs.Walking.{Walked, last, came_before, came_all, begins
 use Rattle.decoder.specs.Received.{IsIndex, AreReceived, IsNothing}
 use Rattle.decoder.proofs.Index.{index_more, behind, unclashed}
 
--- what is known of the datagrams before a place, where none of them has a fault: the symbols stand where they go, if an
--- FTI is known in the end
+-- what is known of the datagrams before a place, where none of them has a fault: the symbols stand
+-- where they go, if an FTI is known in the end
 pub record Scanned (known : Scope) (ds : List (List ℕ)) (scope : Scope) (at : ℕ → ℕ → Option (List ℕ)) (place : ℕ) : Type 0 where
   pub walked : Walked clash known ds place scope
   pub index : (f : Fti) → (last known ds).fti ≡ Some f → IsIndex (came_before known.identity ds place) at

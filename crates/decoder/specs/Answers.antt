@@ -4,7 +4,8 @@ use Rattle.reception.specs.Answer.{AnswerTo, reception_of, Clashes}
 use Rattle.reception.specs.Reception.{Faulty, Judged}
 use Rattle.reception.specs.declared.scope.PlaceFault.TheVariants as fault
 use Rattle.decoder.specs.declared.answer.DecodeFault.{DecodeFault}
-use Rattle.decoder.specs.declared.answer.DecodeFault.TheVariants.{Packet, OtherFti, SymbolLength, Range, Clash, NotCode}
+use Rattle.decoder.specs.declared.answer.DecodeFault.TheVariants.{Packet, OtherFti, SymbolLength}
+use Rattle.decoder.specs.declared.answer.DecodeFault.TheVariants.{Range, Clash, NotCode}
 use Rattle.decoder.specs.declared.answer.Answer.{Answer}
 use Rattle.decoder.specs.declared.answer.Answer.TheVariants.{Empty, Fault, Missing, Object}
 

@@ -1,5 +1,6 @@
 -- Symbols that came of a block, and where they stand.
-use Rattle.std.specs.Prelude.{◌==◌, ◌&&◌, ℕ, Bool, false, if◌then◌else◌, List, [], ◌∷◌, length, filter, slice_index_or, Option, Some, None}
+use Rattle.std.specs.Prelude.{◌==◌, ◌&&◌, ℕ, Bool, false, if◌then◌else◌, List, [], ◌∷◌, length}
+use Rattle.std.specs.Prelude.{filter, slice_index_or, Option, Some, None}
 use Rattle.lists.specs.Below.{below}
 use Rattle.decoder.specs.declared.arrivals.Arrival.{Arrival}
 
@@ -8,7 +9,8 @@ abbrev pub with_esi : (ℕ → Option (List ℕ)) → ℕ → List ℕ → ℕ �
 with_esi at j y i = if j == i then Some y else at i
 
 -- with these symbols more, one after the other, by the bytes that each holds
-abbrev pub with_arrived : {S : Type 0} → (S → List ℕ) → (ℕ → Option (List ℕ)) → List (Arrival S) → ℕ → Option (List ℕ)
+abbrev pub with_arrived : {S : Type 0} → (S → List ℕ) → (ℕ → Option (List ℕ)) → List (Arrival S) → ℕ
+    → Option (List ℕ)
 with_arrived held at [] = at
 with_arrived held at (a ∷ arrivals) = with_arrived held (with_esi at a.esi (held a.symbol)) arrivals
 

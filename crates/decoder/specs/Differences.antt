@@ -1,4 +1,5 @@
--- Values of a polynomial at more points than it has coefficients: each times a weight, they add up to zero.
+-- Values of a polynomial at more points than it has coefficients: each times a weight, they add up
+-- to zero.
 use Rattle.std.specs.Prelude.{ℕ, ◌==◌, if◌then◌else◌, List, [], ◌∷◌}
 use Rattle.gf256.specs.Arithmetic.{sum_of, product, point}
 use Rattle.gf256.specs.ProductLaws.{inverse_of}

@@ -14,7 +14,8 @@ abbrev pub HoldsFor : Fti → Option Store → (ℕ → ℕ → Option (List ℕ
 HoldsFor f None at = (b j : ℕ) → at b j ≡ None
 HoldsFor f (Some store) at = (store.fti ≡ f) × Holds store at
 
--- why a datagram is refused whose symbol isn't put: a clash is told by its place, and no code by its block
+-- why a datagram is refused whose symbol isn't put: a clash is told by its place, and no code by
+-- its block
 abbrev pub put_refusal : ℕ → ℕ → PutFault → FeedFault
 put_refusal place b put.Clash = Fault (fault.Clash place)
 put_refusal place b put.NotCode = Fault (fault.NotCode b)

@@ -15,8 +15,11 @@ abbrev pub IsNoObject : Answer → Type 0
 IsNoObject (Object object) = ⊥
 IsNoObject answer = Unit {0}
 
--- the answer to the datagrams, which is no object; or the symbols that they have of one, which is their answer
+-- the answer to the datagrams, which is no object; or the symbols that they have of one, which is
+-- their answer
 abbrev pub IsGathered : Identity → List (List ℕ) → Gathered → Type 0
-IsGathered who datagrams (gathered.Answer answer) = IsAnswer who datagrams (answer_value answer) × IsNoObject answer
+IsGathered who datagrams (gathered.Answer answer) =
+    IsAnswer who datagrams (answer_value answer) × IsNoObject answer
 IsGathered who datagrams (gathered.Symbols symbols) =
-    AreSymbolsOf who datagrams symbols × (object : List ℕ) × IsAnswer who datagrams (value.Object object)
+    AreSymbolsOf who datagrams symbols × (object : List ℕ)
+    × IsAnswer who datagrams (value.Object object)

@@ -9,7 +9,8 @@ use Rattle.decoder.specs.Decoded.{row_byte}
 pub record GivesByte (f : Fti) (b : ℕ) (rows : List ℕ) (c j y : ℕ) : Type 0 where
   pub polynomial : List ℕ
   pub form : IsPolynomial (source_count f b) polynomial
-  pub source : (i : ℕ) → i < source_count f b → value polynomial (point i) ≡ row_byte rows f.symbol_length c i
+  pub source : (i : ℕ) → i < source_count f b
+      → value polynomial (point i) ≡ row_byte rows f.symbol_length c i
   pub symbol : value polynomial (point j) ≡ y
 
 -- a block's rows give this symbol at the ESI

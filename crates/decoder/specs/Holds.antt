@@ -1,5 +1,6 @@
 -- What is kept of an object, for the symbols that stand at its blocks and ESIs.
-use Rattle.std.specs.Prelude.{◌≡◌, ℕ, Bool, true, false, List, length, filter, Option, Some, None, Result, Ok, Err}
+use Rattle.std.specs.Prelude.{◌≡◌, ℕ, Bool, true, false, List, length, filter, Option, Some, None}
+use Rattle.std.specs.Prelude.{Result, Ok, Err}
 use Rattle.std.specs.BTreeMap.{get}
 use Rattle.std.specs.Ordering.{nat_cmp}
 use Rattle.lists.specs.Below.{below}
@@ -26,9 +27,11 @@ is_solved (Some (stored.Solved s)) = true
 
 -- how many blocks are solved
 abbrev pub solved_count : Store → ℕ
-solved_count store = length (filter (λ b. is_solved (kept_of store b)) (below (block_count store.fti)))
+solved_count store =
+    length (filter (λ b. is_solved (kept_of store b)) (below (block_count store.fti)))
 
--- the codes are the FTI's, the solved blocks are counted, and each block is kept for the symbols that stand at it
+-- the codes are the FTI's, the solved blocks are counted, and each block is kept for the symbols
+-- that stand at it
 pub record Holds (store : Store) (at : ℕ → ℕ → Option (List ℕ)) : Type 0 where
   pub codes : EachBlockHas (IsCodeOf store.fti) store.fti store.codes
   pub recovery : IsKeptOf store.codes store.kept

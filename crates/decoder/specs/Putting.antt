@@ -13,7 +13,8 @@ use Rattle.decoder.specs.declared.stored.PutFault.{PutFault}
 use Rattle.decoder.specs.declared.stored.PutFault.TheVariants.{Clash, NotCode, NoMemory}
 
 -- the FTI has the packet, the codes are the FTI's, and what is kept is of one of them
-pub record MayPut (f : Fti) (codes : BlockCodes) (p : Packet) (kept : Option Recovery) : Type 0 where
+pub record MayPut (f : Fti) (codes : BlockCodes) (p : Packet)
+    (kept : Option Recovery) : Type 0 where
   pub number : p.sbn < block_count f
   pub esi : p.esi < encoding_count f p.sbn
   pub symbol : length p.symbol.now ≡ f.symbol_length

@@ -34,9 +34,10 @@ pub record IsIndex (arrivals : List Symbol) (at : ℕ → ℕ → Option (List �
   pub none : (b j : ℕ) → at b j ≡ None → has_arrived arrivals b j ≡ false
   pub some : (b j : ℕ) (bytes : List ℕ) → at b j ≡ Some bytes → HasBytes arrivals b j bytes
 
--- the datagrams have no fault at any place, their first carrier has this FTI, and their symbols stand at their blocks and
--- ESIs
-pub record AreReceived (who : Identity) (datagrams : List (List ℕ)) (f : Fti) (at : ℕ → ℕ → Option (List ℕ)) : Type 0 where
+-- the datagrams have no fault at any place, their first carrier has this FTI, and their symbols
+-- stand at their blocks and ESIs
+pub record AreReceived (who : Identity) (datagrams : List (List ℕ)) (f : Fti)
+    (at : ℕ → ℕ → Option (List ℕ)) : Type 0 where
   pub clean : IsClean (reception_of who (readings_of datagrams)) f
   pub index : IsIndex (symbols (counted who (readings_of datagrams))) at
 

@@ -1,5 +1,6 @@
 -- What a receiver tells of the datagrams that it accepted and one more.
-use Rattle.std.specs.Prelude.{◌≡◌, ℕ, min, true, List, [], ◌∷◌, ◌++◌, length, Option, Some, None, Ok}
+use Rattle.std.specs.Prelude.{◌≡◌, ℕ, min, true, List, [], ◌∷◌, ◌++◌, length, Option, Some, None}
+use Rattle.std.specs.Prelude.{Ok}
 use Rattle.std.specs.Option.{option_map_or}
 use Rattle.std.specs.Io.KnownBytes.{Appends}
 use Rattle.partition.specs.Fti.{Fti, source_count}
@@ -47,22 +48,29 @@ HasNoFault who datagrams = (e : DecodeFault) → ¬ IsAnswer who datagrams (faul
 
 -- the answer to the datagrams is no fault of one whose symbol isn't looked at
 abbrev pub HasNoFaultBefore : Identity → List (List ℕ) → Type 0
-HasNoFaultBefore who datagrams = (i : ℕ) (e : PlaceFault) → ¬ IsAnswer who datagrams (value.Fault i (Faulty e))
+HasNoFaultBefore who datagrams =
+    (i : ℕ) (e : PlaceFault) → ¬ IsAnswer who datagrams (value.Fault i (Faulty e))
 
--- a datagram that is a packet of the identity and carries no FTI, behind datagrams of which none is a carrier
-pub record ComesEarly (who : Identity) (datagrams : List (List ℕ)) (datagram : List ℕ) : Type 0 where
+-- a datagram that is a packet of the identity and carries no FTI, behind datagrams of which none is
+-- a carrier
+pub record ComesEarly (who : Identity) (datagrams : List (List ℕ))
+    (datagram : List ℕ) : Type 0 where
   pub packet : Packet
   pub reads : Reads datagram (Ok packet)
   pub mine : is_of_identity who packet ≡ true
   pub bare : packet.fti ≡ None
   pub first : HasNoCarrier who datagrams
 
--- how many symbols of a block are kept: as many as came of different ESIs, and no more than the block has source symbols
+-- how many symbols of a block are kept: as many as came of different ESIs, and no more than the
+-- block has source symbols
 abbrev pub stored_count : Reception Clash → ℕ → ℕ
 stored_count reception block =
-    option_map_or (λ f. min (source_count f block) (arrived_count reception.symbols block)) reception.scope.fti 0
+    option_map_or
+    (λ f. min (source_count f block)
+    (arrived_count reception.symbols block)) reception.scope.fti 0
 
 -- the object that these datagrams give was written; its length in bytes
 abbrev pub IsWrittenOf : Identity → List (List ℕ) → Option (List ℕ) → Option (List ℕ) → ℕ → Type 0
 IsWrittenOf who datagrams before after count =
-    (object : List ℕ) × IsAnswer who datagrams (Object object) × Appends before after object × (count ≡ length object)
+    (object : List ℕ) × IsAnswer who datagrams (Object object) × Appends before after object
+    × (count ≡ length object)

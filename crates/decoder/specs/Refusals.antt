@@ -9,5 +9,6 @@ use Rattle.decoder.specs.Answers.{fault_value}
 
 -- the datagrams aren't received for the first fault at a place, or for want of memory
 abbrev pub IsRefusal : Identity → List (List ℕ) → Refusal → Type 0
-IsRefusal who datagrams (refusal.Fault e) = AnswerTo (reception_of who (readings_of datagrams)) (fault_value e)
+IsRefusal who datagrams (refusal.Fault e) =
+    AnswerTo (reception_of who (readings_of datagrams)) (fault_value e)
 IsRefusal who datagrams refusal.NoMemory = Unit {0}

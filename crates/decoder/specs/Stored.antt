@@ -24,7 +24,8 @@ arrived_in p = arrived_at (λ v. v.items) p.symbols.items
 pub record IsPending (f : Fti) (b : ℕ) (p : Pending) (at : ℕ → Option (List ℕ)) : Type 0 where
   pub need : p.need ≡ source_count f b
   pub esis : All (λ s. s.esi < encoding_count f b) p.symbols.items
-  pub once : length p.symbols.items ≡ length (filter (λ j. is_some (at j)) (below (encoding_count f b)))
+  pub once : length p.symbols.items
+      ≡ length (filter (λ j. is_some (at j)) (below (encoding_count f b)))
   pub symbols : (j : ℕ) → arrived_in p j ≡ at j
 
 -- the source symbols that give them, and which ESIs were seen

@@ -1,5 +1,6 @@
 -- What is given of what is kept.
-use Rattle.std.specs.Prelude.{◌≡◌, ℕ, ◌<◌, ◌-◌, ◌*◌, min, true, List, [], length, filter, take, flat_map, Option, Some, None, is_some}
+use Rattle.std.specs.Prelude.{◌≡◌, ℕ, ◌<◌, ◌-◌, ◌*◌, min, true, List, [], length, filter, take}
+use Rattle.std.specs.Prelude.{flat_map, Option, Some, None, is_some}
 use Rattle.lists.specs.Below.{below}
 use Rattle.partition.specs.Fti.{Fti, block_count, source_count, encoding_count, start_of}
 use Rattle.decoder.specs.Holds.{kept_of, is_solved}
@@ -20,7 +21,9 @@ abbrev pub part_in : Fti → ℕ → Option Stored → List ℕ
 part_in f b None = []
 part_in f b (Some (stored.Pending p)) = []
 part_in f b (Some (stored.Solved s)) =
-    take (min (f.transfer_length - start_of f b * f.symbol_length) (length s.rows.bytes.items)) s.rows.bytes.items
+    take
+    (min (f.transfer_length - start_of f b * f.symbol_length)
+    (length s.rows.bytes.items)) s.rows.bytes.items
 
 abbrev pub part_of : Store → ℕ → List ℕ
 part_of store b = part_in store.fti b (kept_of store b)

@@ -7,7 +7,8 @@ use Rattle.decoder.specs.Decoded.{IsEnoughAt, IsUnexplained}
 
 -- where enough symbols of the block came, polynomials explain them
 abbrev pub IsSound : Fti → (ℕ → ℕ → Option (List ℕ)) → ℕ → Type 0
-IsSound f at b = IsEnoughAt f b (at b) → (c : ℕ) → c < f.symbol_length → ColumnExplained f b (at b) c
+IsSound f at b =
+    IsEnoughAt f b (at b) → (c : ℕ) → c < f.symbol_length → ColumnExplained f b (at b) c
 
 -- each block is so
 abbrev pub AreSound : Fti → (ℕ → ℕ → Option (List ℕ)) → Type 0

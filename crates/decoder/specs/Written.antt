@@ -13,20 +13,25 @@ use Rattle.decoder.specs.SymbolsOf.{AreEnough}
 use Rattle.decoder.specs.declared.gathering.Gathered.{Gathered}
 use Rattle.decoder.specs.declared.gathering.Gathered.TheVariants as gathered
 
--- the answer to the symbols that stand so, which is no object; or these symbols, of which each block has enough, and then it
--- is an object
+-- the answer to the symbols that stand so, which is no object; or these symbols, of which each
+-- block has enough, and then it is an object
 abbrev pub Gathers : Fti → (ℕ → ℕ → Option (List ℕ)) → Gathered → Type 0
 Gathers f at (gathered.Answer answer) = Answers f at (answer_value answer) × IsNoObject answer
 Gathers f at (gathered.Symbols s) =
-    (s.received.fti ≡ f) × (bytes_at s.received.symbols ≡ at) × AreEnough s × (object : List ℕ) × Answers f at (value.Object object)
+    (s.received.fti ≡ f) × (bytes_at s.received.symbols ≡ at) × AreEnough s × (object : List ℕ)
+    × Answers f at (value.Object object)
 
 -- their object was written, of the FTI's transfer length
-pub record WritesObject (f : Fti) (at : ℕ → ℕ → Option (List ℕ)) (before after : Option (List ℕ)) : Type 0 where
+pub record WritesObject (f : Fti) (at : ℕ → ℕ → Option (List ℕ))
+    (before after : Option (List ℕ)) : Type 0 where
   pub object : List ℕ
   pub count : length object ≡ f.transfer_length
   pub answers : Answers f at (value.Object object)
   pub gained : Appends before after object
 
 -- a beginning of their object was written, if they are of one
-abbrev pub BeginsObject : Fti → (ℕ → ℕ → Option (List ℕ)) → Option (List ℕ) → Option (List ℕ) → Type 0
-BeginsObject f at before after = (arrivals : List Symbol) (object : List ℕ) → IsIndex arrivals at → FitsOnly f arrivals object → AppendsSome before after object
+abbrev pub BeginsObject : Fti → (ℕ → ℕ → Option (List ℕ)) → Option (List ℕ) → Option (List ℕ)
+    → Type 0
+BeginsObject f at before after =
+    (arrivals : List Symbol) (object : List ℕ) → IsIndex arrivals at → FitsOnly f arrivals object
+    → AppendsSome before after object

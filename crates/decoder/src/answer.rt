@@ -3,8 +3,8 @@
 use alc::PacketFault;
 use thiserror::Error;
 
-/// Why datagrams are of no object. A place is that of a datagram, counted from 0. The FTI is that of the first carrier:
-/// the first packet of the identity that has one.
+/// Why datagrams are of no object. A place is that of a datagram, counted from 0. The FTI is that
+/// of the first carrier: the first packet of the identity that has one.
 #[derive(Debug, Clone, Copy, PartialEq, Eq, Error)]
 pub enum DecodeFault {
     /// The datagram is no packet.
@@ -33,8 +33,8 @@ pub enum Answer {
     /// No carrier came, and so nothing can be said of symbols that did.
     Empty,
     Fault(DecodeFault),
-    /// The first block that has fewer symbols than it needs: its source block number, how many different ESIs it has,
-    /// and how many source symbols.
+    /// The first block that has fewer symbols than it needs: its source block number, how many
+    /// different ESIs it has, and how many source symbols.
     Missing {
         block: u32,
         have: usize,

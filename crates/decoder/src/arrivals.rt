@@ -1,5 +1,6 @@
 //! The encoding symbols that came of a source block, in the order in which they came.
-ghost use Rattle.std.specs.Prelude.{◌≡◌, ◌<◌, ◌≤◌, ◌++◌, ◌∷◌, ℕ, List, [], length, is_some, option_map, IfOk, OnOk, OnErr};
+ghost use Rattle.std.specs.Prelude.{◌≡◌, ◌<◌, ◌≤◌, ◌++◌, ◌∷◌, ℕ, List, [], length, is_some};
+ghost use Rattle.std.specs.Prelude.{option_map, IfOk, OnOk, OnErr};
 ghost use Rattle.decoder.specs.Blocks.{bytes_of_esi};
 ghost use Rattle.decoder.specs.Arrivals.{arrived_at, seen_at};
 
@@ -37,8 +38,8 @@ pub(crate) struct Arrival<S> {
     pub(crate) symbol: S,
 }
 
-/// Puts a symbol behind the others. Where there is no room for one more, makes room for it and for a quarter of what came:
-/// twice as much would be more than the datagrams' places take.
+/// Puts a symbol behind the others. Where there is no room for one more, makes room for it and for
+/// a quarter of what came: twice as much would be more than the datagrams' places take.
 pub(crate) fn push<S: SymbolBytes>(
     arrivals: &mut Vec<Arrival<S>>,
     arrival: Arrival<S>,

@@ -6,7 +6,8 @@ ghost use Rattle.decoder.specs.Blocks.{bytes_of_esi, HaveLength};
 
 use block_code::Code;
 
-/// A source block of which some symbols came: at each ESI the symbol, if it did, their size in bytes, and the code.
+/// A source block of which some symbols came: at each ESI the symbol, if it did, their size in
+/// bytes, and the code.
 #[derive(Clone, Copy)]
 pub(crate) struct Block<'a> {
     pub(crate) received: &'a [Option<&'a [u8]>],

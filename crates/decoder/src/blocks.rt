@@ -1,5 +1,6 @@
 //! The source symbols of a block, made of the symbols that came at its ESIs.
-ghost use Rattle.std.specs.Prelude.{◌≡◌, ◌≢◌, ◌<◌, ◌≤◌, ◌*◌, ℕ, None, true, false, length, IfOk, IfSome, IsNone};
+ghost use Rattle.std.specs.Prelude.{◌≡◌, ◌≢◌, ◌<◌, ◌≤◌, ◌*◌, ℕ, None, true, false, length, IfOk};
+ghost use Rattle.std.specs.Prelude.{IfSome, IsNone};
 ghost use Rattle.partition.specs.Fti.{block_count, source_count, encoding_count, source_place};
 ghost use Rattle.block_code.specs.Codes.{EachBlockHas};
 ghost use Rattle.block_code.specs.CodesOf.{IsCodeOf};
@@ -37,7 +38,8 @@ fn are_padded(fti: &Fti, b: u32, rows: &Rows) -> bool
     is_zero(&rows.bytes[used..])
 }
 
-/// A block's source symbols, if all that came of it are symbols of an object. `arrivals` has a place for each of its ESIs.
+/// A block's source symbols, if all that came of it are symbols of an object. `arrivals` has a
+/// place for each of its ESIs.
 pub(crate) fn block_rows(
     alloc: Global,
     fti: &Fti,

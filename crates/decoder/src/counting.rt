@@ -1,5 +1,6 @@
 //! How many of a block's encoding symbols came.
-ghost use Rattle.std.specs.Prelude.{◌≡◌, ◌<◌, ◌≤◌, ℕ, List, length, filter, is_some, IfSome, IfNone};
+ghost use Rattle.std.specs.Prelude.{◌≡◌, ◌<◌, ◌≤◌, ℕ, List, length, filter, is_some, IfSome};
+ghost use Rattle.std.specs.Prelude.{IfNone};
 ghost use Rattle.std.specs.List.{AllByRecursion};
 ghost use Rattle.lists.specs.Below.{below};
 ghost use Rattle.partition.specs.Fti.{source_count};

@@ -94,11 +94,12 @@ fn answer(alloc: Global, received: &Received<'_>) -> Result<Answer, AllocError>
     }
 }
 
-/// What the datagrams say of the object that was sent under an identity (RFC 5510, section 8): the object, or why they
-/// give none. Packets of other identities are passed over, and the FTI of the first carrier of this one holds, wherever
-/// it stands in the list. Without a carrier the only fault is a datagram that is no packet. No datagram and no sender is
-/// trusted: the answer is exact for every list of datagrams. Memory for the object is asked for only where no block is
-/// short, and for a block only where it has enough symbols.
+/// What the datagrams say of the object that was sent under an identity (RFC 5510, section 8): the
+/// object, or why they give none. Packets of other identities are passed over, and the FTI of the
+/// first carrier of this one holds, wherever it stands in the list. Without a carrier the only
+/// fault is a datagram that is no packet. No datagram and no sender is trusted: the answer is exact
+/// for every list of datagrams. Memory for the object is asked for only where no block is short,
+/// and for a block only where it has enough symbols.
 pub fn decode(alloc: Global, datagrams: &[&[u8]], identity: Identity) -> Result<Answer, AllocError>
     ensures { IfOk result
         (λ a. IsAnswer identity (map (λ d. d.now) datagrams.now) (answer_value a)) }

@@ -5,7 +5,8 @@ ghost use Rattle.decoder.specs.Erasures.{AreThose, AreErased};
 
 use std::alloc::{AllocError, Global};
 
-/// The ESIs of a block's source symbols that are missing, and of the repair symbols that came, both rising.
+/// The ESIs of a block's source symbols that are missing, and of the repair symbols that came, both
+/// rising.
 #[derive(Drop)]
 pub(crate) struct Erasure {
     pub(crate) missing: Vec<u8>,

@@ -1,12 +1,14 @@
 //! Feeding a receiver with one datagram.
-ghost use Rattle.std.specs.Prelude.{◌≡◌, ◌≢◌, ◌<◌, ◌+◌, ◌↔◌, ℕ, List, Option, length, is_some, IfOk, IfSome, IsSome, IfErr, OnOk, OnErr};
+ghost use Rattle.std.specs.Prelude.{◌≡◌, ◌≢◌, ◌<◌, ◌+◌, ◌↔◌, ℕ, List, Option, length, is_some};
+ghost use Rattle.std.specs.Prelude.{IfOk, IfSome, IsSome, IfErr, OnOk, OnErr};
 ghost use Rattle.partition.specs.Fti.{block_count, encoding_count};
 ghost use Rattle.reception.specs.Answer.{reception_of};
 ghost use Rattle.reception.specs.Walks.{readings_of};
 ghost use Rattle.decoder.specs.Arrivals.{with_symbol};
 ghost use Rattle.decoder.specs.Putting.{MayStand, IsPutFault};
 ghost use Rattle.decoder.specs.Stands.{Stands, IsFed};
-ghost use Rattle.decoder.specs.Receiving.{with_datagram, Tells, IsFaultOf, HasNoFault, HasNoFaultBefore, ComesEarly};
+ghost use Rattle.decoder.specs.Receiving.{with_datagram, Tells, IsFaultOf, HasNoFault};
+ghost use Rattle.decoder.specs.Receiving.{HasNoFaultBefore, ComesEarly};
 ghost use Rattle.decoder.specs.Fed.{HoldsFor, put_refusal};
 
 use crate::answer::DecodeFault;
@@ -118,11 +120,12 @@ impl Receiver {
         self.progress()
     }
 
-    /// Takes one datagram, of any bytes. The receiver stands for the datagrams that it accepted: at `Ok` it stands for one
-    /// more, and `decode` would answer no fault to them. At an error it stands for those before. Want of memory is never
-    /// told in place of a fault that is seen before the symbol: no packet, another FTI, another length, or out of range. A
-    /// packet of another identity is accepted and left aside. One of this identity that carries no FTI is refused as early
-    /// where no carrier was accepted, whatever its symbol is.
+    /// Takes one datagram, of any bytes. The receiver stands for the datagrams that it accepted: at
+    /// `Ok` it stands for one more, and `decode` would answer no fault to them. At an error it
+    /// stands for those before. Want of memory is never told in place of a fault that is seen
+    /// before the symbol: no packet, another FTI, another length, or out of range. A packet of
+    /// another identity is accepted and left aside. One of this identity that carries no FTI is
+    /// refused as early where no carrier was accepted, whatever its symbol is.
     pub fn feed(&mut self, alloc: Global, datagram: &[u8]) -> Result<Progress, FeedFault>
         // It is new, or was fed.
         requires { IsFed self.old }

@@ -1,5 +1,6 @@
 //! Decoding into a writer: the object is written block by block, so that it is never held.
-ghost use Rattle.std.specs.Prelude.{◌≡◌, ◌<◌, ℕ, List, true, length, map, IfOk, IfErr, OnOk, OnErr, MatchBool};
+ghost use Rattle.std.specs.Prelude.{◌≡◌, ◌<◌, ℕ, List, true, length, map, IfOk, IfErr, OnOk, OnErr};
+ghost use Rattle.std.specs.Prelude.{MatchBool};
 ghost use Rattle.session.specs.Frames.{AppendsSome};
 ghost use Rattle.partition.specs.Fti.{block_count};
 ghost use Rattle.block_code.specs.Codes.{EachBlockHas};
@@ -64,8 +65,9 @@ impl From<AllocError> for WriteFault {
     }
 }
 
-// Whether some block is of no object, where no block is short. Any `k` symbols of a block are those of some polynomials, so
-// that only blocks with more have to be solved, and the last one, whose symbols have to fit the object's padding.
+// Whether some block is of no object, where no block is short. Any `k` symbols of a block are those
+// of some polynomials, so that only blocks with more have to be solved, and the last one, whose
+// symbols have to fit the object's padding.
 fn has_unsolvable(
     alloc: Global,
     received: &Received<'_>,
@@ -135,11 +137,12 @@ fn gather_symbols<'a>(alloc: Global, received: Received<'a>) -> Result<Gathered<
     }
 }
 
-/// What the datagrams say of the object that was sent under an identity, as `decode` answers, but for the object itself:
-/// where they give one it is the symbols of it. Want of memory is the only error.
+/// What the datagrams say of the object that was sent under an identity, as `decode` answers, but
+/// for the object itself: where they give one it is the symbols of it. Want of memory is the only
+/// error.
 ///
-/// A block whose symbols are those of no object is told here. Only blocks that have more symbols than they need, and the
-/// last one, are solved for that.
+/// A block whose symbols are those of no object is told here. Only blocks that have more symbols
+/// than they need, and the last one, are solved for that.
 pub fn gather<'a>(
     alloc: Global,
     datagrams: &[&'a [u8]],
@@ -195,8 +198,8 @@ fn write_blocks<W: Write>(
 impl ObjectSymbols<'_> {
     /// Writes the object, and answers its length in bytes. One block of it is held at a time.
     ///
-    /// `Io` comes only where the writer has failed, and never where it has room for the object. At an error the writer has a
-    /// beginning of the object.
+    /// `Io` comes only where the writer has failed, and never where it has room for the object. At
+    /// an error the writer has a beginning of the object.
     pub fn write<W: Write>(&self, alloc: Global, writer: &mut W) -> Result<u64, WriteFault>
         requires { AreGathered self.now }
         ensures written { (who : IdentityValue) (ds : List (List ℕ))

@@ -37,7 +37,8 @@ fn residual(
     Ok(sum)
 }
 
-/// Whether a block's rows give this symbol at an ESI of the block: below k it is a row, else a sum of them.
+/// Whether a block's rows give this symbol at an ESI of the block: below k it is a row, else a sum
+/// of them.
 pub(crate) fn gives(
     alloc: Global,
     fti: &Fti,

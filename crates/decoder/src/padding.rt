@@ -1,7 +1,9 @@
-//! Whether the symbols that came of a block can have its padding, the zeros behind the object's end: told without solving for
-//! what is missing. The last source symbol's padding is known whether it came or not, and so with as many symbols as the
-//! block needs the values of each of these columns are one more than determine its polynomial.
-ghost use Rattle.std.specs.Prelude.{◌≡◌, ◌<◌, ◌≤◌, ◌+◌, ◌-◌, ◌||◌, ◌==◌, ℕ, false, length, drop, slice_index, is_some, option_map, IfOk};
+//! Whether the symbols that came of a block can have its padding, the zeros behind the object's
+//! end: told without solving for what is missing. The last source symbol's padding is known whether
+//! it came or not, and so with as many symbols as the block needs the values of each of these
+//! columns are one more than determine its polynomial.
+ghost use Rattle.std.specs.Prelude.{◌≡◌, ◌<◌, ◌≤◌, ◌+◌, ◌-◌, ◌||◌, ◌==◌, ℕ, false, length, drop};
+ghost use Rattle.std.specs.Prelude.{slice_index, is_some, option_map, IfOk};
 ghost use Rattle.std.specs.List.{All};
 ghost use Rattle.partition.specs.Fti.{block_count, source_count, encoding_count, source_place};
 ghost use Rattle.decoder.specs.Blocks.{bytes_of_esi, byte_of, HaveLength};
@@ -74,7 +76,8 @@ fn weight(esis: &[u8], esi: u8) -> Gf
     product.inv().unwrap_or(Gf::ZERO)
 }
 
-// The sum of the symbols at these ESIs, each times its weight, in the columns from one on. Where none came it is zero.
+// The sum of the symbols at these ESIs, each times its weight, in the columns from one on. Where
+// none came it is zero.
 fn weighted_from(
     alloc: Global,
     arrivals: &[Option<&[u8]>],
@@ -100,8 +103,8 @@ fn weighted_from(
     Ok(sum)
 }
 
-/// Whether a block's symbols can have its padding. Where not, they are those of no object. `arrivals` has a place for each
-/// of the block's ESIs.
+/// Whether a block's symbols can have its padding. Where not, they are those of no object.
+/// `arrivals` has a place for each of the block's ESIs.
 pub(crate) fn may_be_padded(
     alloc: Global,
     fti: &Fti,

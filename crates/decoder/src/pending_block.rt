@@ -1,5 +1,6 @@
 //! A block that has fewer symbols than it needs.
-ghost use Rattle.std.specs.Prelude.{◌≡◌, ◌<◌, ◌≤◌, ◌+◌, ℕ, [], ◌∷◌, ◌++◌, None, length, is_some, option_map, IfOk, OnOk, IfErr, OnErr, IfSome, IsNone};
+ghost use Rattle.std.specs.Prelude.{◌≡◌, ◌<◌, ◌≤◌, ◌+◌, ℕ, [], ◌∷◌, ◌++◌, None, length, is_some};
+ghost use Rattle.std.specs.Prelude.{option_map, IfOk, OnOk, IfErr, OnErr, IfSome, IsNone};
 ghost use Rattle.std.specs.Global.{Vec};
 ghost use Rattle.decoder.specs.Blocks.{bytes_of_esi, HaveLength};
 ghost use Rattle.decoder.specs.Arrivals.{arrived_at, with_esi};
@@ -96,7 +97,8 @@ impl Pending {
         }
     }
 
-    /// Puts the packet's symbol. `Some` is the block solved, if the symbol is the last that it needs.
+    /// Puts the packet's symbol. `Some` is the block solved, if the symbol is the last that it
+    /// needs.
     pub(crate) fn put(
         &mut self,
         alloc: Global,

@@ -1,5 +1,6 @@
 //! Putting a symbol to what is kept of an object.
-ghost use Rattle.std.specs.Prelude.{◌≡◌, ◌≢◌, ◌<◌, ◌≤◌, ℕ, List, Option, Some, length, OnOk, IfErr, OnErr};
+ghost use Rattle.std.specs.Prelude.{◌≡◌, ◌≢◌, ◌<◌, ◌≤◌, ℕ, List, Option, Some, length, OnOk, IfErr};
+ghost use Rattle.std.specs.Prelude.{OnErr};
 ghost use Rattle.partition.specs.Fti.{block_count, encoding_count};
 ghost use Rattle.decoder.specs.Blocks.{HaveLength};
 ghost use Rattle.decoder.specs.Holds.{Holds, HoldsBlocks, Solves, kept_of};

@@ -1,5 +1,6 @@
 //! The encoding symbols that came, by block and ESI.
-ghost use Rattle.std.specs.Prelude.{◌≡◌, ◌==◌, ◌&&◌, ℕ, List, Some, true, false, map, IsNone, IfSome, IfOk, IfErr, OnOk};
+ghost use Rattle.std.specs.Prelude.{◌≡◌, ◌==◌, ◌&&◌, ℕ, List, Some, true, false, map, IsNone};
+ghost use Rattle.std.specs.Prelude.{IfSome, IfOk, IfErr, OnOk};
 ghost use Rattle.alc.specs.Views.{packet_of};
 ghost use Rattle.reception.specs.Symbols.{Symbol};
 ghost use Rattle.reception.specs.Reception.{Faulty, ReadAll, symbol_of};
@@ -82,8 +83,9 @@ fn keep<'a>(alloc: Global, symbols: &mut Symbols<'a>, packet: &Packet<'a>) -> Re
     Ok(())
 }
 
-/// The symbols of the identity's packets, if a carrier came, or the first fault at the least place that has one. The FTI
-/// of the first carrier is found before any fault is looked for: it may stand behind a packet that has a fault by it.
+/// The symbols of the identity's packets, if a carrier came, or the first fault at the least place
+/// that has one. The FTI of the first carrier is found before any fault is looked for: it may stand
+/// behind a packet that has a fault by it.
 pub(crate) fn receive<'a>(
     alloc: Global,
     datagrams: &[&'a [u8]],

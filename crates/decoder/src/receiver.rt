@@ -25,7 +25,8 @@ pub enum FeedFault {
     /// As many datagrams were accepted as can be counted.
     #[error("G1 Full")]
     Full,
-    /// A packet of the identity that carries no FTI, where no carrier was accepted: nothing can be said of its symbol.
+    /// A packet of the identity that carries no FTI, where no carrier was accepted: nothing can be
+    /// said of its symbol.
     #[error("G2 Early")]
     Early,
     /// Memory is wanting.
@@ -33,9 +34,10 @@ pub enum FeedFault {
     NoMemory,
 }
 
-/// A receiver of an object's datagrams, one at a time. Packets of other identities are accepted and passed over. Its FTI
-/// is that of the first carrier that it accepts, and before that it keeps no symbol. It keeps copies of symbols, of each
-/// block at most as many as it has source symbols, and no datagram.
+/// A receiver of an object's datagrams, one at a time. Packets of other identities are accepted and
+/// passed over. Its FTI is that of the first carrier that it accepts, and before that it keeps no
+/// symbol. It keeps copies of symbols, of each block at most as many as it has source symbols, and
+/// no datagram.
 #[derive(Drop)]
 pub struct Receiver {
     pub(crate) identity: Identity,

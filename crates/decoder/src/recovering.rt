@@ -1,11 +1,13 @@
 //! A block's source symbols, made of as many encoding symbols as it has.
-ghost use Rattle.std.specs.Prelude.{◌≡◌, ◌<◌, ◌≤◌, ◌+◌, ℕ, length, filter, slice_index, is_some, IfOk, IfSome, IsNone, OnOk};
+ghost use Rattle.std.specs.Prelude.{◌≡◌, ◌<◌, ◌≤◌, ◌+◌, ℕ, length, filter, slice_index, is_some};
+ghost use Rattle.std.specs.Prelude.{IfOk, IfSome, IsNone, OnOk};
 ghost use Rattle.lists.specs.Below.{below};
 ghost use Rattle.gf256.specs.Arithmetic.{sum_of};
 ghost use Rattle.elim.specs.Generator.{Encodes};
 ghost use Rattle.elim.specs.Erasures.{AreErasures, AreRising};
 ghost use Rattle.decoder.specs.Rows.{byte_in, HasSizes, SameSizes};
-ghost use Rattle.decoder.specs.Blocks.{bytes_of_esi, byte_of, given, AreCoefficients, AreOnly, CanBeMet};
+ghost use Rattle.decoder.specs.Blocks.{bytes_of_esi, byte_of, given, AreCoefficients, AreOnly};
+ghost use Rattle.decoder.specs.Blocks.{CanBeMet};
 ghost use Rattle.decoder.specs.Erasures.{Keeps, AreSolved};
 ghost use Rattle.decoder.specs.Recoveries.{MayServe, StaysOrIsOf};
 
@@ -88,8 +90,8 @@ fn put_rows(rows: &mut Rows, places: &[u8], others: &Rows)
     }
 }
 
-// Works missing source symbols out of as many repair symbols, and puts them at their places, which are empty. What recovers
-// them is kept for the next block.
+// Works missing source symbols out of as many repair symbols, and puts them at their places, which
+// are empty. What recovers them is kept for the next block.
 fn solve(
     alloc: Global,
     block: &Block<'_>,

@@ -1,4 +1,5 @@
-//! What makes missing source symbols of repair symbols. It is kept from block to block, as blocks mostly lose the same ones.
+//! What makes missing source symbols of repair symbols. It is kept from block to block, as blocks
+//! mostly lose the same ones.
 ghost use Rattle.std.specs.Prelude.{◌≡◌, true, IfOk};
 ghost use Rattle.elim.specs.Generator.{Encodes};
 ghost use Rattle.elim.specs.Erasures.{AreErasures};
@@ -8,7 +9,8 @@ use block_code::{Code, columns};
 use elim::recovery;
 use std::alloc::{AllocError, Global};
 
-/// The coefficients that make source symbols of as many repair symbols, in blocks of `k` source symbols.
+/// The coefficients that make source symbols of as many repair symbols, in blocks of `k` source
+/// symbols.
 #[derive(Drop)]
 pub(crate) struct Recovery {
     k: usize,

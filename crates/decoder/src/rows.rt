@@ -1,5 +1,6 @@
 //! Rows of bytes.
-ghost use Rattle.std.specs.Prelude.{◌≡◌, ◌≢◌, ◌<◌, ◌≤◌, ◌+◌, ◌*◌, ◌^◌, ℕ, true, false, IfOk, length, slice_index};
+ghost use Rattle.std.specs.Prelude.{◌≡◌, ◌≢◌, ◌<◌, ◌≤◌, ◌+◌, ◌*◌, ◌^◌, ℕ, true, false, IfOk};
+ghost use Rattle.std.specs.Prelude.{length, slice_index};
 ghost use Rattle.gf256.specs.Arithmetic.{sum_of};
 ghost use Rattle.gf256.specs.Sums.{row_sum};
 

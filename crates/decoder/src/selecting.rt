@@ -17,7 +17,8 @@ use reception::Identity;
 use session::{FrameFault, Session};
 use std::alloc::Global;
 
-/// No list of datagrams has two answers: whoever meets the definition of an answer gives what `decode` gives.
+/// No list of datagrams has two answers: whoever meets the definition of an answer gives what
+/// `decode` gives.
 pub fn one_answer()
     ensures { (who : IdentityValue) (datagrams : List (List ℕ)) (a b : AnswerValue)
         → IsAnswer who datagrams a → IsAnswer who datagrams b → a ≡ b }

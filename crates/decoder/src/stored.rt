@@ -24,7 +24,8 @@ pub(crate) struct Solved {
     ghost enough: { rows.count ≤ seen_count seen.items },
 }
 
-/// What is kept of a block of which something came: as many symbols as came, and no more than it has source symbols.
+/// What is kept of a block of which something came: as many symbols as came, and no more than it
+/// has source symbols.
 #[derive(Drop)]
 pub(crate) enum Stored {
     Pending(Pending),

@@ -1,5 +1,6 @@
 //! The encoding symbols that came, by block and ESI.
-ghost use Rattle.std.specs.Prelude.{◌≡◌, ◌==◌, ◌&&◌, ℕ, Some, None, true, false, is_some, option_map, IsNone, IfSome, OnOk};
+ghost use Rattle.std.specs.Prelude.{◌≡◌, ◌==◌, ◌&&◌, ℕ, Some, None, true, false, is_some};
+ghost use Rattle.std.specs.Prelude.{option_map, IsNone, IfSome, OnOk};
 ghost use Rattle.alc.specs.Views.{packet_of};
 ghost use Rattle.decoder.specs.Arrivals.{arrived_at};
 ghost use Rattle.decoder.specs.Received.{bytes_at};
@@ -9,7 +10,8 @@ use alc::Packet;
 use std::alloc::{AllocError, Global};
 use std::collections::BTreeMap;
 
-/// The symbols of a session: by source block number those of a block, in the order in which they came.
+/// The symbols of a session: by source block number those of a block, in the order in which they
+/// came.
 #[derive(Drop)]
 pub(crate) struct Symbols<'a> {
     pub(crate) blocks: BTreeMap<u32, Vec<Arrival<&'a [u8]>>>,

@@ -1,5 +1,7 @@
-//! What a receiver gives: the answer to the datagrams that it accepted, and the object block by block.
-ghost use Rattle.std.specs.Prelude.{◌≡◌, ◌<◌, ℕ, List, Option, Ok, None, true, length, IfOk, IfSome, IsNone, OnOk, OnErr};
+//! What a receiver gives: the answer to the datagrams that it accepted, and the object block by
+//! block.
+ghost use Rattle.std.specs.Prelude.{◌≡◌, ◌<◌, ℕ, List, Option, Ok, None, true, length, IfOk};
+ghost use Rattle.std.specs.Prelude.{IfSome, IsNone, OnOk, OnErr};
 ghost use Rattle.std.specs.Io.KnownBytes.{Appends};
 ghost use Rattle.session.specs.Frames.{AppendsSome};
 ghost use Rattle.partition.specs.Fti.{block_count};
@@ -105,8 +107,9 @@ impl Store {
 }
 
 impl Receiver {
-    /// What the accepted datagrams say of the object, as `decode` answers to them; never a fault. Memory for the object is
-    /// asked for only where no block is short. The receiver may be fed further, and asked again.
+    /// What the accepted datagrams say of the object, as `decode` answers to them; never a fault.
+    /// Memory for the object is asked for only where no block is short. The receiver may be fed
+    /// further, and asked again.
     pub fn take(&self, alloc: Global) -> Result<Answer, AllocError>
         ensures answer { (ds : List (List ℕ)) → Stands self.now ds
             → IfOk result (λ a. IsAnswer self.now.identity ds (answer_value a)) }
@@ -128,9 +131,10 @@ impl Receiver {
         }
     }
 
-    /// Writes the object block by block, so that it is never held whole, and answers its length in bytes. `None` is where a
-    /// block is short or no carrier came, and nothing is written then. `Failed` comes only where no block is short and the
-    /// writer has failed, and never where it has room for the object. It has a beginning of it then.
+    /// Writes the object block by block, so that it is never held whole, and answers its length in
+    /// bytes. `None` is where a block is short or no carrier came, and nothing is written then.
+    /// `Failed` comes only where no block is short and the writer has failed, and never where it
+    /// has room for the object. It has a beginning of it then.
     pub fn write_object<W: Write>(&self, writer: &mut W) -> Result<Option<u64>, Failed>
         ensures written { (ds : List (List ℕ)) → Stands self.now ds
             → IfOk result (λ o. IfSome o (IsWrittenOf self.now.identity ds (W.contents writer.old)

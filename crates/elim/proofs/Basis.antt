@@ -226,7 +226,8 @@ differences_more ps p x eps ep ex ne =
       | inr apart ↦ rw apart (ap (λ l. q ∷ l) (more ps))
     ]
 
--- the product over the points is that over the others times the difference to x, which stands at place i
+-- the product over the points is that over the others times the difference to x, which stands at
+-- place i
 others_factor : (ps : List ℕ) (x z i : ℕ) → AllByRecursion IsByte ps → AreDifferent ps → IsByte x → IsByte z → i < length ps → get_or ps i 0 ≡ x
     → product (sum_of z x) (root_product (others ps x) z) ≡ root_product ps z
 unfolding root_product_over

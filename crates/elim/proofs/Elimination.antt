@@ -1,4 +1,5 @@
--- Elimination: each step on the rows of two matrices keeps the solutions of one system of equations.
+-- Elimination: each step on the rows of two matrices keeps the solutions of one system of
+-- equations.
 use Rattle.std.specs.Prelude.{◌≡◌, ◌≢◌, ◌<◌, ◌≤◌, ◌+◌, ℕ, refl, cond, nat_lt}
 use Rattle.std.proofs.Common.{◌∙◌, sym, ap, arith, inl, inr}
 use Rattle.std.proofs.lemmas.Bool.{cases_eq, cases_lt}

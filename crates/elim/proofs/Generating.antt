@@ -1,4 +1,5 @@
--- The inverse of V of k points, times V of n points, is the generator matrix, and each row times it is a word.
+-- The inverse of V of k points, times V of n points, is the generator matrix, and each row times it
+-- is a word.
 use Rattle.std.proofs.Common.{◌≡◌, ℕ, ◌<◌, ◌≤◌, List, length, get_or, take, arith, ap, ◌∙◌, sym, inl, inr}
 use Rattle.std.proofs.lemmas.Bool.{cases_lt}
 use Rattle.std.proofs.lemmas.List.{ext_get_or, get_or_past, get_or-take, length-take-le}

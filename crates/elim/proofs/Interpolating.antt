@@ -1,4 +1,5 @@
--- A row times the inverse of V of the first points is the coefficients of the polynomial through it.
+-- A row times the inverse of V of the first points is the coefficients of the polynomial through
+-- it.
 use Rattle.std.proofs.Common.{◌≡◌, ℕ, zero, suc, ◌<◌, List, length, get_or, arith, ap, ◌∙◌, sym, refl}
 use Rattle.std.proofs.lemmas.List.{ext_get_or}
 use Rattle.lists.specs.Bytes.{IsByte, AreBytes}

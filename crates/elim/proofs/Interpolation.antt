@@ -1,4 +1,5 @@
--- A row times the Vandermonde matrix is the values of a polynomial, so it isn't singular where the points are different.
+-- A row times the Vandermonde matrix is the values of a polynomial, so it isn't singular where the
+-- points are different.
 use Rattle.std.specs.Prelude.{◌≡◌, ◌<◌, ℕ, zero, suc, refl, List, [], ◌∷◌, length}
 use Rattle.std.specs.List.{AllByRecursion}
 use Rattle.std.proofs.Common.{◌∙◌, sym, ap, arith}

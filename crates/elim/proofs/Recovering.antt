@@ -1,4 +1,5 @@
--- The part of a generator matrix in the missing rows and the repair columns isn't singular, and its inverse recovers.
+-- The part of a generator matrix in the missing rows and the repair columns isn't singular, and its
+-- inverse recovers.
 use Rattle.std.proofs.Common.{◌≡◌, ◌≢◌, ℕ, ◌<◌, ◌≤◌, List, [], ◌∷◌, length, get_or, arith, ap, ◌∙◌, sym, refl, inl, inr}
 use Rattle.std.specs.List.{AllByRecursion}
 use Rattle.std.proofs.lemmas.List.{get_or-take}
@@ -107,7 +108,8 @@ module _ (g : Grid ℕ) (bytes : HasElements IsByte 0 g) (few : g.cols ≤ 255) 
       (λ i li. ap (λ (v : ℕ). product v (entry 0 g i (get_or repair a 0))) (get_or-listed (spread u) g.rows i li))
       ∙ spread_times u eu (get_or repair a 0)
 
-  -- the ESIs of k symbols: those of the source symbols that came, and the repair symbols in place of the others
+  -- the ESIs of k symbols: those of the source symbols that came, and the repair symbols in place
+  -- of the others
   abbrev esi : ℕ → ℕ
   esi = replaced (λ a. get_or missing a 0) (λ a. get_or repair a 0) (length missing)
 

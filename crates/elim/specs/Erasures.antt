@@ -24,10 +24,13 @@ pub record AreErasures (k n : ℕ) (missing repair : List ℕ) : Type 0 where
 abbrev pub part_entry : Grid ℕ → List ℕ → List ℕ → ℕ → ℕ → ℕ
 part_entry g rows cols i j = entry 0 g (slice_index rows i) (slice_index cols j)
 
--- what the bytes x of the missing symbols add to the repair symbols, times the matrix w, is x; and the bytes of missing
--- symbols that w makes of the bytes s add s to the repair symbols
+-- what the bytes x of the missing symbols add to the repair symbols, times the matrix w, is x; and
+-- the bytes of missing symbols that w makes of the bytes s add s to the repair symbols
 pub record Recovers (g : Grid ℕ) (missing repair : List ℕ) (w : Grid ℕ) : Type 0 where
   pub back : (x : ℕ → ℕ) → AreElements IsByte x → (a : ℕ) → a < length missing
-      → row_times sum_of product 0 (row_times sum_of product 0 x (part_entry g missing repair) (length missing)) (entry 0 w) (length missing) a ≡ x a
+      → row_times sum_of product 0
+      (row_times sum_of product 0 x (part_entry g missing repair) (length missing)) (entry 0 w)
+      (length missing) a ≡ x a
   pub forth : (s : ℕ → ℕ) → AreElements IsByte s → (m : ℕ) → m < length missing
-      → row_times sum_of product 0 (row_times sum_of product 0 s (entry 0 w) (length missing)) (part_entry g missing repair) (length missing) m ≡ s m
+      → row_times sum_of product 0 (row_times sum_of product 0 s (entry 0 w) (length missing))
+      (part_entry g missing repair) (length missing) m ≡ s m

@@ -15,7 +15,8 @@ power_entry i j = alpha_to (i * j)
 pub record IsGenerator (k n : ℕ) (g : Grid ℕ) : Type 0 where
   pub rows : g.rows ≡ k
   pub cols : g.cols ≡ n
-  pub equation : (i j : ℕ) → i < k → j < n → row_times sum_of product 0 (power_entry i) (entry 0 g) k j ≡ power_entry i j
+  pub equation : (i j : ℕ) → i < k → j < n
+      → row_times sum_of product 0 (power_entry i) (entry 0 g) k j ≡ power_entry i j
 
 -- the first k columns are the identity
 pub record IsSystematic (k : ℕ) (g : Grid ℕ) : Type 0 where
@@ -23,9 +24,13 @@ pub record IsSystematic (k : ℕ) (g : Grid ℕ) : Type 0 where
 
 -- each row of k bytes times it is a word that begins with the row
 pub record Encodes (k n : ℕ) (g : Grid ℕ) : Type 0 where
-  pub word : (source : List ℕ) → length source ≡ k → AreBytes source → IsWord k n (row_product sum_of product 0 source g)
-  pub begins : (source : List ℕ) → length source ≡ k → AreBytes source → take k (row_product sum_of product 0 source g) ≡ source
+  pub word : (source : List ℕ) → length source ≡ k → AreBytes source
+      → IsWord k n (row_product sum_of product 0 source g)
+  pub begins : (source : List ℕ) → length source ≡ k → AreBytes source
+      → take k (row_product sum_of product 0 source g) ≡ source
 
--- each row of k bytes times it is the coefficients of the polynomial that has these values at the first k points
+-- each row of k bytes times it is the coefficients of the polynomial that has these values at the
+-- first k points
 pub record Interpolates (k : ℕ) (g : Grid ℕ) : Type 0 where
-  pub values : (source : List ℕ) → length source ≡ k → AreBytes source → (i : ℕ) → i < k → value (row_product sum_of product 0 source g) (point i) ≡ slice_index source i
+  pub values : (source : List ℕ) → length source ≡ k → AreBytes source → (i : ℕ) → i < k
+      → value (row_product sum_of product 0 source g) (point i) ≡ slice_index source i

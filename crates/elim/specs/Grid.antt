@@ -14,12 +14,15 @@ abbrev pub entry : {F : Type 0} → F → Grid F → ℕ → ℕ → F
 entry none g i j = slice_index_or g.entries (i * g.cols + j) none
 
 -- the entry of a product in row i and column j
-abbrev pub product_entry : {F : Type 0} → (F → F → F) → (F → F → F) → F → Grid F → Grid F → ℕ → ℕ → F
+abbrev pub product_entry : {F : Type 0} → (F → F → F) → (F → F → F) → F → Grid F → Grid F → ℕ → ℕ
+    → F
 product_entry add mul none a b i j = row_times add mul none (entry none a i) (entry none b) a.cols j
 
 -- a row times a matrix
 abbrev pub row_product : {F : Type 0} → (F → F → F) → (F → F → F) → F → List F → Grid F → List F
-row_product add mul none row g = map (λ j. row_times add mul none (λ i. slice_index_or row i none) (entry none g) g.rows j) (range_with_len 0 g.cols)
+row_product add mul none row g =
+    map (λ j. row_times add mul none (λ i. slice_index_or row i none) (entry none g) g.rows j)
+    (range_with_len 0 g.cols)
 
 -- each entry is an element
 pub record HasElements {F : Type 0} (element : F → Type 0) (none : F) (g : Grid F) : Type 0 where
@@ -44,18 +47,25 @@ pub record HasEntries {F : Type 0} (none : F) (r c : ℕ) (f : ℕ → ℕ → F
   pub at : (i j : ℕ) → i < r → j < c → entry none g i j ≡ f i j
 
 -- a matrix of r rows and c columns whose entries are the values of f, each an element
-pub record IsMatrixOf {F : Type 0} (element : F → Type 0) (none : F) (r c : ℕ) (f : ℕ → ℕ → F) (g : Grid F) : Type 0 where
+pub record IsMatrixOf {F : Type 0} (element : F → Type 0) (none : F) (r c : ℕ) (f : ℕ → ℕ → F)
+    (g : Grid F) : Type 0 where
   pub shape : HasShape r c g
   pub entries : HasEntries none r c f g
   pub elements : HasElements element none g
 
 -- the square matrices m and w are the inverses of each other
-pub record AreInverse {F : Type 0} (add mul : F → F → F) (none one : F) (m w : Grid F) : Type 0 where
-  pub left : (i j : ℕ) → i < m.rows → j < m.rows → row_times add mul none (entry none w i) (entry none m) m.rows j ≡ identity_entry none one i j
-  pub right : (i j : ℕ) → i < m.rows → j < m.rows → row_times add mul none (entry none m i) (entry none w) m.rows j ≡ identity_entry none one i j
+pub record AreInverse {F : Type 0} (add mul : F → F → F) (none one : F)
+    (m w : Grid F) : Type 0 where
+  pub left : (i j : ℕ) → i < m.rows → j < m.rows
+      → row_times add mul none (entry none w i) (entry none m) m.rows j
+      ≡ identity_entry none one i j
+  pub right : (i j : ℕ) → i < m.rows → j < m.rows
+      → row_times add mul none (entry none m i) (entry none w) m.rows j
+      ≡ identity_entry none one i j
 
 -- some row that isn't zero, times the square matrix m, is zero
-pub record IsSingular {F : Type 0} (element : F → Type 0) (add mul : F → F → F) (none : F) (m : Grid F) : Type 0 where
+pub record IsSingular {F : Type 0} (element : F → Type 0) (add mul : F → F → F) (none : F)
+    (m : Grid F) : Type 0 where
   pub row : ℕ → F
   pub elements : AreElements element row
   pub place : ℕ

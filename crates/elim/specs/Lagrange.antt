@@ -1,5 +1,6 @@
 -- Lagrange's polynomials: one at a point and zero at the others.
-use Rattle.std.specs.Prelude.{◌≡◌, ◌≢◌, ◌<◌, ◌≤◌, ◌+◌, ◌==◌, ℕ, if◌then◌else◌, List, [], ◌∷◌, length, slice_index}
+use Rattle.std.specs.Prelude.{◌≡◌, ◌≢◌, ◌<◌, ◌≤◌, ◌+◌, ◌==◌, ℕ, if◌then◌else◌, List, [], ◌∷◌}
+use Rattle.std.specs.Prelude.{length, slice_index}
 use Rattle.lists.specs.Bytes.{IsByte, AreBytes}
 use Rattle.gf256.specs.Arithmetic.{sum_of, product, point}
 use Rattle.poly.specs.Polynomial.{value, root_product_over}
@@ -32,8 +33,11 @@ pub record IsNumerator (k i : ℕ) (p : List ℕ) : Type 0 where
   pub zero : (j : ℕ) → j < k → j ≢ i → value p (point j) ≡ 0
   pub here : value p (point i) ≢ 0
 
--- the value at point j of the polynomial that is one at point i and zero at the others of these k points
+-- the value at point j of the polynomial that is one at point i and zero at the others of these k
+-- points
 pub record IsEntry (k : ℕ) (points : List ℕ) (i j v : ℕ) : Type 0 where
   pub byte : IsByte v
   pub front : j < k → v ≡ identity_entry 0 1 i j
-  pub beyond : k ≤ j → product v (product (differences points (point i)) (sum_of (point j) (point i))) ≡ differences points (point j)
+  pub beyond : k ≤ j
+      → product v (product (differences points (point i)) (sum_of (point j) (point i)))
+      ≡ differences points (point j)

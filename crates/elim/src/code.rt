@@ -22,9 +22,9 @@ fn points(alloc: Global, count: usize) -> Result<Vec<Gf>, AllocError>
     Ok(points)
 }
 
-// The generator matrix's entry in row `i` and column `j`: the value at point `j` of the polynomial that
-// is one at point `i` and zero at the others of the first `k`. `products` are the points' differences
-// from these.
+// The generator matrix's entry in row `i` and column `j`: the value at point `j` of the polynomial
+// that is one at point `i` and zero at the others of the first `k`. `products` are the points'
+// differences from these.
 fn entry_at(k: usize, points: &[Gf], products: &[Gf], i: usize, j: usize) -> Gf
     requires few { k ≤ 255 }
     requires row { i < k }
@@ -44,8 +44,8 @@ fn entry_at(k: usize, points: &[Gf], products: &[Gf], i: usize, j: usize) -> Gf
 
 /// The generator matrix of `k` rows and `n` columns of RFC 5510, section 8.2.1: the inverse of the
 /// Vandermonde matrix of the first `k` points and `k` rows, times that of the first `n` points and
-/// `k` rows. A block has `k` source symbols, one at least, and `n` encoding symbols, at least `k` and
-/// at most 255. Want of memory is the only error.
+/// `k` rows. A block has `k` source symbols, one at least, and `n` encoding symbols, at least `k`
+/// and at most 255. Want of memory is the only error.
 pub fn generator(alloc: Global, k: usize, n: usize) -> Result<Matrix<Gf>, AllocError>
     requires some { 0 < k }
     requires wide { k ≤ n }
@@ -65,9 +65,9 @@ pub fn generator(alloc: Global, k: usize, n: usize) -> Result<Matrix<Gf>, AllocE
     Ok(made)
 }
 
-/// The inverse of the Vandermonde matrix of the first `k` points, 1 to 255: a row of `k` bytes times it
-/// is the coefficients, the constant one first, of the polynomial with these values at the points.
-/// Want of memory is the only error.
+/// The inverse of the Vandermonde matrix of the first `k` points, 1 to 255: a row of `k` bytes
+/// times it is the coefficients, the constant one first, of the polynomial with these values at the
+/// points. Want of memory is the only error.
 pub fn interpolator(alloc: Global, k: usize) -> Result<Matrix<Gf>, AllocError>
     requires some { 0 < k }
     requires few { k ≤ 255 }

@@ -3,7 +3,8 @@ ghost use Rattle.std.specs.Prelude.{◌≡◌, ◌≢◌, ◌<◌, ◌≤◌, �
 ghost use Rattle.poly.specs.Polynomial.{AreDifferent};
 ghost use Rattle.elim.specs.Matrices.{identity_entry};
 ghost use Rattle.elim.specs.Vandermonde.{vandermonde_entry};
-ghost use Rattle.elim.specs.Grid.{entry, product_entry, HasElements, HasShape, IsMatrixOf, IsSingular};
+ghost use Rattle.elim.specs.Grid.{entry, product_entry, HasElements, HasShape, IsMatrixOf};
+ghost use Rattle.elim.specs.Grid.{IsSingular};
 
 use crate::matrix::Matrix;
 use gf256::Field;
@@ -41,8 +42,8 @@ pub(crate) fn identity<F: Field>(alloc: Global, size: usize) -> Result<Matrix<F>
     Ok(made)
 }
 
-/// The matrix product `a * b`, of a's rows and b's columns, where `a` has as many columns as `b` rows.
-/// Want of memory is the only error.
+/// The matrix product `a * b`, of a's rows and b's columns, where `a` has as many columns as `b`
+/// rows. Want of memory is the only error.
 pub fn product<F: Field>(
     alloc: Global,
     a: &Matrix<F>,
@@ -64,9 +65,9 @@ pub fn product<F: Field>(
     Ok(made)
 }
 
-/// The Vandermonde matrix of `k` rows, 1 to 255, and a column for each of 1 to 255 points: row `i` has
-/// each point to the power `i`. A square one of different points isn't singular. Want of memory is
-/// the only error.
+/// The Vandermonde matrix of `k` rows, 1 to 255, and a column for each of 1 to 255 points: row `i`
+/// has each point to the power `i`. A square one of different points isn't singular. Want of memory
+/// is the only error.
 pub fn vandermonde<F: Field>(alloc: Global, points: &[F], k: usize) -> Result<Matrix<F>, AllocError>
     requires some_points { 0 < length points.now }
     requires few_points { length points.now ≤ 255 }

@@ -31,10 +31,11 @@ fn part(alloc: Global, m: &Matrix<Gf>, rows: &[u8], cols: &[u8]) -> Result<Matri
     Ok(made)
 }
 
-/// The matrix that makes a block's missing source symbols of as many repair symbols, once the source
-/// symbols that came are taken out of them, for decoding (RFC 5510, section 8.3): the inverse of the
-/// generator matrix's part in the missing rows and the repair columns, both given as rising ESIs. It
-/// has as many rows and columns as there are missing: one at least. Want of memory is the only error.
+/// The matrix that makes a block's missing source symbols of as many repair symbols, once the
+/// source symbols that came are taken out of them, for decoding (RFC 5510, section 8.3): the
+/// inverse of the generator matrix's part in the missing rows and the repair columns, both given as
+/// rising ESIs. It has as many rows and columns as there are missing: one at least. Want of memory
+/// is the only error.
 pub fn recovery(
     alloc: Global,
     generator: &Matrix<Gf>,

@@ -1,5 +1,6 @@
 //! A matrix, and steps on its rows.
-ghost use Rattle.std.specs.Prelude.{◌≡◌, ◌≢◌, ◌<◌, ◌≤◌, ◌+◌, ◌*◌, ◌^◌, ℕ, IfOk, replicate, length, slice_index_or};
+ghost use Rattle.std.specs.Prelude.{◌≡◌, ◌≢◌, ◌<◌, ◌≤◌, ◌+◌, ◌*◌, ◌^◌, ℕ, IfOk, replicate, length};
+ghost use Rattle.std.specs.Prelude.{slice_index_or};
 ghost use Rattle.elim.specs.Grid.{Grid, entry, HasElements, HasShape, IsMatrix};
 ghost use Rattle.elim.specs.Setting.{IsSet};
 ghost use Rattle.elim.specs.Steps.{IsStep, IsSwapped, IsScaled, IsAdded, IsRowAdded, IsRowSet};
@@ -41,8 +42,8 @@ pub(crate) fn zeros<F: Field>(alloc: Global, count: usize) -> Result<Vec<F>, All
 }
 
 impl<F: Field> Matrix<F> {
-    /// A matrix of 1 to 255 rows and 1 to 255 columns whose entries are all zero. Want of memory is the
-    /// only error.
+    /// A matrix of 1 to 255 rows and 1 to 255 columns whose entries are all zero. Want of memory is
+    /// the only error.
     pub fn try_new(alloc: Global, rows: usize, cols: usize) -> Result<Matrix<F>, AllocError>
         requires some_rows { 0 < rows }
         requires few_rows { rows ≤ 255 }
@@ -86,8 +87,8 @@ impl<F: Field> Matrix<F> {
         self.entries[i * self.cols + j]
     }
 
-    /// Makes the entry in row `i` and column `j`, counted from 0, this value. The matrix has that row and
-    /// column; all other entries stay.
+    /// Makes the entry in row `i` and column `j`, counted from 0, this value. The matrix has that
+    /// row and column; all other entries stay.
     pub fn set(&mut self, i: usize, j: usize, value: F)
         requires row { i < self.old.rows }
         requires column { j < self.old.cols }
@@ -136,7 +137,8 @@ impl<F: Field> Matrix<F> {
         requires columns { length row.now ≡ self.old.cols }
         requires scale { F.element c }
         ensures { IsStep F.element F.ZERO
-            (IsRowSet F.product self.old.rows self.old.cols r c (λ j. slice_index_or row.now j F.ZERO))
+            (IsRowSet F.product self.old.rows self.old.cols r c
+            (λ j. slice_index_or row.now j F.ZERO))
             self.old self.new }
     {
         let cols = self.cols();

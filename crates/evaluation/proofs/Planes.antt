@@ -1,5 +1,6 @@
--- Rows of bytes as their bits: plane d has bit d of the byte in column i as its bit i. What a sum, a doubling and a product make
--- of all bytes of a row they make of its eight planes, which are numbers.
+-- Rows of bytes as their bits: plane d has bit d of the byte in column i as its bit i. What a sum,
+-- a doubling and a product make of all bytes of a row they make of its eight planes, which are
+-- numbers.
 use Rattle.std.proofs.Common.{◌≡◌, ℕ, zero, suc, ◌+◌, ◌-◌, ◌*◌, ◌/◌, ◌%◌, ◌^◌, ◌<◌, ◌≤◌, Bool, true, false, cond, List, [], ◌∷◌, length, get_or, set, replicate, bit_xor, refl, sym, ap, subst, ◌∙◌, inl, inr, arith}
 use Rattle.std.specs.Prelude.{◌==◌, if◌then◌else◌}
 use Rattle.std.specs.Int.{bit_at}

@@ -1,4 +1,5 @@
--- Sums over a round of the powers of alpha, and the coefficients that they pick from values at all points.
+-- Sums over a round of the powers of alpha, and the coefficients that they pick from values at all
+-- points.
 use Rattle.std.proofs.Common.{◌≡◌, ◌≢◌, ℕ, zero, suc, ◌+◌, ◌-◌, ◌*◌, ◌<◌, ◌≤◌, List, get_or, refl, sym, ap, ◌∙◌, inl, inr, arith}
 use Rattle.std.proofs.lemmas.Bool.{cases_eq, cases_lt}
 use Rattle.std.proofs.lemmas.Nat.{xor_comm}

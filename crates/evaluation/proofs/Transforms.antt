@@ -1,4 +1,5 @@
--- The matrices of the transforms, computed by planes: after a transform of unit rows each row has the powers of its point.
+-- The matrices of the transforms, computed by planes: after a transform of unit rows each row has
+-- the powers of its point.
 use Rattle.std.proofs.Common.{◌≡◌, ℕ, zero, suc, ◌+◌, ◌-◌, ◌*◌, ◌/◌, ◌%◌, ◌^◌, ◌<◌, ◌≤◌, Bool, true, List, ◌∷◌, map, replicate, get_or, refl, sym, ap, subst, ◌∙◌, inl, inr, arith}
 use Rattle.std.specs.Prelude.{◌==◌, ◌&&◌}
 use Rattle.std.specs.Int.{bit_at}
@@ -25,7 +26,8 @@ all_unit_planes = map unit_planes (range_with_len 0 256)
 unfoldable pub begins_with_one : List ℕ → Bool
 begins_with_one r = all_under 8 (λ d. get_or r d 0 % 2 == bit_at 1 d)
 
--- whether each of so many columns behind column 0 has what stands in the column before it in another row
+-- whether each of so many columns behind column 0 has what stands in the column before it in
+-- another row
 unfoldable pub follows : ℕ → List ℕ → List ℕ → Bool
 follows n r before = all_under 8 (λ d. get_or r d 0 / 2 % 2 ^ n == get_or before d 0 % 2 ^ n)
 

@@ -9,4 +9,5 @@ half t = cond (ltb t 16) t (16 * (t - 16))
 
 -- the products of each of the first n elements with the halves of bytes
 abbrev pub AreMultiples : List ℕ → ℕ → Type 0
-AreMultiples bytes n = (c t : ℕ) → c < n → t < 32 → slice_index bytes (c * 32 + t) ≡ product c (half t)
+AreMultiples bytes n =
+    (c t : ℕ) → c < n → t < 32 → slice_index bytes (c * 32 + t) ≡ product c (half t)

@@ -14,7 +14,8 @@ sum_at rows k width c e = byte_sum k (λ i. product (alpha_to (i * e)) (coeffici
 -- row j has the values at the power first + j * step of alpha
 abbrev pub AreSums : List ℕ → ℕ → ℕ → ℕ → ℕ → ℕ → List ℕ → Type 0
 AreSums coefficients k width first step n symbols =
-    (j c : ℕ) → j < n → c < width → slice_index symbols (j * width + c) ≡ sum_at coefficients k width c (first + j * step)
+    (j c : ℕ) → j < n → c < width
+    → slice_index symbols (j * width + c) ≡ sum_at coefficients k width c (first + j * step)
 
 -- row j has the first k powers of that power
 abbrev pub ArePowers : List ℕ → ℕ → ℕ → ℕ → ℕ → Type 0

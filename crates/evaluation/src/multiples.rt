@@ -1,5 +1,6 @@
 //! Products of bytes, looked up by their halves.
-ghost use Rattle.std.specs.Prelude.{◌≡◌, ℕ, ◌<◌, ◌≤◌, ◌+◌, ◌*◌, ◌/◌, ◌%◌, cond, length, slice_index};
+ghost use Rattle.std.specs.Prelude.{◌≡◌, ℕ, ◌<◌, ◌≤◌, ◌+◌, ◌*◌, ◌/◌, ◌%◌, cond, length};
+ghost use Rattle.std.specs.Prelude.{slice_index};
 ghost use Rattle.gf256.specs.Arithmetic.{sum_of, product, doubled};
 ghost use Rattle.evaluation.specs.Multiples.{AreMultiples, half};
 
@@ -16,7 +17,8 @@ const SIZE: usize = 32;
 #[derive(Drop)]
 pub(crate) struct Multiples {
     bytes: [u8; 8192],
-    // So that the tables lie at addresses that 16 divides, and no load of one crosses a line of the cache.
+    // So that the tables lie at addresses that 16 divides, and no load of one crosses a line of the
+    // cache.
     _beside: u128,
     ghost products: { AreMultiples bytes 256 },
 }

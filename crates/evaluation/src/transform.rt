@@ -1,11 +1,13 @@
 //! Values at all elements, of 64 polynomials at a time, by an additive Fourier transform.
 //!
-//! Elements in the order of a basis in which x^2 + x takes element 2 i and element 2 i + 1 to element
-//! i. A polynomial f(x) is g(x^2 + x) + x h(x^2 + x), where g and h have half as many coefficients: so
-//! its values are sums of theirs and multiples of them.
+//! Elements in the order of a basis in which x^2 + x takes element 2 i and element 2 i + 1 to
+//! element i. A polynomial f(x) is g(x^2 + x) + x h(x^2 + x), where g and h have half as many
+//! coefficients: so its values are sums of theirs and multiples of them.
 ghost use Rattle.std.specs.Prelude.{◌≡◌, ◌≢◌, ◌<◌, ◌≤◌, ◌+◌, ◌-◌, ◌*◌, ◌^◌};
 ghost use Rattle.gf256.specs.Slices.{lane};
-ghost use Rattle.evaluation.specs.Transform.{AreTurned, rows_added, butterfly, butterflies, group_expanded, groups_expanded, expanded, all_expanded, joined, all_joined, transformed};
+ghost use Rattle.evaluation.specs.Transform.{AreTurned, rows_added, butterfly, butterflies};
+ghost use Rattle.evaluation.specs.Transform.{group_expanded, groups_expanded, expanded};
+ghost use Rattle.evaluation.specs.Transform.{all_expanded, joined, all_joined, transformed};
 
 use crate::lanes::{high_halves, low_halves, sum_lanes};
 use crate::multiples::Multiples;
@@ -147,8 +149,8 @@ fn expand_all(tile: &mut [u8x64; 256], b: usize)
     }
 }
 
-// The values at elements 2 j and 2 j + 1 from those of g and h at element j, for `n` of them beside the
-// first; of `s` polynomials side by side.
+// The values at elements 2 j and 2 j + 1 from those of g and h at element j, for `n` of them beside
+// the first; of `s` polynomials side by side.
 #[inline(always)]
 fn join(tile: &mut [u8x64; 256], multiples: &Multiples, n: usize, s: usize)
     requires some { 0 < s }
@@ -172,8 +174,8 @@ fn join_all(tile: &mut [u8x64; 256], multiples: &Multiples)
     }
 }
 
-/// Turns the first 2^`b` rows, coefficients of the polynomial of each column, into the values at all
-/// elements, with zeros in the other rows.
+/// Turns the first 2^`b` rows, coefficients of the polynomial of each column, into the values at
+/// all elements, with zeros in the other rows.
 pub(crate) fn transform(tile: &mut [u8x64; 256], multiples: &Multiples, b: usize)
     requires some { 0 < b }
     requires few { b ≤ 8 }

@@ -164,7 +164,8 @@ fn write_columns(
     store(symbols, points, coefficients.width, tile, at, used);
 }
 
-// The exponent of two of how many coefficients the transform takes for k: the least of 64, 128 and 256 that is enough.
+// The exponent of two of how many coefficients the transform takes for k: the least of 64, 128 and
+// 256 that is enough.
 fn exponent(k: usize) -> usize
     requires { k ≤ 255 }
     ensures least { 6 ≤ result }

@@ -1,5 +1,5 @@
-//! Two short programs over the library: an object that is sent, thinned and decoded in memory, and a receiver that is fed
-//! datagrams one by one.
+//! Two short programs over the library: an object that is sent, thinned and decoded in memory, and
+//! a receiver that is fed datagrams one by one.
 #![tactic(auto)]
 
 mod fault;

@@ -1,4 +1,5 @@
-//! An object is encoded and certified, its session is checked, loses datagrams, and what is left gives the object.
+//! An object is encoded and certified, its session is checked, loses datagrams, and what is left
+//! gives the object.
 
 use crate::fault::ExampleFault;
 use cert::{Verdict, check};

@@ -1,5 +1,6 @@
 -- The bits of coefficients in groups, and sums of sources looked up by them.
-use Rattle.std.specs.Prelude.{ℕ, ◌≡◌, ◌<◌, ◌≤◌, ◌-◌, zero, suc, slice_index_or, [], ◌+◌, ◌*◌, ◌/◌, ◌%◌, ◌^◌, ◌==◌, List, cond, slice_index}
+use Rattle.std.specs.Prelude.{ℕ, ◌≡◌, ◌<◌, ◌≤◌, ◌-◌, zero, suc, slice_index_or, [], ◌+◌, ◌*◌, ◌/◌}
+use Rattle.std.specs.Prelude.{◌%◌, ◌^◌, ◌==◌, List, cond, slice_index}
 use lib.Dec.{ltb}
 use Rattle.gf256.specs.Arithmetic.{sum_of, doubled}
 use Rattle.gf256.specs.ByteSums.{byte_sum}
@@ -40,14 +41,18 @@ source_byte sources i j = slice_index sources.bytes.now (i * sources.stride + j)
 abbrev pub IsFilled : List (List ℕ) → Sources → Tiling → ℕ → ℕ → Type 0
 IsFilled table sources tiling at m = (q p t : ℕ) → q < m → p < tiling.entries → t < 64
     → lane table (q * tiling.entries + p) t ≡ choice_sum tiling.size p
-    (λ x. below sources.count (q + x * tiling.groups) (source_byte sources (q + x * tiling.groups) (at + t)))
+    (λ x. below sources.count (q + x * tiling.groups)
+    (source_byte sources (q + x * tiling.groups) (at + t)))
 
--- from a place on there are the bits of a row's coefficients, the highest m bits so far, each bit a step behind the one
--- above it
+-- from a place on there are the bits of a row's coefficients, the highest m bits so far, each bit a
+-- step behind the one above it
 abbrev pub IsList : List ℕ → ℕ → List ℕ → ℕ → ℕ → Tiling → ℕ → Type 0
-IsList lists at coefficients row taken tiling m = (b q x : ℕ) → b < m → q < tiling.groups → x < tiling.size
+IsList lists at coefficients row taken tiling m =
+    (b q x : ℕ) → b < m → q < tiling.groups → x < tiling.size
     → bit x (slice_index lists (at + b * tiling.step + q))
-    ≡ bit (7 - b) (below taken (q + x * tiling.groups) (slice_index coefficients (row + (q + x * tiling.groups))))
+    ≡ bit (7 - b)
+    (below taken (q + x * tiling.groups)
+    (slice_index coefficients (row + (q + x * tiling.groups))))
 
 -- a lane of the sum that the list from a place on looks up in the table
 abbrev pub sum_at : List (List ℕ) → List ℕ → Tiling → ℕ → ℕ → ℕ
@@ -59,7 +64,8 @@ abbrev pub tile_sum : List (List ℕ) → List ℕ → Tiling → ℕ → ℕ �
 tile_sum table lists tiling r t = sum_at table lists tiling (r * (8 * tiling.step)) t
 
 -- to some columns of each row a sum was added, and nothing else has changed
-pub record IsAdded (old new : List ℕ) (rows : ℕ) (columns : Columns) (sum : ℕ → ℕ → ℕ) : Type 0 where
+pub record IsAdded (old new : List ℕ) (rows : ℕ) (columns : Columns)
+    (sum : ℕ → ℕ → ℕ) : Type 0 where
   pub within : (r t : ℕ) → r < rows → t < columns.used
       → slice_index new (r * columns.width + (columns.at + t))
       ≡ sum_of (slice_index old (r * columns.width + (columns.at + t))) (sum r t)

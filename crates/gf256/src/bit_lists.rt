@@ -86,8 +86,8 @@ fn put_list(lists: &mut [u8], at: usize, v: u8x16)
     v.copy_to_slice(&mut lists[at..]);
 }
 
-/// Writes an output's list: each bit of the coefficients of each group, the highest bit first. Each time 16
-/// numbers are written, and where fewer are wanted the next ones go over the rest.
+/// Writes an output's list: each bit of the coefficients of each group, the highest bit first. Each
+/// time 16 numbers are written, and where fewer are wanted the next ones go over the rest.
 #[inline(always)]
 pub(crate) fn write_list(
     lists: &mut [u8; 16384],

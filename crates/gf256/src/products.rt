@@ -2,8 +2,8 @@
 //!
 //! A product is a sum over the bits of its coefficient, by Horner's rule: from the highest bit down
 //! the sum is doubled, and where the bit is set the source is added. For several outputs the sums
-//! of each choice of four sources, for many of six, are tabled once, 64 columns at a time, so that a
-//! bit of four or six coefficients is one addition.
+//! of each choice of four sources, for many of six, are tabled once, 64 columns at a time, so that
+//! a bit of four or six coefficients is one addition.
 ghost use Rattle.std.specs.Prelude.{◌≡◌, ℕ, ◌<◌, ◌≤◌, ◌+◌, ◌-◌, ◌*◌, ◌^◌, length, slice_index};
 ghost use Rattle.gf256.specs.Arithmetic.{sum_of, product};
 ghost use Rattle.gf256.specs.Sums.{row_sum};
@@ -23,15 +23,15 @@ use std::simd::prelude::*;
 /// [`ONE_TABLE`], by measurement.
 const MANY_ROWS: usize = 64;
 
-/// The sources of one table of groups of four. Up to here groups of six are slower for some numbers of
-/// sources, as for 12 and fewer, and about as fast for 64, by measurement.
+/// The sources of one table of groups of four. Up to here groups of six are slower for some numbers
+/// of sources, as for 12 and fewer, and about as fast for 64, by measurement.
 const ONE_TABLE: usize = 64;
 
 /// Outputs that are made of one table.
 const MOST_ROWS: usize = 128;
 
-/// A value at an address that 16 divides, as a number of 16 bytes beside it asks for that. A local array of
-/// vectors alone has none such: then one load in four crosses a line of the cache.
+/// A value at an address that 16 divides, as a number of 16 bytes beside it asks for that. A local
+/// array of vectors alone has none such: then one load in four crosses a line of the cache.
 #[derive(Drop)]
 struct Aligned<T> {
     value: T,
@@ -101,9 +101,9 @@ fn add_listed(
     }
 }
 
-// Adds the sums of one table to some columns of each row. A loop over numbers that are known is laid out in
-// full: those of whole tables, those of the few sources that levels of values have, and those that 128 or
-// 160 sources leave to the last table of groups of six.
+// Adds the sums of one table to some columns of each row. A loop over numbers that are known is
+// laid out in full: those of whole tables, those of the few sources that levels of values have, and
+// those that 128 or 160 sources leave to the last table of groups of six.
 #[inline(always)]
 fn add_tile(
     outputs: &mut [u8],
@@ -133,7 +133,8 @@ fn add_tile(
     }
 }
 
-// Adds to each of a few rows the products of the coefficients from one on and the sources, one table of them.
+// Adds to each of a few rows the products of the coefficients from one on and the sources, one
+// table of them.
 fn add_table(
     outputs: &mut [u8],
     coefficients: &Coefficients<'_>,
@@ -220,8 +221,8 @@ fn add_rows(
     }
 }
 
-// Adds to each row the products of its coefficients and all sources, as many of them at a time as the
-// tiling takes.
+// Adds to each row the products of its coefficients and all sources, as many of them at a time as
+// the tiling takes.
 fn add_by_groups(
     outputs: &mut [u8],
     coefficients: &Coefficients<'_>,

@@ -1,11 +1,12 @@
 //! Rows of bytes that are summed.
-ghost use Rattle.std.specs.Prelude.{◌≡◌, ℕ, ◌<◌, ◌≤◌, ◌+◌, ◌-◌, ◌*◌, ◌^◌, List, length, slice_index};
+ghost use Rattle.std.specs.Prelude.{◌≡◌, ℕ, ◌<◌, ◌≤◌, ◌+◌, ◌-◌, ◌*◌, ◌^◌, List, length};
+ghost use Rattle.std.specs.Prelude.{slice_index};
 
 use crate::lanes::lanes_from;
 use std::simd::prelude::*;
 
-/// `count` rows of `width` bytes, each of which begins `stride` bytes after the one before it. Past the
-/// end of `bytes` all bytes are 0.
+/// `count` rows of `width` bytes, each of which begins `stride` bytes after the one before it. Past
+/// the end of `bytes` all bytes are 0.
 #[derive(Clone, Copy)]
 pub(crate) struct Sources<'a> {
     pub(crate) bytes: &'a [u8],
@@ -24,7 +25,8 @@ impl<'a> Sources<'a> {
     pub(crate) fn row(&self, i: usize) -> &'a [u8]
         requires { i < self.now.count }
         ensures short { length result.now ≤ self.now.width }
-        ensures bytes { (j : ℕ) → j < self.now.width → slice_index result.now j ≡ source_byte self.now i j }
+        ensures bytes { (j : ℕ) → j < self.now.width
+            → slice_index result.now j ≡ source_byte self.now i j }
     {
         let from = (i * self.stride).min(self.bytes.len());
         let end = (i * self.stride + self.width).min(self.bytes.len());

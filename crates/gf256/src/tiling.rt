@@ -1,9 +1,9 @@
 //! How sources and columns are taken together.
 ghost use Rattle.std.specs.Prelude.{◌≡◌, ◌≤◌, ◌+◌, ◌^◌};
 
-/// How the sources of one table are grouped. Source `q + x * groups` is number `x` of group `q`. A group has
-/// `size` sources, and the table `entries` sums of it, one for each choice of them. A list has `step` numbers
-/// for each bit of its coefficients, a group's in each of the first.
+/// How the sources of one table are grouped. Source `q + x * groups` is number `x` of group `q`. A
+/// group has `size` sources, and the table `entries` sums of it, one for each choice of them. A
+/// list has `step` numbers for each bit of its coefficients, a group's in each of the first.
 #[derive(Clone, Copy)]
 pub(crate) struct Tiling {
     pub(crate) groups: usize,

@@ -1,5 +1,5 @@
-//! What several crates say of lists and numbers: bytes, numbers below a bound, selections and losses of places. Specifications
-//! and lemmas, and the laws that a type carries for its values.
+//! What several crates say of lists and numbers: bytes, numbers below a bound, selections and
+//! losses of places. Specifications and lemmas, and the laws that a type carries for its values.
 #![tactic(auto)]
 
 ghost use Rattle.lists.specs.Bytes.{AreBytes};

@@ -1,4 +1,5 @@
--- One block: what leaves it short costs at least its cheapest symbols, and the loss of these does leave it short.
+-- One block: what leaves it short costs at least its cheapest symbols, and the loss of these does
+-- leave it short.
 use Rattle.std.specs.Prelude.{◌≡◌, ℕ, zero, suc, ◌+◌, ◌<◌, ◌≤◌, Bool, true, false, ◌&&◌, ◌||◌, ◌==◌, not, cond, List, [], ◌∷◌, ◌++◌, length, filter, refl}
 use Rattle.std.specs.List.{AllByRecursion, list_any}
 use Rattle.std.proofs.Common.{◌∙◌, sym, ap, arith}

@@ -1,5 +1,5 @@
--- The carriers as one more block, which needs one symbol and has one, of which each carrier is a copy: what the blocks can lose
--- with it is what a list can lose.
+-- The carriers as one more block, which needs one symbol and has one, of which each carrier is a
+-- copy: what the blocks can lose with it is what a list can lose.
 use Rattle.std.specs.Prelude.{◌≡◌, ℕ, suc, ◌+◌, ◌<◌, ◌≤◌, Bool, true, false, ◌&&◌, ◌||◌, ◌==◌, not, nat_le, nat_lt, cond, List, [], ◌∷◌, length, filter, refl}
 use Rattle.std.specs.List.{list_any, AllByRecursion}
 use Rattle.std.proofs.Common.{◌∙◌, sym, ap, subst, arith, ltb-true, leb-true}

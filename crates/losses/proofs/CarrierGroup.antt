@@ -1,4 +1,5 @@
--- The carriers as one group more, behind the others: what it weighs, and what the list can lose with it.
+-- The carriers as one group more, behind the others: what it weighs, and what the list can lose
+-- with it.
 use Rattle.std.specs.Prelude.{◌≡◌, ℕ, zero, suc, ◌+◌, ◌-◌, ◌<◌, ◌≤◌, Bool, true, false, ◌&&◌, ◌||◌, ◌==◌, nat_lt, nat_le, cond, List, [], ◌∷◌, ◌++◌, length, filter, map, count_by, take, drop, slice_index_or, refl}
 use Rattle.std.specs.List.{list_any}
 use Rattle.std.proofs.Common.{◌∙◌, sym, ap, subst, arith, length-append}

@@ -1,4 +1,5 @@
--- The carriers' places stand for the carriers: what a loss leaves of the one it leaves of the other.
+-- The carriers' places stand for the carriers: what a loss leaves of the one it leaves of the
+-- other.
 use Rattle.std.specs.Prelude.{◌≡◌, ℕ, zero, suc, ◌+◌, ◌<◌, ◌≤◌, Bool, true, false, ◌||◌, cond, List, [], ◌∷◌, length, refl}
 use Rattle.std.specs.List.{list_any}
 use Rattle.std.proofs.Common.{◌∙◌, ap, arith}

@@ -1,4 +1,5 @@
--- A group's members as one number for each place: of block 0 where a member is, and else of block 1.
+-- A group's members as one number for each place: of block 0 where a member is, and else of block
+-- 1.
 use Rattle.std.specs.Prelude.{◌≡◌, ℕ, zero, suc, ◌+◌, ◌<◌, ◌≤◌, Bool, true, false, ◌&&◌, ◌||◌, ◌==◌, not, cond, List, [], ◌∷◌, length, refl}
 use Rattle.std.specs.List.{list_any, AllByRecursion}
 use Rattle.std.proofs.Common.{◌∙◌, sym, ap, subst, arith}

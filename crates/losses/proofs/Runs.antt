@@ -8,7 +8,8 @@ use Rattle.lists.specs.Below.{below}
 use Rattle.losses.specs.Numbers.{has, is_number, present}
 use Rattle.losses.specs.Number.{Number}
 
--- m neighbours from place a on are places of the list, and without them block b has fewer than k symbols
+-- m neighbours from place a on are places of the list, and without them block b has fewer than k
+-- symbols
 pub record IsShortRun (b k : ℕ) (ps : List Number) (a m : ℕ) : Type 0 where
   pub within : a + m ≤ length ps
   pub short : length (present b (rest (is_run a m) ps)) < k

@@ -1,5 +1,6 @@
 -- What the loss of a block's symbols costs: all copies of each.
-use Rattle.std.specs.Prelude.{◌≡◌, ℕ, suc, ◌+◌, Bool, ◌&&◌, ◌||◌, ◌==◌, nat_lt, nat_le, cond, List, [], ◌∷◌, length, filter, count_by, map, slice_index}
+use Rattle.std.specs.Prelude.{◌≡◌, ℕ, suc, ◌+◌, Bool, ◌&&◌, ◌||◌, ◌==◌, nat_lt, nat_le, cond, List}
+use Rattle.std.specs.Prelude.{[], ◌∷◌, length, filter, count_by, map, slice_index}
 use Rattle.losses.specs.Number.{Number}
 use Rattle.losses.specs.declared.groups.Member.{Member}
 use Rattle.lists.specs.Below.{below}

@@ -1,6 +1,7 @@
--- Groups of places: what a list can lose, by the places of each group's symbols and those of the carriers. A place can
--- be in several groups, or in none.
-use Rattle.std.specs.Prelude.{ℕ, zero, suc, ◌+◌, ◌<◌, ◌≤◌, Bool, ◌&&◌, ◌==◌, List, [], ◌∷◌, length, filter, map, slice_index_or}
+-- Groups of places: what a list can lose, by the places of each group's symbols and those of the
+-- carriers. A place can be in several groups, or in none.
+use Rattle.std.specs.Prelude.{ℕ, zero, suc, ◌+◌, ◌<◌, ◌≤◌, Bool, ◌&&◌, ◌==◌, List, [], ◌∷◌, length}
+use Rattle.std.specs.Prelude.{filter, map, slice_index_or}
 use Rattle.std.specs.List.{AllByRecursion, list_any}
 use Rattle.lists.specs.Below.{below}
 use Rattle.lists.specs.Places.{ArePlaces}
@@ -9,7 +10,8 @@ use Rattle.losses.specs.Losses.{Blocks}
 use Rattle.losses.specs.declared.groups.Member.{Member}
 use Rattle.losses.specs.declared.groups.Group.{Group as GroupOf}
 
--- how many different symbols a group needs, and its members: the place and the number of the symbol there, places rising
+-- how many different symbols a group needs, and its members: the place and the number of the symbol
+-- there, places rising
 pub record Group : Type 0 where
   pub need : ℕ
   pub members : List Member
@@ -48,12 +50,16 @@ blocks_of_groups groups carriers = record {
 abbrev pub different : List Member → ℕ
 different members = length (filter (λ j. list_any (λ q. q.esi == j) members) (below 256))
 
--- each group needs some symbols, and enough are there, at places of a list that is n long, rising; their numbers are bytes
+-- each group needs some symbols, and enough are there, at places of a list that is n long, rising;
+-- their numbers are bytes
 pub record AreGroups (groups : List Group) (n : ℕ) : Type 0 where
   pub some : (b : ℕ) → b < length groups → 0 < (group_at groups b).need
-  pub places : (b : ℕ) → b < length groups → ArePlaces n (map (λ q. q.place) (group_at groups b).members)
-  pub small : (b : ℕ) → b < length groups → AllByRecursion (λ q. q.esi < 256) (group_at groups b).members
-  pub enough : (b : ℕ) → b < length groups → (group_at groups b).need ≤ different (group_at groups b).members
+  pub places : (b : ℕ) → b < length groups
+      → ArePlaces n (map (λ q. q.place) (group_at groups b).members)
+  pub small : (b : ℕ) → b < length groups
+      → AllByRecursion (λ q. q.esi < 256) (group_at groups b).members
+  pub enough : (b : ℕ) → b < length groups
+      → (group_at groups b).need ≤ different (group_at groups b).members
 
 -- there is a carrier, and their places are those of a list that is n long
 pub record AreCarriers (carriers : List ℕ) (n : ℕ) : Type 0 where
@@ -67,4 +73,5 @@ AreOfAList groups carriers = (n : ℕ) × AreGroups groups n × AreCarriers carr
 -- what holds in each list that has the groups' places and the carriers'
 abbrev pub InEachList : List Group → List ℕ → (Blocks ℕ → List ℕ → Type 0) → Type 0
 InEachList groups carriers P =
-    (n : ℕ) → AreGroups groups n → AreCarriers carriers n → P (blocks_of_groups groups carriers) (places 0 n)
+    (n : ℕ) → AreGroups groups n → AreCarriers carriers n
+    → P (blocks_of_groups groups carriers) (places 0 n)

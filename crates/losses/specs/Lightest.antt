@@ -29,11 +29,13 @@ pub record IsNarrowGroup (groups : List Group) (n gap : ℕ) : Type 0 where
 -- of the groups below n, the first that costs least, and the narrowest gap
 pub record AreLeast (groups : List Group) (n at cost most_copies last_esi burst : ℕ) : Type 0 where
   pub within : at < n
-  pub weighed : IsWeighed (group_at groups at).members (group_at groups at).need cost most_copies last_esi
+  pub weighed : IsWeighed (group_at groups at).members
+      (group_at groups at).need cost most_copies last_esi
   pub heavy : (b : ℕ) → b < n → IsHeavyGroup b (group_at groups b) cost at
   pub narrow : IsNarrowGroup groups n burst
   pub wide : (b : ℕ) → b < n → IsWideGroup (group_at groups b) burst
 
 abbrev pub IsLightest : List Group → Lightest → Type 0
 IsLightest groups l =
-    AreLeast groups (length groups) l.at l.threshold.cost l.threshold.most_copies l.threshold.last_esi l.burst
+    AreLeast groups
+    (length groups) l.at l.threshold.cost l.threshold.most_copies l.threshold.last_esi l.burst

@@ -1,5 +1,6 @@
 -- The members of one block: their places, rising, and their ESIs.
-use Rattle.std.specs.Prelude.{ℕ, ◌+◌, Bool, ◌==◌, nat_lt, List, length, filter, count_by, take, drop}
+use Rattle.std.specs.Prelude.{ℕ, ◌+◌, Bool, ◌==◌, nat_lt, List, length, filter, count_by, take}
+use Rattle.std.specs.Prelude.{drop}
 use Rattle.losses.specs.declared.groups.Member.{Member}
 use Rattle.lists.specs.Below.{below}
 

@@ -1,5 +1,6 @@
 -- Runs as they are made: from each place on the shortest that is known to be too long.
-use Rattle.std.specs.Prelude.{◌≡◌, ℕ, ◌+◌, ◌-◌, ◌<◌, ◌≤◌, ◌⊎◌, nat_lt, cond, List, length, slice_index, Option, Some, None}
+use Rattle.std.specs.Prelude.{◌≡◌, ℕ, ◌+◌, ◌-◌, ◌<◌, ◌≤◌, ◌⊎◌, nat_lt, cond, List, length}
+use Rattle.std.specs.Prelude.{slice_index, Option, Some, None}
 use Rattle.losses.specs.declared.groups.Member.{Member}
 use Rattle.losses.specs.declared.longest.Run.{Run}
 use Rattle.losses.specs.declared.window.Window.{Window}

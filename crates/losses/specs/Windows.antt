@@ -1,5 +1,6 @@
 -- Windows of places.
-use Rattle.std.specs.Prelude.{◌≡◌, ℕ, ◌+◌, ◌-◌, ◌<◌, ◌≤◌, ◌==◌, nat_lt, cond, List, [], ◌∷◌, length, filter, slice_index, slice_index_or}
+use Rattle.std.specs.Prelude.{◌≡◌, ℕ, ◌+◌, ◌-◌, ◌<◌, ◌≤◌, ◌==◌, nat_lt, cond, List, [], ◌∷◌, length}
+use Rattle.std.specs.Prelude.{filter, slice_index, slice_index_or}
 use Rattle.losses.specs.Number.{Number}
 use Rattle.losses.specs.declared.groups.Member.{Member}
 use Rattle.lists.specs.Below.{below}
@@ -11,7 +12,8 @@ member place esi = record { place = place; esi = esi }
 -- the members of block b, of numbers whose first is at place i
 abbrev pub members : ℕ → ℕ → List Number → List Member
 members b i [] = []
-members b i (p ∷ ps) = cond (p.block == b) (member i p.esi ∷ members b (i + 1) ps) (members b (i + 1) ps)
+members b i (p ∷ ps) =
+    cond (p.block == b) (member i p.esi ∷ members b (i + 1) ps) (members b (i + 1) ps)
 
 -- how many of 256 counts aren't zero
 unfoldable pub filled : List ℕ → ℕ

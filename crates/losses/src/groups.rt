@@ -12,10 +12,12 @@ pub struct Member {
     pub esi: u8,
 }
 
-/// The places of a list that hold the symbols of one block, rising, and how many different symbols it needs.
+/// The places of a list that hold the symbols of one block, rising, and how many different symbols
+/// it needs.
 #[derive(Drop, Debug)]
 pub struct Group {
-    /// How many symbols of different ESIs the block needs, at least one where figures are asked for.
+    /// How many symbols of different ESIs the block needs, at least one where figures are asked
+    /// for.
     pub need: usize,
     /// The places, each above the one before it.
     pub members: Vec<Member>,
@@ -24,7 +26,8 @@ pub struct Group {
 impl Group {
     ghost use Rattle.losses.specs.Groups.{different as different_of};
 
-    /// How many different symbols the group has: how many ESIs stand among its members, at most 256.
+    /// How many different symbols the group has: how many ESIs stand among its members, at most
+    /// 256.
     pub fn different(&self) -> usize
         ensures { result ≡ different_of self.now.members.items }
     {

@@ -1,10 +1,12 @@
-//! What a list can lose, by the places of each block's symbols and of the carriers, of which one has to be left: of all
-//! losses of places the margin, the kill and the burst, and from each place on the longest run that may be lost.
+//! What a list can lose, by the places of each block's symbols and of the carriers, of which one
+//! has to be left: of all losses of places the margin, the kill and the burst, and from each place
+//! on the longest run that may be lost.
 //!
-//! A place may be in one group, in several or in none; nothing here knows of packets. The definitions are of all losses
-//! (`specs/Losses`), and hold of groups of places (`specs/Groups`) as of any list; the code counts copies and slides a window.
-//! For the proof the carriers are one group more (`proofs/Carried`), which needs one symbol and has one, of which each
-//! carrier is a copy.
+//! A place may be in one group, in several or in none; nothing here knows of packets. The
+//! definitions are of all losses (`specs/Losses`), and hold of groups of places (`specs/Groups`) as
+//! of any list; the code counts copies and slides a window. For the proof the carriers are one
+//! group more (`proofs/Carried`), which needs one symbol and has one, of which each carrier is a
+//! copy.
 //!
 //! - `groups`: the places of a block's symbols.
 //! - `counting`: how often each ESI stands among them, and how many different ones do.

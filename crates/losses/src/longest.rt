@@ -3,7 +3,8 @@
 //! A run is too long once it takes a whole window that leaves its block short, or all carriers. So
 //! a run that is shorter by one is put at the first place of each window, and goes on to the places
 //! before it where none that ends earlier stands there.
-ghost use Rattle.std.specs.Prelude.{◌≡◌, ℕ, ◌+◌, ◌<◌, ◌≤◌, ◌^◌, Some, None, IfOk, length, slice_set};
+ghost use Rattle.std.specs.Prelude.{◌≡◌, ℕ, ◌+◌, ◌<◌, ◌≤◌, ◌^◌, Some, None, IfOk, length};
+ghost use Rattle.std.specs.Prelude.{slice_set};
 ghost use Rattle.losses.specs.Groups.{groups_of, AreGroups, AreCarriers, blocks_of_groups, places};
 ghost use Rattle.losses.specs.Losses.{IsBurst};
 ghost use Rattle.losses.specs.Members.{different_outside};

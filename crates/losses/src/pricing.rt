@@ -1,11 +1,13 @@
 //! The cheapest symbols of a block.
-ghost use Rattle.std.specs.Prelude.{◌≡◌, ℕ, ◌+◌, ◌-◌, ◌<◌, ◌≤◌, ◌^◌, length, slice_index, IfOk, sum_by};
+ghost use Rattle.std.specs.Prelude.{◌≡◌, ℕ, ◌+◌, ◌-◌, ◌<◌, ◌≤◌, ◌^◌, length, slice_index, IfOk};
+ghost use Rattle.std.specs.Prelude.{sum_by};
 ghost use Rattle.losses.specs.Windows.{filled};
 ghost use Rattle.losses.specs.Costs.{priced, present_esis, cheapest_of, cost_of};
 
 use std::alloc::{AllocError, Global};
 
-/// Up to which copies and ESI the cheapest symbols of a block go, and how many copies these have together.
+/// Up to which copies and ESI the cheapest symbols of a block go, and how many copies these have
+/// together.
 #[derive(Clone, Copy)]
 pub(crate) struct Threshold {
     pub(crate) cost: usize,

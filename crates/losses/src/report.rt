@@ -15,17 +15,20 @@ use std::alloc::{AllocError, Global};
 /// What a list can lose, in places.
 #[derive(Drop, Debug)]
 pub struct Figures {
-    /// The greatest number of places whose loss, whichever they are, leaves no group short and a carrier.
+    /// The greatest number of places whose loss, whichever they are, leaves no group short and a
+    /// carrier.
     pub margin: usize,
     /// One place more, rising, whose loss does leave a group short, or else no carrier.
     pub kill: Vec<usize>,
     /// A group that the kill leaves short; `None` where it takes all carriers.
     pub kill_block: Option<usize>,
-    /// The greatest number of neighbouring places whose loss, wherever they stand, leaves no group short and a carrier.
+    /// The greatest number of neighbouring places whose loss, wherever they stand, leaves no group
+    /// short and a carrier.
     pub burst: usize,
 }
 
-// The group whose loss costs least, the first of such groups, and the narrowest run that leaves any group short.
+// The group whose loss costs least, the first of such groups, and the narrowest run that leaves any
+// group short.
 #[derive(Clone, Copy)]
 struct Lightest {
     at: usize,
@@ -59,9 +62,9 @@ fn weigh_all(alloc: Global, groups: &[Group]) -> Result<Lightest, AllocError>
     })
 }
 
-/// The figures of groups and of the places of carriers, of each one at least, in any list that has their places. A group
-/// has the symbols that it needs: at least one, and no more than there are different ones among the group's. The carriers'
-/// places rise. Want of memory is the only error.
+/// The figures of groups and of the places of carriers, of each one at least, in any list that has
+/// their places. A group has the symbols that it needs: at least one, and no more than there are
+/// different ones among the group's. The carriers' places rise. Want of memory is the only error.
 pub fn figures_of(
     alloc: Global,
     groups: &[Group],
@@ -79,7 +82,8 @@ pub fn figures_of(
         (λ blocks xs. IsBurst blocks xs r.burst)) }
 {
     let block = weigh_all(alloc, groups)?;
-    // The narrowest run that takes all carriers goes from the first to the last, and is longer by one place.
+    // The narrowest run that takes all carriers goes from the first to the last, and is longer by
+    // one place.
     let span = carriers[carriers.len() - 1] - carriers[0];
     let burst = if span < block.burst {
         span

@@ -10,7 +10,8 @@ use crate::pricing::{Threshold, cheapest};
 use crate::window::least_gap;
 use std::alloc::{AllocError, Global};
 
-/// What leaves a block short: the cheapest symbols to lose, and how many neighbouring places it can lose wherever they stand.
+/// What leaves a block short: the cheapest symbols to lose, and how many neighbouring places it can
+/// lose wherever they stand.
 #[derive(Clone, Copy)]
 pub(crate) struct Weight {
     pub(crate) threshold: Threshold,

@@ -1,4 +1,5 @@
--- The laws of the partition of a valid FTI: how many symbols and blocks there are, and where each symbol lies.
+-- The laws of the partition of a valid FTI: how many symbols and blocks there are, and where each
+-- symbol lies.
 use Rattle.std.specs.Prelude.{◌≡◌, ◌<◌, ◌≤◌, ◌+◌, ◌-◌, ◌*◌, ◌/◌, ◌%◌, ◌^◌, ◌⊎◌, min, ℕ, zero, suc, refl}
 use Rattle.std.specs.Int.{div_ceil}
 use Rattle.std.proofs.Common.{◌∙◌, ap, subst, arith, inl, inr, add-zero, add-suc}

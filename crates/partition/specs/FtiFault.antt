@@ -2,7 +2,8 @@
 use Rattle.std.specs.Prelude.{◌^◌, ◌==◌, nat_le, nat_lt, if◌then◌else◌, Option, Some, None}
 use Rattle.partition.specs.Fti.{Fti, block_count}
 use Rattle.partition.specs.declared.FtiError.{FtiError}
-use Rattle.partition.specs.declared.FtiError.TheVariants.{LengthZero, LengthTooGreat, SymbolZero, BlockZero, MaxBelowBlock, TooManyBlocks}
+use Rattle.partition.specs.declared.FtiError.TheVariants.{LengthZero, LengthTooGreat, SymbolZero}
+use Rattle.partition.specs.declared.FtiError.TheVariants.{BlockZero, MaxBelowBlock, TooManyBlocks}
 
 abbrev pub fti_fault : Fti → Option FtiError
 fti_fault f =

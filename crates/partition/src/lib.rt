@@ -1,15 +1,18 @@
-//! The FEC object transmission information (FTI) of FEC Encoding ID 5 (RFC 5510, section 5.2) and the partition of an
-//! object into source blocks (RFC 5052, section 9.1).
+//! The FEC object transmission information (FTI) of FEC Encoding ID 5 (RFC 5510, section 5.2) and
+//! the partition of an object into source blocks (RFC 5052, section 9.1).
 //!
-//! An object of L bytes is cut into T source symbols of E bytes, the last of them filled up with zeros, and these into
-//! N source blocks of nearly equal size: the first I of them have one source symbol more than the others.
+//! An object of L bytes is cut into T source symbols of E bytes, the last of them filled up with
+//! zeros, and these into N source blocks of nearly equal size: the first I of them have one source
+//! symbol more than the others.
 //!
-//! The FTI and what it makes of an object are in this file; `order` is how the symbols follow one another when they are
-//! sent. No call takes memory.
+//! The FTI and what it makes of an object are in this file; `order` is how the symbols follow one
+//! another when they are sent. No call takes memory.
 #![tactic(auto)]
 
 ghost use Rattle.std.specs.Prelude.{◌≡◌, ℕ, ◌+◌, ◌*◌, ◌^◌, ◌<◌, ◌≤◌, min, Some, None, IfOk, IfErr};
-ghost use Rattle.partition.specs.Fti.{symbol_count, block_count, source_count, start_of, encoding_count, has_symbol, last_length, IsValidFti, fti_from};
+ghost use Rattle.partition.specs.Fti.{symbol_count, block_count, source_count, start_of};
+ghost use Rattle.partition.specs.Fti.{encoding_count, has_symbol, last_length, IsValidFti};
+ghost use Rattle.partition.specs.Fti.{fti_from};
 
 mod order;
 
@@ -35,7 +38,8 @@ pub enum FtiError {
     /// The maximum number of encoding symbols is below the maximum source block length.
     #[error("F5 MaxBelowBlock")]
     MaxBelowBlock,
-    /// There are more than 2^24 source blocks, and so a source block number doesn't stand in its three bytes.
+    /// There are more than 2^24 source blocks, and so a source block number doesn't stand in its
+    /// three bytes.
     #[error("F6 TooManyBlocks")]
     TooManyBlocks,
 }
@@ -70,9 +74,10 @@ impl Model for Fti {
 impl Fti {
     ghost use Rattle.partition.specs.FtiFault.{fti_fault};
 
-    /// The FTI of transfer length `l` and encoding symbol length `e`, both in bytes, of at most `b` source symbols and
-    /// at most `max_n` encoding symbols a block. Any numbers may be given. Where they are no FTI, the error is the first
-    /// that holds of `LengthZero`, `LengthTooGreat`, `SymbolZero`, `BlockZero`, `MaxBelowBlock` and `TooManyBlocks`.
+    /// The FTI of transfer length `l` and encoding symbol length `e`, both in bytes, of at most `b`
+    /// source symbols and at most `max_n` encoding symbols a block. Any numbers may be given. Where
+    /// they are no FTI, the error is the first that holds of `LengthZero`, `LengthTooGreat`,
+    /// `SymbolZero`, `BlockZero`, `MaxBelowBlock` and `TooManyBlocks`.
     #[tactic(auto, using(crate::proofs::Laws::ceiling_is, crate::proofs::Faults::valid_no_fault), unfolding(crate::specs::Fti::symbol_count, crate::specs::Fti::block_count))]
     pub fn new(l: u64, e: u16, b: u8, max_n: u8) -> Result<Fti, FtiError>
         ensures numbers { IfOk result (λ f. f ≡ fti_from l e b max_n) }
@@ -158,7 +163,8 @@ impl Fti {
         self.transfer_length.div_ceil(u64::from(self.symbol_length))
     }
 
-    /// N: how many source blocks the object has, at least one and at most 2^24. They share its source symbols.
+    /// N: how many source blocks the object has, at least one and at most 2^24. They share its
+    /// source symbols.
     #[tactic(auto, using(crate::proofs::Laws::blocks_are, crate::proofs::Laws::some_block, crate::proofs::Laws::start_end))]
     pub fn block_count(&self) -> u32
         ensures value { result ≡ block_count self.now }
@@ -201,8 +207,8 @@ impl Fti {
         }
     }
 
-    /// n: how many encoding symbols block `b`, which is below N, has, its source symbols among them (RFC 5510, section
-    /// 6.2): at least k and at most `max_symbols`.
+    /// n: how many encoding symbols block `b`, which is below N, has, its source symbols among them
+    /// (RFC 5510, section 6.2): at least k and at most `max_symbols`.
     #[tactic(auto, using(crate::proofs::Laws::source_encoding, crate::proofs::Laws::encoding_most), unfolding(crate::specs::Fti::encoding_count))]
     pub fn n(&self, b: u32) -> usize
         requires { b < block_count self.now }
@@ -214,16 +220,16 @@ impl Fti {
         self.k(b) * usize::from(self.max_symbols) / usize::from(self.block_length)
     }
 
-    /// Whether the object has source block `b`, and the block the encoding symbol with this ESI. Any two numbers may be
-    /// given.
+    /// Whether the object has source block `b`, and the block the encoding symbol with this ESI.
+    /// Any two numbers may be given.
     pub fn has(&self, b: u32, esi: u8) -> bool
         ensures { result ≡ has_symbol self.now b esi }
     {
         b < self.block_count() && usize::from(esi) < self.n(b)
     }
 
-    /// How many source symbols the blocks before `b` have, and so the place of the first one of block `b`, which is below
-    /// N, among those of the object.
+    /// How many source symbols the blocks before `b` have, and so the place of the first one of
+    /// block `b`, which is below N, among those of the object.
     #[tactic(auto, using(crate::proofs::Laws::block_end, crate::proofs::Laws::start_fits))]
     pub fn start(&self, b: u32) -> u64
         requires { b < block_count self.now }

@@ -1,4 +1,5 @@
--- A walk that asks of datagrams only which FTI the first carrier has, and one with that FTI after it.
+-- A walk that asks of datagrams only which FTI the first carrier has, and one with that FTI after
+-- it.
 use Rattle.std.proofs.Common.{◌≡◌, ℕ, ◌+◌, ◌<◌, ◌≤◌, arith, List, [], Option, Some, None, Result, Ok, Err, true, refl, sym, ap, ◌∙◌, length, map, take, drop, get_or}
 use Rattle.std.specs.Prelude.{is_some}
 use Rattle.std.specs.Borrow.{Bor}

@@ -103,7 +103,8 @@ module _ {R : Type 0} (judge : Judge R) where
   pub counts_still : (known : Scope) (rs : List Reading) (r : Reading) → counts (reception_with judge known rs).scope.identity r ≡ counts known.identity r
   counts_still known rs r = ap (λ (w : Identity). counts w r) (identity_stays known (counted known.identity rs))
 
-  -- what holds with one reading more is a step from what held before, where no symbol came before an FTI was known
+  -- what holds with one reading more is a step from what held before, where no symbol came before
+  -- an FTI was known
   pub one_more : (known : Scope) (rs : List Reading) (r : Reading) → Timely (scope_from known (counted known.identity rs)).fti (symbols (counted known.identity rs))
       → reception_with judge known (rs ++ r ∷ []) ≡ step judge (length rs) (reception_with judge known rs) r
   one_more known rs r timely =

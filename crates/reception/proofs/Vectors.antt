@@ -1,4 +1,5 @@
--- Lists of readings worked by hand: packets of one object of two source symbols and one repair symbol, of a byte each.
+-- Lists of readings worked by hand: packets of one object of two source symbols and one repair
+-- symbol, of a byte each.
 use Rattle.std.specs.Prelude.{◌≡◌, ℕ, List, [], ◌∷◌, map, Option, Some, None, Ok, Err, refl}
 use Rattle.partition.specs.Fti.{Fti, fti_from, ceiling, symbol_count, block_count, encoding_count, source_count, large_blocks}
 use Rattle.alc.specs.Reading.{Reading}

@@ -30,7 +30,8 @@ reading_here ds i d r e l here h = get_or-map read_of ds i [] e l ∙ ap read_of
 abbrev pub last : Scope → List (List ℕ) → Scope
 last known ds = scope_from known (counted known.identity (readings_of ds))
 
--- the datagrams before a place have nothing wrong, by what holds in the end, and this is known of them
+-- the datagrams before a place have nothing wrong, by what holds in the end, and this is known of
+-- them
 pub record Walked {R : Type 0} (judge : Judge R) (known : Scope) (ds : List (List ℕ)) (place : ℕ) (scope : Scope) : Type 0 where
   pub clean : first_wrong judge (last known ds) (counted known.identity (take place (readings_of ds))) ≡ None
   pub holds : scope_from known (counted known.identity (take place (readings_of ds))) ≡ scope

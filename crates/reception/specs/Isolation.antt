@@ -1,5 +1,5 @@
--- What a list of datagrams says of one object isn't disturbed by others' packets: it is what the identity's part of the list
--- says, with the places of the whole list.
+-- What a list of datagrams says of one object isn't disturbed by others' packets: it is what the
+-- identity's part of the list says, with the places of the whole list.
 use Rattle.std.specs.Prelude.{ℕ, List, map, slice_index}
 use Rattle.lists.specs.Selection.{chosen}
 use Rattle.alc.specs.Reading.{Reading}
@@ -22,4 +22,5 @@ put_back places (Object object) = Object object
 -- the answer to the datagrams at these places is the answer to the whole, with the places put back
 abbrev pub IsIsolated : Identity → List (List ℕ) → List Reading → Type 0
 IsIsolated who ds rs =
-    (a : Answer) → IsAnswer who (chosen ds (places_of who rs)) a → IsAnswer who ds (put_back (places_of who rs) a)
+    (a : Answer) → IsAnswer who (chosen ds (places_of who rs)) a
+    → IsAnswer who ds (put_back (places_of who rs) a)

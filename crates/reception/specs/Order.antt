@@ -4,9 +4,11 @@ use Rattle.partition.specs.Fti.{Fti, block_count, encoding_count}
 use Rattle.alc.specs.Packet.{Packet}
 use Rattle.alc.specs.Reading.{Reading}
 use Rattle.reception.specs.declared.scope.Scope.{Scope}
-use Rattle.reception.specs.declared.scope.PlaceFault.TheVariants.{NoPacket, OtherFti, SymbolLength, Range}
+use Rattle.reception.specs.declared.scope.PlaceFault.TheVariants.{NoPacket, OtherFti, SymbolLength}
+use Rattle.reception.specs.declared.scope.PlaceFault.TheVariants.{Range}
 use Rattle.reception.specs.Symbols.{Symbol}
-use Rattle.reception.specs.Reception.{Judge, Wrong, Faulty, Judged, counts, symbol_of, reading_wrong}
+use Rattle.reception.specs.Reception.{Judge, Wrong, Faulty, Judged, counts, symbol_of}
+use Rattle.reception.specs.Reception.{reading_wrong}
 
 -- the FTI has such a block, and the block such an encoding symbol
 abbrev pub IsInRange : Fti → Packet → Type 0
@@ -34,7 +36,8 @@ rank (Faulty Range) = 4
 rank (Judged x) = 5
 
 -- this is wrong, and nothing that comes before it
-pub record IsFirstHere {R : Type 0} (judge : Judge R) (f : Fti) (earlier : List Symbol) (r : Reading) (w : Wrong R) : Type 0 where
+pub record IsFirstHere {R : Type 0} (judge : Judge R) (f : Fti) (earlier : List Symbol)
+    (r : Reading) (w : Wrong R) : Type 0 where
   pub holds : WrongHolds judge f earlier r w
   pub first : (v : Wrong R) → rank v < rank w → ¬ WrongHolds judge f earlier r v
 
@@ -46,5 +49,6 @@ Hold scope f (Err e) = Unit {0}
 -- what is told of a reading that counts is just that
 abbrev pub TellsInOrder : {R : Type 0} → Judge R → Type 0
 TellsInOrder {R} judge =
-    (scope : Scope) (f : Fti) (earlier : List Symbol) (r : Reading) (w : Wrong R) → counts scope.identity r ≡ true → Hold scope f r
+    (scope : Scope) (f : Fti) (earlier : List Symbol) (r : Reading) (w : Wrong R)
+    → counts scope.identity r ≡ true → Hold scope f r
     → (reading_wrong judge scope earlier r ≡ Some w) ↔ IsFirstHere judge f earlier r w

@@ -1,6 +1,9 @@
--- What a list of datagrams says to one who asks for an identity's packets: which of them count, whose FTI holds, which
--- symbols came, and what is wrong at a place. A check and a decoder see lists of datagrams through this file.
-use Rattle.std.specs.Prelude.{◌≡◌, ℕ, ◌+◌, Bool, true, ◌&&◌, ◌==◌, not, false, cond, if◌then◌else◌, List, [], ◌∷◌, ◌++◌, length, is_some, Option, Some, None, Result, Ok, Err, option_map, flat_map, fold}
+-- What a list of datagrams says to one who asks for an identity's packets: which of them count,
+-- whose FTI holds, which symbols came, and what is wrong at a place. A check and a decoder see
+-- lists of datagrams through this file.
+use Rattle.std.specs.Prelude.{◌≡◌, ℕ, ◌+◌, Bool, true, ◌&&◌, ◌==◌, not, false, cond, if◌then◌else◌}
+use Rattle.std.specs.Prelude.{List, [], ◌∷◌, ◌++◌, length, is_some, Option, Some, None, Result, Ok}
+use Rattle.std.specs.Prelude.{Err, option_map, flat_map, fold}
 use Rattle.std.specs.Option.{option_or, option_map_or}
 use Rattle.partition.specs.Fti.{Fti, has_symbol}
 use Rattle.alc.specs.Packet.{Packet}
@@ -8,7 +11,8 @@ use Rattle.alc.specs.Reading.{Reading, Reads}
 use Rattle.reception.specs.declared.scope.Identity.{Identity}
 use Rattle.reception.specs.declared.scope.Scope.{Scope}
 use Rattle.reception.specs.declared.scope.PlaceFault.{PlaceFault}
-use Rattle.reception.specs.declared.scope.PlaceFault.TheVariants.{NoPacket, OtherFti, SymbolLength, Range}
+use Rattle.reception.specs.declared.scope.PlaceFault.TheVariants.{NoPacket, OtherFti, SymbolLength}
+use Rattle.reception.specs.declared.scope.PlaceFault.TheVariants.{Range}
 use Rattle.reception.specs.Symbols.{Symbol, AllFull}
 
 -- each datagram is read
@@ -108,8 +112,9 @@ packet_fault f p =
     else if not (has_symbol f p.block p.esi) then Some Range
     else None
 
--- what a reading without a fault is: a packet of another identity; one of the identity where no FTI is known, of which
--- nothing can be said; or one of the identity, of the FTI that holds, as long as that tells, and in range
+-- what a reading without a fault is: a packet of another identity; one of the identity where no FTI
+-- is known, of which nothing can be said; or one of the identity, of the FTI that holds, as long as
+-- that tells, and in range
 pub data Seen : Type 0 where
   Other : Seen
   Early : Seen
@@ -135,7 +140,8 @@ pub data Wrong (R : Type 0) : Type 0 where
 abbrev pub Judge : Type 0 → Type 0
 Judge R = List Symbol → Symbol → Option R
 
-abbrev pub wrong_by : {R : Type 0} → Judge R → List Symbol → Result Seen PlaceFault → Option (Wrong R)
+abbrev pub wrong_by : {R : Type 0} → Judge R → List Symbol → Result Seen PlaceFault
+    → Option (Wrong R)
 wrong_by judge earlier (Err e) = Some (Faulty e)
 wrong_by judge earlier (Ok Other) = None
 wrong_by judge earlier (Ok Early) = None
@@ -146,20 +152,22 @@ abbrev pub reading_wrong : {R : Type 0} → Judge R → Scope → List Symbol �
 reading_wrong judge scope earlier r = wrong_by judge earlier (look scope r)
 
 -- the first place at which something is wrong after these symbols, where this scope holds, and what
-abbrev pub wrong_after : {R : Type 0} → Judge R → Scope → List Symbol → List Placed → Option (ℕ × Wrong R)
+abbrev pub wrong_after : {R : Type 0} → Judge R → Scope → List Symbol → List Placed
+    → Option (ℕ × Wrong R)
 wrong_after judge scope earlier [] = None
 wrong_after judge scope earlier (x ∷ xs) =
     option_or (option_map (λ r. (x.place, r)) (reading_wrong judge scope earlier x.reading))
     (wrong_after judge scope (earlier ++ symbols_in x.reading) xs)
 
--- All that is said above of a list: the least place at which something is wrong, and there the first; the scope that holds;
--- and the symbols.
+-- All that is said above of a list: the least place at which something is wrong, and there the
+-- first; the scope that holds; and the symbols.
 pub record Reception (R : Type 0) : Type 0 where
   pub wrong : Option (ℕ × Wrong R)
   pub scope : Scope
   pub symbols : List Symbol
 
--- the walk knows from its start what holds in the end: a fault at a place may be of the FTI of a carrier behind it
+-- the walk knows from its start what holds in the end: a fault at a place may be of the FTI of a
+-- carrier behind it
 abbrev pub reception_with : {R : Type 0} → Judge R → Scope → List Reading → Reception R
 reception_with judge known rs = let xs = counted known.identity rs in record {
   wrong = wrong_after judge (scope_from known xs) [] xs;

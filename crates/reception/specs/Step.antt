@@ -23,7 +23,8 @@ abbrev pub after : Scope → Reading → Scope
 after known r = if counts known.identity r then learned known r else known
 
 -- the answer to a look at a datagram, and what is known after it
-pub record IsLook (datagram : List ℕ) (old new : Scope) (answer : Result Look PlaceFault) : Type 0 where
+pub record IsLook (datagram : List ℕ) (old new : Scope)
+    (answer : Result Look PlaceFault) : Type 0 where
   pub reading : Reading
   pub reads : Reads datagram reading
   pub scope : new ≡ after old reading

@@ -1,11 +1,13 @@
 -- What received encoding symbols say of an object. Nothing here knows of packets.
-use Rattle.std.specs.Prelude.{◌≡◌, ◌≢◌, ℕ, ◌<◌, ◌≤◌, Bool, true, false, ◌&&◌, ◌==◌, nat_le, List, length, slice_index, filter}
+use Rattle.std.specs.Prelude.{◌≡◌, ◌≢◌, ℕ, ◌<◌, ◌≤◌, Bool, true, false, ◌&&◌, ◌==◌, nat_le, List}
+use Rattle.std.specs.Prelude.{length, slice_index, filter}
 use Rattle.std.specs.List.{list_any, AllByRecursion}
 use Rattle.lists.specs.Below.{below}
 use Rattle.lists.specs.Bytes.{AreBytes}
 use Rattle.gf256.specs.Arithmetic.{point}
 use Rattle.poly.specs.Polynomial.{value, IsPolynomial}
-use Rattle.partition.specs.Fti.{Fti, source_count, encoding_count, block_count, source_place, source_byte}
+use Rattle.partition.specs.Fti.{Fti, source_count, encoding_count, block_count, source_place}
+use Rattle.partition.specs.Fti.{source_byte}
 
 -- a received symbol
 pub record Symbol : Type 0 where
@@ -39,12 +41,13 @@ pub record IsFirstShort (f : Fti) (arrivals : List Symbol) (b : ℕ) : Type 0 wh
   pub short : is_full f arrivals b ≡ false
   pub least : (a : ℕ) → a < b → is_full f arrivals a ≡ true
 
--- One polynomial with as many coefficients as the block has source symbols passes through this column of
--- the object's source symbols, and through y at the point of symbol j.
+-- One polynomial with as many coefficients as the block has source symbols passes through this
+-- column of the object's source symbols, and through y at the point of symbol j.
 pub record ColumnAgrees (f : Fti) (object : List ℕ) (b j c y : ℕ) : Type 0 where
   pub polynomial : List ℕ
   pub form : IsPolynomial (source_count f b) polynomial
-  pub source : (i : ℕ) → i < source_count f b → value polynomial (point i) ≡ source_byte f object b i c
+  pub source : (i : ℕ) → i < source_count f b
+      → value polynomial (point i) ≡ source_byte f object b i c
   pub symbol : value polynomial (point j) ≡ y
 
 -- the symbol is one of the object's
@@ -52,7 +55,8 @@ pub record Agrees (f : Fti) (object : List ℕ) (s : Symbol) : Type 0 where
   pub block : s.block < block_count f
   pub esi : s.esi < encoding_count f s.block
   pub count : length s.bytes ≡ f.symbol_length
-  pub columns : (c : ℕ) → c < f.symbol_length → ColumnAgrees f object s.block s.esi c (slice_index s.bytes c)
+  pub columns : (c : ℕ) → c < f.symbol_length
+      → ColumnAgrees f object s.block s.esi c (slice_index s.bytes c)
 
 -- an object of the FTI's length
 pub record IsObject (f : Fti) (object : List ℕ) : Type 0 where
@@ -75,19 +79,23 @@ pub record AreTwins (f : Fti) (arrivals : List Symbol) (object other : List ℕ)
   pub first : Fits f arrivals object
   pub second : Fits f arrivals other
 
--- a column of one block has a polynomial through all that came of it, which is zero where there is padding
+-- a column of one block has a polynomial through all that came of it, which is zero where there is
+-- padding
 pub record ColumnSolvable (f : Fti) (arrivals : List Symbol) (b c : ℕ) : Type 0 where
   pub polynomial : List ℕ
   pub form : IsPolynomial (source_count f b) polynomial
-  pub symbols : AllByRecursion (λ s. s.block ≡ b → value polynomial (point s.esi) ≡ slice_index s.bytes c) arrivals
-  pub padding : (i : ℕ) → i < source_count f b → f.transfer_length ≤ source_place f b i c → value polynomial (point i) ≡ 0
+  pub symbols : AllByRecursion
+      (λ s. s.block ≡ b → value polynomial (point s.esi) ≡ slice_index s.bytes c) arrivals
+  pub padding : (i : ℕ) → i < source_count f b → f.transfer_length ≤ source_place f b i c
+      → value polynomial (point i) ≡ 0
 
 abbrev pub Solvable : Fti → List Symbol → ℕ → Type 0
 Solvable f arrivals b = (c : ℕ) → c < f.symbol_length → ColumnSolvable f arrivals b c
 
 -- each full block is solvable
 abbrev pub FullSolvable : Fti → List Symbol → Type 0
-FullSolvable f arrivals = (b : ℕ) → b < block_count f → is_full f arrivals b ≡ true → Solvable f arrivals b
+FullSolvable f arrivals =
+    (b : ℕ) → b < block_count f → is_full f arrivals b ≡ true → Solvable f arrivals b
 
 -- the least full block that isn't solvable
 pub record IsFirstUnsolvable (f : Fti) (arrivals : List Symbol) (b : ℕ) : Type 0 where

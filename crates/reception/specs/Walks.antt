@@ -1,5 +1,6 @@
 -- A walk over datagrams, step by step.
-use Rattle.std.specs.Prelude.{◌≡◌, ℕ, List, [], ◌++◌, Option, Some, None, Result, Ok, if◌then◌else◌, option_map, Err, Bool}
+use Rattle.std.specs.Prelude.{◌≡◌, ℕ, List, [], ◌++◌, Option, Some, None, Result, Ok, if◌then◌else◌}
+use Rattle.std.specs.Prelude.{option_map, Err, Bool}
 use Rattle.std.specs.Option.{option_or, option_map_or}
 use Rattle.partition.specs.Fti.{Fti, has_symbol}
 use Rattle.alc.specs.Reading.{Reading, Reads}
@@ -7,7 +8,9 @@ use Rattle.reception.specs.Symbols.{Symbol}
 use Rattle.reception.specs.declared.scope.Scope.{Scope}
 use Rattle.reception.specs.declared.scope.PlaceFault.{PlaceFault}
 use Rattle.reception.specs.declared.scope.Identity.{Identity}
-use Rattle.reception.specs.Reception.{Judge, Wrong, Judged, Reception, Seen, Early, asked, counts, counted, learned, reading_wrong, scope_from, symbols_in, InRange, Placed, wrong_after}
+use Rattle.reception.specs.Reception.{Judge, Wrong, Judged, Reception, Seen, Early, asked, counts}
+use Rattle.reception.specs.Reception.{counted, learned, reading_wrong, scope_from, symbols_in}
+use Rattle.reception.specs.Reception.{InRange, Placed, wrong_after}
 use Rattle.reception.specs.Readings.{readings_of}
 use Rattle.reception.specs.Step.{after}
 pub use Rattle.reception.specs.Readings.{readings_of}

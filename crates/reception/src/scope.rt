@@ -1,7 +1,8 @@
 //! One look at a datagram.
 ghost use Rattle.std.specs.Prelude.{◌≡◌, Ok, map};
 ghost use Rattle.alc.specs.Views.{packet_of};
-ghost use Rattle.reception.specs.Reception.{asked, with_fti, learned, is_of_identity, has_other_fti, packet_fault};
+ghost use Rattle.reception.specs.Reception.{asked, with_fti, learned, is_of_identity};
+ghost use Rattle.reception.specs.Reception.{has_other_fti, packet_fault};
 ghost use Rattle.reception.specs.Found.{IsScopeOf};
 ghost use Rattle.reception.specs.Step.{IsLook};
 ghost use Rattle.reception.specs.Walks.{IsHeard};
@@ -9,15 +10,16 @@ ghost use Rattle.reception.specs.Walks.{IsHeard};
 use alc::{Packet, PacketFault, read};
 use partition::Fti;
 
-/// Whose packets they are (RFC 5651): the transport session identifier, below 2^48, and, in it, the transport object
-/// identifier, below 2^112.
+/// Whose packets they are (RFC 5651): the transport session identifier, below 2^48, and, in it, the
+/// transport object identifier, below 2^112.
 #[derive(Clone, Copy, PartialEq, Eq, Debug)]
 pub struct Identity {
     pub tsi: u64,
     pub toi: u128,
 }
 
-/// Why a datagram is wrong before its symbol is looked at, in the order in which it is told (`specs/Order`).
+/// Why a datagram is wrong before its symbol is looked at, in the order in which it is told
+/// (`specs/Order`).
 #[derive(Clone, Copy, PartialEq, Eq, Debug)]
 pub enum PlaceFault {
     /// The datagram is no packet.
@@ -35,15 +37,17 @@ pub enum PlaceFault {
 pub enum Look<'a> {
     /// A packet of another identity, which doesn't count.
     Other,
-    /// A packet of the identity that carries no FTI, where none is known: nothing can be said of its symbol.
+    /// A packet of the identity that carries no FTI, where none is known: nothing can be said of
+    /// its symbol.
     Early,
-    /// A packet of the identity, in range of the scope's FTI and with a symbol as long as that tells, which is left to
-    /// the caller to judge. It is a carrier where it has an FTI, which is then the scope's.
+    /// A packet of the identity, in range of the scope's FTI and with a symbol as long as that
+    /// tells, which is left to the caller to judge. It is a carrier where it has an FTI, which is
+    /// then the scope's.
     InRange(Packet<'a>),
 }
 
-/// Whose packets are received, and with which FTI, as far as that is known. What isn't is taken from the first carrier:
-/// the first of them that has one.
+/// Whose packets are received, and with which FTI, as far as that is known. What isn't is taken
+/// from the first carrier: the first of them that has one.
 #[derive(Clone, Copy, Debug)]
 pub struct Scope {
     pub identity: Identity,
@@ -71,8 +75,9 @@ impl Scope {
         }
     }
 
-    /// The scope of datagrams, with the FTI of the first carrier among them, if there is one: a decoder's, who looks at
-    /// each of them then. A fault of one may be by the FTI of a carrier behind it.
+    /// The scope of datagrams, with the FTI of the first carrier among them, if there is one: a
+    /// decoder's, who looks at each of them then. A fault of one may be by the FTI of a carrier
+    /// behind it.
     pub fn found_in(identity: Identity, datagrams: &[&[u8]]) -> Scope
         ensures { IsScopeOf identity (map (λ d. d.now) datagrams.now) result }
     {
@@ -86,8 +91,9 @@ impl Scope {
         scope
     }
 
-    /// Looks at one datagram, of any bytes: the first fault, in the order of `PlaceFault`, else what it is. In any case
-    /// the scope takes the FTI from a carrier of the identity where it doesn't know one yet; what it knows stays.
+    /// Looks at one datagram, of any bytes: the first fault, in the order of `PlaceFault`, else
+    /// what it is. In any case the scope takes the FTI from a carrier of the identity where it
+    /// doesn't know one yet; what it knows stays.
     pub fn look<'a>(&mut self, datagram: &'a [u8]) -> Result<Look<'a>, PlaceFault>
         ensures { IsLook datagram.now self.old self.new result }
     {

@@ -71,7 +71,8 @@ drop_read : option_map (λ found. many_of (codes "PLACE") found.1) (subcommand_o
 unfolding clap_on_literals
 drop_read = refl
 
--- an option may stand anywhere, its value behind `=` or as the next word; the order of sending has a default
+-- an option may stand anywhere, its value behind `=` or as the next word; the order of sending has
+-- a default
 abbrev encode : List Text → List Text
 encode last = codes "alcrs" ∷ codes "encode" ∷ codes "--tsi=7" ∷ codes "a" ∷ codes "--toi" ∷ codes "1" ∷ codes "b" ∷ codes "--symbol=64"
     ∷ codes "--block=20" ∷ last

@@ -1,5 +1,6 @@
 -- The arguments of a command: what each is in clap's terms, and which value the words give it.
-use Rattle.std.specs.Prelude.{◌≡◌, ◌<◌, ◌≤◌, ◌∷◌, [], ℕ, Bool, true, false, List, Option, Some, None, Contains, codes, length, map}
+use Rattle.std.specs.Prelude.{◌≡◌, ◌<◌, ◌≤◌, ◌∷◌, [], ℕ, Bool, true, false, List, Option, Some}
+use Rattle.std.specs.Prelude.{None, Contains, codes, length, map}
 use Rattle.std.specs.Borrow.{Bor}
 use Rattle.std.specs.List.{AllZip}
 use Rattle.std.specs.Str.Parse.{IsNumeral, digits_value, without_leading_plus}
@@ -11,8 +12,8 @@ use Rattle.clap.specs.declared.builder.value_parser.ValueParser.{ValueParser}
 use Rattle.clap.specs.declared.builder.value_parser.ValueParser.TheVariants.{Names, Unsigned}
 
 -- An argument by its name, and what it takes. A number is in a range, and may have a default. A
--- choice is one of some words, and has a default. A file's name may be an option's value, which may be
--- left out.
+-- choice is one of some words, and has a default. A file's name may be an option's value, which may
+-- be left out.
 pub data Argument : Type 0 where
   File : Text → Argument
   Number : Text → ℕ → ℕ → Option Text → Argument

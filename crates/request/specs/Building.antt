@@ -5,7 +5,8 @@ use Rattle.clap.specs.Words.{App, Rule, Shape, Text, app_of, shape_of, with_subc
 use Rattle.clap.specs.Simple.{new_shape}
 use Rattle.clap.specs.declared.builder.command.Command.{Command}
 use Rattle.clap.specs.declared.builder.command.Command.TheViews.{out-Command as fields_of}
-use Rattle.request.specs.Arguments.{Argument, File, Number, Choice, Numbers, Files, Flag, FileOption, rule_for}
+use Rattle.request.specs.Arguments.{Argument, File, Number, Choice, Numbers, Files, Flag}
+use Rattle.request.specs.Arguments.{FileOption, rule_for}
 use Rattle.request.specs.Grammar.{IsOrders, grammar_of}
 use Rattle.request.specs.declared.grammar.NumberOption.{NumberOption}
 use Rattle.request.specs.declared.grammar.ChoiceOption.{ChoiceOption}

@@ -4,7 +4,8 @@ use Rattle.std.specs.Prelude.{◌≡◌, ◌∷◌, ◌++◌, [], List, None, So
 use Rattle.std.specs.Borrow.{Bor}
 use Rattle.clap.specs.Words.{App, Text}
 use Rattle.clap.specs.Simple.{new_shape}
-use Rattle.request.specs.Arguments.{Argument, File, Number, Choice, Numbers, Files, Flag, FileOption, rule_for}
+use Rattle.request.specs.Arguments.{Argument, File, Number, Choice, Numbers, Files, Flag}
+use Rattle.request.specs.Arguments.{FileOption, rule_for}
 
 -- a command's name, with its arguments or their values
 abbrev pub command : {X : Type 0} → String → X → Text × X

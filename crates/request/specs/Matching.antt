@@ -1,5 +1,6 @@
 -- What is asked for by the rows that the grammar matched.
-use Rattle.std.specs.Prelude.{◌≡◌, [], true, List, Option, Some, None, Result, Ok, Err, codes, find, is_some}
+use Rattle.std.specs.Prelude.{◌≡◌, [], true, List, Option, Some, None, Result, Ok, Err, codes, find}
+use Rattle.std.specs.Prelude.{is_some}
 use Rattle.std.specs.Borrow.{Bor}
 use Rattle.std.specs.List.{AllByRecursion, AllZip}
 use Rattle.std.specs.Option.{option_map_or}

@@ -1,5 +1,6 @@
 -- What the words of a command line ask for.
-use Rattle.std.specs.Prelude.{◌≡◌, ◌∷◌, ◌++◌, [], List, Option, Some, Result, Ok, Err, Contains, codes, map, option_map, ⊤}
+use Rattle.std.specs.Prelude.{◌≡◌, ◌∷◌, ◌++◌, [], List, Option, Some, Result, Ok, Err, Contains}
+use Rattle.std.specs.Prelude.{codes, map, option_map, ⊤}
 use Rattle.std.specs.Borrow.{Bor}
 use Rattle.std.specs.List.{AllZip}
 use Rattle.clap.specs.Words.{IsAmong, Row, Text, fault_of, kind_of, subcommand_of}
@@ -8,10 +9,13 @@ use Rattle.partition.specs.declared.order.Order.TheVariants.{Blocks, Rounds}
 use Rattle.reception.specs.declared.scope.Identity.{Identity}
 use Rattle.request.specs.declared.requests.Sizes.{Sizes}
 use Rattle.request.specs.declared.requests.Request.{Request}
-use Rattle.request.specs.declared.requests.Request.TheVariants.{Check, Twin, Show, Encode, Certify, Convert, Decode, Follow, Drop, Salvage, Join}
+use Rattle.request.specs.declared.requests.Request.TheVariants.{Check, Twin, Show, Encode, Certify}
+use Rattle.request.specs.declared.requests.Request.TheVariants.{Convert, Decode, Follow, Drop}
+use Rattle.request.specs.declared.requests.Request.TheVariants.{Salvage, Join}
 use Rattle.request.specs.declared.usage.Usage.{Usage}
 use Rattle.request.specs.declared.usage.Usage.TheVariants.{Help, Line, NoMemory}
-use Rattle.request.specs.Arguments.{Argument, Value, AText, ANumber, AFlag, SomeNumbers, SomeTexts, MaybeText, HasValue}
+use Rattle.request.specs.Arguments.{Argument, Value, AText, ANumber, AFlag, SomeNumbers, SomeTexts}
+use Rattle.request.specs.Arguments.{MaybeText, HasValue}
 use Rattle.request.specs.Grammar.{command, commands, grammar_of}
 use Rattle.request.specs.Usages.{IsAskedFor, IsRefusal}
 

@@ -2,7 +2,8 @@
 ghost use Rattle.std.specs.Prelude.{◌≡◌, map, false, IfOk};
 ghost use Rattle.clap.specs.Words.{rule_of};
 ghost use Rattle.request.specs.Arguments.{rule_for, several as several_rule};
-ghost use Rattle.request.specs.Building.{HasGrammar, IsShaped, AddsRules, AddsCommands, number_of, choice_of, argument_of, rule_told, outline_shape};
+ghost use Rattle.request.specs.Building.{HasGrammar, IsShaped, AddsRules, AddsCommands, number_of};
+ghost use Rattle.request.specs.Building.{choice_of, argument_of, rule_told, outline_shape};
 
 use crate::help;
 use crate::requests::MOST_SYMBOL_BYTES;

@@ -3,11 +3,13 @@
 ghost use Rattle.std.specs.Prelude.{◌≡◌, ◌≤◌, Some, true, IfOk, codes, is_some, map, option_map};
 ghost use Rattle.std.specs.List.{AllZip};
 ghost use Rattle.clap.specs.Words.{first_of, one_of, subcommand_rows_of};
-ghost use Rattle.request.specs.Arguments.{HasValue, Files as files_named, Numbers as numbers_named, SomeNumbers, SomeTexts, flag_word};
+ghost use Rattle.request.specs.Arguments.{HasValue, Files as files_named, Numbers as numbers_named};
+ghost use Rattle.request.specs.Arguments.{SomeNumbers, SomeTexts, flag_word};
 ghost use Rattle.request.specs.Grammar.{identifiers, size_arguments};
 ghost use Rattle.request.specs.Narrow.{IsNarrow};
 ghost use Rattle.request.specs.Requests.{whose, size_values};
-ghost use Rattle.request.specs.Matching.{AreGiven, Gives, IsAsked, IsGiven, IsMatch, IsOrder, IsOrderTold, IsTold, Reads, rows_in};
+ghost use Rattle.request.specs.Matching.{AreGiven, Gives, IsAsked, IsGiven, IsMatch, IsOrder};
+ghost use Rattle.request.specs.Matching.{IsOrderTold, IsTold, Reads, rows_in};
 
 use crate::requests::{
     CertifyRequest, CheckRequest, ConvertRequest, DecodeRequest, DropRequest, EncodeRequest,

@@ -1,5 +1,6 @@
 -- How frames are copied from readers to a writer.
-use Rattle.std.specs.Prelude.{◌≡◌, ◌≤◌, ◌<◌, ◌+◌, ℕ, suc, Bool, true, false, List, [], ◌∷◌, Option, None, length, slice_index_or}
+use Rattle.std.specs.Prelude.{◌≡◌, ◌≤◌, ◌<◌, ◌+◌, ℕ, suc, Bool, true, false, List, [], ◌∷◌, Option}
+use Rattle.std.specs.Prelude.{None, length, slice_index_or}
 use Rattle.std.specs.Io.KnownBytes.{Appends, Consumes, IsAtEnd}
 use Rattle.streams.specs.Pieces.{AppendsSome}
 use Rattle.session.specs.Frames.{frame, frames, most_bytes, AreShort, IsReadFault}
@@ -8,37 +9,45 @@ use Rattle.session.specs.declared.frame.FrameFault.{FrameFault}
 use Rattle.session.specs.declared.frame.FrameFault.TheVariants.{Io}
 
 -- these bytes were written, which took no more than their room
-pub record IsWritten (before after : Option (List ℕ)) (room_before room_after : ℕ) (bytes : List ℕ) : Type 0 where
+pub record IsWritten (before after : Option (List ℕ)) (room_before room_after : ℕ)
+    (bytes : List ℕ) : Type 0 where
   pub gained : Appends before after bytes
   pub fits : room_before ≤ room_after + length bytes
 
 -- a frame was read and written
-pub record IsCopied (old new before after : Option (List ℕ)) (room_before room_after : ℕ) : Type 0 where
+pub record IsCopied (old new before after : Option (List ℕ))
+    (room_before room_after : ℕ) : Type 0 where
   pub datagram : List ℕ
   pub short : length datagram ≤ most_bytes
   pub consumed : Consumes old new (frame datagram)
   pub written : IsWritten before after room_before room_after (frame datagram)
 
 -- the reader is at its end, and nothing was written
-pub record IsOver (old new before after : Option (List ℕ)) (room_before room_after : ℕ) : Type 0 where
+pub record IsOver (old new before after : Option (List ℕ))
+    (room_before room_after : ℕ) : Type 0 where
   pub nothing : Consumes old new []
   pub end : IsAtEnd new
   pub same : after ≡ before
   pub room : room_after ≡ room_before
 
 -- what one step did, by whether there was a frame
-abbrev pub IsStep : Bool → Option (List ℕ) → Option (List ℕ) → Option (List ℕ) → Option (List ℕ) → ℕ → ℕ → Type 0
-IsStep true old new before after room_before room_after = IsCopied old new before after room_before room_after
-IsStep false old new before after room_before room_after = IsOver old new before after room_before room_after
+abbrev pub IsStep : Bool → Option (List ℕ) → Option (List ℕ) → Option (List ℕ) → Option (List ℕ) → ℕ
+    → ℕ → Type 0
+IsStep true old new before after room_before room_after =
+    IsCopied old new before after room_before room_after
+IsStep false old new before after room_before room_after =
+    IsOver old new before after room_before room_after
 
 -- no frame was read, and nothing was written
-pub record IsUnread (fault : FrameFault) (sound : Bool) (old new : Option (List ℕ)) (failed : Bool) (before after : Option (List ℕ)) : Type 0 where
+pub record IsUnread (fault : FrameFault) (sound : Bool) (old new : Option (List ℕ)) (failed : Bool)
+    (before after : Option (List ℕ)) : Type 0 where
   pub because : IsReadFault fault old new failed
   pub unsound : fault ≡ Io → sound ≡ false
   pub same : after ≡ before
 
 -- a frame was read, and a beginning of it written
-pub record IsUnwritten (fault : FrameFault) (old new before after : Option (List ℕ)) (room : ℕ) (writer_failed : Bool) : Type 0 where
+pub record IsUnwritten (fault : FrameFault) (old new before after : Option (List ℕ)) (room : ℕ)
+    (writer_failed : Bool) : Type 0 where
   pub datagram : List ℕ
   pub short : length datagram ≤ most_bytes
   pub consumed : Consumes old new (frame datagram)
@@ -48,9 +57,13 @@ pub record IsUnwritten (fault : FrameFault) (old new before after : Option (List
   pub full : room < length (frame datagram)
 
 -- these lists of datagrams were read of the readers, and their frames, joined, written
-pub record HasJoined (turns : Bool) (old new : List (Option (List ℕ))) (before after : Option (List ℕ)) (room_before room_after count : ℕ) (lists : List (List (List ℕ))) : Type 0 where
+pub record HasJoined (turns : Bool) (old new : List (Option (List ℕ)))
+    (before after : Option (List ℕ)) (room_before room_after count : ℕ)
+    (lists : List (List (List ℕ))) : Type 0 where
   pub many : length lists ≡ length old
-  pub consumed : (i : ℕ) → Consumes (slice_index_or old i None) (slice_index_or new i None) (frames (slice_index_or lists i []))
+  pub consumed : (i : ℕ)
+      → Consumes (slice_index_or old i None) (slice_index_or new i None)
+      (frames (slice_index_or lists i []))
   pub each : (i : ℕ) → AreShort (slice_index_or lists i [])
   pub written : IsWritten before after room_before room_after (frames (taken turns lists))
   pub counted : count ≡ length (taken turns lists)
@@ -61,12 +74,18 @@ IsAfterRounds n false new datagrams = length datagrams ≡ n
 IsAfterRounds n true new datagrams = (length datagrams ≤ n) × IsAtEnd new
 
 -- round r has come to a place
-pub record IsInRound (r place : ℕ) (ended : List Bool) (new : List (Option (List ℕ))) (lists : List (List (List ℕ))) : Type 0 where
-  pub before : (i : ℕ) → i < place → IsAfterRounds (r + 1) (slice_index_or ended i true) (slice_index_or new i None) (slice_index_or lists i [])
-  pub behind : (i : ℕ) → place ≤ i → IsAfterRounds r (slice_index_or ended i true) (slice_index_or new i None) (slice_index_or lists i [])
+pub record IsInRound (r place : ℕ) (ended : List Bool) (new : List (Option (List ℕ)))
+    (lists : List (List (List ℕ))) : Type 0 where
+  pub before : (i : ℕ) → i < place
+      → IsAfterRounds (r + 1) (slice_index_or ended i true) (slice_index_or new i None)
+      (slice_index_or lists i [])
+  pub behind : (i : ℕ) → place ≤ i
+      → IsAfterRounds r (slice_index_or ended i true) (slice_index_or new i None)
+      (slice_index_or lists i [])
 
 -- the readers before a place have ended, and from behind it none was read
-pub record IsAtReader (place : ℕ) (new : List (Option (List ℕ))) (lists : List (List (List ℕ))) : Type 0 where
+pub record IsAtReader (place : ℕ) (new : List (Option (List ℕ)))
+    (lists : List (List (List ℕ))) : Type 0 where
   pub before : (i : ℕ) → i < place → IsAtEnd (slice_index_or new i None)
   pub behind : (i : ℕ) → place < i → slice_index_or lists i [] ≡ []
 

@@ -1,5 +1,6 @@
 -- Frames that are read, and what is left of them without some places written.
-use Rattle.std.specs.Prelude.{◌≡◌, ◌<◌, ◌⊎◌, ℕ, Bool, true, false, List, Option, None, Some, length, ⊤}
+use Rattle.std.specs.Prelude.{◌≡◌, ◌<◌, ◌⊎◌, ℕ, Bool, true, false, List, Option, None, Some, length}
+use Rattle.std.specs.Prelude.{⊤}
 use Rattle.std.specs.Io.KnownBytes.{Appends, IsAtEnd}
 use Rattle.streams.specs.Pieces.{AppendsSome}
 use Rattle.lists.specs.Selection.{rest, is_among, first_outside}
@@ -11,9 +12,10 @@ use Rattle.session.specs.declared.frame.FrameFault.TheVariants.{Io, NoMemory, No
 abbrev pub frames_left : List ℕ → List (List ℕ) → List ℕ
 frames_left places datagrams = frames (rest (is_among places) datagrams)
 
--- All that the reader had left were these datagrams' frames. They have all the places, and the frames of the others were
--- written; their number.
-pub record IsThinned (places : List ℕ) (old new before after : Option (List ℕ)) (count : ℕ) : Type 0 where
+-- All that the reader had left were these datagrams' frames. They have all the places, and the
+-- frames of the others were written; their number.
+pub record IsThinned (places : List ℕ) (old new before after : Option (List ℕ))
+    (count : ℕ) : Type 0 where
   pub datagrams : List (List ℕ)
   pub read : HasRead old new datagrams
   pub end : IsAtEnd new
@@ -23,18 +25,26 @@ pub record IsThinned (places : List ℕ) (old new before after : Option (List �
 
 -- some datagrams' frames were read, and this holds of them and of what the reader had left then
 abbrev pub ReadsSome : Option (List ℕ) → (List (List ℕ) → Option (List ℕ) → Type 0) → Type 0
-ReadsSome old Holds = (datagrams : List (List ℕ)) × (left : Option (List ℕ)) × HasRead old left datagrams × Holds datagrams left
+ReadsSome old Holds =
+    (datagrams : List (List ℕ)) × (left : Option (List ℕ)) × HasRead old left datagrams
+    × Holds datagrams left
 
 -- a beginning of what is left of them was written
 abbrev pub WritesSome : List ℕ → Option (List ℕ) → Option (List ℕ) → Option (List ℕ) → Type 0
-WritesSome places old before after = ReadsSome old (λ ds left. AppendsSome before after (frames_left places ds))
+WritesSome places old before after =
+    ReadsSome old (λ ds left. AppendsSome before after (frames_left places ds))
 
--- Why not all was read and written: the first place that the datagrams don't have; the reader has failed, which isn't sound,
--- or the writer, which had no room for what is left of them; want of memory; or no frame stands behind them.
-abbrev pub IsUnthinned : FrameFault → List ℕ → Bool → Option (List ℕ) → Option (List ℕ) → Bool → ℕ → Bool → Type 0
+-- Why not all was read and written: the first place that the datagrams don't have; the reader has
+-- failed, which isn't sound, or the writer, which had no room for what is left of them; want of
+-- memory; or no frame stands behind them.
+abbrev pub IsUnthinned : FrameFault → List ℕ → Bool → Option (List ℕ) → Option (List ℕ) → Bool → ℕ
+    → Bool → Type 0
 IsUnthinned (NoSuchPlace place) places sound old new failed room writer_failed =
-    IsAtEnd new × (ds : List (List ℕ)) × HasRead old new ds × (first_outside (length ds) places ≡ Some place)
+    IsAtEnd new × (ds : List (List ℕ)) × HasRead old new ds
+    × (first_outside (length ds) places ≡ Some place)
 IsUnthinned Io places sound old new failed room writer_failed =
-    ((sound ≡ false) × (failed ≡ true)) ⊎ ((writer_failed ≡ true) × ReadsSome old (λ ds left. room < length (frames_left places ds)))
+    ((sound ≡ false) × (failed ≡ true))
+    ⊎ ((writer_failed ≡ true) × ReadsSome old (λ ds left. room < length (frames_left places ds)))
 IsUnthinned NoMemory places sound old new failed room writer_failed = ⊤
-IsUnthinned fault places sound old new failed room writer_failed = ReadsSome old (λ ds left. IsReadFault fault left new failed)
+IsUnthinned fault places sound old new failed room writer_failed =
+    ReadsSome old (λ ds left. IsReadFault fault left new failed)

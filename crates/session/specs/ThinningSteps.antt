@@ -12,7 +12,8 @@ abbrev pub IsSetOf : List ℕ → BTreeSet ℕ → Type 0
 IsSetOf places set = (i : ℕ) → contains nat_cmp set i ≡ is_among places i
 
 -- so many datagrams were read, and so many of them written
-pub record HasCopied (places : List ℕ) (old new before after : Option (List ℕ)) (room_before room_after count written : ℕ) : Type 0 where
+pub record HasCopied (places : List ℕ) (old new before after : Option (List ℕ))
+    (room_before room_after count written : ℕ) : Type 0 where
   pub datagrams : List (List ℕ)
   pub consumed : Consumes old new (frames datagrams)
   pub each : AreShort datagrams

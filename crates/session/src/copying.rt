@@ -103,11 +103,12 @@ fn join_in_turns<R: Read, W: Write>(
     Err(FrameFault::NoMemory)
 }
 
-/// Copies the frames of all readers up to their ends: all of the first, then all of the second, and so on; with `turns` one
-/// of each in turn, those that have ended being passed over and not read again. Answers how many there were.
+/// Copies the frames of all readers up to their ends: all of the first, then all of the second, and
+/// so on; with `turns` one of each in turn, those that have ended being passed over and not read
+/// again. Answers how many there were.
 ///
-/// `CutLength`, `CutDatagram` and `TooLong` tell why a reader's bytes aren't frames, `Io` that a reader or the writer has
-/// failed. A beginning of the frames was written then.
+/// `CutLength`, `CutDatagram` and `TooLong` tell why a reader's bytes aren't frames, `Io` that a
+/// reader or the writer has failed. A beginning of the frames was written then.
 pub fn join_frames<R: Read, W: Write>(
     alloc: Global,
     readers: &mut [R],

@@ -1,5 +1,6 @@
 //! Frames: a datagram behind its length in two bytes.
-ghost use Rattle.std.specs.Prelude.{◌≡◌, ◌≤◌, ◌<◌, ◌+◌, true, false, [], None, length, take, IfOk, IfErr, OnErr, OnOk, IfSome};
+ghost use Rattle.std.specs.Prelude.{◌≡◌, ◌≤◌, ◌<◌, ◌+◌, true, false, [], None, length, take, IfOk};
+ghost use Rattle.std.specs.Prelude.{IfErr, OnErr, OnOk, IfSome};
 ghost use Rattle.std.specs.Io.KnownBytes.{Consumes, IsAtEnd, Appends};
 ghost use Rattle.byteorder.specs.Endian.{big_bytes};
 ghost use Rattle.streams.specs.Pieces.{AppendsSome};
@@ -68,8 +69,9 @@ fn read_length<R: Read>(reader: &mut R) -> Result<Option<usize>, FrameFault>
     Ok(Some(length))
 }
 
-/// The next datagram, or `None` at the end. `CutLength`, `CutDatagram` and `TooLong` tell why none stands there, `Io` that
-/// the reader has failed, which a sound one never does. After a fault the caller stops reading.
+/// The next datagram, or `None` at the end. `CutLength`, `CutDatagram` and `TooLong` tell why none
+/// stands there, `Io` that the reader has failed, which a sound one never does. After a fault the
+/// caller stops reading.
 pub fn read_next<R: Read>(alloc: Global, reader: &mut R) -> Result<Option<Vec<u8>>, FrameFault>
     // Just its frame is consumed.
     ensures some { IfOk result (λ o. IfSome o (λ d.
@@ -100,8 +102,8 @@ pub fn read_next<R: Read>(alloc: Global, reader: &mut R) -> Result<Option<Vec<u8
     Ok(Some(datagram))
 }
 
-/// Writes a datagram's frame. `Io` comes only where the writer has failed, and never where it has room for the frame. It
-/// has a beginning of it then.
+/// Writes a datagram's frame. `Io` comes only where the writer has failed, and never where it has
+/// room for the frame. It has a beginning of it then.
 pub fn write_one<W: Write>(writer: &mut W, datagram: &[u8]) -> Result<(), FrameFault>
     requires { length datagram.now ≤ most_bytes }
     ensures ok { OnOk result

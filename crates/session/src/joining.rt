@@ -44,9 +44,9 @@ fn push_round(joined: &mut Session, sessions: &[Session], place: usize) -> Resul
 }
 
 impl Session {
-    /// All datagrams of the first of these sessions, then all of the second, and so on; with `turns` one of each in turn, in
-    /// the order of the sessions, those that have ended being passed over. Of no sessions it is the empty one. The only
-    /// fault is `NoMemory`.
+    /// All datagrams of the first of these sessions, then all of the second, and so on; with
+    /// `turns` one of each in turn, in the order of the sessions, those that have ended being
+    /// passed over. Of no sessions it is the empty one. The only fault is `NoMemory`.
     pub fn join(alloc: Global, sessions: &[Session], turns: bool) -> Result<Session, FrameFault>
         ensures joined { IfOk result (λ s. s ≡ joined turns sessions.now) }
         ensures fault { IfErr result (λ e. e ≡ FrameFault.NoMemory) }

@@ -1,8 +1,11 @@
 //! A session as the list of its datagrams.
-ghost use Rattle.std.specs.Prelude.{◌≡◌, ◌==◌, ◌≤◌, ◌<◌, true, false, ◌∷◌, ◌++◌, [], ℕ, None, Some, length, map, OnOk, OnErr, IfErr, IfOk, IfSome, slice_index, slice_index_or};
+ghost use Rattle.std.specs.Prelude.{◌≡◌, ◌==◌, ◌≤◌, ◌<◌, true, false, ◌∷◌, ◌++◌, [], ℕ, None, Some};
+ghost use Rattle.std.specs.Prelude.{length, map, OnOk, OnErr, IfErr, IfOk, IfSome, slice_index};
+ghost use Rattle.std.specs.Prelude.{slice_index_or};
 ghost use Rattle.std.specs.Io.KnownBytes.{Appends, IsAtEnd};
 ghost use Rattle.streams.specs.Pieces.{AppendsSome};
-ghost use Rattle.session.specs.Frames.{most_bytes, frames, IsDatagram, AreDatagrams, IsFramed, IsSessionFault};
+ghost use Rattle.session.specs.Frames.{most_bytes, frames, IsDatagram, AreDatagrams, IsFramed};
+ghost use Rattle.session.specs.Frames.{IsSessionFault};
 ghost use Rattle.session.specs.Bounds.{begin};
 ghost use Rattle.session.specs.Buffer.{AreEnds};
 
@@ -112,8 +115,8 @@ impl Session {
         }
     }
 
-    /// All datagrams up to the reader's end. `CutLength`, `CutDatagram` and `TooLong` tell what follows whole frames, `Io`
-    /// that the reader has failed, which a sound one never does.
+    /// All datagrams up to the reader's end. `CutLength`, `CutDatagram` and `TooLong` tell what
+    /// follows whole frames, `Io` that the reader has failed, which a sound one never does.
     pub fn read<R: Read>(alloc: Global, reader: &mut R) -> Result<Session, FrameFault>
         // All that was left is the session's frames.
         ensures ok { IfOk result (λ s. IfSome (R.remaining reader.old) (IsFramed s)) }
@@ -134,8 +137,8 @@ impl Session {
         }
     }
 
-    /// Writes all frames. `Io` comes only where the writer has failed, and never where it has room for them. It has a
-    /// beginning of them then.
+    /// Writes all frames. `Io` comes only where the writer has failed, and never where it has room
+    /// for them. It has a beginning of them then.
     pub fn write<W: Write>(&self, writer: &mut W) -> Result<(), FrameFault>
         ensures ok { OnOk result
             (Appends (W.contents writer.old) (W.contents writer.new) (frames self.now)) }

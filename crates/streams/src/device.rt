@@ -1,5 +1,6 @@
 //! A reader or a writer of the standard library as one of ours.
-ghost use Rattle.std.specs.Prelude.{◌≡◌, ◌<◌, ◌≤◌, ◌+◌, None, true, false, ◌^◌, ◌-◌, [], length, IfOk, OnOk, OnErr, is_err};
+ghost use Rattle.std.specs.Prelude.{◌≡◌, ◌<◌, ◌≤◌, ◌+◌, None, true, false, ◌^◌, ◌-◌, [], length};
+ghost use Rattle.std.specs.Prelude.{IfOk, OnOk, OnErr, is_err};
 ghost use Rattle.std.specs.Io.KnownBytes.{ReadConsumes, WriteAppends, Keeps};
 ghost use Rattle.std.specs.Io.Buffered.{writer_buffer, writer_contents};
 
@@ -9,9 +10,9 @@ use std::io::{self, BufWriter, Write as _};
 // The most bytes that a device gives in all.
 const MOST: u64 = (1 << 63) - 1;
 
-/// A reader or writer of the standard library. Any error, an interruption too, and a write that takes nothing make it
-/// fail for good, and so does the end of 2^63 - 1 bytes. What it holds is not told, but each call does to the inner
-/// reader or writer what that one promises.
+/// A reader or writer of the standard library. Any error, an interruption too, and a write that
+/// takes nothing make it fail for good, and so does the end of 2^63 - 1 bytes. What it holds is not
+/// told, but each call does to the inner reader or writer what that one promises.
 #[derive(Drop)]
 pub struct Device<T> {
     inner: T,
@@ -98,8 +99,8 @@ impl<T: io::Read> Read for Device<T> {
 }
 
 impl<T: io::Write + Drop> Device<BufWriter<T>> {
-    /// Passes on what the buffer holds back. At Ok it is empty, and the writer behind it has all. An error makes the device
-    /// fail for good.
+    /// Passes on what the buffer holds back. At Ok it is empty, and the writer behind it has all.
+    /// An error makes the device fail for good.
     pub fn flush(&mut self) -> Result<(), Failed>
         ensures passed { OnOk result (writer_buffer self.new.inner ≡ []) }
         ensures inner { Keeps (writer_contents T.contents self.old.inner)

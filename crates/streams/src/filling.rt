@@ -1,12 +1,13 @@
 //! Filling a buffer, and writing all of one, in as many pieces as it takes.
-ghost use Rattle.std.specs.Prelude.{◌≡◌, ◌≤◌, ◌<◌, ◌+◌, true, false, length, take, IfOk, OnErr, OnOk};
+ghost use Rattle.std.specs.Prelude.{◌≡◌, ◌≤◌, ◌<◌, ◌+◌, true, false, length, take, IfOk, OnErr};
+ghost use Rattle.std.specs.Prelude.{OnOk};
 ghost use Rattle.std.specs.Io.KnownBytes.{Consumes, IsAtEnd, Appends};
 ghost use Rattle.streams.specs.Pieces.{AppendsSome};
 
 use crate::io::{Failed, Read, Write};
 
-/// Fills `buf` as far as the reader goes, and answers how far: less than all of it only at the end. `Failed` comes only
-/// where the reader has failed, and never from a sound one.
+/// Fills `buf` as far as the reader goes, and answers how far: less than all of it only at the end.
+/// `Failed` comes only where the reader has failed, and never from a sound one.
 pub fn fill<R: Read>(reader: &mut R, buf: &mut [u8]) -> Result<usize, Failed>
     ensures bound { IfOk result (λ n. n ≤ length buf.old) }
     ensures bytes { IfOk result (λ n.
@@ -28,8 +29,8 @@ pub fn fill<R: Read>(reader: &mut R, buf: &mut [u8]) -> Result<usize, Failed>
     Ok(at)
 }
 
-/// Writes all of `bytes`, in as many pieces as the writer takes. `Failed` comes only where the writer has failed, and
-/// never where it has room for them. It has a beginning of them then.
+/// Writes all of `bytes`, in as many pieces as the writer takes. `Failed` comes only where the
+/// writer has failed, and never where it has room for them. It has a beginning of them then.
 pub fn write_all<W: Write>(writer: &mut W, bytes: &[u8]) -> Result<(), Failed>
     ensures ok { OnOk result
         (Appends (W.contents writer.old) (W.contents writer.new) bytes.now) }

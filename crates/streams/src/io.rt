@@ -1,5 +1,6 @@
 //! What a reader and a writer are.
-ghost use Rattle.std.specs.Prelude.{◌≡◌, ◌<◌, ◌≤◌, ◌+◌, ℕ, List, Option, Bool, true, false, length, IfOk, OnOk, OnErr};
+ghost use Rattle.std.specs.Prelude.{◌≡◌, ◌<◌, ◌≤◌, ◌+◌, ℕ, List, Option, Bool, true, false, length};
+ghost use Rattle.std.specs.Prelude.{IfOk, OnOk, OnErr};
 ghost use Rattle.std.specs.Io.KnownBytes.{ReadConsumes, WriteAppends};
 
 /// A read or a write that failed. It moved no byte.
@@ -20,8 +21,8 @@ pub trait Read {
     /// Whether no call can fail. That never changes.
     ghost sound: { Self → Bool };
 
-    /// Reads into the front of `buf`, and answers how many bytes. Zero for a `buf` that isn't empty is the end. `Failed`
-    /// never comes from a sound reader; from then on each call fails.
+    /// Reads into the front of `buf`, and answers how many bytes. Zero for a `buf` that isn't empty
+    /// is the end. `Failed` never comes from a sound reader; from then on each call fails.
     fn read(&mut self, buf: &mut [u8]) -> Result<usize, Failed>
         ensures bound { IfOk result (λ n. n ≤ length buf.old) }
         ensures bytes { ReadConsumes (remaining self.old) (remaining self.new) result buf.new }
@@ -43,8 +44,8 @@ pub trait Write {
     /// So many bytes more are taken for sure, before a call fails.
     ghost room: { Self → ℕ };
 
-    /// Writes a front part of `bytes`, and answers how many: at least one, unless `bytes` is empty. `Failed` comes only
-    /// where there is no room that is sure; from then on each call fails.
+    /// Writes a front part of `bytes`, and answers how many: at least one, unless `bytes` is empty.
+    /// `Failed` comes only where there is no room that is sure; from then on each call fails.
     fn write(&mut self, bytes: &[u8]) -> Result<usize, Failed>
         ensures bound { IfOk result (λ n. n ≤ length bytes.now) }
         ensures some { IfOk result (λ n. 0 < length bytes.now → 0 < n) }

@@ -3,7 +3,8 @@
 //! - `io`: what a reader and a writer promise;
 //! - `device`: the standard library's as ours;
 //! - `memory`: those over bytes in memory;
-//! - `filling` and `whole`: the loops over them: a buffer filled, all bytes written, a reader read to its end.
+//! - `filling` and `whole`: the loops over them: a buffer filled, all bytes written, a reader read
+//!   to its end.
 #![tactic(auto)]
 
 mod device;

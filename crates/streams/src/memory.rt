@@ -1,5 +1,6 @@
 //! A reader and a writer in memory.
-ghost use Rattle.std.specs.Prelude.{◌≡◌, ◌<◌, ◌≤◌, ◌+◌, ◌^◌, ◌-◌, [], Some, true, false, min, length, IsOk, IfOk, OnOk, OnErr};
+ghost use Rattle.std.specs.Prelude.{◌≡◌, ◌<◌, ◌≤◌, ◌+◌, ◌^◌, ◌-◌, [], Some, true, false, min};
+ghost use Rattle.std.specs.Prelude.{length, IsOk, IfOk, OnOk, OnErr};
 ghost use Rattle.std.specs.Io.KnownBytes.{ReadConsumes, WriteAppends};
 
 use crate::io::{Failed, Read, Write};
@@ -52,8 +53,8 @@ impl Read for Pieces<'_> {
     }
 }
 
-/// A writer that keeps what is written, and takes `most` bytes at a time at most. It fails where `room` bytes were
-/// written and more come, and where there is no memory for them.
+/// A writer that keeps what is written, and takes `most` bytes at a time at most. It fails where
+/// `room` bytes were written and more come, and where there is no memory for them.
 #[derive(Drop)]
 pub struct Sink {
     bytes: Vec<u8>,
@@ -93,7 +94,8 @@ impl Sink {
         }
     }
 
-    /// A writer of `room` bytes, `most` at a time. There is memory for all of them, so that it fails only behind them.
+    /// A writer of `room` bytes, `most` at a time. There is memory for all of them, so that it
+    /// fails only behind them.
     pub fn reserved(alloc: Global, most: usize, room: usize) -> Result<Sink, AllocError>
         requires { 0 < most }
         ensures empty { IfOk result (λ sink. sink.bytes.items ≡ []) }

@@ -14,8 +14,8 @@ pub enum ReadFault {
     NoMemory,
 }
 
-/// All bytes up to the end. They are read piece by piece, so that memory grows with what comes. `Io` comes only where the
-/// reader has failed, and never from a sound one.
+/// All bytes up to the end. They are read piece by piece, so that memory grows with what comes.
+/// `Io` comes only where the reader has failed, and never from a sound one.
 pub fn read_to_end<R: Read>(alloc: Global, reader: &mut R) -> Result<Vec<u8>, ReadFault>
     ensures ok { IfOk result (λ bytes.
         Consumes (R.remaining reader.old) (R.remaining reader.new) bytes.items) }

@@ -29,17 +29,20 @@ HasNoErrors errors = errors.after ≡ errors.before
 
 -- there is no memory, and this was printed, unless printing has failed
 abbrev pub IsRefusedMemory : World → World → ℕ → Type 0
-IsRefusedMemory old new status = (status ≡ 1) × ((new.failed ≡ true) ⊎ Appends old.printed new.printed (codes "fault memory\n"))
+IsRefusedMemory old new status =
+    (status ≡ 1) × ((new.failed ≡ true) ⊎ Appends old.printed new.printed (codes "fault memory\n"))
 
--- What is told of a line that makes no request, and the status: help or the version is printed, with 0, or 1 where that has
--- failed; of a refused line a text goes to the output for errors, with 2, whether that has failed or not; or there is no
--- memory. No file changes, and none is created.
+-- What is told of a line that makes no request, and the status: help or the version is printed,
+-- with 0, or 1 where that has failed; of a refused line a text goes to the output for errors, with
+-- 2, whether that has failed or not; or there is no memory. No file changes, and none is created.
 abbrev pub IsExplained : Usage → World → World → Errors → ℕ → Type 0
 IsExplained (Help error) old new errors status =
     HasNoErrors errors
-    × (((status ≡ 0) × AppendsText old.printed new.printed) ⊎ ((status ≡ 1) × (new.failed ≡ true)) ⊎ IsRefusedMemory old new status)
+    × (((status ≡ 0) × AppendsText old.printed new.printed) ⊎ ((status ≡ 1) × (new.failed ≡ true))
+    ⊎ IsRefusedMemory old new status)
 IsExplained (Line error) old new errors status =
-    ((status ≡ 2) × (new.printed ≡ old.printed) × ((errors.failed ≡ true) ⊎ AppendsText errors.before errors.after))
+    ((status ≡ 2) × (new.printed ≡ old.printed)
+    × ((errors.failed ≡ true) ⊎ AppendsText errors.before errors.after))
     ⊎ (HasNoErrors errors × IsRefusedMemory old new status)
 IsExplained NoMemory old new errors status = HasNoErrors errors × IsRefusedMemory old new status
 
@@ -52,7 +55,8 @@ IsOutcomeOf (Ok request) old new errors status = IsRun old new request status ×
 IsOutcomeOf (Err usage) old new errors status = Explains usage old new errors status
 
 -- the answer to the words, by what the grammar makes of them
-pub record IsAnswer (words : List (Bor (List ℕ))) (old new : World) (errors : Errors) (status : ℕ) : Type 0 where
+pub record IsAnswer (words : List (Bor (List ℕ))) (old new : World) (errors : Errors)
+    (status : ℕ) : Type 0 where
   pub result : Result Request Usage
   pub read : (orders : _) × IsOrders orders × Answers orders (map (λ word. word.now) words) result
   pub outcome : IsOutcomeOf result old new errors status

@@ -9,8 +9,10 @@ use Rattle.tool.specs.declared.output.Unwritten.{Unwritten}
 use Rattle.tool.specs.declared.output.Unwritten.TheVariants.{Writing, Fault}
 
 -- a certificate was written, of so many blocks
-abbrev pub WritesCertificate : List ℕ → Fti → Identity → ℕ → Option (List ℕ) → Option (List ℕ) → Type 0
-WritesCertificate object f who count old new = IsCertifiedTo object f who old new × (count ≡ block_count f)
+abbrev pub WritesCertificate : List ℕ → Fti → Identity → ℕ → Option (List ℕ) → Option (List ℕ)
+    → Type 0
+WritesCertificate object f who count old new =
+    IsCertifiedTo object f who old new × (count ≡ block_count f)
 
 -- writing has failed, or there is no memory
 abbrev pub IsUncertified : Unwritten → Type 0
@@ -20,5 +22,6 @@ IsUncertified (Fault fault) = ⊥
 
 -- the same of an object that is read: it may be broken too
 abbrev pub IsUncertifiedFrom : Fti → Option (List ℕ) → Bool → List ℕ → Unwritten → Type 0
-IsUncertifiedFrom f left sound name (Fault (File read)) = IsObjectBroken f left sound name (File read)
+IsUncertifiedFrom f left sound name (Fault (File read)) =
+    IsObjectBroken f left sound name (File read)
 IsUncertifiedFrom f left sound name unwritten = IsUncertified unwritten

@@ -20,13 +20,15 @@ use Rattle.tool.specs.declared.fault.Fault.TheVariants.{Memory, Frame}
 -- behind datagrams that have no reason against them comes no frame, or there is no memory
 abbrev pub IsNotChecked : Identity → Bool → Option (List ℕ) → List ℕ → Certificate → Fault → Type 0
 IsNotChecked who sound opened object z (Frame fault) =
-    (left : Option (List ℕ)) × (failed : Bool) × IsRefusedBehind who fault opened left failed object z
+    (left : Option (List ℕ)) × (failed : Bool)
+    × IsRefusedBehind who fault opened left failed object z
     × (fault ≡ FrameIo → sound ≡ false)
 IsNotChecked who sound opened object z Memory = ⊤
 IsNotChecked who sound opened object z fault = ⊥
 
 -- the lines and the status of the verdict on the frames, and the picture
-pub record TellsCheck (r : CheckRequest) (old new : Option (List ℕ)) (object : List ℕ) (z : Certificate) (answered : Answered) : Type 0 where
+pub record TellsCheck (r : CheckRequest) (old new : Option (List ℕ)) (object : List ℕ)
+    (z : Certificate) (answered : Answered) : Type 0 where
   pub verdict : Verdict
   pub checked : IsCheckedFrom r.identity old new object z verdict
   pub text : text_of answered.done.told ≡ verdict_text verdict
@@ -34,10 +36,12 @@ pub record TellsCheck (r : CheckRequest) (old new : Option (List ℕ)) (object :
   pub picture : HasDrawn r.picture verdict answered.picture
 
 -- those of what the files of a request hold
-pub record TellsRequest (files : Option Files) (r : CheckRequest) (answered : Answered) : Type 0 where
+pub record TellsRequest (files : Option Files) (r : CheckRequest)
+    (answered : Answered) : Type 0 where
   pub opened : Option (List ℕ)
   pub left : Option (List ℕ)
   pub object : List ℕ
   pub z : Certificate
-  pub read : HaveValues files (inputs_of (Check r)) (Opened opened ∷ Bytes object ∷ Polynomials z ∷ [])
+  pub read : HaveValues files (inputs_of (Check r))
+      (Opened opened ∷ Bytes object ∷ Polynomials z ∷ [])
   pub tells : TellsCheck r opened left object z answered

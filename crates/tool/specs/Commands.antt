@@ -1,5 +1,6 @@
 -- What each command gives of what it reads.
-use Rattle.std.specs.Prelude.{◌≡◌, ◌⊎◌, ◌<◌, ℕ, Bool, true, List, [], ◌∷◌, ◌++◌, Option, Some, None, IsSome, IfSome, length, map, option_map, codes, Ok, Err}
+use Rattle.std.specs.Prelude.{◌≡◌, ◌⊎◌, ◌<◌, ℕ, Bool, true, List, [], ◌∷◌, ◌++◌, Option, Some, None}
+use Rattle.std.specs.Prelude.{IsSome, IfSome, length, map, option_map, codes, Ok, Err}
 use Rattle.std.specs.Borrow.{Bor}
 use Rattle.lists.specs.Selection.{rest, is_among, first_outside}
 use Rattle.partition.specs.Fti.{Fti, IsValidFti, fti_from, block_count}
@@ -11,13 +12,15 @@ use Rattle.session.specs.declared.frame.FrameFault.TheVariants.{Io as FrameIo, N
 use Rattle.alc.specs.Reading.{Reading}
 use Rattle.reception.specs.declared.scope.Identity.{Identity}
 use Rattle.reception.specs.Reception.{ReadAll}
-use Rattle.reception.specs.Answer.{Answer, Empty, Fault as WrongAt, NotCode, Missing, Object, IsAnswer}
+use Rattle.reception.specs.Answer.{Answer, Empty, Fault as WrongAt, NotCode, Missing, Object}
+use Rattle.reception.specs.Answer.{IsAnswer}
 use Rattle.cert.specs.Certificate.{Certificate, IsCertificate, is_for, named_as, certificate_text}
 use Rattle.cert.specs.Converting.{IsOfOther}
 use Rattle.cert.specs.FromReader.{IsCheckedFrom, IsRefusedBehind}
 use Rattle.cert.specs.Twins.{IsTwinOfSession}
 use Rattle.cert.specs.Verdict.{IsVerdict, GivesObject}
-use Rattle.cert.specs.declared.certificate.CertFault.TheVariants.{Io as CertificateIo, OtherIdentity}
+use Rattle.cert.specs.declared.certificate.CertFault.TheVariants.{Io as CertificateIo}
+use Rattle.cert.specs.declared.certificate.CertFault.TheVariants.{OtherIdentity}
 use Rattle.cert.specs.declared.verdict.Reason.TheVariants.{Thin}
 use Rattle.cert.specs.declared.verdict.Verdict.{Verdict}
 use Rattle.cert.specs.declared.verdict.Verdict.TheVariants.{Yes, No}
@@ -27,18 +30,25 @@ use Rattle.coder.specs.declared.sending.SendFault.TheVariants.{SymbolTooLong, Io
 use Rattle.request.specs.declared.requests.Sizes.{Sizes}
 use Rattle.request.specs.declared.requests.Sending.{Sending}
 use Rattle.request.specs.declared.requests.Request.{Request}
-use Rattle.request.specs.declared.requests.Request.TheVariants.{Check, Twin, Show, Encode, Certify, Convert, Decode, Follow, Drop, Salvage, Join}
+use Rattle.request.specs.declared.requests.Request.TheVariants.{Check, Twin, Show, Encode, Certify}
+use Rattle.request.specs.declared.requests.Request.TheVariants.{Convert, Decode, Follow, Drop}
+use Rattle.request.specs.declared.requests.Request.TheVariants.{Salvage, Join}
 use Rattle.tool.specs.World.{World, Holds, MayFail}
-use Rattle.tool.specs.Inputs.{Input, AnObject, ASession, ACertificate, AStream, Value, Bytes, Datagrams, Polynomials, Opened, HasValue, HaveValues}
-use Rattle.tool.specs.Lines.{line_of, count_line, short_text, numbered, verdict_text, answer_text, reading_text}
+use Rattle.tool.specs.Inputs.{Input, AnObject, ASession, ACertificate, AStream, Value, Bytes}
+use Rattle.tool.specs.Inputs.{Datagrams, Polynomials, Opened, HasValue, HaveValues}
+use Rattle.tool.specs.Lines.{line_of, count_line, short_text, numbered, verdict_text, answer_text}
+use Rattle.tool.specs.Lines.{reading_text}
 use Rattle.tool.specs.Following.{IsHeard, Ends, ends_text}
 use Rattle.tool.specs.declared.fault.Fault.{Fault}
-use Rattle.tool.specs.declared.fault.Fault.TheVariants.{File, Frame, Certificate as NoCertificate, Fti as NoFti, Send}
+use Rattle.tool.specs.declared.fault.Fault.TheVariants.{File, Frame, Certificate as NoCertificate}
+use Rattle.tool.specs.declared.fault.Fault.TheVariants.{Fti as NoFti, Send}
 
 -- what a request reads, in order
 abbrev pub inputs_of : Request → List Input
-inputs_of (Check r) = AStream r.session.now ∷ AnObject r.object.now ∷ ACertificate r.certificate.now ∷ []
-inputs_of (Twin r) = ASession r.session.now ∷ AnObject r.object.now ∷ ACertificate r.certificate.now ∷ []
+inputs_of (Check r) =
+    AStream r.session.now ∷ AnObject r.object.now ∷ ACertificate r.certificate.now ∷ []
+inputs_of (Twin r) =
+    ASession r.session.now ∷ AnObject r.object.now ∷ ACertificate r.certificate.now ∷ []
 inputs_of (Show r) = ASession r.session.now ∷ []
 inputs_of (Encode r) = AnObject r.object.now ∷ []
 inputs_of (Certify r) = AnObject r.object.now ∷ []
@@ -85,7 +95,8 @@ pub record Outcome : Type 0 where
   pub output : Option (List ℕ)
 
 abbrev pub IsOutcome : List ℕ → ℕ → Option (List ℕ) → Outcome → Type 0
-IsOutcome text status output outcome = (outcome.text ≡ text) × (outcome.status ≡ status) × (outcome.output ≡ output)
+IsOutcome text status output outcome =
+    (outcome.text ≡ text) × (outcome.status ≡ status) × (outcome.output ≡ output)
 
 abbrev pub status_of : Verdict → ℕ
 status_of (Yes report) = 0
@@ -98,11 +109,13 @@ IsDrawn picture verdict output = output ≡ None
 
 -- where a block is short, another object that agrees with all datagrams
 abbrev pub GivesTwin : Identity → Verdict → Fti → List (List ℕ) → List ℕ → Outcome → Type 0
-GivesTwin who (Yes report) f datagrams object outcome = IsOutcome (line_of (codes "no twin")) 1 None outcome
+GivesTwin who (Yes report) f datagrams object outcome =
+    IsOutcome (line_of (codes "no twin")) 1 None outcome
 GivesTwin who (No (Thin block have need)) f datagrams object outcome =
     (other : List ℕ) × IsTwinOfSession who f block datagrams object other
     × IsOutcome (line_of (short_text (codes "twin block") block have need)) 0 (Some other) outcome
-GivesTwin who (No reason) f datagrams object outcome = IsOutcome (verdict_text (No reason)) 1 None outcome
+GivesTwin who (No reason) f datagrams object outcome =
+    IsOutcome (verdict_text (No reason)) 1 None outcome
 
 abbrev pub shown_status : List Reading → ℕ
 shown_status [] = 0
@@ -122,20 +135,24 @@ abbrev pub GivesSession : Sending → List ℕ → Fti → Outcome → Type 0
 GivesSession s object f outcome =
     IsValidFti f × CanBeSent object f × (datagrams : List (List ℕ))
     × IsSessionOf object f s.identity.tsi s.identity.toi s.fti_every s.order datagrams
-    × IsOutcome (count_line (codes "encoded") (length (pairs s.order f)) (codes " datagrams")) 0 (Some (frames datagrams)) outcome
+    × IsOutcome (count_line (codes "encoded") (length (pairs s.order f)) (codes " datagrams")) 0
+    (Some (frames datagrams)) outcome
 
 -- a certificate of the object, and of every session that is sent of it
 abbrev pub GivesCertificate : Identity → List ℕ → Fti → Outcome → Type 0
 GivesCertificate who object f outcome =
-    (z : Certificate) × IsCertificate z × (z.fti ≡ f) × GivesObject object z × CertifiesSent object z
-    × IsOutcome (count_line (codes "certified") (block_count f) (codes " blocks")) 0 (Some (certificate_text (named_as who z))) outcome
+    (z : Certificate) × IsCertificate z × (z.fti ≡ f) × GivesObject object z
+    × CertifiesSent object z
+    × IsOutcome (count_line (codes "certified") (block_count f) (codes " blocks")) 0
+    (Some (certificate_text (named_as who z))) outcome
 
 abbrev pub GivesDatagrams : List ℕ → List (List ℕ) → Outcome → Type 0
 GivesDatagrams name datagrams outcome =
-    IsOutcome (count_line name (length datagrams) (codes " datagrams")) 0 (Some (frames datagrams)) outcome
+    IsOutcome (count_line name (length datagrams) (codes " datagrams")) 0
+    (Some (frames datagrams)) outcome
 
--- The datagrams of the frames that these bytes begin with, all of them: the bytes end there, and the
--- status is 0; or no frame follows, and it is 1.
+-- The datagrams of the frames that these bytes begin with, all of them: the bytes end there, and
+-- the status is 0; or no frame follows, and it is 1.
 abbrev pub IsSalvaged : List (List ℕ) → ℕ → List ℕ → Type 0
 IsSalvaged datagrams status x =
     (IsFramed datagrams x × (status ≡ 0))
@@ -157,25 +174,32 @@ object_of answer = None
 -- what comes of the values that a request's inputs give
 abbrev pub Gives : Request → List Value → Outcome → Type 0
 Gives (Check r) (Opened opened ∷ Bytes object ∷ Polynomials z ∷ []) outcome =
-    (verdict : Verdict) × (left : Option (List ℕ)) × IsCheckedFrom r.identity opened left object z verdict
-    × (outcome.text ≡ verdict_text verdict) × (outcome.status ≡ status_of verdict) × IsDrawn r.picture verdict outcome.output
+    (verdict : Verdict) × (left : Option (List ℕ))
+    × IsCheckedFrom r.identity opened left object z verdict
+    × (outcome.text ≡ verdict_text verdict) × (outcome.status ≡ status_of verdict)
+    × IsDrawn r.picture verdict outcome.output
 Gives (Twin r) (Datagrams datagrams ∷ Bytes object ∷ Polynomials z ∷ []) outcome =
     (verdict : Verdict) × IsVerdict r.identity datagrams object z verdict
     × GivesTwin r.identity verdict z.fti datagrams object outcome
 Gives (Show r) (Datagrams datagrams ∷ []) outcome =
     (readings : List Reading) × ReadAll datagrams readings
     × IsOutcome (numbered reading_text 0 readings) (shown_status readings) None outcome
-Gives (Encode r) (Bytes object ∷ []) outcome = GivesSession r.sending object (sized r.sending.sizes (length object)) outcome
-Gives (Certify r) (Bytes object ∷ []) outcome = GivesCertificate r.identity object (sized r.sizes (length object)) outcome
+Gives (Encode r) (Bytes object ∷ []) outcome =
+    GivesSession r.sending object (sized r.sending.sizes (length object)) outcome
+Gives (Certify r) (Bytes object ∷ []) outcome =
+    GivesCertificate r.identity object (sized r.sizes (length object)) outcome
 Gives (Convert r) (Polynomials z ∷ []) outcome =
     (is_for r.identity z.name ≡ true)
-    × IsOutcome (count_line (codes "converted") (block_count z.fti) (codes " blocks")) 0 (Some (certificate_text (named_as r.identity z))) outcome
+    × IsOutcome (count_line (codes "converted") (block_count z.fti) (codes " blocks")) 0
+    (Some (certificate_text (named_as r.identity z))) outcome
 Gives (Decode r) (Datagrams datagrams ∷ []) outcome =
     (answer : Answer) × IsAnswer r.identity datagrams answer
     × IsOutcome (line_of (answer_text answer)) (answer_status answer) (object_of answer) outcome
 Gives (Follow r) (Opened opened ∷ []) outcome =
-    (left : Option (List ℕ)) × (read : ℕ) × (taken : List (List ℕ)) × (lines : List ℕ) × (answer : Answer)
-    × IsHeard r.identity opened left read taken lines × IsAnswer r.identity taken answer × Ends answer left
+    (left : Option (List ℕ)) × (read : ℕ) × (taken : List (List ℕ)) × (lines : List ℕ)
+    × (answer : Answer)
+    × IsHeard r.identity opened left read taken lines × IsAnswer r.identity taken answer
+    × Ends answer left
     × IsOutcome (lines ++ ends_text answer read) (answer_status answer) (object_of answer) outcome
 Gives (Drop r) (Datagrams datagrams ∷ []) outcome =
     (first_outside (length datagrams) r.places.items ≡ None)
@@ -185,7 +209,8 @@ Gives (Salvage r) (Opened opened ∷ []) outcome =
     × IsOutcome (count_line (codes "kept") (length datagrams) (codes " datagrams")) status
     (Some (frames datagrams)) outcome
 Gives (Join r) values outcome =
-    (lists : List (List (List ℕ))) × (values ≡ map Datagrams lists) × GivesDatagrams (codes "joined") (joined r.turns lists) outcome
+    (lists : List (List (List ℕ))) × (values ≡ map Datagrams lists)
+    × GivesDatagrams (codes "joined") (joined r.turns lists) outcome
 Gives r values outcome = ⊥
 
 -- Why nothing does, though the inputs are there, and what was printed before: a frame can't be read
@@ -193,9 +218,12 @@ Gives r values outcome = ⊥
 -- another's; a session hasn't a place.
 abbrev pub Refuses : World → Request → List ℕ → Fault → Type 0
 Refuses world (Check r) text (Frame fault) =
-    (opened : Option (List ℕ)) × (object : List ℕ) × (z : Certificate) × (left : Option (List ℕ)) × (failed : Bool)
-    × HaveValues world.files (inputs_of (Check r)) (Opened opened ∷ Bytes object ∷ Polynomials z ∷ [])
-    × IsRefusedBehind r.identity fault opened left failed object z × (fault ≡ FrameIo → MayFail world)
+    (opened : Option (List ℕ)) × (object : List ℕ) × (z : Certificate) × (left : Option (List ℕ))
+    × (failed : Bool)
+    × HaveValues world.files (inputs_of (Check r))
+    (Opened opened ∷ Bytes object ∷ Polynomials z ∷ [])
+    × IsRefusedBehind r.identity fault opened left failed object z
+    × (fault ≡ FrameIo → MayFail world)
 Refuses world (Show r) text (Frame fault) =
     (opened : Option (List ℕ)) × (left : Option (List ℕ)) × (readings : List Reading)
     × (new : Option (List ℕ)) × (failed : Bool)
@@ -203,8 +231,10 @@ Refuses world (Show r) text (Frame fault) =
     × (text ≡ numbered reading_text 0 readings)
     × IsReadFault fault left new failed × (fault ≡ FrameIo → MayFail world)
 Refuses world (Follow r) text (Frame fault) =
-    (opened : Option (List ℕ)) × (left : Option (List ℕ)) × (new : Option (List ℕ)) × (failed : Bool) × (read : ℕ) × (taken : List (List ℕ))
-    × HasValue world.files (AStream r.session.now) (Opened opened) × IsHeard r.identity opened left read taken text
+    (opened : Option (List ℕ)) × (left : Option (List ℕ)) × (new : Option (List ℕ))
+    × (failed : Bool) × (read : ℕ) × (taken : List (List ℕ))
+    × HasValue world.files (AStream r.session.now) (Opened opened)
+    × IsHeard r.identity opened left read taken text
     × IsReadFault fault left new failed × (fault ≡ FrameIo → MayFail world)
 Refuses world (Encode r) text (NoFti fault) =
     (object : List ℕ) × HasValue world.files (AnObject r.object.now) (Bytes object)
@@ -213,9 +243,11 @@ Refuses world (Encode r) text (Send SymbolTooLong) = most_symbol_bytes < r.sendi
 Refuses world (Certify r) text (NoFti fault) =
     (object : List ℕ) × HasValue world.files (AnObject r.object.now) (Bytes object)
     × (fti_fault (sized r.sizes (length object)) ≡ Some fault)
-Refuses world (Convert r) text (NoCertificate OtherIdentity) = Holds world.files r.certificate.now (IsOfOther r.identity)
+Refuses world (Convert r) text (NoCertificate OtherIdentity) =
+    Holds world.files r.certificate.now (IsOfOther r.identity)
 Refuses world (Drop r) text (Frame (NoSuchPlace place)) =
-    (datagrams : List (List ℕ)) × HasValue world.files (ASession r.session.now) (Datagrams datagrams)
+    (datagrams : List (List ℕ))
+    × HasValue world.files (ASession r.session.now) (Datagrams datagrams)
     × (first_outside (length datagrams) r.places.items ≡ Some place)
 Refuses world (Salvage r) text (Frame FrameIo) = MayFail world
 Refuses world r text fault = ⊥

@@ -10,9 +10,11 @@ use Rattle.tool.specs.declared.output.Unwritten.TheVariants.{Writing, Fault}
 
 -- it has its name, and so many blocks
 abbrev pub Converts : Identity → Option (List ℕ) → Option (List ℕ) → Option (List ℕ) → ℕ → Type 0
-Converts who left old new count = (f : Fti) × IsConverted who f left old new × (count ≡ block_count f)
+Converts who left old new count =
+    (f : Fti) × IsConverted who f left old new × (count ≡ block_count f)
 
--- writing has failed, or what was read is no certificate that can have the name, or the reader has failed
+-- writing has failed, or what was read is no certificate that can have the name, or the reader has
+-- failed
 abbrev pub IsUnconverted : Identity → Option (List ℕ) → Bool → Unwritten → Type 0
 IsUnconverted who left sound Writing = ⊤
 IsUnconverted who left sound (Fault (Certificate e)) =

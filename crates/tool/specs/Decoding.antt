@@ -16,13 +16,15 @@ use Rattle.tool.specs.declared.output.Unwritten.TheVariants.{Writing, Fault}
 
 -- the answer's line and status
 abbrev pub IsToldOf : Answer → Done → Type 0
-IsToldOf answer done = (text_of done.told ≡ line_of (answer_text answer)) × (done.status ≡ answer_status answer)
+IsToldOf answer done =
+    (text_of done.told ≡ line_of (answer_text answer)) × (done.status ≡ answer_status answer)
 
 -- the session's file gives these symbols of an object
 abbrev pub GivesSymbols : Option Files → DecodeRequest → ObjectSymbols → Type 0
 GivesSymbols files r symbols =
     (datagrams : List (List ℕ)) × HasValue files (ASession r.session.now) (Datagrams datagrams)
-    × AreSymbolsOf r.identity datagrams symbols × (object : List ℕ) × IsAnswer r.identity datagrams (Object object)
+    × AreSymbolsOf r.identity datagrams symbols × (object : List ℕ)
+    × IsAnswer r.identity datagrams (Object object)
 
 -- writing has failed, or there is no memory
 abbrev pub IsWriteBroken : Unwritten → Type 0

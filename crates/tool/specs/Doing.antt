@@ -35,7 +35,8 @@ pub record HasStopped (old new : World) (r : Request) (fault : Fault) : Type 0 w
 
 -- it wasn't, for a fault that is to be told, or printing has failed
 abbrev pub IsUndone : World → World → Request → Stop → Type 0
-IsUndone old new r (ByFault fault) = (text : List ℕ) × Appends old.printed new.printed text × IsStopped old new r text fault
+IsUndone old new r (ByFault fault) =
+    (text : List ℕ) × Appends old.printed new.printed text × IsStopped old new r text fault
 IsUndone old new r Unprinted = IsUnprinted old new r
 
 -- why an output isn't created
@@ -44,8 +45,8 @@ IsUncreated world name (Open created) = (created.now ≡ name) × MayFail world
 IsUncreated world name Memory = Unit {0}
 IsUncreated world name fault = ⊥
 
--- Why what was to be written isn't kept: for the fault of what was written, or as writing or keeping has failed, which this
--- fault tells where it isn't want of memory.
+-- Why what was to be written isn't kept: for the fault of what was written, or as writing or
+-- keeping has failed, which this fault tells where it isn't want of memory.
 abbrev pub IsUncommitted : World → Result ℕ Unwritten → Fault → Fault → Type 0
 IsUncommitted world (Err (unwritten.Fault fault)) failure told = told ≡ fault
 IsUncommitted world written failure told = (told ≡ Memory) ⊎ ((told ≡ failure) × MayFail world)

@@ -10,7 +10,8 @@ File = String Global × Vec ℕ Global
 -- what the files hold once these are put among them, one after the other
 unfoldable pub after_files : Files → List File → Files
 after_files held [] = held
-after_files held (file ∷ files) = after_files (with_file held (string_bytes file.0) file.1.items) files
+after_files held (file ∷ files) =
+    after_files (with_file held (string_bytes file.0) file.1.items) files
 
 abbrev pub no_files : Files
 no_files name = None

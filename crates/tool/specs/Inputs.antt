@@ -1,12 +1,17 @@
 -- What a command reads, and why it can't.
 use Rattle.std.specs.Prelude.{◌≡◌, ◌⊎◌, ℕ, List, [], ◌∷◌, Option, Some, None, ⊤, IfSome}
 use Rattle.session.specs.Frames.{IsFramed, StopsAt}
-use Rattle.session.specs.declared.frame.FrameFault.TheVariants.{Io as FrameIo, NoMemory as NoFrameMemory, NoSuchPlace}
+use Rattle.session.specs.declared.frame.FrameFault.TheVariants.{Io as FrameIo}
+use Rattle.session.specs.declared.frame.FrameFault.TheVariants.{NoMemory as NoFrameMemory}
+use Rattle.session.specs.declared.frame.FrameFault.TheVariants.{NoSuchPlace}
 use Rattle.cert.specs.Certificate.{Certificate, IsCertificate, certificate_text, text_fault}
-use Rattle.cert.specs.declared.certificate.CertFault.TheVariants.{Io as CertificateIo, NoMemory as NoCertificateMemory, OtherIdentity}
+use Rattle.cert.specs.declared.certificate.CertFault.TheVariants.{Io as CertificateIo}
+use Rattle.cert.specs.declared.certificate.CertFault.TheVariants.{NoMemory as NoCertificateMemory}
+use Rattle.cert.specs.declared.certificate.CertFault.TheVariants.{OtherIdentity}
 use Rattle.tool.specs.World.{Files, World, Holds, MayFail}
 use Rattle.tool.specs.declared.fault.Fault.{Fault}
-use Rattle.tool.specs.declared.fault.Fault.TheVariants.{Open, File, Memory, Frame, Certificate as NoCertificate}
+use Rattle.tool.specs.declared.fault.Fault.TheVariants.{Open, File, Memory, Frame}
+use Rattle.tool.specs.declared.fault.Fault.TheVariants.{Certificate as NoCertificate}
 
 -- a named file, and what it is read as: a stream is a session that is read frame by frame
 pub data Input : Type 0 where
@@ -31,14 +36,17 @@ name_of (AStream name) = name
 abbrev pub HasValue : Option Files → Input → Value → Type 0
 HasValue files (AnObject name) (Bytes object) = Holds files name (λ bytes. bytes ≡ object)
 HasValue files (ASession name) (Datagrams datagrams) = Holds files name (IsFramed datagrams)
-HasValue files (ACertificate name) (Polynomials z) = IsCertificate z × Holds files name (λ bytes. bytes ≡ certificate_text z)
-HasValue files (AStream name) (Opened remaining) = Holds files name (λ bytes. remaining ≡ Some bytes)
+HasValue files (ACertificate name) (Polynomials z) =
+    IsCertificate z × Holds files name (λ bytes. bytes ≡ certificate_text z)
+HasValue files (AStream name) (Opened remaining) =
+    Holds files name (λ bytes. remaining ≡ Some bytes)
 HasValue files input value = ⊥
 
 -- each gives its own
 abbrev pub HaveValues : Option Files → List Input → List Value → Type 0
 HaveValues files [] [] = ⊤
-HaveValues files (input ∷ inputs) (value ∷ values) = HasValue files input value × HaveValues files inputs values
+HaveValues files (input ∷ inputs) (value ∷ values) =
+    HasValue files input value × HaveValues files inputs values
 HaveValues files inputs values = ⊥
 
 -- each is there, whatever it holds
@@ -53,7 +61,8 @@ IsUnopened world name (Open opened) =
 IsUnopened world name Memory = ⊤
 IsUnopened world name fault = ⊥
 
--- why one gives no value: it doesn't open, or its bytes give none, or reading has failed, where the host may fail
+-- why one gives no value: it doesn't open, or its bytes give none, or reading has failed, where the
+-- host may fail
 abbrev pub IsUnread : World → Input → Fault → Type 0
 IsUnread world (AnObject name) (File read) = (read.now ≡ name) × (MayFail world)
 IsUnread world (ASession name) (Frame FrameIo) = MayFail world
@@ -63,7 +72,8 @@ IsUnread world (ASession name) (Frame fault) = Holds world.files name (StopsAt f
 IsUnread world (ACertificate name) (NoCertificate CertificateIo) = MayFail world
 IsUnread world (ACertificate name) (NoCertificate NoCertificateMemory) = ⊤
 IsUnread world (ACertificate name) (NoCertificate OtherIdentity) = ⊥
-IsUnread world (ACertificate name) (NoCertificate fault) = Holds world.files name (λ bytes. text_fault bytes ≡ Some fault)
+IsUnread world (ACertificate name) (NoCertificate fault) =
+    Holds world.files name (λ bytes. text_fault bytes ≡ Some fault)
 IsUnread world input fault = IsUnopened world (name_of input) fault
 
 -- one doesn't open, and those before it are there
@@ -83,4 +93,5 @@ IsFirstUnread world (input ∷ inputs) fault =
 -- one gives no value, whichever
 abbrev pub IsSomeUnread : World → List Input → Fault → Type 0
 IsSomeUnread world [] fault = ⊥
-IsSomeUnread world (input ∷ inputs) fault = IsUnread world input fault ⊎ IsSomeUnread world inputs fault
+IsSomeUnread world (input ∷ inputs) fault =
+    IsUnread world input fault ⊎ IsSomeUnread world inputs fault

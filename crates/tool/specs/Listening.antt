@@ -27,14 +27,17 @@ use Rattle.tool.specs.declared.fault.Stop.TheVariants.{ByFault, Unprinted}
 abbrev pub HasMadeUp : Receiver → Option (List ℕ) → World → World → ℕ → Type 0
 HasMadeUp receiver opened old new read =
     (left : Option (List ℕ)) × (taken : List (List ℕ)) × (lines : List ℕ) × Stands receiver taken
-    × LeaveNoneShort receiver.identity taken × IsHeard receiver.identity opened left read taken lines
+    × LeaveNoneShort receiver.identity taken
+    × IsHeard receiver.identity opened left read taken lines
     × Appends old.printed new.printed lines
 
 -- all datagrams were read, and leave some block short
 abbrev pub HasHeardAll : Receiver → Option (List ℕ) → World → World → Type 0
 HasHeardAll receiver opened old new =
-    (left : Option (List ℕ)) × (read : ℕ) × (taken : List (List ℕ)) × (lines : List ℕ) × Stands receiver taken
-    × (¬ LeaveNoneShort receiver.identity taken) × IsHeard receiver.identity opened left read taken lines × IsAtEnd left
+    (left : Option (List ℕ)) × (read : ℕ) × (taken : List (List ℕ)) × (lines : List ℕ)
+    × Stands receiver taken
+    × (¬ LeaveNoneShort receiver.identity taken)
+    × IsHeard receiver.identity opened left read taken lines × IsAtEnd left
     × Appends old.printed new.printed lines
 
 -- some datagrams were read, and their lines printed
@@ -46,8 +49,10 @@ HasHeardSome who opened old new =
 -- behind them comes no frame
 abbrev pub IsCutBehind : Identity → FrameFault → Option (List ℕ) → World → World → Type 0
 IsCutBehind who fault opened old new =
-    (left : Option (List ℕ)) × (rest : Option (List ℕ)) × (failed : Bool) × (read : ℕ) × (taken : List (List ℕ)) × (lines : List ℕ)
-    × IsHeard who opened left read taken lines × IsReadFault fault left rest failed × Appends old.printed new.printed lines
+    (left : Option (List ℕ)) × (rest : Option (List ℕ)) × (failed : Bool) × (read : ℕ)
+    × (taken : List (List ℕ)) × (lines : List ℕ)
+    × IsHeard who opened left read taken lines × IsReadFault fault left rest failed
+    × Appends old.printed new.printed lines
 
 -- why no more datagrams are read
 abbrev pub IsUnheard : Identity → Option (List ℕ) → World → World → Stop → Type 0
@@ -73,7 +78,8 @@ IsUnsaid old new Unprinted = new.failed ≡ true
 -- the object that these datagrams give stands under the output's name; its length
 abbrev pub IsWritten : FollowRequest → Identity → List (List ℕ) → World → World → ℕ → Type 0
 IsWritten r who taken old new count =
-    (object : List ℕ) × IsAnswer who taken (Object object) × Replaces old.files new.files r.output.now object
+    (object : List ℕ) × IsAnswer who taken (Object object)
+    × Replaces old.files new.files r.output.now object
     × (new.created ≡ one_more old.created) × (count ≡ length object)
 
 -- datagrams that give an object, and how many were read for them
@@ -88,25 +94,30 @@ heard_of receiver taken read = record { identity = receiver.identity; taken = ta
 -- the object was written, but for what is printed last
 abbrev pub IsObjectMade : FollowRequest → Heard → World → World → List ℕ → Type 0
 IsObjectMade r heard old new object =
-    IsAnswer heard.identity heard.taken (Object object) × Replaces old.files new.files r.output.now object
+    IsAnswer heard.identity heard.taken (Object object)
+    × Replaces old.files new.files r.output.now object
     × (new.created ≡ one_more old.created)
 
 -- it was, and told after how many datagrams, and its length
 abbrev pub IsDelivered : FollowRequest → Heard → World → World → ℕ → Type 0
 IsDelivered r heard old new status =
     (object : List ℕ) × IsObjectMade r heard old new object
-    × Appends old.printed new.printed (complete_line heard.read ++ line_of (answer_text (Object object))) × (status ≡ 0)
+    × Appends old.printed new.printed
+    (complete_line heard.read ++ line_of (answer_text (Object object))) × (status ≡ 0)
 
 -- why not: the first line was printed, and the object isn't there; or printing has failed
 abbrev pub IsUndelivered : FollowRequest → Heard → World → World → Stop → Type 0
 IsUndelivered r heard old new (ByFault fault) =
-    IsUnwritten (Follow r) old new fault × Appends old.printed new.printed (complete_line heard.read)
+    IsUnwritten (Follow r) old new fault
+    × Appends old.printed new.printed (complete_line heard.read)
 IsUndelivered r heard old new Unprinted =
     (new.failed ≡ true)
-    × (((new.files ≡ old.files) × (new.created ≡ old.created)) ⊎ ((object : List ℕ) × IsObjectMade r heard old new object))
+    × (((new.files ≡ old.files) × (new.created ≡ old.created))
+    ⊎ ((object : List ℕ) × IsObjectMade r heard old new object))
 
 -- the answer to these datagrams, which is no fault, was printed; its status
 abbrev pub TellsAnswer : Identity → List (List ℕ) → World → World → ℕ → Type 0
 TellsAnswer who taken old new status =
     (answer : Answer) × IsAnswer who taken (answer_value answer) × IsNoFault answer
-    × Appends old.printed new.printed (line_of (answer_text (answer_value answer))) × (status ≡ answer_status (answer_value answer))
+    × Appends old.printed new.printed (line_of (answer_text (answer_value answer)))
+    × (status ≡ answer_status (answer_value answer))

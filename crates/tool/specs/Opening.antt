@@ -8,4 +8,5 @@ abbrev pub AreOpen : Option Files → List (List ℕ) → List (Option (List ℕ
 AreOpen files [] [] = ⊤
 AreOpen files [] (opened ∷ others) = ⊥
 AreOpen files (name ∷ names) [] = ⊥
-AreOpen files (name ∷ names) (opened ∷ others) = HasValue files (AStream name) (Opened opened) × AreOpen files names others
+AreOpen files (name ∷ names) (opened ∷ others) =
+    HasValue files (AStream name) (Opened opened) × AreOpen files names others

@@ -4,18 +4,23 @@ use Rattle.std.specs.Io.KnownBytes.{Appends}
 use Rattle.alc.specs.Reading.{Reading}
 use Rattle.decoder.specs.Receiving.{LeaveNoneShort}
 use Rattle.request.specs.declared.requests.Request.{Request}
-use Rattle.request.specs.declared.requests.Request.TheVariants.{Check, Twin, Show, Decode, Follow, Join}
+use Rattle.request.specs.declared.requests.Request.TheVariants.{Check, Twin, Show, Decode, Follow}
+use Rattle.request.specs.declared.requests.Request.TheVariants.{Join}
 use Rattle.tool.specs.World.{Files, World, MayFail, Replaces, one_more}
-use Rattle.tool.specs.Inputs.{AStream, Value, Opened, HasValue, HaveValues, AreThere, IsUnopened, IsFirstUnopened, IsFirstUnread, IsSomeUnread}
+use Rattle.tool.specs.Inputs.{AStream, Value, Opened, HasValue, HaveValues, AreThere, IsUnopened}
+use Rattle.tool.specs.Inputs.{IsFirstUnopened, IsFirstUnread, IsSomeUnread}
 use Rattle.tool.specs.Lines.{numbered, reading_text, TellsFault}
 use Rattle.tool.specs.Following.{IsHeard, IsHeardInPart}
-use Rattle.tool.specs.Commands.{inputs_of, output_of, IsWriteFault, Outcome, AreReadAs, Gives, Refuses}
+use Rattle.tool.specs.Commands.{inputs_of, output_of, IsWriteFault, Outcome, AreReadAs, Gives}
+use Rattle.tool.specs.Commands.{Refuses}
 use Rattle.tool.specs.declared.fault.Fault.{Fault}
 use Rattle.tool.specs.declared.fault.Fault.TheVariants.{Open, Memory}
 
--- the output's bytes stand under its name, and one output was created; or there is none, and nothing has changed
+-- the output's bytes stand under its name, and one output was created; or there is none, and
+-- nothing has changed
 abbrev pub IsOutput : World → World → Option (List ℕ) → Option (List ℕ) → Type 0
-IsOutput old new (Some name) (Some bytes) = Replaces old.files new.files name bytes × (new.created ≡ one_more old.created)
+IsOutput old new (Some name) (Some bytes) =
+    Replaces old.files new.files name bytes × (new.created ≡ one_more old.created)
 IsOutput old new None (Some bytes) = ⊥
 IsOutput old new name None = (new.files ≡ old.files) × (new.created ≡ old.created)
 
@@ -45,8 +50,8 @@ IsUnhad world (Join r) fault =
 IsUnhad world (Show r) fault = IsUnopened world r.session.now fault
 IsUnhad world r fault = IsFirstUnread world (inputs_of r) fault
 
--- Whether an output may be created before a fault: of an object that datagrams give, once they do; of a picture, where the
--- answer is yes; else once all inputs are there.
+-- Whether an output may be created before a fault: of an object that datagrams give, once they do;
+-- of a picture, where the answer is yes; else once all inputs are there.
 abbrev pub GivesOutput : Option Files → Request → Type 0
 GivesOutput files r =
     (values : List Value) × (outcome : Outcome) × (bytes : List ℕ)
@@ -63,17 +68,20 @@ MayCreate files (Follow r) =
     × IsHeard r.identity opened left read taken lines × LeaveNoneShort r.identity taken
 MayCreate files r = AreThere files (inputs_of r)
 
--- The output can't be created, where it may be; or it was, and writing it has failed; where the host may fail.
+-- The output can't be created, where it may be; or it was, and writing it has failed; where the
+-- host may fail.
 abbrev pub IsUnmade : World → World → Request → Fault → Type 0
 IsUnmade old new r (Open name) =
-    MayFail old × (output_of r ≡ Some name.now) × MayCreate old.files r × (new.created ≡ old.created)
+    MayFail old × (output_of r ≡ Some name.now) × MayCreate old.files r
+    × (new.created ≡ old.created)
 IsUnmade old new r fault = MayFail old × IsWriteFault r fault × (new.created ≡ one_more old.created)
 
--- Why the request wasn't done, by what was printed before: an input can't be had; or the request is refused; or its output
--- isn't made; or there is no memory.
+-- Why the request wasn't done, by what was printed before: an input can't be had; or the request is
+-- refused; or its output isn't made; or there is no memory.
 abbrev pub IsBecause : World → World → Request → List ℕ → Fault → Type 0
 IsBecause old new r text Memory = ⊤
-IsBecause old new r text fault = IsUnhad old r fault ⊎ Refuses old r text fault ⊎ IsUnmade old new r fault
+IsBecause old new r text fault =
+    IsUnhad old r fault ⊎ Refuses old r text fault ⊎ IsUnmade old new r fault
 
 -- what may be printed before a fault: of datagrams that are shown the lines of the first that the
 -- file begins with, of those that are followed the lines of some
@@ -83,7 +91,8 @@ BeginsText files (Show r) text =
     × HasValue files (AStream r.session.now) (Opened opened) × AreReadAs opened left readings
     × (text ≡ numbered reading_text 0 readings))
 BeginsText files (Follow r) text =
-    (text ≡ []) ⊎ ((opened : Option (List ℕ)) × HasValue files (AStream r.session.now) (Opened opened)
+    (text ≡ [])
+    ⊎ ((opened : Option (List ℕ)) × HasValue files (AStream r.session.now) (Opened opened)
     × IsHeardInPart r.identity opened text)
 BeginsText files r text = text ≡ []
 
@@ -92,12 +101,14 @@ pub record IsStopped (old new : World) (r : Request) (text : List ℕ) (fault : 
   pub because : IsBecause old new r text fault
   pub before : BeginsText old.files r text
   pub files : new.files ≡ old.files
-  pub created : (new.created ≡ old.created) ⊎ ((new.created ≡ one_more old.created) × MayCreate old.files r)
+  pub created : (new.created ≡ old.created)
+      ⊎ ((new.created ≡ one_more old.created) × MayCreate old.files r)
 
 -- Printing has failed: nothing was done, or all but what is printed.
 pub record IsUnprinted (old new : World) (r : Request) : Type 0 where
   pub failed : new.failed ≡ true
-  pub done : ((new.files ≡ old.files) × (new.created ≡ old.created)) ⊎ ((outcome : Outcome) × Makes old new r outcome)
+  pub done : ((new.files ≡ old.files) × (new.created ≡ old.created))
+      ⊎ ((outcome : Outcome) × Makes old new r outcome)
 
 -- The request wasn't done, and behind what was printed before, the fault was told.
 pub record HasFault (old new : World) (r : Request) : Type 0 where
@@ -109,4 +120,5 @@ pub record HasFault (old new : World) (r : Request) : Type 0 where
   pub told : TellsFault fault between new
 
 abbrev pub IsRun : World → World → Request → ℕ → Type 0
-IsRun old new r status = IsDone old new r status ⊎ ((status ≡ 1) × (IsUnprinted old new r ⊎ HasFault old new r))
+IsRun old new r status =
+    IsDone old new r status ⊎ ((status ≡ 1) × (IsUnprinted old new r ⊎ HasFault old new r))

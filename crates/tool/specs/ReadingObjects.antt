@@ -10,8 +10,9 @@ IsRestUnread sound name (File read) = (read.now ≡ name) × (sound ≡ false)
 IsRestUnread sound name Memory = ⊤
 IsRestUnread sound name _ = ⊥
 
--- The object in a file, by what its input has left, isn't read: it is of another length than was told, or the input has failed,
--- which wasn't sound.
+-- The object in a file, by what its input has left, isn't read: it is of another length than was
+-- told, or the input has failed, which wasn't sound.
 abbrev pub IsObjectBroken : Fti → Option (List ℕ) → Bool → List ℕ → Fault → Type 0
-IsObjectBroken f left sound name (File read) = (read.now ≡ name) × (IfSome left (λ bytes. length bytes ≢ f.transfer_length) ⊎ (sound ≡ false))
+IsObjectBroken f left sound name (File read) =
+    (read.now ≡ name) × (IfSome left (λ bytes. length bytes ≢ f.transfer_length) ⊎ (sound ≡ false))
 IsObjectBroken f left sound name _ = ⊥

@@ -33,8 +33,8 @@ IsUnreadFor read (Fault Memory) = ⊤
 IsUnreadFor read (Fault (Frame fault)) = (fault ≡ Io) × (read ≡ Io)
 IsUnreadFor read unwritten = ⊥
 
--- why frames weren't copied: the writer has failed, or the reader, which isn't sound, or there is no
--- memory
+-- why frames weren't copied: the writer has failed, or the reader, which isn't sound, or there is
+-- no memory
 abbrev pub IsUncopied : Bool → Bool → Unwritten → Type 0
 IsUncopied sound failed Writing = failed ≡ true
 IsUncopied sound failed (Fault Memory) = ⊤

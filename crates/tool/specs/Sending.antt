@@ -12,7 +12,8 @@ use Rattle.tool.specs.declared.output.Unwritten.{Unwritten}
 use Rattle.tool.specs.declared.output.Unwritten.TheVariants.{Writing, Fault}
 
 -- the frames of a session of the object were written, of so many datagrams
-pub record WritesSession (object : List ℕ) (f : Fti) (s : Sending) (count : ℕ) (old new : Option (List ℕ)) : Type 0 where
+pub record WritesSession (object : List ℕ) (f : Fti) (s : Sending) (count : ℕ)
+    (old new : Option (List ℕ)) : Type 0 where
   pub valid : IsValidFti f
   pub can : CanBeSent object f
   pub datagrams : List (List ℕ)

@@ -20,7 +20,8 @@ use Rattle.tool.specs.declared.twin.Inputs.{Inputs}
 -- the files give them
 abbrev pub GivesInputs : Option Files → TwinRequest → Inputs → Type 0
 GivesInputs files r inputs =
-    HaveValues files (inputs_of (Twin r)) (Datagrams inputs.session ∷ Bytes inputs.object.items ∷ Polynomials inputs.certificate ∷ [])
+    HaveValues files (inputs_of (Twin r))
+    (Datagrams inputs.session ∷ Bytes inputs.object.items ∷ Polynomials inputs.certificate ∷ [])
 
 -- one of them doesn't, and those before it do
 abbrev pub AreUnread : World → TwinRequest → Fault → Type 0
@@ -28,15 +29,18 @@ AreUnread world r fault = IsFirstUnread world (inputs_of (Twin r)) fault
 
 -- the line that a verdict gives, and the other object where a block is short
 abbrev pub IsToldOf : Identity → Verdict → Inputs → Answered → Type 0
-IsToldOf who (Yes report) inputs answered = (answered.line ≡ line_of (codes "no twin")) × (answered.other ≡ None)
+IsToldOf who (Yes report) inputs answered =
+    (answered.line ≡ line_of (codes "no twin")) × (answered.other ≡ None)
 IsToldOf who (No (Thin block have need)) inputs answered =
     (answered.line ≡ line_of (short_text (codes "twin block") block have need))
     × (twin : Vec ℕ Global) × (answered.other ≡ Some twin)
     × IsTwinOfSession who inputs.certificate.fti block inputs.session inputs.object.items twin.items
-IsToldOf who (No reason) inputs answered = (answered.line ≡ verdict_text (No reason)) × (answered.other ≡ None)
+IsToldOf who (No reason) inputs answered =
+    (answered.line ≡ verdict_text (No reason)) × (answered.other ≡ None)
 
 -- those of the verdict on the inputs
 abbrev pub TellsTwin : Identity → Inputs → Answered → Type 0
 TellsTwin who inputs answered =
-    (verdict : Verdict) × IsVerdict who inputs.session inputs.object.items inputs.certificate verdict
+    (verdict : Verdict)
+    × IsVerdict who inputs.session inputs.object.items inputs.certificate verdict
     × IsToldOf who verdict inputs answered

@@ -1,15 +1,26 @@
 -- The words of faults, as they are printed.
 use Rattle.std.specs.Prelude.{List, ℕ, ◌++◌, codes, decimal}
 use Rattle.partition.specs.declared.FtiError.{FtiError}
-use Rattle.partition.specs.declared.FtiError.TheVariants.{LengthZero, LengthTooGreat, SymbolZero, BlockZero, MaxBelowBlock, TooManyBlocks}
+use Rattle.partition.specs.declared.FtiError.TheVariants.{LengthZero, LengthTooGreat, SymbolZero}
+use Rattle.partition.specs.declared.FtiError.TheVariants.{BlockZero, MaxBelowBlock, TooManyBlocks}
 use Rattle.alc.specs.declared.fault.PacketFault.{PacketFault}
-use Rattle.alc.specs.declared.fault.PacketFault.TheVariants.{TooShort, Version, Psi, Codepoint, NoIdentity, HeaderLength, Extension, FtiLength, TwoFti, FtiValue, PayloadLength}
+use Rattle.alc.specs.declared.fault.PacketFault.TheVariants.{TooShort, Version, Psi, Codepoint}
+use Rattle.alc.specs.declared.fault.PacketFault.TheVariants.{NoIdentity, HeaderLength, Extension}
+use Rattle.alc.specs.declared.fault.PacketFault.TheVariants.{FtiLength, TwoFti, FtiValue}
+use Rattle.alc.specs.declared.fault.PacketFault.TheVariants.{PayloadLength}
 use Rattle.session.specs.declared.frame.FrameFault.{FrameFault}
-use Rattle.session.specs.declared.frame.FrameFault.TheVariants.{CutLength, CutDatagram, TooLong, Io as FrameIo, NoMemory as NoFrameMemory, NoSuchPlace}
+use Rattle.session.specs.declared.frame.FrameFault.TheVariants.{CutLength, CutDatagram, TooLong}
+use Rattle.session.specs.declared.frame.FrameFault.TheVariants.{Io as FrameIo}
+use Rattle.session.specs.declared.frame.FrameFault.TheVariants.{NoMemory as NoFrameMemory}
+use Rattle.session.specs.declared.frame.FrameFault.TheVariants.{NoSuchPlace}
 use Rattle.cert.specs.declared.certificate.CertFault.{CertFault}
-use Rattle.cert.specs.declared.certificate.CertFault.TheVariants.{Magic, Fti as WrongFti, Size, Io as CertificateIo, NoMemory as NoCertificateMemory, OtherIdentity}
+use Rattle.cert.specs.declared.certificate.CertFault.TheVariants.{Magic, Fti as WrongFti, Size}
+use Rattle.cert.specs.declared.certificate.CertFault.TheVariants.{Io as CertificateIo}
+use Rattle.cert.specs.declared.certificate.CertFault.TheVariants.{NoMemory as NoCertificateMemory}
+use Rattle.cert.specs.declared.certificate.CertFault.TheVariants.{OtherIdentity}
 use Rattle.coder.specs.declared.sending.SendFault.{SendFault}
-use Rattle.coder.specs.declared.sending.SendFault.TheVariants.{Length, SymbolTooLong, Io as SendIo, NoMemory as NoSendMemory}
+use Rattle.coder.specs.declared.sending.SendFault.TheVariants.{Length, SymbolTooLong, Io as SendIo}
+use Rattle.coder.specs.declared.sending.SendFault.TheVariants.{NoMemory as NoSendMemory}
 
 abbrev pub fti_words : FtiError → List ℕ
 fti_words LengthZero = codes "F1 LengthZero"

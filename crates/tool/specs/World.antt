@@ -1,5 +1,6 @@
 -- What a command meets outside: files, and the output that its lines go to.
-use Rattle.std.specs.Prelude.{◌≡◌, ◌⊎◌, ℕ, suc, Bool, true, false, List, [], Option, Some, None, ⊤, length, IfSome, if◌then◌else◌}
+use Rattle.std.specs.Prelude.{◌≡◌, ◌⊎◌, ℕ, suc, Bool, true, false, List, [], Option, Some, None, ⊤}
+use Rattle.std.specs.Prelude.{length, IfSome, if◌then◌else◌}
 use Rattle.std.specs.Str.{bytes_eq}
 use Rattle.std.specs.Option.{option_map}
 use Rattle.tool.specs.declared.host.FileFault.{FileFault}
@@ -9,8 +10,9 @@ use Rattle.tool.specs.declared.host.FileFault.TheVariants.{Io, NoMemory}
 abbrev pub Files : Type 0
 Files = List ℕ → Option (List ℕ)
 
--- What each name stands for, where it is told; whether a call may fail but for want of memory; what was printed, where it
--- is told, and whether printing has failed; how many outputs were created, where it is told.
+-- What each name stands for, where it is told; whether a call may fail but for want of memory; what
+-- was printed, where it is told, and whether printing has failed; how many outputs were created,
+-- where it is told.
 pub record World : Type 0 where
   pub files : Option Files
   pub fallible : Bool
@@ -41,7 +43,8 @@ MayFail world = (world.files ≡ None) ⊎ (world.fallible ≡ true)
 -- ---- what the host's calls promise
 
 -- an input that was opened gives the file's bytes, and only fails where the host may
-pub record GivesFile (world : World) (name : List ℕ) (remaining : Option (List ℕ)) (sound : Bool) : Type 0 where
+pub record GivesFile (world : World) (name : List ℕ) (remaining : Option (List ℕ))
+    (sound : Bool) : Type 0 where
   pub bytes : Holds world.files name (λ bytes. remaining ≡ Some bytes)
   pub fails : sound ≡ false → MayFail world
 

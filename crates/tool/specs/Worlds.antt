@@ -15,4 +15,5 @@ memory_world files printed failed created = record {
 
 -- nothing is told, but whether printing has failed
 abbrev pub untold : Bool → World
-untold failed = record { files = None; fallible = true; printed = None; failed = failed; created = None }
+untold failed =
+    record { files = None; fallible = true; printed = None; failed = failed; created = None }

@@ -13,9 +13,10 @@ use std::alloc::Global;
 // The status where a command line is refused.
 const REFUSED: u8 = 2;
 
-/// Does what the words of a command line ask for, the first of which is the program's name, and answers the status: that
-/// of `run` where they make a request; 0 after help or the version, which are printed; 2 where the line is refused, with the
-/// reason to `err`, whether that can be written or not; 1 after `fault memory`, or where nothing can be printed.
+/// Does what the words of a command line ask for, the first of which is the program's name, and
+/// answers the status: that of `run` where they make a request; 0 after help or the version, which
+/// are printed; 2 where the line is refused, with the reason to `err`, whether that can be written
+/// or not; 1 after `fault memory`, or where nothing can be printed.
 pub fn answer<'a, H: Host, E: Write>(
     alloc: Global,
     words: &'a [&'a str],
@@ -76,7 +77,8 @@ pub fn refuse_memory<W: Write>(out: &mut W) -> u8
     1
 }
 
-/// The status of the program once its output was flushed: 1 where that has failed, for all that was done.
+/// The status of the program once its output was flushed: 1 where that has failed, for all that was
+/// done.
 pub fn status_after(status: u8, flushed: Result<(), Failed>) -> u8
     ensures ok { OnOk flushed (result ≡ status) }
     ensures err { OnErr flushed (result ≡ 1) }

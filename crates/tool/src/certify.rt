@@ -24,8 +24,8 @@ use request::CertifyRequest;
 use session::{Read, Write};
 use std::alloc::Global;
 
-/// Writes the object's certificate for the packets of an identity, a block at a time. An object whose length is known
-/// beforehand is read so too.
+/// Writes the object's certificate for the packets of an identity, a block at a time. An object
+/// whose length is known beforehand is read so too.
 pub(crate) fn certify<'a, H: Host>(
     alloc: Global,
     host: &mut H,

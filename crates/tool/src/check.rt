@@ -7,7 +7,8 @@ ghost use Rattle.tool.specs.Commands.{status_of as verdict_status};
 ghost use Rattle.tool.specs.Doing.{HasMade, HasStopped, text_of};
 ghost use Rattle.tool.specs.Checks.{IsNotChecked, TellsCheck, TellsRequest};
 ghost use Rattle.tool.specs.Drawing.{IsSurveyed};
-ghost use Rattle.tool.specs.Lines.{named, block_text, kill_text, losses_text, report_text, reason_text, verdict_text as text_of_verdict};
+ghost use Rattle.tool.specs.Lines.{named, block_text, kill_text, losses_text, report_text};
+ghost use Rattle.tool.specs.Lines.{reason_text, verdict_text as text_of_verdict};
 
 use crate::done::{Done, Told};
 use crate::drawing::{Drawn, picture_of};
@@ -30,8 +31,8 @@ struct Answered<'a> {
     picture: Option<Drawn<'a>>,
 }
 
-/// The verdict. The session is opened first, but the object and the certificate are read before its frames. A picture is
-/// created once it and the lines are there.
+/// The verdict. The session is opened first, but the object and the certificate are read before its
+/// frames. A picture is created once it and the lines are there.
 pub(crate) fn check<'a, H: Host>(
     alloc: Global,
     host: &mut H,

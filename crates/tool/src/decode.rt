@@ -22,8 +22,8 @@ use request::DecodeRequest;
 use session::Write;
 use std::alloc::{AllocError, Global};
 
-/// Writes the object that the identity's packets in the session give. The output is created only where there is an object,
-/// which is written block by block.
+/// Writes the object that the identity's packets in the session give. The output is created only
+/// where there is an object, which is written block by block.
 pub(crate) fn decode<'a, H: Host>(
     alloc: Global,
     host: &mut H,

@@ -21,8 +21,8 @@ use request::{EncodeRequest, Sending};
 use session::{Read, Write};
 use std::alloc::Global;
 
-/// Writes the object's session. An object whose length is known beforehand is read block by block, where its session is
-/// written so.
+/// Writes the object's session. An object whose length is known beforehand is read block by block,
+/// where its session is written so.
 pub(crate) fn encode<'a, H: Host>(
     alloc: Global,
     host: &mut H,

@@ -1,5 +1,6 @@
 //! The command `follow`.
-ghost use Rattle.std.specs.Prelude.{◌≡◌, ◌<◌, ◌≤◌, ◌++◌, ℕ, List, [], None, true, false, length, IfOk, IfErr, IfSome, IfNone, OnOk, OnErr};
+ghost use Rattle.std.specs.Prelude.{◌≡◌, ◌<◌, ◌≤◌, ◌++◌, ℕ, List, [], None, true, false, length};
+ghost use Rattle.std.specs.Prelude.{IfOk, IfErr, IfSome, IfNone, OnOk, OnErr};
 ghost use Rattle.std.specs.Io.KnownBytes.{Appends, Consumes, IsAtEnd};
 ghost use Rattle.session.specs.Frames.{frame, most_bytes};
 ghost use Rattle.decoder.specs.Receiving.{LeaveNoneShort, IsWrittenOf};
@@ -9,7 +10,8 @@ ghost use Rattle.tool.specs.World.{KeepsFiles, IsSilent};
 ghost use Rattle.tool.specs.Doing.{IsUndone, IsUnwritten};
 ghost use Rattle.tool.specs.Following.{refusal_line};
 ghost use Rattle.tool.specs.Lines.{refusal_words};
-ghost use Rattle.tool.specs.Listening.{HasMadeUp, HasHeardAll, IsUnheard, IsUnsaid, heard_of, IsWritten, IsDelivered, IsUndelivered, TellsAnswer};
+ghost use Rattle.tool.specs.Listening.{HasMadeUp, HasHeardAll, IsUnheard, IsUnsaid, heard_of};
+ghost use Rattle.tool.specs.Listening.{IsWritten, IsDelivered, IsUndelivered, TellsAnswer};
 ghost use Rattle.tool.specs.Outcomes.{IsDone};
 ghost use Rattle.tool.specs.declared.fault.Fault.TheVariants.{Frame};
 ghost use Rattle.tool.specs.declared.fault.Stop.TheVariants.{ByFault};
@@ -26,9 +28,9 @@ use request::FollowRequest;
 use session::{FrameFault, Read, Write};
 use std::alloc::{AllocError, Global};
 
-/// Takes the session's datagrams one by one, and prints a line for each that is refused. Once they give the object no more
-/// are read, and it is written; else what lacks is printed at the end. Answers the status. Each line is passed on before the
-/// next datagram is read.
+/// Takes the session's datagrams one by one, and prints a line for each that is refused. Once they
+/// give the object no more are read, and it is written; else what lacks is printed at the end.
+/// Answers the status. Each line is passed on before the next datagram is read.
 pub(crate) fn follow<'a, H: Host>(
     alloc: Global,
     host: &mut H,
@@ -48,7 +50,8 @@ pub(crate) fn follow<'a, H: Host>(
     }
 }
 
-// Feeds the datagrams that are left of a reader until they give the object, and answers how many were read; or all.
+// Feeds the datagrams that are left of a reader until they give the object, and answers how many
+// were read; or all.
 fn listen<'a, R: Read, H: Host>(
     alloc: Global,
     frames: &mut R,
@@ -137,7 +140,8 @@ fn put_refusal(line: &mut Text, fault: FeedFault) -> Result<(), AllocError>
     }
 }
 
-// Tells that the object is there once so many datagrams were read, writes it, and answers the status.
+// Tells that the object is there once so many datagrams were read, writes it, and answers the
+// status.
 fn deliver<'a, H: Host>(
     host: &mut H,
     request: &FollowRequest<'a>,

@@ -1,7 +1,8 @@
 //! What a command meets outside.
 ghost use Rattle.std.specs.Prelude.{◌≡◌, true, IfOk, IfErr, IfSome, OnOk, OnErr};
 ghost use Rattle.std.specs.Io.KnownBytes.{Appends};
-ghost use Rattle.tool.specs.World.{World, GivesFile, LeavesBytes, IsBlank, Replaces, IsRefused, IsMissing, KeepsFiles, IsSilent, one_more};
+ghost use Rattle.tool.specs.World.{World, GivesFile, LeavesBytes, IsBlank, Replaces, IsRefused};
+ghost use Rattle.tool.specs.World.{IsMissing, KeepsFiles, IsSilent, one_more};
 
 use session::{Failed, Read, Write};
 
@@ -13,8 +14,8 @@ pub enum FileFault {
     NoMemory,
 }
 
-/// Named files, and an output for lines. What is to be a file stands under its name once it is kept, and not before: it is
-/// neither dropped nor forgotten, but kept or given up.
+/// Named files, and an output for lines. What is to be a file stands under its name once it is
+/// kept, and not before: it is neither dropped nor forgotten, but kept or given up.
 pub trait Host {
     type Input: Read + Drop;
 
@@ -45,8 +46,8 @@ pub trait Host {
             ((world self.new).created ≡ one_more (world self.old).created) }
         ensures none { OnErr result ((world self.new).created ≡ (world self.old).created) };
 
-    /// Puts what was written under its name, in the place of the file that was there. `Io` comes only where the host may
-    /// fail; after a fault the files are as they were.
+    /// Puts what was written under its name, in the place of the file that was there. `Io` comes
+    /// only where the host may fail; after a fault the files are as they were.
     fn keep_file(&mut self, name: &str, output: Self::Output) -> Result<(), FileFault>
         ensures kept { OnOk result (IfSome (Self.Output.contents output)
             (Replaces (world self.old).files (world self.new).files name.now)) }

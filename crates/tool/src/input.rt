@@ -3,7 +3,8 @@ ghost use Rattle.std.specs.Prelude.{◌≡◌, ◌<◌, ◌≤◌, [], None, fal
 ghost use Rattle.std.specs.Io.KnownBytes.{Consumes, IsAtEnd};
 ghost use Rattle.session.specs.Frames.{frame, most_bytes};
 ghost use Rattle.tool.specs.World.{GivesFile};
-ghost use Rattle.tool.specs.Inputs.{AnObject, ASession, ACertificate, Bytes, Datagrams, Polynomials, HasValue, IsUnopened, IsUnread};
+ghost use Rattle.tool.specs.Inputs.{AnObject, ASession, ACertificate, Bytes, Datagrams};
+ghost use Rattle.tool.specs.Inputs.{Polynomials, HasValue, IsUnopened, IsUnread};
 ghost use Rattle.tool.specs.ReadingObjects.{IsRestUnread};
 ghost use Rattle.tool.specs.Listening.{IsFrameUnread};
 ghost use Rattle.tool.specs.declared.fault.Fault.TheVariants.{Frame};

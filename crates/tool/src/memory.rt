@@ -1,5 +1,6 @@
 //! A host in memory.
-ghost use Rattle.std.specs.Prelude.{◌≡◌, ◌<◌, ◌≤◌, ◌-◌, ◌+◌, [], None, Some, true, false, length, drop, OnOk, OnErr};
+ghost use Rattle.std.specs.Prelude.{◌≡◌, ◌<◌, ◌≤◌, ◌-◌, ◌+◌, [], None, Some, true, false, length};
+ghost use Rattle.std.specs.Prelude.{drop, OnOk, OnErr};
 ghost use Rattle.std.specs.Option.{option_map};
 ghost use Rattle.tool.specs.Files.{files_of, AddsFile};
 ghost use Rattle.tool.specs.Worlds.{memory_world};
@@ -37,7 +38,8 @@ impl Read for MemoryInput {
     }
 }
 
-/// Named files, of which the last of a name counts, and what was printed. Reads give `most` bytes at a time at most.
+/// Named files, of which the last of a name counts, and what was printed. Reads give `most` bytes
+/// at a time at most.
 #[derive(Drop)]
 pub struct MemoryHost {
     files: Vec<(String, Vec<u8>)>,

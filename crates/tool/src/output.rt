@@ -33,8 +33,8 @@ pub(crate) fn create<'a, H: Host>(host: &mut H, name: &'a str) -> Result<H::Outp
     }
 }
 
-/// Keeps what was written under its name, or gives it up where it wasn't written to its end. `failure` tells that writing or
-/// keeping has failed, where it isn't for want of memory.
+/// Keeps what was written under its name, or gives it up where it wasn't written to its end.
+/// `failure` tells that writing or keeping has failed, where it isn't for want of memory.
 pub(crate) fn commit<'a, H: Host>(
     host: &mut H,
     name: &str,

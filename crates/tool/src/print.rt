@@ -103,7 +103,8 @@ impl Text {
     }
 }
 
-/// Prints a line that counts something: a name, the number behind a space, and of what. Takes no memory.
+/// Prints a line that counts something: a name, the number behind a space, and of what. Takes no
+/// memory.
 pub(crate) fn print_count<I: Integer, H: Host>(
     host: &mut H,
     name: &str,

@@ -48,8 +48,8 @@ fn perform<'a, H: Host>(alloc: Global, host: &mut H, request: &Request<'a>) -> R
     finish(host, done)
 }
 
-/// Does the command, prints its lines, and answers the status: 0 done or yes, 1 no or a fault, 3 where decoding has too
-/// little. If lines can't be printed it is 1.
+/// Does the command, prints its lines, and answers the status: 0 done or yes, 1 no or a fault, 3
+/// where decoding has too little. If lines can't be printed it is 1.
 pub fn run<H: Host>(alloc: Global, host: &mut H, request: &Request<'_>) -> u8
     ensures run { IsRun (H.world host.old) (H.world host.new) request.now result }
     ensures status { result ≤ 3 }

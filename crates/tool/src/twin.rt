@@ -85,8 +85,8 @@ fn answer_of(alloc: Global, inputs: &Inputs, identity: Identity) -> Result<Answe
     }
 }
 
-/// Writes another object that agrees with all datagrams of the session, where the check finds a block short. The output is
-/// created once that object and the line are there.
+/// Writes another object that agrees with all datagrams of the session, where the check finds a
+/// block short. The output is created once that object and the line are there.
 pub(crate) fn twin<'a, H: Host>(
     alloc: Global,
     host: &mut H,
@@ -110,7 +110,8 @@ pub(crate) fn twin<'a, H: Host>(
     }
 }
 
-// The block that is too short, how many symbols it has and how many it needs, where that is the reason.
+// The block that is too short, how many symbols it has and how many it needs, where that is the
+// reason.
 fn short_block(reason: Reason) -> Option<(u32, usize, usize)>
     ensures { result ≡ short_of reason }
 {

@@ -1,7 +1,8 @@
 //! The words of faults.
 ghost use Rattle.std.specs.Prelude.{◌≡◌, ◌++◌, codes, IfOk, OnOk};
 ghost use Rattle.tool.specs.Lines.{line_of, fault_text};
-ghost use Rattle.tool.specs.Words.{fti_words, packet_words, frame_words, certificate_words, send_words};
+ghost use Rattle.tool.specs.Words.{fti_words, packet_words, frame_words, certificate_words};
+ghost use Rattle.tool.specs.Words.{send_words};
 
 use crate::fault::Fault;
 use crate::print::Text;

@@ -47,7 +47,8 @@ impl<'a> Untold<'a> {
         }
     }
 
-    // The file that is created next, and its name. What is left of the bytes of the last is told before.
+    // The file that is created next, and its name. What is left of the bytes of the last is told
+    // before.
     fn take_created(&mut self, text: &str, given: &MemoryHost) -> Result<(), Fault> {
         let (name, other) = text.split_once(" = ").unwrap_or((text, ""));
         let Some(((created, bytes), behind)) = self.created.split_first() else {
@@ -121,7 +122,8 @@ fn take(
     Ok(true)
 }
 
-/// Whether a command has answered as the lines from its own on tell, and not more: the first line that is wrong.
+/// Whether a command has answered as the lines from its own on tell, and not more: the first line
+/// that is wrong.
 pub(crate) fn compare(
     alloc: Global,
     outcome: &Outcome,

@@ -48,7 +48,8 @@ impl From<AllocError> for Fault {
     }
 }
 
-/// A line that isn't as it should be: how many lines it stands behind the one that names its file or command, and why.
+/// A line that isn't as it should be: how many lines it stands behind the one that names its file
+/// or command, and why.
 #[derive(Clone, Copy)]
 pub(crate) struct Wrong {
     pub(crate) place: usize,

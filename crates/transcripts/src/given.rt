@@ -5,8 +5,8 @@ use crate::line::{Line, read_line};
 use std::alloc::Global;
 use tool::MemoryHost;
 
-// Adds the bytes of a line behind the one that names their file, if it has any. False where the line belongs to the file no
-// more.
+// Adds the bytes of a line behind the one that names their file, if it has any. False where the
+// line belongs to the file no more.
 fn put_line(bytes: &mut Vec<u8>, line: &str) -> Result<bool, Fault> {
     match read_line(line) {
         Some(Line::Comment) => Ok(true),
@@ -33,7 +33,8 @@ fn bytes_of(alloc: Global, lines: &[&str]) -> Result<Vec<u8>, Wrong> {
     Ok(bytes)
 }
 
-/// Puts a file in of which no other has the name. The lines are those of the transcript from the file's name on.
+/// Puts a file in of which no other has the name. The lines are those of the transcript from the
+/// file's name on.
 pub(crate) fn give(
     alloc: Global,
     given: &mut MemoryHost,

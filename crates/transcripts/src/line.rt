@@ -15,7 +15,8 @@ pub(crate) enum Line<'a> {
     Refusal(&'a str),
     /// `= NUMBER`: the command's exit status, where it isn't 0.
     Status(&'a str),
-    /// `> NAME` or `> NAME = OTHER`: the command creates this file, in the second form with the bytes of a given one.
+    /// `> NAME` or `> NAME = OTHER`: the command creates this file, in the second form with the
+    /// bytes of a given one.
     Created(&'a str),
     /// Two blanks: bytes in hex of the file that is named before.
     Bytes(&'a str),

@@ -1,8 +1,10 @@
-//! Runs the commands of transcripts over files in memory, and tells those that answer otherwise than written there.
+//! Runs the commands of transcripts over files in memory, and tells those that answer otherwise
+//! than written there.
 //!
-//! A transcript gives files and has commands run, each in a new folder of the files that are given before it. Behind a
-//! command stand all lines that it prints, its exit status and each file that it creates. `line` tells the lines by how they
-//! begin; `comparing` takes them one by one from what came, and nothing may be left.
+//! A transcript gives files and has commands run, each in a new folder of the files that are given
+//! before it. Behind a command stand all lines that it prints, its exit status and each file that
+//! it creates. `line` tells the lines by how they begin; `comparing` takes them one by one from
+//! what came, and nothing may be left.
 #![tactic(auto)]
 
 mod bytes;
@@ -58,8 +60,8 @@ fn try_command(
     }
 }
 
-// Whether all commands of a transcript answer as wanted, which is told. Each of its lines belongs to the file or to the
-// command that is named before it.
+// Whether all commands of a transcript answer as wanted, which is told. Each of its lines belongs
+// to the file or to the command that is named before it.
 fn try_lines(rt: &HostRuntime, name: &str, lines: &[&str]) -> io::Result<bool> {
     let mut given = MemoryHost::new(rt.alloc(), 7, Sink::new(rt.alloc()));
     let mut commands = 0usize;

@@ -3,7 +3,8 @@ use crate::fault::Wrong;
 use crate::outcome::Outcome;
 use std::io;
 
-/// Where the lines that are looked at stand: from `place` on, counted from 0, in the transcript of this name.
+/// Where the lines that are looked at stand: from `place` on, counted from 0, in the transcript of
+/// this name.
 #[derive(Clone, Copy)]
 pub(crate) struct Place<'a> {
     pub(crate) name: &'a str,
@@ -11,7 +12,8 @@ pub(crate) struct Place<'a> {
     pub(crate) lines: &'a [&'a str],
 }
 
-/// Tells a wrong line: its transcript, its number, counted from 1, what is wrong and the line itself.
+/// Tells a wrong line: its transcript, its number, counted from 1, what is wrong and the line
+/// itself.
 pub(crate) fn tell(rt: &HostRuntime, at: &Place<'_>, wrong: Wrong) -> io::Result<()> {
     let name = at.name;
     let number = at.place.saturating_add(wrong.place).saturating_add(1);

@@ -1,5 +1,6 @@
 //! Columns turned into rows.
-ghost use Rattle.std.specs.Prelude.{◌≡◌, ◌<◌, ◌≤◌, ◌+◌, ◌*◌, ℕ, length, slice_index, slice_index_or, []};
+ghost use Rattle.std.specs.Prelude.{◌≡◌, ◌<◌, ◌≤◌, ◌+◌, ◌*◌, ℕ, length, slice_index};
+ghost use Rattle.std.specs.Prelude.{slice_index_or, []};
 ghost use Rattle.transpose.specs.Squares.{IsMoved};
 ghost use Rattle.transpose.specs.Turned.{byte};
 

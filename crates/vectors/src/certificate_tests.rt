@@ -44,7 +44,8 @@ const TWO_COLUMNS_OF_GREATEST: [u8; 38] = [
     0xF3,
 ];
 
-// Whether the polynomial of a column has these coefficients, asked for one at a time and in their rows.
+// Whether the polynomial of a column has these coefficients, asked for one at a time and in their
+// rows.
 fn has_polynomial(certificate: &Certificate, b: u32, c: usize, polynomial: &[u8]) -> bool {
     let fti = certificate.fti();
     if b >= fti.block_count()
@@ -220,7 +221,8 @@ fn of_rows(alloc: Global, fti: Fti, rows: &[u8]) -> Result<Option<Certificate>, 
     }
 }
 
-// Whether it is of three blocks and has no name, these polynomials in columns 1, 0 and 1, and this text.
+// Whether it is of three blocks and has no name, these polynomials in columns 1, 0 and 1, and this
+// text.
 fn is_of_three(alloc: Global, certificate: &Certificate, text: &[u8]) -> bool {
     certificate.name().is_none()
         && has_polynomial(certificate, 0, 1, &[2, 4, 6, 8])

@@ -255,7 +255,8 @@ fn another_object(rt: HostRuntime) -> Result<(), Fail> {
     Ok(())
 }
 
-// Whether it is told of this file, whole and cut in the last datagram, that the certificate is another's.
+// Whether it is told of this file, whole and cut in the last datagram, that the certificate is
+// another's.
 fn is_anothers(
     alloc: Global,
     file: &[u8; 105],
@@ -286,7 +287,8 @@ fn anothers_certificate(rt: HostRuntime) -> Result<(), Fail> {
     Ok(())
 }
 
-// Without a name it is the certificate of any packets that it fits; of other packets there are none here.
+// Without a name it is the certificate of any packets that it fits; of other packets there are none
+// here.
 #[test]
 fn a_certificate_without_a_name(rt: HostRuntime) -> Result<(), Fail> {
     let alloc = rt.alloc();
@@ -304,8 +306,8 @@ fn a_certificate_without_a_name(rt: HostRuntime) -> Result<(), Fail> {
     Ok(())
 }
 
-// Where a reader of this session breaks and something else is told of it than the failure, or, from `end` on, than what
-// stands before it.
+// Where a reader of this session breaks and something else is told of it than the failure, or, from
+// `end` on, than what stands before it.
 fn told_otherwise(
     alloc: Global,
     session: &[u8; 105],
@@ -328,7 +330,8 @@ fn told_otherwise(
     None
 }
 
-// A reader that fails in mid-stream, wherever that is, is told as such, unless a reason stands before it.
+// A reader that fails in mid-stream, wherever that is, is told as such, unless a reason stands
+// before it.
 #[test]
 fn a_reader_that_fails_under_a_check(rt: HostRuntime) -> Result<(), Fail> {
     let alloc = rt.alloc();
@@ -446,7 +449,8 @@ fn carriers_in_the_report(rt: HostRuntime) -> Result<(), Fail> {
     Ok(())
 }
 
-// What is told of the first bytes of two packets without FTI: that no carrier came is known at the end alone.
+// What is told of the first bytes of two packets without FTI: that no carrier came is known at the
+// end alone.
 fn of_packets_without_fti(size: usize) -> Told {
     match (size / 23, size % 23) {
         (0, 0) => of_beginning(0),

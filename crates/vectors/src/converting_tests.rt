@@ -16,7 +16,8 @@ const ANOTHER: Identity = Identity { tsi: 1, toi: 2 };
 /// How many bytes the object has.
 pub(crate) const LENGTH: usize = 100003;
 
-/// An object of 28 blocks, one of 97 source symbols, the others of 96 or 97, the last symbol cut; and a byte behind it.
+/// An object of 28 blocks, one of 97 source symbols, the others of 96 or 97, the last symbol cut;
+/// and a byte behind it.
 pub(crate) fn object_and_more(alloc: Global) -> Result<Vec<u8>, AllocError> {
     let mut object = Vec::new(alloc);
     for i in 0..100003u64 {
@@ -41,7 +42,8 @@ pub(crate) fn is_at_end<R: Read>(reader: &mut R) -> bool {
     fill(reader, &mut byte) == Ok(0)
 }
 
-/// Whether an object's certificate that is written block by block is this, and so is one whose object is read block by block.
+/// Whether an object's certificate that is written block by block is this, and so is one whose
+/// object is read block by block.
 pub(crate) fn is_certified_so(
     alloc: Global,
     object: &[u8],

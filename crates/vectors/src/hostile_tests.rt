@@ -1,4 +1,5 @@
-//! Every cut, great claims, each byte of a datagram changed, and readers and writers that fail at any place.
+//! Every cut, great claims, each byte of a datagram changed, and readers and writers that fail at
+//! any place.
 ghost use Rattle.std.specs.Prelude.{◌<◌};
 
 use crate::ONE;
@@ -17,7 +18,8 @@ use std::alloc::{AllocError, Global};
 use std::io;
 use std::test::Fail;
 
-// How many datagrams stand in the session's first bytes, by their number, or why they are no session.
+// How many datagrams stand in the session's first bytes, by their number, or why they are no
+// session.
 fn of_beginning(size: usize) -> Result<usize, FrameFault> {
     match size % FRAME {
         0 => Ok(size / FRAME),
@@ -49,7 +51,8 @@ fn reading_fault(datagram: &[u8]) -> Option<PacketFault> {
     }
 }
 
-// Each beginning of a datagram is too short for a header, for the length that the header tells, and for its symbol.
+// Each beginning of a datagram is too short for a header, for the length that the header tells, and
+// for its symbol.
 #[test]
 fn every_beginning_of_a_datagram(rt: HostRuntime) {
     for size in 0..=33usize {
@@ -94,7 +97,8 @@ fn of_certificate_beginning(size: usize, whole: usize) -> Option<CertFault> {
     }
 }
 
-// Whether this is told of a file in pieces of any size, and a failure where its reader fails behind it.
+// Whether this is told of a file in pieces of any size, and a failure where its reader fails behind
+// it.
 fn is_told_in_pieces(alloc: Global, file: &[u8], wanted: Option<CertFault>) -> bool {
     for most in [1, 5, 100usize] {
         if certificate_fault(alloc, &mut Pieces::new(file, most)) != wanted {
@@ -116,7 +120,8 @@ fn every_beginning_of_a_certificate(rt: HostRuntime) {
     }
 }
 
-// Of what is claimed alone no memory is asked for: a certificate of 2^40 bytes, without a name and with one.
+// Of what is claimed alone no memory is asked for: a certificate of 2^40 bytes, without a name and
+// with one.
 #[test]
 fn a_great_certificate_claimed(rt: HostRuntime) {
     let head = [
@@ -167,7 +172,8 @@ const GREAT: [u8; 10] = [1, 0, 0, 0, 0, 0, 0xFF, 0xC3, 255, 255];
 
 const MANY: [u8; 10] = [0, 0, 1, 0, 0, 0, 0, 1, 1, 1];
 
-// No memory is asked for what a packet claims alone: of the first block and of the last the first lacks what it needs.
+// No memory is asked for what a packet claims alone: of the first block and of the last the first
+// lacks what it needs.
 #[test]
 fn far_blocks(rt: HostRuntime) -> Result<(), Fail> {
     for (fti, payload_id, byte, size, have, need) in [
@@ -213,8 +219,8 @@ fn feeding_fault(alloc: Global, datagram: &[u8]) -> Result<Option<DecodeFault>, 
     }
 }
 
-// Whether this is said of a datagram by a decoder and by a check: its fault, or, of a packet, that its place is out of range
-// or no fault, and no yes.
+// Whether this is said of a datagram by a decoder and by a check: its fault, or, of a packet, that
+// its place is out of range or no fault, and no yes.
 fn is_reading_said(
     reading: Option<PacketFault>,
     decoding: Option<DecodeFault>,
@@ -323,7 +329,8 @@ fn send<W: Write>(alloc: Global, fti: &Fti, writer: &mut W) -> Result<u64, SendF
     encode(alloc, &OBJECT, 1, 1, fti, 1, Order::Blocks, writer)
 }
 
-// Whether sending the object ends so where the writer takes only so many bytes, seven at a time or one, and has these.
+// Whether sending the object ends so where the writer takes only so many bytes, seven at a time or
+// one, and has these.
 fn is_sent_up_to(alloc: Global, fti: &Fti, most: usize, room: usize) -> bool
     requires { 0 < most }
 {

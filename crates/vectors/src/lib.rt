@@ -1,4 +1,5 @@
-//! Worked vectors, made outside, against the public calls of `session` and the crates above it, up to `coder`.
+//! Worked vectors, made outside, against the public calls of `session` and the crates above it, up
+//! to `coder`.
 #![tactic(auto)]
 
 #[cfg(test)]

@@ -9,7 +9,8 @@ use session::{Pieces, Sink};
 use std::alloc::Global;
 use std::test::Fail;
 
-// Whether as many datagrams are sent of an object that comes in pieces as of one that is there, and the same.
+// Whether as many datagrams are sent of an object that comes in pieces as of one that is there, and
+// the same.
 fn is_sent_alike(
     alloc: Global,
     object: &[u8],
@@ -60,7 +61,8 @@ fn sent_from_a_reader(rt: HostRuntime) -> Result<(), Fail> {
     Ok(())
 }
 
-// The objects whose sessions are worked out in transcripts, and one with blocks of one symbol and a last symbol of one byte.
+// The objects whose sessions are worked out in transcripts, and one with blocks of one symbol and a
+// last symbol of one byte.
 #[test]
 fn small_objects_from_a_reader(rt: HostRuntime) -> Result<(), Fail> {
     let three_blocks = [0x01, 0x08, 0x40, 0x3A, 1, 2, 4, 1, 4, 0x10];

@@ -1,4 +1,5 @@
-//! A receiver beside the decoder, at each datagram of sessions that lose, repeat and spoil some, in any order.
+//! A receiver beside the decoder, at each datagram of sessions that lose, repeat and spoil some, in
+//! any order.
 ghost use Rattle.std.specs.Prelude.{◌≤◌};
 ghost use Rattle.decoder.specs.Stands.{IsFed};
 
@@ -46,7 +47,8 @@ fn spoiled(alloc: Global, datagram: &[u8]) -> Result<Vec<u8>, AllocError> {
     Ok(bytes)
 }
 
-// The session's datagrams as they may come: of 64 some four don't, eight come twice, and one comes also with another byte.
+// The session's datagrams as they may come: of 64 some four don't, eight come twice, and one comes
+// also with another byte.
 fn disturbed(
     alloc: Global,
     random: &mut Pcg32,
@@ -86,7 +88,8 @@ fn is_same(a: &Answer, b: &Answer) -> bool {
     }
 }
 
-// Whether a receiver that was fed a datagram says what the decoder says of those that were accepted and this one.
+// Whether a receiver that was fed a datagram says what the decoder says of those that were accepted
+// and this one.
 fn agrees(fed: &Result<Progress, FeedFault>, taken: &Answer, decoded: &Answer) -> bool {
     match (fed, decoded) {
         (Ok(Progress::Complete), Answer::Object(_)) => is_same(taken, decoded),
@@ -190,8 +193,8 @@ fn agree(alloc: Global, length: usize, fti: &Fti, every: u32) -> Result<bool, Fa
     Ok(some)
 }
 
-// A pair, a note and three blocks; and where not all datagrams are carriers: a packet without FTI that comes before the
-// first carrier is refused.
+// A pair, a note and three blocks; and where not all datagrams are carriers: a packet without FTI
+// that comes before the first carrier is refused.
 #[test]
 fn of_small_objects(rt: HostRuntime) -> Result<(), Fail> {
     for (length, e, b, max_n, every) in [
@@ -283,7 +286,8 @@ fn early(rt: HostRuntime) -> Result<(), Fail> {
     Ok(())
 }
 
-// Whether a receiver that was fed a datagram keeps so many symbols of the first block, and none of one that isn't there.
+// Whether a receiver that was fed a datagram keeps so many symbols of the first block, and none of
+// one that isn't there.
 fn keeps(alloc: Global, receiver: &mut Receiver, datagram: &[u8], count: usize) -> bool
     requires { IsFed receiver.old }
     ensures { IsFed receiver.new }

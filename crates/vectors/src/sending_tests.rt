@@ -41,7 +41,8 @@ fn says_yes_to_file(
     }
 }
 
-// Whether so many datagrams are sent, those at the places that `every` divides with the FTI, and `check` says yes.
+// Whether so many datagrams are sent, those at the places that `every` divides with the FTI, and
+// `check` says yes.
 fn says_yes_to_sent(
     alloc: Global,
     object: &[u8],
@@ -90,7 +91,8 @@ fn says_yes_named(
     }
 }
 
-// Whether that is so of the object's certificate, which has no name, and of its form with the session's.
+// Whether that is so of the object's certificate, which has no name, and of its form with the
+// session's.
 fn is_certified(alloc: Global, object: &[u8], fti: &Fti, count: u64) -> bool {
     match certify(alloc, object, fti) {
         Ok(certificate) => {
@@ -171,8 +173,8 @@ fn certificates(rt: HostRuntime) -> Result<(), Fail> {
     Ok(())
 }
 
-// Blocks of 180 and of 179 source symbols, whose coefficients are made by way of all values and at once:
-// the values of the polynomials x^179 and x^3.
+// Blocks of 180 and of 179 source symbols, whose coefficients are made by way of all values and at
+// once: the values of the polynomials x^179 and x^3.
 #[test]
 fn both_ways_to_certify(rt: HostRuntime) -> Result<(), Fail> {
     let mut object = [0u8; 359];
@@ -191,7 +193,8 @@ fn both_ways_to_certify(rt: HostRuntime) -> Result<(), Fail> {
     Ok(())
 }
 
-// A coefficient of the polynomial that has these values at the first points, by the matrix that interpolates.
+// A coefficient of the polynomial that has these values at the first points, by the matrix that
+// interpolates.
 fn coefficient(interpolator: &Matrix<Gf>, values: &[u8], i: usize) -> u8
     requires rows { interpolator.now.rows ≡ length values.now }
     requires column { i < interpolator.now.cols }
@@ -221,8 +224,8 @@ fn interpolated(alloc: Global, sources: &[u8]) -> Result<Vec<u8>, AllocError>
     Ok(text)
 }
 
-// Blocks of random symbols, from the first size on that is certified by way of all values: the matrix of smaller ones
-// makes the same coefficients.
+// Blocks of random symbols, from the first size on that is certified by way of all values: the
+// matrix of smaller ones makes the same coefficients.
 #[test]
 fn either_way_the_same_coefficients(rt: HostRuntime) -> Result<(), Fail> {
     let mut random = Pcg32::new(180, 5510);

@@ -206,7 +206,8 @@ fn is_broken<T>(read: &Result<T, ReadFault>) -> bool {
     }
 }
 
-// A read that fails in mid-stream is told as such, wherever it stands, and so is each call behind it.
+// A read that fails in mid-stream is told as such, wherever it stands, and so is each call behind
+// it.
 #[test]
 fn a_reader_that_fails(rt: HostRuntime) {
     for at in 0..=9usize {
@@ -260,7 +261,8 @@ fn fills(alloc: Global, session: &Session, room: usize) -> bool {
         && writer.into_inner().taken.as_slice() == THREE.split_at(room.min(9)).0
 }
 
-// A write that fails in mid-stream is told as such, and so is each call behind it, with a beginning written.
+// A write that fails in mid-stream is told as such, and so is each call behind it, with a beginning
+// written.
 #[test]
 fn a_device_that_is_full(rt: HostRuntime) -> Result<(), Fail> {
     let session = three(rt.alloc())?;
@@ -283,7 +285,8 @@ fn a_buffer(rt: HostRuntime) -> Result<(), Fail> {
     Ok(())
 }
 
-// Whether a buffer of more than three bytes takes these, and its writer, when it is flushed, nothing, also the second time.
+// Whether a buffer of more than three bytes takes these, and its writer, when it is flushed,
+// nothing, also the second time.
 fn is_never_flushed(mut writer: Device<BufWriter<Full>>) -> bool {
     let right = write_all(&mut writer, &[1, 2, 3]).is_ok()
         && writer.flush() == Err(Failed)

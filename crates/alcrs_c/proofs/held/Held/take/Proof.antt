@@ -57,7 +57,8 @@ take_spec 𝓤 𝓛 𝓜 𝓡 wired =
     let word = lowers.val_is d us is ∙ ap (λ (p : Ptr). lowers.lowered (record d { place = p }) ∷ []) e in
     let Cell = λ (ws : List Val). ‵ (cell_at full_share R.mir ws rb ro) in
     rewrite ! 2 Cell word refl $
-    -- [the receiver; what the fields own; the handle's cell; the open borrow; what the allocator owns; the locals]
+    -- [the receiver; what the fields own; the handle's cell; the open borrow; what the allocator
+    -- owns; the locals]
     sets ! (of_opd ! (load ! (through ! refl (fld ! refl (stop !))) (look_in ! 2 (sub ! 0 refl (whole !))))) refl (tt, tt) $
     sets ! (of_opd ! (get ! refl)) refl (tt, tt) $
     let made = two_fit b o h fits in
