@@ -21,7 +21,7 @@ const PAYLOAD_ID_SIZE: usize = 4;
 /// the FEC payload ID.
 pub const HEADER_SIZE: usize = FIXED_SIZE + EXT_FTI_SIZE + PAYLOAD_ID_SIZE;
 
-/// The same of one without EXT_FTI.
+/// The bytes of a datagram without EXT_FTI that are written before its encoding symbol.
 pub const HEADER_SIZE_WITHOUT_FTI: usize = FIXED_SIZE + PAYLOAD_ID_SIZE;
 
 // The version, the flags S and O, the header's length in words, the codepoint, CCI, TSI and TOI.

@@ -145,7 +145,7 @@ fn create_straight<R: Files>(rt: &R, name: &str) -> Result<(R::File, Option<Part
     }
 }
 
-// The same of a link: what it leads to, so that a command may read the file that it replaces.
+// What a link leads to, to be written, so that a command may read the file that it replaces.
 fn create_behind<R: Files>(
     rt: &R,
     alloc: Global,

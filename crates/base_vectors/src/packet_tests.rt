@@ -10,7 +10,7 @@ const DATAGRAM: [u8; 33] = [
     0, 0, 0, 1,
 ];
 
-// The same packet without FTI.
+// The packet of `DATAGRAM` without FTI.
 const PLAIN: [u8; 21] = [
     0x10, 0xA0, 4, 5, 0, 0, 0, 0, 0, 0, 0, 1, 0, 0, 0, 1, 0, 0, 0, 0, 1,
 ];

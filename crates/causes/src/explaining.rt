@@ -157,7 +157,7 @@ impl<'a, R: Files> Case<'a, R> {
         Ok(Some(text))
     }
 
-    // The same where the first key is a name.
+    // The sentence that begins with a name and goes on by a pattern.
     fn say_of(&self, name: &str, pattern: &str, numbers: &[u64]) -> Sentence {
         let mut text = Name { text: name }.to_string(self.alloc)?;
         if let Some(rest) = self.say(pattern, numbers)? {

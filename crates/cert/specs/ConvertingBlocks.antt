@@ -21,7 +21,7 @@ AreBlockRows None count width told rows =
     (i c : ℕ) → i < count → c < width
     → slice_index rows (i * width + c) ≡ slice_index told (c * count + i)
 
--- the same of the first n blocks
+-- the first n blocks' coefficients as a text with or without a name has them, and row by row
 abbrev pub AreSame : Option Identity → Fti → ℕ → List ℕ → List ℕ → Type 0
 AreSame (Some who) f n told rows = told ≡ rows
 AreSame None f n told rows =

@@ -1,7 +1,7 @@
 -- Where bytes differ, with zeros behind a list's end.
 use Rattle.std.specs.Prelude.{◌≡◌, ◌≢◌, ℕ, ◌<◌, List, length, slice_index}
 
--- the same bytes at the first n places
+-- two lists have the same bytes at the first n places
 abbrev pub AreSameBelow : ℕ → List ℕ → List ℕ → Type 0
 AreSameBelow n xs ys = (c : ℕ) → c < n → slice_index xs c ≡ slice_index ys c
 

@@ -180,8 +180,8 @@ impl Certificate {
         }
     }
 
-    /// The same polynomials with this name. `OtherIdentity` where the certificate has another one,
-    /// and only then; `NoMemory` where there is no memory for a copy.
+    /// The certificate's polynomials with this name. `OtherIdentity` where it has another one, and
+    /// only then; `NoMemory` where there is no memory for a copy.
     ///
     /// The identity's TSI is below 2^48, its TOI below 2^112 (RFC 5651, section 5.1).
     pub fn named(&self, alloc: Global, identity: Identity) -> Result<Certificate, CertFault>
@@ -202,7 +202,7 @@ impl Certificate {
         }
     }
 
-    /// The same without a copy.
+    /// This certificate with this name, without a copy. `OtherIdentity` where it has another one.
     pub fn into_named(self, identity: Identity) -> Result<Certificate, CertFault>
         requires { IsIdentity identity }
         ensures named { IfOk result (λ z. z ≡ named_as identity self) }

@@ -151,7 +151,7 @@ fn plain_head(bytes: &[u8]) -> Result<Head, CertFault>
     }
 }
 
-// The same of a head with a name.
+// What the bytes of a head with a name tell, of which there are fewer only where the file ends.
 fn named_head(bytes: &[u8]) -> Result<Head, CertFault>
     requires magic { starts_with nat_eq bytes.now magic_of_named ≡ true }
     requires few { length bytes.now ≤ LENGTH_OF_NAMED }

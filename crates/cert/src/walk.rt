@@ -177,7 +177,8 @@ impl<'a> Walk<'a> {
         Ok(report)
     }
 
-    /// The same, and what a picture shows beside the report.
+    /// The report on all datagrams so far and what a picture shows beside it, or the reason for
+    /// which they don't suffice.
     pub(crate) fn survey(&self, alloc: Global) -> Result<(Report, Survey), NoReport>
         requires { (datagrams : List (List ℕ)) × HasWalked self.now datagrams }
         ensures report { (datagrams : List (List ℕ)) → AreDatagrams datagrams

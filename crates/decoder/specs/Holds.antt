@@ -39,7 +39,8 @@ pub record Holds (store : Store) (at : ℕ → ℕ → Option (List ℕ)) : Type
   pub within : AreWithin store.fti at
   pub blocks : (b : ℕ) → IsStored store.fti b (kept_of store b) (at b)
 
--- the same but for the count
+-- the codes are the FTI's, and each block is kept for the symbols that stand at it; how many are
+-- solved isn't said
 pub record HoldsBlocks (store : Store) (at : ℕ → ℕ → Option (List ℕ)) : Type 0 where
   pub codes : EachBlockHas (IsCodeOf store.fti) store.fti store.codes
   pub recovery : IsKeptOf store.codes store.kept

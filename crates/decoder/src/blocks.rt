@@ -83,7 +83,8 @@ pub(crate) fn block_rows(
     }
 }
 
-/// The same for a block of what was received.
+/// The source symbols of a block of what was received, if all that came of it are symbols of an
+/// object.
 pub(crate) fn received_rows(
     alloc: Global,
     received: &Received<'_>,

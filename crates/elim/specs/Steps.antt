@@ -65,14 +65,15 @@ pub record SameSolutions {F : Type 0} (element : F → Type 0) (add mul : F → 
 pub record HasUnitColumns {F : Type 0} (none one : F) (k p : ℕ) (w : ℕ → ℕ → F) : Type 0 where
   pub at : (i j : ℕ) → i < k → j < p → w i j ≡ identity_entry none one i j
 
--- the same solutions, the columns before p kept, and the entry at p, p is one
+-- both systems have the same solutions, the columns before p are kept, and the entry at p, p is
+-- one
 pub record IsNormalized {F : Type 0} (element : F → Type 0) (add mul : F → F → F) (none one : F)
     (k p : ℕ) (w r w2 r2 : ℕ → ℕ → F) : Type 0 where
   pub equal : SameSolutions element add mul none k w r w2 r2
   pub kept : HasUnitColumns none one k p w → HasUnitColumns none one k p w2
   pub here : w2 p p ≡ one
 
--- the same solutions, and one column more is cleared
+-- both systems have the same solutions, and one column more is cleared
 pub record ClearsColumn {F : Type 0} (element : F → Type 0) (add mul : F → F → F) (none one : F)
     (k p : ℕ) (w r w2 r2 : ℕ → ℕ → F) : Type 0 where
   pub equal : SameSolutions element add mul none k w r w2 r2

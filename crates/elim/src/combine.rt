@@ -10,7 +10,7 @@ use crate::matrix::Matrix;
 use gf256::Field;
 use std::alloc::{AllocError, Global};
 
-/// The same entries with rows for columns.
+/// A matrix of `m`'s entries, with rows for columns.
 pub(crate) fn transposed<F: Field>(alloc: Global, m: &Matrix<F>) -> Result<Matrix<F>, AllocError>
     ensures { IfOk result
         (IsMatrixOf F.element F.ZERO m.now.cols m.now.rows (λ i j. entry F.ZERO m.now j i)) }

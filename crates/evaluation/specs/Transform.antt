@@ -41,7 +41,7 @@ rows_added (suc n) p q w = row_added (p + n) (q + n) (rows_added n p q w)
 unfoldable pub butterfly : ℕ → ℕ → ℕ → List (List ℕ) → List (List ℕ)
 butterfly c p q w = row_added q p (scaled_added c p q w)
 
--- the same of n rows from p and from q on
+-- the butterfly of rows p + i and q + i, for each i below n
 unfoldable pub butterflies : ℕ → ℕ → ℕ → ℕ → List (List ℕ) → List (List ℕ)
 butterflies zero c p q w = w
 butterflies (suc n) c p q w = butterfly c (p + n) (q + n) (butterflies n c p q w)
@@ -51,7 +51,7 @@ unfoldable pub group_expanded : ℕ → ℕ → List (List ℕ) → List (List �
 group_expanded q from w =
     rows_added q (from + q) (from + 2 * q) (rows_added q (from + 2 * q) (from + 3 * q) w)
 
--- the same in n groups
+-- in n groups of 4 q rows: x^(2 q) is (x^2 + x)^q + x^q, where q is a power of two
 unfoldable pub groups_expanded : ℕ → ℕ → List (List ℕ) → List (List ℕ)
 groups_expanded zero q w = w
 groups_expanded (suc n) q w = group_expanded q (n * (4 * q)) (groups_expanded n q w)
@@ -61,7 +61,7 @@ unfoldable pub expanded : ℕ → ℕ → List (List ℕ) → List (List ℕ)
 expanded b zero w = w
 expanded b (suc l) w = groups_expanded (2 ^ l) (2 ^ (b - 2 - l)) (expanded b l w)
 
--- the same, for the polynomials g and h of each that was expanded, and so on
+-- 2^b rows by powers of x^2 + x, then those of the polynomials g and h of each, and so on
 unfoldable pub all_expanded : ℕ → ℕ → List (List ℕ) → List (List ℕ)
 all_expanded b zero w = w
 all_expanded b (suc a) w = expanded b (b - 1 - a) (all_expanded b a w)

@@ -15,7 +15,7 @@ pub(crate) fn sum_lanes(a: u8x64, b: u8x64) -> u8x64
     a ^ b
 }
 
-/// The same of 32 lanes.
+/// The sums of bytes in 32 lanes.
 #[inline(always)]
 pub(crate) fn sum_entries(a: u8x32, b: u8x32) -> u8x32
     ensures { (t : ℕ) → t < 32

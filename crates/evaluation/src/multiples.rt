@@ -34,7 +34,7 @@ fn halves() -> u8x32
     ])
 }
 
-// The same, or nothing.
+// The low halves of bytes and then the high ones where `odd`, and zeros otherwise.
 #[inline(always)]
 fn halves_if(odd: bool) -> u8x32
     ensures { (t : ℕ) → t < 32 → slice_index result t ≡ cond odd (half t) 0 }

@@ -85,7 +85,7 @@ fn apply_butterfly(tile: &mut [u8x64; 256], multiples: &Multiples, c: u8, p: usi
     tile[q] = sum_lanes(v, sum);
 }
 
-// The same of `n` rows from `p` and from `q` on.
+// Adds `c` times row `q + i` to row `p + i`, and that to row `q + i`, for each `i` below `n`.
 #[inline(always)]
 fn apply_butterflies(
     tile: &mut [u8x64; 256],
@@ -138,7 +138,7 @@ fn expand(tile: &mut [u8x64; 256], b: usize, levels: usize)
     }
 }
 
-// The same, for the polynomials that each was expanded into, and so on.
+// 2^`b` coefficients by powers of x^2 + x, then those of each polynomial that this gives, and on.
 fn expand_all(tile: &mut [u8x64; 256], b: usize)
     requires some { 0 < b }
     requires few { b ≤ 8 }

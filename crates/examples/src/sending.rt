@@ -26,7 +26,7 @@ pub(crate) fn sent(alloc: Global) -> Result<Session, ExampleFault> {
     Ok(Session::read(alloc, &mut Pieces::new(file.bytes(), 4096))?)
 }
 
-/// The same, behind a datagram that is no packet.
+/// The object's session behind a datagram that is no packet.
 pub(crate) fn with_a_stray(alloc: Global) -> Result<Session, ExampleFault> {
     let mut stray = Session::new(alloc);
     let Ok(()) = stray.push(b"no packet".to_vec(alloc)?) else {

@@ -59,7 +59,7 @@ abbrev pub sum_at : List (List ℕ) → List ℕ → Tiling → ℕ → ℕ → 
 sum_at table lists tiling at t = horner 8 (λ b. byte_sum tiling.groups
     (λ q. lane table (q * tiling.entries + slice_index lists (at + b * tiling.step + q)) t))
 
--- the same for row r
+-- a lane of the sum that the list of row r looks up in the table
 abbrev pub tile_sum : List (List ℕ) → List ℕ → Tiling → ℕ → ℕ → ℕ
 tile_sum table lists tiling r t = sum_at table lists tiling (r * (8 * tiling.step)) t
 

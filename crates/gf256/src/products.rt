@@ -180,7 +180,8 @@ fn add_table(
     }
 }
 
-// The same for any number of rows.
+// Adds to each of any number of rows the products of the coefficients from `first` on and the
+// sources, which one table takes.
 fn add_rows(
     outputs: &mut [u8],
     coefficients: &Coefficients<'_>,
@@ -260,8 +261,8 @@ fn add_by_groups(
     }
 }
 
-// The same by tables of sums: of six sources each where many outputs share a table, and groups of
-// four would need more than one.
+// Adds to each row the products of its coefficients and all sources, by tables of sums: of six
+// sources each where many outputs share a table, and groups of four would need more than one.
 fn add_by_tables(outputs: &mut [u8], coefficients: &Coefficients<'_>, sources: &Sources<'_>)
     requires count { sources.now.count ≡ coefficients.now.count }
     requires outputs { length outputs.old ≡ coefficients.now.rows * sources.now.width }

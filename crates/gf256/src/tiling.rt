@@ -51,7 +51,7 @@ impl Tiling {
         }
     }
 
-    /// The same of fewer groups.
+    /// This tiling with fewer groups.
     #[inline(always)]
     pub(crate) fn with_groups(self, groups: usize) -> Tiling
         requires { groups ≤ self.groups }

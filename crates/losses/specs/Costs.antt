@@ -44,7 +44,7 @@ cheapest_of counts t last = filter (is_cheap (slice_index counts) t last) (prese
 abbrev pub cost_of : List ℕ → List ℕ → ℕ
 cost_of counts esis = total (slice_index counts) esis
 
--- the same of a block's members
+-- how many of a block's members have this ESI
 abbrev pub esi_copies : List Member → ℕ → ℕ
 esi_copies qs j = count_by (has_esi j) qs
 

@@ -46,7 +46,8 @@ IsToldBy orders None = ⊥
 IsToldBy orders (Some command) =
     (is_some (row_of orders command.0) ≡ true) × AreGiven command.1 (arguments_of orders command.0)
 
--- the same, wherever the orders' names lie in memory
+-- a command was read, and the rows have a value of each of its arguments, wherever the orders'
+-- names lie in memory
 abbrev pub IsTold : Option (Text × List Row) → Type 0
 IsTold read = (orders : Bor (List (Bor Text))) × IsOrders orders × IsToldBy orders read
 

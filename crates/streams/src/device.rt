@@ -21,7 +21,7 @@ pub struct Device<T> {
 }
 
 impl<T> Device<T> {
-    /// The same reader or writer, which hasn't failed.
+    /// A device of this reader or writer, which hasn't failed.
     pub fn new(inner: T) -> Device<T>
         ensures inner { result.inner ≡ inner }
         ensures left { result.left ≡ 2 ^ 63 - 1 }

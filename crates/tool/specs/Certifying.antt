@@ -20,7 +20,7 @@ IsUncertified Writing = ⊤
 IsUncertified (Fault Memory) = ⊤
 IsUncertified (Fault fault) = ⊥
 
--- the same of an object that is read: it may be broken too
+-- writing has failed, or there is no memory, or the object that is read is broken
 abbrev pub IsUncertifiedFrom : Fti → Option (List ℕ) → Bool → List ℕ → Unwritten → Type 0
 IsUncertifiedFrom f left sound name (Fault (File read)) =
     IsObjectBroken f left sound name (File read)

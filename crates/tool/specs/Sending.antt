@@ -28,7 +28,8 @@ IsUnsent f (Fault Memory) = ⊤
 IsUnsent f (Fault (Send SymbolTooLong)) = most_symbol_bytes < f.symbol_length
 IsUnsent f unwritten = ⊥
 
--- the same of an object that is read: it may be broken too
+-- writing has failed, or symbols are too long, or there is no memory, or the object that is read is
+-- broken
 abbrev pub IsUnsentFrom : Fti → Option (List ℕ) → Bool → List ℕ → Unwritten → Type 0
 IsUnsentFrom f left sound name (Fault (File read)) = IsObjectBroken f left sound name (File read)
 IsUnsentFrom f left sound name unwritten = IsUnsent f unwritten

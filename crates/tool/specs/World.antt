@@ -20,7 +20,7 @@ pub record World : Type 0 where
   pub failed : Bool
   pub created : Option ℕ
 
--- the same, but for one name
+-- the files, with these bytes under one name
 abbrev pub with_file : Files → List ℕ → List ℕ → Files
 with_file files name bytes = λ other. if bytes_eq name other then Some bytes else files other
 

@@ -67,7 +67,8 @@ pub fn refuse<H: Host>(host: &mut H) -> u8
     1
 }
 
-/// The same where there is no host yet, but an output.
+/// Prints `fault memory` to an output, where there is no host yet, and answers the status, which
+/// is 1.
 pub fn refuse_memory<W: Write>(out: &mut W) -> u8
     ensures told { (W.failed out.new ≡ true)
         ⊎ Appends (W.contents out.old) (W.contents out.new) (codes "fault memory\n") }

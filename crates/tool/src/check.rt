@@ -158,7 +158,7 @@ fn verdict_of<'a, R: Read>(
     }
 }
 
-// The same, with a survey at a yes.
+// The verdict on the frames that a reader has left, at a yes with a survey, or why there is none.
 fn survey_of<'a, R: Read>(
     alloc: Global,
     frames: &mut R,

@@ -17,7 +17,7 @@ pub(crate) enum Fault {
 }
 
 impl Fault {
-    /// The same in words.
+    /// The fault in words.
     pub(crate) fn text(self) -> &'static str {
         match self {
             Fault::UnknownBeginning => "this begins like no line of a transcript",
@@ -33,7 +33,7 @@ impl Fault {
         }
     }
 
-    /// The same of the line that names the file or the command.
+    /// The fault at the line that names the file or the command.
     pub(crate) fn here(self) -> Wrong {
         Wrong {
             place: 0,

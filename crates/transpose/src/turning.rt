@@ -63,7 +63,7 @@ fn turn_bytes(rows: &mut [u8], columns: &Columns<'_>)
     }
 }
 
-// The same for 16 rows.
+// The 16 rows from `top` on, square by square.
 fn turn_side(rows: &mut [u8], columns: &Columns<'_>, top: usize)
     requires some_columns { 16 ≤ columns.now.width }
     requires inside { top + 16 ≤ columns.now.count }
@@ -80,7 +80,7 @@ fn turn_side(rows: &mut [u8], columns: &Columns<'_>, top: usize)
     }
 }
 
-// The same for 16 rows and columns.
+// The square of 16 rows from `top` on and 16 columns from `left` on.
 #[inline(always)]
 fn turn_square(rows: &mut [u8], columns: &Columns<'_>, top: usize, left: usize)
     requires inside { top + 16 ≤ columns.now.count }

@@ -25,7 +25,7 @@ const TWO_COLUMNS: [u8; 18] = [
     0x52, 0x53, 0x43, 0x31, 0, 0, 0, 0, 0, 3, 0, 2, 2, 3, 0xF6, 0xF1, 0xFB, 0xF3,
 ];
 
-// The same for TSI 1 and TOI 1, by rows.
+// The certificate of FTI (3, 2, 2, 3) for TSI 1 and TOI 1, by rows.
 const TWO_COLUMNS_NAMED: [u8; 38] = [
     0x52, 0x53, 0x43, 0x32, 0, 0, 0, 0, 0, 1, 0, 0, 0, 0, 0, 0, 0, 0, 0, 0, 0, 0, 0, 1, 0, 0, 0, 0,
     0, 3, 0, 2, 2, 3, 0xF6, 0xFB, 0xF1, 0xF3,
@@ -37,7 +37,7 @@ const GREATEST: Identity = Identity {
     toi: 0xFFFF_FFFF_FFFF_FFFF_FFFF_FFFF_FFFF,
 };
 
-// The same for these.
+// The certificate of FTI (3, 2, 2, 3) for the greatest TSI and TOI, by rows.
 const TWO_COLUMNS_OF_GREATEST: [u8; 38] = [
     0x52, 0x53, 0x43, 0x32, 0xFF, 0xFF, 0xFF, 0xFF, 0xFF, 0xFF, 0xFF, 0xFF, 0xFF, 0xFF, 0xFF, 0xFF,
     0xFF, 0xFF, 0xFF, 0xFF, 0xFF, 0xFF, 0xFF, 0xFF, 0, 0, 0, 0, 0, 3, 0, 2, 2, 3, 0xF6, 0xFB, 0xF1,
@@ -128,7 +128,7 @@ fn is_named_as(alloc: Global, certificate: &Certificate, name: Identity, text: &
     }
 }
 
-// The same without a copy.
+// Whether the certificate of two columns, given a name without a copy, has this text.
 fn is_turned_into(alloc: Global, certificate: Certificate, name: Identity, text: &[u8]) -> bool
     requires { IsIdentity name }
 {

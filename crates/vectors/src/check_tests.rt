@@ -18,7 +18,7 @@ pub(crate) const CERTIFICATE: [u8; 16] = [
     0x52, 0x53, 0x43, 0x31, 0, 0, 0, 0, 0, 2, 0, 1, 2, 3, 0, 1,
 ];
 
-/// The same with the name of its packets.
+/// The object's certificate with the name of its packets.
 pub(crate) const NAMED_CERTIFICATE: [u8; 36] = [
     0x52, 0x53, 0x43, 0x32, 0, 0, 0, 0, 0, 1, 0, 0, 0, 0, 0, 0, 0, 0, 0, 0, 0, 0, 0, 1, 0, 0, 0, 0,
     0, 2, 0, 1, 2, 3, 0, 1,
@@ -32,7 +32,7 @@ pub(crate) const SESSION: [u8; 105] = [
     0, 0, 0, 0, 0, 0, 0, 1, 0, 0, 0, 1, 0x40, 3, 0, 0, 0, 0, 0, 2, 0, 1, 2, 3, 0, 0, 0, 2, 4,
 ];
 
-/// The same with the FTI in the first datagram alone, of frames of 35, 23 and 23 bytes.
+/// The object's three datagrams, the FTI in the first alone: frames of 35, 23 and 23 bytes.
 pub(crate) const FIRST_ALONE: [u8; 81] = [
     0x00, 0x21, 0x10, 0xA0, 0x07, 0x05, 0, 0, 0, 0, 0, 0, 0, 1, 0, 0, 0, 1, 0x40, 3, 0, 0, 0, 0, 0,
     2, 0, 1, 2, 3, 0, 0, 0, 0, 1, 0x00, 0x15, 0x10, 0xA0, 0x04, 0x05, 0, 0, 0, 0, 0, 0, 0, 1, 0, 0,
@@ -51,7 +51,7 @@ pub(crate) fn certificate_of(alloc: Global, text: &[u8]) -> Result<Certificate, 
     Certificate::read(alloc, &mut Pieces::new(text, 5))
 }
 
-// The same with another symbol in datagram 1.
+// The session with another symbol in datagram 1.
 fn changed() -> [u8; 105] {
     let mut session = SESSION;
     session[69] = 9;
@@ -421,7 +421,7 @@ fn twice() -> [u8; 162] {
     session
 }
 
-// The same once, with the last datagram a carrier too.
+// The session whose first and last datagrams are carriers.
 fn first_and_last() -> [u8; 93] {
     let mut session = [0; 93];
     session[..58].copy_from_slice(&FIRST_ALONE[..58]);

@@ -89,7 +89,7 @@ fn plain_file(alloc: Global) -> Result<Vec<u8>, Fail> {
     Ok(bytes_of(alloc, &certificate)?)
 }
 
-// The same with the name.
+// The file of the object's certificate, with the name.
 fn named_file(alloc: Global) -> Result<Vec<u8>, Fail> {
     let certificate = certificate(alloc)?.into_named(ONE)?;
     Ok(bytes_of(alloc, &certificate)?)

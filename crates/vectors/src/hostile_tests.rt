@@ -344,7 +344,8 @@ fn is_sent_up_to(alloc: Global, fti: &Fti, most: usize, room: usize) -> bool
     sent == wanted && sink.bytes() == SESSION.split_at(room.min(105)).0
 }
 
-// The same of writing the session.
+// Whether writing the session ends so where the writer takes only so many bytes, one at a time, and
+// has these.
 fn is_written_up_to(alloc: Global, session: &Session, room: usize) -> bool {
     let mut sink = Sink::limited(alloc, 1, room);
     let written = session.write(&mut sink);
@@ -449,7 +450,7 @@ fn sending_stops(alloc: Global, fti: &Fti, before: usize) -> bool {
     sent == Err(SendFault::Io) && has_taken(writer, SESSION.split_at(before.min(105)).0)
 }
 
-// The same of writing the session.
+// Whether writing the session fails behind so many bytes.
 fn writing_stops(alloc: Global, session: &Session, before: usize) -> bool {
     let mut writer = stuck_behind(alloc, before);
     let written = session.write(&mut writer);
@@ -472,7 +473,7 @@ fn a_write_that_takes_nothing(rt: HostRuntime) -> Result<(), Fail> {
     Ok(())
 }
 
-// The same of a certificate's text.
+// Whether writing a certificate's text fails behind so many bytes.
 fn certificate_stops(alloc: Global, certificate: &Certificate, text: &[u8], before: usize) -> bool {
     let mut writer = stuck_behind(alloc, before);
     let written = certificate.write(&mut writer);

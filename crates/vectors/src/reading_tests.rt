@@ -9,8 +9,8 @@ use session::{Pieces, Sink};
 use std::alloc::Global;
 use std::test::Fail;
 
-// Whether as many datagrams are sent of an object that comes in pieces as of one that is there, and
-// the same.
+// Whether an object that comes in pieces gives as many datagrams as one that is there, and the very
+// same ones.
 fn is_sent_alike(
     alloc: Global,
     object: &[u8],

@@ -226,7 +226,7 @@ fn second_of_another() -> [u8; 21] {
     datagram
 }
 
-// The same with a byte more.
+// The datagram at place 1 with a byte more.
 fn longer_second() -> [u8; 22] {
     let mut datagram = [0; 22];
     datagram[..21].copy_from_slice(&FIRST_ALONE[37..58]);

@@ -60,7 +60,8 @@ fn says_yes_to_sent(
         && says_yes_to_file(alloc, sink.bytes(), object, certificate, carriers)
 }
 
-// The same in each order, with the FTI in all datagrams, in each third and in the first alone.
+// Whether the object's session gets a yes in each order, with the FTI in all datagrams, in each
+// third and in the first alone.
 fn says_yes_always(
     alloc: Global,
     object: &[u8],
