@@ -1,11 +1,11 @@
 #!/usr/bin/env python3
 """Times the program's commands: MB/s of object, and the most memory that each held, in MiB.
 
-Each command runs once for each row, on one core, with files that the program itself made of random bytes. `drop` leaves
-1,000 places out, a quarter at most. `decode` gets a session without as many source symbols of each block as it has
-repair symbols, or without all of them where there are as many repair symbols. A command that the program doesn't have
-is told as `-`.
-The tables go to standard output, the seconds to standard error as they come. The whole takes some minutes.
+Each command runs once for each row, on one core, with files that the program itself made of random
+bytes. `drop` leaves 1,000 places out, a quarter at most. `decode` gets a session without as many
+source symbols of each block as it has repair symbols, or without all of them where there are as
+many repair symbols. A command that the program doesn't have is told as `-`. The tables go to
+standard output, the seconds to standard error as they come. The whole takes some minutes.
 """
 import argparse
 import filecmp
@@ -89,7 +89,9 @@ def high_water(pid):
     """The most memory that a process has held so far, in KiB, or 0 where it has ended."""
     try:
         with open(f"/proc/{pid}/status", encoding="ascii") as status:
-            return max((int(line.split()[1]) for line in status if line.startswith("VmHWM")), default=0)
+            return max(
+                (int(line.split()[1]) for line in status if line.startswith("VmHWM")), default=0
+            )
     except OSError:
         return 0
 
@@ -102,8 +104,8 @@ def watch(pid, ended, peaks):
 def wait_for(child):
     """The child's status, and the most memory that it held, in KiB.
 
-    The system counts this script's memory in, as the child began as a copy of it. Where that hides the child's, the
-    most that was seen while it ran is told.
+    The system counts this script's memory in, as the child began as a copy of it. Where that hides
+    the child's, the most that was seen while it ran is told.
     """
     ended, peaks = threading.Event(), [0]
     watcher = threading.Thread(target=watch, args=(child.pid, ended, peaks))
@@ -120,7 +122,9 @@ def run(command, words, folder):
     """Seconds and MiB, or None where there is no such command."""
     with tempfile.TemporaryFile() as output:
         begin = time.perf_counter()
-        child = subprocess.Popen([PROGRAM, command, *words], cwd=folder, stdout=output, stderr=output)
+        child = subprocess.Popen(
+            [PROGRAM, command, *words], cwd=folder, stdout=output, stderr=output
+        )
         status, kibibytes = wait_for(child)
         seconds = time.perf_counter() - begin
         output.seek(0)
@@ -136,7 +140,9 @@ def measure(case, wanted):
     """What each command took, those that make files for the wanted ones among them."""
     results = {}
     with tempfile.TemporaryDirectory() as folder:
-        path = {name: os.path.join(folder, name) for name in ("object", "session", "thin", "decoded")}
+        path = {
+            name: os.path.join(folder, name) for name in ("object", "session", "thin", "decoded")
+        }
         write_object(path["object"], case.size)
         for command, words in case.words().items():
             if command not in wanted and command not in ("encode", "certify"):
@@ -146,8 +152,9 @@ def measure(case, wanted):
             result = results[command] = run(command, words, folder)
             told = "no such command" if result is None else f"{result[0]:.2f} s"
             print(f"{case.name()}, {command}: {told}", file=sys.stderr)
-            if command == "decode" and result and not filecmp.cmp(path["object"], path["decoded"], shallow=False):
-                sys.exit(f"decode didn't give the object: {case.name()}")
+            if command == "decode" and result:
+                if not filecmp.cmp(path["object"], path["decoded"], shallow=False):
+                    sys.exit(f"decode didn't give the object: {case.name()}")
     return results
 
 
@@ -174,7 +181,9 @@ def table(title, cases, wanted, measured):
 
 
 def main():
-    options = argparse.ArgumentParser(description=__doc__, formatter_class=argparse.RawDescriptionHelpFormatter)
+    options = argparse.ArgumentParser(
+        description=__doc__, formatter_class=argparse.RawDescriptionHelpFormatter
+    )
     options.add_argument("--quick", action="store_true", help="4 MiB of 128/160 alone")
     options.add_argument("--only", choices=COMMANDS, metavar="COMMAND", help=", ".join(COMMANDS))
     chosen = options.parse_args()

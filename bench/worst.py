@@ -1,9 +1,11 @@
 #!/usr/bin/env python3
-"""Times the program's commands on inputs that are made to take long: MB/s of all input files, and the seconds.
+"""Times the program's commands on inputs that are made to take long: MB/s of all input files, and
+the seconds.
 
-Each row is one input in each command that reads it, once, on one core. Sessions that no encoder sends are made here, the
-others by the program. The table goes to standard output; the whole takes some minutes, and the greatest inputs are of 78 MB.
-Inputs named on the command line are the only ones then.
+Each row is one input in each command that reads it, once, on one core. Sessions that no encoder
+sends are made here, the others by the program. The table goes to standard output; the whole takes
+some minutes, and the greatest inputs are of 78 MB. Inputs named on the command line are the only
+ones then.
 """
 import os
 import random
@@ -32,7 +34,8 @@ WORDS = {
 def frame(fti, block, esi, symbol):
     """The frame of a packet."""
     length, size, most, encoding = fti
-    content = struct.pack(">Q", length)[2:] + struct.pack(">HBBI", size, most, encoding, block << 8 | esi)
+    content = struct.pack(">Q", length)[2:]
+    content += struct.pack(">HBBI", size, most, encoding, block << 8 | esi)
     datagram = HEADER + content + symbol
     return struct.pack(">H", len(datagram)) + datagram
 
@@ -148,11 +151,14 @@ def other_losses():
 
 
 def tries_to_solve():
-    """127 repair symbols of a block, and 2,000 source symbols by turns that are of no object with them."""
+    """127 repair symbols of a block, and 2,000 source symbols by turns that are of no object with
+    them.
+    """
     fti = (255, 2, 128, 255)
     chance = random.Random(3)
     repair = b"".join(frame(fti, 0, esi, chance.randbytes(2)) for esi in range(128, 255))
-    put("s", repair + (frame(fti, 0, 0, chance.randbytes(2)) + frame(fti, 0, 1, chance.randbytes(2))) * 1000)
+    sources = frame(fti, 0, 0, chance.randbytes(2)) + frame(fti, 0, 1, chance.randbytes(2))
+    put("s", repair + sources * 1000)
 
 
 def places():
@@ -189,10 +195,16 @@ def words_of(command):
 def run(words):
     """The seconds of a run, its status and the most MiB that it held."""
     start = time.monotonic()
-    child = subprocess.Popen([PROGRAM, *words], stdout=subprocess.DEVNULL, stderr=subprocess.DEVNULL)
+    child = subprocess.Popen(
+        [PROGRAM, *words], stdout=subprocess.DEVNULL, stderr=subprocess.DEVNULL
+    )
     _, status, used = os.wait4(child.pid, 0)
     child.returncode = os.waitstatus_to_exitcode(status)
     return time.monotonic() - start, child.returncode, used.ru_maxrss // 1024
+
+
+def name_of(make):
+    return " ".join(make.__doc__.split()).rstrip(".")
 
 
 def main(names):
@@ -203,14 +215,16 @@ def main(names):
             continue
         with tempfile.TemporaryDirectory() as folder:
             os.chdir(folder)
-            # In a process of its own, since what this one holds counts for a command that it starts.
+            # In a process of its own, since what this one holds counts for a command that it
+            # starts.
             subprocess.run([sys.executable, SCRIPT, "--make", make.__name__], check=True)
             for command in commands:
                 words = words_of(command)
-                size = sum(os.path.getsize(word) for word in words[1:] if word in ("s", "o", "c")) / 1e6
+                inputs = [word for word in words[1:] if word in ("s", "o", "c")]
+                size = sum(map(os.path.getsize, inputs)) / 1e6
                 seconds, status, held = run(words)
                 row = f"{size:.1f} | {seconds:.2f} | {size / seconds:.1f} | {held} | {status}"
-                print(f"| {make.__doc__.rstrip('.')} | `{command}` | {row} |", flush=True)
+                print(f"| {name_of(make)} | `{command}` | {row} |", flush=True)
             os.chdir(ROOT)
 
 

@@ -1,4 +1,4 @@
-# Completion of alcrs for bash. docs/manual.py makes this file of samples/help.
+# Completion of alcrs for bash. ci/manual.py makes this file of samples/help.
 
 # The words that begin as the one that is typed.
 _alcrs_words() {
@@ -30,7 +30,8 @@ _alcrs_value() {
 
 _alcrs() {
     local commands="encode certify convert check drop salvage join decode follow twin show help"
-    local typed="${COMP_WORDS[COMP_CWORD]}" before="" given=" " places=0 only_arguments="" options files at word
+    local typed="${COMP_WORDS[COMP_CWORD]}" before="" given=" " places=0 only_arguments=""
+    local options files at word
     COMPREPLY=()
     if [ "$COMP_CWORD" -le 1 ]; then
         _alcrs_words "$commands -h --help -V --version" "$typed"

@@ -1,4 +1,4 @@
-# Completion of alcrs for fish. docs/manual.py makes this file of samples/help.
+# Completion of alcrs for fish. ci/manual.py makes this file of samples/help.
 
 # The command is the first word behind the program's name.
 function __alcrs_has_no_command

@@ -4,21 +4,23 @@
     answer = alcrs.check(session, an_object, certificate, tsi=7, toi=1)
     print(answer.margin if isinstance(answer, alcrs.Report) else answer)
 
-Sessions, objects and certificates are bytes. The module loads libalcrs.so.1, or the library that the environment variable
-ALCRS_LIBRARY names. Calls may run in several threads: ctypes lets other threads run meanwhile.
+Sessions, objects and certificates are bytes. The module loads libalcrs.so.1, or the library that
+the environment variable ALCRS_LIBRARY names. Calls may run in several threads: ctypes lets other
+threads run meanwhile.
 """
 from __future__ import annotations
 
 import ctypes
 import os
-from ctypes import POINTER, byref, c_bool, c_char_p, c_size_t, c_uint8, c_uint16, c_uint32, c_uint64, c_void_p
+from ctypes import POINTER, byref, c_bool, c_char_p, c_size_t, c_void_p
+from ctypes import c_uint8, c_uint16, c_uint32, c_uint64
 from dataclasses import dataclass
 from enum import IntEnum
 from typing import Callable, List, Tuple, Union
 
 __all__ = [
-    "AlcrsError", "Early", "Empty", "Missing", "No", "NoCertificate", "NoneShort", "NoSession", "Receiver", "Refused",
-    "Report", "Status",
+    "AlcrsError", "Early", "Empty", "Missing", "No", "NoCertificate", "NoneShort", "NoSession",
+    "Receiver", "Refused", "Report", "Status",
     "certify", "check", "decode", "encode", "object_length", "twin", "version",
 ]
 
@@ -57,7 +59,9 @@ class _Block(ctypes.Structure):
 
 
 class _Report(ctypes.Structure):
-    _fields_ = [(name, c_size_t) for name in ("block_count", "carriers", "margin", "burst", "kill_count")]
+    _fields_ = [
+        (name, c_size_t) for name in ("block_count", "carriers", "margin", "burst", "kill_count")
+    ]
 
 
 class _Receiver(ctypes.Structure):
@@ -66,12 +70,13 @@ class _Receiver(ctypes.Structure):
 
 # The words of each reason, as the program prints them: {place} and the like are the fault's fields.
 _FTI = {
-    1: "F1 LengthZero", 2: "F2 LengthTooGreat", 3: "F3 SymbolZero", 4: "F4 BlockZero", 5: "F5 MaxBelowBlock",
-    6: "F6 TooManyBlocks",
+    1: "F1 LengthZero", 2: "F2 LengthTooGreat", 3: "F3 SymbolZero", 4: "F4 BlockZero",
+    5: "F5 MaxBelowBlock", 6: "F6 TooManyBlocks",
 }
 _PACKET = {
-    1: "P1 TooShort", 2: "P2 Version", 3: "P3 Psi", 4: "P4 Codepoint", 5: "P5 NoIdentity", 6: "P6 HeaderLength",
-    7: "P7 Extension", 8: "P8 FtiLength", 9: "P9 TwoFti", 11: "P11 FtiValue", 12: "P12 PayloadLength",
+    1: "P1 TooShort", 2: "P2 Version", 3: "P3 Psi", 4: "P4 Codepoint", 5: "P5 NoIdentity",
+    6: "P6 HeaderLength", 7: "P7 Extension", 8: "P8 FtiLength", 9: "P9 TwoFti",
+    11: "P11 FtiValue", 12: "P12 PayloadLength",
 }
 _REASONS = {
     Status.NO: {
@@ -115,11 +120,15 @@ _OTHERS = {
 def _words(status: Status, fault: _Fault) -> str:
     words = _REASONS.get(status, {}).get(fault.number, _OTHERS.get(status, status.name))
     words = words.format(**{name: getattr(fault, name) for name, _ in _Fault._fields_})
-    return " ".join(it for it in (words, _PACKET.get(fault.packet, ""), _FTI.get(fault.fti, "")) if it)
+    return " ".join(
+        it for it in (words, _PACKET.get(fault.packet, ""), _FTI.get(fault.fti, "")) if it
+    )
 
 
 class AlcrsError(Exception):
-    """A call that gave no answer. Its text has the reason's words; the fields are those of the library's fault."""
+    """A call that gave no answer. Its text has the reason's words; the fields are those of the
+    library's fault.
+    """
 
     def __init__(self, status: Status, fault: _Fault) -> None:
         super().__init__(_words(status, fault))
@@ -214,8 +223,8 @@ _NUMBERS = (c_uint16, c_uint8, c_uint8)
 _OUTPUT = (POINTER(_Fault), POINTER(c_uint8), c_size_t, POINTER(c_size_t))
 for _call, _arguments in {
     "version": (),
-    "check": (*_INPUT, *_INPUT, *_INPUT, *_NAME, POINTER(_Fault), POINTER(_Report), POINTER(_Block), c_size_t,
-              POINTER(c_size_t), c_size_t),
+    "check": (*_INPUT, *_INPUT, *_INPUT, *_NAME, POINTER(_Fault), POINTER(_Report),
+              POINTER(_Block), c_size_t, POINTER(c_size_t), c_size_t),
     "object_length": (*_INPUT, *_NAME, POINTER(_Fault), POINTER(c_uint64)),
     "decode": (*_INPUT, *_NAME, *_OUTPUT),
     "encode": (*_INPUT, c_uint32, c_uint32, *_NUMBERS, c_uint32, c_bool, *_OUTPUT),
@@ -266,8 +275,11 @@ def _put(call: Callable[..., int], room: int) -> bytes:
     return bytes(memoryview(out)[: size.value])
 
 
-def check(session: bytes, an_object: bytes, certificate: bytes, tsi: int, toi: int) -> Union[Report, No]:
-    """Checks the packets of this TSI and TOI in a session, with the object and its certificate: a Report or a No.
+def check(
+    session: bytes, an_object: bytes, certificate: bytes, tsi: int, toi: int
+) -> Union[Report, No]:
+    """Checks the packets of this TSI and TOI in a session, with the object and its certificate: a
+    Report or a No.
 
     Raises NoSession, NoCertificate or MemoryError.
     """
@@ -275,61 +287,106 @@ def check(session: bytes, an_object: bytes, certificate: bytes, tsi: int, toi: i
     block_room, kill_room = 256, 256
     while True:
         blocks, kill = (_Block * block_room)(), (c_size_t * kill_room)()
-        status = _library.alcrs_check(session, len(session), an_object, len(an_object), certificate, len(certificate),
-                                      *_name(tsi, toi), byref(fault), byref(report), blocks, block_room, kill, kill_room)
-        if status != Status.OK or (report.block_count <= block_room and report.kill_count <= kill_room):
+        status = _library.alcrs_check(
+            session, len(session), an_object, len(an_object), certificate, len(certificate),
+            *_name(tsi, toi), byref(fault), byref(report), blocks, block_room, kill, kill_room,
+        )
+        if status != Status.OK or (
+            report.block_count <= block_room and report.kill_count <= kill_room
+        ):
             break
-        block_room, kill_room = max(block_room, report.block_count), max(kill_room, report.kill_count)
+        block_room = max(block_room, report.block_count)
+        kill_room = max(kill_room, report.kill_count)
     if status == Status.NO:
-        return No(**{name: getattr(fault, name) for name, _ in _Fault._fields_}, words=_words(Status.NO, fault))
+        return No(
+            **{name: getattr(fault, name) for name, _ in _Fault._fields_},
+            words=_words(Status.NO, fault),
+        )
     if status != Status.OK:
         raise _error(status, fault)
-    return Report([(it.need, it.have) for it in blocks[: report.block_count]], report.carriers, report.margin,
-                  list(kill[: report.kill_count]), report.burst)
+    have = [(it.need, it.have) for it in blocks[: report.block_count]]
+    killed = list(kill[: report.kill_count])
+    return Report(have, report.carriers, report.margin, killed, report.burst)
 
 
 def object_length(session: bytes, tsi: int, toi: int) -> int:
-    """The length of the object that is sent, as the first carrier tells it. Raises Empty, NoSession or MemoryError."""
+    """The length of the object that is sent, as the first carrier tells it. Raises Empty, NoSession
+    or MemoryError.
+    """
     fault, size = _Fault(), c_uint64()
-    status = _library.alcrs_object_length(session, len(session), *_name(tsi, toi), byref(fault), byref(size))
+    status = _library.alcrs_object_length(
+        session, len(session), *_name(tsi, toi), byref(fault), byref(size)
+    )
     if status != Status.OK:
         raise _error(status, fault)
     return size.value
 
 
 def decode(session: bytes, tsi: int, toi: int) -> bytes:
-    """The object that the packets of this TSI and TOI give. Raises Missing, Empty, Refused, NoSession or MemoryError."""
+    """The object that the packets of this TSI and TOI give. Raises Missing, Empty, Refused,
+    NoSession or MemoryError.
+    """
     name = _name(tsi, toi)
     # A carrier may claim any length, so the buffer begins no longer than what the session can give.
-    return _put(lambda *out: _library.alcrs_decode(session, len(session), *name, *out), len(session))
+    return _put(
+        lambda *out: _library.alcrs_decode(session, len(session), *name, *out), len(session)
+    )
 
 
-def encode(an_object: bytes, tsi: int, toi: int, symbol_length: int, block_length: int, max_symbols: int,
-           fti_every: int = 1, rounds: bool = False) -> bytes:
+def encode(
+    an_object: bytes, tsi: int, toi: int, symbol_length: int, block_length: int, max_symbols: int,
+    fti_every: int = 1, rounds: bool = False,
+) -> bytes:
     """The session of an object. Raises ValueError where the numbers don't do, or MemoryError."""
-    ids = _numbers((tsi, 32), (toi, 32), (symbol_length, 16), (block_length, 8), (max_symbols, 8), (fti_every, 32))
-    return _put(lambda *out: _library.alcrs_encode(an_object, len(an_object), *ids, rounds, *out), 2 * len(an_object))
+    ids = _numbers(
+        (tsi, 32),
+        (toi, 32),
+        (symbol_length, 16),
+        (block_length, 8),
+        (max_symbols, 8),
+        (fti_every, 32),
+    )
+    return _put(
+        lambda *out: _library.alcrs_encode(an_object, len(an_object), *ids, rounds, *out),
+        2 * len(an_object),
+    )
 
 
-def certify(an_object: bytes, tsi: int, toi: int, symbol_length: int, block_length: int, max_symbols: int) -> bytes:
-    """The certificate of an object. Raises ValueError where the numbers don't do, or MemoryError."""
+def certify(
+    an_object: bytes, tsi: int, toi: int, symbol_length: int, block_length: int, max_symbols: int
+) -> bytes:
+    """The certificate of an object. Raises ValueError where the numbers don't do, or MemoryError.
+    """
     numbers = _numbers((symbol_length, 16), (block_length, 8), (max_symbols, 8))
     room = len(an_object) + symbol_length + 34
-    return _put(lambda *out: _library.alcrs_certify(an_object, len(an_object), *_name(tsi, toi), *numbers, *out), room)
+    return _put(
+        lambda *out: _library.alcrs_certify(
+            an_object, len(an_object), *_name(tsi, toi), *numbers, *out
+        ),
+        room,
+    )
 
 
 def twin(session: bytes, an_object: bytes, certificate: bytes, tsi: int, toi: int) -> bytes:
-    """Another object that agrees with all packets of this TSI and TOI in the session, where a block has too few symbols.
+    """Another object that agrees with all packets of this TSI and TOI in the session, where a block
+    has too few symbols.
 
-    Raises NoneShort where the check says yes, AlcrsError with another reason of a no, NoSession, NoCertificate or MemoryError.
+    Raises NoneShort where the check says yes, AlcrsError with another reason of a no, NoSession,
+    NoCertificate or MemoryError.
     """
     name = _name(tsi, toi)
-    return _put(lambda *out: _library.alcrs_twin(session, len(session), an_object, len(an_object), certificate,
-                                                 len(certificate), *name, *out), len(an_object))
+    return _put(
+        lambda *out: _library.alcrs_twin(
+            session, len(session), an_object, len(an_object), certificate, len(certificate),
+            *name, *out,
+        ),
+        len(an_object),
+    )
 
 
 class Receiver:
-    """A receiver of the datagrams of one object, one at a time. It belongs to one thread; a with statement closes it.
+    """A receiver of the datagrams of one object, one at a time. It belongs to one thread; a with
+    statement closes it.
 
         with alcrs.Receiver(tsi=7, toi=1) as receiver:
             while not receiver.feed(next_datagram()):
@@ -346,17 +403,21 @@ class Receiver:
     def feed(self, datagram: bytes) -> bool:
         """Passes a datagram on, and tells whether the object is there.
 
-        Where it raises, the datagram is refused and the receiver as before: Refused, Early, AlcrsError or MemoryError;
-        ValueError where the receiver is closed.
+        Where it raises, the datagram is refused and the receiver as before: Refused, Early,
+        AlcrsError or MemoryError; ValueError where the receiver is closed.
         """
         fault = _Fault()
-        status = _library.alcrs_receiver_feed(byref(self._handle), datagram, len(datagram), byref(fault))
+        status = _library.alcrs_receiver_feed(
+            byref(self._handle), datagram, len(datagram), byref(fault)
+        )
         if status not in (Status.OK, Status.MORE):
             raise _error(status, fault)
         return status == Status.OK
 
     def object(self) -> bytes:
-        """The object that the datagrams give. Raises Missing, Empty or MemoryError, or ValueError where it is closed."""
+        """The object that the datagrams give. Raises Missing, Empty or MemoryError, or ValueError
+        where it is closed.
+        """
         return _put(lambda *out: _library.alcrs_receiver_object(byref(self._handle), *out), 0)
 
     def close(self) -> None:

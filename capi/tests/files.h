@@ -1,4 +1,5 @@
-/* The session, the object and the certificate that a test's words name: SESSION OBJECT CERTIFICATE TSI TOI. */
+/* The session, the object and the certificate that a test's words name: SESSION OBJECT CERTIFICATE
+ * TSI TOI. */
 #ifndef FILES_H
 #define FILES_H
 #include <stdint.h>
@@ -35,8 +36,8 @@ static struct bytes read_file(const char *name) {
 
 static struct files read_files(int count, char **words) {
     if (count != 6) exit(2);
-    struct files files = {read_file(words[1]), read_file(words[2]), read_file(words[3]), strtoull(words[4], 0, 10),
-                          strtoull(words[5], 0, 10)};
+    struct files files = {read_file(words[1]), read_file(words[2]), read_file(words[3]),
+                          strtoull(words[4], 0, 10), strtoull(words[5], 0, 10)};
     return files;
 }
 

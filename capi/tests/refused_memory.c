@@ -1,5 +1,6 @@
-/* Refuses the n-th allocation of each call, for n from 0 until the call needs no more. Each call has to end as with memory, or
- * by ALCRS_NO_MEMORY with its outputs as they were. Linked with --wrap=malloc,--wrap=realloc. */
+/* Refuses the n-th allocation of each call, for n from 0 until the call needs no more. Each call
+ * has to end as with memory, or by ALCRS_NO_MEMORY with its outputs as they were. Linked with
+ * --wrap=malloc,--wrap=realloc. */
 #include "files.h"
 #include <alcrs.h>
 #include <string.h>
@@ -43,21 +44,25 @@ static uint8_t *buffer;
 static size_t buffer_size;
 
 static enum alcrs_status call(int which) {
-    const uint8_t *session = files.session.at, *object = files.object.at, *certificate = files.certificate.at;
+    const uint8_t *session = files.session.at, *object = files.object.at,
+                  *certificate = files.certificate.at;
     size_t s = files.session.size, o = files.object.size, z = files.certificate.size;
     struct outputs *out = &outputs;
     switch (which) {
     case CHECK:
-        return alcrs_check(session, s, object, o, certificate, z, files.tsi, 0, files.toi, &out->fault, &out->report,
-                           out->blocks, 4, out->kill, 8);
+        return alcrs_check(session, s, object, o, certificate, z, files.tsi, 0, files.toi,
+                           &out->fault, &out->report, out->blocks, 4, out->kill, 8);
     case LENGTH:
         return alcrs_object_length(session, s, files.tsi, 0, files.toi, &out->fault, &out->length);
     case DECODE:
-        return alcrs_decode(session, s, files.tsi, 0, files.toi, &out->fault, buffer, buffer_size, &out->size);
+        return alcrs_decode(session, s, files.tsi, 0, files.toi, &out->fault, buffer, buffer_size,
+                            &out->size);
     case ENCODE:
-        return alcrs_encode(object, o, 7, 1, 250, 27, 33, 1, true, &out->fault, buffer, buffer_size, &out->size);
+        return alcrs_encode(object, o, 7, 1, 250, 27, 33, 1, true, &out->fault, buffer, buffer_size,
+                            &out->size);
     case CERTIFY:
-        return alcrs_certify(object, o, 7, 0, 1, 250, 27, 33, &out->fault, buffer, buffer_size, &out->size);
+        return alcrs_certify(object, o, 7, 0, 1, 250, 27, 33, &out->fault, buffer, buffer_size,
+                             &out->size);
     case OPEN: {
         struct alcrs_receiver receiver = {0};
         enum alcrs_status status = alcrs_receiver_open(&receiver, files.tsi, 0, files.toi);
@@ -68,19 +73,22 @@ static enum alcrs_status call(int which) {
         /* Without its first half the session has too few symbols. */
         size_t from = 0;
         while (from < s / 2) from += 2 + ((size_t)session[from] << 8 | session[from + 1]);
-        return alcrs_twin(session + from, s - from, object, o, certificate, z, files.tsi, 0, files.toi, &out->fault,
-                          buffer, buffer_size, &out->size);
+        return alcrs_twin(session + from, s - from, object, o, certificate, z, files.tsi, 0,
+                          files.toi, &out->fault, buffer, buffer_size, &out->size);
     }
     }
 }
 
-/* Feeds a receiver and asks for the object. What is refused for want of memory is passed, or asked for, once more. */
+/* Feeds a receiver and asks for the object. What is refused for want of memory is passed, or asked
+ * for, once more. */
 static int receives(void) {
     const uint8_t *session = files.session.at;
     struct alcrs_receiver receiver = {0};
     enum alcrs_status status;
     int again = 0;
-    while ((status = alcrs_receiver_open(&receiver, files.tsi, 0, files.toi)) == ALCRS_NO_MEMORY && !again++) {}
+    while ((status = alcrs_receiver_open(&receiver, files.tsi, 0, files.toi)) == ALCRS_NO_MEMORY &&
+           !again++) {
+    }
     for (size_t at = 0; at < files.session.size;) {
         size_t length = (size_t)session[at] << 8 | session[at + 1];
         status = alcrs_receiver_feed(&receiver, session + at + 2, length, &outputs.fault);
@@ -91,7 +99,8 @@ static int receives(void) {
     }
     if (status == ALCRS_OK) {
         do
-            status = alcrs_receiver_object(&receiver, &outputs.fault, buffer, buffer_size, &outputs.size);
+            status = alcrs_receiver_object(&receiver, &outputs.fault, buffer, buffer_size,
+                                           &outputs.size);
         while (status == ALCRS_NO_MEMORY && !again++);
     }
     alcrs_receiver_close(&receiver);

@@ -1,8 +1,9 @@
 #!/usr/bin/env python3
 """Compares the library's answers with the program's lines: same.py PROGRAM SAMPLES COUNT.
 
-Sessions, objects and certificates are cut, thinned, joined, turned about and changed at random, always the same way. Of each
-the library and the program check, decode and make a twin; the lines have to be the same, and so do the files.
+Sessions, objects and certificates are cut, thinned, joined, turned about and changed at random,
+always the same way. Of each the library and the program check, decode and make a twin; the lines
+have to be the same, and so do the files.
 """
 import os
 import random
@@ -28,7 +29,13 @@ def frames_of(session: bytes) -> List[bytes]:
 def is_whole(session: bytes) -> bool:
     """Whether the session is frames to its end, which are all that a receiver is fed with."""
     frames = frames_of(session)
-    return all(len(it) >= 2 and len(it) - 2 == int.from_bytes(it[:2], "big") <= 65507 for it in frames)
+    return all(
+        len(it) >= 2 and len(it) - 2 == int.from_bytes(it[:2], "big") <= 65507 for it in frames
+    )
+
+
+def some_byte(turn: random.Random) -> int:
+    return turn.choice((0, 1, 255, turn.randrange(256)))
 
 
 def changed(data: bytes, turn: random.Random) -> bytes:
@@ -36,7 +43,7 @@ def changed(data: bytes, turn: random.Random) -> bytes:
     at = turn.randrange(len(data))
     return {
         0: lambda: data[:at] + bytes([data[at] ^ 1 << turn.randrange(8)]) + data[at + 1 :],
-        1: lambda: data[:at] + bytes([turn.choice((0, 1, 255, turn.randrange(256)))]) + data[at + 1 :],
+        1: lambda: data[:at] + bytes([some_byte(turn)]) + data[at + 1 :],
         2: lambda: data[:at],
         3: lambda: data[:at] + data[at + turn.randrange(1, 9) :],
         4: lambda: data[:at] + turn.randbytes(turn.randrange(1, 9)) + data[at:],
@@ -44,7 +51,9 @@ def changed(data: bytes, turn: random.Random) -> bytes:
 
 
 def session_of(frames: List[bytes], others: List[bytes], turn: random.Random) -> bytes:
-    """A session of some of the datagrams, in whatever order, with others among them, and maybe with one changed."""
+    """A session of some of the datagrams, in whatever order, with others among them, and maybe with
+    one changed.
+    """
     some = [it for it in frames if turn.random() < turn.choice((0.4, 0.8, 1.0))]
     if turn.random() < 0.3:
         some += turn.sample(others, min(len(others), 3))
@@ -75,7 +84,9 @@ def program_answer(program: str, room: str, *words: str) -> Answer:
     out = f"{room}/out"
     if os.path.exists(out):
         os.remove(out)
-    ran = subprocess.run([program, *words], cwd=room, stdout=subprocess.PIPE, text=True, check=False)
+    ran = subprocess.run(
+        [program, *words], cwd=room, stdout=subprocess.PIPE, text=True, check=False
+    )
     made = None
     if os.path.exists(out):
         with open(out, "rb") as file:
@@ -120,7 +131,9 @@ def twin_lines(session: bytes, an_object: bytes, certificate: bytes, toi: int) -
 
 
 def follow_lines(session: bytes, toi: int) -> Answer:
-    """What `follow` prints: each datagram that is refused, when the object is there, and the object or what lacks."""
+    """What `follow` prints: each datagram that is refused, when the object is there, and the object
+    or what lacks.
+    """
     lines = []
     with alcrs.Receiver(7, toi) as receiver:
         for place, frame in enumerate(frames_of(session)):
@@ -167,7 +180,9 @@ def main(program: str, samples: str, count: int) -> int:
                     an_object = changed(an_object, turn)
                 else:
                     certificate = changed(certificate, turn)
-            for name, data in (("session", session), ("object", an_object), ("certificate", certificate)):
+            for name, data in (
+                ("session", session), ("object", an_object), ("certificate", certificate)
+            ):
                 with open(f"{room}/{name}", "wb") as file:
                     file.write(data)
             ids = ("--tsi", "7", "--toi", str(toi))
@@ -178,7 +193,8 @@ def main(program: str, samples: str, count: int) -> int:
             ]
             # Each other call for some of the inputs, as starting a program takes long.
             if number % 4 == 0:
-                calls.append(("twin", (*three, "out"), lambda: twin_lines(session, an_object, certificate, toi)))
+                twin = lambda: twin_lines(session, an_object, certificate, toi)
+                calls.append(("twin", (*three, "out"), twin))
             if number % 4 == 2 and is_whole(session):
                 calls.append(("follow", ("session", "out"), lambda: follow_lines(session, toi)))
             for what, names, call in calls:
@@ -187,7 +203,9 @@ def main(program: str, samples: str, count: int) -> int:
                 seen[" ".join([what, *told[0][0].split()[:2]])] += 1
                 if told != own:
                     differ += 1
-                    print(f"input {number}: {what}: the program says {told[0]}, the library {own[0]}")
+                    print(
+                        f"input {number}: {what}: the program says {told[0]}, the library {own[0]}"
+                    )
     print(f"same.py: {count} inputs, {len(seen)} kinds of answers, {differ} differ")
     if os.environ.get("VERBOSE"):
         for kind, times in sorted(seen.items()):

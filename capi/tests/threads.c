@@ -1,4 +1,5 @@
-/* Four threads check, decode and receive the same bytes at once, each with outputs and a receiver of its own. */
+/* Four threads check, decode and receive the same bytes at once, each with outputs and a receiver
+ * of its own. */
 #include "files.h"
 #include <alcrs.h>
 #include <pthread.h>
@@ -15,12 +16,13 @@ static void *work(void *wrong) {
         struct alcrs_report report = {0};
         struct alcrs_block blocks[4] = {{0, 0}};
         size_t kill[8] = {0}, size = 0;
-        if (alcrs_check(files.session.at, files.session.size, files.object.at, files.object.size, files.certificate.at,
-                        files.certificate.size, files.tsi, 0, files.toi, &fault, &report, blocks, 4, kill, 8))
+        if (alcrs_check(files.session.at, files.session.size, files.object.at, files.object.size,
+                        files.certificate.at, files.certificate.size, files.tsi, 0, files.toi,
+                        &fault, &report, blocks, 4, kill, 8))
             ++*(int *)wrong;
         memset(out, 0, files.object.size);
-        if (alcrs_decode(files.session.at, files.session.size, files.tsi, 0, files.toi, &fault, out, files.object.size,
-                         &size) ||
+        if (alcrs_decode(files.session.at, files.session.size, files.tsi, 0, files.toi, &fault, out,
+                         files.object.size, &size) ||
             size != files.object.size || memcmp(out, files.object.at, size))
             ++*(int *)wrong;
     }

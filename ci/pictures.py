@@ -1,11 +1,14 @@
 #!/usr/bin/env python3
-"""Has the program draw sessions, and tells whether the sheets say what `check` prints and `show` gives.
+"""Has the program draw sessions, and tells whether the sheets say what `check` prints and `show`
+gives.
 
-Of each sheet: it is XML, in UTF-8, and short; its words tell the margin, the burst, the weakest block, the kill and the
-carriers that the lines tell; its columns stand as high as what each block has to spare, and its curve as high as the longest
-run from each place that may be missed, which are counted here one by one of the session's datagrams. The lines and the status
-are those without a picture. At a no, and at a fault, the file stays what it was. Where `rsvg-convert` is installed, one
-sheet is made an image, whose size and some of whose pixels are looked at. After `./alcrs` has built the program.
+Of each sheet: it is XML, in UTF-8, and short; its words tell the margin, the burst, the weakest
+block, the kill and the carriers that the lines tell; its columns stand as high as what each block
+has to spare, and its curve as high as the longest run from each place that may be missed, which are
+counted here one by one of the session's datagrams. The lines and the status are those without a
+picture. At a no, and at a fault, the file stays what it was. Where `rsvg-convert` is installed, one
+sheet is made an image, whose size and some of whose pixels are looked at. After `./alcrs` has built
+the program.
 """
 import os
 import re
@@ -34,8 +37,13 @@ DRAWN = [
     ("repair.session", "bulletin.txt", "repair.rsc", OF_BULLETIN),
     ("twice.session", "bulletin.txt", "bulletin.rsc", OF_BULLETIN),
     ("just.session", "note.txt", "note.rsc", OF_NOTE),
-    ("<a> & 'b' \" \N{EM DASH} of a name that goes on and on, and on and on, until it is too long.session", "note.txt",
-     "note.rsc", OF_NOTE),
+    (
+        "<a> & 'b' \" \N{EM DASH} of a name that goes on and on, and on and on, "
+        "until it is too long.session",
+        "note.txt",
+        "note.rsc",
+        OF_NOTE,
+    ),
 ]
 
 # Those that aren't: two that are answered no, and two faults.
@@ -68,7 +76,9 @@ class Told:
     """What the lines of a yes tell."""
 
     def __init__(self, lines):
-        self.blocks = [tuple(map(int, pair)) for pair in re.findall(r"block \d+ need (\d+) have (\d+)", lines)]
+        self.blocks = [
+            tuple(map(int, pair)) for pair in re.findall(r"block \d+ need (\d+) have (\d+)", lines)
+        ]
         self.carriers = int(re.search(r"carriers (\d+)", lines)[1])
         self.margin = int(re.search(r"margin (\d+)", lines)[1])
         self.kill = list(map(int, re.search(r"kill((?: \d+)+)", lines)[1].split()))
@@ -77,7 +87,9 @@ class Told:
 
 
 def symbols(room, session, identity):
-    """Of each datagram the block and the ESI, or none where it is another object's, and whether it is a carrier."""
+    """Of each datagram the block and the ESI, or none where it is another object's, and whether it
+    is a carrier.
+    """
     _, lines = run(room, "show", session)
     listed = []
     for line in lines.splitlines():
@@ -89,7 +101,9 @@ def symbols(room, session, identity):
 
 
 def does_harm(told, listed, missed):
-    """The block that is short without these places, or `carriers`; none where the loss may be borne."""
+    """The block that is short without these places, or `carriers`; none where the loss may be
+    borne.
+    """
     left = [packet for place, packet in enumerate(listed) if packet and place not in missed]
     for block, (need, _) in enumerate(told.blocks):
         if len({esi for sbn, esi, _ in left if sbn == block}) < need:
@@ -102,7 +116,9 @@ def longest_runs(told, listed):
     runs, length = [], 0
     for start in range(len(listed)):
         length = max(length - 1, 0)
-        while start + length < len(listed) and does_harm(told, listed, range(start, start + length + 1)) is None:
+        while start + length < len(listed):
+            if does_harm(told, listed, range(start, start + length + 1)) is not None:
+                break
             length += 1
         runs.append(length if start + length < len(listed) else None)
     return runs
@@ -119,14 +135,23 @@ def compare_words(name, told, listed, title, words):
     block = told.spares.index(min(told.spares))
     need, have = told.blocks[block]
     many = "symbol" if have == 1 else "symbols"
-    if f"weakest: block {block:,} has {have:,} {many} and needs {need:,}, {have - need:,} to spare" not in words:
+    weakest = f"weakest: block {block:,} has {have:,} {many} and needs {need:,}"
+    if f"{weakest}, {have - need:,} to spare" not in words:
         wrong(f"{name}: another block is weakest")
-    shortest = re.search(r"shortest: ([\d,]+) neighbours? may be missed from place ([\d,]+) on, and one more leaves (?:block ([\d,]+) short|no carrier)", words)
+    shortest = re.search(
+        r"shortest: ([\d,]+) neighbours? may be missed from place ([\d,]+) on, and one more leaves "
+        r"(?:block ([\d,]+) short|no carrier)",
+        words,
+    )
     length, place = number(shortest[1]), number(shortest[2])
     if length != told.burst:
         wrong(f"{name}: {length} is shortest, and the burst {told.burst}")
     compare_harm(name, told, listed, range(place, place + length + 1), shortest[3])
-    kill = re.search(r"kill: to miss (?:this datagram|these ([\d,]+) datagrams) leaves (?:block ([\d,]+) short|no carrier)", words)
+    kill = re.search(
+        r"kill: to miss (?:this datagram|these ([\d,]+) datagrams) leaves "
+        r"(?:block ([\d,]+) short|no carrier)",
+        words,
+    )
     if number(kill[1] or "1") != len(told.kill):
         wrong(f"{name}: {kill[0]}")
     compare_harm(name, told, listed, told.kill, kill[2])
@@ -190,26 +215,37 @@ def compare_drawn(room, session, object, certificate, identity):
     sheet = ElementTree.fromstring(data.decode())
     told = Told(lines)
     listed = symbols(room, session, identity)
-    compare_words(session, told, listed, sheet.findtext(f"{SVG}title"), sheet.findtext(f"{SVG}desc"))
+    compare_words(
+        session, told, listed, sheet.findtext(f"{SVG}title"), sheet.findtext(f"{SVG}desc")
+    )
     compare_drawing(session, told, longest_runs(told, listed), sheet.findall(f"{SVG}path"))
     texts = [text.text for text in sheet.findall(f"{SVG}text")]
-    if f"object {object}" not in texts or not any(text.startswith(f"session {session[:20]}") for text in texts):
+    is_named = any(text.startswith(f"session {session[:20]}") for text in texts)
+    if f"object {object}" not in texts or not is_named:
         wrong(f"{session}: the names are {texts[2:4]}")
 
 
 def make_more(room):
-    """The bulletin's datagrams twice, with losses here and there, just what the note needs, and a session of a strange name."""
+    """The bulletin's datagrams twice, with losses here and there, just what the note needs, and a
+    session of a strange name.
+    """
 
     def alcrs(*words):
         subprocess.run([PROGRAM, *words], cwd=room, check=True, stdout=subprocess.DEVNULL)
 
     alcrs("join", "twice.session", "bulletin.session", "bulletin.session")
-    alcrs("drop", "rounds.session", "uneven.session", *map(str, [*range(0, 400, 9), *range(7, 300, 31), 48, 64]))
+    alcrs(
+        "drop",
+        "rounds.session",
+        "uneven.session",
+        *map(str, [*range(0, 400, 9), *range(7, 300, 31), 48, 64]),
+    )
     alcrs("drop", "note.session", "just.session", "1", "4")
     alcrs("join", DRAWN[-1][0], "note.session")
 
 
-# Pixels of the bulletin's sheet, and their colours: the paper, a bar, the shaded run, and the end from which all may be missed.
+# Pixels of the bulletin's sheet, and their colours: the paper, a bar, the shaded run, and the end
+# from which all may be missed.
 PIXELS = {
     (5, 5): (255, 255, 255),
     (186, 250): (47, 108, 168),
@@ -234,7 +270,8 @@ def image_of(png):
     for start in range(0, len(data), size * width + 1):
         kind, row = data[start], bytearray(data[start + 1 : start + 1 + size * width])
         for i in range(len(row)):
-            left, up, corner = (row[i - size], above[i], above[i - size]) if i >= size else (0, above[i], 0)
+            up = above[i]
+            left, corner = (row[i - size], above[i - size]) if i >= size else (0, 0)
             near = left + up - corner
             paeth = min((left, up, corner), key=lambda value: abs(near - value))
             row[i] = (row[i] + (0, left, up, (left + up) // 2, paeth)[kind]) & 255
@@ -248,7 +285,8 @@ def compare_image(room):
     if shutil.which("rsvg-convert") is None:
         print("pictures.py: no image is made, as there is no rsvg-convert")
         return
-    run(room, "check", "bulletin.session", "bulletin.txt", "bulletin.rsc", *OF_BULLETIN, "--picture", "sheet.svg")
+    words = ["check", "bulletin.session", "bulletin.txt", "bulletin.rsc", *OF_BULLETIN]
+    run(room, *words, "--picture", "sheet.svg")
     made = subprocess.run(["rsvg-convert", "sheet.svg"], cwd=room, capture_output=True, check=True)
     width, height, size, rows = image_of(made.stdout)
     if (width, height) != (1000, 700):

@@ -1,9 +1,11 @@
 #!/usr/bin/env python3
-"""Makes the pictures of docs/: of the sample session, of 200 MB after losses, and of 50,000 blocks after losses.
+"""Makes the pictures of docs/: of the sample session, of 200 MB after losses, and of 50,000 blocks
+after losses.
 
-`docs/pictures.py` draws the sample session, and compares it with docs/picture.svg. `docs/pictures.py --write` makes all
-three, which takes a gigabyte below the folder for temporary files, and tells how long the check of the 200 MB took with
-and without its picture. After `./alcrs` has built the program.
+`ci/docs_pictures.py` draws the sample session, and compares it with docs/picture.svg.
+`ci/docs_pictures.py --write` makes all three, which takes a gigabyte below the folder for temporary
+files, and tells how long the check of the 200 MB took with and without its picture. After `./alcrs`
+has built the program.
 """
 import os
 import random
@@ -12,8 +14,8 @@ import sys
 import tempfile
 import time
 
-DOCS = os.path.dirname(os.path.abspath(__file__))
-ROOT = os.path.dirname(DOCS)
+ROOT = os.path.dirname(os.path.dirname(os.path.abspath(__file__)))
+DOCS = os.path.join(ROOT, "docs")
 PROGRAM = os.path.join(ROOT, "crates", "alcrs", "out", "alcrs")
 SAMPLES = os.path.join(ROOT, "samples")
 NAMES = ["--tsi", "7", "--toi", "1"]
@@ -21,15 +23,30 @@ RUNS = 5
 
 
 class Large:
-    """A session of random bytes that has lost datagrams, each by itself and some bursts of neighbours."""
+    """A session of random bytes that has lost datagrams, each by itself and some bursts of
+    neighbours.
+    """
 
     def __init__(self, picture, length, numbers, loss, bursts):
-        self.picture, self.length, self.numbers, self.loss, self.bursts = picture, length, numbers, loss, bursts
+        self.picture, self.length, self.numbers = picture, length, numbers
+        self.loss, self.bursts = loss, bursts
 
 
 LARGE = [
-    Large("picture-losses.svg", 200_000_000, ["--symbol", "1440", "--block", "160", "--max", "255"], 0.20, 10),
-    Large("picture-blocks.svg", 64_000_000, ["--symbol", "64", "--block", "20", "--max", "32"], 0.06, 0),
+    Large(
+        "picture-losses.svg",
+        200_000_000,
+        ["--symbol", "1440", "--block", "160", "--max", "255"],
+        0.20,
+        10,
+    ),
+    Large(
+        "picture-blocks.svg",
+        64_000_000,
+        ["--symbol", "64", "--block", "20", "--max", "32"],
+        0.06,
+        0,
+    ),
 ]
 
 
@@ -66,7 +83,18 @@ def make_large(folder, large):
     chance = random.Random(1)
     with open(os.path.join(folder, "object.bin"), "wb") as file:
         file.write(chance.randbytes(large.length))
-    alcrs(folder, "encode", "object.bin", "sent.session", *NAMES, *large.numbers, "--order", "rounds", "--fti-every", "40")
+    alcrs(
+        folder,
+        "encode",
+        "object.bin",
+        "sent.session",
+        *NAMES,
+        *large.numbers,
+        "--order",
+        "rounds",
+        "--fti-every",
+        "40",
+    )
     alcrs(folder, "certify", "object.bin", "object.rsc", *NAMES, *large.numbers)
     lose(folder, large)
     os.remove(os.path.join(folder, "sent.session"))
@@ -89,7 +117,9 @@ def write(folder):
         make_large(folder, large)
         bare, drawn = seconds(folder)
         print(f"{large.picture}: check {bare:.3f} s, with the picture {drawn:.3f} s")
-        with open(os.path.join(folder, "drawn.svg"), "rb") as file, open(os.path.join(DOCS, large.picture), "wb") as out:
+        with open(os.path.join(folder, "drawn.svg"), "rb") as file, open(
+            os.path.join(DOCS, large.picture), "wb"
+        ) as out:
             out.write(file.read())
 
 
@@ -98,10 +128,12 @@ def main():
         if sys.argv[1:] == ["--write"]:
             write(folder)
             return 0
-        with open(draw_sample(folder), "rb") as file, open(os.path.join(DOCS, "picture.svg"), "rb") as known:
+        with open(draw_sample(folder), "rb") as file, open(
+            os.path.join(DOCS, "picture.svg"), "rb"
+        ) as known:
             same = file.read() == known.read()
     if not same:
-        print("docs/picture.svg isn't what the program draws: run docs/pictures.py --write")
+        print("docs/picture.svg isn't what the program draws: run ci/docs_pictures.py --write")
     return 0 if same else 1
 
 

@@ -1,17 +1,22 @@
 #!/usr/bin/env python3
-"""Lists the definitions that public contracts speak of: what has to be read to trust what they promise.
+"""Lists the definitions that public contracts speak of: what has to be read to trust what they
+promise.
 
-A public contract is one of a `pub fn`, of a method of a public trait or type, or of a public type's model. From the names that
-it cites the list goes through the definitions of `specs/` that these stand on, but not into a relation that these calls only
-hand on to one another, as what a receiver stands for. All other definitions of `specs/` are the vocabulary of private
-contracts and of proofs, and need no trust. They stand in files of their own.
+A public contract is one of a `pub fn`, of a method of a public trait or type, or of a public type's
+model. From the names that it cites the list goes through the definitions of `specs/` that these
+stand on, but not into a relation that these calls only hand on to one another, as what a receiver
+stands for. All other definitions of `specs/` are the vocabulary of private contracts and of proofs,
+and need no trust. They stand in files of their own.
 
-docs/THEOREMS.md opens with a table of the promises, each with how many of the definitions have to be read to believe it, and
-ends with the list. Lines are those of definitions alone, without comments and imports, counted at 100 columns.
+docs/THEOREMS.md opens with a table of the promises, each with how many of the definitions have to
+be read to believe it, and ends with the list. Lines are those of definitions alone, without
+comments and imports, counted at 100 columns.
 
-    docs/trusted.py               fails where the table or the list is another, or a file has definitions of both kinds
-    docs/trusted.py --write       writes table and list
-    docs/trusted.py --read WHAT   lists the definitions that a promise of the table stands on, in the order to read them
+    ci/trusted.py               fails where the table or the list is another, or where a file has
+                                definitions of both kinds
+    ci/trusted.py --write       writes table and list
+    ci/trusted.py --read WHAT   lists the definitions that a promise of the table stands on, in the
+                                order to read them
 """
 import math
 import re
@@ -31,12 +36,13 @@ HEADING = "## What has to be read"
 TABLE_HEADING = "## What to read for each promise"
 WIDTH = 100
 
-# Relations that public calls only hand on to one another: what they say inside isn't needed to trust the calls.
+# Relations that public calls only hand on to one another: what they say inside isn't needed to
+# trust the calls.
 HANDED_ON = {"Rattle.decoder.specs.Stands", "Rattle.decoder.specs.SymbolsOf"}
 
 
-# What the table tells: a short name, the promise, the clauses that say it (crate, function, labels; none for all of them),
-# and the promises that it is told beyond.
+# What the table tells: a short name, the promise, the clauses that say it (crate, function, labels;
+# none for all of them), and the promises that it is told beyond.
 PROMISES = [
     ("headline", "what a yes of `check` promises of every selection", [
         ("cert", "check", ["decodes", "undecided", "tells"]),
@@ -50,7 +56,12 @@ PROMISES = [
         ("decoder", "take", []),
         ("decoder", "stored", []),
     ], ["headline"]),
-    ("verdict", "exactly which verdict `check` answers", [("cert", "check", ["verdict"])], ["headline"]),
+    (
+        "verdict",
+        "exactly which verdict `check` answers",
+        [("cert", "check", ["verdict"])],
+        ["headline"],
+    ),
     ("laws", "that answers, verdicts and faults are one, and come in their order", [
         ("session", "one_session", []),
         ("alc", "one_reading", []),
@@ -71,19 +82,34 @@ PROMISES = [
         ("coder", "certify", []),
         ("coder", "sent_checks_yes", []),
     ], ["headline", "verdict"]),
-    ("reading", "`check_from`: a check of what a reader gives", [("cert", "check_from", [])], ["headline", "verdict", "losses"]),
+    (
+        "reading",
+        "`check_from`: a check of what a reader gives",
+        [("cert", "check_from", [])],
+        ["headline", "verdict", "losses"],
+    ),
     ("picture", "`survey_from`: a check with what a picture shows", [("cert", "survey_from", [])],
      ["headline", "verdict", "losses", "reading"]),
-    ("twins", "`twin`", [("cert", "twin", []), ("cert", "session_twin", [])], ["headline", "verdict"]),
+    (
+        "twins",
+        "`twin`",
+        [("cert", "twin", []), ("cert", "session_twin", [])],
+        ["headline", "verdict"],
+    ),
     ("library", "every public call of the library", None, []),
     ("embedding", "the calls for C", [
         ("alcrs_c", f"alcrs_{call}", []) for call in (
-            "check", "object_length", "decode", "encode", "certify", "twin", "receiver_open", "receiver_feed", "receiver_object",
-            "receiver_close",
+            "check", "object_length", "decode", "encode", "certify", "twin",
+            "receiver_open", "receiver_feed", "receiver_object", "receiver_close",
         )
     ], ["library"]),
     ("commands", "the program's commands", [("tool", "run", [])], ["library"]),
-    ("program", "the program, from its words to its output", [("tool", "answer", [])], ["library", "commands"]),
+    (
+        "program",
+        "the program, from its words to its output",
+        [("tool", "answer", [])],
+        ["library", "commands"],
+    ),
 ]
 # The crates that stand on the library and offer it further.
 ABOVE_THE_LIBRARY = {"request", "tool", "alcrs", "alcrs_c"}
@@ -143,7 +169,8 @@ def spec_modules():
         for line in path.read_text().splitlines():
             passed_on = re.match(r"pub use (Rattle\.\w+\.specs\.(\w+))$", line)
             if passed_on and passed_on.group(1) in modules:
-                modules[f"Rattle.{path.parts[-3]}.specs.{passed_on.group(2)}"] = modules[passed_on.group(1)]
+                name = f"Rattle.{path.parts[-3]}.specs.{passed_on.group(2)}"
+                modules[name] = modules[passed_on.group(1)]
     return modules
 
 
@@ -180,9 +207,12 @@ def public_clauses(path):
 
 
 def contracts(path):
-    """The public clauses of a source file: (function, label, text). A model's facts go by the function `Model`."""
+    """The public clauses of a source file: (function, label, text). A model's facts go by the
+    function `Model`.
+    """
     private = private_types(path)
-    function, label, lines, in_trait, in_model, in_impl, in_private = None, "", [], False, False, False, False
+    function, label, lines = None, "", []
+    in_trait = in_model = in_impl = in_private = False
     for line in path.read_text().splitlines():
         text = line.strip()
         if text and not line.startswith((" ", "}", ")")):
@@ -190,7 +220,8 @@ def contracts(path):
             in_trait = text.startswith("pub trait ")
             in_private = bool(of) and (of.group(1) or of.group(2)) in private
             in_model = bool(re.match(r"impl(<.*>)? Model for ", text)) and not in_private
-            in_impl = bool(re.match(r"impl(<.*>)? [A-Z][\w<>, ]* for ", text)) and not in_model and not in_private
+            of_trait = bool(re.match(r"impl(<.*>)? [A-Z][\w<>, ]* for ", text))
+            in_impl = of_trait and not in_model and not in_private
             function = None
         named = re.match(r"(pub(?:\(crate\))? )?(?:extern \"C\" )?(?:const )?fn (\w+)", text)
         if named:
@@ -198,7 +229,9 @@ def contracts(path):
             function, label = (named.group(2) if is_public else None), ""
             if text.endswith(("{", "}")):
                 function = None
-        elif text in ("{", "{}") or (text.endswith("{") and not text.startswith(("requires", "ensures"))):
+        elif text in ("{", "{}") or (
+            text.endswith("{") and not text.startswith(("requires", "ensures"))
+        ):
             function = None
         elif function and not text.startswith("ghost "):
             clause = re.match(r"(requires|ensures)\*? (\w+ )?\{", text)
@@ -217,7 +250,11 @@ def roots(wanted=lambda crate, function, label: True):
     found = set()
     for path in sorted(CRATES.glob("*/src/*.rt")):
         uses, aliases = uses_of(path)
-        texts = [text for function, label, text in contracts(path) if wanted(path.parts[-3], function, label)]
+        texts = [
+            text
+            for function, label, text in contracts(path)
+            if wanted(path.parts[-3], function, label)
+        ]
         found |= cited("\n".join(texts), uses, aliases)
     return found
 
@@ -255,7 +292,9 @@ def lines_of(files, wanted):
 def kit():
     """The folder of the toolchain's crates, if it can be found."""
     try:
-        page = subprocess.run(["rt", "doc"], capture_output=True, text=True, check=True).stdout.strip()
+        page = subprocess.run(
+            ["rt", "doc"], capture_output=True, text=True, check=True
+        ).stdout.strip()
     except (OSError, subprocess.CalledProcessError):
         return None
     folder = Path(page).parent / "rattle"
@@ -265,14 +304,17 @@ def kit():
 @lru_cache(maxsize=None)
 def kit_module(name):
     parts = name.split(".")
-    if kit() is None or len(parts) < 4 or parts[0] != "Rattle" or parts[2] != "specs" or parts[3] == "declared":
+    if kit() is None or len(parts) < 4 or parts[0] != "Rattle":
+        return None
+    if parts[2] != "specs" or parts[3] == "declared":
         return None
     path = kit() / parts[1] / "specs" / Path(*parts[3:]).with_suffix(".antt")
     return Module(path) if path.is_file() else None
 
 
 def kit_closure(modules, wanted):
-    """The definitions of the kit that clauses and our definitions stand on, as (crate, path, name)."""
+    """The definitions of the kit that clauses and our definitions stand on, as (crate, path, name).
+    """
     files = {module.path: module for module in modules.values()}
     todo = list(roots())
     for path, name in wanted:
@@ -324,8 +366,9 @@ def kit_module_at(path):
 
 def depends_on(module, files, names):
     """The files whose definitions a file uses."""
-    return {names[used].path for used in {m for m, _ in module.uses.values()} | set(module.aliases.values()) if used in names
-            and names[used].path in files and names[used].path != module.path}
+    used = {name for name, _ in module.uses.values()} | set(module.aliases.values())
+    paths = {names[name].path for name in used if name in names}
+    return {path for path in paths if path in files and path != module.path}
 
 
 def reading_order(paths, modules):
@@ -342,7 +385,9 @@ def reading_order(paths, modules):
 
 def crate_order():
     lines = (ROOT / "crates.txt").read_text().splitlines()
-    return [line.split(":")[0].split()[0] for line in lines if line.strip() and not line.startswith("#")]
+    return [
+        line.split(":")[0].split()[0] for line in lines if line.strip() and not line.startswith("#")
+    ]
 
 
 def mixed(modules, wanted):
@@ -360,8 +405,12 @@ def entries(modules, wanted):
     for path in reading_order({path for path, _ in wanted}, modules):
         names = [name for name in files[path].definitions if (path, name) in wanted]
         size = lines_of(files, [(path, name) for name in names])
-        entry = f"- `{path.parts[-3]}/specs/{path.stem}` ({size} lines): " + ", ".join(f"`{n}`" for n in names)
-        yield from textwrap.wrap(entry, 120, subsequent_indent="  ", break_long_words=False, break_on_hyphens=False)
+        entry = f"- `{path.parts[-3]}/specs/{path.stem}` ({size} lines): " + ", ".join(
+            f"`{n}`" for n in names
+        )
+        yield from textwrap.wrap(
+            entry, 120, subsequent_indent="  ", break_long_words=False, break_on_hyphens=False
+        )
 
 
 def listing(modules, wanted):
@@ -370,8 +419,9 @@ def listing(modules, wanted):
     head = [
         HEADING,
         "",
-        "The definitions that public contracts speak of, from the field up, in the order to read them; the rest of `specs/` is",
-        "the vocabulary of private contracts and of proofs. `docs/trusted.py` makes this list, and the gate compares it.",
+        "The definitions that public contracts speak of, from the field up, in the order to read",
+        "them. The rest of `specs/` is the vocabulary of private contracts and of proofs.",
+        "`ci/trusted.py` makes this list, and the gate compares it.",
         "",
         f"{len(wanted)} of {everything} definitions, {lines_of(files, wanted)} lines.",
         "",
@@ -386,7 +436,10 @@ def promised(modules, name):
     def is_wanted(crate, function, label):
         if clauses is None:
             return crate not in ABOVE_THE_LIBRARY
-        return any(crate == c and function == f and (not labels or label in labels) for c, f, labels in clauses)
+        return any(
+            crate == c and function == f and (not labels or label in labels)
+            for c, f, labels in clauses
+        )
 
     return closure(modules, roots(is_wanted))
 
@@ -400,12 +453,14 @@ def table(modules, wanted):
         more = needed - before
         sign = "+" if beyond else ""
         behind = " and ".join(f"*{other}*" for other in beyond)
-        rows.append(f"| *{short}*: {promise} | {behind} | {sign}{len(more)} | {sign}{lines_of(files, more)} |")
+        size = f"{sign}{len(more)} | {sign}{lines_of(files, more)}"
+        rows.append(f"| *{short}*: {promise} | {behind} | {size} |")
     text = [
         TABLE_HEADING,
         "",
-        "How many of the definitions below have to be read to believe a promise, and how many lines of 100 columns these are.",
-        "`docs/trusted.py --read headline` lists them in the order to read them, and so for each row.",
+        "How many of the definitions below have to be read to believe a promise, and how many",
+        "lines of 100 columns these are. `ci/trusted.py --read headline` lists them in the order",
+        "to read them, and so for each row.",
         "",
         "| promise | beyond | definitions | lines |",
         "|---|---|---|---|",
@@ -419,7 +474,7 @@ def main():
     if sys.argv[1:2] == ["--read"]:
         names = [short for short, _, _, _ in PROMISES]
         if len(sys.argv) != 3 or sys.argv[2] not in names:
-            sys.exit("docs/trusted.py --read WHAT, of " + ", ".join(names))
+            sys.exit("ci/trusted.py --read WHAT, of " + ", ".join(names))
         print("\n".join(entries(modules, promised(modules, sys.argv[2]))))
         return
     path = ROOT / "docs" / "THEOREMS.md"
@@ -434,9 +489,12 @@ def main():
     if sys.argv[1:] == ["--write"]:
         path.write_text(text)
     elif both:
-        sys.exit("definitions that public contracts speak of, and others, stand in one file: " + ", ".join(both))
+        names = ", ".join(both)
+        sys.exit(f"definitions that public contracts speak of stand beside others in: {names}")
     elif path.read_text() != text:
-        sys.exit("docs/THEOREMS.md has another list of what has to be read: run docs/trusted.py --write")
+        sys.exit(
+            "docs/THEOREMS.md has another list of what has to be read: run ci/trusted.py --write"
+        )
     else:
         print("docs/THEOREMS.md lists what has to be read: same")
 

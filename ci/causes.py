@@ -1,9 +1,10 @@
 #!/usr/bin/env python3
-"""Tries causes for which a command ends with a fault, a no or a lack, and looks for file and cause in the sentence.
+"""Tries causes for which a command ends with a fault, a no or a lack, and looks for file and cause
+in the sentence.
 
-Each case runs the program in a folder of its own, with copies of the samples. It tells the words, the status, how
-standard output's last line begins, and what the sentence on standard error has to say. After `./alcrs` has built the
-program.
+Each case runs the program in a folder of its own, with copies of the samples. It tells the words,
+the status, how standard output's last line begins, and what the sentence on standard error has to
+say. After `./alcrs` has built the program.
 """
 import os
 import shutil
@@ -12,8 +13,10 @@ import subprocess
 import sys
 import tempfile
 
+from trying import PROGRAM, ROOT, SAMPLES
+
+sys.path.insert(0, os.path.join(ROOT, "scripts"))
 from frames import read_frames
-from trying import PROGRAM, SAMPLES
 
 OF_NOTE = ["--tsi", "7", "--toi", "2"]
 OF_BULLETIN = ["--tsi", "7", "--toi", "1"]
@@ -45,7 +48,9 @@ def make_files():
     write("cut.session", read("note.session")[:-3])
     write("long.session", b"\xff\xff" + read("note.session"))
     write("captured.pcap", struct.pack("<IHHiIII", 0xA1B2C3D4, 2, 4, 0, 0, 65535, 1) + bytes(40))
-    write("captured.pcapng", bytes.fromhex("0a0d0d0a1c0000004d3c2b1a01000000ffffffffffffffff1c000000"))
+    write(
+        "captured.pcapng", bytes.fromhex("0a0d0d0a1c0000004d3c2b1a01000000ffffffffffffffff1c000000")
+    )
     write("empty.txt", b"")
     write("short.rsc", read("note.rsc")[:-1])
     write("longer.txt", read("note.txt") + b"!")
@@ -61,7 +66,8 @@ def make_files():
     write("older.txt", read("note.txt")[:28])
     run(["encode", "older.txt", "older.session", *OF_NOTE, *NUMBERS])
     session("stale.session", datagrams("older.session")[5:] + note)
-    run(["encode", "note.txt", "other.session", *OF_NOTE, "--symbol", "8", "--block", "8", "--max", "16"])
+    numbers = ["--symbol", "8", "--block", "8", "--max", "16"]
+    run(["encode", "note.txt", "other.session", *OF_NOTE, *numbers])
     run(["encode", "note.txt", "bare.session", *OF_NOTE, *NUMBERS, "--fti-every", "255"])
     session("bare.session", datagrams("bare.session")[1:])
     os.mkdir("folder")
@@ -74,50 +80,85 @@ CHECK = ["note.txt", "note.rsc", *OF_NOTE]
 # The words, the status, how the last line begins, and what the sentence says.
 CASES = [
     (["check", "nowhere.session", *CHECK], 1, "fault open", ["nowhere.session", "No such file"]),
-    (["check", "note.session", "nowhere.txt", "note.rsc", *OF_NOTE], 1, "fault open", ["nowhere.txt", "No such file"]),
-    (["check", "note.session", "note.txt", "folder", *OF_NOTE], 1, "fault Z4", ["folder is a folder"]),
+    (["check", "note.session", "nowhere.txt", "note.rsc", *OF_NOTE], 1, "fault open",
+     ["nowhere.txt", "No such file"]),
+    (["check", "note.session", "note.txt", "folder", *OF_NOTE], 1, "fault Z4",
+     ["folder is a folder"]),
     (["show", "folder"], 1, "fault S4", ["folder is a folder"]),
-    (["encode", "nowhere.txt", "out", *OF_NOTE, *NUMBERS], 1, "fault open", ["nowhere.txt", "No such file"]),
-    (["encode", "note.txt", "no/out", *OF_NOTE, *NUMBERS], 1, "fault open", ["no/out", "its folder no", "No such file"]),
-    (["encode", "note.txt", "note.txt/out", *OF_NOTE, *NUMBERS], 1, "fault open", ["note.txt/out", "no folder"]),
+    (["encode", "nowhere.txt", "out", *OF_NOTE, *NUMBERS], 1, "fault open",
+     ["nowhere.txt", "No such file"]),
+    (["encode", "note.txt", "no/out", *OF_NOTE, *NUMBERS], 1, "fault open",
+     ["no/out", "its folder no", "No such file"]),
+    (["encode", "note.txt", "note.txt/out", *OF_NOTE, *NUMBERS], 1, "fault open",
+     ["note.txt/out", "no folder"]),
     (["encode", "note.txt", "folder", *OF_NOTE, *NUMBERS], 1, "fault open", ["folder is a folder"]),
-    (["encode", "note.txt", "full.out", *OF_NOTE, *NUMBERS], 1, "fault open", ["full.out", "full.out.part"]),
-    (["encode", "note.txt", "/dev/full", *OF_NOTE, *NUMBERS], 1, "fault O3", ["/dev/full", "room on the disk"]),
+    (["encode", "note.txt", "full.out", *OF_NOTE, *NUMBERS], 1, "fault open",
+     ["full.out", "full.out.part"]),
+    (["encode", "note.txt", "/dev/full", *OF_NOTE, *NUMBERS], 1, "fault O3",
+     ["/dev/full", "room on the disk"]),
     (["encode", "empty.txt", "out", *OF_NOTE, *NUMBERS], 1, "fault F1", ["empty.txt is empty"]),
-    (["encode", "note.txt", "out", *OF_NOTE, "--symbol", "8", "--block", "8", "--max", "4"], 1, "fault F5", ["--max is below --block"]),
+    (
+        ["encode", "note.txt", "out", *OF_NOTE, "--symbol", "8", "--block", "8", "--max", "4"],
+        1,
+        "fault F5",
+        ["--max is below --block"],
+    ),
     (["show", "cut.session"], 1, "fault S2", ["cut.session is cut off", "datagram 5", "byte "]),
-    (["salvage", "cut.session", "out"], 1, "kept 5 datagrams", ["cut.session is cut off", "datagram 5"]),
+    (["salvage", "cut.session", "out"], 1, "kept 5 datagrams",
+     ["cut.session is cut off", "datagram 5"]),
     (["salvage", "note.session", "out"], 0, "kept 6 datagrams", None),
-    (["decode", "cut.session", "out", *OF_NOTE], 1, "fault S2", ["cut.session is cut off", "datagram 5"]),
-    (["join", "out", "note.session", "cut.session"], 1, "fault S2", ["cut.session is cut off", "datagram 5"]),
+    (["decode", "cut.session", "out", *OF_NOTE], 1, "fault S2",
+     ["cut.session is cut off", "datagram 5"]),
+    (["join", "out", "note.session", "cut.session"], 1, "fault S2",
+     ["cut.session is cut off", "datagram 5"]),
     (["show", "long.session"], 1, "fault S3", ["long.session", "datagram 0", "above 65507"]),
     (["show", "captured.pcap"], 1, "fault S", ["captured.pcap is a capture", "From a capture"]),
-    (["decode", "captured.pcapng", "out", *OF_NOTE], 1, "fault S", ["captured.pcapng is a capture"]),
+    (["decode", "captured.pcapng", "out", *OF_NOTE], 1, "fault S",
+     ["captured.pcapng is a capture"]),
     (["show", "note.rsc"], 1, "fault S", ["note.rsc is a certificate"]),
     (["show", "note.txt"], 1, "fault S", ["note.txt begins as text"]),
     (["show", "bad\nname.session"], 1, "fault S2", ["bad?name.session is cut off"]),
-    (["drop", "note.session", "out", "9"], 1, "fault S6", ["note.session has 6 datagrams", "place 9"]),
-    (["check", "note.session", "note.txt", "note.txt", *OF_NOTE], 1, "fault Z1", ["note.txt begins as text", "SESSION OBJECT CERT"]),
-    (["check", "note.session", "note.txt", "short.rsc", *OF_NOTE], 1, "fault Z3", ["short.rsc is shorter or longer"]),
-    (["convert", "note.rsc", "out", *OF_BULLETIN], 1, "fault Z6", ["note.rsc is for another TSI or TOI than 7 and 1"]),
-    (["check", "note.session", *CHECK[:2], *OF_BULLETIN], 1, "no N12", ["note.rsc is for another TSI or TOI"]),
-    (["check", "note.session", "longer.txt", "note.rsc", *OF_NOTE], 1, "no N1", ["longer.txt", "note.rsc", "length"]),
-    (["check", "note.session", "other.txt", "note.rsc", *OF_NOTE], 1, "no N2", ["note.rsc isn't of other.txt", "block 0"]),
-    (["check", "bulletin.session", *CHECK], 1, "no N3", ["bulletin.session has no packet of TSI 7 and TOI 2"]),
-    (["check", "stray.session", *CHECK], 1, "no N4", ["stray.session", "datagram 2 is no packet", "alcrs drop"]),
-    (["check", "other.session", *CHECK], 1, "no N6", ["other.session", "datagram 0", "--max 16", "note.rsc"]),
-    (["check", "damaged.session", *CHECK], 1, "no N8", ["damaged.session", "datagram 1", "note.txt"]),
-    (["check", "thin.session", *CHECK], 1, "no N9", ["thin.session has 3 different symbols of block 0", "4 are needed"]),
+    (["drop", "note.session", "out", "9"], 1, "fault S6",
+     ["note.session has 6 datagrams", "place 9"]),
+    (["check", "note.session", "note.txt", "note.txt", *OF_NOTE], 1, "fault Z1",
+     ["note.txt begins as text", "SESSION OBJECT CERT"]),
+    (["check", "note.session", "note.txt", "short.rsc", *OF_NOTE], 1, "fault Z3",
+     ["short.rsc is shorter or longer"]),
+    (["convert", "note.rsc", "out", *OF_BULLETIN], 1, "fault Z6",
+     ["note.rsc is for another TSI or TOI than 7 and 1"]),
+    (["check", "note.session", *CHECK[:2], *OF_BULLETIN], 1, "no N12",
+     ["note.rsc is for another TSI or TOI"]),
+    (["check", "note.session", "longer.txt", "note.rsc", *OF_NOTE], 1, "no N1",
+     ["longer.txt", "note.rsc", "length"]),
+    (["check", "note.session", "other.txt", "note.rsc", *OF_NOTE], 1, "no N2",
+     ["note.rsc isn't of other.txt", "block 0"]),
+    (["check", "bulletin.session", *CHECK], 1, "no N3",
+     ["bulletin.session has no packet of TSI 7 and TOI 2"]),
+    (["check", "stray.session", *CHECK], 1, "no N4",
+     ["stray.session", "datagram 2 is no packet", "alcrs drop"]),
+    (["check", "other.session", *CHECK], 1, "no N6",
+     ["other.session", "datagram 0", "--max 16", "note.rsc"]),
+    (["check", "damaged.session", *CHECK], 1, "no N8",
+     ["damaged.session", "datagram 1", "note.txt"]),
+    (["check", "thin.session", *CHECK], 1, "no N9",
+     ["thin.session has 3 different symbols of block 0", "4 are needed"]),
     (["check", "bare.session", *CHECK], 1, "no N11", ["bare.session", "FTI"]),
-    (["check", "thin.session", *CHECK, "--picture", "out.svg"], 1, "no N9", ["thin.session has 3", "no picture is drawn of a no"]),
-    (["check", "note.session", *CHECK, "--picture", "no/out.svg"], 1, "fault open", ["no/out.svg", "its folder no"]),
-    (["decode", "stale.session", "out", *OF_NOTE], 1, "fault R3", ["datagram 0 tells a length of 28", "datagram 1 tells 29"]),
-    (["decode", "clash.session", "out", *OF_NOTE], 1, "fault R5", ["clash.session", "datagram 2", "damaged"]),
+    (["check", "thin.session", *CHECK, "--picture", "out.svg"], 1, "no N9",
+     ["thin.session has 3", "no picture is drawn of a no"]),
+    (["check", "note.session", *CHECK, "--picture", "no/out.svg"], 1, "fault open",
+     ["no/out.svg", "its folder no"]),
+    (["decode", "stale.session", "out", *OF_NOTE], 1, "fault R3",
+     ["datagram 0 tells a length of 28", "datagram 1 tells 29"]),
+    (["decode", "clash.session", "out", *OF_NOTE], 1, "fault R5",
+     ["clash.session", "datagram 2", "damaged"]),
     (["decode", "damaged.session", "out", *OF_NOTE], 1, "fault R6", ["damaged.session", "block 0"]),
-    (["decode", "thin.session", "out", *OF_NOTE], 3, "missing", ["thin.session has 3 different symbols of block 0", "alcrs join"]),
+    (["decode", "thin.session", "out", *OF_NOTE], 3, "missing",
+     ["thin.session has 3 different symbols of block 0", "alcrs join"]),
     (["decode", "bare.session", "out", *OF_NOTE], 3, "empty", ["bare.session", "carries the FTI"]),
-    (["check", "twice.session", *CHECK], 0, "burst", ["6 datagrams of twice.session are repeats of others"]),
-    (["follow", "clash.session", "out", *OF_NOTE], 0, "object", ["1 datagrams of clash.session contradict", "out wrong"]),
+    (["check", "twice.session", *CHECK], 0, "burst",
+     ["6 datagrams of twice.session are repeats of others"]),
+    (["follow", "clash.session", "out", *OF_NOTE], 0, "object",
+     ["1 datagrams of clash.session contradict", "out wrong"]),
     # What was done, or is told whole by its line, has no sentence.
     (["check", "note.session", *CHECK], 0, "burst", None),
     (["decode", "note.session", "out", *OF_NOTE], 0, "object", None),

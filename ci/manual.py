@@ -1,12 +1,12 @@
 #!/usr/bin/env python3
 """Makes the man page and the completions of bash, zsh and fish from the help texts of samples/help.
 
-samples/compare compares the help texts with what the program prints. So the man page and the completions say what the
-program says: which commands there are, and of each its arguments, options, lines and statuses. What no help text has
-stands below: what alcrs is for, and the files.
+ci/compare compares the help texts with what the program prints. So the man page and the
+completions say what the program says: which commands there are, and of each its arguments, options,
+lines and statuses. What no help text has stands below: what alcrs is for, and the files.
 
-    docs/manual.py            fails where a file isn't what it would write, and tells which
-    docs/manual.py --write    writes docs/alcrs.1, completions/alcrs.bash, completions/_alcrs and completions/alcrs.fish
+    ci/manual.py            fails where a file isn't what it would write, and tells which
+    ci/manual.py --write    writes docs/alcrs.1, and alcrs.bash, _alcrs, alcrs.fish in completions/
 """
 import itertools
 import re
@@ -16,7 +16,7 @@ from pathlib import Path
 
 ROOT = Path(__file__).resolve().parent.parent
 HELP = ROOT / "samples" / "help"
-MADE_BY = "docs/manual.py makes this file of samples/help"
+MADE_BY = "ci/manual.py makes this file of samples/help"
 SECTIONS = ("Commands:", "Arguments:", "Options:")
 # An option's names and its value, or an argument, which may be repeated.
 HEAD = re.compile(r"((?:-\w, )?--[\w-]+)? ?(?:<([\w-]+)>)?(\.\.\.)?")
@@ -26,31 +26,38 @@ RANGE = re.compile(r"\b\d+ to \d+\b")
 HELP_COMMAND = "help"
 
 PURPOSE = """\
-Before a file is broadcast, alcrs tells whether every listener who receives enough of it can rebuild it exactly, and how
-many datagrams may be missed. It is for operators who send a file once, by multicast, to listeners who can't ask for
-anything again. It looks at the very datagrams that will be sent."""
+Before a file is broadcast, alcrs tells whether every listener who receives enough of it can rebuild
+it exactly, and how many datagrams may be missed. It is for operators who send a file once, by
+multicast, to listeners who can't ask for anything again. It looks at the very datagrams that will
+be sent."""
 # Files by their names in the synopsis, each in a sentence.
 FILES = [
-    ("SESSION", "A session file has its datagrams in the order in which they are sent, each behind its length in two "
-     "bytes."),
+    ("SESSION", "A session file has its datagrams in the order in which they are sent, each behind "
+     "its length in two bytes."),
     ("OBJECT", "An object is the file that is sent: any file that isn't empty."),
-    ("CERT", "A certificate has the TSI and TOI that it is for, the numbers by which the object was cut, and for each "
-     "block the coefficients of its polynomials."),
-    ("OUT", "An output is whole, or what it was before: it is written to `OUT.part`, which is renamed at the end."),
+    ("CERT", "A certificate has the TSI and TOI that it is for, the numbers by which the object "
+     "was cut, and for each block the coefficients of its polynomials."),
+    ("OUT", "An output is whole, or what it was before: it is written to `OUT.part`, which is "
+     "renamed at the end."),
 ]
-FILES_POINTER = "docs/FORMATS.md of the source has the layout of each file, and every line that is printed."
+FILES_POINTER = (
+    "docs/FORMATS.md of the source has the layout of each file, and every line that is printed."
+)
 FAULTS_POINTER = "docs/OPERATING.md of the source says of each reason what to do about it."
 SEE_ALSO = [
     "docs/OPERATING.md: for operators, from the numbers of a session to what each answer asks for.",
     "docs/FORMATS.md: bytes and printed lines.",
-    "RFC 5775 (ALC), RFC 5651 (LCT), RFC 5510 (Reed-Solomon, FEC Encoding ID 5), RFC 5052 (blocks).",
+    "RFC 5775 (ALC), RFC 5651 (LCT), RFC 5510 (Reed-Solomon, FEC Encoding ID 5), "
+    "RFC 5052 (blocks).",
 ]
 
 
 # ---- the help texts
 
 class Entry:
-    """An argument or an option: its names, the name of its value, its help, and what words it takes."""
+    """An argument or an option: its names, the name of its value, its help, and what words it
+    takes.
+    """
 
     def __init__(self, head, text):
         found = HEAD.fullmatch(head)
@@ -76,7 +83,9 @@ class Entry:
 
 
 class Help:
-    """What a help text says. A line that has no place in it is an error, so that nothing is left out."""
+    """What a help text says. A line that has no place in it is an error, so that nothing is left
+    out.
+    """
 
     def __init__(self, name):
         self.name = name
@@ -114,7 +123,9 @@ class Help:
             self.options.append(Entry(head, text.strip()))
 
     def synopsis(self):
-        """The usage's words, with each option that may be left out in place of [OPTIONS]: (word, kind)."""
+        """The usage's words, with each option that may be left out in place of [OPTIONS]: (word,
+        kind).
+        """
         words = [("alcrs", "command")] + ([(self.name, "command")] if self.name != "alcrs" else [])
         needed = set(re.findall(r"--[\w-]+", self.usage))
         for option in self.options:
@@ -136,12 +147,18 @@ class Help:
 
 
 def read_helps():
-    """The help of the program, and that of each of its commands, in the order in which it lists them."""
+    """The help of the program, and that of each of its commands, in the order in which it lists
+    them.
+    """
     top = Help("alcrs")
     named = [name for name, _ in top.commands]
-    there = sorted(path.stem for path in HELP.glob("*.txt") if path.stem not in ("alcrs", "version"))
+    there = sorted(
+        path.stem for path in HELP.glob("*.txt") if path.stem not in ("alcrs", "version")
+    )
     if sorted(set(named) - {HELP_COMMAND}) != there:
-        sys.exit(f"samples/help has texts of {', '.join(there)}; alcrs.txt lists {', '.join(named)}")
+        sys.exit(
+            f"samples/help has texts of {', '.join(there)}; alcrs.txt lists {', '.join(named)}"
+        )
     return top, [Help(name) for name in named if name != HELP_COMMAND]
 
 
@@ -162,19 +179,27 @@ def statuses(text):
 
 def code(text):
     """Text that is typed or printed as it stands."""
-    for plain, escaped in (("\\", "\\e"), ("-", "\\-"), ("'", "\\(aq"), ("`", "\\(ga"), ("^", "\\(ha")):
+    for plain, escaped in (
+        ("\\", "\\e"), ("-", "\\-"), ("'", "\\(aq"), ("`", "\\(ga"), ("^", "\\(ha")
+    ):
         text = text.replace(plain, escaped)
     return text
 
 
 def prose(text):
-    """Text to read: what stands between backquotes is bold, options have their hyphens, and sentences have lines."""
+    """Text to read: what stands between backquotes is bold, options have their hyphens, and
+    sentences have lines.
+    """
     parts = text.replace("\\", "\\e").split("`")
     for place, part in enumerate(parts):
         if place % 2:
             parts[place] = "\\fB" + part.replace("-", "\\-") + "\\fR"
         else:
-            parts[place] = re.sub(r"(?<![\w-])-(-[\w-]+|\w\b)", lambda m: m.group(0).replace("-", "\\-"), part)
+            parts[place] = re.sub(
+                r"(?<![\w-])-(-[\w-]+|\w\b)",
+                lambda m: m.group(0).replace("-", "\\-"),
+                part,
+            )
     return re.sub(r"(?<=[a-z0-9)RFT][.:]) (?=[A-Z]|\\fB)", "\n", "".join(parts))
 
 
@@ -184,13 +209,15 @@ def synopsis_lines(help_):
     for word, kind in help_.synopsis():
         name, _, value = word.partition(" ")
         if kind == "argument":
-            text = "\\fI" + code(name.removesuffix("...")) + "\\fR" + ("..." if name.endswith("...") else "")
+            text = "\\fI" + code(name.removesuffix("...")) + "\\fR"
+            text += "..." if name.endswith("...") else ""
         elif kind == "command":
             text = "\\fB" + code(name) + "\\fR"
         else:
             text = "\\fB" + code(name) + "\\fR"
             if "|" in value:
-                text += "\\ " + "|".join("\\fB" + code(choice) + "\\fR" for choice in value.split("|"))
+                choices = ["\\fB" + code(choice) + "\\fR" for choice in value.split("|")]
+                text += "\\ " + "|".join(choices)
             elif value:
                 text += "\\ \\fI" + code(value) + "\\fR"
             if kind == "optional":
@@ -223,7 +250,8 @@ def status_lines(line):
 def tag_of(entry):
     """The names of an option or an argument, and of its value."""
     names = ", ".join("\\fB" + code(name) + "\\fR" for name in entry.names)
-    value = "\\fI" + code(entry.value) + "\\fR" + ("..." if entry.is_repeated else "") if entry.value else ""
+    value = "\\fI" + code(entry.value) + "\\fR" if entry.value else ""
+    value += "..." if entry.value and entry.is_repeated else ""
     return " ".join(part for part in (names, value) if part)
 
 
@@ -238,7 +266,9 @@ def text_of(entry):
 
 
 def body_lines(help_):
-    """What a help text says behind its options: sentences, and the lines that are printed, each with its meaning."""
+    """What a help text says behind its options: sentences, and the lines that are printed, each
+    with its meaning.
+    """
     lines = []
     for is_list, group in itertools.groupby(help_.text, lambda line: line.startswith("  ")):
         group = list(group)
@@ -267,7 +297,8 @@ def command_lines(help_):
     lines = [f".SS alcrs {help_.name}"] + synopsis_lines(help_) + [".PP", prose(help_.about + ".")]
     for title, entries in (("Arguments:", help_.arguments), ("Options:", help_.options)):
         if entries:
-            lines += [".PP", title, ".RS 4"] + tagged([(tag_of(entry), text_of(entry)) for entry in entries]) + [".RE"]
+            tags = [(tag_of(entry), text_of(entry)) for entry in entries]
+            lines += [".PP", title, ".RS 4"] + tagged(tags) + [".RE"]
     return lines + body_lines(help_) + example_lines(help_)
 
 
@@ -362,7 +393,8 @@ _alcrs_value() {{
 
 _alcrs() {{
     local commands="{commands}"
-    local typed="${{COMP_WORDS[COMP_CWORD]}}" before="" given=" " places=0 only_arguments="" options files at word
+    local typed="${{COMP_WORDS[COMP_CWORD]}}" before="" given=" " places=0 only_arguments=""
+    local options files at word
     COMPREPLY=()
     if [ "$COMP_CWORD" -le 1 ]; then
         _alcrs_words "$commands {options}" "$typed"
@@ -431,15 +463,22 @@ def choices_of(options, text, wanted):
 
 def bash_completion(top, helps):
     commands = " ".join(name for name, _ in top.commands)
-    every = {option.long_name(): option for help_ in helps for option in help_.options if option.value}
+    every = {
+        option.long_name(): option for help_ in helps for option in help_.options if option.value
+    }
     values = choices_of(every.values(), "echo number", lambda option: option.is_number)
     values += choices_of(every.values(), "echo file", lambda option: option.is_file)
-    values += [f"        {name}) echo {' '.join(option.words)} ;;" for name, option in every.items() if option.words]
+    values += [
+        f"        {name}) echo {' '.join(option.words)} ;;"
+        for name, option in every.items()
+        if option.words
+    ]
     of_commands = []
     for help_ in helps:
         options = " ".join(option.long_name() for option in help_.options)
         files = help_.file_arguments()
-        of_commands.append(f'        {help_.name}) options="{options}" files={"any" if files is None else files} ;;')
+        files = "any" if files is None else files
+        of_commands.append(f'        {help_.name}) options="{options}" files={files} ;;')
     return BASH.format(
         made_by=MADE_BY,
         values="\n".join(values),
@@ -472,7 +511,9 @@ def zsh_completion(top, helps):
     lines = ["#compdef alcrs", f"# Completion of alcrs for zsh. {MADE_BY}.", ""]
     for help_ in helps:
         specs = [zsh_option(option) for option in help_.options]
-        specs += [zsh_argument(argument, place) for place, argument in enumerate(help_.arguments, 1)]
+        specs += [
+            zsh_argument(argument, place) for place, argument in enumerate(help_.arguments, 1)
+        ]
         lines += [f"_alcrs_{help_.name}() {{", "  local -a specs", "  specs=("]
         lines += [f"  {spec}" for spec in specs] + ["  )", '  _arguments -S "${specs[@]}"', "}", ""]
     lines += ["_alcrs_commands() {", "  local -a commands", "  commands=("]
@@ -528,9 +569,16 @@ def fish_completion(top, helps):
     for option in top.options:
         lines.append(fish_option("__alcrs_has_no_command", option))
     for name, text in top.commands:
-        lines += [f"complete -c alcrs -n __alcrs_has_no_command -a {name} \\", f"    -d {fish_quoted(text)}"]
+        lines += [
+            f"complete -c alcrs -n __alcrs_has_no_command -a {name} \\",
+            f"    -d {fish_quoted(text)}",
+        ]
     commands = fish_quoted(" ".join(name for name, _ in top.commands))
-    lines += ["", f"complete -c alcrs -n '__alcrs_command_is {HELP_COMMAND}' -f \\", f"    -a {commands}"]
+    lines += [
+        "",
+        f"complete -c alcrs -n '__alcrs_command_is {HELP_COMMAND}' -f \\",
+        f"    -a {commands}",
+    ]
     for help_ in helps:
         lines.append("")
         for option in help_.options:
@@ -551,7 +599,7 @@ def fish_option(condition, option):
 
 def main():
     if sys.argv[1:] not in ([], ["--write"]):
-        sys.exit("docs/manual.py [--write]")
+        sys.exit("ci/manual.py [--write]")
     top, helps = read_helps()
     texts = {
         "docs/alcrs.1": man_page(top, helps),
@@ -564,9 +612,13 @@ def main():
             (ROOT / name).parent.mkdir(exist_ok=True)
             (ROOT / name).write_text(text)
         return
-    others = [name for name, text in texts.items() if not (ROOT / name).is_file() or (ROOT / name).read_text() != text]
+    others = [
+        name
+        for name, text in texts.items()
+        if not (ROOT / name).is_file() or (ROOT / name).read_text() != text
+    ]
     if others:
-        sys.exit(f"{', '.join(others)}: not what samples/help says: run docs/manual.py --write")
+        sys.exit(f"{', '.join(others)}: not what samples/help says: run ci/manual.py --write")
     print("docs/alcrs.1 and completions/ say what samples/help says: same")
 
 

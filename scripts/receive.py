@@ -1,5 +1,6 @@
 #!/usr/bin/env python3
-"""Writes the UDP datagrams that come as a session, each at once, until none has come for so many seconds.
+"""Writes the UDP datagrams that come as a session, each at once, until none has come for so many
+seconds.
 
     receive.py ADDRESS PORT SECONDS [--interface NAME] > SESSION
     receive.py ADDRESS PORT SECONDS | alcrs follow /dev/stdin OUT --tsi N --toi N
@@ -18,7 +19,9 @@ WAITING = 16 << 20
 
 
 def receiver_of(address, port, interface):
-    """A socket that receives what comes to this address; a group's is joined on the interface, if one is named."""
+    """A socket that receives what comes to this address; a group's is joined on the interface, if
+    one is named.
+    """
     ip = ipaddress.ip_address(address)
     family = socket.AF_INET6 if ip.version == 6 else socket.AF_INET
     receiver = socket.socket(family, socket.SOCK_DGRAM)
@@ -38,11 +41,15 @@ def receiver_of(address, port, interface):
 
 
 def main():
-    parser = argparse.ArgumentParser(description=__doc__.splitlines()[0])
-    parser.add_argument("address", metavar="ADDRESS", help="of IPv4 or IPv6, this host's or a group's")
+    parser = argparse.ArgumentParser(description=" ".join(__doc__.split("\n\n")[0].split()))
+    parser.add_argument(
+        "address", metavar="ADDRESS", help="of IPv4 or IPv6, this host's or a group's"
+    )
     parser.add_argument("port", metavar="PORT", type=int)
     parser.add_argument("seconds", metavar="SECONDS", type=float)
-    parser.add_argument("--interface", metavar="NAME", help="of a group: where it is joined, as eth0")
+    parser.add_argument(
+        "--interface", metavar="NAME", help="of a group: where it is joined, as eth0"
+    )
     given = parser.parse_args()
     count = 0
     output = open(sys.stdout.fileno(), "wb", buffering=0, closefd=False)

@@ -1,8 +1,9 @@
 #!/usr/bin/env python3
 """Tells the evenly random loss at which one listener in a thousand fails to get the object.
 
-It reads what `alcrs check` prints at a yes, or any lines `block b need k have h`. A listener fails if of some block fewer than
-k of its h symbols come. Each datagram is missed by itself, with the same chance.
+It reads what `alcrs check` prints at a yes, or any lines `block b need k have h`. A listener fails
+if of some block fewer than k of its h symbols come. Each datagram is missed by itself, with the
+same chance.
 
     alcrs check SESSION OBJECT CERT --tsi N --toi N | random_loss.py [--one-in 1000]
 """
@@ -49,8 +50,14 @@ def greatest_loss(blocks, failures):
 
 
 def main():
-    parser = argparse.ArgumentParser(description=__doc__.splitlines()[0])
-    parser.add_argument("--one-in", type=float, default=1000, metavar="N", help="one listener in N may fail (default 1000)")
+    parser = argparse.ArgumentParser(description=" ".join(__doc__.split("\n\n")[0].split()))
+    parser.add_argument(
+        "--one-in",
+        type=float,
+        default=1000,
+        metavar="N",
+        help="one listener in N may fail (default 1000)",
+    )
     one_in = parser.parse_args().one_in
     blocks = collections.Counter()
     for line in sys.stdin:
@@ -59,7 +66,8 @@ def main():
             blocks[int(words[3]), int(words[5])] += 1
     if not blocks:
         sys.exit("no line `block b need k have h`: is the answer of `alcrs check` yes?")
-    print(f"random loss of {100 * greatest_loss(blocks, 1 / one_in):.1f} %: one listener in {one_in:g} fails")
+    loss = 100 * greatest_loss(blocks, 1 / one_in)
+    print(f"random loss of {loss:.1f} %: one listener in {one_in:g} fails")
 
 
 main()

@@ -3,8 +3,8 @@
 
     send.py SESSION ADDRESS PORT RATE [--ttl N] [--interface NAME]
 
-The rate is kept on the whole: where sending a datagram takes long, the next ones follow at once. A session that is cut is sent
-up to there, and the status is 1.
+The rate is kept on the whole: where sending a datagram takes long, the next ones follow at once. A
+session that is cut is sent up to there, and the status is 1.
 """
 import argparse
 import ipaddress
@@ -34,18 +34,24 @@ def sender_to(address, ttl, interface):
 
 
 def main():
-    parser = argparse.ArgumentParser(description=__doc__.splitlines()[0])
+    parser = argparse.ArgumentParser(description=" ".join(__doc__.split("\n\n")[0].split()))
     parser.add_argument("session", metavar="SESSION")
     parser.add_argument("address", metavar="ADDRESS", help="of IPv4 or IPv6, a host's or a group's")
     parser.add_argument("port", metavar="PORT", type=int)
     parser.add_argument("rate", metavar="RATE", type=float, help="datagrams a second")
-    parser.add_argument("--ttl", type=int, default=16, metavar="N", help="of a group: how far they go (default 16)")
-    parser.add_argument("--interface", metavar="NAME", help="of a group: where they go out, as eth0")
+    parser.add_argument(
+        "--ttl", type=int, default=16, metavar="N", help="of a group: how far they go (default 16)"
+    )
+    parser.add_argument(
+        "--interface", metavar="NAME", help="of a group: where they go out, as eth0"
+    )
     given = parser.parse_args()
     if given.rate <= 0:
         parser.error("RATE has to be more than 0")
     count = 0
-    with open(given.session, "rb") as session, sender_to(given.address, given.ttl, given.interface) as sender:
+    with open(given.session, "rb") as session, sender_to(
+        given.address, given.ttl, given.interface
+    ) as sender:
         to = (given.address, given.port)
         start = time.monotonic()
         try:

@@ -1,13 +1,15 @@
 #!/usr/bin/env python3
-"""Fails the program's reads, writes and other calls on files one by one, and tells whether each run ends well.
+"""Fails the program's reads, writes and other calls on files one by one, and tells whether each run
+ends well.
 
-Each command runs once as it is, and then once for each of its calls, which fails with EIO, and once more with EINTR. A
-run ends well with status 1 and the line of the fault that fits the call: the output is what it was, and no part of it is
-left. Where standard output fails, there is no line, and the output may be whole; where standard error does, a file is
-closed or its access rights are set, nothing changes. An interruption may also be passed over. Then each command runs with
-reads and writes that move 1 to 7 bytes at a time, which changes nothing, and with standard input, output and error closed,
-so that files get their numbers: no input changes, and the output is whole or what it was. A C compiler, `cc`, builds the
-library that fails. After `./alcrs` has built the program.
+Each command runs once as it is, and then once for each of its calls, which fails with EIO, and once
+more with EINTR. A run ends well with status 1 and the line of the fault that fits the call: the
+output is what it was, and no part of it is left. Where standard output fails, there is no line, and
+the output may be whole; where standard error does, a file is closed or its access rights are set,
+nothing changes. An interruption may also be passed over. Then each command runs with reads and
+writes that move 1 to 7 bytes at a time, which changes nothing, and with standard input, output and
+error closed, so that files get their numbers: no input changes, and the output is whole or what it
+was. A C compiler, `cc`, builds the library that fails. After `./alcrs` has built the program.
 """
 import os
 import subprocess
@@ -31,8 +33,8 @@ GREAT_COMMANDS = [
     ["twin", "great_thin.session", "great.txt", "great.rsc", "out", *OF_BULLETIN],
 ]
 
-# Counts calls, lets the one with the number FAILED fail with ERROR, and moves at most PIECE bytes at a time. Tells
-# each call, its descriptor and its file in the file TOLD.
+# Counts calls, lets the one with the number FAILED fail with ERROR, and moves at most PIECE bytes
+# at a time. Tells each call, its descriptor and its file in the file TOLD.
 FAILING = r"""
 #define _GNU_SOURCE
 #include <dlfcn.h>
@@ -115,7 +117,8 @@ struct part {
         if (fails(#name, 0, a)) return -1; \
         if (piece <= 0) return next(a, parts, count); \
         while (count > 1 && parts->size == 0) parts++, count--; \
-        struct part first = {parts->start, parts->size > (unsigned long)piece ? piece : parts->size}; \
+        unsigned long size = parts->size > (unsigned long)piece ? piece : parts->size; \
+        struct part first = {parts->start, size}; \
         return next(a, &first, 1); \
     }
 
@@ -125,8 +128,10 @@ OF_PATH(fstatat, b) OF_PATH(fstatat64, b) OF_PATH(access, a) OF_PATH(faccessat, 
 OF_PATH(rename, a) OF_PATH(renameat, b) OF_PATH(renameat2, b)
 OF_PATH(unlink, a) OF_PATH(unlinkat, b) OF_PATH(remove, a)
 OF_PATH(chmod, a) OF_PATH(fchmodat, b)
-OF_FILE(fchmod) OF_FILE(fstat) OF_FILE(fstat64) OF_FILE(lseek) OF_FILE(lseek64) OF_FILE(fsync) OF_FILE(ftruncate)
-MOVING(read) MOVING(write) MOVING(__write) MOVING(pread) MOVING(pwrite) MOVING(pread64) MOVING(pwrite64)
+OF_FILE(fchmod) OF_FILE(fstat) OF_FILE(fstat64) OF_FILE(lseek) OF_FILE(lseek64)
+OF_FILE(fsync) OF_FILE(ftruncate)
+MOVING(read) MOVING(write) MOVING(__write)
+MOVING(pread) MOVING(pwrite) MOVING(pread64) MOVING(pwrite64)
 MOVING_PARTS(readv, read) MOVING_PARTS(writev, write)
 
 // A file is closed, whatever is answered.
@@ -140,7 +145,8 @@ long close(long a) {
 }
 """
 
-# How a command tells that its output can't be written, or can't take its place; the others blame the file.
+# How a command tells that its output can't be written, or can't take its place; the others blame
+# the file.
 WRITING = {
     "encode": "fault O3 Io",
     "certify": "fault Z4 Io",
@@ -221,7 +227,8 @@ def is_told_closed(closed, whole, ran):
     status, output, messages, left, parts = ran
     if " >&-" not in f" {closed}":
         return (status, output, left, parts) == (whole[0], whole[1], whole[3], [])
-    return status == (whole[0] if whole[0] == 2 else 1) and output == b"" and left in (BEFORE, whole[3]) and not parts
+    is_fault = status == (whole[0] if whole[0] == 2 else 1)
+    return is_fault and output == b"" and left in (BEFORE, whole[3]) and not parts
 
 
 def contents(folder):
@@ -253,33 +260,48 @@ def main():
                 os.remove(told)
             whole = run(words, TOLD=told)
             calls = calls_in(told)
-            printed = max((place for place, call in enumerate(calls, 1) if call.descriptor == "1"), default=len(calls))
+            printed = max(
+                (place for place, call in enumerate(calls, 1) if call.descriptor == "1"),
+                default=len(calls),
+            )
             tries = [(place, error) for place in range(1, len(calls) + 1) for error in ERRORS]
             answers = in_turn(
                 lambda t: run(words, FAILED=str(t[0]), ERROR=str(ERRORS[t[1]])), tries
             )
             for (place, error), ran in zip(tries, answers):
                 call = calls[place - 1]
-                # Behind its last line the program looks at files again for the cause: that changes no answer.
+                # Behind its last line the program looks at files again for the cause: that changes
+                # no answer.
                 if place > printed and ran == whole:
                     continue
                 if not is_told(words, call, whole, ran) and not (error == "EINTR" and ran == whole):
-                    bad.append((words, f"{error} of {call.name} {call.descriptor} {call.file}", ran))
+                    bad.append(
+                        (words, f"{error} of {call.name} {call.descriptor} {call.file}", ran)
+                    )
             runs += len(tries)
             answers = in_turn(lambda closed: run_without(words, closed), CLOSED)
-            bad += [(words, c, ran) for c, ran in zip(CLOSED, answers) if not is_told_closed(c, whole, ran)]
+            bad += [
+                (words, c, ran)
+                for c, ran in zip(CLOSED, answers)
+                if not is_told_closed(c, whole, ran)
+            ]
             closed_runs += len(CLOSED)
             if words not in GREAT_COMMANDS:
                 answers = in_turn(lambda piece: run(words, PIECE=str(piece)), range(1, 8))
-                bad += [(words, f"pieces of {i + 1}", ran) for i, ran in enumerate(answers) if ran != whole]
+                bad += [
+                    (words, f"pieces of {i + 1}", ran)
+                    for i, ran in enumerate(answers)
+                    if ran != whole
+                ]
                 short_runs += 7
         if contents(inputs) != before:
             bad.append((["..."], "an input has changed", whole))
     for words, failure, ran in bad:
         print(f"alcrs {' '.join(words)}: {failure}: status {ran[0]}, {ran[1][-200:]}, {ran[4]}")
     print(
-        f"{runs} calls failed in turn, of {len(COMMANDS + GREAT_COMMANDS)} runs, {short_runs} runs in small pieces and "
-        f"{closed_runs} with streams closed: {len(bad)} ended otherwise than they may"
+        f"{runs} calls failed in turn, of {len(COMMANDS + GREAT_COMMANDS)} runs, "
+        f"{short_runs} runs in small pieces and {closed_runs} with streams closed: "
+        f"{len(bad)} ended otherwise than they may"
     )
     return 1 if bad else 0
 

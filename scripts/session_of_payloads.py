@@ -3,9 +3,10 @@
 
     tshark .. -T fields -e udp.length -e udp.payload | session_of_payloads.py > SESSION
 
-Standard input has a line for each datagram: its UDP length, which counts 8 bytes of header, and its payload in hexadecimal.
-A payload that the capture has cut is refused, as its last bytes are lost. An empty datagram is passed over. At the end it says
-on standard error how many it took; that none came is a failure.
+Standard input has a line for each datagram: its UDP length, which counts 8 bytes of header, and its
+payload in hexadecimal. A payload that the capture has cut is refused, as its last bytes are lost.
+An empty datagram is passed over. At the end it says on standard error how many it took; that none
+came is a failure.
 """
 import sys
 
@@ -47,7 +48,10 @@ def main():
     passed = f", passed over {empty} empty ones" if empty else ""
     print(f"took {taken} datagrams{passed}", file=sys.stderr)
     if not taken:
-        sys.exit("session_of_payloads.py: no datagram came: does the filter fit, and what does the capturing program say?")
+        sys.exit(
+            "session_of_payloads.py: no datagram came: does the filter fit, "
+            "and what does the capturing program say?"
+        )
 
 
 main()

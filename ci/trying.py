@@ -1,7 +1,8 @@
-"""What the scripts beside this one have in common: the program, inputs of many shapes, and runs in folders of their own.
+"""What the scripts beside this one have in common: the program, inputs of many shapes, and runs in
+folders of their own.
 
-Each run has one of a few folders, where links to the inputs stand and the output `out` has known bytes. C libraries are
-built by `cc`, and loaded before the program.
+Each run has one of a few folders, where links to the inputs stand and the output `out` has known
+bytes. C libraries are built by `cc`, and loaded before the program.
 """
 import os
 import subprocess
@@ -23,7 +24,8 @@ ONE_BLOCK = ["--symbol", "500", "--block", "50", "--max", "60"]
 MANY_BLOCKS = ["--symbol", "64", "--block", "20", "--max", "26"]
 ALL_REPAIR = ["--symbol", "200", "--block", "10", "--max", "30"]
 
-# Commands that are done, those that end with a no, with a lack or with a fault, refused lines, and help.
+# Commands that are done, those that end with a no, with a lack or with a fault, refused lines, and
+# help.
 COMMANDS = [
     ["encode", "note.txt", "out", *OF_NOTE, *NOTE],
     ["encode", "bulletin.txt", "out", *OF_BULLETIN, *ONE_BLOCK],
@@ -31,7 +33,8 @@ COMMANDS = [
     ["encode", "bulletin.txt", "out", *OF_BULLETIN, *MANY_BLOCKS, "--order", "rounds"],
     ["encode", "bulletin.txt", "out", *OF_BULLETIN, "--symbol", "8", "--block", "9", "--max", "8"],
     ["encode", "note.txt", "out", *OF_NOTE, *NOTE, "--fti-every", "4"],
-    ["encode", "bulletin.txt", "out", *OF_BULLETIN, *MANY_BLOCKS, "--order", "rounds", "--fti-every", "7"],
+    ["encode", "bulletin.txt", "out", *OF_BULLETIN, *MANY_BLOCKS, "--order", "rounds",
+     "--fti-every", "7"],
     ["certify", "note.txt", "out", *OF_NOTE, *NOTE],
     ["certify", "bulletin.txt", "out", *OF_BULLETIN, *ONE_BLOCK],
     ["certify", "bulletin.txt", "out", *OF_BULLETIN, *MANY_BLOCKS],
@@ -132,7 +135,9 @@ def make_inputs(room):
             with open(os.path.join(SAMPLES, name), "rb") as file:
                 put(name, file.read())
     for name, sizes in [("one", ONE_BLOCK), ("many", MANY_BLOCKS), ("repair", ALL_REPAIR)]:
-        alcrs("encode", "bulletin.txt", f"{name}.session", *OF_BULLETIN, *sizes, "--order", "rounds")
+        alcrs(
+            "encode", "bulletin.txt", f"{name}.session", *OF_BULLETIN, *sizes, "--order", "rounds"
+        )
         alcrs("certify", "bulletin.txt", f"{name}.rsc", *OF_BULLETIN, *sizes)
     os.rename(os.path.join(room, "many.session"), os.path.join(room, "rounds.session"))
     alcrs("drop", "one.session", "one_lossy.session", *map(str, range(10)))
@@ -148,7 +153,10 @@ def make_inputs(room):
     put("cut.session", session[:-1])
     put("empty.session", b"")
     frame = session[:284]
-    put("spoiled.session", b"\0\0" + frame + changed(frame, 283) + changed(frame, 15) + session[284:])
+    put(
+        "spoiled.session",
+        b"\0\0" + frame + changed(frame, 283) + changed(frame, 15) + session[284:],
+    )
 
 
 class Rooms:
@@ -166,9 +174,11 @@ class Rooms:
             self.free.append(room)
 
     def run(self, words, settings, files=None, shell=None):
-        """Status, output, messages, the bytes of `out` and the names of its parts, of a run with these settings.
+        """Status, output, messages, the bytes of `out` and the names of its parts, of a run with
+        these settings.
 
-        `files` are inputs of this run alone, and `shell` is a command that ends in that of the run, as `"$0" "$@"`.
+        `files` are inputs of this run alone, and `shell` is a command that ends in that of the run,
+        as `"$0" "$@"`.
         """
         with self.lock:
             room = self.free.pop()
@@ -202,7 +212,9 @@ class Rooms:
 
 def without_causes(messages):
     """What stands on standard error beside the sentences on causes, which `causes.py` tries."""
-    return b"".join(line for line in messages.splitlines(keepends=True) if not line.startswith(b"alcrs: "))
+    return b"".join(
+        line for line in messages.splitlines(keepends=True) if not line.startswith(b"alcrs: ")
+    )
 
 
 def build(source, library):

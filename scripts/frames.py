@@ -1,4 +1,6 @@
-"""The datagrams of a session file, each behind its length in two bytes, as the scripts for operators read and write them."""
+"""The datagrams of a session file, each behind its length in two bytes, as the scripts for
+operators read and write them.
+"""
 
 
 def read_frames(session):

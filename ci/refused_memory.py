@@ -1,10 +1,11 @@
 #!/usr/bin/env python3
 """Refuses the program's allocations one by one, and tells whether each run ends well.
 
-Each command runs once with all the memory it asks for, and then once for each allocation, which is refused. A run ends
-well where it prints the same and writes the same, or `fault memory` as its last line with status 1; before that line a
-run may have printed whole lines of `show` and `follow`, and nothing else, and its output is what it was. A C compiler,
-`cc`, builds the library that refuses. After `./alcrs` has built the program.
+Each command runs once with all the memory it asks for, and then once for each allocation, which is
+refused. A run ends well where it prints the same and writes the same, or `fault memory` as its last
+line with status 1; before that line a run may have printed whole lines of `show` and `follow`, and
+nothing else, and its output is what it was. A C compiler, `cc`, builds the library that refuses.
+After `./alcrs` has built the program.
 """
 import os
 import sys
@@ -12,7 +13,8 @@ import tempfile
 
 from trying import BEFORE, COMMANDS, Rooms, build, in_turn, make_inputs
 
-# Counts the calls that allocate and fails the one with the number REFUSED; writes their number to COUNTED.
+# Counts the calls that allocate and fails the one with the number REFUSED; writes their number to
+# COUNTED.
 REFUSING = r"""
 #define _GNU_SOURCE
 #include <dlfcn.h>
@@ -65,7 +67,8 @@ __attribute__((destructor)) static void tell(void) {
 
 
 def ends_well(words, whole, ran):
-    """Whether a run is as the whole one, or tells want of memory and leaves the output as it was."""
+    """Whether a run is as the whole one, or tells want of memory and leaves the output as it was.
+    """
     status, output, messages, left, parts = ran
     lines = output.splitlines(keepends=True)
     before = b"".join(lines[:-1])
@@ -94,11 +97,18 @@ def main():
                 count = int(file.read())
             places = range(1, count + 1)
             answers = in_turn(lambda place: run(words, REFUSED=str(place)), places)
-            bad += [(words, place) for place, ran in zip(places, answers) if not ends_well(words, whole, ran)]
+            bad += [
+                (words, place)
+                for place, ran in zip(places, answers)
+                if not ends_well(words, whole, ran)
+            ]
             runs += count
     for words, place in bad:
         print(f"alcrs {' '.join(words)}: not well where allocation {place} is refused")
-    print(f"{runs} allocations of {len(COMMANDS)} runs refused in turn: {len(bad)} ended otherwise than they may")
+    print(
+        f"{runs} allocations of {len(COMMANDS)} runs refused in turn: "
+        f"{len(bad)} ended otherwise than they may"
+    )
     return 1 if bad else 0
 
 

@@ -1,0 +1,42 @@
+#!/usr/bin/env python3
+"""Fails where a line of code, of a comment, of a definition or of a script is wider than 100
+characters, and prints it.
+
+It looks into src/ and specs/ of each crate, the scripts, and the files for C and Python. The lines
+that begin with `#[tactic(` or `#![` may be wider, as `rt fmt` says how they are broken. What is in
+the proofs/ of a crate is for the prover, and the completions are made by ci/manual.py: neither is
+looked at. Nor are documents, whose paragraphs a reader's program breaks.
+"""
+import sys
+from pathlib import Path
+
+ROOT = Path(__file__).resolve().parent.parent
+WIDTH = 100
+CRATES = ["crates/*/src/**/*.rt", "crates/*/specs/**/*.antt"]
+SCRIPTS = [
+    "alcrs", "do", "install", ".ci/*", "ci/*", "scripts/*", "bench/*", "packaging/*",
+    "mutants/try", "capi/*", "capi/*/*",
+]
+LAID_OUT = ("#[tactic(", "#![")
+
+
+def wide_lines(path):
+    for number, line in enumerate(path.read_text(encoding="utf-8").splitlines(), 1):
+        if len(line) > WIDTH and not line.lstrip().startswith(LAID_OUT):
+            yield number, line
+
+
+def main():
+    paths = {path for pattern in CRATES + SCRIPTS for path in ROOT.glob(pattern)}
+    paths = sorted(path for path in paths if path.is_file() and path.suffix not in (".md", ".pyc"))
+    count = 0
+    for path in paths:
+        for number, line in wide_lines(path):
+            print(f"{path.relative_to(ROOT)}:{number}: {len(line)} characters: {line.strip()}")
+            count += 1
+    print(f"{len(paths)} files, {count} lines wider than {WIDTH} characters")
+    return 1 if count else 0
+
+
+if __name__ == "__main__":
+    sys.exit(main())
