@@ -57,7 +57,8 @@ def main():
         for name, other in others:
             told = found_in(name, other)
             if not told or set(told) != {version}:
-                wrong.append(f"{name}: {', '.join(sorted(set(told))) or 'no version'}, not {version}")
+                names = ", ".join(sorted(set(told))) or "no version"
+                wrong.append(f"{name}: {names}, not {version}")
     kit = toolchain()
     if kit is None:
         print("the toolchain: not compared, as there is no rt")

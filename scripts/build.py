@@ -4,8 +4,8 @@
     scripts/build.py LOG [rt's flags]
 
 `rt lib` locks the folders of a crate and of all below it. So each crate that is proved beside
-another has a copy of crates/ for it, below crates/alcrs/out. What was proved in one folder is linked
-into the others, which rt takes as its own by its stamp. Of the crates that wait for none the one
+another has a copy of crates/ for it, below crates/alcrs/out. What was proved in one folder is
+linked into the others, and rt knows it there by its stamp. Of the crates that wait for none the one
 with the longest chain above it is next. There are as many at a time as there are processors and
 memory for. What fails is tried once more by itself, in the repository's own folder.
 
@@ -119,7 +119,7 @@ class Build:
         for name in reversed(self.below):
             above = [self.chain[it] for it in self.chain if name in self.below[it]]
             self.chain[name] = self.lines[name] + max(above, default=0)
-        # Where each crate stands that is proved; what runs, by its folder; and what has failed once.
+        # Where each crate is that is proved; what runs, by its folder; what has failed once.
         self.where, self.running, self.failed = {}, {}, set()
         self.folders = [ROOT]
         self.measured = [FIRMLY, FIRMLY * SECONDS]
