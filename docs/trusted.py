@@ -86,7 +86,7 @@ PROMISES = [
     ("program", "the program, from its words to its output", [("tool", "answer", [])], ["library", "commands"]),
 ]
 # The crates that stand on the library and offer it further.
-ABOVE_THE_LIBRARY = {"request", "tool", "alcrs", "alcrs_c"}
+ABOVE_THE_LIBRARY = {"request", "causes", "tool", "alcrs", "alcrs_c"}
 
 
 class Module:
