@@ -112,7 +112,7 @@ PROMISES = [
     ),
 ]
 # The crates that stand on the library and offer it further.
-ABOVE_THE_LIBRARY = {"request", "tool", "alcrs", "alcrs_c"}
+ABOVE_THE_LIBRARY = {"request", "causes", "tool", "alcrs", "alcrs_c"}
 
 
 class Module:

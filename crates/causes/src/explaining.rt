@@ -1,4 +1,7 @@
 //! The sentence for a line.
+ghost use Rattle.std.specs.Prelude.{◌≡◌, IfOk, is_some, true};
+ghost use Rattle.causes.specs.Sentences.{is_doubted, tells_repeats};
+
 use crate::files::{Kind, kind_of, unread, unwritten};
 use crate::names::{Name, certificate_of, identity_of, object_of, output_of, session_of};
 use crate::sessions::{Break, Carrier, carrier_from, walk};
@@ -57,7 +60,9 @@ pub fn doubt<R: Files>(
     alloc: Global,
     request: &Request<'_>,
     contradictions: u64,
-) -> Result<Option<String>, AllocError> {
+) -> Result<Option<String>, AllocError>
+    ensures said { IfOk result (λ said. is_some said ≡ is_doubted request.now contradictions) }
+{
     let case = Case {
         rt,
         alloc,
@@ -80,7 +85,9 @@ pub fn repeated<R: Files>(
     alloc: Global,
     request: &Request<'_>,
     repeats: u64,
-) -> Result<Option<String>, AllocError> {
+) -> Result<Option<String>, AllocError>
+    ensures said { IfOk result (λ said. is_some said ≡ tells_repeats request.now repeats) }
+{
     let case = Case {
         rt,
         alloc,
@@ -142,7 +149,9 @@ impl<'a, R: Files> Case<'a, R> {
     }
 
     // The sentence of a pattern, whose keys stand in braces.
-    fn say(&self, pattern: &str, numbers: &[u64]) -> Sentence {
+    fn say(&self, pattern: &str, numbers: &[u64]) -> Sentence
+        ensures said { IfOk result (λ said. is_some said ≡ true) }
+    {
         let mut text = String::new(self.alloc);
         for piece in pattern.split('{') {
             match piece.split_once('}') {

@@ -1,4 +1,6 @@
 //! Repeats in a session, by the lines of its check.
+ghost use Rattle.std.specs.Prelude.{◌≡◌, codes, false, nat_eq};
+ghost use Rattle.std.specs.List.{starts_with};
 
 // The last word of a line, as a number.
 fn last_number(line: &str) -> u64 {
@@ -12,7 +14,9 @@ fn last_number(line: &str) -> u64 {
 /// How many datagrams are repeats of others, at least, by the lines of a yes: as many as there are
 /// more carriers than different symbols. Where each datagram carries the FTI, that is exactly how
 /// many. 0 of any other text.
-pub fn repeats_in(text: &str) -> u64 {
+pub fn repeats_in(text: &str) -> u64
+    ensures other { starts_with nat_eq text.now (codes "yes\n") ≡ false → result ≡ 0 }
+{
     if !text.starts_with("yes\n") {
         return 0;
     }
