@@ -1,0 +1,133 @@
+#!/usr/bin/env python3
+"""Fails where a document has a figure that isn't what can be counted, or a link that leads nowhere.
+
+Each figure stands below with the documents that have it, and what finds it there. A document that
+has it no more is a failure, too, so that no figure goes unseen by being put into other words.
+"""
+import ast
+import re
+import sys
+from pathlib import Path
+
+ROOT = Path(__file__).resolve().parent.parent
+DOCUMENTS = sorted(
+    path for pattern in ("*.md", "docs/*.md", "*/README.md", "crates/*/*.md")
+    for path in ROOT.glob(pattern)
+)
+
+
+def text_of(name):
+    return (ROOT / name).read_text(encoding="utf-8")
+
+
+def number(text):
+    return int(text.replace(",", ""))
+
+
+def length_of(name, list_name):
+    """How many members a list of a script has."""
+    for node in ast.parse(text_of(name)).body:
+        if isinstance(node, ast.Assign) and [it.id for it in node.targets] == [list_name]:
+            return len(node.value.elts)
+    sys.exit(f"{name}: no list {list_name}")
+
+
+def commands():
+    """The commands of the transcripts, but of the one that is wrong."""
+    paths = [it for it in ROOT.glob("crates/transcripts/data/*.txt") if it.name != "wrong.txt"]
+    return sum(it.read_text(encoding="utf-8").count("\n$ alcrs") for it in paths)
+
+
+def random_sessions():
+    """The sessions in random orders beside which a receiver is fed."""
+    text = text_of("crates/vectors/src/receiver_tests.rt")
+    [orders] = re.findall(r"^const ORDERS: usize = (\d+);", text, re.M)
+    objects = re.findall(r"^        \((?:\d+, ){4}\d+\),$|assert!\(rt; agree\(", text, re.M)
+    return int(orders) * len(objects)
+
+
+def definitions():
+    """Those that public contracts speak of, all, and their lines; of the headline number and lines:
+    as docs/THEOREMS.md lists them, which ci/trusted.py compares."""
+    text = text_of("docs/THEOREMS.md")
+    whole = re.search(r"^(\d+) of (\d+) definitions, (\d+) lines\.$", text, re.M)
+    first = re.search(r"^\| \*headline\*.*\| (\d+) \| (\d+) \|$", text, re.M)
+    return [int(it) for it in whole.groups() + first.groups()]
+
+
+def counted():
+    gated = len(list(ROOT.glob("crates/*/must-fail/*.edit")))
+    by_hand = len(list(ROOT.glob("mutants/*/*.edit")))
+    spoken, every, lines, first, first_lines = definitions()
+    causes = length_of("ci/causes.py", "CASES")
+    sizes = re.findall(r"sizeof\(struct (alcrs_\w+)\) == (\d+)", text_of("capi/tests/calls.c"))
+    inputs = int(re.search(r"\$\{1:-(\d+)\}", text_of("capi/try")).group(1))
+    changes = int(re.search(r"else (\d+)\)$", text_of("ci/claims.py"), re.M).group(1))
+    yield "README.md", r"plants (\d+) bugs", [gated]
+    yield "README.md", r"(\d+) of them, in (\d+) lines, for the promise", [first, first_lines]
+    yield "docs/MUTANTS.md", r"must-fail/` \| (\d+) \|", [gated]
+    yield "docs/MUTANTS.md", r"mutants/CRATE/` \| (\d+) \|", [by_hand]
+    yield "docs/ASSURANCE.md", r"the (\d+) that stand in `must-fail/`", [gated]
+    yield "docs/ASSURANCE.md", r"(\d+) more stand in `mutants/`", [by_hand]
+    yield "docs/ASSURANCE.md", r"no others: ([\d,]+) of ([\d,]+), in ([\d,]+) lines", [
+        spoken, every, lines,
+    ]
+    yield "docs/ASSURANCE.md", r"the headline (\d+), in (\d+) lines", [first, first_lines]
+    yield "docs/ASSURANCE.md", r"tries (\d+) causes", [causes]
+    yield "docs/ASSURANCE.md", r"each allocation of (\d+) runs", [
+        length_of("ci/trying.py", "COMMANDS")
+    ]
+    yield "docs/ASSURANCE.md", r"Tests: (\d+) commands in transcripts", [commands()]
+    yield "docs/ASSURANCE.md", r"lines for ([\d,]+) cut and changed inputs", [inputs]
+    yield "docs/ASSURANCE.md", r"each byte changed, ([\d,]+) changed inputs", [changes]
+    yield "docs/ASSURANCE.md", r"(\d+) sessions in random orders", [random_sessions()]
+    yield "docs/EMBEDDING.md", r"for ([\d,]+) cut and changed sessions", [inputs]
+    yield "docs/THEOREMS.md", r"tries (\d+) causes", [causes]
+    yield "docs/DECISIONS.md", r"one does much\*\*, (\d+) in all; (\d+) others", [gated, by_hand]
+    yield "docs/DECISIONS.md", r"by name are among the (\d+)\.", [gated]
+    for name, size in sizes:
+        yield "docs/EMBEDDING.md", rf"`{name}` (\d+)", [int(size)]
+
+
+def crates_of_architecture():
+    """What each crate stands on, as docs/ARCHITECTURE.md has it."""
+    text = text_of("docs/ARCHITECTURE.md")
+    for name, rest in re.findall(r"^- \*\*(\w+)\*\*: (.*(?:\n  .*)*)", text, re.M):
+        on = re.search(r"Stands on: (.*)\.$", " ".join(rest.split()))
+        yield name, set(re.findall(r"\w+", re.sub(r"\([^)]*\)", "", on.group(1)))) if on else set()
+
+
+def main():
+    wrong, count = [], 0
+    for name, pattern, wanted in counted():
+        # A line of a document ends anywhere.
+        found = re.findall(pattern.replace(" ", r"\s+"), text_of(name))
+        count += 1
+        if not found:
+            wrong.append(f"{name}: no figure {pattern}")
+        for told in found:
+            told = [number(it) for it in ([told] if isinstance(told, str) else told)]
+            if told != wanted:
+                wrong.append(f"{name}: {pattern}: {told}, and not {wanted}")
+    listed = {}
+    for line in text_of("crates.txt").splitlines():
+        head, colon, names = line.partition(":")
+        if colon and not line.startswith("#"):
+            listed[head.split()[0]] = set(names.split())
+    told = dict(crates_of_architecture())
+    for name in listed.keys() | told.keys():
+        if listed.get(name) != told.get(name):
+            wrong.append(f"docs/ARCHITECTURE.md: {name} stands on other crates in crates.txt")
+    for path in DOCUMENTS:
+        for link in re.findall(r"\]\(([^)#\s]+)[^)]*\)", path.read_text(encoding="utf-8")):
+            count += 1
+            if "://" not in link and not (path.parent / link).exists():
+                wrong.append(f"{path.relative_to(ROOT)}: no file {link}")
+    for line in wrong:
+        print(line)
+    print(f"{count} figures and links of documents, {len(wrong)} wrong")
+    return 1 if wrong else 0
+
+
+if __name__ == "__main__":
+    sys.exit(main())
