@@ -409,7 +409,7 @@ def entries(modules, wanted):
             f"`{n}`" for n in names
         )
         yield from textwrap.wrap(
-            entry, 120, subsequent_indent="  ", break_long_words=False, break_on_hyphens=False
+            entry, WIDTH, subsequent_indent="  ", break_long_words=False, break_on_hyphens=False
         )
 
 
