@@ -354,7 +354,8 @@ def kit_sentence(modules, wanted):
         sizes[group][1] += sum(max(1, math.ceil(len(line.rstrip()) / WIDTH)) for line in lines)
     told = [f"{sizes[g][0]} definitions of the kit's {n}, in {sizes[g][1]} lines" for g, n in
             (("others", "std and byteorder"), ("clap", "clap")) if g in sizes]
-    return "Beside them clauses stand on " + " and ".join(told) + "."
+    text = "Beside them clauses stand on " + " and ".join(told) + "."
+    return textwrap.fill(text, WIDTH)
 
 
 @lru_cache(maxsize=None)
