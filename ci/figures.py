@@ -5,11 +5,15 @@ Each figure stands below with the documents that have it, and what finds it ther
 has it no more is a failure, too, so that no figure goes unseen by being put into other words.
 """
 import ast
+import collections
 import re
 import sys
 from pathlib import Path
 
 ROOT = Path(__file__).resolve().parent.parent
+sys.path.insert(0, str(ROOT / "scripts"))
+import random_loss
+
 DOCUMENTS = sorted(
     path for pattern in ("*.md", "docs/*.md", "*/README.md", "crates/*/*.md")
     for path in ROOT.glob(pattern)
@@ -89,6 +93,64 @@ def counted():
         yield "docs/EMBEDDING.md", rf"`{name}` (\d+)", [int(size)]
 
 
+def blocks_of(symbols, block, most):
+    """How many source and encoding symbols each block has (RFC 5052, section 9.1; RFC 5510)."""
+    count = -(-symbols // block)
+    small, large = divmod(symbols, count)
+    sources = [small + 1] * large + [small] * (count - large)
+    return [(k, k * most // block) for k in sources]
+
+
+def burst_of(blocks, order):
+    """How many neighbours may be missed, where `order` has the block of each datagram."""
+    shortest = len(order)
+    for b, (need, have) in enumerate(blocks):
+        places = [place for place, other in enumerate(order) if other == b]
+        spare = have - need
+        shortest = min(shortest, *(places[i + spare] - places[i] for i in range(need)))
+    return shortest
+
+
+def losses_of(block, most):
+    """A row of the table of losses in docs/OPERATING.md."""
+    blocks = blocks_of(1000, block, most)
+    by_blocks = [b for b, (_, have) in enumerate(blocks) for _ in range(have)]
+    by_rounds = [b for esi in range(most) for b, (_, have) in enumerate(blocks) if esi < have]
+    margin = min(have - need for need, have in blocks)
+    large = blocks_of(-(-200_000_000 // 1440), block, most)
+    random = [
+        f"{100 * random_loss.greatest_loss(collections.Counter(it), 1 / 1000):.1f} %"
+        for it in (blocks, large)
+    ]
+    sent = len(by_blocks)
+    return [f"{sent:,}", f"{(sent - 1000) / 10:.0f} %", f"{margin}",
+            f"{burst_of(blocks, by_blocks)}", f"{burst_of(blocks, by_rounds)}", *random]
+
+
+def wrong_losses():
+    """The rows of that table that aren't what can be worked out."""
+    rows = re.findall(r"^\| (\d+) \| (\d+) \| (.*) \|$", text_of("docs/OPERATING.md"), re.M)
+    for block, most, rest in rows:
+        wanted = losses_of(int(block), int(most))
+        if rest.split(" | ") != wanted:
+            yield f"docs/OPERATING.md: --block {block} --max {most}: {' | '.join(wanted)}"
+    if not rows:
+        yield "docs/OPERATING.md: no table of losses"
+
+
+def wrong_texts():
+    """The texts of faults and reasons that docs/FORMATS.md lacks, or that no command prints."""
+    text = re.compile(r"\b[NPFSZROG]\d+ [A-Z][A-Za-z]+")
+    printed = {it for path in ROOT.glob("crates/tool/specs/*.antt") for quoted in
+               re.findall(r'"[^"]*"', path.read_text(encoding="utf-8"))
+               for it in text.findall(quoted)}
+    # It is among the library's faults, and docs/FORMATS.md says that no command prints it.
+    printed.discard("O1 Length")
+    listed = set(text.findall(text_of("docs/FORMATS.md")))
+    for it in sorted(printed ^ listed):
+        yield f"docs/FORMATS.md: {it}: {'not listed' if it in printed else 'printed by no command'}"
+
+
 def crates_of_architecture():
     """What each crate stands on, as docs/ARCHITECTURE.md has it."""
     text = text_of("docs/ARCHITECTURE.md")
@@ -98,7 +160,7 @@ def crates_of_architecture():
 
 
 def main():
-    wrong, count = [], 0
+    wrong, count = [*wrong_losses(), *wrong_texts()], 0
     for name, pattern, wanted in counted():
         # A line of a document ends anywhere.
         found = re.findall(pattern.replace(" ", r"\s+"), text_of(name))

@@ -70,4 +70,5 @@ def main():
     print(f"random loss of {loss:.1f} %: one listener in {one_in:g} fails")
 
 
-main()
+if __name__ == "__main__":
+    main()
