@@ -66,12 +66,13 @@ def make_files():
     session("bare.session", datagrams("bare.session")[1:])
     os.mkdir("folder")
     write("bad\nname.session", read("cut.session"))
+    write("-", b"no session, as it is called -")
     for number in range(100):
         write("full.out.part" + (str(number) if number else ""), b"")
 
 
 CHECK = ["note.txt", "note.rsc", *OF_NOTE]
-# The words, the status, how the last line begins, and what the sentence says.
+# The words, the status, how the last line begins, what the sentence says, and the file that is standard input.
 CASES = [
     (["check", "nowhere.session", *CHECK], 1, "fault open", ["nowhere.session", "No such file"]),
     (["check", "note.session", "nowhere.txt", "note.rsc", *OF_NOTE], 1, "fault open", ["nowhere.txt", "No such file"]),
@@ -118,19 +119,37 @@ CASES = [
     (["decode", "bare.session", "out", *OF_NOTE], 3, "empty", ["bare.session", "carries the FTI"]),
     (["check", "twice.session", *CHECK], 0, "burst", ["6 datagrams of twice.session are repeats of others"]),
     (["follow", "clash.session", "out", *OF_NOTE], 0, "object", ["1 datagrams of clash.session contradict", "out wrong"]),
+    (["check", "-", *CHECK[:2], *OF_BULLETIN], 1, "no N12", ["note.rsc is for another TSI or TOI"], "note.session"),
+    (["check", "-", "bulletin.txt", "bulletin.rsc", *OF_BULLETIN], 1, "no N3", ["- has no packet of TSI 7"], "note.session"),
+    (["check", "-", "-", "note.rsc", *OF_NOTE], 1, "fault open -", ["standard input can be read once"], "note.session"),
+    (["join", "out", "-", "-"], 1, "fault open -", ["standard input can be read once"], "note.session"),
+    (["show", "-"], 1, "fault S4", ["- is a folder"], "folder"),
     # What was done, or is told whole by its line, has no sentence.
+    (["show", "-"], 0, "5 tsi 7", None, "note.session"),
+    (["decode", "-", "out", *OF_NOTE], 0, "object", None, "note.session"),
+    (["check", "note.session", "-", "note.rsc", *OF_NOTE], 0, "burst", None, "note.txt"),
+    (["check", "note.session", "note.txt", "-", *OF_NOTE], 0, "burst", None, "note.rsc"),
+    (["convert", "-", "out", *OF_NOTE], 0, "converted", None, "note.rsc1"),
+    # Standard input isn't looked at again.
+    (["show", "-"], 1, "fault S2", None, "cut.session"),
+    (["show", "/dev/stdin"], 1, "fault S2", None, "cut.session"),
     (["check", "note.session", *CHECK], 0, "burst", None),
     (["decode", "note.session", "out", *OF_NOTE], 0, "object", None),
 ]
 
 
-def run(words):
-    return subprocess.run([PROGRAM, *words], capture_output=True, timeout=60, check=False)
+def run(words, given=os.devnull):
+    """Runs the program with a file, or a folder, as its standard input."""
+    descriptor = os.open(given, os.O_RDONLY)
+    try:
+        return subprocess.run([PROGRAM, *words], stdin=descriptor, capture_output=True, timeout=60, check=False)
+    finally:
+        os.close(descriptor)
 
 
 def is_told(case):
-    words, status, begins, needles = case
-    ran = run(words)
+    words, status, begins, needles, *given = case
+    ran = run(words, *given)
     lines = ran.stdout.decode().splitlines()
     said = ran.stderr.decode()
     if ran.returncode != status or not lines or not lines[-1].startswith(begins):

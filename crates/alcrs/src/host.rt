@@ -7,10 +7,11 @@ ghost use Rattle.tool.specs.Worlds.{untold};
 use crate::last::LastLine;
 use session::{Device, Failed, Write, write_all};
 use std::alloc::Global;
-use std::fs;
+use std::cell::Cell;
 use std::fs::{File, Metadata, OpenFile, OpenOptions};
 use std::io::{BufReader, BufWriter, ErrorKind};
 use std::rt::Files;
+use std::{fs, io};
 use tool::{FileFault, Host};
 
 /// How many bytes stand between a file, or the output, and its reader or writer.
@@ -20,13 +21,21 @@ pub(crate) const BUFFER_SIZE: usize = 65536;
 /// were cut off.
 const MOST_PARTS: u8 = 100;
 
-/// The files that names lead to as paths, and standard output.
+/// The name of an input that is standard input.
+const STANDARD_INPUT: &str = "-";
+
+/// Where standard input is opened.
+const INPUT_DEVICE: &str = "/dev/stdin";
+
+/// The files that names lead to as paths, `-` as standard input where it is read, and standard
+/// output.
 #[derive(Drop)]
 pub struct ProgramHost<'a, R, O: std::io::Write + Drop> {
     rt: &'a R,
     alloc: Global,
     out: Device<BufWriter<O>>,
     last: LastLine,
+    took_input: Cell<bool>,
 }
 
 impl<'a, R, O: std::io::Write + Drop> ProgramHost<'a, R, O> {
@@ -39,6 +48,7 @@ impl<'a, R, O: std::io::Write + Drop> ProgramHost<'a, R, O> {
             alloc,
             out,
             last: LastLine::new(),
+            took_input: Cell::new(false),
         }
     }
 
@@ -181,6 +191,17 @@ fn create<R: Files>(
 }
 
 impl<R: Files, O: std::io::Write + Drop> ProgramHost<'_, R, O> {
+    // The file of this name, or standard input, whose bytes come once: it isn't opened again.
+    fn open_input(&self, name: &str) -> io::Result<R::File> {
+        if name != STANDARD_INPUT {
+            return fs::open(self.rt, name);
+        }
+        if self.took_input.replace(true) {
+            return Err(io::Error::from(ErrorKind::ResourceBusy));
+        }
+        fs::open(self.rt, INPUT_DEVICE)
+    }
+
     fn remove(&self, part: &Option<Part>) {
         if let Some(part) = part {
             let _ = fs::remove_file(self.rt, part.name.as_str());
@@ -197,7 +218,7 @@ impl<R: Files, O: std::io::Write + Drop> Host for ProgramHost<'_, R, O> {
     ghost world = { λ host. untold host.out.failed };
 
     fn open_file(&self, name: &str) -> Result<Device<BufReader<R::File>>, FileFault> {
-        let Ok(file) = fs::open(self.rt, name) else {
+        let Ok(file) = self.open_input(name) else {
             return Err(FileFault::Io);
         };
         match BufReader::with_capacity(self.alloc, BUFFER_SIZE, file) {

@@ -2,8 +2,10 @@
 ghost use Rattle.std.specs.Prelude.{◌≡◌, IfOk, is_some, true};
 ghost use Rattle.causes.specs.Sentences.{is_doubted, tells_repeats};
 
-use crate::files::{Kind, kind_of, unread, unwritten};
-use crate::names::{Name, certificate_of, identity_of, object_of, output_of, session_of};
+use crate::files::{Kind, STANDARD_INPUT, kind_of, unread, unwritten};
+use crate::names::{
+    Name, certificate_of, identity_of, inputs_named, object_of, output_of, session_of,
+};
 use crate::sessions::{Break, Carrier, carrier_from, walk};
 use request::Request;
 use session::FrameFault;
@@ -197,10 +199,24 @@ impl<'a, R: Files> Case<'a, R> {
         if let Some(text) = self.unread_input()? {
             return Ok(Some(text));
         }
+        if self.is_input_taken() {
+            return self.say(
+                "standard input can be read once, and - is the name of more than one input: make \
+                a file of it",
+                &[],
+            );
+        }
         match output_of(self.request) {
             Some(name) => Ok(Some(unwritten(self.rt, self.alloc, name)?)),
             None => self.say("reading {S} failed half way", &[]),
         }
+    }
+
+    // Whether standard input was to be read a second time.
+    fn is_input_taken(&self) -> bool {
+        self.word(1) == "open"
+            && self.word(2) == STANDARD_INPUT
+            && inputs_named(self.request, STANDARD_INPUT) > 1
     }
 
     fn unread_input(&self) -> Sentence {

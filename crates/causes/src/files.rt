@@ -15,11 +15,30 @@ pub(crate) enum Kind {
     Other,
 }
 
-/// Whether this name leads to a regular file, which can be read again.
+/// The name of an input that is standard input.
+pub(crate) const STANDARD_INPUT: &str = "-";
+
+/// Where the system has standard input.
+const INPUT_DEVICE: &str = "/dev/stdin";
+
+/// Whether this name leads to a regular file, which can be read again. Standard input can't, wherever
+/// it comes from.
 pub(crate) fn is_regular<R: Files>(rt: &R, name: &str) -> bool {
+    if name == STANDARD_INPUT || name == INPUT_DEVICE {
+        return false;
+    }
     match fs::metadata(rt, name) {
         Ok(there) => there.is_file(),
         Err(_) => false,
+    }
+}
+
+// The path of an input.
+fn path_of(name: &str) -> &str {
+    if name == STANDARD_INPUT {
+        INPUT_DEVICE
+    } else {
+        name
     }
 }
 
@@ -75,7 +94,7 @@ pub(crate) fn unread<R: Files>(
     name: &str,
 ) -> Result<Option<String>, AllocError> {
     let shown = Name { text: name };
-    match fs::metadata(rt, name) {
+    match fs::metadata(rt, path_of(name)) {
         Ok(there) if there.is_dir() => return Ok(Some(format!(in alloc; "{shown} is a folder")?)),
         Ok(_) => {}
         Err(error) => return Ok(Some(format!(in alloc; "{shown}: {error}")?)),

@@ -56,6 +56,24 @@ pub(crate) fn certificate_of<'a>(request: &Request<'a>) -> Option<&'a str> {
     }
 }
 
+/// How many of its inputs are to be this file.
+pub(crate) fn inputs_named(request: &Request<'_>, name: &str) -> u64 {
+    let mut count = 0u64;
+    if let Request::Join(request) = request {
+        for session in &request.sessions {
+            count = count.saturating_add(u64::from(*session == name));
+        }
+    }
+    for input in [
+        session_of(request),
+        object_of(request),
+        certificate_of(request),
+    ] {
+        count = count.saturating_add(u64::from(input == Some(name)));
+    }
+    count
+}
+
 /// What it writes.
 pub(crate) fn output_of<'a>(request: &Request<'a>) -> Option<&'a str> {
     match request {
