@@ -3,6 +3,7 @@
 
 mod host;
 mod last;
+mod parts;
 mod words;
 
 use causes::{doubt, explain, repeated};
