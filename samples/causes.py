@@ -138,6 +138,14 @@ CASES = [
 ]
 
 
+# The words of receptions that can't be kept, and what is said before they begin.
+LOST = [
+    (["follow", "-", "no/out", *OF_NOTE], ["can't be kept", "no/out", "its folder no", "No such file"]),
+    (["follow", "-", "folder", *OF_NOTE], ["can't be kept", "folder is a folder"]),
+    (["follow", "-", "/proc/out", *OF_NOTE], ["can't be kept", "/proc/out can't be written: ", "(os error"]),
+]
+
+
 def run(words, given=os.devnull):
     """Runs the program with a file, or a folder, as its standard input."""
     descriptor = os.open(given, os.O_RDONLY)
@@ -165,6 +173,20 @@ def is_told(case):
     return wrong is None
 
 
+def is_forewarned(case):
+    """Whether a reception says before anything comes that it can't be kept, and ends as it would."""
+    words, needles = case
+    pipes = {"stdin": subprocess.PIPE, "stdout": subprocess.PIPE, "stderr": subprocess.PIPE}
+    with subprocess.Popen([PROGRAM, *words], **pipes) as running:
+        said = running.stderr.readline().decode()
+        printed, _ = running.communicate(read("note.session"), timeout=60)
+    ends = running.returncode == 1 and printed.decode().splitlines()[-1:] == [f"fault open {words[2]}"]
+    is_right = ends and said.startswith("alcrs: ") and all(needle in said for needle in needles)
+    if not is_right:
+        print(f"alcrs {' '.join(words)}: {running.returncode}, {printed!r}, {said!r}")
+    return is_right
+
+
 def main():
     with tempfile.TemporaryDirectory() as room:
         for name in os.listdir(SAMPLES):
@@ -172,7 +194,7 @@ def main():
                 shutil.copy(os.path.join(SAMPLES, name), room)
         os.chdir(room)
         make_files()
-        told = [is_told(case) for case in CASES]
+        told = [is_told(case) for case in CASES] + [is_forewarned(case) for case in LOST]
     print(f"{sum(told)} of {len(told)} causes are told")
     sys.exit(not all(told))
 

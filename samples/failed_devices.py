@@ -196,6 +196,13 @@ class Call:
         return [inputs[words[1:].index(self.file)].format(self.file)]
 
 
+def tries_of(words, calls):
+    """How many calls `follow` makes before it opens its session: with them it tries whether `out` can be made."""
+    if words[:1] != ["follow"]:
+        return 0
+    return next((place for place, call in enumerate(calls) if call.file == words[1]), 0)
+
+
 def is_told(words, call, whole, ran):
     """Whether a run tells what the failed call comes to."""
     status, output, messages, left, parts = ran
@@ -262,6 +269,9 @@ def main():
             )
             for (place, error), ran in zip(tries, answers):
                 call = calls[place - 1]
+                # What fails in a try changes no answer.
+                if place <= tries_of(words, calls) and ran == whole:
+                    continue
                 # Behind its last line the program looks at files again for the cause: that changes no answer.
                 if place > printed and ran == whole:
                     continue

@@ -151,6 +151,14 @@ fn create_behind<R: Files<File = File>>(
     }
 }
 
+// Whether what has this name is written straight, as a pipe, a device or a link to nothing is.
+fn is_straight<R: Files>(rt: &R, name: &str) -> bool {
+    match fs::metadata(rt, name) {
+        Ok(there) => !there.is_file() && !there.is_dir(),
+        Err(_) => fs::symlink_metadata(rt, name).is_ok(),
+    }
+}
+
 // A file to be written, and where it goes if not straight to this name.
 fn create<R: Files<File = File>>(
     rt: &R,
@@ -183,6 +191,24 @@ impl<R: Files<File = File>, O: std::io::Write + Drop> ProgramHost<'_, R, O> {
     fn remove(&self, part: &Option<Part>) {
         if let Some(part) = part {
             part.remove(self.rt);
+        }
+    }
+}
+
+impl<R: Files<File = File>, O: std::io::Write + Drop> ProgramHost<'_, R, O> {
+    /// Whether a file of this name can't be created, as far as a try tells, which leaves nothing. A
+    /// pipe or a device isn't tried, as that could take something from it.
+    pub(crate) fn refuses(&mut self, name: &str) -> bool {
+        if is_straight(self.rt, name) {
+            return false;
+        }
+        match self.create_file(name) {
+            Ok(output) => {
+                self.give_up(output);
+                false
+            }
+            Err(FileFault::Io) => true,
+            Err(FileFault::NoMemory) => false,
         }
     }
 }

@@ -6,10 +6,10 @@ mod last;
 mod parts;
 mod words;
 
-use causes::{doubt, explain, repeated};
+use causes::{doubt, explain, forewarn, repeated};
 use host::{BUFFER_SIZE, ProgramHost};
 use last::LastLine;
-use request::request;
+use request::{Request, request};
 use session::Device;
 use std::alloc::{AllocError, Global};
 use std::io::BufWriter;
@@ -52,6 +52,23 @@ fn tell<R: Eprint>(rt: &R, sentence: Result<Option<String>, AllocError>) {
     }
 }
 
+// Says before a reception begins whether what comes can't be kept.
+fn tell_beforehand<O: std::io::Write + Drop>(
+    rt: &HostRuntime,
+    alloc: Global,
+    words: &[&str],
+    host: &mut ProgramHost<'_, HostRuntime, O>,
+) {
+    let Ok(request) = request(alloc, words) else {
+        return;
+    };
+    if let Request::Follow(follow) = &request {
+        if host.refuses(follow.output) {
+            tell(rt, forewarn(rt, alloc, &request));
+        }
+    }
+}
+
 // Answers the words, and tells the cause; the status.
 fn respond<O: std::io::Write + Drop>(
     rt: &HostRuntime,
@@ -59,6 +76,7 @@ fn respond<O: std::io::Write + Drop>(
     words: &[&str],
     host: &mut ProgramHost<'_, HostRuntime, O>,
 ) -> u8 {
+    tell_beforehand(rt, alloc, words, host);
     let mut err = Device::new(rt.stderr());
     let status = answer(alloc, words, host, &mut err);
     let status = status_after(status, host.flush());

@@ -1,6 +1,6 @@
 //! The sentence for a line.
 ghost use Rattle.std.specs.Prelude.{◌≡◌, IfOk, is_some, true};
-ghost use Rattle.causes.specs.Sentences.{is_doubted, tells_repeats};
+ghost use Rattle.causes.specs.Sentences.{is_doubted, is_reception, tells_repeats};
 
 use crate::files::{Kind, STANDARD_INPUT, kind_of, unread, unwritten};
 use crate::names::{
@@ -104,6 +104,22 @@ pub fn repeated<R: Files>(
         ),
         _ => Ok(None),
     }
+}
+
+/// What to say before a reception begins whose output can't be written. `None` of other commands,
+/// which have their input still when they end.
+pub fn forewarn<R: Files>(
+    rt: &R,
+    alloc: Global,
+    request: &Request<'_>,
+) -> Result<Option<String>, AllocError>
+    ensures said { IfOk result (λ said. is_some said ≡ is_reception request.now) }
+{
+    let Request::Follow(request) = request else {
+        return Ok(None);
+    };
+    let cause = unwritten(rt, alloc, request.output)?;
+    Ok(Some(format!(in alloc; "what comes can't be kept: {cause}")?))
 }
 
 impl<'a, R: Files> Case<'a, R> {

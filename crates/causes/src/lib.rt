@@ -19,5 +19,5 @@ mod names;
 mod repeats;
 mod sessions;
 
-pub use explaining::{doubt, explain, repeated};
+pub use explaining::{doubt, explain, forewarn, repeated};
 pub use repeats::repeats_in;
