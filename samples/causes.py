@@ -6,11 +6,13 @@ standard output's last line begins, and what the sentence on standard error has 
 program.
 """
 import os
+import pty
 import shutil
 import struct
 import subprocess
 import sys
 import tempfile
+import time
 
 from frames import read_frames
 from trying import PROGRAM, SAMPLES
@@ -187,6 +189,50 @@ def is_forewarned(case):
     return is_right
 
 
+def told_on_terminal(words, output):
+    """What a run tells on a terminal whose input comes for three seconds, and whether it ends well."""
+    master, slave = pty.openpty()
+    with subprocess.Popen([PROGRAM, *words], stdin=subprocess.PIPE, stdout=output, stderr=slave) as running:
+        os.close(slave)
+        for _ in range(30):
+            running.stdin.write(read("note.session"))
+            running.stdin.flush()
+            time.sleep(0.1)
+        running.stdin.close()
+        status = running.wait(timeout=60)
+    said = b""
+    try:
+        while piece := os.read(master, 4096):
+            said += piece
+    except OSError:
+        # So the end of a terminal is told.
+        pass
+    os.close(master)
+    return status, said.decode()
+
+
+def is_progress_told():
+    """Whether progress is told on a terminal, taken away at the end, and kept from lines of the command."""
+    with open("printed", "wb") as file:
+        joined = told_on_terminal(["join", "out", "-"], file)
+        shown = told_on_terminal(["show", "-"], file)
+        piped = told_on_terminal(["show", "-"], subprocess.DEVNULL)
+    lines = joined[1].split("\r")
+    size = len(read("note.session"))
+    is_right = (
+        joined[0] == shown[0] == piped[0] == 0
+        and len(lines) > 2
+        and all(line.startswith("-: ") and " bytes, 0.0 MB/s" in line for line in lines[1:-1])
+        and int(lines[1].split()[1]) >= 10 * size
+        and lines[-1] == "\x1b[K"
+        and shown[1].startswith("\r-: ")
+        and piped[1] == ""
+    )
+    if not is_right:
+        print(f"progress: {joined}, {shown}, {piped}")
+    return is_right
+
+
 def main():
     with tempfile.TemporaryDirectory() as room:
         for name in os.listdir(SAMPLES):
@@ -195,6 +241,7 @@ def main():
         os.chdir(room)
         make_files()
         told = [is_told(case) for case in CASES] + [is_forewarned(case) for case in LOST]
+        told.append(is_progress_told())
     print(f"{sum(told)} of {len(told)} causes are told")
     sys.exit(not all(told))
 

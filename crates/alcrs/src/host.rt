@@ -6,12 +6,14 @@ ghost use Rattle.tool.specs.Worlds.{untold};
 
 use crate::last::LastLine;
 use crate::parts::{Part, create_beside};
+use crate::progress::{Counted, Progress};
 use session::{Device, Failed, Write, write_all};
 use std::alloc::Global;
 use std::cell::Cell;
 use std::fs::{File, Metadata, OpenOptions, Permissions};
 use std::io::{BufReader, BufWriter, ErrorKind};
 use std::rt::Files;
+use std::time::Clock;
 use std::{fs, io};
 use tool::{FileFault, Host};
 
@@ -33,11 +35,17 @@ pub struct ProgramHost<'a, R, O: std::io::Write + Drop> {
     out: Device<BufWriter<O>>,
     last: LastLine,
     took_input: Cell<bool>,
+    progress: &'a Progress,
 }
 
 impl<'a, R, O: std::io::Write + Drop> ProgramHost<'a, R, O> {
-    /// The files, through the host's runtime, and this output for lines.
-    pub fn new(rt: &'a R, alloc: Global, out: Device<BufWriter<O>>) -> ProgramHost<'a, R, O>
+    /// The files, through the host's runtime, this output for lines, and what is told of inputs.
+    pub(crate) fn new(
+        rt: &'a R,
+        alloc: Global,
+        out: Device<BufWriter<O>>,
+        progress: &'a Progress,
+    ) -> ProgramHost<'a, R, O>
         ensures { result.rt.now ≡ rt.now }
     {
         ProgramHost {
@@ -46,6 +54,7 @@ impl<'a, R, O: std::io::Write + Drop> ProgramHost<'a, R, O> {
             out,
             last: LastLine::new(),
             took_input: Cell::new(false),
+            progress,
         }
     }
 
@@ -195,7 +204,18 @@ impl<R: Files<File = File>, O: std::io::Write + Drop> ProgramHost<'_, R, O> {
     }
 }
 
-impl<R: Files<File = File>, O: std::io::Write + Drop> ProgramHost<'_, R, O> {
+impl<R: Files<File = File> + Clock + Eprint, O: std::io::Write + Drop> ProgramHost<'_, R, O> {
+    /// From now on it is told how far inputs are read. Lines of the command may go to the same
+    /// terminal.
+    pub(crate) fn watch(&self, is_shared: bool) {
+        self.progress.begin(self.rt, is_shared);
+    }
+
+    /// Takes away what stands on the terminal.
+    pub(crate) fn end_watch(&self) {
+        self.progress.wipe(self.rt);
+    }
+
     /// Whether a file of this name can't be created, as far as a try tells, which leaves nothing. A
     /// pipe or a device isn't tried, as that could take something from it.
     pub(crate) fn refuses(&mut self, name: &str) -> bool {
@@ -213,31 +233,28 @@ impl<R: Files<File = File>, O: std::io::Write + Drop> ProgramHost<'_, R, O> {
     }
 }
 
-impl<R: Files<File = File>, O: std::io::Write + Drop> Host for ProgramHost<'_, R, O> {
-    type Input = Device<BufReader<File>>;
+impl<'a, R: Files<File = File> + Clock + Eprint, O: std::io::Write + Drop> Host
+    for ProgramHost<'a, R, O> {
+    type Input = Device<BufReader<Counted<'a, R>>>;
 
     type Output = HostOutput<File>;
 
     // Nothing is told of files and output but whether the output has failed.
     ghost world = { λ host. untold host.out.failed };
 
-    fn open_file(&self, name: &str) -> Result<Device<BufReader<File>>, FileFault> {
+    fn open_file(&self, name: &str) -> Result<Device<BufReader<Counted<'a, R>>>, FileFault> {
         let Ok(file) = self.open_input(name) else {
             return Err(FileFault::Io);
         };
-        match BufReader::with_capacity(self.alloc, BUFFER_SIZE, file) {
+        let counted = Counted::new(self.rt, self.alloc, self.progress, name, file);
+        match BufReader::with_capacity(self.alloc, BUFFER_SIZE, counted) {
             Ok(reader) => Ok(Device::new(reader)),
             Err(_) => Err(FileFault::NoMemory),
         }
     }
 
-    // A device or a pipe doesn't tell its length, nor does a file of the system's own, whose bytes
-    // are made as they are read and which calls itself empty.
-    fn length_of(&self, input: &Device<BufReader<File>>) -> Option<u64> {
-        match input.get_ref().get_ref().metadata() {
-            Ok(there) if there.is_file() && there.len() > 0 => Some(there.len()),
-            _ => None,
-        }
+    fn length_of(&self, input: &Device<BufReader<Counted<'a, R>>>) -> Option<u64> {
+        input.get_ref().get_ref().length()
     }
 
     fn create_file(&mut self, name: &str) -> Result<HostOutput<File>, FileFault> {
@@ -279,11 +296,13 @@ impl<R: Files<File = File>, O: std::io::Write + Drop> Host for ProgramHost<'_, R
     }
 
     fn print(&mut self, bytes: &[u8]) -> Result<(), Failed> {
+        self.progress.make_way(self.rt);
         self.last.note(bytes);
         write_all(&mut self.out, bytes)
     }
 
     fn pass_on(&mut self) -> Result<(), Failed> {
+        self.progress.make_way(self.rt);
         self.flush()
     }
 }

@@ -4,15 +4,18 @@
 mod host;
 mod last;
 mod parts;
+mod progress;
 mod words;
 
 use causes::{doubt, explain, forewarn, repeated};
 use host::{BUFFER_SIZE, ProgramHost};
 use last::LastLine;
+use progress::Progress;
 use request::{Request, request};
 use session::Device;
 use std::alloc::{AllocError, Global};
-use std::io::BufWriter;
+use std::fs;
+use std::io::{BufWriter, IsTerminal};
 use std::process::ExitCode;
 use std::rt::Files;
 use tool::{answer, refuse, refuse_memory, status_after};
@@ -56,16 +59,25 @@ fn tell<R: Eprint>(rt: &R, sentence: Result<Option<String>, AllocError>) {
 fn tell_beforehand<O: std::io::Write + Drop>(
     rt: &HostRuntime,
     alloc: Global,
-    words: &[&str],
+    request: &Request<'_>,
     host: &mut ProgramHost<'_, HostRuntime, O>,
 ) {
-    let Ok(request) = request(alloc, words) else {
-        return;
-    };
-    if let Request::Follow(follow) = &request {
+    if let Request::Follow(follow) = request {
         if host.refuses(follow.output) {
-            tell(rt, forewarn(rt, alloc, &request));
+            tell(rt, forewarn(rt, alloc, request));
         }
+    }
+}
+
+// Whether what a command prints as it reads might stand on the same terminal: it may go there
+// through a pipe.
+fn may_print_between(rt: &HostRuntime, request: &Request<'_>) -> bool {
+    match request {
+        Request::Show(_) | Request::Follow(_) => match fs::metadata(rt, "/dev/stdout") {
+            Ok(there) => !there.is_file(),
+            Err(_) => true,
+        },
+        _ => false,
     }
 }
 
@@ -76,9 +88,15 @@ fn respond<O: std::io::Write + Drop>(
     words: &[&str],
     host: &mut ProgramHost<'_, HostRuntime, O>,
 ) -> u8 {
-    tell_beforehand(rt, alloc, words, host);
+    if let Ok(request) = request(alloc, words) {
+        tell_beforehand(rt, alloc, &request, host);
+        if rt.stderr().is_terminal() && !may_print_between(rt, &request) {
+            host.watch(rt.stdout().is_terminal());
+        }
+    }
     let mut err = Device::new(rt.stderr());
     let status = answer(alloc, words, host, &mut err);
+    host.end_watch();
     let status = status_after(status, host.flush());
     tell_cause(rt, alloc, words, host.last(), status);
     status
@@ -89,7 +107,8 @@ fn main(rt: HostRuntime) -> ExitCode {
     let Ok(buffer) = BufWriter::with_capacity(alloc, BUFFER_SIZE, rt.stdout()) else {
         return ExitCode::from(refuse_memory(&mut Device::new(rt.stdout())));
     };
-    let mut host = ProgramHost::new(&rt, alloc, Device::new(buffer));
+    let progress = Progress::new();
+    let mut host = ProgramHost::new(&rt, alloc, Device::new(buffer), &progress);
     let words = match read_words(&rt, alloc) {
         Ok(words) => words,
         Err(WordFault::NoText(place)) => return ExitCode::from(refuse_word(&rt, place)),
