@@ -140,6 +140,20 @@ CASES = [
 ]
 
 
+# The words that are refused, and the sentence behind the refusal.
+REFUSED = [
+    (["decode", "note.session", "out", "--tsi", "x", "--toi", "2"], "--tsi takes a whole number from 0 to 4294967295"),
+    (["decode", "note.session", "out", "--tsi", "7", "--toi", "4294967296"], "--toi takes a whole number from 0 to 4294967295"),
+    (["decode", "note.session", "out", "--tsi=", "--toi", "2"], "--tsi takes a whole number from 0 to 4294967295"),
+    (["encode", "a", "b", *OF_NOTE, "--symbol", "0", "--block", "1", "--max", "2"], "--symbol takes a whole number from 1 to 65475"),
+    (["encode", "a", "b", *OF_NOTE, "--symbol", "8", "--block", "1", "--max", "300"], "--max takes a whole number from 1 to 255"),
+    (["drop", "note.session", "out", "3", "x' for '--tsi"], "PLACE takes a whole number from 0 to 4294967295"),
+    (["decode", "note.session", "out", "--tsi", "-1", "--toi", "2"], "the tip is for a file of that name"),
+    (["show", "note.session", "--order"], "the tip is for a file of that name"),
+    (["send", "note.session"], None),
+    (["encode", "a", "b", *OF_NOTE, *NUMBERS, "--order", "x"], None),
+]
+
 # The words of receptions that can't be kept, and what is said before they begin.
 LOST = [
     (["follow", "-", "no/out", *OF_NOTE], ["can't be kept", "no/out", "its folder no", "No such file"]),
@@ -173,6 +187,22 @@ def is_told(case):
     if wrong is not None:
         print(f"alcrs {' '.join(words)}: {wrong}: {ran.returncode}, {lines[-1:]}, {said!r}")
     return wrong is None
+
+
+def is_refused(case):
+    """Whether a command line is refused, and the sentence stands behind the refusal, or none."""
+    words, sentence = case
+    ran = run(words)
+    lines = ran.stderr.decode().splitlines()
+    behind = [line for line in lines if line.startswith("alcrs: ")]
+    is_right = ran.returncode == 2 and not ran.stdout and lines[0].startswith("error: ")
+    if sentence is None:
+        is_right = is_right and not behind
+    else:
+        is_right = is_right and behind == lines[-1:] and sentence in lines[-1]
+    if not is_right:
+        print(f"alcrs {' '.join(words)}: {ran.returncode}, {ran.stdout!r}, {ran.stderr!r}")
+    return is_right
 
 
 def is_forewarned(case):
@@ -241,6 +271,7 @@ def main():
         os.chdir(room)
         make_files()
         told = [is_told(case) for case in CASES] + [is_forewarned(case) for case in LOST]
+        told += [is_refused(case) for case in REFUSED]
         told.append(is_progress_told())
     print(f"{sum(told)} of {len(told)} causes are told")
     sys.exit(not all(told))

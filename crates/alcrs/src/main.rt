@@ -7,11 +7,11 @@ mod parts;
 mod progress;
 mod words;
 
-use causes::{doubt, explain, forewarn, repeated};
+use causes::{doubt, explain, forewarn, refused, repeated};
 use host::{BUFFER_SIZE, ProgramHost};
 use last::LastLine;
 use progress::Progress;
-use request::{Request, request};
+use request::{Request, Usage, request};
 use session::Device;
 use std::alloc::{AllocError, Global};
 use std::fs;
@@ -39,8 +39,15 @@ fn tell_cause<R: Files + Eprint>(
     last: &LastLine,
     status: u8,
 ) {
-    let Ok(request) = request(alloc, words) else {
-        return;
+    let request = match request(alloc, words) {
+        Ok(request) => request,
+        Err(Usage::Line(error)) => {
+            if let Ok(text) = error.to_string(alloc) {
+                tell(rt, refused(alloc, text.as_str()));
+            }
+            return;
+        }
+        Err(_) => return,
     };
     if status != 0 {
         tell(rt, explain(rt, alloc, &request, last.text()));

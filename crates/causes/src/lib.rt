@@ -10,14 +10,17 @@
 //! - `files`: why a file can't be opened or written, and what it is instead of a session.
 //! - `sessions`: where a session's frames stop, and whose FTI its carriers have.
 //! - `names`: a file's name, as it can be shown.
+//! - `refusals`: what a refused command line wants in place of a value.
 //! - `repeats`: how many datagrams are repeats of others, by the lines of a yes.
 #![tactic(auto)]
 
 mod explaining;
 mod files;
 mod names;
+mod refusals;
 mod repeats;
 mod sessions;
 
 pub use explaining::{doubt, explain, forewarn, repeated};
+pub use refusals::refused;
 pub use repeats::repeats_in;
