@@ -2,8 +2,8 @@
 """Tries causes for which a command ends with a fault, a no or a lack, and looks for file and cause in the sentence.
 
 Each case runs the program in a folder of its own, with copies of the samples. It tells the words, the status, how
-standard output's last line begins, and what the sentence on standard error has to say. After `./alcrs` has built the
-program.
+standard output's last line begins, and what the sentence on standard error has to say. Besides, it tries what is said
+behind refused lines, before a reception that can't be kept, and of progress. After `./alcrs` has built the program.
 """
 import os
 import pty
