@@ -148,8 +148,8 @@ REFUSED = [
     (["encode", "a", "b", *OF_NOTE, "--symbol", "0", "--block", "1", "--max", "2"], "--symbol takes a whole number from 1 to 65475"),
     (["encode", "a", "b", *OF_NOTE, "--symbol", "8", "--block", "1", "--max", "300"], "--max takes a whole number from 1 to 255"),
     (["drop", "note.session", "out", "3", "x' for '--tsi"], "PLACE takes a whole number from 0 to 4294967295"),
-    (["decode", "note.session", "out", "--tsi", "-1", "--toi", "2"], "the tip is for a file of that name"),
-    (["show", "note.session", "--order"], "the tip is for a file of that name"),
+    (["decode", "note.session", "out", "--tsi", "-1", "--toi", "2"], "the tip is for a file of that name; numbers have no sign"),
+    (["show", "note.session", "--order"], "the tip is for a file of that name; --help tells which options there are"),
     (["send", "note.session"], None),
     (["encode", "a", "b", *OF_NOTE, *NUMBERS, "--order", "x"], None),
 ]

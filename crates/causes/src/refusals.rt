@@ -19,6 +19,17 @@ fn numbers_of(argument: &str) -> Option<(&str, u64, u64)> {
     }
 }
 
+// Whether the word that was refused as no option is a number below 0.
+fn has_sign(text: &str) -> bool {
+    match text.split_once("unexpected argument '-") {
+        Some((_, rest)) => rest
+            .as_bytes()
+            .first()
+            .is_some_and(|byte| byte.is_ascii_digit()),
+        None => false,
+    }
+}
+
 /// What to write in place of what was refused, where the refusal's own text doesn't tell it well: a
 /// number in its range, or an option that there is.
 pub fn refused(alloc: Global, text: &str) -> Result<Option<String>, AllocError> {
@@ -31,7 +42,11 @@ pub fn refused(alloc: Global, text: &str) -> Result<Option<String>, AllocError> 
         return Ok(Some(sentence));
     }
     if text.contains("\n  tip: to pass '") {
-        let sentence = "the tip is for a file of that name; --help tells which options there are";
+        let sentence = if has_sign(text) {
+            "the tip is for a file of that name; numbers have no sign"
+        } else {
+            "the tip is for a file of that name; --help tells which options there are"
+        };
         return Ok(Some(sentence.to_string(alloc)?));
     }
     Ok(None)
