@@ -4,14 +4,17 @@ in the sentence.
 
 Each case runs the program in a folder of its own, with copies of the samples. It tells the words,
 the status, how standard output's last line begins, and what the sentence on standard error has to
-say. After `./alcrs` has built the program.
+say. Besides, it tries what is said behind refused lines, before a reception that can't be kept, and
+of progress. After `./alcrs` has built the program.
 """
 import os
+import pty
 import shutil
 import struct
 import subprocess
 import sys
 import tempfile
+import time
 
 from trying import PROGRAM, ROOT, SAMPLES
 
@@ -72,12 +75,14 @@ def make_files():
     session("bare.session", datagrams("bare.session")[1:])
     os.mkdir("folder")
     write("bad\nname.session", read("cut.session"))
+    write("-", b"no session, as it is called -")
     for number in range(100):
         write("full.out.part" + (str(number) if number else ""), b"")
 
 
 CHECK = ["note.txt", "note.rsc", *OF_NOTE]
-# The words, the status, how the last line begins, and what the sentence says.
+# The words, the status, how the last line begins, what the sentence says, and the file that is
+# standard input.
 CASES = [
     (["check", "nowhere.session", *CHECK], 1, "fault open", ["nowhere.session", "No such file"]),
     (["check", "note.session", "nowhere.txt", "note.rsc", *OF_NOTE], 1, "fault open",
@@ -159,19 +164,82 @@ CASES = [
      ["6 datagrams of twice.session are repeats of others"]),
     (["follow", "clash.session", "out", *OF_NOTE], 0, "object",
      ["1 datagrams of clash.session contradict", "out wrong"]),
+    (["check", "-", *CHECK[:2], *OF_BULLETIN], 1, "no N12",
+     ["note.rsc is for another TSI or TOI"], "note.session"),
+    (["check", "-", "bulletin.txt", "bulletin.rsc", *OF_BULLETIN], 1, "no N3",
+     ["- has no packet of TSI 7"], "note.session"),
+    (["check", "-", "-", "note.rsc", *OF_NOTE], 1, "fault open -",
+     ["standard input can be read once"], "note.session"),
+    (["join", "out", "-", "-"], 1, "fault open -",
+     ["standard input can be read once"], "note.session"),
+    (["show", "-"], 1, "fault S4", ["- is a folder"], "folder"),
+    (["decode", "note.session", "note.txt", *OF_NOTE, "-n"], 1, "fault open",
+     ["note.txt is there already", "--no-clobber"]),
+    (["check", "note.session", *CHECK, "-n", "--picture", "folder"], 1, "fault open",
+     ["folder is there already", "--no-clobber"]),
     # What was done, or is told whole by its line, has no sentence.
+    (["decode", "cut.session", "out", *OF_NOTE, "-q"], 1, "fault S2", None),
+    (["check", "twice.session", *CHECK, "--quiet"], 0, "burst", None),
+    (["decode", "note.session", "newer", *OF_NOTE, "-n"], 0, "object", None),
+    (["show", "-"], 0, "5 tsi 7", None, "note.session"),
+    (["decode", "-", "out", *OF_NOTE], 0, "object", None, "note.session"),
+    (["check", "note.session", "-", "note.rsc", *OF_NOTE], 0, "burst", None, "note.txt"),
+    (["check", "note.session", "note.txt", "-", *OF_NOTE], 0, "burst", None, "note.rsc"),
+    (["convert", "-", "out", *OF_NOTE], 0, "converted", None, "note.rsc1"),
+    # Standard input isn't looked at again.
+    (["show", "-"], 1, "fault S2", None, "cut.session"),
+    (["show", "/dev/stdin"], 1, "fault S2", None, "cut.session"),
     (["check", "note.session", *CHECK], 0, "burst", None),
     (["decode", "note.session", "out", *OF_NOTE], 0, "object", None),
 ]
 
 
-def run(words):
-    return subprocess.run([PROGRAM, *words], capture_output=True, timeout=60, check=False)
+# The words that are refused, and the sentence behind the refusal.
+REFUSED = [
+    (["decode", "note.session", "out", "--tsi", "x", "--toi", "2"],
+     "--tsi takes a whole number from 0 to 4294967295"),
+    (["decode", "note.session", "out", "--tsi", "7", "--toi", "4294967296"],
+     "--toi takes a whole number from 0 to 4294967295"),
+    (["decode", "note.session", "out", "--tsi=", "--toi", "2"],
+     "--tsi takes a whole number from 0 to 4294967295"),
+    (["encode", "a", "b", *OF_NOTE, "--symbol", "0", "--block", "1", "--max", "2"],
+     "--symbol takes a whole number from 1 to 65475"),
+    (["encode", "a", "b", *OF_NOTE, "--symbol", "8", "--block", "1", "--max", "300"],
+     "--max takes a whole number from 1 to 255"),
+    (["drop", "note.session", "out", "3", "x' for '--tsi"],
+     "PLACE takes a whole number from 0 to 4294967295"),
+    (["decode", "note.session", "out", "--tsi", "-1", "--toi", "2"],
+     "the tip is for a file of that name; numbers have no sign"),
+    (["show", "note.session", "--order"],
+     "the tip is for a file of that name; --help tells which options there are"),
+    (["send", "note.session"], None),
+    (["encode", "a", "b", *OF_NOTE, *NUMBERS, "--order", "x"], None),
+]
+
+# The words of receptions that can't be kept, and what is said before they begin.
+LOST = [
+    (["follow", "-", "no/out", *OF_NOTE],
+     ["can't be kept", "no/out", "its folder no", "No such file"]),
+    (["follow", "-", "folder", *OF_NOTE], ["can't be kept", "folder is a folder"]),
+    (["follow", "-", "/proc/out", *OF_NOTE],
+     ["can't be kept", "/proc/out can't be written: ", "(os error"]),
+]
+
+
+def run(words, given=os.devnull):
+    """Runs the program with a file, or a folder, as its standard input."""
+    descriptor = os.open(given, os.O_RDONLY)
+    try:
+        return subprocess.run(
+            [PROGRAM, *words], stdin=descriptor, capture_output=True, timeout=60, check=False
+        )
+    finally:
+        os.close(descriptor)
 
 
 def is_told(case):
-    words, status, begins, needles = case
-    ran = run(words)
+    words, status, begins, needles, *given = case
+    ran = run(words, *given)
     lines = ran.stdout.decode().splitlines()
     said = ran.stderr.decode()
     if ran.returncode != status or not lines or not lines[-1].startswith(begins):
@@ -187,6 +255,82 @@ def is_told(case):
     return wrong is None
 
 
+def is_refused(case):
+    """Whether a command line is refused, and the sentence stands behind the refusal, or none."""
+    words, sentence = case
+    ran = run(words)
+    lines = ran.stderr.decode().splitlines()
+    behind = [line for line in lines if line.startswith("alcrs: ")]
+    is_right = ran.returncode == 2 and not ran.stdout and lines[0].startswith("error: ")
+    if sentence is None:
+        is_right = is_right and not behind
+    else:
+        is_right = is_right and behind == lines[-1:] and sentence in lines[-1]
+    if not is_right:
+        print(f"alcrs {' '.join(words)}: {ran.returncode}, {ran.stdout!r}, {ran.stderr!r}")
+    return is_right
+
+
+def is_forewarned(case):
+    """Whether a reception that can't be kept says so before it begins, and ends as it would."""
+    words, needles = case
+    pipes = {"stdin": subprocess.PIPE, "stdout": subprocess.PIPE, "stderr": subprocess.PIPE}
+    with subprocess.Popen([PROGRAM, *words], **pipes) as running:
+        said = running.stderr.readline().decode()
+        printed, _ = running.communicate(read("note.session"), timeout=60)
+    last = printed.decode().splitlines()[-1:]
+    ends = running.returncode == 1 and last == [f"fault open {words[2]}"]
+    is_right = ends and said.startswith("alcrs: ") and all(needle in said for needle in needles)
+    if not is_right:
+        print(f"alcrs {' '.join(words)}: {running.returncode}, {printed!r}, {said!r}")
+    return is_right
+
+
+def told_on_terminal(words, output):
+    """What a run says on a terminal whose input comes for three seconds, and its status."""
+    master, slave = pty.openpty()
+    pipes = {"stdin": subprocess.PIPE, "stdout": output, "stderr": slave}
+    with subprocess.Popen([PROGRAM, *words], **pipes) as running:
+        os.close(slave)
+        for _ in range(30):
+            running.stdin.write(read("note.session"))
+            running.stdin.flush()
+            time.sleep(0.1)
+        running.stdin.close()
+        status = running.wait(timeout=60)
+    said = b""
+    try:
+        while piece := os.read(master, 4096):
+            said += piece
+    except OSError:
+        # So the end of a terminal is told.
+        pass
+    os.close(master)
+    return status, said.decode()
+
+
+def is_progress_told():
+    """Whether progress is shown on a terminal, taken away in the end, and kept from lines."""
+    with open("printed", "wb") as file:
+        joined = told_on_terminal(["join", "out", "-"], file)
+        shown = told_on_terminal(["show", "-"], file)
+        piped = told_on_terminal(["show", "-"], subprocess.DEVNULL)
+    lines = joined[1].split("\r")
+    size = len(read("note.session"))
+    is_right = (
+        joined[0] == shown[0] == piped[0] == 0
+        and len(lines) > 2
+        and all(line.startswith("-: ") and " bytes, 0.0 MB/s" in line for line in lines[1:-1])
+        and int(lines[1].split()[1]) >= 10 * size
+        and lines[-1] == "\x1b[K"
+        and shown[1].startswith("\r-: ")
+        and piped[1] == ""
+    )
+    if not is_right:
+        print(f"progress: {joined}, {shown}, {piped}")
+    return is_right
+
+
 def main():
     with tempfile.TemporaryDirectory() as room:
         for name in os.listdir(SAMPLES):
@@ -194,7 +338,9 @@ def main():
                 shutil.copy(os.path.join(SAMPLES, name), room)
         os.chdir(room)
         make_files()
-        told = [is_told(case) for case in CASES]
+        told = [is_told(case) for case in CASES] + [is_forewarned(case) for case in LOST]
+        told += [is_refused(case) for case in REFUSED]
+        told.append(is_progress_told())
     print(f"{sum(told)} of {len(told)} causes are told")
     sys.exit(not all(told))
 

@@ -128,7 +128,7 @@ OF_PATH(fstatat, b) OF_PATH(fstatat64, b) OF_PATH(access, a) OF_PATH(faccessat, 
 OF_PATH(rename, a) OF_PATH(renameat, b) OF_PATH(renameat2, b)
 OF_PATH(unlink, a) OF_PATH(unlinkat, b) OF_PATH(remove, a)
 OF_PATH(chmod, a) OF_PATH(fchmodat, b)
-OF_FILE(fchmod) OF_FILE(fstat) OF_FILE(fstat64) OF_FILE(lseek) OF_FILE(lseek64)
+OF_FILE(fchmod) OF_FILE(flock) OF_FILE(fstat) OF_FILE(fstat64) OF_FILE(lseek) OF_FILE(lseek64)
 OF_FILE(fsync) OF_FILE(ftruncate)
 MOVING(read) MOVING(write) MOVING(__write)
 MOVING(pread) MOVING(pwrite) MOVING(pread64) MOVING(pwrite64)
@@ -184,7 +184,9 @@ class Call:
     def changes_nothing(self):
         # Without the length of a file that is open the object is held.
         asks_length = self.name == "statx" and not self.file
-        return self.descriptor == "2" or self.name == "close" or "chmod" in self.name or asks_length
+        # Without a lock, or its mark, a part is written as well.
+        is_of_lock = self.name == "flock" or "chmod" in self.name
+        return self.descriptor == "2" or self.name == "close" or is_of_lock or asks_length
 
     def faults(self, words):
         """The lines that may tell that it failed."""
@@ -198,6 +200,15 @@ class Call:
             return [f"fault open {self.file}"]
         inputs = INPUTS[words[0]]
         return [inputs[words[1:].index(self.file)].format(self.file)]
+
+
+def tries_of(words, calls):
+    """How many calls `follow` makes before it opens its session: with them it tries whether `out`
+    can be made.
+    """
+    if words[:1] != ["follow"]:
+        return 0
+    return next((place for place, call in enumerate(calls) if call.file == words[1]), 0)
 
 
 def is_told(words, call, whole, ran):
@@ -270,6 +281,9 @@ def main():
             )
             for (place, error), ran in zip(tries, answers):
                 call = calls[place - 1]
+                # What fails in a try changes no answer.
+                if place <= tries_of(words, calls) and ran == whole:
+                    continue
                 # Behind its last line the program looks at files again for the cause: that changes
                 # no answer.
                 if place > printed and ran == whole:

@@ -96,31 +96,43 @@ class Help:
         if blank or not usage.startswith("Usage: alcrs"):
             sys.exit(f"samples/help/{name}.txt: no usage in its third line")
         self.usage = usage.removeprefix("Usage: ")
-        section = None
+        section, entries = None, []
         for line in lines[3:]:
-            if not line:
+            if not line.strip():
+                continue
+            if not line.startswith("  "):
                 section = None
-            elif line in SECTIONS:
+            if line in SECTIONS:
                 section = line
+            elif section == "Commands:":
+                self.add_command(line)
+            elif section and line.startswith(" " * 10):
+                entries[-1][2].append(line.strip())
             elif section:
-                self.add(section, line)
+                entries.append((section, line.strip(), []))
             elif line.startswith("Example: "):
                 self.examples.append(line.removeprefix("Example: "))
+            elif self.examples and self.examples[-1].endswith("\\"):
+                self.examples[-1] = self.examples[-1].removesuffix("\\") + line.strip()
             elif line.startswith("  ") and "  " not in line.strip():
                 sys.exit(f"samples/help/{name}.txt: a printed line without its meaning: {line}")
             else:
                 self.text.append(line)
+        for section, head, texts in entries:
+            self.add(section, head, texts)
 
-    def add(self, section, line):
+    def add_command(self, line):
         head, gap, text = line.strip().partition("  ")
-        if not line.startswith("  ") or not gap:
+        if not gap:
             sys.exit(f"samples/help/{self.name}.txt: a line without a text: {line}")
-        if section == "Commands:":
-            self.commands.append((head, text.strip()))
-        elif section == "Arguments:":
-            self.arguments.append(Entry(head, text.strip()))
-        else:
-            self.options.append(Entry(head, text.strip()))
+        self.commands.append((head, text.strip()))
+
+    # An argument or an option stands on a line, and its text on those behind it.
+    def add(self, section, head, texts):
+        if not texts:
+            sys.exit(f"samples/help/{self.name}.txt: a line without a text: {head}")
+        listed = self.arguments if section == "Arguments:" else self.options
+        listed.append(Entry(head, " ".join(texts)))
 
     def synopsis(self):
         """The usage's words, with each option that may be left out in place of [OPTIONS]: (word,

@@ -38,17 +38,17 @@ _alcrs() {
         return
     fi
     case "${COMP_WORDS[1]}" in
-        encode) options="--tsi --toi --symbol --block --max --fti-every --order --help" files=2 ;;
-        certify) options="--tsi --toi --symbol --block --max --help" files=2 ;;
-        convert) options="--tsi --toi --help" files=2 ;;
-        check) options="--tsi --toi --picture --help" files=3 ;;
-        drop) options="--help" files=2 ;;
-        salvage) options="--help" files=2 ;;
-        join) options="--turns --help" files=any ;;
-        decode) options="--tsi --toi --help" files=2 ;;
-        follow) options="--tsi --toi --help" files=2 ;;
-        twin) options="--tsi --toi --help" files=4 ;;
-        show) options="--help" files=1 ;;
+        encode) options="--tsi --toi --symbol --block --max --fti-every --order --no-clobber --quiet --help" files=2 ;;
+        certify) options="--tsi --toi --symbol --block --max --no-clobber --quiet --help" files=2 ;;
+        convert) options="--tsi --toi --no-clobber --quiet --help" files=2 ;;
+        check) options="--tsi --toi --picture --no-clobber --quiet --help" files=3 ;;
+        drop) options="--no-clobber --quiet --help" files=2 ;;
+        salvage) options="--no-clobber --quiet --help" files=2 ;;
+        join) options="--turns --no-clobber --quiet --help" files=any ;;
+        decode) options="--tsi --toi --no-clobber --quiet --help" files=2 ;;
+        follow) options="--tsi --toi --no-clobber --quiet --help" files=2 ;;
+        twin) options="--tsi --toi --no-clobber --quiet --help" files=4 ;;
+        show) options="--quiet --help" files=1 ;;
         help)
             [ "$COMP_CWORD" -gt 2 ] || _alcrs_words "$commands" "$typed"
             return

@@ -12,7 +12,7 @@ end
 
 complete -c alcrs -n __alcrs_has_no_command -f
 complete -c alcrs -n __alcrs_has_no_command -s h -l help \
-    -d 'Print help'
+    -d 'Print help (see a summary with \'-h\')'
 complete -c alcrs -n __alcrs_has_no_command -s V -l version \
     -d 'Print version'
 complete -c alcrs -n __alcrs_has_no_command -a encode \
@@ -22,7 +22,7 @@ complete -c alcrs -n __alcrs_has_no_command -a certify \
 complete -c alcrs -n __alcrs_has_no_command -a convert \
     -d 'Writes a certificate anew, as RSC2, for the datagrams of a TSI and TOI'
 complete -c alcrs -n __alcrs_has_no_command -a check \
-    -d 'Says whether a certificate proves that a session carries an object, and how many datagrams may be missed'
+    -d 'Says whether a session carries an object, and how many datagrams may be missed'
 complete -c alcrs -n __alcrs_has_no_command -a drop \
     -d 'Writes a session without the datagrams at some places'
 complete -c alcrs -n __alcrs_has_no_command -a salvage \
@@ -32,9 +32,9 @@ complete -c alcrs -n __alcrs_has_no_command -a join \
 complete -c alcrs -n __alcrs_has_no_command -a decode \
     -d 'Writes the object that the datagrams of a session give'
 complete -c alcrs -n __alcrs_has_no_command -a follow \
-    -d 'Takes the datagrams of a session one by one, as they come, and writes the object as soon as they give it'
+    -d 'Takes datagrams one by one, as they come, and writes the object once they give it'
 complete -c alcrs -n __alcrs_has_no_command -a twin \
-    -d 'Where a block has too few symbols, writes another object of the same length that fits the datagrams too'
+    -d 'Writes another object that fits the datagrams, where a block has too few symbols'
 complete -c alcrs -n __alcrs_has_no_command -a show \
     -d 'Prints a line for each datagram of a session'
 complete -c alcrs -n __alcrs_has_no_command -a help \
@@ -54,11 +54,15 @@ complete -c alcrs -n '__alcrs_command_is encode' -l block -x \
 complete -c alcrs -n '__alcrs_command_is encode' -l max -x \
     -d 'The most encoding symbols of a block, 1 to 255, and not below --block'
 complete -c alcrs -n '__alcrs_command_is encode' -l fti-every -x \
-    -d 'Every M-th datagram, from the first on, has the FTI; M is 1 to 255'
+    -d 'Every M-th datagram has the FTI, from the first on; 1 to 255'
 complete -c alcrs -n '__alcrs_command_is encode' -l order -x -a 'blocks rounds' \
-    -d 'Block after block (blocks), or one symbol of each block in turn (rounds)'
+    -d 'The order of the symbols'
+complete -c alcrs -n '__alcrs_command_is encode' -s n -l no-clobber \
+    -d 'Keeps a file that is there under the name of OUT, and fails'
+complete -c alcrs -n '__alcrs_command_is encode' -s q -l quiet \
+    -d 'Says no sentence on standard error'
 complete -c alcrs -n '__alcrs_command_is encode' -s h -l help \
-    -d 'Print help'
+    -d 'Print help (see a summary with \'-h\')'
 
 complete -c alcrs -n '__alcrs_command_is certify' -l tsi -x \
     -d 'The transport session identifier (TSI), 0 to 4294967295'
@@ -70,56 +74,94 @@ complete -c alcrs -n '__alcrs_command_is certify' -l block -x \
     -d 'The most source symbols of a block, 1 to 255'
 complete -c alcrs -n '__alcrs_command_is certify' -l max -x \
     -d 'The most encoding symbols of a block, 1 to 255, and not below --block'
+complete -c alcrs -n '__alcrs_command_is certify' -s n -l no-clobber \
+    -d 'Keeps a file that is there under the name of OUT, and fails'
+complete -c alcrs -n '__alcrs_command_is certify' -s q -l quiet \
+    -d 'Says no sentence on standard error'
 complete -c alcrs -n '__alcrs_command_is certify' -s h -l help \
-    -d 'Print help'
+    -d 'Print help (see a summary with \'-h\')'
 
 complete -c alcrs -n '__alcrs_command_is convert' -l tsi -x \
     -d 'The transport session identifier (TSI), 0 to 4294967295'
 complete -c alcrs -n '__alcrs_command_is convert' -l toi -x \
     -d 'The transport object identifier (TOI), 0 to 4294967295'
+complete -c alcrs -n '__alcrs_command_is convert' -s n -l no-clobber \
+    -d 'Keeps a file that is there under the name of OUT, and fails'
+complete -c alcrs -n '__alcrs_command_is convert' -s q -l quiet \
+    -d 'Says no sentence on standard error'
 complete -c alcrs -n '__alcrs_command_is convert' -s h -l help \
-    -d 'Print help'
+    -d 'Print help (see a summary with \'-h\')'
 
 complete -c alcrs -n '__alcrs_command_is check' -l tsi -x \
     -d 'The transport session identifier (TSI), 0 to 4294967295'
 complete -c alcrs -n '__alcrs_command_is check' -l toi -x \
     -d 'The transport object identifier (TOI), 0 to 4294967295'
 complete -c alcrs -n '__alcrs_command_is check' -l picture -r -F \
-    -d 'The SVG file to draw a yes to: what each block has to spare, and which bursts may be missed'
+    -d 'The SVG file to draw a yes to: symbols to spare, bursts that may be missed'
+complete -c alcrs -n '__alcrs_command_is check' -s n -l no-clobber \
+    -d 'Keeps a file that is there under the name of OUT, and fails'
+complete -c alcrs -n '__alcrs_command_is check' -s q -l quiet \
+    -d 'Says no sentence on standard error'
 complete -c alcrs -n '__alcrs_command_is check' -s h -l help \
-    -d 'Print help'
+    -d 'Print help (see a summary with \'-h\')'
 
+complete -c alcrs -n '__alcrs_command_is drop' -s n -l no-clobber \
+    -d 'Keeps a file that is there under the name of OUT, and fails'
+complete -c alcrs -n '__alcrs_command_is drop' -s q -l quiet \
+    -d 'Says no sentence on standard error'
 complete -c alcrs -n '__alcrs_command_is drop' -s h -l help \
-    -d 'Print help'
+    -d 'Print help (see a summary with \'-h\')'
 
+complete -c alcrs -n '__alcrs_command_is salvage' -s n -l no-clobber \
+    -d 'Keeps a file that is there under the name of OUT, and fails'
+complete -c alcrs -n '__alcrs_command_is salvage' -s q -l quiet \
+    -d 'Says no sentence on standard error'
 complete -c alcrs -n '__alcrs_command_is salvage' -s h -l help \
-    -d 'Print help'
+    -d 'Print help (see a summary with \'-h\')'
 
 complete -c alcrs -n '__alcrs_command_is join' -l turns \
     -d 'One datagram of each session in turn, not one session after the other'
+complete -c alcrs -n '__alcrs_command_is join' -s n -l no-clobber \
+    -d 'Keeps a file that is there under the name of OUT, and fails'
+complete -c alcrs -n '__alcrs_command_is join' -s q -l quiet \
+    -d 'Says no sentence on standard error'
 complete -c alcrs -n '__alcrs_command_is join' -s h -l help \
-    -d 'Print help'
+    -d 'Print help (see a summary with \'-h\')'
 
 complete -c alcrs -n '__alcrs_command_is decode' -l tsi -x \
     -d 'The transport session identifier (TSI), 0 to 4294967295'
 complete -c alcrs -n '__alcrs_command_is decode' -l toi -x \
     -d 'The transport object identifier (TOI), 0 to 4294967295'
+complete -c alcrs -n '__alcrs_command_is decode' -s n -l no-clobber \
+    -d 'Keeps a file that is there under the name of OUT, and fails'
+complete -c alcrs -n '__alcrs_command_is decode' -s q -l quiet \
+    -d 'Says no sentence on standard error'
 complete -c alcrs -n '__alcrs_command_is decode' -s h -l help \
-    -d 'Print help'
+    -d 'Print help (see a summary with \'-h\')'
 
 complete -c alcrs -n '__alcrs_command_is follow' -l tsi -x \
     -d 'The transport session identifier (TSI), 0 to 4294967295'
 complete -c alcrs -n '__alcrs_command_is follow' -l toi -x \
     -d 'The transport object identifier (TOI), 0 to 4294967295'
+complete -c alcrs -n '__alcrs_command_is follow' -s n -l no-clobber \
+    -d 'Keeps a file that is there under the name of OUT, and fails'
+complete -c alcrs -n '__alcrs_command_is follow' -s q -l quiet \
+    -d 'Says no sentence on standard error'
 complete -c alcrs -n '__alcrs_command_is follow' -s h -l help \
-    -d 'Print help'
+    -d 'Print help (see a summary with \'-h\')'
 
 complete -c alcrs -n '__alcrs_command_is twin' -l tsi -x \
     -d 'The transport session identifier (TSI), 0 to 4294967295'
 complete -c alcrs -n '__alcrs_command_is twin' -l toi -x \
     -d 'The transport object identifier (TOI), 0 to 4294967295'
+complete -c alcrs -n '__alcrs_command_is twin' -s n -l no-clobber \
+    -d 'Keeps a file that is there under the name of OUT, and fails'
+complete -c alcrs -n '__alcrs_command_is twin' -s q -l quiet \
+    -d 'Says no sentence on standard error'
 complete -c alcrs -n '__alcrs_command_is twin' -s h -l help \
-    -d 'Print help'
+    -d 'Print help (see a summary with \'-h\')'
 
+complete -c alcrs -n '__alcrs_command_is show' -s q -l quiet \
+    -d 'Says no sentence on standard error'
 complete -c alcrs -n '__alcrs_command_is show' -s h -l help \
-    -d 'Print help'
+    -d 'Print help (see a summary with \'-h\')'

@@ -23,6 +23,27 @@ fn an_output_without_its_line(rt: HostRuntime) -> Result<(), Fail> {
     Ok(())
 }
 
+// Where a line of `follow` can't be printed the object is received and written all the same. No
+// more is printed, and the status is 1. The first line is that of a datagram that is no packet.
+#[test]
+fn a_reception_without_its_lines(rt: HostRuntime) -> Result<(), Fail> {
+    let alloc = rt.alloc();
+    let mut session = vec![in alloc; 0u8, 1, 255]?;
+    session.extend_from_slice(&PAIR_SESSION)?;
+    let lines = b"refused 0 R1 Packet P1 TooShort\ncomplete after 3 datagrams\nobject 2 bytes\n";
+    for room in [0, 32, 40, 60] {
+        let out = Sink::limited(alloc, 5, room);
+        let mut host = host_of(alloc, &[("s", session.as_slice())], out)?;
+        let mut err = Sink::new(alloc);
+        let words = ["alcrs", "follow", "s", "o", "--tsi", "1", "--toi", "1"];
+        assert_eq!(rt; answer(alloc, &words, &mut host, &mut err), 1);
+        assert_eq!(rt; host.printed(), &lines[..room]);
+        assert_eq!(rt; host.get("o"), Some([1u8, 2].as_slice()));
+        assert_eq!(rt; host.created(), 1);
+    }
+    Ok(())
+}
+
 #[test]
 fn help_that_finds_no_room(rt: HostRuntime) -> Result<(), Fail> {
     let alloc = rt.alloc();

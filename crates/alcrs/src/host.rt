@@ -5,33 +5,48 @@ ghost use Rattle.std.specs.Io.Buffered.{writer_buffer, writer_contents};
 ghost use Rattle.tool.specs.Worlds.{untold};
 
 use crate::last::LastLine;
+use crate::parts::{Part, create_beside};
+use crate::progress::{Counted, Progress};
+use request::Output;
 use session::{Device, Failed, Write, write_all};
 use std::alloc::Global;
-use std::fs;
-use std::fs::{File, Metadata, OpenFile, OpenOptions};
+use std::cell::Cell;
+use std::fs::{File, Metadata, OpenOptions, Permissions};
 use std::io::{BufReader, BufWriter, ErrorKind};
 use std::rt::Files;
+use std::time::Clock;
+use std::{fs, io};
 use tool::{FileFault, Host};
 
 /// How many bytes stand between a file, or the output, and its reader or writer.
 pub(crate) const BUFFER_SIZE: usize = 65536;
 
-/// How many files may stand beside an output under the names for its parts, as those of runs that
-/// were cut off.
-const MOST_PARTS: u8 = 100;
+/// The name of an input that is standard input.
+const STANDARD_INPUT: &str = "-";
 
-/// The files that names lead to as paths, and standard output.
+/// Where standard input is opened.
+const INPUT_DEVICE: &str = "/dev/stdin";
+
+/// The files that names lead to as paths, `-` as standard input where it is read, and standard
+/// output.
 #[derive(Drop)]
 pub struct ProgramHost<'a, R, O: std::io::Write + Drop> {
     rt: &'a R,
     alloc: Global,
     out: Device<BufWriter<O>>,
     last: LastLine,
+    took_input: Cell<bool>,
+    progress: &'a Progress,
 }
 
 impl<'a, R, O: std::io::Write + Drop> ProgramHost<'a, R, O> {
-    /// The files, through the host's runtime, and this output for lines.
-    pub fn new(rt: &'a R, alloc: Global, out: Device<BufWriter<O>>) -> ProgramHost<'a, R, O>
+    /// The files, through the host's runtime, this output for lines, and what is told of inputs.
+    pub(crate) fn new(
+        rt: &'a R,
+        alloc: Global,
+        out: Device<BufWriter<O>>,
+        progress: &'a Progress,
+    ) -> ProgramHost<'a, R, O>
         ensures { result.rt.now ≡ rt.now }
     {
         ProgramHost {
@@ -39,6 +54,8 @@ impl<'a, R, O: std::io::Write + Drop> ProgramHost<'a, R, O> {
             alloc,
             out,
             last: LastLine::new(),
+            took_input: Cell::new(false),
+            progress,
         }
     }
 
@@ -60,13 +77,6 @@ impl<'a, R, O: std::io::Write + Drop> ProgramHost<'a, R, O> {
     }
 }
 
-/// A file beside the one whose place it takes once it is kept.
-#[derive(Drop)]
-struct Part {
-    name: String,
-    target: String,
-}
-
 /// A file that is written: beside its name until it is kept, or, where a device or a pipe has that,
 /// straight.
 pub struct HostOutput<T: std::io::Write + Drop> {
@@ -86,31 +96,19 @@ impl<T: std::io::Write + Drop> Write for HostOutput<T> {
     }
 }
 
-// A new file beside this name, under one that no other file has.
-fn create_beside<R: Files>(
+// A new file beside this name, which has these permissions once it is kept, or those of a new file.
+fn create_anew<R: Files<File = File>>(
     rt: &R,
     alloc: Global,
     name: &str,
-) -> Result<(R::File, Option<Part>), FileFault> {
-    let Ok(target) = name.to_string(alloc) else {
-        return Err(FileFault::NoMemory);
-    };
-    for number in 0..MOST_PARTS {
-        let part = if number == 0 {
-            format!(in alloc; "{name}.part")
-        } else {
-            format!(in alloc; "{name}.part{number}")
-        };
-        let Ok(part) = part else {
-            return Err(FileFault::NoMemory);
-        };
-        match File::create_new(rt, part.as_str()) {
-            Ok(file) => return Ok((file, Some(Part { name: part, target }))),
-            Err(error) if error.kind() == ErrorKind::AlreadyExists => {}
-            Err(_) => return Err(FileFault::Io),
-        }
+    permissions: Option<Permissions>,
+    no_clobber: bool,
+) -> Result<(File, Option<Part>), FileFault> {
+    match create_beside(rt, alloc, name, permissions, no_clobber) {
+        Ok((file, part)) => Ok((file, Some(part))),
+        Err(error) if error.kind() == ErrorKind::OutOfMemory => Err(FileFault::NoMemory),
+        Err(_) => Err(FileFault::Io),
     }
-    Err(FileFault::Io)
 }
 
 // Fails where the file of this name may not be written.
@@ -125,20 +123,21 @@ fn may_write<R: Files>(rt: &R, name: &str) -> Result<(), FileFault> {
 }
 
 // A new file that is to take the place of the one of this name.
-fn create_instead<R: Files>(
+fn create_instead<R: Files<File = File>>(
     rt: &R,
     alloc: Global,
     name: &str,
     there: &Metadata,
-) -> Result<(R::File, Option<Part>), FileFault> {
+) -> Result<(File, Option<Part>), FileFault> {
     may_write(rt, name)?;
-    let (file, part) = create_beside(rt, alloc, name)?;
-    let _ = file.set_permissions(there.permissions());
-    Ok((file, part))
+    create_anew(rt, alloc, name, Some(there.permissions()), false)
 }
 
 // What has this name, which is no file, to be written straight.
-fn create_straight<R: Files>(rt: &R, name: &str) -> Result<(R::File, Option<Part>), FileFault> {
+fn create_straight<R: Files<File = File>>(
+    rt: &R,
+    name: &str,
+) -> Result<(File, Option<Part>), FileFault> {
     match fs::create(rt, name) {
         Ok(file) => Ok((file, None)),
         Err(_) => Err(FileFault::Io),
@@ -146,11 +145,11 @@ fn create_straight<R: Files>(rt: &R, name: &str) -> Result<(R::File, Option<Part
 }
 
 // What a link leads to, to be written, so that a command may read the file that it replaces.
-fn create_behind<R: Files>(
+fn create_behind<R: Files<File = File>>(
     rt: &R,
     alloc: Global,
     link: &str,
-) -> Result<(R::File, Option<Part>), FileFault> {
+) -> Result<(File, Option<Part>), FileFault> {
     let name = match rt.canonicalize(alloc, link) {
         Ok(path) => path.into_string(),
         // It leads to nothing, so nothing is replaced.
@@ -163,60 +162,108 @@ fn create_behind<R: Files>(
     }
 }
 
-// A file to be written, and where it goes if not straight to this name.
-fn create<R: Files>(
+// Whether what has this name is written straight, as a pipe, a device or a link to nothing is.
+fn is_straight<R: Files>(rt: &R, name: &str) -> bool {
+    match fs::metadata(rt, name) {
+        Ok(there) => !there.is_file() && !there.is_dir(),
+        Err(_) => fs::symlink_metadata(rt, name).is_ok(),
+    }
+}
+
+// A file to be written, and where it goes if not straight to this name. With `no_clobber` whatever
+// has the name stays.
+fn create<R: Files<File = File>>(
     rt: &R,
     alloc: Global,
     name: &str,
-) -> Result<(R::File, Option<Part>), FileFault> {
+    no_clobber: bool,
+) -> Result<(File, Option<Part>), FileFault> {
     match fs::symlink_metadata(rt, name) {
+        Ok(_) if no_clobber => Err(FileFault::Io),
         Ok(there) if there.is_file() => create_instead(rt, alloc, name, &there),
         Ok(there) if there.is_symlink() => create_behind(rt, alloc, name),
         Ok(_) => create_straight(rt, name),
         Err(error) if error.kind() == ErrorKind::NotFound && !name.is_empty() => {
-            create_beside(rt, alloc, name)
+            create_anew(rt, alloc, name, None, no_clobber)
         }
         Err(_) => Err(FileFault::Io),
     }
 }
 
-impl<R: Files, O: std::io::Write + Drop> ProgramHost<'_, R, O> {
+impl<R: Files<File = File>, O: std::io::Write + Drop> ProgramHost<'_, R, O> {
+    // The file of this name, or standard input, whose bytes come once: it isn't opened again.
+    fn open_input(&self, name: &str) -> io::Result<File> {
+        if name != STANDARD_INPUT {
+            return fs::open(self.rt, name);
+        }
+        if self.took_input.replace(true) {
+            return Err(io::Error::from(ErrorKind::ResourceBusy));
+        }
+        fs::open(self.rt, INPUT_DEVICE)
+    }
+
     fn remove(&self, part: &Option<Part>) {
         if let Some(part) = part {
-            let _ = fs::remove_file(self.rt, part.name.as_str());
+            part.remove(self.rt);
         }
     }
 }
 
-impl<R: Files, O: std::io::Write + Drop> Host for ProgramHost<'_, R, O> {
-    type Input = Device<BufReader<R::File>>;
+impl<R: Files<File = File> + Clock + Eprint, O: std::io::Write + Drop> ProgramHost<'_, R, O> {
+    /// From now on it is told how far inputs are read. Lines of the command may go to the same
+    /// terminal.
+    pub(crate) fn watch(&self, is_shared: bool) {
+        self.progress.begin(self.rt, is_shared);
+    }
 
-    type Output = HostOutput<R::File>;
+    /// Takes away what stands on the terminal.
+    pub(crate) fn end_watch(&self) {
+        self.progress.wipe(self.rt);
+    }
+
+    /// Whether a file of this name can't be created, as far as a try tells, which leaves nothing. A
+    /// pipe or a device isn't tried, as that could take something from it.
+    pub(crate) fn refuses(&mut self, output: &Output<'_>) -> bool {
+        if !output.no_clobber && is_straight(self.rt, output.name) {
+            return false;
+        }
+        match self.create_file(output.name, output.no_clobber) {
+            Ok(created) => {
+                self.give_up(created);
+                false
+            }
+            Err(FileFault::Io) => true,
+            Err(FileFault::NoMemory) => false,
+        }
+    }
+}
+
+impl<'a, R: Files<File = File> + Clock + Eprint, O: std::io::Write + Drop> Host
+    for ProgramHost<'a, R, O> {
+    type Input = Device<BufReader<Counted<'a, R>>>;
+
+    type Output = HostOutput<File>;
 
     // Nothing is told of files and output but whether the output has failed.
     ghost world = { λ host. untold host.out.failed };
 
-    fn open_file(&self, name: &str) -> Result<Device<BufReader<R::File>>, FileFault> {
-        let Ok(file) = fs::open(self.rt, name) else {
+    fn open_file(&self, name: &str) -> Result<Device<BufReader<Counted<'a, R>>>, FileFault> {
+        let Ok(file) = self.open_input(name) else {
             return Err(FileFault::Io);
         };
-        match BufReader::with_capacity(self.alloc, BUFFER_SIZE, file) {
+        let counted = Counted::new(self.rt, self.alloc, self.progress, name, file);
+        match BufReader::with_capacity(self.alloc, BUFFER_SIZE, counted) {
             Ok(reader) => Ok(Device::new(reader)),
             Err(_) => Err(FileFault::NoMemory),
         }
     }
 
-    // A device or a pipe doesn't tell its length, nor does a file of the system's own, whose bytes
-    // are made as they are read and which calls itself empty.
-    fn length_of(&self, input: &Device<BufReader<R::File>>) -> Option<u64> {
-        match input.get_ref().get_ref().metadata() {
-            Ok(there) if there.is_file() && there.len() > 0 => Some(there.len()),
-            _ => None,
-        }
+    fn length_of(&self, input: &Device<BufReader<Counted<'a, R>>>) -> Option<u64> {
+        input.get_ref().get_ref().length()
     }
 
-    fn create_file(&mut self, name: &str) -> Result<HostOutput<R::File>, FileFault> {
-        let (file, part) = create(self.rt, self.alloc, name)?;
+    fn create_file(&mut self, name: &str, no_clobber: bool) -> Result<HostOutput<File>, FileFault> {
+        let (file, part) = create(self.rt, self.alloc, name, no_clobber)?;
         match BufWriter::with_capacity(self.alloc, BUFFER_SIZE, file) {
             Ok(writer) => Ok(HostOutput {
                 device: Device::new(writer),
@@ -229,43 +276,38 @@ impl<R: Files, O: std::io::Write + Drop> Host for ProgramHost<'_, R, O> {
         }
     }
 
-    fn keep_file(&mut self, _name: &str, output: HostOutput<R::File>) -> Result<(), FileFault> {
+    // The file is closed last, as its lock keeps other runs from its name.
+    fn keep_file(&mut self, _name: &str, output: HostOutput<File>) -> Result<(), FileFault> {
         let HostOutput { mut device, part } = output;
         let flushed = device.flush();
         let (file, _) = device.into_inner().into_parts();
-        drop(file);
-        let Some(part) = part else {
-            return match flushed {
-                Ok(()) => Ok(()),
-                Err(Failed) => Err(FileFault::Io),
-            };
+        let is_kept = match &part {
+            Some(part) => flushed.is_ok() && part.keep(self.rt, &file),
+            None => flushed.is_ok(),
         };
-        let renamed = match flushed {
-            Ok(()) => fs::rename(self.rt, part.name.as_str(), part.target.as_str()).is_ok(),
-            Err(Failed) => false,
-        };
-        if renamed {
-            Ok(())
-        } else {
-            let _ = fs::remove_file(self.rt, part.name.as_str());
-            Err(FileFault::Io)
+        if !is_kept {
+            self.remove(&part);
         }
+        drop(file);
+        if is_kept { Ok(()) } else { Err(FileFault::Io) }
     }
 
-    fn give_up(&mut self, output: HostOutput<R::File>) -> FileFault {
+    fn give_up(&mut self, output: HostOutput<File>) -> FileFault {
         let HostOutput { device, part } = output;
         let (file, _) = device.into_inner().into_parts();
-        drop(file);
         self.remove(&part);
+        drop(file);
         FileFault::Io
     }
 
     fn print(&mut self, bytes: &[u8]) -> Result<(), Failed> {
+        self.progress.make_way(self.rt);
         self.last.note(bytes);
         write_all(&mut self.out, bytes)
     }
 
     fn pass_on(&mut self) -> Result<(), Failed> {
+        self.progress.make_way(self.rt);
         self.flush()
     }
 }

@@ -3,15 +3,19 @@
 
 mod host;
 mod last;
+mod parts;
+mod progress;
 mod words;
 
-use causes::{doubt, explain, repeated};
+use causes::{doubt, explain, forewarn, refused, repeated};
 use host::{BUFFER_SIZE, ProgramHost};
 use last::LastLine;
-use request::request;
+use progress::Progress;
+use request::{Request, Usage, command_line};
 use session::Device;
 use std::alloc::{AllocError, Global};
-use std::io::BufWriter;
+use std::fs;
+use std::io::{BufWriter, IsTerminal};
 use std::process::ExitCode;
 use std::rt::Files;
 use tool::{answer, refuse, refuse_memory, status_after};
@@ -35,19 +39,69 @@ fn tell_cause<R: Files + Eprint>(
     last: &LastLine,
     status: u8,
 ) {
-    let Ok(request) = request(alloc, words) else {
-        return;
+    let line = match command_line(alloc, words) {
+        Ok(line) => line,
+        Err(Usage::Line(error)) => {
+            if let Ok(text) = error.to_string(alloc) {
+                tell(rt, refused(alloc, text.as_str()));
+            }
+            return;
+        }
+        Err(_) => return,
     };
-    if status != 0 {
-        tell(rt, explain(rt, alloc, &request, last.text()));
+    if line.quiet {
+        return;
     }
-    tell(rt, doubt(rt, alloc, &request, last.contradictions()));
-    tell(rt, repeated(rt, alloc, &request, last.repeats()));
+    let request = &line.request;
+    if status != 0 {
+        tell(rt, explain(rt, alloc, request, last.text()));
+    }
+    tell(rt, doubt(rt, alloc, request, last.contradictions()));
+    tell(rt, repeated(rt, alloc, request, last.repeats()));
 }
 
 fn tell<R: Eprint>(rt: &R, sentence: Result<Option<String>, AllocError>) {
     if let Ok(Some(sentence)) = sentence {
         let _ = eprintln!(rt; "alcrs: {sentence}");
+    }
+}
+
+// Says before a reception begins whether what comes can't be kept.
+fn tell_beforehand<O: std::io::Write + Drop>(
+    rt: &HostRuntime,
+    alloc: Global,
+    request: &Request<'_>,
+    host: &mut ProgramHost<'_, HostRuntime, O>,
+) {
+    if let Request::Follow(follow) = request {
+        if host.refuses(&follow.output) {
+            tell(rt, forewarn(rt, alloc, request));
+        }
+    }
+}
+
+// Whether what a command prints as it reads might stand on the same terminal: it may go there
+// through a pipe.
+fn may_print_between(rt: &HostRuntime, request: &Request<'_>) -> bool {
+    match request {
+        Request::Show(_) | Request::Follow(_) => match fs::metadata(rt, "/dev/stdout") {
+            Ok(there) => !there.is_file(),
+            Err(_) => true,
+        },
+        _ => false,
+    }
+}
+
+// Says what is known before a command begins, and watches over what it reads.
+fn begin<O: std::io::Write + Drop>(
+    rt: &HostRuntime,
+    alloc: Global,
+    request: &Request<'_>,
+    host: &mut ProgramHost<'_, HostRuntime, O>,
+) {
+    tell_beforehand(rt, alloc, request, host);
+    if rt.stderr().is_terminal() && !may_print_between(rt, request) {
+        host.watch(rt.stdout().is_terminal());
     }
 }
 
@@ -58,8 +112,14 @@ fn respond<O: std::io::Write + Drop>(
     words: &[&str],
     host: &mut ProgramHost<'_, HostRuntime, O>,
 ) -> u8 {
+    if let Ok(line) = command_line(alloc, words) {
+        if !line.quiet {
+            begin(rt, alloc, &line.request, host);
+        }
+    }
     let mut err = Device::new(rt.stderr());
     let status = answer(alloc, words, host, &mut err);
+    host.end_watch();
     let status = status_after(status, host.flush());
     tell_cause(rt, alloc, words, host.last(), status);
     status
@@ -70,7 +130,8 @@ fn main(rt: HostRuntime) -> ExitCode {
     let Ok(buffer) = BufWriter::with_capacity(alloc, BUFFER_SIZE, rt.stdout()) else {
         return ExitCode::from(refuse_memory(&mut Device::new(rt.stdout())));
     };
-    let mut host = ProgramHost::new(&rt, alloc, Device::new(buffer));
+    let progress = Progress::new();
+    let mut host = ProgramHost::new(&rt, alloc, Device::new(buffer), &progress);
     let words = match read_words(&rt, alloc) {
         Ok(words) => words,
         Err(WordFault::NoText(place)) => return ExitCode::from(refuse_word(&rt, place)),

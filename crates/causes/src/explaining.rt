@@ -1,9 +1,11 @@
 //! The sentence for a line.
 ghost use Rattle.std.specs.Prelude.{◌≡◌, IfOk, is_some, true};
-ghost use Rattle.causes.specs.Sentences.{is_doubted, tells_repeats};
+ghost use Rattle.causes.specs.Sentences.{is_doubted, is_reception, tells_repeats};
 
-use crate::files::{Kind, kind_of, unread, unwritten};
-use crate::names::{Name, certificate_of, identity_of, object_of, output_of, session_of};
+use crate::files::{Kind, STANDARD_INPUT, kind_of, unread, unwritten};
+use crate::names::{
+    Name, certificate_of, identity_of, inputs_named, object_of, output_of, session_of,
+};
 use crate::sessions::{Break, Carrier, carrier_from, walk};
 use request::Request;
 use session::FrameFault;
@@ -104,6 +106,22 @@ pub fn repeated<R: Files>(
     }
 }
 
+/// What to say before a reception begins whose output can't be written. `None` of other commands,
+/// which have their input still when they end.
+pub fn forewarn<R: Files>(
+    rt: &R,
+    alloc: Global,
+    request: &Request<'_>,
+) -> Result<Option<String>, AllocError>
+    ensures said { IfOk result (λ said. is_some said ≡ is_reception request.now) }
+{
+    let Request::Follow(request) = request else {
+        return Ok(None);
+    };
+    let cause = unwritten(rt, alloc, request.output)?;
+    Ok(Some(format!(in alloc; "what comes can't be kept: {cause}")?))
+}
+
 impl<'a, R: Files> Case<'a, R> {
     // The word at a place of the line, counted from 0; nothing past its end.
     fn word(&self, place: usize) -> &'a str {
@@ -129,7 +147,10 @@ impl<'a, R: Files> Case<'a, R> {
             "S" => self.session(),
             "O" => object_of(self.request).unwrap_or("the object"),
             "C" => self.certificate(),
-            "W" => output_of(self.request).unwrap_or("the output"),
+            "W" => match output_of(self.request) {
+                Some(output) => output.name,
+                None => "the output",
+            },
             _ => return self.figure(key, numbers),
         };
         Name { text: name }.to_string(self.alloc)
@@ -197,10 +218,24 @@ impl<'a, R: Files> Case<'a, R> {
         if let Some(text) = self.unread_input()? {
             return Ok(Some(text));
         }
+        if self.is_input_taken() {
+            return self.say(
+                "standard input can be read once, and - is the name of more than one input: make \
+                a file of it",
+                &[],
+            );
+        }
         match output_of(self.request) {
-            Some(name) => Ok(Some(unwritten(self.rt, self.alloc, name)?)),
+            Some(output) => Ok(Some(unwritten(self.rt, self.alloc, output)?)),
             None => self.say("reading {S} failed half way", &[]),
         }
+    }
+
+    // Whether standard input was to be read a second time.
+    fn is_input_taken(&self) -> bool {
+        self.word(1) == "open"
+            && self.word(2) == STANDARD_INPUT
+            && inputs_named(self.request, STANDARD_INPUT) > 1
     }
 
     fn unread_input(&self) -> Sentence {

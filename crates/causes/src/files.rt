@@ -1,10 +1,12 @@
 //! Why a file can't be had, and what it is.
 use crate::names::Name;
+use request::Output;
 use session::{Device, Read, fill};
 use std::alloc::{AllocError, Global};
-use std::fs;
-use std::fs::OpenOptions;
+use std::fs::{File, OpenOptions};
+use std::io::ErrorKind;
 use std::rt::Files;
+use std::{fs, io};
 
 /// What a file begins as.
 #[derive(Clone, Copy, PartialEq, Eq)]
@@ -15,11 +17,30 @@ pub(crate) enum Kind {
     Other,
 }
 
-/// Whether this name leads to a regular file, which can be read again.
+/// The name of an input that is standard input.
+pub(crate) const STANDARD_INPUT: &str = "-";
+
+/// Where the system has standard input.
+const INPUT_DEVICE: &str = "/dev/stdin";
+
+/// Whether this name leads to a regular file, which can be read again. Standard input can't,
+/// wherever it comes from.
 pub(crate) fn is_regular<R: Files>(rt: &R, name: &str) -> bool {
+    if name == STANDARD_INPUT || name == INPUT_DEVICE {
+        return false;
+    }
     match fs::metadata(rt, name) {
         Ok(there) => there.is_file(),
         Err(_) => false,
+    }
+}
+
+// The path of an input.
+fn path_of(name: &str) -> &str {
+    if name == STANDARD_INPUT {
+        INPUT_DEVICE
+    } else {
+        name
     }
 }
 
@@ -75,7 +96,7 @@ pub(crate) fn unread<R: Files>(
     name: &str,
 ) -> Result<Option<String>, AllocError> {
     let shown = Name { text: name };
-    match fs::metadata(rt, name) {
+    match fs::metadata(rt, path_of(name)) {
         Ok(there) if there.is_dir() => return Ok(Some(format!(in alloc; "{shown} is a folder")?)),
         Ok(_) => {}
         Err(error) => return Ok(Some(format!(in alloc; "{shown}: {error}")?)),
@@ -98,8 +119,41 @@ fn folder_of(name: &str) -> &str {
     }
 }
 
-/// Why a file can't be written, as far as the system tells without writing it.
-pub(crate) fn unwritten<R: Files>(rt: &R, alloc: Global, name: &str) -> Result<String, AllocError> {
+// The system's reason why no file can be made beside this one, if it has one, by a try that leaves
+// nothing. Beside a pipe, a device or a link none is made.
+fn unmade<R: Files>(rt: &R, alloc: Global, name: &str) -> Result<Option<io::Error>, AllocError> {
+    match fs::symlink_metadata(rt, name) {
+        Ok(there) if !there.is_file() => return Ok(None),
+        _ => {}
+    }
+    let part = format!(in alloc; "{name}.part")?;
+    match File::create_new(rt, part.as_str()) {
+        Ok(file) => {
+            drop(file);
+            let _ = fs::remove_file(rt, part.as_str());
+            Ok(None)
+        }
+        Err(error) if error.kind() == ErrorKind::AlreadyExists => Ok(None),
+        Err(error) => Ok(Some(error)),
+    }
+}
+
+/// Why an output can't be written, as far as the system tells before it is.
+pub(crate) fn unwritten<R: Files>(
+    rt: &R,
+    alloc: Global,
+    output: Output<'_>,
+) -> Result<String, AllocError> {
+    let shown = Name { text: output.name };
+    if output.no_clobber && fs::symlink_metadata(rt, output.name).is_ok() {
+        return format!(in alloc;
+            "{shown} is there already, and stays by --no-clobber: take another name"
+        );
+    }
+    unwritten_file(rt, alloc, output.name)
+}
+
+fn unwritten_file<R: Files>(rt: &R, alloc: Global, name: &str) -> Result<String, AllocError> {
     let shown = Name { text: name };
     let folder = folder_of(name);
     match fs::metadata(rt, folder) {
@@ -122,9 +176,11 @@ pub(crate) fn unwritten<R: Files>(rt: &R, alloc: Global, name: &str) -> Result<S
         }
         _ => {}
     }
+    if let Some(error) = unmade(rt, alloc, name)? {
+        return format!(in alloc; "{shown} can't be written: {error}");
+    }
     format!(in alloc;
         "{shown} can't be written: is there room on the disk, may files be made in \
-        its folder, and do no hundred parts of it, {shown}.part and so on, stand there from runs \
-        that were cut off?"
+        its folder, and do no hundred files stand there that are called {shown}.part and so on?"
     )
 }

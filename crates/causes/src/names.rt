@@ -1,5 +1,5 @@
 //! Files' names in sentences.
-use request::Request;
+use request::{Output, Request};
 use std::fmt;
 
 /// A file's name as it can be shown: control characters can't move the cursor, nor end the line.
@@ -56,8 +56,26 @@ pub(crate) fn certificate_of<'a>(request: &Request<'a>) -> Option<&'a str> {
     }
 }
 
+/// How many of its inputs are to be this file.
+pub(crate) fn inputs_named(request: &Request<'_>, name: &str) -> u64 {
+    let mut count = 0u64;
+    if let Request::Join(request) = request {
+        for session in &request.sessions {
+            count = count.saturating_add(u64::from(*session == name));
+        }
+    }
+    for input in [
+        session_of(request),
+        object_of(request),
+        certificate_of(request),
+    ] {
+        count = count.saturating_add(u64::from(input == Some(name)));
+    }
+    count
+}
+
 /// What it writes.
-pub(crate) fn output_of<'a>(request: &Request<'a>) -> Option<&'a str> {
+pub(crate) fn output_of<'a>(request: &Request<'a>) -> Option<Output<'a>> {
     match request {
         Request::Twin(request) => Some(request.output),
         Request::Encode(request) => Some(request.output),
@@ -68,7 +86,13 @@ pub(crate) fn output_of<'a>(request: &Request<'a>) -> Option<&'a str> {
         Request::Drop(request) => Some(request.output),
         Request::Salvage(request) => Some(request.output),
         Request::Join(request) => Some(request.output),
-        Request::Check(request) => request.picture,
+        Request::Check(request) => match request.picture {
+            Some(name) => Some(Output {
+                name,
+                no_clobber: request.no_clobber,
+            }),
+            None => None,
+        },
         Request::Show(_) => None,
     }
 }

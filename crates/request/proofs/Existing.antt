@@ -97,7 +97,7 @@ Fits rules (Choice name words default) = (a : Rule) × (arg_by_id rules name ≡
 Fits rules (Numbers name least most) = (a : Rule) × (arg_by_id rules name ≡ Some a) × (a.required ≡ true) × takes_one a
     × (a.parser ≡ Some (Unsigned least most))
 Fits rules (Files name) = (a : Rule) × (arg_by_id rules name ≡ Some a) × (a.required ≡ true) × takes_one a
-Fits rules (Flag name) = (a : Rule) × (arg_by_id rules name ≡ Some a) × (a.defaults ≡ codes "false" ∷ []) × (0 < length a.missing)
+Fits rules (Flag name letter) = (a : Rule) × (arg_by_id rules name ≡ Some a) × (a.defaults ≡ codes "false" ∷ []) × (0 < length a.missing)
     × (a.parser ≡ Some BoolParser)
 Fits rules (FileOption name) = ⊤
 
@@ -115,8 +115,8 @@ module _ (s : Shape) (words : List Text) (right : IsRight s words) where
   word_given a name default choices parser exact has =
       (AText has.value, (has.first, among choices.now has.value (rw (parser, exact) at has.passes)))
 
-  flag_given : (a : Rule) (name : Text) → a.parser ≡ Some BoolParser → Passes a name rows → IsGiven rows (Flag name)
-  flag_given a name parser has = elim (is_flag has.value (rw parser at has.passes)) [
+  flag_given : (a : Rule) (name : Text) (letter : Option ℕ) → a.parser ≡ Some BoolParser → Passes a name rows → IsGiven rows (Flag name letter)
+  flag_given a name letter parser has = elim (is_flag has.value (rw parser at has.passes)) [
     | inl e ↦ (AFlag true, has.first ∙ ap Some e)
     | inr e ↦ (AFlag false, has.first ∙ ap Some e)
   ]
@@ -147,7 +147,7 @@ module _ (s : Shape) (words : List Text) (right : IsRight s words) where
   given (Files name) (a, known, wanted, one) =
       let (r, found, passed) = given_row s words a name right known wanted in
       (SomeTexts r.values, (rw found refl, passed.some (inl (omega (arith, one)))))
-  given (Flag name) (a, known, is, some, parser) = flag_given a name parser (flag_value s words a name (codes "false") [] right known is some)
+  given (Flag name letter) (a, known, is, some, parser) = flag_given a name letter parser (flag_value s words a name (codes "false") [] right known is some)
   given (FileOption name) fits = (MaybeText (first_of name rows), refl)
 
   all_given : (arguments : List Argument) → AllByRecursion (Fits s.rules) arguments → AllByRecursion (IsGiven rows) arguments
@@ -238,7 +238,7 @@ fits c i (Number name least most (Some default)) own = (_, own.first, refl, refl
 fits c i (Choice name words default) own = (_, own.first, refl, refl, refl, refl)
 fits c i (Numbers name least most) own = (_, own.first, refl, refl, refl)
 fits c i (Files name) own = (_, own.first, refl, refl)
-fits c i (Flag name) own = (_, own.first, refl, omega arith, refl)
+fits c i (Flag name letter) own = (_, own.first, refl, omega arith, refl)
 fits c i (FileOption name) own = tt
 
 all_fit : (c : List Rule) (i : ℕ) (arguments : List Argument) (others : List Rule) → Each (IsOwn c) (filled_from i (map rule_for arguments ++ others))

@@ -16,7 +16,7 @@ use Rattle.request.specs.Matching.{IsMatch, IsTold, IsToldBy, arguments_of}
 use Rattle.request.specs.UsageOf.{IsUsageOf}
 use Rattle.request.specs.Usages.{IsAskedFor}
 use Rattle.request.proofs.Existing.{asks}
-use Rattle.request.specs.declared.requests.Request.{Request}
+use Rattle.request.specs.declared.requests.CommandLine.{CommandLine}
 use Rattle.request.specs.declared.usage.Usage.{Usage}
 use Rattle.request.specs.declared.usage.Usage.TheVariants.{Help, Line, NoMemory}
 
@@ -51,9 +51,9 @@ listed name (c ∷ table) known = go (bytes_eq c.0 name) refl (listed name table
 
 module _ (orders : Bor (List (Bor Text))) (are : IsOrders orders) where
   -- the request that was matched is read
-  read_request : (read : Option (Text × List Row)) (request : Request) → IsToldBy orders read → IsMatch read (Ok request) → IsRead (commands orders) read (asked_of request)
-  read_request None request told match = absurd told
-  read_request (Some command) request told match = (
+  read_request : (read : Option (Text × List Row)) (line : CommandLine) → IsToldBy orders read → IsMatch read (Ok line) → IsRead (commands orders) read (asked_of line)
+  read_request None line told match = absurd told
+  read_request (Some command) line told match = (
     arguments_of orders command.0,
     subst (λ n. Contains (commands orders) (n, arguments_of orders command.0)) (sym match.0) (listed command.0 (commands orders) told.0),
     (command.1, ap (λ n. Some (n, command.1)) (sym match.0), match.1 orders are),
@@ -75,9 +75,9 @@ module _ (orders : Bor (List (Bor Text))) (are : IsOrders orders) (words : List 
     pub is_told : IsTold (subcommand_rows_of m)
     is_told = (orders, are, told)
 
-    pub answers : (result : Result Request Usage) → IsMatch (subcommand_rows_of m) result → Answers orders words result
-    answers (Ok request) match =
-        (none, subst (λ read. IsRead (commands orders) read (asked_of request)) same (read_request orders are (subcommand_rows_of m) request told match))
+    pub answers : (result : Result CommandLine Usage) → IsMatch (subcommand_rows_of m) result → Answers orders words result
+    answers (Ok line) match =
+        (none, subst (λ read. IsRead (commands orders) read (asked_of line)) same (read_request orders are (subcommand_rows_of m) line told match))
     answers (Err NoMemory) match = tt
     answers (Err (Help told)) match = cc
     answers (Err (Line told)) match = cc

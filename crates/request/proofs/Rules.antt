@@ -95,7 +95,7 @@ words_among (File name help ∷ arguments) = words_among arguments
 words_among (Number option ∷ arguments) = words_among arguments
 words_among (Numbers name help least most ∷ arguments) = words_among arguments
 words_among (Files name help ∷ arguments) = words_among arguments
-words_among (Flag name help ∷ arguments) = words_among arguments
+words_among (Flag name short help ∷ arguments) = words_among arguments
 words_among (FileOption name value_name help ∷ arguments) = words_among arguments
 
 -- the words of the first command's choice

@@ -172,3 +172,24 @@ version_asked_for_in_short = refl
 version_of_a_command : fault_of grammar (codes "alcrs" ∷ codes "show" ∷ codes "--version" ∷ []) ≡ kind.UnknownArgument ∷ []
 unfolding clap_on_literals
 version_of_a_command = refl
+
+-- a flag of each command, by its name or its letter, and one of each that writes a file
+quiet_taken : fault_of grammar (codes "alcrs" ∷ codes "show" ∷ codes "a" ∷ codes "-q" ∷ []) ≡ []
+unfolding clap_on_literals
+quiet_taken = refl
+
+quiet_read : read (codes "quiet") (codes "alcrs" ∷ codes "show" ∷ codes "--quiet" ∷ codes "a" ∷ []) ≡ Some (codes "show", Some (codes "true"))
+unfolding clap_on_literals
+quiet_read = refl
+
+not_quiet_read : read (codes "quiet") (check (codes "--toi=1" ∷ [])) ≡ Some (codes "check", Some (codes "false"))
+unfolding clap_on_literals
+not_quiet_read = refl
+
+both_read : read (codes "no-clobber") (check (codes "--toi=1" ∷ codes "-nq" ∷ [])) ≡ Some (codes "check", Some (codes "true"))
+unfolding clap_on_literals
+both_read = refl
+
+nothing_to_keep : fault_of grammar (codes "alcrs" ∷ codes "show" ∷ codes "a" ∷ codes "-n" ∷ []) ≡ kind.UnknownArgument ∷ []
+unfolding clap_on_literals
+nothing_to_keep = refl

@@ -12,15 +12,15 @@ use Rattle.clap.specs.declared.builder.value_parser.ValueParser.{ValueParser}
 use Rattle.clap.specs.declared.builder.value_parser.ValueParser.TheVariants.{Names, Unsigned}
 
 -- An argument by its name, and what it takes. A number is in a range, and may have a default. A
--- choice is one of some words, and has a default. A file's name may be an option's value, which may
--- be left out.
+-- choice is one of some words, and has a default. A flag may have a letter, too. A file's name may
+-- be an option's value, which may be left out.
 pub data Argument : Type 0 where
   File : Text → Argument
   Number : Text → ℕ → ℕ → Option Text → Argument
   Choice : Text → Bor (List (Bor Text)) → Text → Argument
   Numbers : Text → ℕ → ℕ → Argument
   Files : Text → Argument
-  Flag : Text → Argument
+  Flag : Text → Option ℕ → Argument
   FileOption : Text → Argument
 
 -- `--name VALUE`
@@ -43,7 +43,8 @@ rule_for (Number name low high (Some number)) =
 rule_for (Choice name words word) = record (option name (Names words)) { defaults = word ∷ [] }
 rule_for (Numbers name low high) = record (several name) { parser = Some (Unsigned low high) }
 rule_for (Files name) = several name
-rule_for (Flag name) = record (new_rule name) { long = Some name; action = Some SetTrue }
+rule_for (Flag name letter) =
+    record (new_rule name) { long = Some name; short = letter; action = Some SetTrue }
 rule_for (FileOption name) = record (new_rule name) { long = Some name; value_names = 1 }
 
 -- the value of an argument
@@ -77,6 +78,6 @@ HasValue rows (Numbers name low high) (SomeNumbers ns) =
     (texts : List Text) × (many_of name rows ≡ Some texts) × AllZip (IsNumber low high) texts ns
     × (0 < length ns)
 HasValue rows (Files name) (SomeTexts texts) = (all_of name rows ≡ Some texts) × (0 < length texts)
-HasValue rows (Flag name) (AFlag given) = first_of name rows ≡ Some (flag_word given)
+HasValue rows (Flag name letter) (AFlag given) = first_of name rows ≡ Some (flag_word given)
 HasValue rows (FileOption name) (MaybeText text) = first_of name rows ≡ text
 HasValue rows argument value = ⊥

@@ -49,7 +49,7 @@ argument_of (told.Number option) = number_of option
 argument_of (told.Choice option) = choice_of option
 argument_of (told.Numbers name help least most) = Numbers name.now least most
 argument_of (told.Files name help) = Files name.now
-argument_of (told.Flag name help) = Flag name.now
+argument_of (told.Flag name short help) = Flag name.now short
 argument_of (told.FileOption name value_name help) = FileOption name.now
 
 abbrev pub rule_told : Told → Rule

@@ -24,23 +24,35 @@ abbrev pub size_arguments : List Argument
 size_arguments = Number (codes "symbol") 1 65475 None ∷ Number (codes "block") 1 255 None
     ∷ Number (codes "max") 1 255 None ∷ []
 
+-- without the sentences on standard error
+abbrev pub quiet : Argument
+quiet = Flag (codes "quiet") (Some 113)
+
+-- a file that is there under the output's name stays
+abbrev pub no_clobber : Argument
+no_clobber = Flag (codes "no-clobber") (Some 110)
+
+-- a command that writes a file
+abbrev pub writing : String → List Argument → Text × List Argument
+writing name arguments = command name (arguments ++ no_clobber ∷ quiet ∷ [])
+
 -- the commands, each with its arguments in their order; `--order` takes one of the orders' names
 abbrev pub commands : Bor (List (Bor Text)) → List (Text × List Argument)
 commands orders =
-    command "encode" (file "OBJECT" ∷ file "OUT" ∷ identifiers ++ size_arguments
+    writing "encode" (file "OBJECT" ∷ file "OUT" ∷ identifiers ++ size_arguments
     ++ Number (codes "fti-every") 1 255 (Some (codes "1"))
     ∷ Choice (codes "order") orders (codes "blocks") ∷ [])
-    ∷ command "certify" (file "OBJECT" ∷ file "OUT" ∷ identifiers ++ size_arguments)
-    ∷ command "convert" (file "IN" ∷ file "OUT" ∷ identifiers)
-    ∷ command "check" (file "SESSION" ∷ file "OBJECT" ∷ file "CERT" ∷ identifiers
+    ∷ writing "certify" (file "OBJECT" ∷ file "OUT" ∷ identifiers ++ size_arguments)
+    ∷ writing "convert" (file "IN" ∷ file "OUT" ∷ identifiers)
+    ∷ writing "check" (file "SESSION" ∷ file "OBJECT" ∷ file "CERT" ∷ identifiers
     ++ FileOption (codes "picture") ∷ [])
-    ∷ command "drop" (file "SESSION" ∷ file "OUT" ∷ Numbers (codes "PLACE") 0 4294967295 ∷ [])
-    ∷ command "salvage" (file "SESSION" ∷ file "OUT" ∷ [])
-    ∷ command "join" (file "OUT" ∷ Files (codes "SESSION") ∷ Flag (codes "turns") ∷ [])
-    ∷ command "decode" (file "SESSION" ∷ file "OUT" ∷ identifiers)
-    ∷ command "follow" (file "SESSION" ∷ file "OUT" ∷ identifiers)
-    ∷ command "twin" (file "SESSION" ∷ file "OBJECT" ∷ file "CERT" ∷ file "OUT" ∷ identifiers)
-    ∷ command "show" (file "SESSION" ∷ []) ∷ []
+    ∷ writing "drop" (file "SESSION" ∷ file "OUT" ∷ Numbers (codes "PLACE") 0 4294967295 ∷ [])
+    ∷ writing "salvage" (file "SESSION" ∷ file "OUT" ∷ [])
+    ∷ writing "join" (file "OUT" ∷ Files (codes "SESSION") ∷ Flag (codes "turns") None ∷ [])
+    ∷ writing "decode" (file "SESSION" ∷ file "OUT" ∷ identifiers)
+    ∷ writing "follow" (file "SESSION" ∷ file "OUT" ∷ identifiers)
+    ∷ writing "twin" (file "SESSION" ∷ file "OBJECT" ∷ file "CERT" ∷ file "OUT" ∷ identifiers)
+    ∷ command "show" (file "SESSION" ∷ quiet ∷ []) ∷ []
 
 -- `alcrs`, with one of its commands, or with `--version`
 abbrev pub grammar_of : Bor (List (Bor Text)) → App

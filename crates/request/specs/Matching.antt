@@ -1,17 +1,17 @@
 -- What is asked for by the rows that the grammar matched.
 use Rattle.std.specs.Prelude.{◌≡◌, [], true, List, Option, Some, None, Result, Ok, Err, codes, find}
-use Rattle.std.specs.Prelude.{is_some}
+use Rattle.std.specs.Prelude.{Bool, is_some}
 use Rattle.std.specs.Borrow.{Bor}
 use Rattle.std.specs.List.{AllByRecursion, AllZip}
 use Rattle.std.specs.Option.{option_map_or}
 use Rattle.std.specs.Str.{bytes_eq}
-use Rattle.clap.specs.Words.{Row, Text, found_of, rows_of}
+use Rattle.clap.specs.Words.{Row, Text, first_of, found_of, rows_of}
 use Rattle.clap.specs.declared.parser.matches.ArgMatches.{ArgMatches}
 use Rattle.partition.specs.declared.order.Order.{Order}
-use Rattle.request.specs.declared.requests.Request.{Request}
+use Rattle.request.specs.declared.requests.CommandLine.{CommandLine}
 use Rattle.request.specs.declared.usage.Usage.{Usage}
 use Rattle.request.specs.declared.usage.Usage.TheVariants.{NoMemory}
-use Rattle.request.specs.Arguments.{Argument, AText, Choice, HasValue, Value}
+use Rattle.request.specs.Arguments.{Argument, AText, Choice, HasValue, Value, flag_word}
 use Rattle.request.specs.Grammar.{IsOrders, commands}
 use Rattle.request.specs.Requests.{asked_of, order_name}
 
@@ -51,15 +51,15 @@ IsToldBy orders (Some command) =
 abbrev pub IsTold : Option (Text × List Row) → Type 0
 IsTold read = (orders : Bor (List (Bor Text))) × IsOrders orders × IsToldBy orders read
 
--- the request is of this command, and has those values
-abbrev pub IsAsked : Text → List Row → Request → Type 0
-IsAsked name rows request = ((asked_of request).0 ≡ name) × ((orders : Bor (List (Bor Text)))
-    → IsOrders orders → AllZip (HasValue rows) (arguments_of orders name) (asked_of request).1)
+-- the line is of this command, and has those values
+abbrev pub IsAsked : Text → List Row → CommandLine → Type 0
+IsAsked name rows line = ((asked_of line).0 ≡ name) × ((orders : Bor (List (Bor Text)))
+    → IsOrders orders → AllZip (HasValue rows) (arguments_of orders name) (asked_of line).1)
 
--- the request that was read, or no memory
-abbrev pub IsMatch : Option (Text × List Row) → Result Request Usage → Type 0
-IsMatch None (Ok request) = ⊥
-IsMatch (Some command) (Ok request) = IsAsked command.0 command.1 request
+-- the line that was read, or no memory
+abbrev pub IsMatch : Option (Text × List Row) → Result CommandLine Usage → Type 0
+IsMatch None (Ok line) = ⊥
+IsMatch (Some command) (Ok line) = IsAsked command.0 command.1 line
 IsMatch read (Err usage) = usage ≡ NoMemory
 
 abbrev pub order_argument : Bor (List (Bor Text)) → Argument
@@ -69,6 +69,10 @@ order_argument orders = Choice (codes "order") orders (codes "blocks")
 abbrev pub IsOrderTold : List Row → Type 0
 IsOrderTold rows = (orders : Bor (List (Bor Text))) × IsOrders orders
     × IsGiven rows (order_argument orders)
+
+-- a flag was read: it was given, or it wasn't
+abbrev pub IsFlagGiven : Text → List Row → Type 0
+IsFlagGiven name rows = (given : Bool) × (first_of name rows ≡ Some (flag_word given))
 
 -- it is this order's
 abbrev pub IsOrder : List Row → Order → Type 0

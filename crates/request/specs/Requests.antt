@@ -1,4 +1,5 @@
 -- What the words of a command line ask for.
+use Prim.Native.String.{String}
 use Rattle.std.specs.Prelude.{◌≡◌, ◌∷◌, ◌++◌, [], List, Option, Some, Result, Ok, Err, Contains}
 use Rattle.std.specs.Prelude.{codes, map, option_map, ⊤}
 use Rattle.std.specs.Borrow.{Bor}
@@ -8,6 +9,8 @@ use Rattle.partition.specs.declared.order.Order.{Order}
 use Rattle.partition.specs.declared.order.Order.TheVariants.{Blocks, Rounds}
 use Rattle.reception.specs.declared.scope.Identity.{Identity}
 use Rattle.request.specs.declared.requests.Sizes.{Sizes}
+use Rattle.request.specs.declared.requests.CommandLine.{CommandLine}
+use Rattle.request.specs.declared.requests.Output.{Output}
 use Rattle.request.specs.declared.requests.Request.{Request}
 use Rattle.request.specs.declared.requests.Request.TheVariants.{Check, Twin, Show, Encode, Certify}
 use Rattle.request.specs.declared.requests.Request.TheVariants.{Convert, Decode, Follow, Drop}
@@ -36,27 +39,39 @@ abbrev pub order_name : Order → Text
 order_name Blocks = codes "blocks"
 order_name Rounds = codes "rounds"
 
--- the command that a request is, with the values of its arguments in their order
-abbrev pub asked_of : Request → Text × List Value
-asked_of (Encode r) = command "encode" (path r.object ∷ path r.output ∷ whose r.sending.identity
-    ++ size_values r.sending.sizes ++ ANumber r.sending.fti_every
-    ∷ AText (order_name r.sending.order) ∷ [])
-asked_of (Certify r) =
-    command "certify" (path r.object ∷ path r.output ∷ whose r.identity ++ size_values r.sizes)
-asked_of (Convert r) = command "convert" (path r.certificate ∷ path r.output ∷ whose r.identity)
-asked_of (Check r) =
+-- a command that writes a file, with the values of its arguments
+abbrev pub writing : String → List Value → Output → Text × List Value
+writing name values output = command name (values ++ AFlag output.no_clobber ∷ [])
+
+-- the command that a request is, with the values of its own arguments in their order
+abbrev pub command_of : Request → Text × List Value
+command_of (Encode r) = writing "encode" (path r.object ∷ path r.output.name
+    ∷ whose r.sending.identity ++ size_values r.sending.sizes ++ ANumber r.sending.fti_every
+    ∷ AText (order_name r.sending.order) ∷ []) r.output
+command_of (Certify r) = writing "certify"
+    (path r.object ∷ path r.output.name ∷ whose r.identity ++ size_values r.sizes) r.output
+command_of (Convert r) =
+    writing "convert" (path r.certificate ∷ path r.output.name ∷ whose r.identity) r.output
+command_of (Check r) =
     command "check" (path r.session ∷ path r.object ∷ path r.certificate ∷ whose r.identity
-    ++ MaybeText (option_map (λ name. name.now) r.picture) ∷ [])
-asked_of (Drop r) =
-    command "drop" (path r.session ∷ path r.output ∷ SomeNumbers r.places.items ∷ [])
-asked_of (Salvage r) = command "salvage" (path r.session ∷ path r.output ∷ [])
-asked_of (Join r) = command "join" (path r.output
-    ∷ SomeTexts (map (λ name. name.now) r.sessions.items) ∷ AFlag r.turns ∷ [])
-asked_of (Decode r) = command "decode" (path r.session ∷ path r.output ∷ whose r.identity)
-asked_of (Follow r) = command "follow" (path r.session ∷ path r.output ∷ whose r.identity)
-asked_of (Twin r) = command "twin"
-    (path r.session ∷ path r.object ∷ path r.certificate ∷ path r.output ∷ whose r.identity)
-asked_of (Show r) = command "show" (path r.session ∷ [])
+    ++ MaybeText (option_map (λ name. name.now) r.picture) ∷ AFlag r.no_clobber ∷ [])
+command_of (Drop r) = writing "drop"
+    (path r.session ∷ path r.output.name ∷ SomeNumbers r.places.items ∷ []) r.output
+command_of (Salvage r) = writing "salvage" (path r.session ∷ path r.output.name ∷ []) r.output
+command_of (Join r) = writing "join" (path r.output.name
+    ∷ SomeTexts (map (λ name. name.now) r.sessions.items) ∷ AFlag r.turns ∷ []) r.output
+command_of (Decode r) =
+    writing "decode" (path r.session ∷ path r.output.name ∷ whose r.identity) r.output
+command_of (Follow r) =
+    writing "follow" (path r.session ∷ path r.output.name ∷ whose r.identity) r.output
+command_of (Twin r) = writing "twin" (path r.session ∷ path r.object ∷ path r.certificate
+    ∷ path r.output.name ∷ whose r.identity) r.output
+command_of (Show r) = command "show" (path r.session ∷ [])
+
+-- the command of a line, with the values of its arguments in their order
+abbrev pub asked_of : CommandLine → Text × List Value
+asked_of line =
+    ((command_of line.request).0, (command_of line.request).1 ++ AFlag line.quiet ∷ [])
 
 -- what was read, a command's name and rows, has these values of the arguments in the table
 abbrev pub IsRead : List (Text × List Argument) → Option (Text × List Row) → Text × List Value
@@ -65,9 +80,9 @@ IsRead table read asked = (arguments : List Argument) × Contains table (asked.0
     × ((rows : List Row) × (read ≡ Some (asked.0, rows)) × AllZip (HasValue rows) arguments asked.1)
 
 -- the answer to the words: a request where they have no fault, else why there is none; or no memory
-abbrev pub Answers : Bor (List (Bor Text)) → List Text → Result Request Usage → Type 0
-Answers orders words (Ok request) = (fault_of (grammar_of orders) words ≡ [])
-    × IsRead (commands orders) (subcommand_of (grammar_of orders) words) (asked_of request)
+abbrev pub Answers : Bor (List (Bor Text)) → List Text → Result CommandLine Usage → Type 0
+Answers orders words (Ok line) = (fault_of (grammar_of orders) words ≡ [])
+    × IsRead (commands orders) (subcommand_of (grammar_of orders) words) (asked_of line)
 Answers orders words (Err (Help told)) =
     IsAskedFor told × IsAmong (kind_of told) (fault_of (grammar_of orders) words)
 Answers orders words (Err (Line told)) =

@@ -1,7 +1,7 @@
 //! The grammar: the commands, their arguments and their help.
 ghost use Rattle.std.specs.Prelude.{◌≡◌, map, false, IfOk};
 ghost use Rattle.clap.specs.Words.{rule_of};
-ghost use Rattle.request.specs.Arguments.{rule_for, several as several_rule};
+ghost use Rattle.request.specs.Arguments.{Flag as flag_named, rule_for, several as several_rule};
 ghost use Rattle.request.specs.Building.{HasGrammar, IsShaped, AddsRules, AddsCommands, number_of};
 ghost use Rattle.request.specs.Building.{choice_of, argument_of, rule_told, outline_shape};
 
@@ -12,7 +12,7 @@ use clap::{Arg, ArgAction, Command};
 use std::alloc::{AllocError, Global};
 
 const ABOUT: &str =
-    "Certifies file-delivery sessions: ALC datagrams with Reed-Solomon symbols (RFC 5510, FEC Encoding ID 5)";
+    "Certifies file-delivery sessions: ALC datagrams with Reed-Solomon symbols (RFC 5510)";
 
 // The version that `--version` tells; CHANGELOG.md has it too.
 const VERSION: &str = "0.9.0";
@@ -63,9 +63,10 @@ enum Argument<'a> {
         name: &'a str,
         help: &'a str,
     },
-    /// `--name`, which takes no value.
+    /// `--name`, which takes no value, and may have a letter, too.
     Flag {
         name: &'a str,
+        short: Option<char>,
         help: &'a str,
     },
     /// `--name FILE`, which may be left out.
@@ -154,7 +155,19 @@ const MAX: Argument<'static> = Argument::Number(NumberOption {
 const PICTURE: Argument<'static> = Argument::FileOption {
     name: "picture",
     value_name: "OUT",
-    help: "The SVG file to draw a yes to: what each block has to spare, and which bursts may be missed",
+    help: "The SVG file to draw a yes to: symbols to spare, bursts that may be missed",
+};
+
+const QUIET: Argument<'static> = Argument::Flag {
+    name: "quiet",
+    short: Some('q'),
+    help: "Says no sentence on standard error",
+};
+
+const NO_CLOBBER: Argument<'static> = Argument::Flag {
+    name: "no-clobber",
+    short: Some('n'),
+    help: "Keeps a file that is there under the name of OUT, and fails",
 };
 
 /// A command: its name, its help and its arguments, in their order.
@@ -184,7 +197,7 @@ const OUTLINES: [Outline<'static>; 11] = [
             Argument::Number(NumberOption {
                 name: "fti-every",
                 value_name: "M",
-                help: "Every M-th datagram, from the first on, has the FTI; M is 1 to 255",
+                help: "Every M-th datagram has the FTI, from the first on; 1 to 255",
                 least: 1,
                 most: 255,
                 default: Some("1"),
@@ -192,10 +205,12 @@ const OUTLINES: [Outline<'static>; 11] = [
             Argument::Choice(ChoiceOption {
                 name: "order",
                 value_name: "ORDER",
-                help: "Block after block (blocks), or one symbol of each block in turn (rounds)",
+                help: "The order of the symbols",
                 words: &ORDERS,
                 default: "blocks",
             }),
+            NO_CLOBBER,
+            QUIET,
         ],
     },
     Outline {
@@ -213,6 +228,8 @@ const OUTLINES: [Outline<'static>; 11] = [
             SYMBOL,
             BLOCK,
             MAX,
+            NO_CLOBBER,
+            QUIET,
         ],
     },
     Outline {
@@ -227,13 +244,24 @@ const OUTLINES: [Outline<'static>; 11] = [
             CERTIFICATE_TO_WRITE,
             TSI,
             TOI,
+            NO_CLOBBER,
+            QUIET,
         ],
     },
     Outline {
         name: "check",
-        about: "Says whether a certificate proves that a session carries an object, and how many datagrams may be missed",
+        about: "Says whether a session carries an object, and how many datagrams may be missed",
         after_help: help::CHECK,
-        arguments: &[SESSION, CARRIED_OBJECT, CERTIFICATE, TSI, TOI, PICTURE],
+        arguments: &[
+            SESSION,
+            CARRIED_OBJECT,
+            CERTIFICATE,
+            TSI,
+            TOI,
+            PICTURE,
+            NO_CLOBBER,
+            QUIET,
+        ],
     },
     Outline {
         name: "drop",
@@ -244,17 +272,19 @@ const OUTLINES: [Outline<'static>; 11] = [
             SESSION_TO_WRITE,
             Argument::Numbers {
                 name: "PLACE",
-                help: "The places of the datagrams to leave out, 0 to 4294967295; the first datagram is at place 0",
+                help: "The places of the datagrams to leave out, 0 to 4294967295, counted from 0",
                 least: 0,
                 most: 4_294_967_295,
             },
+            NO_CLOBBER,
+            QUIET,
         ],
     },
     Outline {
         name: "salvage",
         about: "Writes a session up to the place where it is cut or broken",
         after_help: help::SALVAGE,
-        arguments: &[SESSION, SESSION_TO_WRITE],
+        arguments: &[SESSION, SESSION_TO_WRITE, NO_CLOBBER, QUIET],
     },
     Outline {
         name: "join",
@@ -268,25 +298,28 @@ const OUTLINES: [Outline<'static>; 11] = [
             },
             Argument::Flag {
                 name: "turns",
+                short: None,
                 help: "One datagram of each session in turn, not one session after the other",
             },
+            NO_CLOBBER,
+            QUIET,
         ],
     },
     Outline {
         name: "decode",
         about: "Writes the object that the datagrams of a session give",
         after_help: help::DECODE,
-        arguments: &[SESSION, OBJECT_TO_WRITE, TSI, TOI],
+        arguments: &[SESSION, OBJECT_TO_WRITE, TSI, TOI, NO_CLOBBER, QUIET],
     },
     Outline {
         name: "follow",
-        about: "Takes the datagrams of a session one by one, as they come, and writes the object as soon as they give it",
+        about: "Takes datagrams one by one, as they come, and writes the object once they give it",
         after_help: help::FOLLOW,
-        arguments: &[SESSION, OBJECT_TO_WRITE, TSI, TOI],
+        arguments: &[SESSION, OBJECT_TO_WRITE, TSI, TOI, NO_CLOBBER, QUIET],
     },
     Outline {
         name: "twin",
-        about: "Where a block has too few symbols, writes another object of the same length that fits the datagrams too",
+        about: "Writes another object that fits the datagrams, where a block has too few symbols",
         after_help: help::TWIN,
         arguments: &[
             SESSION,
@@ -298,13 +331,15 @@ const OUTLINES: [Outline<'static>; 11] = [
             },
             TSI,
             TOI,
+            NO_CLOBBER,
+            QUIET,
         ],
     },
     Outline {
         name: "show",
         about: "Prints a line for each datagram of a session",
         after_help: help::SHOW,
-        arguments: &[SESSION],
+        arguments: &[SESSION, QUIET],
     },
 ];
 
@@ -346,6 +381,20 @@ fn several<'a>(alloc: Global, name: &'a str, help: &'a str) -> Arg<'a>
         .help(help)
 }
 
+fn flag<'a>(alloc: Global, name: &'a str, short: Option<char>, help: &'a str) -> Arg<'a>
+    ensures rule { rule_of result ≡ rule_for (flag_named name.now short) }
+    ensures local { result.global ≡ false }
+{
+    let argument = Arg::new(alloc, name)
+        .long(name)
+        .action(ArgAction::SetTrue)
+        .help(help);
+    match short {
+        Some(letter) => argument.short(letter),
+        None => argument,
+    }
+}
+
 fn clap_argument<'a>(alloc: Global, argument: &Argument<'a>) -> Arg<'a>
     ensures rule { rule_of result ≡ rule_told argument.now }
     ensures local { result.global ≡ false }
@@ -361,10 +410,7 @@ fn clap_argument<'a>(alloc: Global, argument: &Argument<'a>) -> Arg<'a>
             most,
         } => several(alloc, *name, *help).value_parser(ValueParser::unsigned(*least, *most)),
         Argument::Files { name, help } => several(alloc, *name, *help),
-        Argument::Flag { name, help } => Arg::new(alloc, *name)
-            .long(*name)
-            .action(ArgAction::SetTrue)
-            .help(*help),
+        Argument::Flag { name, short, help } => flag(alloc, *name, *short, *help),
         Argument::FileOption {
             name,
             value_name,
@@ -397,7 +443,7 @@ fn outlined<'a>(alloc: Global, outline: &Outline<'a>) -> Result<Command<'a>, All
 {
     let command = Command::new(alloc, outline.name)
         .about(outline.about)
-        .after_help(outline.after_help);
+        .after_long_help(outline.after_help);
     with_arguments(alloc, command, outline.arguments)
 }
 
@@ -424,7 +470,7 @@ pub(crate) fn grammar<'a>(alloc: Global) -> Result<Command<'a>, AllocError>
     let parser = Command::new(alloc, "alcrs")
         .version(VERSION)
         .about(ABOUT)
-        .after_help(help::ALCRS)
+        .after_long_help(help::ALCRS)
         .subcommand_required(true);
     with_commands(alloc, parser, &OUTLINES)
 }

@@ -3,27 +3,32 @@
 //! the README's walk.
 
 pub(crate) const ALCRS: &str =
-    "Statuses: 0 done or yes, 1 no or a fault, 2 the command line is refused, 3 decode or follow has too little.
+    "Statuses: 0 done or yes, 1 no or a fault, 2 the command line is refused, 3 too little came.
+A sentence on standard error tells the cause. --quiet leaves it out.
 `alcrs COMMAND --help` tells what a command prints. A command that fails prints `fault REASON`.
 
 Example: alcrs check bulletin.session bulletin.txt bulletin.rsc --tsi 7 --toi 1";
 
 pub(crate) const ENCODE: &str = "Prints `encoded D datagrams`.
+OBJECT comes first: a file that is there under the second name is replaced, unless -n is given.
 The FTI is the object's length, --symbol, --block and --max.
+--order blocks sends block after block, --order rounds one symbol of each block in turn.
 A datagram with the FTI has 32 bytes before its symbol, and one without it 20.
 A listener who gets no datagram with the FTI can't decode.
 Statuses: 0 done, 1 a fault, 2 the command line is refused.
 
 Example: alcrs encode bulletin.txt bulletin.session --tsi 7 --toi 1 --symbol 250 --block 32 --max 40
-Example: alcrs encode note.txt sparse.session --tsi 7 --toi 2 --symbol 8 --block 8 --max 12 --fti-every 4";
+Example: alcrs encode note.txt sparse.session --tsi 7 --toi 2 --symbol 8 --block 8 --max 12 \\
+           --fti-every 4";
 
 pub(crate) const CERTIFY: &str = "Prints `certified N blocks`.
+OBJECT comes first: a file that is there under the second name is replaced, unless -n is given.
 Statuses: 0 done, 1 a fault, 2 the command line is refused.
 
 Example: alcrs certify bulletin.txt bulletin.rsc --tsi 7 --toi 1 --symbol 250 --block 32 --max 40";
 
 pub(crate) const CONVERT: &str =
-    "Reads a certificate of either layout, RSC1 or RSC2. One that is for another TSI or TOI is refused.
+    "Reads a certificate of either layout, RSC1 or RSC2. It refuses one for another TSI or TOI.
 Prints `converted N blocks`.
 Statuses: 0 done, 1 a fault, 2 the command line is refused.
 
@@ -36,13 +41,14 @@ pub(crate) const CHECK: &str = "Prints `no` and the first reason, or `yes` and t
   kill P P ..            the places of M + 1 datagrams that may not all be missed
   burst N                any N neighbouring datagrams may be missed
 Blocks and places count from 0. Places are those of the whole session.
-Datagrams of another TSI or TOI are passed over.
-With --picture a yes is drawn too, and at a no OUT stays as it is.
+It passes over datagrams of another TSI or TOI.
+With --picture it draws a yes, too. At a no OUT stays as it is.
 Statuses: 0 yes, 1 no or a fault, 2 the command line is refused.
 
 Example: alcrs check bulletin.session bulletin.txt bulletin.rsc --tsi 7 --toi 1";
 
 pub(crate) const DROP: &str = "A place that is named twice counts once.
+The places come last: where OUT is left out, a file named like the first place is written.
 Prints `kept D datagrams`.
 Statuses: 0 done, 1 a fault, 2 the command line is refused.
 
@@ -57,8 +63,9 @@ Statuses: 0 SESSION is whole, 1 it isn't or a fault, 2 the command line is refus
 Example: alcrs salvage cut.session whole.session";
 
 pub(crate) const JOIN: &str =
-    "Writes all datagrams of the first session, then all of the second, and so on.
-With --turns it writes one datagram of each session in turn. A session that has ended is passed over.
+    "OUT comes first: a session that is named in its place is replaced, unless -n is given.
+Writes all datagrams of the first session, then all of the second, and so on.
+With --turns it writes one datagram of each session in turn, and passes over those that ended.
 Prints `joined D datagrams`.
 Statuses: 0 done, 1 a fault, 2 the command line is refused.
 
@@ -66,12 +73,12 @@ Example: alcrs join two.session bulletin.session note.session --turns";
 
 pub(crate) const DECODE: &str = "Prints one of these lines:
   object L bytes                 the object was written, L bytes
-  missing block B have H need K  block B is the first that is short: it needs K symbols, and H different ones are there
+  missing block B have H need K  block B is the first that is short: H of K symbols are there
   empty                          no datagram has the FTI
   fault REASON                   why the datagrams are of no object, or what failed
 Blocks and places count from 0. Places are those of the whole session.
 Datagrams of another TSI or TOI are passed over.
-Statuses: 0 the object was written, 1 a fault, 2 the command line is refused, 3 `missing` or `empty`.
+Statuses: 0 the object is written, 1 a fault, 2 the command line is refused, 3 `missing` or `empty`.
 
 Example: alcrs decode bulletin.session received.txt --tsi 7 --toi 1";
 
@@ -81,17 +88,17 @@ Once the object is there, prints two lines and reads no further:
   complete after D datagrams     so many were read
   object L bytes                 the object was written, L bytes
 At the session's end, prints one of these lines:
-  missing block B have H need K  block B is the first that is short: it needs K symbols, and H different ones came
+  missing block B have H need K  block B is the first that is short: H of K symbols came
   empty                          no datagram with the FTI was taken
 Blocks and places count from 0. SESSION may be a pipe.
 Datagrams of another TSI or TOI are passed over.
-Statuses: 0 the object was written, 1 a fault, 2 the command line is refused, 3 `missing` or `empty`.
+Statuses: 0 the object is written, 1 a fault, 2 the command line is refused, 3 `missing` or `empty`.
 
 Example: alcrs follow bulletin.session received.txt --tsi 7 --toi 1
 Example: cat bulletin.session | alcrs follow /dev/stdin received.txt --tsi 7 --toi 1";
 
 pub(crate) const TWIN: &str = "Prints one of these lines:
-  twin block B have H need K  the other object was written: block B needs K symbols, and has H different ones
+  twin block B have H need K  the other object was written: block B has H of K symbols
   no twin                     no block is short
   no REASON                   `alcrs check` says no for another reason
 Blocks and places count from 0. Places are those of the whole session.

@@ -15,9 +15,10 @@ mod matched;
 mod requests;
 mod usage;
 
-pub use line::request;
+pub use line::command_line;
 pub use requests::{
-    CertifyRequest, CheckRequest, ConvertRequest, DecodeRequest, DropRequest, EncodeRequest,
-    FollowRequest, JoinRequest, Request, SalvageRequest, Sending, ShowRequest, Sizes, TwinRequest,
+    CertifyRequest, CheckRequest, CommandLine, ConvertRequest, DecodeRequest, DropRequest,
+    EncodeRequest, FollowRequest, JoinRequest, Output, Request, SalvageRequest, Sending,
+    ShowRequest, Sizes, TwinRequest,
 };
 pub use usage::Usage;

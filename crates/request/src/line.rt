@@ -5,8 +5,8 @@ ghost use Rattle.request.specs.Requests.{Answers};
 ghost use Rattle.request.specs.UsageOf.{IsUsageOf};
 
 use crate::grammar::grammar;
-use crate::matched::matched_request;
-use crate::requests::Request;
+use crate::matched::matched_line;
+use crate::requests::CommandLine;
 use crate::usage::Usage;
 use clap::Error;
 use clap::error::ErrorKind;
@@ -22,13 +22,13 @@ fn usage_of(error: Error) -> Usage
     }
 }
 
-/// The request that the words of a command line make, the first of which is the program's name. It
-/// borrows its texts from them. Any words may be given.
+/// What the words of a command line ask for, the first of which is the program's name. It borrows
+/// its texts from them. Any words may be given.
 ///
 /// An error is `Help` where the words ask for help or the version, `Line` where the grammar refuses
 /// them, and `NoMemory` where there is no memory.
-pub fn request<'a>(alloc: Global, words: &'a [&'a str]) -> Result<Request<'a>, Usage>
-    // The request that the grammar reads from the words where they have no fault, else why they are
+pub fn command_line<'a>(alloc: Global, words: &'a [&'a str]) -> Result<CommandLine<'a>, Usage>
+    // The command that the grammar reads from the words where they have no fault, else why they are
     // none; or no memory.
     ensures { (orders : _)
         × IsOrders orders
@@ -38,7 +38,7 @@ pub fn request<'a>(alloc: Global, words: &'a [&'a str]) -> Result<Request<'a>, U
         return Err(Usage::NoMemory);
     };
     match grammar.try_get_matches_from(words) {
-        Ok(matches) => matched_request(alloc, &matches),
+        Ok(matches) => matched_line(alloc, &matches),
         Err(error) => Err(usage_of(error)),
     }
 }

@@ -1,4 +1,4 @@
-//! Requests of what the grammar matched. The grammar lets no line through that lacks a value, so
+//! The line of what the grammar matched. The grammar lets no line through that lacks a value, so
 //! each is there.
 ghost use Rattle.std.specs.Prelude.{◌≡◌, ◌≤◌, Some, true, IfOk, codes, is_some, map, option_map};
 ghost use Rattle.std.specs.List.{AllZip};
@@ -9,11 +9,12 @@ ghost use Rattle.request.specs.Grammar.{identifiers, size_arguments};
 ghost use Rattle.request.specs.Narrow.{IsNarrow};
 ghost use Rattle.request.specs.Requests.{whose, size_values};
 ghost use Rattle.request.specs.Matching.{AreGiven, Gives, IsAsked, IsGiven, IsMatch, IsOrder};
-ghost use Rattle.request.specs.Matching.{IsOrderTold, IsTold, Reads, rows_in};
+ghost use Rattle.request.specs.Matching.{IsFlagGiven, IsOrderTold, IsTold, Reads, rows_in};
 
 use crate::requests::{
-    CertifyRequest, CheckRequest, ConvertRequest, DecodeRequest, DropRequest, EncodeRequest,
-    FollowRequest, JoinRequest, Request, SalvageRequest, Sending, ShowRequest, Sizes, TwinRequest,
+    CertifyRequest, CheckRequest, CommandLine, ConvertRequest, DecodeRequest, DropRequest,
+    EncodeRequest, FollowRequest, JoinRequest, Output, Request, SalvageRequest, Sending,
+    ShowRequest, Sizes, TwinRequest,
 };
 use crate::usage::Usage;
 use clap::ArgMatches;
@@ -111,177 +112,237 @@ fn sessions<'a>(alloc: Global, matches: &ArgMatches<'a>) -> Result<Vec<&'a str>,
 
 // Whether the flag was given.
 fn flag(matches: &ArgMatches<'_>, name: &str) -> bool
-    requires { (given : _) × (first_of name.now (rows_in matches.now) ≡ Some (flag_word given)) }
+    requires { IsFlagGiven name.now (rows_in matches.now) }
     ensures { first_of name.now (rows_in matches.now) ≡ Some (flag_word result) }
 {
     text(matches, name) == "true"
 }
 
-fn encode_request<'a>(matches: &ArgMatches<'a>) -> Request<'a>
+// The file to write.
+fn output<'a>(matches: &ArgMatches<'a>) -> Output<'a>
+    requires name { is_some (first_of (codes "OUT") (rows_in matches.now)) ≡ true }
+    requires flag { IsFlagGiven (codes "no-clobber") (rows_in matches.now) }
+    ensures name { first_of (codes "OUT") (rows_in matches.now) ≡ Some result.name.now }
+    ensures flag { first_of (codes "no-clobber") (rows_in matches.now)
+        ≡ Some (flag_word result.no_clobber) }
+{
+    Output {
+        name: text(matches, "OUT"),
+        no_clobber: flag(matches, "no-clobber"),
+    }
+}
+
+// The line with this request.
+fn line<'a>(matches: &ArgMatches<'a>, request: Request<'a>) -> CommandLine<'a>
+    requires { IsFlagGiven (codes "quiet") (rows_in matches.now) }
+    ensures request { result.request ≡ request.entry }
+    ensures flag { first_of (codes "quiet") (rows_in matches.now) ≡ Some (flag_word result.quiet) }
+{
+    CommandLine {
+        request,
+        quiet: flag(matches, "quiet"),
+    }
+}
+
+fn encode_line<'a>(matches: &ArgMatches<'a>) -> CommandLine<'a>
     requires { IsTold (Some (codes "encode", rows_in matches.now)) }
     ensures { IsAsked (codes "encode") (rows_in matches.now) result }
 {
-    Request::Encode(EncodeRequest {
-        object: text(matches, "OBJECT"),
-        output: text(matches, "OUT"),
-        sending: Sending {
-            identity: identity(matches),
-            sizes: sizes(matches),
-            fti_every: number::<u8>(matches, "fti-every"),
-            order: order(matches),
-        },
-    })
+    line(
+        matches,
+        Request::Encode(EncodeRequest {
+            object: text(matches, "OBJECT"),
+            output: output(matches),
+            sending: Sending {
+                identity: identity(matches),
+                sizes: sizes(matches),
+                fti_every: number::<u8>(matches, "fti-every"),
+                order: order(matches),
+            },
+        }),
+    )
 }
 
-fn certify_request<'a>(matches: &ArgMatches<'a>) -> Request<'a>
+fn certify_line<'a>(matches: &ArgMatches<'a>) -> CommandLine<'a>
     requires { IsTold (Some (codes "certify", rows_in matches.now)) }
     ensures { IsAsked (codes "certify") (rows_in matches.now) result }
 {
-    Request::Certify(CertifyRequest {
-        object: text(matches, "OBJECT"),
-        output: text(matches, "OUT"),
-        identity: identity(matches),
-        sizes: sizes(matches),
-    })
+    line(
+        matches,
+        Request::Certify(CertifyRequest {
+            object: text(matches, "OBJECT"),
+            output: output(matches),
+            identity: identity(matches),
+            sizes: sizes(matches),
+        }),
+    )
 }
 
-fn convert_request<'a>(matches: &ArgMatches<'a>) -> Request<'a>
+fn convert_line<'a>(matches: &ArgMatches<'a>) -> CommandLine<'a>
     requires { IsTold (Some (codes "convert", rows_in matches.now)) }
     ensures { IsAsked (codes "convert") (rows_in matches.now) result }
 {
-    Request::Convert(ConvertRequest {
-        certificate: text(matches, "IN"),
-        output: text(matches, "OUT"),
-        identity: identity(matches),
-    })
+    line(
+        matches,
+        Request::Convert(ConvertRequest {
+            certificate: text(matches, "IN"),
+            output: output(matches),
+            identity: identity(matches),
+        }),
+    )
 }
 
-fn check_request<'a>(matches: &ArgMatches<'a>) -> Request<'a>
+fn check_line<'a>(matches: &ArgMatches<'a>) -> CommandLine<'a>
     requires { IsTold (Some (codes "check", rows_in matches.now)) }
     ensures { IsAsked (codes "check") (rows_in matches.now) result }
 {
-    Request::Check(CheckRequest {
-        session: text(matches, "SESSION"),
-        object: text(matches, "OBJECT"),
-        certificate: text(matches, "CERT"),
-        identity: identity(matches),
-        picture: given_text(matches, "picture"),
-    })
+    line(
+        matches,
+        Request::Check(CheckRequest {
+            session: text(matches, "SESSION"),
+            object: text(matches, "OBJECT"),
+            certificate: text(matches, "CERT"),
+            identity: identity(matches),
+            picture: given_text(matches, "picture"),
+            no_clobber: flag(matches, "no-clobber"),
+        }),
+    )
 }
 
-fn drop_request<'a>(alloc: Global, matches: &ArgMatches<'a>) -> Result<Request<'a>, AllocError>
+fn drop_line<'a>(alloc: Global, matches: &ArgMatches<'a>) -> Result<CommandLine<'a>, AllocError>
     requires { IsTold (Some (codes "drop", rows_in matches.now)) }
     ensures { IfOk result (IsAsked (codes "drop") (rows_in matches.now)) }
 {
-    Ok(Request::Drop(DropRequest {
-        session: text(matches, "SESSION"),
-        output: text(matches, "OUT"),
-        places: places(alloc, matches)?,
-    }))
+    Ok(line(
+        matches,
+        Request::Drop(DropRequest {
+            session: text(matches, "SESSION"),
+            output: output(matches),
+            places: places(alloc, matches)?,
+        }),
+    ))
 }
 
-fn salvage_request<'a>(matches: &ArgMatches<'a>) -> Request<'a>
+fn salvage_line<'a>(matches: &ArgMatches<'a>) -> CommandLine<'a>
     requires { IsTold (Some (codes "salvage", rows_in matches.now)) }
     ensures { IsAsked (codes "salvage") (rows_in matches.now) result }
 {
-    Request::Salvage(SalvageRequest {
-        session: text(matches, "SESSION"),
-        output: text(matches, "OUT"),
-    })
+    line(
+        matches,
+        Request::Salvage(SalvageRequest {
+            session: text(matches, "SESSION"),
+            output: output(matches),
+        }),
+    )
 }
 
-fn join_request<'a>(alloc: Global, matches: &ArgMatches<'a>) -> Result<Request<'a>, AllocError>
+fn join_line<'a>(alloc: Global, matches: &ArgMatches<'a>) -> Result<CommandLine<'a>, AllocError>
     requires { IsTold (Some (codes "join", rows_in matches.now)) }
     ensures { IfOk result (IsAsked (codes "join") (rows_in matches.now)) }
 {
-    Ok(Request::Join(JoinRequest {
-        output: text(matches, "OUT"),
-        sessions: sessions(alloc, matches)?,
-        turns: flag(matches, "turns"),
-    }))
+    Ok(line(
+        matches,
+        Request::Join(JoinRequest {
+            output: output(matches),
+            sessions: sessions(alloc, matches)?,
+            turns: flag(matches, "turns"),
+        }),
+    ))
 }
 
-fn decode_request<'a>(matches: &ArgMatches<'a>) -> Request<'a>
+fn decode_line<'a>(matches: &ArgMatches<'a>) -> CommandLine<'a>
     requires { IsTold (Some (codes "decode", rows_in matches.now)) }
     ensures { IsAsked (codes "decode") (rows_in matches.now) result }
 {
-    Request::Decode(DecodeRequest {
-        session: text(matches, "SESSION"),
-        output: text(matches, "OUT"),
-        identity: identity(matches),
-    })
+    line(
+        matches,
+        Request::Decode(DecodeRequest {
+            session: text(matches, "SESSION"),
+            output: output(matches),
+            identity: identity(matches),
+        }),
+    )
 }
 
-fn follow_request<'a>(matches: &ArgMatches<'a>) -> Request<'a>
+fn follow_line<'a>(matches: &ArgMatches<'a>) -> CommandLine<'a>
     requires { IsTold (Some (codes "follow", rows_in matches.now)) }
     ensures { IsAsked (codes "follow") (rows_in matches.now) result }
 {
-    Request::Follow(FollowRequest {
-        session: text(matches, "SESSION"),
-        output: text(matches, "OUT"),
-        identity: identity(matches),
-    })
+    line(
+        matches,
+        Request::Follow(FollowRequest {
+            session: text(matches, "SESSION"),
+            output: output(matches),
+            identity: identity(matches),
+        }),
+    )
 }
 
-fn twin_request<'a>(matches: &ArgMatches<'a>) -> Request<'a>
+fn twin_line<'a>(matches: &ArgMatches<'a>) -> CommandLine<'a>
     requires { IsTold (Some (codes "twin", rows_in matches.now)) }
     ensures { IsAsked (codes "twin") (rows_in matches.now) result }
 {
-    Request::Twin(TwinRequest {
-        session: text(matches, "SESSION"),
-        object: text(matches, "OBJECT"),
-        certificate: text(matches, "CERT"),
-        output: text(matches, "OUT"),
-        identity: identity(matches),
-    })
+    line(
+        matches,
+        Request::Twin(TwinRequest {
+            session: text(matches, "SESSION"),
+            object: text(matches, "OBJECT"),
+            certificate: text(matches, "CERT"),
+            output: output(matches),
+            identity: identity(matches),
+        }),
+    )
 }
 
-fn show_request<'a>(matches: &ArgMatches<'a>) -> Request<'a>
+fn show_line<'a>(matches: &ArgMatches<'a>) -> CommandLine<'a>
     requires { IsTold (Some (codes "show", rows_in matches.now)) }
     ensures { IsAsked (codes "show") (rows_in matches.now) result }
 {
-    Request::Show(ShowRequest {
-        session: text(matches, "SESSION"),
-    })
+    line(
+        matches,
+        Request::Show(ShowRequest {
+            session: text(matches, "SESSION"),
+        }),
+    )
 }
 
-// The request of a command of this name.
-fn command_request<'a>(
+// The line of a command of this name.
+fn named_line<'a>(
     alloc: Global,
     name: &str,
     matches: &ArgMatches<'a>,
-) -> Result<Request<'a>, AllocError>
+) -> Result<CommandLine<'a>, AllocError>
     requires { IsTold (Some (name.now, rows_in matches.now)) }
     ensures { IfOk result (IsAsked name.now (rows_in matches.now)) }
 {
     Ok(match name {
-        "encode" => encode_request(matches),
-        "certify" => certify_request(matches),
-        "convert" => convert_request(matches),
-        "check" => check_request(matches),
-        "drop" => drop_request(alloc, matches)?,
-        "salvage" => salvage_request(matches),
-        "join" => join_request(alloc, matches)?,
-        "decode" => decode_request(matches),
-        "follow" => follow_request(matches),
-        "twin" => twin_request(matches),
-        "show" => show_request(matches),
+        "encode" => encode_line(matches),
+        "certify" => certify_line(matches),
+        "convert" => convert_line(matches),
+        "check" => check_line(matches),
+        "drop" => drop_line(alloc, matches)?,
+        "salvage" => salvage_line(matches),
+        "join" => join_line(alloc, matches)?,
+        "decode" => decode_line(matches),
+        "follow" => follow_line(matches),
+        "twin" => twin_line(matches),
+        "show" => show_line(matches),
         _ => unreachable!(),
     })
 }
 
-/// The request of what the grammar matched, which has a value of each argument of its command. An
+/// The line of what the grammar matched, which has a value of each argument of its command. An
 /// error is `NoMemory`.
-pub(crate) fn matched_request<'a>(
+pub(crate) fn matched_line<'a>(
     alloc: Global,
     matches: &ArgMatches<'a>,
-) -> Result<Request<'a>, Usage>
+) -> Result<CommandLine<'a>, Usage>
     requires { IsTold (subcommand_rows_of matches.now) }
     ensures { IsMatch (subcommand_rows_of matches.now) result }
 {
     let (name, values) = matches.subcommand().unwrap();
-    match command_request(alloc, name, values) {
-        Ok(request) => Ok(request),
+    match named_line(alloc, name, values) {
+        Ok(line) => Ok(line),
         Err(_) => Err(Usage::NoMemory),
     }
 }

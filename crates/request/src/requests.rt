@@ -34,6 +34,14 @@ pub struct Sending {
     ghost narrow: { IsNarrow identity },
 }
 
+/// The file that a command writes.
+#[derive(Clone, Copy, Debug, PartialEq, Eq)]
+pub struct Output<'a> {
+    pub name: &'a str,
+    /// Whether a file that is there under this name stays, and nothing is written.
+    pub no_clobber: bool,
+}
+
 /// Is the certificate one of the object and of the session's packets with this identity? With a
 /// picture, draw what may be missed.
 #[derive(Drop)]
@@ -43,6 +51,8 @@ pub struct CheckRequest<'a> {
     pub certificate: &'a str,
     pub identity: Identity,
     pub picture: Option<&'a str>,
+    /// Whether a file that is there under the picture's name stays.
+    pub no_clobber: bool,
     ghost narrow: { IsNarrow identity },
 }
 
@@ -53,7 +63,7 @@ pub struct TwinRequest<'a> {
     pub session: &'a str,
     pub object: &'a str,
     pub certificate: &'a str,
-    pub output: &'a str,
+    pub output: Output<'a>,
     pub identity: Identity,
     ghost narrow: { IsNarrow identity },
 }
@@ -68,7 +78,7 @@ pub struct ShowRequest<'a> {
 #[derive(Drop)]
 pub struct EncodeRequest<'a> {
     pub object: &'a str,
-    pub output: &'a str,
+    pub output: Output<'a>,
     pub sending: Sending,
 }
 
@@ -76,7 +86,7 @@ pub struct EncodeRequest<'a> {
 #[derive(Drop)]
 pub struct CertifyRequest<'a> {
     pub object: &'a str,
-    pub output: &'a str,
+    pub output: Output<'a>,
     pub identity: Identity,
     pub sizes: Sizes,
     ghost narrow: { IsNarrow identity },
@@ -86,7 +96,7 @@ pub struct CertifyRequest<'a> {
 #[derive(Drop)]
 pub struct ConvertRequest<'a> {
     pub certificate: &'a str,
-    pub output: &'a str,
+    pub output: Output<'a>,
     pub identity: Identity,
     ghost narrow: { IsNarrow identity },
 }
@@ -95,7 +105,7 @@ pub struct ConvertRequest<'a> {
 #[derive(Drop)]
 pub struct DecodeRequest<'a> {
     pub session: &'a str,
-    pub output: &'a str,
+    pub output: Output<'a>,
     pub identity: Identity,
     ghost narrow: { IsNarrow identity },
 }
@@ -104,7 +114,7 @@ pub struct DecodeRequest<'a> {
 #[derive(Drop)]
 pub struct FollowRequest<'a> {
     pub session: &'a str,
-    pub output: &'a str,
+    pub output: Output<'a>,
     pub identity: Identity,
     ghost narrow: { IsNarrow identity },
 }
@@ -113,7 +123,7 @@ pub struct FollowRequest<'a> {
 #[derive(Drop)]
 pub struct DropRequest<'a> {
     pub session: &'a str,
-    pub output: &'a str,
+    pub output: Output<'a>,
     pub places: Vec<usize>,
 }
 
@@ -121,14 +131,14 @@ pub struct DropRequest<'a> {
 #[derive(Drop)]
 pub struct SalvageRequest<'a> {
     pub session: &'a str,
-    pub output: &'a str,
+    pub output: Output<'a>,
 }
 
 /// Join the sessions: one after the other, or, with `turns`, one datagram of each in turn; one
 /// session or more.
 #[derive(Drop)]
 pub struct JoinRequest<'a> {
-    pub output: &'a str,
+    pub output: Output<'a>,
     pub sessions: Vec<&'a str>,
     pub turns: bool,
 }
@@ -148,4 +158,12 @@ pub enum Request<'a> {
     Drop(DropRequest<'a>),
     Salvage(SalvageRequest<'a>),
     Join(JoinRequest<'a>),
+}
+
+/// What a command line asks for.
+#[derive(Drop)]
+pub struct CommandLine<'a> {
+    pub request: Request<'a>,
+    /// Whether the sentences on standard error are left out.
+    pub quiet: bool,
 }

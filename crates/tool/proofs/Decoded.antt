@@ -10,7 +10,7 @@ use Rattle.decoder.specs.declared.answer.Answer.TheVariants.{Empty, Fault, Missi
 use Rattle.decoder.specs.declared.answer.DecodeFault.TheVariants.{Packet, OtherFti, SymbolLength, Range, Clash, NotCode}
 use Rattle.request.specs.declared.requests.DecodeRequest.{DecodeRequest}
 use Rattle.request.specs.declared.requests.Request.TheVariants.{Decode}
-use Rattle.tool.specs.World.{World, Replaces, one_more}
+use Rattle.tool.specs.World.{IsFree, World, Replaces, one_more}
 use Rattle.tool.specs.Inputs.{ASession, Datagrams, HasValue}
 use Rattle.tool.specs.Lines.{line_of, count_line, answer_text}
 use Rattle.tool.specs.Commands.{answer_status, object_of}
@@ -51,15 +51,16 @@ module _ (old new : World) (r : DecodeRequest) (ds : List (List ℕ)) (held : Ha
     silent = silent;
   }
 
-  pub object_decoded : (object : List ℕ) (count : ℕ) → IsAnswer r.identity ds (value.Object object) → count ≡ length object → Replaces old.files new.files r.output.now object
-      → new.created ≡ one_more old.created → (done : Done) → count_line (codes "object") count (codes " bytes") ≡ text_of done.told → 0 ≡ done.status → HasMade old new (Decode r) done
-  object_decoded object count is many replaced created done text status = record {
+  pub object_decoded : (object : List ℕ) (count : ℕ) → IsAnswer r.identity ds (value.Object object) → count ≡ length object → Replaces old.files new.files r.output.name.now object
+      → new.created ≡ one_more old.created → IsFree old.files r.output.name.now r.output.no_clobber
+      → (done : Done) → count_line (codes "object") count (codes " bytes") ≡ text_of done.told → 0 ≡ done.status → HasMade old new (Decode r) done
+  object_decoded object count is many replaced created free done text status = record {
     outcome = record { text = line_of (answer_text (value.Object object)); status = 0; output = Some object };
     makes = record {
       values = Datagrams ds ∷ [];
       read = (held, tt);
       gives = (value.Object object, is, (refl, refl, refl));
-      made = (replaced, created);
+      made = (replaced, created, free);
     };
     text = ap (λ (n : ℕ). count_line (codes "object") n (codes " bytes")) (sym many) ∙ text;
     status = status;

@@ -1,5 +1,5 @@
 -- Datagrams that come one by one, and one more.
-use Rattle.std.proofs.Common.{◌≡◌, ◌≢◌, ◌⊎◌, ◌≤◌, ◌+◌, ◌-◌, ◌^◌, ◌∙◌, ℕ, suc, List, [], ◌∷◌, ◌++◌, length, Option, Some, None, inl, inr, refl, sym, ap, subst, arith, append_assoc}
+use Rattle.std.proofs.Common.{◌≡◌, ◌≢◌, ◌⊎◌, ◌≤◌, ◌+◌, ◌-◌, ◌^◌, ◌∙◌, ℕ, suc, Bool, true, false, List, [], ◌∷◌, ◌++◌, length, Option, Some, None, Result, Ok, Err, IfOk, IfErr, OnOk, inl, inr, refl, sym, ap, subst, arith, append_assoc}
 use Rattle.std.proofs.lemmas.List.{append-nil, length-append}
 use Rattle.std.specs.Io.KnownBytes.{Consumes, Appends}
 use Rattle.session.specs.Frames.{frame, most_bytes}
@@ -23,14 +23,15 @@ use Rattle.decoder.specs.declared.receiver.FeedFault.TheVariants as feed
 use Rattle.decoder.specs.declared.receiver.Receiver.{Receiver}
 use Rattle.request.specs.declared.requests.FollowRequest.{FollowRequest}
 use Rattle.request.specs.declared.requests.Request.TheVariants.{Follow}
-use Rattle.tool.specs.World.{Files, World, KeepsFiles, MayFail, Replaces, one_more}
+use Rattle.tool.specs.World.{IsFree, Files, World, KeepsFiles, MayFail, Replaces, one_more}
 use Rattle.tool.specs.Inputs.{AStream, Opened, HasValue}
 use Rattle.tool.specs.Lines.{line_of, answer_text}
 use Rattle.tool.specs.Commands.{answer_status, object_of}
 use Rattle.tool.specs.Following.{refusal_line, complete_line, IsNotTaken, Comes, Come, IsHeard, ends_text, Ends}
 use Rattle.tool.specs.Outcomes.{Makes, IsDone, IsUnmade, IsBecause, MayCreate, IsStopped}
 use Rattle.tool.specs.Doing.{IsUndone}
-use Rattle.tool.specs.Listening.{HasMadeUp, HasHeardAll, HasHeardSome, IsCutBehind, IsUnheard, IsUnsaid, IsObjectMade, IsDelivered, IsUndelivered, TellsAnswer, heard_of}
+use Rattle.decoder.specs.declared.answer.DecodeFault.{DecodeFault}
+use Rattle.tool.specs.Listening.{AreSaid, IsFrameUnread, stopped_by, HasMadeUp, HasHeardAll, IsCutBehind, IsUnheard, IsUnsaid, IsObjectMade, IsDelivered, IsUndelivered, TellsAnswer, heard_of}
 use Rattle.tool.specs.declared.fault.Fault.{Fault}
 use Rattle.tool.specs.declared.fault.Fault.TheVariants.{Open, File, Memory, Frame, Certificate, Fti, Send}
 use Rattle.tool.specs.declared.fault.Stop.{Stop}
@@ -87,18 +88,57 @@ module _ (who : Identity) (opened a b : Option (List ℕ)) (taken : List (List �
   pub heard_refused : (fault : FeedFault) → IsNotTaken who taken d fault → IsHeard who opened b n taken (text ++ refusal_line count fault)
   heard_refused fault refused = heard_more taken (refusal_line count fault) (inr (refl, fault, refused, refl))
 
--- the line of a refused datagram wasn't printed, behind those of some that came
-pub line_unsaid : (who : Identity) (opened : Option (List ℕ)) (old mid new : World) (stop : Stop) → HasHeardSome who opened old mid → IsUnsaid mid new stop → IsUnheard who opened old new stop
-line_unsaid who opened old mid new (ByFault (Open name)) heard why = absurd why
-line_unsaid who opened old mid new (ByFault (File name)) heard why = absurd why
-line_unsaid who opened old mid new (ByFault Memory) heard why =
-    let (left, read, taken, lines, is, printed) = heard in
-    (left, read, taken, lines, is, subst (λ (o : Option (List ℕ)). Appends old.printed o lines) (sym why) printed)
-line_unsaid who opened old mid new (ByFault (Frame f)) heard why = absurd why
-line_unsaid who opened old mid new (ByFault (Certificate f)) heard why = absurd why
-line_unsaid who opened old mid new (ByFault (Fti f)) heard why = absurd why
-line_unsaid who opened old mid new (ByFault (Send f)) heard why = absurd why
-line_unsaid who opened old mid new Unprinted heard why = why
+-- lines, and one more
+pub then_said : (old mid new : World) (lines line : List ℕ) (p q : Bool) → AreSaid old mid lines p → AreSaid mid new line q → (q ≡ true → p ≡ true)
+    → AreSaid old new (lines ++ line) q
+then_said old mid new lines line p true first second all =
+    then_appends old.printed mid.printed new.printed lines line (subst (AreSaid old mid lines) (all refl) first) second
+then_said old mid new lines line p false first second all = second
+
+pub unsaid : (old new : World) (lines : List ℕ) (p : Bool) → AreSaid old new lines p → p ≡ false → new.failed ≡ true
+unsaid old new lines true said is = absurd (cc)
+unsaid old new lines false said is = said
+
+-- a datagram that was refused, by what the receiver tells of each fault
+pub refused_by : (who : Identity) (taken : List (List ℕ)) (d : List ℕ) (refusal : FeedFault) → refusal ≢ feed.NoMemory
+    → (refusal ≡ feed.Full → IsNotTaken who taken d feed.Full) → (refusal ≡ feed.Early → IsNotTaken who taken d feed.Early)
+    → ((fault : DecodeFault) → refusal ≡ feed.Fault fault → IsNotTaken who taken d (feed.Fault fault)) → IsNotTaken who taken d refusal
+refused_by who taken d (feed.Fault fault) some full early faulty = faulty fault refl
+refused_by who taken d feed.Full some full early faulty = full refl
+refused_by who taken d feed.Early some full early faulty = early refl
+refused_by who taken d feed.NoMemory some full early faulty = absurd (some refl)
+
+-- no more is read, as there is no memory, or no frame
+pub stopped_memory : (who : Identity) (opened : Option (List ℕ)) (old new : World) (left : Option (List ℕ)) (read : ℕ) (taken : List (List ℕ)) (lines : List ℕ) (said : Bool)
+    → IsHeard who opened left read taken lines → AreSaid old new lines said → IsUnheard who opened old new (stopped_by Memory said)
+stopped_memory who opened old new left read taken lines true is printed = (left, read, taken, lines, is, printed)
+stopped_memory who opened old new left read taken lines false is failed = failed
+
+pub stopped_frame : (who : Identity) (opened : Option (List ℕ)) (old new : World) (left rest : Option (List ℕ)) (failed : Bool) (read : ℕ) (taken : List (List ℕ)) (lines : List ℕ) (said : Bool)
+    → IsHeard who opened left read taken lines → AreSaid old new lines said → (fault : Fault) → IsFrameUnread left rest failed fault
+    → IsUnheard who opened old new (stopped_by fault said)
+stopped_frame who opened old new left rest failed read taken lines false is none fault why = none
+stopped_frame who opened old new left rest failed read taken lines true is printed Memory why = (left, read, taken, lines, is, printed)
+stopped_frame who opened old new left rest failed read taken lines true is printed (Frame frame_fault.NoMemory) why = absurd why
+stopped_frame who opened old new left rest failed read taken lines true is printed (Frame frame_fault.Io) why = (left, rest, failed, read, taken, lines, is, why, printed)
+stopped_frame who opened old new left rest failed read taken lines true is printed (Frame frame_fault.CutLength) why = (left, rest, failed, read, taken, lines, is, why, printed)
+stopped_frame who opened old new left rest failed read taken lines true is printed (Frame frame_fault.CutDatagram) why = (left, rest, failed, read, taken, lines, is, why, printed)
+stopped_frame who opened old new left rest failed read taken lines true is printed (Frame frame_fault.TooLong) why = (left, rest, failed, read, taken, lines, is, why, printed)
+stopped_frame who opened old new left rest failed read taken lines true is printed (Frame (frame_fault.NoSuchPlace p)) why = (left, rest, failed, read, taken, lines, is, why, printed)
+stopped_frame who opened old new left rest failed read taken lines true is printed (Open n) why = absurd why
+stopped_frame who opened old new left rest failed read taken lines true is printed (File n) why = absurd why
+stopped_frame who opened old new left rest failed read taken lines true is printed (Certificate e) why = absurd why
+stopped_frame who opened old new left rest failed read taken lines true is printed (Fti e) why = absurd why
+stopped_frame who opened old new left rest failed read taken lines true is printed (Send e) why = absurd why
+
+pub if_all : (result : Result ℕ Stop) (P Q : ℕ → Type 0) (said : Bool) → OnOk result (said ≡ true) → ((status : ℕ) → said ≡ true → P status → Q status) → IfOk result P → IfOk result Q
+if_all (Ok n) P Q said all f h = f n all h
+if_all (Err e) P Q said all f h = tt
+
+pub unless_all : (result : Result ℕ Stop) (P Q : Stop → Type 0) (said : Bool) → IfErr result (λ stop. stop ≢ Unprinted → said ≡ true)
+    → ((stop : Stop) → (stop ≢ Unprinted → said ≡ true) → P stop → Q stop) → IfErr result P → IfErr result Q
+unless_all (Ok n) P Q said told f h = tt
+unless_all (Err e) P Q said told f h = f e told h
 
 -- ---- how following ends
 
@@ -130,7 +170,7 @@ module _ (old : World) (r : FollowRequest) (opened : Option (List ℕ)) (held : 
     unheard Unprinted why fails = record { failed = why; done = inl (files.files, files.created) }
 
   -- ---- the object
-  module _ (mid : World) (files : KeepsFiles old mid) (receiver : Receiver) (same : receiver.identity ≡ r.identity) (read : ℕ) (made : HasMadeUp receiver opened old mid read) where
+  module _ (mid : World) (files : KeepsFiles old mid) (receiver : Receiver) (same : receiver.identity ≡ r.identity) (read : ℕ) (said : Bool) (made : HasMadeUp receiver opened old mid read said) where
     pub taken_are : List (List ℕ)
     taken_are = made.1
 
@@ -145,33 +185,42 @@ module _ (old : World) (r : FollowRequest) (opened : Option (List ℕ)) (held : 
 
     makes_so : (new : World) (object : List ℕ) → IsObjectMade r (heard_of receiver made.1 read) mid new object
         → Makes old new (Follow r) (record { text = made.2 ++ ends_text (value.Object object) read; status = 0; output = Some object })
-    makes_so new object (is, replaced, created) = record {
+    makes_so new object (is, (replaced, created, free)) = record {
       values = Opened opened ∷ [];
       read = (held, tt);
       gives = (made.0, read, made.1, made.2, value.Object object, heard_so, subst (λ (who : Identity). IsAnswer who made.1 (value.Object object)) same is, tt, (refl, refl, refl));
-      made = (subst (λ (fs : Option Files). Replaces fs new.files r.output.now object) files.files replaced, created ∙ ap one_more files.created);
+      made = (
+        subst (λ (fs : Option Files). Replaces fs new.files r.output.name.now object) files.files replaced,
+        created ∙ ap one_more files.created,
+        subst (λ (fs : Option Files). IsFree fs r.output.name.now r.output.no_clobber) files.files free,
+      );
     }
 
-    pub is_delivered : (new : World) (status : ℕ) → IsDelivered r (heard_of receiver made.1 read) mid new status → IsDone old new (Follow r) status
-    is_delivered new status (object, is, printed, done) = record {
+    lines_said : said ≡ true → Appends old.printed mid.printed made.2
+    lines_said is = subst (AreSaid old mid made.2) is made.6
+
+    pub is_delivered : (new : World) (status : ℕ) → said ≡ true → IsDelivered r (heard_of receiver made.1 read) mid new status → IsDone old new (Follow r) status
+    is_delivered new status all (object, is, printed, done) = record {
       outcome = record { text = made.2 ++ ends_text (value.Object object) read; status = 0; output = Some object };
       makes = makes_so new object is;
-      printed = then_appends old.printed mid.printed new.printed made.2 (ends_text (value.Object object) read) made.6 printed;
+      printed = then_appends old.printed mid.printed new.printed made.2 (ends_text (value.Object object) read) (lines_said all) printed;
       is_status = done;
     }
 
     may_here : MayCreate old.files (Follow r)
     may_here = (opened, held, made.0, read, made.1, made.2, heard_so, full_so)
 
-    before_object : (new : World) → Appends mid.printed new.printed (complete_line read) → Appends old.printed new.printed (made.2 ++ complete_line read)
-    before_object new printed = then_appends old.printed mid.printed new.printed made.2 (complete_line read) made.6 printed
+    before_object : (new : World) → said ≡ true → Appends mid.printed new.printed (complete_line read) → Appends old.printed new.printed (made.2 ++ complete_line read)
+    before_object new all printed = then_appends old.printed mid.printed new.printed made.2 (complete_line read) (lines_said all) printed
 
-    pub is_undelivered : (new : World) (stop : Stop) → IsUndelivered r (heard_of receiver made.1 read) mid new stop → IsUndone old new (Follow r) stop
-    is_undelivered new Unprinted (failed, inl (same_files, none)) = record { failed = failed; done = inl (same_files ∙ files.files, none ∙ files.created) }
-    is_undelivered new Unprinted (failed, inr (object, is)) = record { failed = failed; done = inr (_, makes_so new object is) }
-    is_undelivered new (ByFault fault) (why, printed) = (
+    pub is_undelivered : (new : World) (stop : Stop) → (stop ≢ Unprinted → said ≡ true) → IsUndelivered r (heard_of receiver made.1 read) mid new stop → IsUndone old new (Follow r) stop
+    is_undelivered new Unprinted told (failed, inl (object, is)) = record { failed = failed; done = inr (inl (_, makes_so new object is)) }
+    is_undelivered new Unprinted told (failed, inr (same_files, inl none)) = record { failed = failed; done = inl (same_files ∙ files.files, none ∙ files.created) }
+    is_undelivered new Unprinted told (failed, inr (same_files, inr one)) =
+        record { failed = failed; done = inr (inr (same_files ∙ files.files, one ∙ ap one_more files.created, may_here)) }
+    is_undelivered new (ByFault fault) told (why, printed) = (
       made.2 ++ complete_line read,
-      before_object new printed,
+      before_object new (told (λ e. absurd (cc))) printed,
       record {
         because = unwritten_so fault (why.because (subst (λ (fs : Option Files). MayCreate fs (Follow r)) (sym files.files) may_here));
         before = inr (opened, held, (made.0, read, made.1, made.2, heard_so, inr (full_so, refl)));
@@ -189,7 +238,7 @@ module _ (old : World) (r : FollowRequest) (opened : Option (List ℕ)) (held : 
         unwritten_so fault (inr unmade) = by_unmade old new (Follow r) (made.2 ++ complete_line read) fault (unmade_before old mid new (Follow r) files fault unmade)
 
   -- ---- what lacks
-  module _ (mid : World) (files : KeepsFiles old mid) (receiver : Receiver) (same : receiver.identity ≡ r.identity) (heard : HasHeardAll receiver opened old mid) where
+  module _ (mid : World) (files : KeepsFiles old mid) (receiver : Receiver) (same : receiver.identity ≡ r.identity) (heard : HasHeardAll receiver opened old mid true) where
     no_object : (object : List ℕ) → IsAnswer receiver.identity heard.2 (value.Object object) → ⊥
     no_object object h =
         let (f, clean, solvable, full, fits) = h.answers in

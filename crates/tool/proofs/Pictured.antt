@@ -1,5 +1,5 @@
 -- What came of a check, by what was told of it.
-use Rattle.std.proofs.Common.{◌≡◌, ℕ, List, [], ◌∷◌, Option, Some, None, Bor, option_map, ap, refl, sym, subst}
+use Rattle.std.proofs.Common.{◌≡◌, ℕ, Bool, List, [], ◌∷◌, Option, Some, None, Bor, option_map, ap, refl, sym, subst}
 use Rattle.reception.specs.declared.scope.Identity.{Identity}
 use Rattle.cert.specs.Certificate.{Certificate}
 use Rattle.cert.specs.Surveying.{IsSurveyedFrom}
@@ -10,7 +10,8 @@ use Rattle.request.specs.declared.requests.CheckRequest.{CheckRequest}
 use Rattle.request.specs.declared.requests.Request.TheVariants.{Check}
 use Rattle.tool.specs.declared.done.Done.{Done}
 use Rattle.tool.specs.declared.drawing.Drawn.{Drawn}
-use Rattle.tool.specs.World.{World, Replaces, one_more}
+use Rattle.request.specs.declared.requests.Output.{Output}
+use Rattle.tool.specs.World.{World, IsFree, Replaces, one_more}
 use Rattle.tool.specs.Inputs.{Value, Opened, Bytes, Polynomials}
 use Rattle.tool.specs.Commands.{Outcome, Gives, IsDrawn, output_of}
 use Rattle.tool.specs.Outcomes.{IsOutput, MayCreate}
@@ -25,19 +26,23 @@ has_survey who old new object z (Yes report, Some survey) h = tt
 has_survey who old new object z (Yes report, None) h = absurd h.surveyed
 has_survey who old new object z (No reason, survey) h = tt
 
+-- an output of this name
+abbrev pub output_named : Bool → Bor (List ℕ) → Output
+output_named no_clobber name = record { name = name; no_clobber = no_clobber }
+
 -- what was drawn was asked for, and is a picture
-asked : (p : Option (Bor (List ℕ))) (v : Verdict) (drawn : Drawn) → HasDrawn p v (Some drawn)
-    → (option_map (λ name. name.now) p ≡ Some drawn.name.now) × ((bytes : List ℕ) → IsDrawn p v (Some bytes))
-asked (Some name) (Yes report) drawn h = (ap Some (sym h), λ bytes. refl)
-asked (Some name) (No reason) drawn h = absurd (cc)
-asked None v drawn h = absurd (cc)
+asked : (p : Option (Bor (List ℕ))) (no_clobber : Bool) (v : Verdict) (drawn : Drawn) → HasDrawn p v (Some drawn)
+    → (option_map (output_named no_clobber) p ≡ Some (output_named no_clobber drawn.name)) × ((bytes : List ℕ) → IsDrawn p v (Some bytes))
+asked (Some name) no_clobber (Yes report) drawn h = (ap (λ n. Some (output_named no_clobber n)) (sym h), λ bytes. refl)
+asked (Some name) no_clobber (No reason) drawn h = absurd (cc)
+asked None no_clobber v drawn h = absurd (cc)
 
 undrawn : (p : Option (Bor (List ℕ))) (v : Verdict) → HasDrawn p v None → IsDrawn p v None
 undrawn (Some name) (Yes report) h = absurd h
 undrawn (Some name) (No reason) h = refl
 undrawn None v h = refl
 
-no_output : (old new : World) (name : Option (List ℕ)) → new.files ≡ old.files → new.created ≡ old.created → IsOutput old new name None
+no_output : (old new : World) (name : Option Output) → new.files ≡ old.files → new.created ≡ old.created → IsOutput old new name None
 no_output old new None files created = (files, created)
 no_output old new (Some name) files created = (files, created)
 
@@ -48,8 +53,8 @@ module _ (old new : World) (r : CheckRequest) (done : Done) (drawn : Drawn) (tel
   abbrev values : List Value
   values = Opened tells.opened ∷ Bytes tells.object ∷ Polynomials tells.z ∷ []
 
-  pub named : output_of (Check r) ≡ Some drawn.name.now
-  named = (asked r.picture tells.tells.verdict drawn tells.tells.picture).0
+  pub named : output_of (Check r) ≡ Some (output_named r.no_clobber drawn.name)
+  named = (asked r.picture r.no_clobber tells.tells.verdict drawn tells.tells.picture).0
 
   gives : (bytes : List ℕ) → Gives (Check r) values (outcome bytes)
   gives bytes = (
@@ -58,21 +63,21 @@ module _ (old new : World) (r : CheckRequest) (done : Done) (drawn : Drawn) (tel
     tells.tells.checked,
     tells.tells.text,
     tells.tells.status,
-    (asked r.picture tells.tells.verdict drawn tells.tells.picture).1 bytes,
+    (asked r.picture r.no_clobber tells.tells.verdict drawn tells.tells.picture).1 bytes,
   )
 
   pub may_draw : MayCreate old.files (Check r)
   may_draw = (values, outcome [], [], tells.read, gives [], refl)
 
-  pub pictured : (bytes : List ℕ) → Replaces old.files new.files drawn.name.now bytes → new.created ≡ one_more old.created → new.printed ≡ old.printed
+  pub pictured : (bytes : List ℕ) → Replaces old.files new.files drawn.name.now bytes → new.created ≡ one_more old.created → IsFree old.files drawn.name.now r.no_clobber → new.printed ≡ old.printed
       → HasMade old new (Check r) done
-  pictured bytes replaced created silent = record {
+  pictured bytes replaced created free silent = record {
     outcome = outcome bytes;
     makes = record {
       values = values;
       read = tells.read;
       gives = gives bytes;
-      made = subst (λ (n : Option (List ℕ)). IsOutput old new n (Some bytes)) (sym named) (replaced, created);
+      made = subst (λ (n : Option Output). IsOutput old new n (Some bytes)) (sym named) (replaced, created, free);
     };
     text = refl;
     status = refl;

@@ -3,9 +3,10 @@ use Rattle.std.proofs.Common.{◌≡◌, ◌⊎◌, ◌∙◌, ℕ, List, [], Op
 use Rattle.std.specs.Prelude.{IfSome, IfErr, IsErrAnd}
 use Rattle.std.specs.Io.KnownBytes.{Appends}
 use Rattle.std.proofs.KnownBytes.{Appends-nil}
+use Rattle.request.specs.declared.requests.Output.{Output}
 use Rattle.request.specs.declared.requests.Request.{Request}
 use Rattle.request.specs.declared.requests.Request.TheVariants.{Check, Twin, Show, Encode, Certify, Convert, Decode, Follow, Drop, Salvage, Join}
-use Rattle.tool.specs.World.{Files, World, MayFail, KeepsFiles, IsSilent, Replaces, one_more}
+use Rattle.tool.specs.World.{Files, World, IsToStay, MayFail, KeepsFiles, IsSilent, Replaces, one_more}
 use Rattle.tool.specs.Commands.{output_of, Refuses}
 use Rattle.tool.specs.Outcomes.{IsUnmade, IsUnhad, IsBecause, BeginsText, MayCreate}
 use Rattle.tool.specs.Doing.{HasStopped, IsUncreated, IsUncommitted, IsUndone, IsUnkept}
@@ -61,15 +62,15 @@ pub may_fail : (old mid : World) → mid.files ≡ old.files → IsSilent old mi
 may_fail old mid files silent (inl untold) = inl (sym files ∙ untold)
 may_fail old mid files silent (inr fallible) = inr (sym silent.fallible ∙ fallible)
 
-module _ (old mid : World) (r : Request) (name : List ℕ) (is : output_of r ≡ Some name) (files : mid.files ≡ old.files) (silent : IsSilent old mid) where
-  pub uncreated : (fault : Fault) → mid.created ≡ old.created → MayCreate old.files r → IsUncreated old name fault → HasStopped old mid r fault
+module _ (old mid : World) (r : Request) (output : Output) (is : output_of r ≡ Some output) (files : mid.files ≡ old.files) (silent : IsSilent old mid) where
+  pub uncreated : (fault : Fault) → mid.created ≡ old.created → MayCreate old.files r → IsUncreated old output fault → HasStopped old mid r fault
   uncreated fault created may why = record {
     stopped = record { because = reason fault why; before = begins_nothing old.files r; files = files; created = inl created };
     silent = silent.printed;
   }
     where
-      reason : (fault : Fault) → IsUncreated old name fault → IsBecause old mid r [] fault
-      reason (Open created_name) why = by_unmade old mid r [] (Open created_name) (why.1, is ∙ ap Some (sym why.0), may, created)
+      reason : (fault : Fault) → IsUncreated old output fault → IsBecause old mid r [] fault
+      reason (Open created_name) why = by_unmade old mid r [] (Open created_name) (output, is, why.0, why.1, may, created)
       reason (File n) why = absurd why
       reason Memory why = tt
       reason (Frame e) why = absurd why
@@ -113,10 +114,10 @@ passed_on (Ok a) e P h p = tt
 passed_on (Err x) e P h p = subst P (sym h) p
 
 -- a file that was to be made of bytes
-pub unkept : (old new : World) (r : Request) (name : List ℕ) → output_of r ≡ Some name → new.files ≡ old.files → IsSilent old new → MayCreate old.files r
-    → (failure told : Fault) → (MayFail old → new.created ≡ one_more old.created → IsUnmade old new r failure) → IsUnkept old new name failure told → HasStopped old new r told
-unkept old new r name is files silent may failure told tells (inl (why, created)) = uncreated old new r name is files silent told created may why
-unkept old new r name is files silent may failure told tells (inr (inl none, created)) = record {
+pub unkept : (old new : World) (r : Request) (output : Output) → output_of r ≡ Some output → new.files ≡ old.files → IsSilent old new → MayCreate old.files r
+    → (failure told : Fault) → (MayFail old → new.created ≡ one_more old.created → IsUnmade old new r failure) → IsUnkept old new output failure told → HasStopped old new r told
+unkept old new r output is files silent may failure told tells (inl (why, created)) = uncreated old new r output is files silent told created may why
+unkept old new r output is files silent may failure told tells (inr (inl none, created)) = record {
   stopped = record {
     because = subst (λ (f : Fault). IsBecause old new r [] f) (sym none) tt;
     before = begins_nothing old.files r;
@@ -125,7 +126,7 @@ unkept old new r name is files silent may failure told tells (inr (inl none, cre
   };
   silent = silent.printed;
 }
-unkept old new r name is files silent may failure told tells (inr (inr (same, fails), created)) = record {
+unkept old new r output is files silent may failure told tells (inr (inr (same, fails), created)) = record {
   stopped = record {
     because = subst (λ (f : Fault). IsBecause old new r [] f) (sym same) (by_unmade old new r [] failure (tells fails created));
     before = begins_nothing old.files r;
@@ -141,8 +142,17 @@ may_fail_before old mid files (inr fallible) = inr (sym files.fallible ∙ falli
 
 -- why an output isn't made, by a world with the same files before it
 pub unmade_before : (old mid new : World) (r : Request) → KeepsFiles old mid → (fault : Fault) → IsUnmade mid new r fault → IsUnmade old new r fault
-unmade_before old mid new r files (Open n) (may, is, create, created) =
-    (may_fail_before old mid files may, is, subst (λ (f : Option Files). MayCreate f r) files.files create, created ∙ files.created)
+unmade_before old mid new r files (Open n) (output, is, named, why, create, created) = (
+  output,
+  is,
+  named,
+  elim why [
+    | inl may ↦ inl (may_fail_before old mid files may)
+    | inr stays ↦ inr (subst (λ (f : Option Files). IsToStay f output.name.now output.no_clobber) files.files stays)
+  ],
+  subst (λ (f : Option Files). MayCreate f r) files.files create,
+  created ∙ files.created,
+)
 unmade_before old mid new r files (File n) (may, is, created) = (may_fail_before old mid files may, is, created ∙ ap one_more files.created)
 unmade_before old mid new r files Memory (may, is, created) = (may_fail_before old mid files may, is, created ∙ ap one_more files.created)
 unmade_before old mid new r files (Frame e) (may, is, created) = (may_fail_before old mid files may, is, created ∙ ap one_more files.created)

@@ -14,7 +14,7 @@ use Rattle.tool.specs.declared.twin.Inputs.{Inputs}
 use Rattle.tool.specs.declared.twin.Answered.{Answered}
 use Rattle.tool.specs.declared.done.Done.{Done}
 use Rattle.tool.specs.declared.done.Told.TheVariants.{Lines}
-use Rattle.tool.specs.World.{Files, World, Replaces, one_more}
+use Rattle.tool.specs.World.{IsFree, Files, World, Replaces, one_more}
 use Rattle.tool.specs.Inputs.{Value, Datagrams, Bytes, Polynomials}
 use Rattle.tool.specs.Lines.{verdict_text}
 use Rattle.tool.specs.Commands.{Outcome, GivesTwin}
@@ -111,15 +111,16 @@ module _ (files : Option Files) (r : TwinRequest) (inputs : Inputs) (given : Giv
   gives_none (No NoCarrier, judged, (spelled, none)) = (No NoCarrier, judged, (spelled, refl, refl))
 
 module _ (old new : World) (r : TwinRequest) (inputs : Inputs) (given : GivesInputs old.files r inputs) (line : List ℕ) (silent : new.printed ≡ old.printed) where
-  pub twinned : (twin : Vec ℕ Global) → TellsTwin r.identity inputs (record { line = line; other = Some twin }) → Replaces old.files new.files r.output.now twin.items
-      → new.created ≡ one_more old.created → (done : Done) → done.told ≡ Lines line → done.status ≡ 0 → HasMade old new (Twin r) done
-  twinned twin tells replaced created done told status = record {
+  pub twinned : (twin : Vec ℕ Global) → TellsTwin r.identity inputs (record { line = line; other = Some twin }) → Replaces old.files new.files r.output.name.now twin.items
+      → new.created ≡ one_more old.created → IsFree old.files r.output.name.now r.output.no_clobber
+      → (done : Done) → done.told ≡ Lines line → done.status ≡ 0 → HasMade old new (Twin r) done
+  twinned twin tells replaced created free done told status = record {
     outcome = record { text = line; status = 0; output = Some twin.items };
     makes = record {
       values = Datagrams inputs.session ∷ Bytes inputs.object.items ∷ Polynomials inputs.certificate ∷ [];
       read = given;
       gives = gives_twin old.files r inputs given line twin tells;
-      made = (replaced, created);
+      made = (replaced, created, free);
     };
     text = ap text_of (sym told);
     status = sym status;

@@ -4,7 +4,7 @@ use Rattle.std.specs.Borrow.{Bor}
 use Rattle.std.specs.Io.KnownBytes.{Appends}
 use Rattle.request.specs.Grammar.{IsOrders}
 use Rattle.request.specs.Requests.{Answers}
-use Rattle.request.specs.declared.requests.Request.{Request}
+use Rattle.request.specs.declared.requests.CommandLine.{CommandLine}
 use Rattle.request.specs.declared.usage.Usage.{Usage}
 use Rattle.request.specs.declared.usage.Usage.TheVariants.{Help, Line, NoMemory}
 use Rattle.tool.specs.World.{World, KeepsFiles}
@@ -50,13 +50,14 @@ abbrev pub Explains : Usage → World → World → Errors → ℕ → Type 0
 Explains usage old new errors status = KeepsFiles old new × IsExplained usage old new errors status
 
 -- what was done with the request that the words make, if they do; else nothing, and why was told
-abbrev pub IsOutcomeOf : Result Request Usage → World → World → Errors → ℕ → Type 0
-IsOutcomeOf (Ok request) old new errors status = IsRun old new request status × HasNoErrors errors
+abbrev pub IsOutcomeOf : Result CommandLine Usage → World → World → Errors → ℕ → Type 0
+IsOutcomeOf (Ok line) old new errors status =
+    IsRun old new line.request status × HasNoErrors errors
 IsOutcomeOf (Err usage) old new errors status = Explains usage old new errors status
 
 -- the answer to the words, by what the grammar makes of them
 pub record IsAnswer (words : List (Bor (List ℕ))) (old new : World) (errors : Errors)
     (status : ℕ) : Type 0 where
-  pub result : Result Request Usage
+  pub result : Result CommandLine Usage
   pub read : (orders : _) × IsOrders orders × Answers orders (map (λ word. word.now) words) result
   pub outcome : IsOutcomeOf result old new errors status

@@ -28,6 +28,7 @@ use Rattle.coder.specs.Sending.{most_symbol_bytes, CanBeSent, IsSessionOf, pairs
 use Rattle.coder.specs.Certified.{CertifiesSent}
 use Rattle.coder.specs.declared.sending.SendFault.TheVariants.{SymbolTooLong, Io as SendIo}
 use Rattle.request.specs.declared.requests.Sizes.{Sizes}
+use Rattle.request.specs.declared.requests.Output.{Output}
 use Rattle.request.specs.declared.requests.Sending.{Sending}
 use Rattle.request.specs.declared.requests.Request.{Request}
 use Rattle.request.specs.declared.requests.Request.TheVariants.{Check, Twin, Show, Encode, Certify}
@@ -59,19 +60,20 @@ inputs_of (Drop r) = ASession r.session.now ∷ []
 inputs_of (Salvage r) = AStream r.session.now ∷ []
 inputs_of (Join r) = map (λ session. ASession session.now) r.sessions.items
 
--- the name of its output, where it has one, and the fault that tells that writing has failed
-abbrev pub output_of : Request → Option (List ℕ)
-output_of (Check r) = option_map (λ name. name.now) r.picture
-output_of (Twin r) = Some r.output.now
+-- its output, where it has one, and the fault that tells that writing has failed
+abbrev pub output_of : Request → Option Output
+output_of (Check r) =
+    option_map (λ name. record { name = name; no_clobber = r.no_clobber }) r.picture
+output_of (Twin r) = Some r.output
 output_of (Show r) = None
-output_of (Encode r) = Some r.output.now
-output_of (Certify r) = Some r.output.now
-output_of (Convert r) = Some r.output.now
-output_of (Decode r) = Some r.output.now
-output_of (Follow r) = Some r.output.now
-output_of (Drop r) = Some r.output.now
-output_of (Salvage r) = Some r.output.now
-output_of (Join r) = Some r.output.now
+output_of (Encode r) = Some r.output
+output_of (Certify r) = Some r.output
+output_of (Convert r) = Some r.output
+output_of (Decode r) = Some r.output
+output_of (Follow r) = Some r.output
+output_of (Drop r) = Some r.output
+output_of (Salvage r) = Some r.output
+output_of (Join r) = Some r.output
 
 abbrev pub IsWriteFault : Request → Fault → Type 0
 IsWriteFault (Encode r) fault = fault ≡ Send SendIo
@@ -80,10 +82,11 @@ IsWriteFault (Convert r) fault = fault ≡ NoCertificate CertificateIo
 IsWriteFault (Drop r) fault = fault ≡ Frame FrameIo
 IsWriteFault (Salvage r) fault = fault ≡ Frame FrameIo
 IsWriteFault (Join r) fault = fault ≡ Frame FrameIo
-IsWriteFault (Check r) (File name) = option_map (λ picture. picture.now) r.picture ≡ Some name.now
-IsWriteFault (Twin r) (File name) = name.now ≡ r.output.now
-IsWriteFault (Decode r) (File name) = name.now ≡ r.output.now
-IsWriteFault (Follow r) (File name) = name.now ≡ r.output.now
+IsWriteFault (Check r) (File name) =
+    option_map (λ output. output.name.now) (output_of (Check r)) ≡ Some name.now
+IsWriteFault (Twin r) (File name) = name.now ≡ r.output.name.now
+IsWriteFault (Decode r) (File name) = name.now ≡ r.output.name.now
+IsWriteFault (Follow r) (File name) = name.now ≡ r.output.name.now
 IsWriteFault r fault = ⊥
 
 -- ---- what comes of it

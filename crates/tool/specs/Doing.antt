@@ -1,7 +1,8 @@
 -- What a command has done, before it is told.
 use Rattle.std.specs.Prelude.{◌≡◌, ◌⊎◌, ℕ, List, [], Result, Err}
+use Rattle.request.specs.declared.requests.Output.{Output}
 use Rattle.request.specs.declared.requests.Request.{Request}
-use Rattle.tool.specs.World.{World, MayFail, one_more}
+use Rattle.tool.specs.World.{World, IsToStay, MayFail, one_more}
 use Rattle.tool.specs.Lines.{count_line}
 use Rattle.tool.specs.Commands.{Outcome}
 use Rattle.tool.specs.Outcomes.{Makes, MayCreate, IsUnmade, IsStopped, IsUnprinted}
@@ -40,10 +41,11 @@ IsUndone old new r (ByFault fault) =
 IsUndone old new r Unprinted = IsUnprinted old new r
 
 -- why an output isn't created
-abbrev pub IsUncreated : World → List ℕ → Fault → Type 0
-IsUncreated world name (Open created) = (created.now ≡ name) × MayFail world
-IsUncreated world name Memory = Unit {0}
-IsUncreated world name fault = ⊥
+abbrev pub IsUncreated : World → Output → Fault → Type 0
+IsUncreated world output (Open name) = (name.now ≡ output.name.now)
+    × (MayFail world ⊎ IsToStay world.files output.name.now output.no_clobber)
+IsUncreated world output Memory = Unit {0}
+IsUncreated world output fault = ⊥
 
 -- Why what was to be written isn't kept: for the fault of what was written, or as writing or
 -- keeping has failed, which this fault tells where it isn't want of memory.
@@ -52,9 +54,9 @@ IsUncommitted world (Err (unwritten.Fault fault)) failure told = told ≡ fault
 IsUncommitted world written failure told = (told ≡ Memory) ⊎ ((told ≡ failure) × MayFail world)
 
 -- why a file wasn't made, and how many outputs were created
-abbrev pub IsUnkept : World → World → List ℕ → Fault → Fault → Type 0
-IsUnkept old new name failure told =
-    (IsUncreated old name told × (new.created ≡ old.created))
+abbrev pub IsUnkept : World → World → Output → Fault → Fault → Type 0
+IsUnkept old new output failure told =
+    (IsUncreated old output told × (new.created ≡ old.created))
     ⊎ (((told ≡ Memory) ⊎ ((told ≡ failure) × MayFail old)) × (new.created ≡ one_more old.created))
 
 -- the output of a request that was to be written, as it may be, isn't there

@@ -13,6 +13,6 @@ IsSurveyed verdict survey = ⊤
 
 -- a picture was drawn under its name, where one is asked for and the answer is yes
 abbrev pub HasDrawn : Option (Bor (List ℕ)) → Verdict → Option Drawn → Type 0
-HasDrawn (Some name) (Yes report) (Some drawn) = drawn.name.now ≡ name.now
+HasDrawn (Some name) (Yes report) (Some drawn) = drawn.name ≡ name
 HasDrawn (Some name) (Yes report) None = ⊥
 HasDrawn picture verdict drawn = drawn ≡ None

@@ -1,5 +1,5 @@
 -- What the parts of following a session do.
-use Rattle.std.specs.Prelude.{◌≡◌, ◌⊎◌, ◌++◌, ℕ, Bool, true, List, Option, length, ⊤}
+use Rattle.std.specs.Prelude.{◌≡◌, ◌⊎◌, ◌++◌, ℕ, Bool, true, false, List, Option, Some, length, ⊤}
 use Rattle.std.specs.Io.KnownBytes.{IsAtEnd, Appends}
 use Rattle.session.specs.Frames.{IsReadFault}
 use Rattle.session.specs.declared.frame.FrameFault.{FrameFault}
@@ -13,7 +13,8 @@ use Rattle.decoder.specs.declared.answer.Answer.{Answer}
 use Rattle.decoder.specs.declared.receiver.Receiver.{Receiver}
 use Rattle.request.specs.declared.requests.FollowRequest.{FollowRequest}
 use Rattle.request.specs.declared.requests.Request.TheVariants.{Follow}
-use Rattle.tool.specs.World.{World, Replaces, one_more}
+use Rattle.tool.specs.World.{World, one_more}
+use Rattle.tool.specs.Outcomes.{IsOutput}
 use Rattle.tool.specs.Lines.{line_of, answer_text}
 use Rattle.tool.specs.Commands.{answer_status}
 use Rattle.tool.specs.Following.{IsHeard, complete_line}
@@ -23,22 +24,33 @@ use Rattle.tool.specs.declared.fault.Fault.TheVariants.{Memory, Frame}
 use Rattle.tool.specs.declared.fault.Stop.{Stop}
 use Rattle.tool.specs.declared.fault.Stop.TheVariants.{ByFault, Unprinted}
 
--- the datagrams that were read gave the receiver the object; how many were
-abbrev pub HasMadeUp : Receiver → Option (List ℕ) → World → World → ℕ → Type 0
-HasMadeUp receiver opened old new read =
+-- these lines were printed; or printing has failed, and nothing is told of them
+abbrev pub AreSaid : World → World → List ℕ → Bool → Type 0
+AreSaid old new lines true = Appends old.printed new.printed lines
+AreSaid old new lines false = new.failed ≡ true
+
+-- a fault, if it can be told
+abbrev pub stopped_by : Fault → Bool → Stop
+stopped_by fault true = ByFault fault
+stopped_by fault false = Unprinted
+
+-- the datagrams that were read gave the receiver the object; how many were, and whether the lines
+-- were printed
+abbrev pub HasMadeUp : Receiver → Option (List ℕ) → World → World → ℕ → Bool → Type 0
+HasMadeUp receiver opened old new read said =
     (left : Option (List ℕ)) × (taken : List (List ℕ)) × (lines : List ℕ) × Stands receiver taken
     × LeaveNoneShort receiver.identity taken
     × IsHeard receiver.identity opened left read taken lines
-    × Appends old.printed new.printed lines
+    × AreSaid old new lines said
 
 -- all datagrams were read, and leave some block short
-abbrev pub HasHeardAll : Receiver → Option (List ℕ) → World → World → Type 0
-HasHeardAll receiver opened old new =
+abbrev pub HasHeardAll : Receiver → Option (List ℕ) → World → World → Bool → Type 0
+HasHeardAll receiver opened old new said =
     (left : Option (List ℕ)) × (read : ℕ) × (taken : List (List ℕ)) × (lines : List ℕ)
     × Stands receiver taken
     × (¬ LeaveNoneShort receiver.identity taken)
     × IsHeard receiver.identity opened left read taken lines × IsAtEnd left
-    × Appends old.printed new.printed lines
+    × AreSaid old new lines said
 
 -- some datagrams were read, and their lines printed
 abbrev pub HasHeardSome : Identity → Option (List ℕ) → World → World → Type 0
@@ -79,8 +91,7 @@ IsUnsaid old new Unprinted = new.failed ≡ true
 abbrev pub IsWritten : FollowRequest → Identity → List (List ℕ) → World → World → ℕ → Type 0
 IsWritten r who taken old new count =
     (object : List ℕ) × IsAnswer who taken (Object object)
-    × Replaces old.files new.files r.output.now object
-    × (new.created ≡ one_more old.created) × (count ≡ length object)
+    × IsOutput old new (Some r.output) (Some object) × (count ≡ length object)
 
 -- datagrams that give an object, and how many were read for them
 pub record Heard : Type 0 where
@@ -95,8 +106,7 @@ heard_of receiver taken read = record { identity = receiver.identity; taken = ta
 abbrev pub IsObjectMade : FollowRequest → Heard → World → World → List ℕ → Type 0
 IsObjectMade r heard old new object =
     IsAnswer heard.identity heard.taken (Object object)
-    × Replaces old.files new.files r.output.now object
-    × (new.created ≡ one_more old.created)
+    × IsOutput old new (Some r.output) (Some object)
 
 -- it was, and told after how many datagrams, and its length
 abbrev pub IsDelivered : FollowRequest → Heard → World → World → ℕ → Type 0
@@ -105,15 +115,16 @@ IsDelivered r heard old new status =
     × Appends old.printed new.printed
     (complete_line heard.read ++ line_of (answer_text (Object object))) × (status ≡ 0)
 
--- why not: the first line was printed, and the object isn't there; or printing has failed
+-- Why not: the first line was printed, and the object isn't there. Or printing has failed, and the
+-- object is there, or it isn't, for a fault that can't be told.
 abbrev pub IsUndelivered : FollowRequest → Heard → World → World → Stop → Type 0
 IsUndelivered r heard old new (ByFault fault) =
     IsUnwritten (Follow r) old new fault
     × Appends old.printed new.printed (complete_line heard.read)
 IsUndelivered r heard old new Unprinted =
     (new.failed ≡ true)
-    × (((new.files ≡ old.files) × (new.created ≡ old.created))
-    ⊎ ((object : List ℕ) × IsObjectMade r heard old new object))
+    × (((object : List ℕ) × IsObjectMade r heard old new object) ⊎ ((new.files ≡ old.files)
+    × ((new.created ≡ old.created) ⊎ (new.created ≡ one_more old.created))))
 
 -- the answer to these datagrams, which is no fault, was printed; its status
 abbrev pub TellsAnswer : Identity → List (List ℕ) → World → World → ℕ → Type 0

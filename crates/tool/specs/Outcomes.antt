@@ -3,10 +3,11 @@ use Rattle.std.specs.Prelude.{◌≡◌, ◌⊎◌, ℕ, true, List, [], Option,
 use Rattle.std.specs.Io.KnownBytes.{Appends}
 use Rattle.alc.specs.Reading.{Reading}
 use Rattle.decoder.specs.Receiving.{LeaveNoneShort}
+use Rattle.request.specs.declared.requests.Output.{Output}
 use Rattle.request.specs.declared.requests.Request.{Request}
 use Rattle.request.specs.declared.requests.Request.TheVariants.{Check, Twin, Show, Decode, Follow}
 use Rattle.request.specs.declared.requests.Request.TheVariants.{Join}
-use Rattle.tool.specs.World.{Files, World, MayFail, Replaces, one_more}
+use Rattle.tool.specs.World.{Files, World, IsFree, IsToStay, MayFail, Replaces, one_more}
 use Rattle.tool.specs.Inputs.{AStream, Value, Opened, HasValue, HaveValues, AreThere, IsUnopened}
 use Rattle.tool.specs.Inputs.{IsFirstUnopened, IsFirstUnread, IsSomeUnread}
 use Rattle.tool.specs.Lines.{numbered, reading_text, TellsFault}
@@ -18,9 +19,10 @@ use Rattle.tool.specs.declared.fault.Fault.TheVariants.{Open, Memory}
 
 -- the output's bytes stand under its name, and one output was created; or there is none, and
 -- nothing has changed
-abbrev pub IsOutput : World → World → Option (List ℕ) → Option (List ℕ) → Type 0
-IsOutput old new (Some name) (Some bytes) =
-    Replaces old.files new.files name bytes × (new.created ≡ one_more old.created)
+abbrev pub IsOutput : World → World → Option Output → Option (List ℕ) → Type 0
+IsOutput old new (Some output) (Some bytes) =
+    Replaces old.files new.files output.name.now bytes × (new.created ≡ one_more old.created)
+    × IsFree old.files output.name.now output.no_clobber
 IsOutput old new None (Some bytes) = ⊥
 IsOutput old new name None = (new.files ≡ old.files) × (new.created ≡ old.created)
 
@@ -68,12 +70,13 @@ MayCreate files (Follow r) =
     × IsHeard r.identity opened left read taken lines × LeaveNoneShort r.identity taken
 MayCreate files r = AreThere files (inputs_of r)
 
--- The output can't be created, where it may be; or it was, and writing it has failed; where the
--- host may fail.
+-- The output isn't created, where it may be: a file is there that is to stay, or the host may fail.
+-- Or it was, and writing it has failed, where the host may fail.
 abbrev pub IsUnmade : World → World → Request → Fault → Type 0
 IsUnmade old new r (Open name) =
-    MayFail old × (output_of r ≡ Some name.now) × MayCreate old.files r
-    × (new.created ≡ old.created)
+    (output : Output) × (output_of r ≡ Some output) × (name.now ≡ output.name.now)
+    × (MayFail old ⊎ IsToStay old.files output.name.now output.no_clobber)
+    × MayCreate old.files r × (new.created ≡ old.created)
 IsUnmade old new r fault = MayFail old × IsWriteFault r fault × (new.created ≡ one_more old.created)
 
 -- Why the request wasn't done, by what was printed before: an input can't be had; or the request is
@@ -104,11 +107,18 @@ pub record IsStopped (old new : World) (r : Request) (text : List ℕ) (fault : 
   pub created : (new.created ≡ old.created)
       ⊎ ((new.created ≡ one_more old.created) × MayCreate old.files r)
 
--- Printing has failed: nothing was done, or all but what is printed.
+-- an object that was received isn't there, though its output was created
+abbrev pub IsGivenUp : World → World → Request → Type 0
+IsGivenUp old new (Follow r) = (new.files ≡ old.files) × (new.created ≡ one_more old.created)
+    × MayCreate old.files (Follow r)
+IsGivenUp old new r = ⊥
+
+-- Printing has failed: nothing was done, or all but what is printed; or an object was received and
+-- can't be written, which can't be told.
 pub record IsUnprinted (old new : World) (r : Request) : Type 0 where
   pub failed : new.failed ≡ true
   pub done : ((new.files ≡ old.files) × (new.created ≡ old.created))
-      ⊎ ((outcome : Outcome) × Makes old new r outcome)
+      ⊎ ((outcome : Outcome) × Makes old new r outcome) ⊎ IsGivenUp old new r
 
 -- The request wasn't done, and behind what was printed before, the fault was told.
 pub record HasFault (old new : World) (r : Request) : Type 0 where

@@ -1,6 +1,6 @@
 -- What a command meets outside: files, and the output that its lines go to.
 use Rattle.std.specs.Prelude.{◌≡◌, ◌⊎◌, ℕ, suc, Bool, true, false, List, [], Option, Some, None, ⊤}
-use Rattle.std.specs.Prelude.{length, IfSome, if◌then◌else◌}
+use Rattle.std.specs.Prelude.{length, IfSome, IsSome, if◌then◌else◌}
 use Rattle.std.specs.Str.{bytes_eq}
 use Rattle.std.specs.Option.{option_map}
 use Rattle.tool.specs.declared.host.FileFault.{FileFault}
@@ -66,6 +66,21 @@ abbrev pub IsMissing : World → List ℕ → FileFault → Type 0
 IsMissing world name Io = MayFail world ⊎ IfSome world.files (λ held. held name ≡ None)
 IsMissing world name NoMemory = ⊤
 
+-- where a file that is there is to stay, none is
+abbrev pub IsFree : Option Files → List ℕ → Bool → Type 0
+IsFree files name no_clobber = no_clobber ≡ true → IfSome files (λ held. held name ≡ None)
+
+-- a file is there that is to stay, where it is told which are
+abbrev pub IsToStay : Option Files → List ℕ → Bool → Type 0
+IsToStay files name no_clobber =
+    (no_clobber ≡ true) × IfSome files (λ held. IsSome (held name))
+
+-- why an output isn't created: a file is there that is to stay, or the host may fail, or there is
+-- no memory
+abbrev pub IsTaken : World → List ℕ → Bool → FileFault → Type 0
+IsTaken world name no_clobber Io = MayFail world ⊎ IsToStay world.files name no_clobber
+IsTaken world name no_clobber NoMemory = ⊤
+
 -- files and outputs are as before, and so is whether the host may fail
 pub record KeepsFiles (old new : World) : Type 0 where
   pub files : new.files ≡ old.files
@@ -75,4 +90,5 @@ pub record KeepsFiles (old new : World) : Type 0 where
 -- nothing was printed, and the host may fail as before
 pub record IsSilent (old new : World) : Type 0 where
   pub printed : new.printed ≡ old.printed
+  pub failed : new.failed ≡ old.failed
   pub fallible : new.fallible ≡ old.fallible

@@ -6,7 +6,7 @@ ghost use Rattle.tool.specs.Answering.{IsAnswer, Explains, errors_of};
 
 use crate::host::Host;
 use crate::running::{MEMORY_LINE, run, tell_memory};
-use request::{Usage, request};
+use request::{Usage, command_line};
 use session::{Failed, Write, write_all};
 use std::alloc::Global;
 
@@ -26,8 +26,8 @@ pub fn answer<'a, H: Host, E: Write>(
     ensures { IsAnswer words.now (H.world host.old) (H.world host.new)
         (errors_of (E.contents err.old) (E.contents err.new) (E.failed err.new)) result }
 {
-    match request(alloc, words) {
-        Ok(request) => run(alloc, host, &request),
+    match command_line(alloc, words) {
+        Ok(line) => run(alloc, host, &line.request),
         Err(usage) => explain(alloc, usage, host, err),
     }
 }

@@ -67,10 +67,10 @@ fn certify_read<'a, H: Host>(
     ensures fault { IfErr result
         (HasStopped (H.world host.old) (H.world host.new) (Certify request.now)) }
 {
-    let mut file = create(host, request.output)?;
+    let mut file = create(host, &request.output)?;
     let written = write_read(alloc, input, fti, request, &mut file);
     let failure = Fault::Certificate(CertFault::Io);
-    let count = commit(host, request.output, file, written, failure)?;
+    let count = commit(host, request.output.name, file, written, failure)?;
     Ok(Done::counted("certified", count, " blocks"))
 }
 
@@ -113,10 +113,10 @@ fn certify_held<'a, H: Host>(
     ensures fault { IfErr result
         (HasStopped (H.world host.old) (H.world host.new) (Certify request.now)) }
 {
-    let mut file = create(host, request.output)?;
+    let mut file = create(host, &request.output)?;
     let written = write_held(alloc, object, fti, request.identity, &mut file);
     let failure = Fault::Certificate(CertFault::Io);
-    let count = commit(host, request.output, file, written, failure)?;
+    let count = commit(host, request.output.name, file, written, failure)?;
     Ok(Done::counted("certified", count, " blocks"))
 }
 

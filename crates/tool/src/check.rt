@@ -20,7 +20,7 @@ use crate::print::Text;
 use crate::wording::put_packet_fault;
 use cert::{Certificate, CheckFault, Reason, Report, Survey, Verdict, check_from, survey_from};
 use reception::Identity;
-use request::CheckRequest;
+use request::{CheckRequest, Output};
 use session::{FrameFault, Read};
 use std::alloc::{AllocError, Global};
 
@@ -46,8 +46,12 @@ pub(crate) fn check<'a, H: Host>(
     let Answered { done, picture } = read_and_answer(alloc, host, request)?;
     match picture {
         Some(drawn) => {
+            let output = Output {
+                name: drawn.name,
+                no_clobber: request.no_clobber,
+            };
             let failure = Fault::File(drawn.name);
-            write_output(host, drawn.name, drawn.text.as_bytes(), failure)?;
+            write_output(host, &output, drawn.text.as_bytes(), failure)?;
             Ok(done)
         }
         None => Ok(done),

@@ -28,10 +28,10 @@ pub(crate) fn convert<'a, H: Host>(
         (HasStopped (H.world host.old) (H.world host.new) (Convert request.now)) }
 {
     let mut input = open(host, request.certificate)?;
-    let mut file = create(host, request.output)?;
+    let mut file = create(host, &request.output)?;
     let converted = convert_file(alloc, &mut input, request.identity, &mut file);
     let failure = Fault::Certificate(CertFault::Io);
-    let count = commit(host, request.output, file, converted, failure)?;
+    let count = commit(host, request.output.name, file, converted, failure)?;
     Ok(Done::counted("converted", count, " blocks"))
 }
 

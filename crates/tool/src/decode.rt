@@ -65,10 +65,10 @@ fn deliver<'a, H: Host>(
     ensures fault { IfErr result
         (HasStopped (H.world host.old) (H.world host.new) (Decode request.now)) }
 {
-    let mut file = create(host, request.output)?;
+    let mut file = create(host, &request.output)?;
     let written = write_object(alloc, symbols, &mut file);
-    let failure = Fault::File(request.output);
-    let length = commit(host, request.output, file, written, failure)?;
+    let failure = Fault::File(request.output.name);
+    let length = commit(host, request.output.name, file, written, failure)?;
     Ok(Done::counted("object", length, " bytes"))
 }
 

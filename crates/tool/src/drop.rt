@@ -26,10 +26,10 @@ pub(crate) fn drop_places<'a, H: Host>(
         (HasStopped (H.world host.old) (H.world host.new) (Drop request.now)) }
 {
     let mut input = open(host, request.session)?;
-    let mut file = create(host, request.output)?;
+    let mut file = create(host, &request.output)?;
     let thinned = thin_out(alloc, &mut input, request.places.as_slice(), &mut file);
     let failure = Fault::Frame(FrameFault::Io);
-    let count = commit(host, request.output, file, thinned, failure)?;
+    let count = commit(host, request.output.name, file, thinned, failure)?;
     Ok(Done::counted("kept", count, " datagrams"))
 }
 

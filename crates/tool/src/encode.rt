@@ -65,10 +65,10 @@ fn encode_read<'a, H: Host>(
     ensures fault { IfErr result
         (HasStopped (H.world host.old) (H.world host.new) (Encode request.now)) }
 {
-    let mut file = create(host, request.output)?;
+    let mut file = create(host, &request.output)?;
     let sent = send_read(alloc, input, fti, request, &mut file);
     let failure = Fault::Send(SendFault::Io);
-    let count = commit(host, request.output, file, sent, failure)?;
+    let count = commit(host, request.output.name, file, sent, failure)?;
     Ok(Done::counted("encoded", count, " datagrams"))
 }
 
@@ -121,10 +121,10 @@ fn encode_held<'a, H: Host>(
     ensures fault { IfErr result
         (HasStopped (H.world host.old) (H.world host.new) (Encode request.now)) }
 {
-    let mut file = create(host, request.output)?;
+    let mut file = create(host, &request.output)?;
     let sent = send_held(alloc, object, fti, &request.sending, &mut file);
     let failure = Fault::Send(SendFault::Io);
-    let count = commit(host, request.output, file, sent, failure)?;
+    let count = commit(host, request.output.name, file, sent, failure)?;
     Ok(Done::counted("encoded", count, " datagrams"))
 }
 

@@ -1,5 +1,6 @@
 //! The command `follow`.
-ghost use Rattle.std.specs.Prelude.{◌≡◌, ◌<◌, ◌≤◌, ◌++◌, ℕ, List, [], None, true, false, length};
+ghost use Rattle.std.specs.Prelude.{◌≡◌, ◌≢◌, ◌<◌, ◌≤◌, ◌++◌, ℕ, List, [], None, true, false};
+ghost use Rattle.std.specs.Prelude.{length};
 ghost use Rattle.std.specs.Prelude.{IfOk, IfErr, IfSome, IfNone, OnOk, OnErr};
 ghost use Rattle.std.specs.Io.KnownBytes.{Appends, Consumes, IsAtEnd};
 ghost use Rattle.session.specs.Frames.{frame, most_bytes};
@@ -8,13 +9,14 @@ ghost use Rattle.decoder.specs.Stands.{Stands};
 ghost use Rattle.request.specs.declared.requests.Request.TheVariants.{Follow};
 ghost use Rattle.tool.specs.World.{KeepsFiles, IsSilent};
 ghost use Rattle.tool.specs.Doing.{IsUndone, IsUnwritten};
-ghost use Rattle.tool.specs.Following.{refusal_line};
+ghost use Rattle.tool.specs.Following.{complete_line, refusal_line};
 ghost use Rattle.tool.specs.Lines.{refusal_words};
-ghost use Rattle.tool.specs.Listening.{HasMadeUp, HasHeardAll, IsUnheard, IsUnsaid, heard_of};
+ghost use Rattle.tool.specs.Listening.{AreSaid, HasMadeUp, HasHeardAll, IsUnheard, IsUnsaid};
+ghost use Rattle.tool.specs.Listening.{heard_of, stopped_by};
 ghost use Rattle.tool.specs.Listening.{IsWritten, IsDelivered, IsUndelivered, TellsAnswer};
 ghost use Rattle.tool.specs.Outcomes.{IsDone};
 ghost use Rattle.tool.specs.declared.fault.Fault.TheVariants.{Frame};
-ghost use Rattle.tool.specs.declared.fault.Stop.TheVariants.{ByFault};
+ghost use Rattle.tool.specs.declared.fault.Stop.TheVariants.{ByFault, Unprinted};
 
 use crate::decode::told_of;
 use crate::fault::{Fault, Stop};
@@ -28,9 +30,18 @@ use request::FollowRequest;
 use session::{FrameFault, Read, Write};
 use std::alloc::{AllocError, Global};
 
+/// How a session was heard.
+struct Heard {
+    /// How many datagrams gave the object, where they do.
+    complete: Option<usize>,
+    /// Whether the lines of those that were refused were printed.
+    said: bool,
+}
+
 /// Takes the session's datagrams one by one, and prints a line for each that is refused. Once they
 /// give the object no more are read, and it is written; else what lacks is printed at the end.
-/// Answers the status. Each line is passed on before the next datagram is read.
+/// Answers the status. Each line is passed on before the next datagram is read. Where printing
+/// fails, no more is printed, and the object is received and written all the same.
 pub(crate) fn follow<'a, H: Host>(
     alloc: Global,
     host: &mut H,
@@ -44,26 +55,39 @@ pub(crate) fn follow<'a, H: Host>(
 {
     let mut frames = open(host, request.session)?;
     let mut receiver = Receiver::new(request.identity);
-    match listen(alloc, &mut frames, host, &mut receiver)? {
-        Some(count) => deliver(host, request, &receiver, count),
-        None => tell_lack(alloc, host, &receiver),
+    let Heard { complete, said } = listen(alloc, &mut frames, host, &mut receiver)?;
+    match complete {
+        Some(count) => deliver(host, request, &receiver, count, said),
+        None if said => tell_lack(alloc, host, &receiver),
+        None => Err(Stop::Unprinted),
     }
 }
 
-// Feeds the datagrams that are left of a reader until they give the object, and answers how many
-// were read; or all.
+// Why following stops for a fault: it is told only where what comes before it was.
+fn stop_by<'a>(fault: Fault<'a>, said: bool) -> Stop<'a>
+    ensures { result ≡ stopped_by fault.entry said }
+{
+    if said {
+        Stop::ByFault(fault)
+    } else {
+        Stop::Unprinted
+    }
+}
+
+// Feeds the datagrams that are left of a reader until they give the object, or all.
 fn listen<'a, R: Read, H: Host>(
     alloc: Global,
     frames: &mut R,
     host: &mut H,
     receiver: &mut Receiver,
-) -> Result<Option<usize>, Stop<'a>>
+) -> Result<Heard, Stop<'a>>
     requires { Stands receiver.old [] }
     ensures identity { receiver.new.identity ≡ receiver.old.identity }
-    ensures complete { IfOk result (λ o. IfSome o (HasMadeUp receiver.new
-        (R.remaining frames.old) (H.world host.old) (H.world host.new))) }
-    ensures end { IfOk result (λ o. IfNone o (HasHeardAll receiver.new
-        (R.remaining frames.old) (H.world host.old) (H.world host.new))) }
+    ensures complete { IfOk result (λ heard. IfSome heard.complete (λ read.
+        HasMadeUp receiver.new (R.remaining frames.old) (H.world host.old) (H.world host.new)
+        read heard.said)) }
+    ensures end { IfOk result (λ heard. IfNone heard.complete (HasHeardAll receiver.new
+        (R.remaining frames.old) (H.world host.old) (H.world host.new) heard.said)) }
     ensures fault { IfErr result (IsUnheard receiver.old.identity
         (R.remaining frames.old) (H.world host.old) (H.world host.new)) }
     ensures unsound { IfErr result (λ stop.
@@ -71,42 +95,63 @@ fn listen<'a, R: Read, H: Host>(
     ensures files { KeepsFiles (H.world host.old) (H.world host.new) }
 {
     let mut count = 0usize;
+    let mut said = true;
     loop {
-        let Some(datagram) = next_datagram(alloc, frames)? else {
-            return Ok(None);
+        let datagram = match next_datagram(alloc, frames) {
+            Ok(Some(datagram)) => datagram,
+            Ok(None) => {
+                return Ok(Heard {
+                    complete: None,
+                    said,
+                });
+            }
+            Err(fault) => return Err(stop_by(fault, said)),
         };
         let Some(read) = count.checked_add(1) else {
-            return Err(Stop::ByFault(Fault::Memory));
+            return Err(stop_by(Fault::Memory, said));
         };
         match receiver.feed(alloc, datagram.as_slice()) {
-            Ok(Progress::Complete) => return Ok(Some(read)),
-            Ok(Progress::More) => {}
-            Err(FeedFault::NoMemory) => return Err(Stop::ByFault(Fault::Memory)),
-            Err(FeedFault::Full) => tell_refusal(alloc, host, count, FeedFault::Full)?,
-            Err(FeedFault::Early) => tell_refusal(alloc, host, count, FeedFault::Early)?,
-            Err(FeedFault::Fault(fault)) => {
-                tell_refusal(alloc, host, count, FeedFault::Fault(fault))?
+            Ok(Progress::Complete) => {
+                return Ok(Heard {
+                    complete: Some(read),
+                    said,
+                });
             }
+            Ok(Progress::More) => {}
+            Err(refusal) => match tell_refusal(alloc, host, count, refusal, said) {
+                Ok(told) => said = told,
+                Err(AllocError) => return Err(stop_by(Fault::Memory, said)),
+            },
         }
         count = read;
     }
 }
 
-// Prints that the datagram at a place was refused, and why.
-fn tell_refusal<'a, H: Host>(
+// Prints that the datagram at a place was refused, and why, unless printing has failed. Answers
+// whether all was printed. A refusal for want of memory is no line.
+fn tell_refusal<H: Host>(
     alloc: Global,
     host: &mut H,
     place: usize,
-    fault: FeedFault,
-) -> Result<(), Stop<'a>>
-    ensures ok { OnOk result (Appends (H.world host.old).printed (H.world host.new).printed
-        (refusal_line place fault)) }
-    ensures fault { IfErr result (IsUnsaid (H.world host.old) (H.world host.new)) }
+    refusal: FeedFault,
+    said: bool,
+) -> Result<bool, AllocError>
+    requires { said ≡ false → (H.world host.old).failed ≡ true }
+    ensures said { IfOk result
+        (AreSaid (H.world host.old) (H.world host.new) (refusal_line place refusal)) }
+    ensures before { IfOk result (λ told. told ≡ true → said ≡ true) }
+    ensures some { OnOk result (refusal ≢ FeedFault.NoMemory) }
+    ensures none { OnErr result (H.world host.new ≡ H.world host.old) }
     ensures files { KeepsFiles (H.world host.old) (H.world host.new) }
 {
-    refused_line(alloc, place, fault)?.print(host)?;
-    host.pass_on()?;
-    Ok(())
+    if refusal == FeedFault::NoMemory {
+        return Err(AllocError);
+    }
+    if !said {
+        return Ok(false);
+    }
+    let line = refused_line(alloc, place, refusal)?;
+    Ok(line.print(host).is_ok() && host.pass_on().is_ok())
 }
 
 fn refused_line(alloc: Global, place: usize, fault: FeedFault) -> Result<Text, AllocError>
@@ -141,13 +186,15 @@ fn put_refusal(line: &mut Text, fault: FeedFault) -> Result<(), AllocError>
 }
 
 // Tells that the object is there once so many datagrams were read, writes it, and answers the
-// status.
+// status. Where printing has failed, before or now, the object is written all the same.
 fn deliver<'a, H: Host>(
     host: &mut H,
     request: &FollowRequest<'a>,
     receiver: &Receiver,
     count: usize,
+    said: bool,
 ) -> Result<u8, Stop<'a>>
+    requires { said ≡ false → (H.world host.old).failed ≡ true }
     ensures ok { (taken : List (List ℕ)) → Stands receiver.now taken
         → LeaveNoneShort receiver.now.identity taken
         → IfOk result (IsDelivered request.now (heard_of receiver.now taken count)
@@ -156,13 +203,32 @@ fn deliver<'a, H: Host>(
         → LeaveNoneShort receiver.now.identity taken
         → IfErr result (IsUndelivered request.now (heard_of receiver.now taken count)
         (H.world host.old) (H.world host.new)) }
+    ensures said { OnOk result (said ≡ true) }
+    ensures told { IfErr result (λ stop. stop ≢ Unprinted → said ≡ true) }
     ensures small { IfOk result (λ status. status ≤ 3) }
 {
-    print_count(host, "complete after", count, " datagrams")?;
-    host.pass_on()?;
-    let length = write_object(host, request, receiver)?;
+    let said = tell_complete(host, count, said);
+    let length = match write_object(host, request, receiver) {
+        Ok(length) => length,
+        Err(fault) => return Err(stop_by(fault, said)),
+    };
+    if !said {
+        return Err(Stop::Unprinted);
+    }
     print_count(host, "object", length, " bytes")?;
     Ok(0)
+}
+
+// Prints after how many datagrams the object is there, unless printing has failed. Answers whether
+// all was printed.
+fn tell_complete<H: Host>(host: &mut H, count: usize, said: bool) -> bool
+    requires { said ≡ false → (H.world host.old).failed ≡ true }
+    ensures said { AreSaid (H.world host.old) (H.world host.new) (complete_line count) result }
+    ensures before { result ≡ true → said ≡ true }
+    ensures files { KeepsFiles (H.world host.old) (H.world host.new) }
+{
+    said && print_count(host, "complete after", count, " datagrams").is_ok()
+        && host.pass_on().is_ok()
 }
 
 // Writes the object that the datagrams gave, and answers its length in bytes.
@@ -179,14 +245,14 @@ fn write_object<'a, H: Host>(
         (H.world host.old) (H.world host.new)) }
     ensures silent { IsSilent (H.world host.old) (H.world host.new) }
 {
-    let mut file = create(host, request.output)?;
+    let mut file = create(host, &request.output)?;
     let written = write_taken(receiver, &mut file);
     commit(
         host,
-        request.output,
+        request.output.name,
         file,
         written,
-        Fault::File(request.output),
+        Fault::File(request.output.name),
     )
 }
 

@@ -2,7 +2,7 @@
 ghost use Rattle.std.specs.Prelude.{◌≡◌, true, IfOk, IfErr, IfSome, OnOk, OnErr};
 ghost use Rattle.std.specs.Io.KnownBytes.{Appends};
 ghost use Rattle.tool.specs.World.{World, GivesFile, LeavesBytes, IsBlank, Replaces, IsRefused};
-ghost use Rattle.tool.specs.World.{IsMissing, KeepsFiles, IsSilent, one_more};
+ghost use Rattle.tool.specs.World.{IsMissing, IsFree, IsTaken, KeepsFiles, IsSilent, one_more};
 
 use session::{Failed, Read, Write};
 
@@ -35,11 +35,13 @@ pub trait Host {
     fn length_of(&self, input: &Self::Input) -> Option<u64>
         ensures { IfSome result (LeavesBytes (Self.Input.remaining input.now)) };
 
-    /// Creates what is to be the file of this name. `Io` comes only where the host may fail.
-    fn create_file(&mut self, name: &str) -> Result<Self::Output, FileFault>
+    /// Creates what is to be the file of this name. With `no_clobber` it does so only where none is
+    /// there. `Io` comes only where a file is there that stays, or the host may fail.
+    fn create_file(&mut self, name: &str, no_clobber: bool) -> Result<Self::Output, FileFault>
         ensures blank { IfOk result (λ file.
             IsBlank (world self.old) (Self.Output.contents file)) }
-        ensures fault { IfErr result (IsRefused (world self.old)) }
+        ensures free { OnOk result (IsFree (world self.old).files name.now no_clobber) }
+        ensures fault { IfErr result (IsTaken (world self.old) name.now no_clobber) }
         ensures files { (world self.new).files ≡ (world self.old).files }
         ensures silent { IsSilent (world self.old) (world self.new) }
         ensures created { OnOk result

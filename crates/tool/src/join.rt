@@ -28,10 +28,10 @@ pub(crate) fn join<'a, H: Host>(
         (HasStopped (H.world host.old) (H.world host.new) (Join request.now)) }
 {
     let mut inputs = open_all(alloc, host, request.sessions.as_slice())?;
-    let mut file = create(host, request.output)?;
+    let mut file = create(host, &request.output)?;
     let joined = join_all(alloc, inputs.as_mut_slice(), request.turns, &mut file);
     let failure = Fault::Frame(FrameFault::Io);
-    let count = commit(host, request.output, file, joined, failure)?;
+    let count = commit(host, request.output.name, file, joined, failure)?;
     Ok(Done::counted("joined", count, " datagrams"))
 }
 

@@ -145,7 +145,10 @@ impl Host for MemoryHost {
         Some((input.bytes.len() - input.at) as u64)
     }
 
-    fn create_file(&mut self, _name: &str) -> Result<Sink, FileFault> {
+    fn create_file(&mut self, name: &str, no_clobber: bool) -> Result<Sink, FileFault> {
+        if no_clobber && self.get(name).is_some() {
+            return Err(FileFault::Io);
+        }
         let Some(created) = self.created.checked_add(1) else {
             return Err(FileFault::NoMemory);
         };

@@ -1,10 +1,11 @@
 //! Output files.
 ghost use Rattle.std.specs.Prelude.{◌≡◌, Ok, IfOk, IfErr, IfSome, OnOk, OnErr};
-ghost use Rattle.tool.specs.World.{IsBlank, Replaces, IsSilent, one_more};
+ghost use Rattle.tool.specs.World.{IsBlank, IsFree, Replaces, IsSilent, one_more};
 ghost use Rattle.tool.specs.Doing.{IsUncreated, IsUncommitted, IsUnkept};
 
 use crate::fault::Fault;
 use crate::host::{FileFault, Host};
+use request::Output;
 use session::write_all;
 
 /// Why a file wasn't written to its end.
@@ -16,19 +17,21 @@ pub(crate) enum Unwritten<'a> {
 }
 
 /// Creates what is to be a file.
-pub(crate) fn create<'a, H: Host>(host: &mut H, name: &'a str) -> Result<H::Output, Fault<'a>>
+pub(crate) fn create<'a, H: Host>(host: &mut H, output: &Output<'a>) -> Result<H::Output, Fault<'a>>
     ensures blank { IfOk result (λ file.
         IsBlank (H.world host.old) (H.Output.contents file)) }
-    ensures fault { IfErr result (IsUncreated (H.world host.old) name.now) }
+    ensures free { OnOk result
+        (IsFree (H.world host.old).files output.now.name.now output.now.no_clobber) }
+    ensures fault { IfErr result (IsUncreated (H.world host.old) output.now) }
     ensures files { (H.world host.new).files ≡ (H.world host.old).files }
     ensures silent { IsSilent (H.world host.old) (H.world host.new) }
     ensures created { OnOk result
         ((H.world host.new).created ≡ one_more (H.world host.old).created) }
     ensures none { OnErr result ((H.world host.new).created ≡ (H.world host.old).created) }
 {
-    match host.create_file(name) {
+    match host.create_file(output.name, output.no_clobber) {
         Ok(file) => Ok(file),
-        Err(FileFault::Io) => Err(Fault::Open(name)),
+        Err(FileFault::Io) => Err(Fault::Open(output.name)),
         Err(FileFault::NoMemory) => Err(Fault::Memory),
     }
 }
@@ -70,24 +73,26 @@ pub(crate) fn commit<'a, H: Host>(
 /// Makes a file of these bytes.
 pub(crate) fn write_output<'a, H: Host>(
     host: &mut H,
-    name: &'a str,
+    output: &Output<'a>,
     bytes: &[u8],
     failure: Fault<'a>,
 ) -> Result<(), Fault<'a>>
     ensures made { OnOk result (Replaces (H.world host.old).files (H.world host.new).files
-        name.now bytes.now) }
-    ensures fault { IfErr result (IsUnkept (H.world host.old) (H.world host.new) name.now
+        output.now.name.now bytes.now) }
+    ensures free { OnOk result
+        (IsFree (H.world host.old).files output.now.name.now output.now.no_clobber) }
+    ensures fault { IfErr result (IsUnkept (H.world host.old) (H.world host.new) output.now
         failure.entry) }
     ensures files { OnErr result ((H.world host.new).files ≡ (H.world host.old).files) }
     ensures silent { IsSilent (H.world host.old) (H.world host.new) }
     ensures created { OnOk result
         ((H.world host.new).created ≡ one_more (H.world host.old).created) }
 {
-    let mut file = create(host, name)?;
+    let mut file = create(host, output)?;
     let written = match write_all(&mut file, bytes) {
         Ok(()) => Ok(bytes.len() as u64),
         Err(_) => Err(Unwritten::Writing),
     };
-    commit(host, name, file, written, failure)?;
+    commit(host, output.name, file, written, failure)?;
     Ok(())
 }

@@ -32,10 +32,10 @@ pub(crate) fn salvage<'a, H: Host>(
         (HasStopped (H.world host.old) (H.world host.new) (Salvage request.now)) }
 {
     let mut input = open(host, request.session)?;
-    let mut file = create(host, request.output)?;
+    let mut file = create(host, &request.output)?;
     let Salvaged { written, status } = copy_front(alloc, &mut input, &mut file);
     let failure = Fault::Frame(FrameFault::Io);
-    let count = commit(host, request.output, file, written, failure)?;
+    let count = commit(host, request.output.name, file, written, failure)?;
     Ok(Done {
         told: Told::Count("kept", count, " datagrams"),
         status,

@@ -102,8 +102,8 @@ pub(crate) fn twin<'a, H: Host>(
     let told = Told::Lines(line);
     match other {
         Some(other) => {
-            let failure = Fault::File(request.output);
-            write_output(host, request.output, other.as_slice(), failure)?;
+            let failure = Fault::File(request.output.name);
+            write_output(host, &request.output, other.as_slice(), failure)?;
             Ok(Done { told, status: 0 })
         }
         None => Ok(Done { told, status: 1 }),

@@ -9,9 +9,9 @@ pub returns : goal.returns
 returns c =
     let o = c.args.outline.now in
     let rules = map rule_told o.arguments.now in
-    IfOk-weaker c.with_arguments.result (AddsRules c.after_help-command.result rules) (IsShaped (outline_shape o))
-    (λ new added. shaped o.name.now c.after_help-command.result new rules
-    (rw (c.after_help-command.ensures, c.about.ensures) (ap (λ (app : App). app.top) c.new.ensures.app))
-    (rw (c.after_help-command.ensures, c.about.ensures) c.new.ensures.local)
+    IfOk-weaker c.with_arguments.result (AddsRules c.after_long_help-command.result rules) (IsShaped (outline_shape o))
+    (λ new added. shaped o.name.now c.after_long_help-command.result new rules
+    (rw (c.after_long_help-command.ensures, c.about.ensures) (ap (λ (app : App). app.top) c.new.ensures.app))
+    (rw (c.after_long_help-command.ensures, c.about.ensures) c.new.ensures.local)
     added)
     c.with_arguments.ensures

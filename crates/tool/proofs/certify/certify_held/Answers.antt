@@ -28,9 +28,10 @@ returns-clause-ok g c =
         gives = subst (λ (f : Fti). GivesCertificate r.identity object f (record { text = text; status = 0; output = Some (certificate_text (named_as r.identity s.0.certificate)) })) c.requires.sizes
             (s.0.certificate, s.0.form, s.0.fti, s.0.gives, s.0.certifies, (ap (λ (n : ℕ). count_line (codes "certified") n (codes " blocks")) s.1, refl, refl));
         made = (
-          kept_whole (g.H.Host.world c.args.host.now).files (g.H.Host.world c.create.new.host).files (g.H.Host.world c.commit.new.host).files r.output.now (certificate_text (named_as r.identity s.0.certificate)) blank contents
+          kept_whole (g.H.Host.world c.args.host.now).files (g.H.Host.world c.create.new.host).files (g.H.Host.world c.commit.new.host).files r.output.name.now (certificate_text (named_as r.identity s.0.certificate)) blank contents
               c.in_ok-file.ensures.blank s.0.gained c.create.ensures.files c.in_ok-count.ensures.kept,
           c.commit.ensures.created ∙ c.in_ok-file.ensures.created,
+          c.in_ok-file.ensures.free,
         );
       };
       text = ap text_of (sym c.counted.ensures.told);

@@ -23,7 +23,7 @@ returns-in_err-count-clause-fault g c =
     let input = c.in_ok-input.ensures.input in
     let fault = c.in_err-count.field-0.0 in
     passed_on c.from_residual-in_err-count.result fault _ c.from_residual-in_err-count.ensures.1
-    (uncommitted old (g.H.Host.world c.create.new.host) (Convert r) r.output.now refl c.create.ensures.files c.create.ensures.silent new c.in_ok-file.ensures.created
+    (uncommitted old (g.H.Host.world c.create.new.host) (Convert r) r.output refl c.create.ensures.files c.create.ensures.silent new c.in_ok-file.ensures.created
     (is_there old.files r.certificate.now left input.bytes, tt) c.in_err-count.ensures.files c.commit.ensures.silent c.commit.ensures.created
     (NoCertificate Io) (λ may more. (may, refl, more)) c.convert_file-converted.result fault
     (because_unconverted old new r left (g.H.Input.Read.sound c.in_ok-input.input) input c.convert_file-converted.result c.convert_file-converted.ensures.fault)
@@ -47,9 +47,10 @@ returns-clause-ok g c =
         read = (gives_certificate (g.H.Host.world c.args.host.now).files r.certificate.now left is.certificate is.form c.in_ok-input.ensures.input.bytes is.text, tt);
         gives = (is.own, (ap (λ (n : ℕ). count_line (codes "converted") n (codes " blocks")) (made.2 ∙ ap block_count (sym is.fti)), refl, refl));
         made = (
-          kept_whole (g.H.Host.world c.args.host.now).files (g.H.Host.world c.create.new.host).files (g.H.Host.world c.commit.new.host).files r.output.now bytes blank contents
+          kept_whole (g.H.Host.world c.args.host.now).files (g.H.Host.world c.create.new.host).files (g.H.Host.world c.commit.new.host).files r.output.name.now bytes blank contents
               c.in_ok-file.ensures.blank is.gained c.create.ensures.files c.in_ok-count.ensures.kept,
           c.commit.ensures.created ∙ c.in_ok-file.ensures.created,
+          c.in_ok-file.ensures.free,
         );
       };
       text = ap text_of (sym c.counted.ensures.told);

@@ -22,7 +22,7 @@ returns-in_err-count-clause-fault g c =
     let input = c.in_ok-input.ensures.input in
     let fault = c.in_err-count.field-0.0 in
     passed_on c.from_residual-in_err-count.result fault _ c.from_residual-in_err-count.ensures.1
-    (uncommitted old (g.H.Host.world c.create.new.host) (Drop r) r.output.now refl c.create.ensures.files c.create.ensures.silent new c.in_ok-file.ensures.created
+    (uncommitted old (g.H.Host.world c.create.new.host) (Drop r) r.output refl c.create.ensures.files c.create.ensures.silent new c.in_ok-file.ensures.created
     (is_there old.files r.session.now opened input.bytes, tt) c.in_err-count.ensures.files c.commit.ensures.silent c.commit.ensures.created
     (Frame Io) (λ may more. (may, refl, more)) c.thin_out-thinned.result fault
     (because_unthinned old new r opened input.bytes _ _ _ _ _ c.thin_out-thinned.result (rw c.as_slice.ensures.value at c.thin_out-thinned.ensures.fault))
@@ -48,9 +48,10 @@ returns-clause-ok g c =
         read = (holds_session old r.session.now opened left thin.datagrams c.in_ok-input.ensures.input.bytes thin.read thin.end, tt);
         gives = (thin.inside, (ap (λ (n : ℕ). count_line (codes "kept") n (codes " datagrams")) thin.counted, refl, refl));
         made = (
-          kept_whole old (g.H.Host.world c.create.new.host).files (g.H.Host.world c.commit.new.host).files r.output.now bytes blank contents
+          kept_whole old (g.H.Host.world c.create.new.host).files (g.H.Host.world c.commit.new.host).files r.output.name.now bytes blank contents
               c.in_ok-file.ensures.blank thin.written c.create.ensures.files c.in_ok-count.ensures.kept,
           c.commit.ensures.created ∙ c.in_ok-file.ensures.created,
+          c.in_ok-file.ensures.free,
         );
       };
       text = ap text_of (sym c.counted.ensures.told);

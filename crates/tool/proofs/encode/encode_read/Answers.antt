@@ -32,9 +32,10 @@ returns-clause-ok g c =
         gives = subst (λ (f : Fti). GivesSession r.sending object f (record { text = text; status = 0; output = Some (frames s.datagrams) })) is
             (s.valid, s.can, s.datagrams, s.sent, (ap (λ (n : ℕ). count_line (codes "encoded") n (codes " datagrams")) s.counted, refl, refl));
         made = (
-          kept_whole (g.H.Host.world c.args.host.now).files (g.H.Host.world c.create.new.host).files (g.H.Host.world c.commit.new.host).files r.output.now (frames s.datagrams) blank contents
+          kept_whole (g.H.Host.world c.args.host.now).files (g.H.Host.world c.create.new.host).files (g.H.Host.world c.commit.new.host).files r.output.name.now (frames s.datagrams) blank contents
               c.in_ok-file.ensures.blank s.gained c.create.ensures.files c.in_ok-count.ensures.kept,
           c.commit.ensures.created ∙ c.in_ok-file.ensures.created,
+          c.in_ok-file.ensures.free,
         );
       };
       text = ap text_of (sym c.counted.ensures.told);

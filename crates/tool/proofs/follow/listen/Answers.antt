@@ -1,14 +1,13 @@
-use Rattle.std.proofs.Common.{◌≡◌, ◌≢◌, ◌∙◌, ◌+◌, ◌-◌, ◌^◌, ◌++◌, [], Err, ap, arith, length, refl, subst, sym}
+use Rattle.std.proofs.Common.{◌≡◌, ◌≢◌, ◌∙◌, ◌+◌, ◌-◌, ◌^◌, ◌++◌, [], Err, ap, arith, length, refl, subst, sym, rules}
 use Rattle.decoder.specs.Receiving.{with_datagram, LeaveNoneShort, ComesEarly}
-use Rattle.decoder.specs.declared.receiver.FeedFault.TheVariants.{Fault, Full, Early}
-use Rattle.session.proofs.Writes.{then_appends}
 use Rattle.reception.specs.declared.scope.Identity.{Identity}
 use Rattle.tool.specs.Following.{refusal_line, IsHeard}
-use Rattle.tool.proofs.Followed.{no_datagrams, none_heard, nothing_consumed, nothing_against, heard_taken, heard_refused, line_unsaid}
+use Rattle.tool.specs.Listening.{IsUnheard}
+use Rattle.tool.specs.declared.fault.Stop.{Stop}
+use Rattle.tool.proofs.Followed.{no_datagrams, none_heard, nothing_consumed, nothing_against, heard_taken, heard_refused, refused_by, stopped_frame, stopped_memory, then_said}
 use Rattle.tool.proofs.Showed.{keeps, keeps_all}
-use Rattle.tool.proofs.Stopping.{passed_on}
 use Rattle.tool.proofs.follow.listen.Goals as goal
-use Rattle.tool.proofs.follow.listen.Goals.{in-Ok-More, in-Err-Full+in_ok-tell_refusal-in-Err-Full, in-Err-Early+in_ok-tell_refusal-in-Err-Early, in-Err-Fault+in_ok-tell_refusal-in-Err-Fault}
+use Rattle.tool.proofs.follow.listen.Goals.{in-Ok-More, in-Err-feed+in-Ok}
 
 pub loop-datagram-init : goal.loop-datagram-init
 loop-datagram-init g c =
@@ -22,12 +21,23 @@ loop-datagram-init g c =
       files = keeps_all w;
     }
 
+pub returns-in-Err-clause-fault : goal.returns-in-Err-clause-fault
+returns-in-Err-clause-fault g c =
+    let heard = c.loop-datagram.invariant.heard in
+    let who = c.args.receiver.now.identity in
+    let opened = g.R.Read.remaining c.args.frames.now in
+    let old = g.H.Host.world c.args.host.now in
+    let mid = g.H.Host.world c.loop-datagram.host in
+    subst (λ (stop : Stop). IsUnheard who opened old mid stop) (sym c.stop_by.ensures)
+    (stopped_frame who opened old mid (g.R.Read.remaining c.loop-datagram.frames) (g.R.Read.remaining c.next_datagram.new.frames) (g.R.Read.failed c.next_datagram.new.frames)
+    c.loop-datagram.count heard.0 heard.1 c.loop-datagram.said heard.4 heard.5 c.in-Err.fault c.in-Err.ensures.fault)
+
 pub returns-in-Ok-Complete-clause-complete : goal.returns-in-Ok-Complete-clause-complete
 returns-in-Ok-Complete-clause-complete g c =
     let heard = c.loop-datagram.invariant.heard in
-    let d = c.in-Some.datagram.items in
-    let one = rw c.in-Some.is at c.in_ok-datagram.ensures.some in
-    let brief = rw c.in-Some.is at c.in_ok-datagram.ensures.short in
+    let d = c.in-Ok-Some.datagram.items in
+    let one = rw c.in-Ok-Some.field-0-is at c.in-Ok-Some.ensures.some in
+    let brief = rw c.in-Ok-Some.field-0-is at c.in-Ok-Some.ensures.short in
     let stands = rw c.as_slice.ensures.value at (c.in-Ok-Complete.ensures.accepted heard.0 heard.2) in
     let who = c.args.receiver.now.identity in
     let same = c.loop-datagram.invariant.identity in
@@ -37,31 +47,50 @@ returns-in-Ok-Complete-clause-complete g c =
     let is = c.in-Ok-Complete.is in
     let counted : length heard.0 ≢ 2 ^ 64 - 1 = λ e. let f = (c.feed.ensures.full heard.0 heard.2).1 e in cc in
     let timely : ¬ ComesEarly who heard.0 d = λ early. let f = (rw (c.as_slice.ensures.value, same) at (c.feed.ensures.early heard.0 heard.2)).1 (counted, early) in cc in
-    let next = c.in-Some-checked_add.ensures in (
+    let next = c.in-Some.ensures in (
       g.R.Read.remaining c.next_datagram.new.frames,
       with_datagram heard.0 d,
       heard.1,
       stands,
       subst (λ (x : Identity). LeaveNoneShort x (with_datagram heard.0 d)) (sym identity) full,
-      subst (λ (x : Identity). IsHeard x (g.R.Read.remaining c.args.frames.now) (g.R.Read.remaining c.next_datagram.new.frames) c.in-Some-checked_add.read (with_datagram heard.0 d) heard.1) (sym identity)
+      subst (λ (x : Identity). IsHeard x (g.R.Read.remaining c.args.frames.now) (g.R.Read.remaining c.next_datagram.new.frames) c.in-Some.read (with_datagram heard.0 d) heard.1) (sym identity)
           (heard_taken who (g.R.Read.remaining c.args.frames.now) (g.R.Read.remaining c.loop-datagram.frames) (g.R.Read.remaining c.next_datagram.new.frames) heard.0 heard.1 c.loop-datagram.count
-          c.in-Some-checked_add.read d heard.4 heard.3 (omega (arith, next)) one brief (nothing_against who heard.0 d sound counted timely)),
+          c.in-Some.read d heard.4 heard.3 (omega (arith, next)) one brief (nothing_against who heard.0 d sound counted timely)),
       heard.5,
     )
+
+pub returns-in-Err-tell_refusal : goal.returns-in-Err-tell_refusal
+returns-in-Err-tell_refusal g c =
+    let heard = c.loop-datagram.invariant.heard in
+    let who = c.args.receiver.now.identity in
+    let opened = g.R.Read.remaining c.args.frames.now in
+    let old = g.H.Host.world c.args.host.now in
+    let mid = g.H.Host.world c.tell_refusal.new.host in
+    let same = c.in-Err-tell_refusal.ensures.none in
+    record {
+      identity = c.feed.ensures.identity ∙ c.loop-datagram.invariant.identity;
+      complete = tt;
+      end = tt;
+      fault =
+          subst (λ (stop : Stop). IsUnheard who opened old mid stop) (sym c.stop_by-in-Err-tell_refusal.ensures)
+          (stopped_memory who opened old mid (g.R.Read.remaining c.loop-datagram.frames) c.loop-datagram.count heard.0 heard.1 c.loop-datagram.said heard.4 (rw same heard.5));
+      unsound = search rules;
+      files = keeps old (g.H.Host.world c.loop-datagram.host) mid c.loop-datagram.invariant.files c.tell_refusal.ensures.files;
+    }
 
 pub loop-datagram-preserved : goal.loop-datagram-preserved
 loop-datagram-preserved g c =
     let heard = c.loop-datagram.invariant.heard in
-    let d = c.in-Some.datagram.items in
-    let one = rw c.in-Some.is at c.in_ok-datagram.ensures.some in
-    let brief = rw c.in-Some.is at c.in_ok-datagram.ensures.short in
-    let step = c.in-Some-checked_add.ensures in
-    let next : c.in-Some-checked_add.read ≡ c.loop-datagram.count + 1 = omega (arith, step) in
+    let d = c.in-Ok-Some.datagram.items in
+    let one = rw c.in-Ok-Some.field-0-is at c.in-Ok-Some.ensures.some in
+    let brief = rw c.in-Ok-Some.field-0-is at c.in-Ok-Some.ensures.short in
+    let step = c.in-Some.ensures in
+    let next : c.in-Some.read ≡ c.loop-datagram.count + 1 = omega (arith, step) in
     let opened = g.R.Read.remaining c.args.frames.now in
     let a = g.R.Read.remaining c.loop-datagram.frames in
     let b = g.R.Read.remaining c.next_datagram.new.frames in
     let count = c.loop-datagram.count in
-    let n = c.in-Some-checked_add.read in
+    let n = c.in-Some.read in
     let who = c.args.receiver.now.identity in
     let same = c.loop-datagram.invariant.identity in
     let stays = c.next_datagram.ensures.stays ∙ c.loop-datagram.invariant.stays in
@@ -76,7 +105,7 @@ loop-datagram-preserved g c =
           let counted : length heard.0 ≢ 2 ^ 64 - 1 = λ e. let f = (c.feed.ensures.full heard.0 heard.2).1 e in cc in
           let timely : ¬ ComesEarly who heard.0 d = λ early. let f = (rw (c.as_slice.ensures.value, same) at (c.feed.ensures.early heard.0 heard.2)).1 (counted, early) in cc in
           let short = rw (w.in-Ok-More.field-0-is, c.as_slice.ensures.value, same) at (w.in-Ok-More.ensures.progress heard.0 heard.2) in
-          rw w.host-is record {
+          rw (w.host-is, w.said-is) record {
             heard = (
               with_datagram heard.0 d,
               heard.1,
@@ -89,79 +118,25 @@ loop-datagram-preserved g c =
             stays = stays;
             files = files;
           })
-      | in-Err-Full+in_ok-tell_refusal-in-Err-Full w ↦
-          (let stands = w.in-Err-Full.ensures.refused heard.0 heard.2 in
-          let full = (c.feed.ensures.full heard.0 heard.2).0 (w.in-Err-Full.is ∙ ap Err w.in-Err-Full.field-0-is) in
-          rw w.host-is record {
+      | in-Err-feed+in-Ok w ↦
+          (let refusal = w.in-Err-feed.refusal in
+          let stands = w.in-Err-feed.ensures.refused heard.0 heard.2 in
+          let at_early = rw (c.as_slice.ensures.value, same) at (c.feed.ensures.early heard.0 heard.2) in
+          let faulty = rw (c.as_slice.ensures.value, same) at (w.in-Err-feed.ensures.fault heard.0 heard.2) in
+          let new = g.H.Host.world w.tell_refusal.new.host in
+          rw (w.host-is, w.said-is) record {
             heard = (
               heard.0,
-              heard.1 ++ refusal_line count Full,
+              heard.1 ++ refusal_line count refusal,
               stands,
               heard.3,
-              heard_refused who opened a b heard.0 heard.1 count n d heard.4 heard.3 next one brief Full full,
-              then_appends _ _ _ heard.1 (refusal_line count Full) heard.5 w.in_ok-tell_refusal-in-Err-Full.ensures.ok,
+              heard_refused who opened a b heard.0 heard.1 count n d heard.4 heard.3 next one brief refusal
+                  (refused_by who heard.0 d refusal w.in-Ok.ensures.some (λ e. (c.feed.ensures.full heard.0 heard.2).0 (w.in-Err-feed.is ∙ ap Err e))
+                  (λ e. (at_early.0 (w.in-Err-feed.is ∙ ap Err e)).1) (λ fault e. rw e at faulty)),
+              then_said old mid new heard.1 (refusal_line count refusal) c.loop-datagram.said w.in-Ok.told heard.5 w.in-Ok.ensures.said w.in-Ok.ensures.before,
             );
             identity = c.feed.ensures.identity ∙ same;
             stays = stays;
-            files = keeps old mid (g.H.Host.world w.tell_refusal.new.host) files w.tell_refusal.ensures.files;
-          })
-      | in-Err-Early+in_ok-tell_refusal-in-Err-Early w ↦
-          (let stands = w.in-Err-Early.ensures.refused heard.0 heard.2 in
-          let early = ((rw (c.as_slice.ensures.value, same) at (c.feed.ensures.early heard.0 heard.2)).0 (w.in-Err-Early.is ∙ ap Err w.in-Err-Early.field-0-is)).1 in
-          rw w.host-is record {
-            heard = (
-              heard.0,
-              heard.1 ++ refusal_line count Early,
-              stands,
-              heard.3,
-              heard_refused who opened a b heard.0 heard.1 count n d heard.4 heard.3 next one brief Early early,
-              then_appends _ _ _ heard.1 (refusal_line count Early) heard.5 w.in_ok-tell_refusal-in-Err-Early.ensures.ok,
-            );
-            identity = c.feed.ensures.identity ∙ same;
-            stays = stays;
-            files = keeps old mid (g.H.Host.world w.tell_refusal-in-Err-Early.new.host) files w.tell_refusal-in-Err-Early.ensures.files;
-          })
-      | in-Err-Fault+in_ok-tell_refusal-in-Err-Fault w ↦
-          (let stands = w.in-Err-Fault.ensures.refused heard.0 heard.2 in
-          let fault = rw (w.in-Err-Fault.field-0-is, c.as_slice.ensures.value, same) at (w.in-Err-Fault.ensures.fault heard.0 heard.2) in
-          rw w.host-is record {
-            heard = (
-              heard.0,
-              heard.1 ++ refusal_line count (Fault w.in-Err-Fault.fault),
-              stands,
-              heard.3,
-              heard_refused who opened a b heard.0 heard.1 count n d heard.4 heard.3 next one brief (Fault w.in-Err-Fault.fault) fault,
-              then_appends _ _ _ heard.1 (refusal_line count (Fault w.in-Err-Fault.fault)) heard.5 w.in_ok-tell_refusal-in-Err-Fault.ensures.ok,
-            );
-            identity = c.feed.ensures.identity ∙ same;
-            stays = stays;
-            files = keeps old mid (g.H.Host.world w.tell_refusal-in-Err-Fault.new.host) files w.tell_refusal-in-Err-Fault.ensures.files;
+            files = keeps old mid new files w.tell_refusal.ensures.files;
           })
     ]
-
-pub returns-in_err-tell_refusal-in-Err-Early-clause-fault : goal.returns-in_err-tell_refusal-in-Err-Early-clause-fault
-returns-in_err-tell_refusal-in-Err-Early-clause-fault g c =
-    let heard = c.loop-datagram.invariant.heard in
-    let stop = c.in_err-tell_refusal-in-Err-Early.field-0.0 in
-    passed_on c.from_residual-in_err-tell_refusal-in-Err-Early.result stop _ c.from_residual-in_err-tell_refusal-in-Err-Early.ensures.1
-    (line_unsaid c.args.receiver.now.identity (g.R.Read.remaining c.args.frames.now) (g.H.Host.world c.args.host.now) (g.H.Host.world c.loop-datagram.host)
-    (g.H.Host.world c.tell_refusal-in-Err-Early.new.host) stop (g.R.Read.remaining c.loop-datagram.frames, c.loop-datagram.count, heard.0, heard.1, heard.4, heard.5)
-    c.in_err-tell_refusal-in-Err-Early.ensures.fault)
-
-pub returns-in_err-tell_refusal-in-Err-Full-clause-fault : goal.returns-in_err-tell_refusal-in-Err-Full-clause-fault
-returns-in_err-tell_refusal-in-Err-Full-clause-fault g c =
-    let heard = c.loop-datagram.invariant.heard in
-    let stop = c.in_err-tell_refusal-in-Err-Full.field-0.0 in
-    passed_on c.from_residual-in_err-tell_refusal-in-Err-Full.result stop _ c.from_residual-in_err-tell_refusal-in-Err-Full.ensures.1
-    (line_unsaid c.args.receiver.now.identity (g.R.Read.remaining c.args.frames.now) (g.H.Host.world c.args.host.now) (g.H.Host.world c.loop-datagram.host)
-    (g.H.Host.world c.tell_refusal.new.host) stop (g.R.Read.remaining c.loop-datagram.frames, c.loop-datagram.count, heard.0, heard.1, heard.4, heard.5)
-    c.in_err-tell_refusal-in-Err-Full.ensures.fault)
-
-pub returns-in_err-tell_refusal-in-Err-Fault-clause-fault : goal.returns-in_err-tell_refusal-in-Err-Fault-clause-fault
-returns-in_err-tell_refusal-in-Err-Fault-clause-fault g c =
-    let heard = c.loop-datagram.invariant.heard in
-    let stop = c.in_err-tell_refusal-in-Err-Fault.field-0.0 in
-    passed_on c.from_residual-in_err-tell_refusal-in-Err-Fault.result stop _ c.from_residual-in_err-tell_refusal-in-Err-Fault.ensures.1
-    (line_unsaid c.args.receiver.now.identity (g.R.Read.remaining c.args.frames.now) (g.H.Host.world c.args.host.now) (g.H.Host.world c.loop-datagram.host)
-    (g.H.Host.world c.tell_refusal-in-Err-Fault.new.host) stop (g.R.Read.remaining c.loop-datagram.frames, c.loop-datagram.count, heard.0, heard.1, heard.4, heard.5)
-    c.in_err-tell_refusal-in-Err-Fault.ensures.fault)

@@ -20,7 +20,7 @@ returns-in_err-file-clause-fault g c =
     let r = c.args.request.now in
     let fault = c.in_err-file.field-0.0 in
     passed_on c.from_residual-in_err-file.result fault _ c.from_residual-in_err-file.ensures.1
-    (uncreated old (g.H.Host.world c.create.new.host) (Join r) r.output.now refl c.create.ensures.files c.create.ensures.silent fault c.in_err-file.ensures.none
+    (uncreated old (g.H.Host.world c.create.new.host) (Join r) r.output refl c.create.ensures.files c.create.ensures.silent fault c.in_err-file.ensures.none
     (are_there old.files r.sessions.items _ (rw c.as_slice.ensures.value at c.in_ok-inputs.ensures.inputs)) c.in_err-file.ensures.fault)
 
 pub returns-in_err-count-clause-fault : goal.returns-in_err-count-clause-fault
@@ -32,7 +32,7 @@ returns-in_err-count-clause-fault g c =
     (rw c.as_slice.ensures.value at c.in_ok-inputs.ensures.inputs) in
     let fault = c.in_err-count.field-0.0 in
     passed_on c.from_residual-in_err-count.result fault _ c.from_residual-in_err-count.ensures.1
-    (uncommitted old (g.H.Host.world c.create.new.host) (Join r) r.output.now refl c.create.ensures.files c.create.ensures.silent new c.in_ok-file.ensures.created
+    (uncommitted old (g.H.Host.world c.create.new.host) (Join r) r.output refl c.create.ensures.files c.create.ensures.silent new c.in_ok-file.ensures.created
     (are_there old.files r.sessions.items _ are) c.in_err-count.ensures.files c.commit.ensures.silent c.commit.ensures.created
     (Frame Io) (λ may more. (may, refl, more)) c.join_all-joined.result fault
     (because_unjoined old new r _ are r.turns _ _ _ _ _ _ c.join_all-joined.result c.join_all-joined.ensures.fault)
@@ -57,9 +57,10 @@ returns-clause-ok g c =
         read = hold_sessions old r.sessions.items _ _ all.lists are all.many all.read all.ends;
         gives = (all.lists, refl, (ap (λ (n : ℕ). count_line (codes "joined") n (codes " datagrams")) all.counted, refl, refl));
         made = (
-          kept_whole old (g.H.Host.world c.create.new.host).files (g.H.Host.world c.commit.new.host).files r.output.now bytes blank contents
+          kept_whole old (g.H.Host.world c.create.new.host).files (g.H.Host.world c.commit.new.host).files r.output.name.now bytes blank contents
               c.in_ok-file.ensures.blank all.written c.create.ensures.files c.in_ok-count.ensures.kept,
           c.commit.ensures.created ∙ c.in_ok-file.ensures.created,
+          c.in_ok-file.ensures.free,
         );
       };
       text = ap text_of (sym c.counted.ensures.told);

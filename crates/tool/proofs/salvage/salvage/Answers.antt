@@ -21,7 +21,7 @@ returns-in_err-count-clause-fault g c =
     let input = c.in_ok-input.ensures.input in
     let fault = c.in_err-count.field-0.0 in
     passed_on c.from_residual-in_err-count.result fault _ c.from_residual-in_err-count.ensures.1
-    (uncommitted old (g.H.Host.world c.create.new.host) (Salvage r) r.output.now refl
+    (uncommitted old (g.H.Host.world c.create.new.host) (Salvage r) r.output refl
     c.create.ensures.files c.create.ensures.silent new c.in_ok-file.ensures.created
     (is_there old.files r.session.now opened input.bytes, tt) c.in_err-count.ensures.files
     c.commit.ensures.silent c.commit.ensures.created
@@ -51,9 +51,10 @@ returns-clause-ok g c =
         gives = (kept.datagrams, status, kept.front, (ap line kept.counted, refl, refl));
         made = (
           kept_whole old (g.H.Host.world c.create.new.host).files (g.H.Host.world c.commit.new.host).files
-              r.output.now bytes blank contents c.in_ok-file.ensures.blank kept.written c.create.ensures.files
+              r.output.name.now bytes blank contents c.in_ok-file.ensures.blank kept.written c.create.ensures.files
               c.in_ok-count.ensures.kept,
           c.commit.ensures.created ∙ c.in_ok-file.ensures.created,
+          c.in_ok-file.ensures.free,
         );
       };
       text = refl;

@@ -10,7 +10,7 @@ returns-in_err-write_output-in-Some-clause-fault g c =
     let r = c.args.request.now in
     let fault = c.in_err-write_output-in-Some.field-0.0 in
     passed_on c.from_residual-in_err-write_output-in-Some.result fault _ c.from_residual-in_err-write_output-in-Some.ensures.1
-    (unkept w (g.H.Host.world c.write_output.new.host) (Twin r) r.output.now refl c.in_err-write_output-in-Some.ensures.files c.write_output.ensures.silent
+    (unkept w (g.H.Host.world c.write_output.new.host) (Twin r) r.output refl c.in_err-write_output-in-Some.ensures.files c.write_output.ensures.silent
     (may_create w.files r c.in_ok-inputs.inputs c.in_ok-inputs.ensures.ok c.in_ok-line.field-0.line c.in-Some.other (rw c.in-Some.is at c.in_ok-line.ensures))
     _ fault (λ may more. (may, refl, more)) c.in_err-write_output-in-Some.ensures.fault)
 
@@ -18,7 +18,7 @@ pub returns-in-Some-clause-ok : goal.returns-in-Some-clause-ok
 returns-in-Some-clause-ok g c =
     twinned (g.H.Host.world c.args.host.now) (g.H.Host.world c.write_output.new.host) c.args.request.now c.in_ok-inputs.inputs c.in_ok-inputs.ensures.ok c.in_ok-line.field-0.line
     c.write_output.ensures.silent.printed c.in-Some.other (rw c.in-Some.is at c.in_ok-line.ensures) (rw c.as_slice.ensures.value at c.in_ok-write_output-in-Some.ensures.made)
-    c.in_ok-write_output-in-Some.ensures.created _ refl refl
+    c.in_ok-write_output-in-Some.ensures.created c.in_ok-write_output-in-Some.ensures.free _ refl refl
 
 pub returns-clause-ok : goal.returns-clause-ok
 returns-clause-ok g c =

@@ -1,6 +1,6 @@
 use Rattle.request.specs.Matching.{rows_in}
 use Rattle.request.proofs.Getters.{other_name}
-use Rattle.request.proofs.matched.command_request.Goals as goal
+use Rattle.request.proofs.matched.named_line.Goals as goal
 
 pub unreachable-requires : goal.unreachable-requires
 unreachable-requires c =
