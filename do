@@ -3,7 +3,7 @@
 #
 #     ./do build              proves and builds the program, if it isn't built
 #     ./do check CRATE...     proves these crates, and what they use
-#     ./do gate               runs the merge gate, which takes an hour from nothing
+#     ./do gate               runs the merge gate, an hour or more from nothing
 #     ./do fmt                lays out the files of each crate as the gate wants them
 #     ./do mutants CRATE...   tries the mutants of these crates, those of the gate and the others
 #
