@@ -25,6 +25,9 @@ for line in (top.parent / "crates.txt").read_text().splitlines():
     head, colon, names = line.partition(":")
     if colon and not line.startswith("#"):
         below[head.split()[0]] = names.split()
+for it in below:
+    if not (top / it / "src").is_dir():
+        sys.exit(f"crates.txt: there is no folder {it}")
 def under(name):
     own = [it for it in below[name] if it in below]
     return set(own).union(*map(under, own))
@@ -114,6 +117,7 @@ def main():
         status, said = tree.run()
         every = tree.started()
         expect("it is built, each crate once", status == 0 and len(set(every)) == len(every), said)
+        expect("nothing fails", "isn't proved" not in said, said)
         expect("it ends with the program", every[-1] == "alcrs" and "tool" in every, said)
         expect("it tells how far it is", f"of {len(every)} crates, about" in said, said)
         status, said = tree.run()

@@ -37,13 +37,19 @@ def say(text):
     print(f"{PROGRAM}: {text}", file=sys.stderr, flush=True)
 
 
+def rows_of_crates():
+    """The rows of crates.txt by the crate's name: the row, and the names after the colon."""
+    rows = {}
+    for row in (ROOT / "crates.txt").read_text(encoding="utf-8").splitlines():
+        head, colon, names = row.partition(":")
+        if colon and not head.startswith("#"):
+            rows[head.split()[0]] = row, names.split()
+    return rows
+
+
 def crates_below(top):
     """The crates that one stands on, with itself, from the field up: each with those below it."""
-    below = {}
-    for line in (ROOT / "crates.txt").read_text(encoding="utf-8").splitlines():
-        head, colon, names = line.partition(":")
-        if colon and not head.startswith("#"):
-            below[head.split()[0]] = names.split()
+    below = {name: names for name, (_, names) in rows_of_crates().items()}
     found = {}
 
     def visit(name):
@@ -145,8 +151,11 @@ class Build:
                 if (ROOT / "crates" / name / part).is_dir():
                     place = Path("crates") / name / part
                     shutil.copytree(ROOT / place, copy / place)
-        for name in ("crates.txt", "HANDLES"):
-            shutil.copyfile(ROOT / name, copy / name)
+        # rt refuses a crates.txt that names a crate without a folder.
+        rows = "".join(row + "\n" for name, (row, _) in rows_of_crates().items()
+                       if name in self.below)
+        (copy / "crates.txt").write_text(rows, encoding="utf-8")
+        shutil.copyfile(ROOT / "HANDLES", copy / "HANDLES")
         self.folders.append(copy)
         return copy
 
@@ -206,11 +215,14 @@ class Build:
             if name in self.failed or name == PROGRAM:
                 say(f"{name} isn't proved")
                 return False
+            # Memory may have been what it lacked: fewer at a time from here on.
             self.failed.add(name)
-            self.most = 1
+            self.most, self.at_once = 1, max(1, self.at_once // 2)
             say(f"{name} isn't proved: once more, by itself")
             return True
         self.where[name] = folder
+        if self.failed <= set(self.where):
+            self.most = self.at_once
         self.measured[0] += self.lines[name]
         self.measured[1] += time.monotonic() - begun
         if name != PROGRAM:
