@@ -7,7 +7,8 @@
 another has a copy of crates/ for it, below crates/alcrs/out. What was proved in one folder is
 linked into the others, and rt knows it there by its stamp. Of the crates that wait for none the one
 with the longest chain above it is next. There are as many at a time as there are processors and
-memory for. What fails is tried once more by itself, in the repository's own folder.
+memory for. The crate whose chain decides how long all takes may use each processor, and comes
+before the others there. What fails is tried once more by itself, in the repository's own folder.
 
 What the prover says goes to LOG, and progress to standard error. Ctrl-C ends all that runs, and so
 does the end of whoever called.
@@ -175,6 +176,8 @@ class Build:
         verb = ["rt", "run", *self.flags, "--", "--help"] if name == PROGRAM else ["rt", "lib"]
         if jobs and name != PROGRAM:
             verb += ["--jobs", str(jobs)]
+            if not self.decides(name):
+                verb = ["nice", *verb]
         out = folder / "crates" / name / "out"
         out.mkdir(parents=True, exist_ok=True)
         with open(out / "build.said", "wb") as said:
@@ -184,6 +187,10 @@ class Build:
             )
         self.running[folder] = child, name, time.monotonic()
         return True
+
+    def decides(self, name):
+        """Whether no other crate that isn't proved has as long a chain from it on."""
+        return all(self.chain[it] <= self.chain[name] for it in self.below if it not in self.where)
 
     def start_all(self):
         """Starts what can be started. The program itself comes last, when all else is there."""
@@ -198,6 +205,8 @@ class Build:
                 return
             shared = sum(self.lines[it] for it in names.union(ready))
             jobs = max(1, round(self.most * self.lines[name] / max(1, shared)))
+            if self.decides(name):
+                jobs = self.most
             # By itself rt chooses how many processors it takes.
             if not self.start(name, jobs if self.most > 1 else 0):
                 return
