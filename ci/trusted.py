@@ -62,7 +62,7 @@ PROMISES = [
         [("cert", "check", ["verdict"])],
         ["headline"],
     ),
-    ("laws", "that answers, verdicts and faults are one, and come in their order", [
+    ("laws", "that answers and verdicts are unique, and that faults come in their order", [
         ("session", "one_session", []),
         ("alc", "one_reading", []),
         ("reception", "first_fault", []),
@@ -344,7 +344,7 @@ def kit_closure(modules, wanted):
 
 
 def kit_sentence(modules, wanted):
-    """What of the kit the clauses stand on, in a sentence."""
+    """What of the kit the clauses use, in a sentence."""
     sizes = {}
     for crate, path, name in kit_closure(modules, wanted):
         lines = [line for line in kit_module_at(path).definitions[name]]
@@ -354,7 +354,7 @@ def kit_sentence(modules, wanted):
         sizes[group][1] += sum(max(1, math.ceil(len(line.rstrip()) / WIDTH)) for line in lines)
     told = [f"{sizes[g][0]} definitions of the kit's {n}, in {sizes[g][1]} lines" for g, n in
             (("others", "std and byteorder"), ("clap", "clap")) if g in sizes]
-    text = "Beside them clauses stand on " + " and ".join(told) + "."
+    text = "The clauses also use " + ", and ".join(told) + "."
     return textwrap.fill(text, WIDTH)
 
 
@@ -466,7 +466,7 @@ def table(modules, wanted):
         "| promise | beyond | definitions | lines |",
         "|---|---|---|---|",
     ]
-    sentence = textwrap.fill(kit_sentence(modules, wanted), 120)
+    sentence = kit_sentence(modules, wanted)
     return "\n".join(text + rows + ["", sentence, ""]) + "\n"
 
 
