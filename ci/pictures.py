@@ -1,6 +1,6 @@
 #!/usr/bin/env python3
-"""Has the program draw sessions, and tells whether the sheets say what `check` prints and `show`
-gives.
+"""Has the program draw sessions, and tells whether the sheets and the summaries of a yes say what
+`check` prints and `show` gives.
 
 Of each sheet: it is XML, in UTF-8, and short; its words tell the margin, the burst, the weakest
 block, the kill and the carriers that the lines tell; its columns stand as high as what each block
@@ -196,6 +196,26 @@ def compare_drawing(name, told, runs, paths):
     compare_heights(name, shown, heights, RUNS, top_of(max(shown)))
 
 
+def compare_summary(name, told, listed, runs, summary):
+    """The summary says what the lines do, and where and what a burst and the kill leave short."""
+    block = told.spares.index(min(told.spares))
+    need, have = told.blocks[block]
+    own = [packet for packet in listed if packet]
+    repeats = len(own) - len({(sbn, esi) for sbn, esi, _ in own})
+    place = runs.index(told.burst)
+    short = r"(?:block (\d+)|carriers)\n"
+    said = re.fullmatch(
+        f"yes\nweakest block {block} need {need} have {have}\ncarriers {told.carriers}\n"
+        f"repeats {repeats}\nmargin {told.margin}\nkill {short}"
+        f"burst {told.burst} place {place} {short}",
+        summary,
+    )
+    if said is None:
+        wrong(f"{name}: the summary is {summary}")
+    compare_harm(name, told, listed, told.kill, said[1])
+    compare_harm(name, told, listed, range(place, place + told.burst + 1), said[2])
+
+
 def compare(room, session, object, certificate, identity):
     words = ["check", session, object, certificate, *identity]
     without = run(room, *words)
@@ -204,6 +224,8 @@ def compare(room, session, object, certificate, identity):
         file.write(BEFORE)
     if run(room, *words, "--picture", "out.svg") != without:
         wrong(f"{session}: with a picture, check answers something else than {without}")
+    if without[0] != 0 and run(room, *words, "--summary") != without:
+        wrong(f"{session}: with a summary, check answers something else than {without}")
     with open(output, "rb") as file:
         return without, file.read()
 
@@ -218,7 +240,13 @@ def compare_drawn(room, session, object, certificate, identity):
     compare_words(
         session, told, listed, sheet.findtext(f"{SVG}title"), sheet.findtext(f"{SVG}desc")
     )
-    compare_drawing(session, told, longest_runs(told, listed), sheet.findall(f"{SVG}path"))
+    runs = longest_runs(told, listed)
+    compare_drawing(session, told, runs, sheet.findall(f"{SVG}path"))
+    words = ["check", session, object, certificate, *identity, "--summary"]
+    both = [run(room, *words), run(room, *words, "--picture", "out.svg")]
+    compare_summary(session, told, listed, runs, both[0][1])
+    if both != [(0, both[0][1])] * 2:
+        wrong(f"{session}: with a summary the answers are {both}")
     texts = [text.text for text in sheet.findall(f"{SVG}text")]
     is_named = any(text.startswith(f"session {session[:20]}") for text in texts)
     if f"object {object}" not in texts or not is_named:

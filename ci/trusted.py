@@ -78,9 +78,9 @@ PROMISES = [
         ("cert", "first_column", []),
     ], ["headline", "verdict"]),
     ("sending", "`encode`, `certify` and their sessions", [
-        ("coder", "encode", []),
-        ("coder", "certify", []),
-        ("coder", "sent_checks_yes", []),
+        ("encoder", "encode", []),
+        ("encoder", "certify", []),
+        ("encoder", "sent_checks_yes", []),
     ], ["headline", "verdict"]),
     (
         "reading",

@@ -8,8 +8,8 @@ use Rattle.partition.specs.declared.order.Order.{Order}
 use Rattle.partition.specs.declared.order.Order.TheVariants.{Blocks, Rounds}
 use Rattle.session.specs.Frames.{frames}
 use Rattle.reception.specs.declared.scope.Identity.{Identity}
-use Rattle.coder.specs.Sending.{IsSessionOf}
-use Rattle.coder.specs.Certified.{IsCertifiedTo}
+use Rattle.encoder.specs.Sending.{IsSessionOf}
+use Rattle.encoder.specs.Certified.{IsCertifiedTo}
 
 -- the FTI of the object and the numbers
 abbrev pub fti_of : List ℕ → ℕ × ℕ × ℕ → Fti

@@ -2,7 +2,7 @@
 use Rattle.std.specs.Prelude.{◌≡◌, ◌<◌, ℕ, List, ⊤}
 use Rattle.reception.specs.declared.scope.Identity.{Identity}
 use Rattle.cert.specs.Certificate.{IsIdentity}
-use Rattle.coder.specs.Sending.{most_symbol_bytes}
+use Rattle.encoder.specs.Sending.{most_symbol_bytes}
 use Rattle.alcrs_c.specs.Making.{IsNoFti}
 use Rattle.alcrs_c.specs.declared.making.Unmade.{Unmade}
 use Rattle.alcrs_c.specs.declared.making.Unmade.TheVariants.{Fti, TooLong, OutOfRange, NoMemory}

@@ -3,7 +3,7 @@ ghost use Rattle.std.specs.Prelude.{◌≡◌, ◌≢◌, ◌<◌, ◌++◌, ◌
 ghost use Rattle.std.specs.Prelude.{length};
 ghost use Rattle.partition.specs.declared.FtiError.{FtiError as FtiErrorValue};
 ghost use Rattle.cert.specs.Certificate.{IsIdentity};
-ghost use Rattle.coder.specs.Sending.{most_symbol_bytes};
+ghost use Rattle.encoder.specs.Sending.{most_symbol_bytes};
 ghost use Rattle.alcrs_c.specs.Asked.{identity_of};
 ghost use Rattle.alcrs_c.specs.Making.{IsEncoded, IsCertified, IsNoFti};
 ghost use Rattle.alcrs_c.specs.Unmade.{IsUnsent, IsUncertified};
@@ -14,7 +14,7 @@ ghost use Rattle.alcrs_c.specs.Told.{told_fti};
 use crate::input::identity;
 use crate::status;
 use crate::told::{AlcrsFault, fti_fault, put_bytes};
-use coder::{CertifyFault, SendFault, certify_to, encode};
+use encoder::{CertifyFault, SendFault, certify_to, encode};
 use partition::{Fti, FtiError, Order};
 use reception::Identity;
 use session::Sink;

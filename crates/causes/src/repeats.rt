@@ -11,9 +11,9 @@ fn last_number(line: &str) -> u64 {
         .unwrap_or(0)
 }
 
-/// How many datagrams are repeats of others, at least, by the lines of a yes: as many as there are
-/// more carriers than different symbols. Where each datagram carries the FTI, that is exactly how
-/// many. 0 of any other text.
+/// How many datagrams are repeats of others, by the lines of a yes: as many as a summary says, or
+/// else, at least, as many as there are more carriers than different symbols. Where each datagram
+/// carries the FTI, that is exactly how many. 0 of any other text.
 pub fn repeats_in(text: &str) -> u64
     ensures other { starts_with nat_eq text.now (codes "yes\n") ≡ false → result ≡ 0 }
 {
@@ -23,6 +23,9 @@ pub fn repeats_in(text: &str) -> u64
     let mut different = 0u64;
     let mut carriers = 0u64;
     for line in text.split('\n') {
+        if line.starts_with("repeats ") {
+            return last_number(line);
+        }
         if line.starts_with("block ") {
             different = different.saturating_add(last_number(line));
         } else if line.starts_with("carriers ") {

@@ -1,6 +1,6 @@
 -- Datagrams that come one after the other, and what is told of them.
-use Rattle.std.proofs.Common.{◌≡◌, ℕ, ◌+◌, ◌<◌, Bool, true, false, cond, List, [], ◌∷◌, ◌++◌, Option, Some, None, Result, Ok, Err, length, get_or, refl, sym, ap, subst, ◌∙◌, arith, lt-ltb}
-use Rattle.std.specs.Prelude.{option_map, nat_lt, OnOk, IfErr, IsErrAnd}
+use Rattle.std.proofs.Common.{◌≡◌, ℕ, ◌+◌, ◌<◌, Bool, true, false, cond, List, [], ◌∷◌, ◌++◌, Option, Some, None, Result, Ok, Err, length, get_or, refl, sym, ap, subst, ◌∙◌, arith}
+use Rattle.std.specs.Prelude.{option_map, OnOk, IfErr, IsErrAnd}
 use Rattle.std.proofs.lemmas.List.{map-append, length-append, length-map, append-nil}
 use Rattle.std.proofs.Math.Seq.{get_or-append_seam}
 use Rattle.std.proofs.lemmas.Bool.{ltb-true}
@@ -86,17 +86,17 @@ module _ {R : Type 0} (judge : Judge R) (known : Scope) (f : Fti) (ds : List (Li
 
 -- ---- to a check
 
--- some symbols came, with one more
-some_more : (xs : List Placed) (x : Placed) (s : Symbol) → symbols_in x.reading ≡ s ∷ [] → nat_lt 0 (length (symbols (xs ++ x ∷ []))) ≡ true
-some_more xs x s is =
+-- one symbol more came
+one_more : (xs : List Placed) (x : Placed) (s : Symbol) → symbols_in x.reading ≡ s ∷ [] → length (symbols (xs ++ x ∷ [])) ≡ length (symbols xs) + 1
+one_more xs x s is =
     let all = ap (λ (ss : List Symbol). length ss) (symbols_more xs (x ∷ [])) in
     let parts = length-append (symbols xs) (symbols_in x.reading ++ []) in
     let last = length-append (symbols_in x.reading) [] in
     let one = ap (λ (ss : List Symbol). length ss) is in
-    lt-ltb 0 (length (symbols (xs ++ x ∷ []))) (omega (arith, all, parts, last, one))
+    omega (arith, all, parts, last, one)
 
-module _ (who : Identity) (z : Certificate) (scope : Scope) (count : ℕ) (came : Bool) (groups : List Group) (carriers : List ℕ) (ds : List (List ℕ))
-    (are : AreWalked who z scope count came groups carriers ds) where
+module _ (who : Identity) (z : Certificate) (scope : Scope) (count taken : ℕ) (groups : List Group) (carriers : List ℕ) (ds : List (List ℕ))
+    (are : AreWalked who z scope count taken groups carriers ds) where
   -- the identity is that which is asked for
   same_who : scope.identity ≡ who
   same_who = sym (ap (λ (s : Scope). s.identity) are.holds) ∙ identity_stays (with_fti who z.fti) (counted who (readings_of ds))
@@ -140,24 +140,24 @@ module _ (who : Identity) (z : Certificate) (scope : Scope) (count : ℕ) (came 
         ∙ ap (λ (n : ℕ). counted who (readings_of ds) ++ placed_at who n at.reading) place
 
     -- nothing is wrong with it
-    next : (after : List Group) (with : List ℕ) (some : Bool) → wrong_by (uncertified z) (came_before who (ds ++ d ∷ []) (length ds)) (looked answer) ≡ None
-        → nat_lt 0 (length (symbols (counted who (readings_of (ds ++ d ∷ []))))) ≡ some → AreGroupsOf z.fti (counted who (readings_of (ds ++ d ∷ []))) after
-        → with ≡ places_from (is_carrier who) 0 (readings_of (ds ++ d ∷ [])) → AreWalked new.identity z new (count + 1) some after with (ds ++ d ∷ [])
-    next after with some none is groups placed =
+    next : (after : List Group) (with : List ℕ) (many : ℕ) → wrong_by (uncertified z) (came_before who (ds ++ d ∷ []) (length ds)) (looked answer) ≡ None
+        → length (symbols (counted who (readings_of (ds ++ d ∷ [])))) ≡ many → AreGroupsOf z.fti (counted who (readings_of (ds ++ d ∷ []))) after
+        → with ≡ places_from (is_carrier who) 0 (readings_of (ds ++ d ∷ [])) → AreWalked new.identity z new (count + 1) many after with (ds ++ d ∷ [])
+    next after with many none is groups placed =
         let w = clean_now (uncertified z) (with_fti who z.fti) z.fti ds scope fti_holds are.clean are.holds d new answer at none in
-        subst (λ (i : Identity). AreWalked i z new (count + 1) some after with (ds ++ d ∷ [])) (sym (same_identity d scope new answer at ∙ same_who))
-        (record { clean = w.0; holds = w.1; many = one_longer; some = is; grouped = groups; placed = placed })
+        subst (λ (i : Identity). AreWalked i z new (count + 1) many after with (ds ++ d ∷ [])) (sym (same_identity d scope new answer at ∙ same_who))
+        (record { clean = w.0; holds = w.1; many = one_longer; counts = is; grouped = groups; placed = placed })
 
   -- a packet of another identity is passed over
-  pub passes_over : (d : List ℕ) (new : Scope) → IsLook d scope new (Ok look_at.Other) → AreWalked new.identity z new (count + 1) came groups carriers (ds ++ d ∷ [])
+  pub passes_over : (d : List ℕ) (new : Scope) → IsLook d scope new (Ok look_at.Other) → AreWalked new.identity z new (count + 1) taken groups carriers (ds ++ d ∷ [])
   passes_over d new at =
       let other : counts who at.reading ≡ false = subst (λ (i : Identity). counts i at.reading ≡ false) same_who (passed_counts d scope new at) in
       let same : counted who (readings_of (ds ++ d ∷ [])) ≡ counted who (readings_of ds) =
       counted_is d new (Ok look_at.Other) at
       ∙ ap (λ (v : Bool). counted who (readings_of ds) ++ cond v (record { place = count; reading = at.reading } ∷ []) []) other
       ∙ append-nil (counted who (readings_of ds)) in
-      next d new (Ok look_at.Other) at groups carriers came refl
-      (ap (λ (xs : List Placed). nat_lt 0 (length (symbols xs))) same ∙ are.some)
+      next d new (Ok look_at.Other) at groups carriers taken refl
+      (ap (λ (xs : List Placed). length (symbols xs)) same ∙ are.counts)
       (subst (λ (xs : List Placed). AreGroupsOf z.fti xs groups) (sym same) are.grouped)
       (are.placed
       ∙ sym (ap (λ (rs : List Reading). places_from (is_carrier who) 0 rs) (one_reading d new (Ok look_at.Other) at) ∙ places_passed who (readings_of ds) at.reading other))
@@ -194,14 +194,14 @@ module _ (who : Identity) (z : Certificate) (scope : Scope) (count : ℕ) (came 
 
     -- the next datagram has no reason against it
     pub passes : (after : List Group) (with : List ℕ) → uncertified z [] (symbol_of (packet_of p)) ≡ None → IsPut groups count (symbol_of (packet_of p)) after
-        → with ≡ with_carrier carriers count (packet_of p).fti → AreWalked new.identity z new (count + 1) true after with (ds ++ d ∷ [])
+        → with ≡ with_carrier carriers count (packet_of p).fti → AreWalked new.identity z new (count + 1) (taken + 1) after with (ds ++ d ∷ [])
     passes after with says put placed =
         let x : Placed = record { place = count; reading = at.reading } in
         let is : symbols_in at.reading ≡ symbol_of (packet_of p) ∷ [] = ap symbols_in (is_packet d scope new p at) in
         let more : counted who (readings_of (ds ++ d ∷ [])) ≡ counted who (readings_of ds) ++ x ∷ [] =
         counted_is d new (Ok (look_at.InRange p)) at ∙ ap (λ (v : Bool). counted who (readings_of ds) ++ cond v (x ∷ []) []) mine in
-        next d new (Ok (look_at.InRange p)) at after with true (ap (λ (o : Option ℕ). judged o) says)
-        (ap (λ (xs : List Placed). nat_lt 0 (length (symbols xs))) more ∙ some_more (counted who (readings_of ds)) x (symbol_of (packet_of p)) is)
+        next d new (Ok (look_at.InRange p)) at after with (taken + 1) (ap (λ (o : Option ℕ). judged o) says)
+        (ap (λ (xs : List Placed). length (symbols xs)) more ∙ one_more (counted who (readings_of ds)) x (symbol_of (packet_of p)) is ∙ ap (λ (n : ℕ). n + 1) are.counts)
         (subst (λ (xs : List Placed). AreGroupsOf z.fti xs after) (sym more)
         (group_more z.fti (counted who (readings_of ds)) count (symbol_of (packet_of p)) at.reading is groups after are.grouped put))
         (placed ∙ sym carriers_more)

@@ -1,8 +1,7 @@
 -- What the answers of the parts of a check say of the verdict.
-use Rattle.std.proofs.Common.{◌≡◌, ◌≢◌, ◌∙◌, ℕ, suc, Bool, true, false, List, [], ◌∷◌, ◌++◌, Option, Some, None, Ok, Err, length, refl, sym, ap, subst, arith}
-use Rattle.std.specs.Prelude.{option_map, nat_lt, if◌then◌else◌}
+use Rattle.std.proofs.Common.{◌≡◌, ◌≢◌, ◌∙◌, ℕ, suc, Bool, true, List, [], ◌∷◌, ◌++◌, Option, Some, None, Ok, Err, length, refl, sym, ap, subst, arith}
+use Rattle.std.specs.Prelude.{option_map, if◌then◌else◌}
 use Rattle.std.specs.List.{AllByRecursion}
-use Rattle.std.proofs.lemmas.Bool.{ltb-false}
 use Rattle.alc.specs.Packet.{Packet}
 use Rattle.alc.specs.Reading.{Reading}
 use Rattle.alc.specs.Computed.{read_of}
@@ -127,13 +126,13 @@ refused who rs object z (Range i) name form gives h = (name, form, gives, h)
 refused who rs object z (Symbol i c) name form gives h = (name, form, gives, h)
 
 -- where some symbols came, there are some, and where none came, none
-pub some_came : (arrivals : List Received) → nat_lt 0 (length arrivals) ≡ true → arrivals ≢ []
-some_came [] h e = absurd (cc)
-some_came (s ∷ ss) h e = absurd (cc)
+pub some_came : (arrivals : List Received) (n : ℕ) → length arrivals ≡ n → n ≢ 0 → arrivals ≢ []
+some_came [] n l e p = e (sym l)
+some_came (s ∷ ss) n l e p = absurd (cc)
 
-pub none_came : (arrivals : List Received) → nat_lt 0 (length arrivals) ≡ false → arrivals ≡ []
-none_came [] h = refl
-none_came (s ∷ ss) h = let l = ltb-false 0 (length (s ∷ ss)) h in absurd (omega (arith, l))
+pub none_came : (arrivals : List Received) (n : ℕ) → length arrivals ≡ n → n ≡ 0 → arrivals ≡ []
+none_came [] n l e = refl
+none_came (s ∷ ss) n l e = absurd (omega (arith, l, e))
 
 -- the verdict where all is well
 pub yes_all : (who : Identity) (ds : List (List ℕ)) (object : List ℕ) (z : Certificate) (report : Report) → is_for who z.name ≡ true → IsObject z.fti object → GivesObject object z → AreEnoughCertified who ds z

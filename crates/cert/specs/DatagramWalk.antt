@@ -1,5 +1,5 @@
 -- What is known of datagrams that were looked at one by one.
-use Rattle.std.specs.Prelude.{◌≡◌, ◌≢◌, ℕ, ◌+◌, Bool, true, false, nat_lt, List, [], length, Option}
+use Rattle.std.specs.Prelude.{◌≡◌, ◌≢◌, ℕ, ◌+◌, true, false, List, [], length, Option}
 use Rattle.std.specs.Prelude.{None, Some, IfSome, ⊤}
 use Rattle.std.specs.Io.KnownBytes.{Consumes, IsAtEnd}
 use Rattle.session.specs.Frames.{frames, AreDatagrams}
@@ -24,18 +24,18 @@ use Rattle.cert.specs.Verdict.{IsFirstNotGiven, reception_to, first_reason, Verd
 
 -- these datagrams came to the check of a certificate, none with a reason against it: what is known
 -- of them
-pub record AreWalked (who : Identity) (z : Certificate) (scope : Scope) (count : ℕ) (came : Bool)
+pub record AreWalked (who : Identity) (z : Certificate) (scope : Scope) (count taken : ℕ)
     (groups : List Group) (carriers : List ℕ) (datagrams : List (List ℕ)) : Type 0 where
   pub clean : (reception_to who z (readings_of datagrams)).wrong ≡ None
   pub holds : (reception_to who z (readings_of datagrams)).scope ≡ scope
   pub many : length datagrams ≡ count
-  pub some : nat_lt 0 (length (symbols (counted who (readings_of datagrams)))) ≡ came
+  pub counts : length (symbols (counted who (readings_of datagrams))) ≡ taken
   pub grouped : AreGroupsOf z.fti (counted who (readings_of datagrams)) groups
   pub placed : carriers ≡ places_from (is_carrier who) 0 (readings_of datagrams)
 
 abbrev pub HasWalked : Walk → List (List ℕ) → Type 0
 HasWalked walk datagrams =
-    AreWalked walk.scope.identity walk.symbols walk.scope walk.count walk.came
+    AreWalked walk.scope.identity walk.symbols walk.scope walk.count walk.taken
     (groups_of walk.groups.items)
     walk.carriers.items datagrams
 

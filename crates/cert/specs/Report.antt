@@ -1,5 +1,6 @@
 -- What the report of a yes says.
-use Rattle.std.specs.Prelude.{◌≡◌, ℕ, ◌+◌, List, map, count_by}
+use Rattle.std.specs.Prelude.{◌≡◌, ℕ, ◌+◌, ◌-◌, List, length, map, count_by}
+use Rattle.std.specs.List.{sum_by}
 use Rattle.lists.specs.Below.{below}
 use Rattle.losses.specs.Losses.{Blocks, IsMargin, IsKill, IsBurst}
 use Rattle.partition.specs.Fti.{Fti, block_count, source_count}
@@ -21,9 +22,9 @@ blocks_of who f = record {
   is_carrier = is_carrier who;
 }
 
--- For each block its source symbols, and how many different ESIs of it came; how many carriers; and
--- what may be lost. A loss is of datagrams, whosever packets they are, and its places are those of
--- all of them.
+-- For each block its source symbols, and how many different ESIs of it came; how many carriers; how
+-- many symbols came beside the different ones; and what may be lost. A loss is of datagrams,
+-- whosever packets they are, and its places are those of all of them.
 pub record IsReport (who : Identity) (datagrams : List (List ℕ)) (f : Fti)
     (report : Report) : Type 0 where
   pub readings : List Reading
@@ -32,6 +33,8 @@ pub record IsReport (who : Identity) (datagrams : List (List ℕ)) (f : Fti)
       ≡ map (λ b. (source_count f b, arrived_count (symbols (counted who readings)) b))
       (below (block_count f))
   pub carriers : report.carriers ≡ count_by (is_carrier who) readings
+  pub repeats : report.repeats ≡ length (symbols (counted who readings))
+      - sum_by (λ counts. counts.1) report.blocks.items
   pub margin : IsMargin (blocks_of who f) readings report.margin
   pub kill : IsKill (blocks_of who f) readings (report.margin + 1) report.kill.items
   pub burst : IsBurst (blocks_of who f) readings report.burst

@@ -12,6 +12,8 @@ pub struct Report {
     /// How many places hold a carrier: a packet of the identity that carries an FTI. A datagram
     /// that comes again counts again.
     pub carriers: usize,
+    /// How many of the identity's packets have a symbol that a packet before them has, too.
+    pub repeats: usize,
     /// The greatest number of datagrams whose loss, whichever of all they are, leaves a carrier and
     /// no block short.
     pub margin: usize,

@@ -1,7 +1,8 @@
 //! A check's walk over datagrams, one step each.
 ghost use Rattle.reception.specs.Walks.{in_range};
-ghost use Rattle.std.specs.Prelude.{◌≡◌, ◌<◌, ◌≤◌, ◌++◌, ◌∷◌, ◌^◌, [], true, None, ℕ, List, length};
-ghost use Rattle.std.specs.Prelude.{map, IfOk, IfErr, OnOk};
+ghost use Rattle.std.specs.Prelude.{◌≡◌, ◌<◌, ◌≤◌, ◌++◌, ◌∷◌, ◌+◌, ◌-◌, ◌^◌, [], true, None, ℕ};
+ghost use Rattle.std.specs.Prelude.{List, length, map, IfOk, IfErr, OnOk};
+ghost use Rattle.std.specs.List.{sum_by};
 ghost use Rattle.lists.specs.Below.{below};
 ghost use Rattle.lists.specs.Selection.{rest, is_among};
 ghost use Rattle.losses.specs.Groups.{groups_of, InEachList};
@@ -59,8 +60,9 @@ pub(crate) struct Walk<'a> {
     groups: Vec<Group>,
     carriers: Vec<usize>,
     count: usize,
-    // Whether some packet of the identity came.
-    came: bool,
+    // How many of the identity's packets came.
+    taken: usize,
+    ghost few: { taken ≤ count },
     ghost valid: { IsCertificate symbols },
     ghost name: { is_for scope.identity symbols.name ≡ true },
     ghost form: { IsObject symbols.fti object.now },
@@ -103,7 +105,7 @@ impl<'a> Walk<'a> {
             groups: empty_groups(alloc, &fti)?,
             carriers: Vec::new(alloc),
             count: 0,
-            came: false,
+            taken: 0,
         })
     }
 
@@ -138,11 +140,12 @@ impl<'a> Walk<'a> {
         requires range { in_range (packet_of packet.now) self.old.symbols.fti ≡ true }
         requires symbol { length packet.now.symbol.now ≡ self.old.symbols.fti.symbol_length }
         requires block { packet.now.sbn < length self.old.groups.items }
+        requires counted { self.old.taken < self.old.count }
         ensures certificate { self.new.symbols ≡ self.old.symbols }
         ensures object { self.new.object.now ≡ self.old.object.now }
         ensures scope { self.new.scope ≡ self.old.scope }
         ensures count { self.new.count ≡ self.old.count }
-        ensures came { OnOk result (self.new.came ≡ true) }
+        ensures taken { OnOk result (self.new.taken ≡ self.old.taken + 1) }
         ensures certified { OnOk result
             (uncertified self.old.symbols [] (symbol_of (packet_of packet.now)) ≡ None) }
         ensures put { OnOk result (IsPut (groups_of self.old.groups.items) place
@@ -157,7 +160,7 @@ impl<'a> Walk<'a> {
         }
         put(&mut self.groups, place, packet)?;
         put_carrier(&mut self.carriers, place, packet)?;
-        self.came = true;
+        self.taken += 1;
         Ok(())
     }
 
@@ -224,7 +227,7 @@ impl<'a> Walk<'a> {
         ensures no_report { (datagrams : List (List ℕ)) → HasWalked self.now datagrams
             → IfErr result (IsNoReport self.now.scope.identity datagrams self.now.symbols) }
     {
-        if !self.came {
+        if self.taken == 0 {
             return Err(NoReport::Reason(Reason::Empty));
         }
         let blocks = block_lines(alloc, &self.groups)?;
@@ -237,15 +240,28 @@ impl<'a> Walk<'a> {
             kill_block,
             burst,
         } = figures_of(alloc, &self.groups, &self.carriers)?;
+        let repeats = without_different(self.taken, &blocks);
         let report = Report {
             blocks,
             carriers: self.carriers.len(),
+            repeats,
             margin,
             kill,
             burst,
         };
         Ok((report, kill_block))
     }
+}
+
+// How many of so many packets are left without one for each different ESI of each block.
+fn without_different(taken: usize, blocks: &[(usize, usize)]) -> usize
+    ensures { result ≡ taken - sum_by (λ counts. counts.1) blocks.now }
+{
+    let mut repeats = taken;
+    for (_, have) in blocks {
+        repeats = repeats.saturating_sub(*have);
+    }
+    repeats
 }
 
 // For each block its source symbols and its different ESIs, or the reason of the least block that

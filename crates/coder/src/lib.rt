@@ -1,33 +1,18 @@
-//! The coder: an object's encoding symbols as a session, and its certificate.
+//! The encoder and the decoder under one name.
 //!
-//! - `rows`: encoding symbols and coefficients of a block, as sums of the rows of its source
-//!   symbols;
-//! - `sending`: the datagrams of an object's encoding symbols, in either order;
-//! - `certifying`: the polynomials of its byte columns; `by_values`: those of large blocks, by the
-//!   values at all points;
-//! - `object`: an object that comes from a reader, block by block; `sending_from`: its session in
-//!   order `Blocks`; `certifying_from`: its certificate;
-//! - `laws`: what encoding, certifying and checking give together.
+//! - The crate `encoder` has [`encode`] and [`encode_from`], which make the session of an object,
+//!   and [`certify`], [`certify_to`] and [`certify_from`], which make its certificate.
+//! - The crate `decoder` has [`decode`] and [`Receiver`], which give the object that datagrams
+//!   carry.
 //!
-//! Decoding is a crate of its own, `decoder`, whose calls can be named from here, too.
+//! Neither depends on the other. This crate has no code of its own.
 #![tactic(auto)]
 
-mod by_values;
-mod certifying;
-mod certifying_from;
-mod laws;
-mod object;
-mod rows;
-mod sending;
-mod sending_from;
-
-pub use certifying::{CertifyFault, certify, certify_to};
-pub use certifying_from::{CertifyFromFault, certify_from};
 pub use decoder::{
     Answer, DecodeFault, FeedFault, Gathered, ObjectSymbols, Progress, Receiver, WriteFault,
     decode, decode_selection, gather, one_answer,
 };
-pub use laws::sent_checks_yes;
-pub use object::ObjectFault;
-pub use sending::{SendFault, encode};
-pub use sending_from::{SendFromFault, encode_from};
+pub use encoder::{
+    CertifyFault, CertifyFromFault, ObjectFault, SendFault, SendFromFault, certify, certify_from,
+    certify_to, encode, encode_from, sent_checks_yes,
+};

@@ -45,7 +45,7 @@ commands orders =
     ∷ writing "certify" (file "OBJECT" ∷ file "OUT" ∷ identifiers ++ size_arguments)
     ∷ writing "convert" (file "IN" ∷ file "OUT" ∷ identifiers)
     ∷ writing "check" (file "SESSION" ∷ file "OBJECT" ∷ file "CERT" ∷ identifiers
-    ++ FileOption (codes "picture") ∷ [])
+    ++ FileOption (codes "picture") ∷ Flag (codes "summary") None ∷ [])
     ∷ writing "drop" (file "SESSION" ∷ file "OUT" ∷ Numbers (codes "PLACE") 0 4294967295 ∷ [])
     ∷ writing "salvage" (file "SESSION" ∷ file "OUT" ∷ [])
     ∷ writing "join" (file "OUT" ∷ Files (codes "SESSION") ∷ Flag (codes "turns") None ∷ [])

@@ -54,7 +54,8 @@ command_of (Convert r) =
     writing "convert" (path r.certificate ∷ path r.output.name ∷ whose r.identity) r.output
 command_of (Check r) =
     command "check" (path r.session ∷ path r.object ∷ path r.certificate ∷ whose r.identity
-    ++ MaybeText (option_map (λ name. name.now) r.picture) ∷ AFlag r.no_clobber ∷ [])
+    ++ MaybeText (option_map (λ name. name.now) r.picture) ∷ AFlag r.summary
+    ∷ AFlag r.no_clobber ∷ [])
 command_of (Drop r) = writing "drop"
     (path r.session ∷ path r.output.name ∷ SomeNumbers r.places.items ∷ []) r.output
 command_of (Salvage r) = writing "salvage" (path r.session ∷ path r.output.name ∷ []) r.output

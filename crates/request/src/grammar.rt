@@ -158,6 +158,12 @@ const PICTURE: Argument<'static> = Argument::FileOption {
     help: "The SVG file to draw a yes to: symbols to spare, bursts that may be missed",
 };
 
+const SUMMARY: Argument<'static> = Argument::Flag {
+    name: "summary",
+    short: None,
+    help: "Prints few lines at a yes: the weakest block, not all blocks",
+};
+
 const QUIET: Argument<'static> = Argument::Flag {
     name: "quiet",
     short: Some('q'),
@@ -259,6 +265,7 @@ const OUTLINES: [Outline<'static>; 11] = [
             TSI,
             TOI,
             PICTURE,
+            SUMMARY,
             NO_CLOBBER,
             QUIET,
         ],

@@ -204,6 +204,7 @@ fn check_line<'a>(matches: &ArgMatches<'a>) -> CommandLine<'a>
             certificate: text(matches, "CERT"),
             identity: identity(matches),
             picture: given_text(matches, "picture"),
+            summary: flag(matches, "summary"),
             no_clobber: flag(matches, "no-clobber"),
         }),
     )

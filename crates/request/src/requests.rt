@@ -43,7 +43,7 @@ pub struct Output<'a> {
 }
 
 /// Is the certificate one of the object and of the session's packets with this identity? With a
-/// picture, draw what may be missed.
+/// picture, draw what may be missed. With a summary, print few lines at a yes.
 #[derive(Drop)]
 pub struct CheckRequest<'a> {
     pub session: &'a str,
@@ -51,6 +51,8 @@ pub struct CheckRequest<'a> {
     pub certificate: &'a str,
     pub identity: Identity,
     pub picture: Option<&'a str>,
+    /// Whether a yes is told in few lines, without one for each block.
+    pub summary: bool,
     /// Whether a file that is there under the picture's name stays.
     pub no_clobber: bool,
     ghost narrow: { IsNarrow identity },

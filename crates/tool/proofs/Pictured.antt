@@ -1,8 +1,16 @@
 -- What came of a check, by what was told of it.
-use Rattle.std.proofs.Common.{◌≡◌, ℕ, Bool, List, [], ◌∷◌, Option, Some, None, Bor, option_map, ap, refl, sym, subst}
+use Rattle.std.proofs.Common.{◌≡◌, ℕ, Bool, true, false, List, [], ◌∷◌, Option, Some, None, Bor, option_map, length, ap, refl, sym, subst, arith}
+use Rattle.std.proofs.lemmas.List.{length-map}
+use Rattle.lists.specs.Below.{below}
+use Rattle.lists.proofs.Below.{length_below}
+use Rattle.partition.specs.Fti.{block_count, source_count}
+use Rattle.partition.proofs.Laws.{some_block}
+use Rattle.reception.specs.Symbols.{arrived_count}
+use Rattle.reception.specs.Reception.{counted, symbols}
 use Rattle.reception.specs.declared.scope.Identity.{Identity}
-use Rattle.cert.specs.Certificate.{Certificate}
-use Rattle.cert.specs.Surveying.{IsSurveyedFrom}
+use Rattle.cert.specs.Certificate.{Certificate, IsCertificate}
+use Rattle.cert.specs.Surveying.{IsSurveyedFrom, OnYesWith}
+use Rattle.cert.specs.declared.verdict.Report.{Report}
 use Rattle.cert.specs.declared.verdict.Survey.{Survey}
 use Rattle.cert.specs.declared.verdict.Verdict.{Verdict}
 use Rattle.cert.specs.declared.verdict.Verdict.TheVariants.{Yes, No}
@@ -13,11 +21,12 @@ use Rattle.tool.specs.declared.drawing.Drawn.{Drawn}
 use Rattle.request.specs.declared.requests.Output.{Output}
 use Rattle.tool.specs.World.{World, IsFree, Replaces, one_more}
 use Rattle.tool.specs.Inputs.{Value, Opened, Bytes, Polynomials}
-use Rattle.tool.specs.Commands.{Outcome, Gives, IsDrawn, output_of}
+use Rattle.tool.specs.Commands.{Outcome, Gives, IsDrawn, TellsVerdict, output_of}
 use Rattle.tool.specs.Outcomes.{IsOutput, MayCreate}
 use Rattle.tool.specs.Doing.{text_of, HasMade}
 use Rattle.tool.specs.Drawing.{HasDrawn, IsSurveyed}
 use Rattle.tool.specs.Checks.{TellsRequest}
+use Rattle.tool.specs.Summing.{CanBeSummed, IsTextOf}
 
 -- at a yes there is a survey
 pub has_survey : (who : Identity) (old new : Option (List ℕ)) (object : List ℕ) (z : Certificate) (found : Verdict × Option Survey)
@@ -25,6 +34,26 @@ pub has_survey : (who : Identity) (old new : Option (List ℕ)) (object : List �
 has_survey who old new object z (Yes report, Some survey) h = tt
 has_survey who old new object z (Yes report, None) h = absurd h.surveyed
 has_survey who old new object z (No reason, survey) h = tt
+
+-- a survey at a yes can be summed up
+pub can_be_summed : (who : Identity) (old new : Option (List ℕ)) (object : List ℕ) (z : Certificate) → IsCertificate z → (found : Verdict × Option Survey)
+    → IsSurveyedFrom who old new object z found.0 found.1 → OnYesWith found.0 found.1 CanBeSummed
+can_be_summed who old new object z valid (Yes report, Some survey) h =
+    let blocks = h.checked.report.blocks in
+    let many = ap (λ (bs : List (ℕ × ℕ)). length bs) blocks in
+    let each = length-map {B = ℕ × ℕ} (below (block_count z.fti)) (λ b. (source_count z.fti b, arrived_count (symbols (counted who h.checked.report.readings)) b)) in
+    record { some = omega (arith, many, each, length_below (block_count z.fti), some_block z.fti valid.fti); burst = h.surveyed.burst }
+can_be_summed who old new object z valid (Yes report, None) h = absurd h.surveyed
+can_be_summed who old new object z valid (No reason, Some survey) h = absurd h.surveyed
+can_be_summed who old new object z valid (No reason, None) h = tt
+
+-- the lines that were made of a verdict and its survey tell the verdict
+pub tells_verdict : (summary : Bool) (verdict : Verdict) (survey : Option Survey) (text : List ℕ) (IsItsSurvey : Report → Survey → Type 0)
+    → OnYesWith verdict survey IsItsSurvey → IsTextOf summary verdict survey text → TellsVerdict summary IsItsSurvey verdict text
+tells_verdict true (Yes report) (Some survey) text IsItsSurvey is says = (survey, is, says)
+tells_verdict true (Yes report) None text IsItsSurvey is says = absurd is
+tells_verdict true (No reason) survey text IsItsSurvey is says = says
+tells_verdict false verdict survey text IsItsSurvey is says = says
 
 -- an output of this name
 abbrev pub output_named : Bool → Bor (List ℕ) → Output

@@ -2,7 +2,7 @@
 use Rattle.std.specs.Prelude.{◌≡◌, ℕ, Bool, List, Option, ⊤}
 use Rattle.partition.specs.Fti.{Fti, block_count}
 use Rattle.reception.specs.declared.scope.Identity.{Identity}
-use Rattle.coder.specs.Certified.{IsCertifiedTo}
+use Rattle.encoder.specs.Certified.{IsCertifiedTo}
 use Rattle.tool.specs.ReadingObjects.{IsObjectBroken}
 use Rattle.tool.specs.declared.fault.Fault.TheVariants.{File, Memory}
 use Rattle.tool.specs.declared.output.Unwritten.{Unwritten}

@@ -4,13 +4,13 @@ use Rattle.session.specs.declared.frame.FrameFault.TheVariants.{Io as FrameIo}
 use Rattle.reception.specs.declared.scope.Identity.{Identity}
 use Rattle.cert.specs.Certificate.{Certificate}
 use Rattle.cert.specs.FromReader.{IsCheckedFrom, IsRefusedBehind}
+use Rattle.cert.specs.Surveying.{IsSurvey}
 use Rattle.cert.specs.declared.verdict.Verdict.{Verdict}
 use Rattle.request.specs.declared.requests.CheckRequest.{CheckRequest}
 use Rattle.request.specs.declared.requests.Request.TheVariants.{Check}
-use Rattle.tool.specs.Lines.{verdict_text}
 use Rattle.tool.specs.World.{Files}
 use Rattle.tool.specs.Inputs.{Opened, Bytes, Polynomials, HaveValues}
-use Rattle.tool.specs.Commands.{inputs_of, status_of}
+use Rattle.tool.specs.Commands.{inputs_of, status_of, TellsVerdict}
 use Rattle.tool.specs.declared.check.Answered.{Answered}
 use Rattle.tool.specs.Doing.{text_of}
 use Rattle.tool.specs.Drawing.{HasDrawn}
@@ -31,7 +31,8 @@ pub record TellsCheck (r : CheckRequest) (old new : Option (List ℕ)) (object :
     (z : Certificate) (answered : Answered) : Type 0 where
   pub verdict : Verdict
   pub checked : IsCheckedFrom r.identity old new object z verdict
-  pub text : text_of answered.done.told ≡ verdict_text verdict
+  pub text : TellsVerdict r.summary (IsSurvey r.identity checked.datagrams z.fti) verdict
+      (text_of answered.done.told)
   pub status : answered.done.status ≡ status_of verdict
   pub picture : HasDrawn r.picture verdict answered.picture
 

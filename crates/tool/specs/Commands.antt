@@ -17,16 +17,19 @@ use Rattle.reception.specs.Answer.{IsAnswer}
 use Rattle.cert.specs.Certificate.{Certificate, IsCertificate, is_for, named_as, certificate_text}
 use Rattle.cert.specs.Converting.{IsOfOther}
 use Rattle.cert.specs.FromReader.{IsCheckedFrom, IsRefusedBehind}
+use Rattle.cert.specs.Surveying.{IsSurvey}
 use Rattle.cert.specs.Twins.{IsTwinOfSession}
 use Rattle.cert.specs.Verdict.{IsVerdict, GivesObject}
 use Rattle.cert.specs.declared.certificate.CertFault.TheVariants.{Io as CertificateIo}
 use Rattle.cert.specs.declared.certificate.CertFault.TheVariants.{OtherIdentity}
 use Rattle.cert.specs.declared.verdict.Reason.TheVariants.{Thin}
+use Rattle.cert.specs.declared.verdict.Report.{Report}
+use Rattle.cert.specs.declared.verdict.Survey.{Survey}
 use Rattle.cert.specs.declared.verdict.Verdict.{Verdict}
 use Rattle.cert.specs.declared.verdict.Verdict.TheVariants.{Yes, No}
-use Rattle.coder.specs.Sending.{most_symbol_bytes, CanBeSent, IsSessionOf, pairs}
-use Rattle.coder.specs.Certified.{CertifiesSent}
-use Rattle.coder.specs.declared.sending.SendFault.TheVariants.{SymbolTooLong, Io as SendIo}
+use Rattle.encoder.specs.Sending.{most_symbol_bytes, CanBeSent, IsSessionOf, pairs}
+use Rattle.encoder.specs.Certified.{CertifiesSent}
+use Rattle.encoder.specs.declared.sending.SendFault.TheVariants.{SymbolTooLong, Io as SendIo}
 use Rattle.request.specs.declared.requests.Sizes.{Sizes}
 use Rattle.request.specs.declared.requests.Output.{Output}
 use Rattle.request.specs.declared.requests.Sending.{Sending}
@@ -39,6 +42,7 @@ use Rattle.tool.specs.Inputs.{Input, AnObject, ASession, ACertificate, AStream, 
 use Rattle.tool.specs.Inputs.{Datagrams, Polynomials, Opened, HasValue, HaveValues}
 use Rattle.tool.specs.Lines.{line_of, count_line, short_text, numbered, verdict_text, answer_text}
 use Rattle.tool.specs.Lines.{reading_text}
+use Rattle.tool.specs.Summary.{IsSummary}
 use Rattle.tool.specs.Following.{IsHeard, Ends, ends_text}
 use Rattle.tool.specs.declared.fault.Fault.{Fault}
 use Rattle.tool.specs.declared.fault.Fault.TheVariants.{File, Frame, Certificate as NoCertificate}
@@ -104,6 +108,12 @@ IsOutcome text status output outcome =
 abbrev pub status_of : Verdict → ℕ
 status_of (Yes report) = 0
 status_of (No reason) = 1
+
+-- the lines of a verdict, or the summary of a yes, where one is asked for
+abbrev pub TellsVerdict : Bool → (Report → Survey → Type 0) → Verdict → List ℕ → Type 0
+TellsVerdict true IsItsSurvey (Yes report) text =
+    (survey : Survey) × IsItsSurvey report survey × IsSummary report survey text
+TellsVerdict summary IsItsSurvey verdict text = text ≡ verdict_text verdict
 
 -- a picture is there where one is asked for and the answer is yes; nothing is told of what it shows
 abbrev pub IsDrawn : Option (Bor (List ℕ)) → Verdict → Option (List ℕ) → Type 0
@@ -178,9 +188,9 @@ object_of answer = None
 abbrev pub Gives : Request → List Value → Outcome → Type 0
 Gives (Check r) (Opened opened ∷ Bytes object ∷ Polynomials z ∷ []) outcome =
     (verdict : Verdict) × (left : Option (List ℕ))
-    × IsCheckedFrom r.identity opened left object z verdict
-    × (outcome.text ≡ verdict_text verdict) × (outcome.status ≡ status_of verdict)
-    × IsDrawn r.picture verdict outcome.output
+    × (checked : IsCheckedFrom r.identity opened left object z verdict)
+    × TellsVerdict r.summary (IsSurvey r.identity checked.datagrams z.fti) verdict outcome.text
+    × (outcome.status ≡ status_of verdict) × IsDrawn r.picture verdict outcome.output
 Gives (Twin r) (Datagrams datagrams ∷ Bytes object ∷ Polynomials z ∷ []) outcome =
     (verdict : Verdict) × IsVerdict r.identity datagrams object z verdict
     × GivesTwin r.identity verdict z.fti datagrams object outcome

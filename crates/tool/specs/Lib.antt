@@ -20,6 +20,8 @@ pub mod Sending
 pub mod ShortBlocks
 pub mod Showing
 pub mod TwinsTold
+pub mod Summary
+pub mod Summing
 pub mod Words
 pub mod World
 pub mod Worlds

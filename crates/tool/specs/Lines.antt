@@ -70,9 +70,9 @@ pub record TellsFault (fault : Fault) (old new : World) : Type 0 where
 -- ---- verdicts
 
 -- a block at a yes, by its number, and how many symbols it needs and has
-abbrev pub block_text : ℕ → ℕ × ℕ → List ℕ
-block_text block counts =
-    named (codes "block") (decimal block) ++ named (codes " need") (decimal counts.0)
+abbrev pub block_text : List ℕ → ℕ → ℕ × ℕ → List ℕ
+block_text name block counts =
+    named name (decimal block) ++ named (codes " need") (decimal counts.0)
     ++ named (codes " have") (decimal counts.1)
 
 abbrev pub kill_text : List ℕ → List ℕ
@@ -87,7 +87,8 @@ losses_text report =
 
 abbrev pub report_text : Report → List ℕ
 report_text report =
-    line_of (codes "yes") ++ numbered block_text 0 report.blocks.items ++ losses_text report
+    line_of (codes "yes") ++ numbered (block_text (codes "block")) 0 report.blocks.items
+    ++ losses_text report
 
 abbrev pub reason_text : Reason → List ℕ
 reason_text OtherCertificate = codes "N12 OtherCertificate"

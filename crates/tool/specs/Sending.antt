@@ -3,8 +3,8 @@ use Rattle.std.specs.Prelude.{◌≡◌, ◌<◌, ℕ, Bool, List, length, Optio
 use Rattle.std.specs.Io.KnownBytes.{Appends}
 use Rattle.partition.specs.Fti.{Fti, IsValidFti}
 use Rattle.session.specs.Frames.{frames}
-use Rattle.coder.specs.Sending.{most_symbol_bytes, CanBeSent, IsSessionOf, pairs}
-use Rattle.coder.specs.declared.sending.SendFault.TheVariants.{SymbolTooLong}
+use Rattle.encoder.specs.Sending.{most_symbol_bytes, CanBeSent, IsSessionOf, pairs}
+use Rattle.encoder.specs.declared.sending.SendFault.TheVariants.{SymbolTooLong}
 use Rattle.request.specs.declared.requests.Sending.{Sending}
 use Rattle.tool.specs.ReadingObjects.{IsObjectBroken}
 use Rattle.tool.specs.declared.fault.Fault.TheVariants.{File, Memory, Send}

@@ -18,9 +18,10 @@ use Rattle.cert.specs.declared.certificate.CertFault.TheVariants.{Magic, Fti as 
 use Rattle.cert.specs.declared.certificate.CertFault.TheVariants.{Io as CertificateIo}
 use Rattle.cert.specs.declared.certificate.CertFault.TheVariants.{NoMemory as NoCertificateMemory}
 use Rattle.cert.specs.declared.certificate.CertFault.TheVariants.{OtherIdentity}
-use Rattle.coder.specs.declared.sending.SendFault.{SendFault}
-use Rattle.coder.specs.declared.sending.SendFault.TheVariants.{Length, SymbolTooLong, Io as SendIo}
-use Rattle.coder.specs.declared.sending.SendFault.TheVariants.{NoMemory as NoSendMemory}
+use Rattle.encoder.specs.declared.sending.SendFault.{SendFault}
+use Rattle.encoder.specs.declared.sending.SendFault.TheVariants.{Length, SymbolTooLong}
+use Rattle.encoder.specs.declared.sending.SendFault.TheVariants.{Io as SendIo}
+use Rattle.encoder.specs.declared.sending.SendFault.TheVariants.{NoMemory as NoSendMemory}
 
 abbrev pub fti_words : FtiError → List ℕ
 fti_words LengthZero = codes "F1 LengthZero"

@@ -7,7 +7,7 @@ ghost use Rattle.tool.specs.World.{GivesFile, LeavesBytes};
 ghost use Rattle.tool.specs.Commands.{sized};
 ghost use Rattle.tool.specs.Doing.{HasMade, HasStopped};
 ghost use Rattle.tool.specs.Inputs.{AnObject, Bytes, HasValue};
-ghost use Rattle.coder.specs.ObjectRead.{ReadsObject};
+ghost use Rattle.encoder.specs.ObjectRead.{ReadsObject};
 ghost use Rattle.tool.specs.Certifying.{WritesCertificate, IsUncertified, IsUncertifiedFrom};
 
 use crate::done::Done;
@@ -17,7 +17,7 @@ use crate::input::{open, read_rest};
 use crate::output::{Unwritten, commit, create};
 use crate::sizes::fti_of;
 use cert::CertFault;
-use coder::{CertifyFault, CertifyFromFault, certify_from, certify_to};
+use encoder::{CertifyFault, CertifyFromFault, certify_from, certify_to};
 use partition::Fti;
 use reception::Identity;
 use request::CertifyRequest;

@@ -1,12 +1,14 @@
 //! The command `check`.
 ghost use Rattle.std.specs.Prelude.{◌≡◌, ◌≤◌, ◌++◌, decimal, IfOk, IfErr, OnOk};
+ghost use Rattle.cert.specs.Certificate.{IsCertificate};
 ghost use Rattle.cert.specs.FromReader.{IsCheckedFrom};
+ghost use Rattle.cert.specs.Surveying.{IsSurveyedFrom, OnYesWith};
 ghost use Rattle.cert.specs.declared.verdict.Verdict.TheVariants.{No};
 ghost use Rattle.request.specs.declared.requests.Request.TheVariants.{Check};
 ghost use Rattle.tool.specs.Commands.{status_of as verdict_status};
 ghost use Rattle.tool.specs.Doing.{HasMade, HasStopped, text_of};
 ghost use Rattle.tool.specs.Checks.{IsNotChecked, TellsCheck, TellsRequest};
-ghost use Rattle.tool.specs.Drawing.{IsSurveyed};
+ghost use Rattle.tool.specs.Summing.{CanBeSummed, IsTextOf};
 ghost use Rattle.tool.specs.Lines.{named, block_text, kill_text, losses_text, report_text};
 ghost use Rattle.tool.specs.Lines.{reason_text, verdict_text as text_of_verdict};
 
@@ -17,6 +19,7 @@ use crate::host::Host;
 use crate::input::{open, read_certificate, read_object};
 use crate::output::write_output;
 use crate::print::Text;
+use crate::summary::summary_lines;
 use crate::wording::put_packet_fault;
 use cert::{Certificate, CheckFault, Reason, Report, Survey, Verdict, check_from, survey_from};
 use reception::Identity;
@@ -82,32 +85,44 @@ fn answer_of<'a, R: Read>(
     certificate: &Certificate,
     request: &CheckRequest<'a>,
 ) -> Result<Answered<'a>, Fault<'a>>
+    requires { IsCertificate certificate.now }
     ensures ok { IfOk result (TellsCheck request.now (R.remaining frames.old)
         (R.remaining frames.new) object.now certificate.now) }
     ensures fault { IfErr result (IsNotChecked request.now.identity (R.sound frames.old)
         (R.remaining frames.old) object.now certificate.now) }
 {
-    match request.picture {
-        None => {
-            let verdict = verdict_of(alloc, frames, object, certificate, request.identity)?;
-            let done = told_of(alloc, &verdict)?;
-            Ok(Answered {
-                done,
-                picture: None,
-            })
-        }
-        Some(name) => {
-            let (verdict, survey) = survey_of(
-                alloc,
-                frames,
-                object,
-                certificate,
-                request.identity,
-            )?;
-            let picture = picture_of(alloc, request, name, object, &verdict, survey)?;
-            let done = told_of(alloc, &verdict)?;
-            Ok(Answered { done, picture })
-        }
+    if request.picture.is_none() && !request.summary {
+        let verdict = verdict_of(alloc, frames, object, certificate, request.identity)?;
+        let done = told_of(alloc, &verdict)?;
+        return Ok(Answered {
+            done,
+            picture: None,
+        });
+    }
+    let (verdict, survey) = survey_of(alloc, frames, object, certificate, request.identity)?;
+    let done = surveyed_told_of(alloc, request.summary, &verdict, &survey)?;
+    let picture = picture_of(alloc, request, object, &verdict, &survey)?;
+    Ok(Answered { done, picture })
+}
+
+// What is told of a verdict with its survey: of a yes the summary, where one is asked for.
+fn surveyed_told_of(
+    alloc: Global,
+    summary: bool,
+    verdict: &Verdict,
+    survey: &Option<Survey>,
+) -> Result<Done, AllocError>
+    requires { OnYesWith verdict.now survey.now CanBeSummed }
+    ensures text { IfOk result (λ done.
+        IsTextOf summary verdict.now survey.now (text_of done.told)) }
+    ensures status { IfOk result (λ done. done.status ≡ verdict_status verdict.now) }
+{
+    match (verdict, survey) {
+        (Verdict::Yes(report), Some(survey)) if summary => Ok(Done {
+            told: Told::Lines(summary_lines(alloc, report, survey)?),
+            status: 0,
+        }),
+        _ => told_of(alloc, verdict),
     }
 }
 
@@ -170,9 +185,12 @@ fn survey_of<'a, R: Read>(
     certificate: &Certificate,
     identity: Identity,
 ) -> Result<(Verdict, Option<Survey>), Fault<'a>>
+    requires { IsCertificate certificate.now }
     ensures ok { IfOk result (λ found. IsCheckedFrom identity (R.remaining frames.old)
         (R.remaining frames.new) object.now certificate.now found.0) }
-    ensures survey { IfOk result (λ found. IsSurveyed found.0 found.1) }
+    ensures survey { IfOk result (λ found. IsSurveyedFrom identity (R.remaining frames.old)
+        (R.remaining frames.new) object.now certificate.now found.0 found.1) }
+    ensures summed { IfOk result (λ found. OnYesWith found.0 found.1 CanBeSummed) }
     ensures fault { IfErr result (IsNotChecked identity (R.sound frames.old)
         (R.remaining frames.old) object.now certificate.now) }
 {
@@ -183,12 +201,18 @@ fn survey_of<'a, R: Read>(
     }
 }
 
-fn block_line(alloc: Global, block: usize, counts: (usize, usize)) -> Result<Text, AllocError>
-    ensures { IfOk result (λ line. line ≡ block_text block counts) }
+// The line of a block: how many symbols it needs, and how many it has.
+pub(crate) fn block_line(
+    alloc: Global,
+    name: &str,
+    block: usize,
+    counts: (usize, usize),
+) -> Result<Text, AllocError>
+    ensures { IfOk result (λ line. line ≡ block_text name.now block counts) }
 {
     let (need, have) = counts;
     let mut line = Text::new(alloc);
-    line.named("block", block)?;
+    line.named(name, block)?;
     line.named(" need", need)?;
     line.named(" have", have)?;
     Ok(line)
@@ -205,7 +229,12 @@ fn kill_line(alloc: Global, places: &[usize]) -> Result<Text, AllocError>
     Ok(line)
 }
 
-fn number_line(alloc: Global, name: &str, number: usize) -> Result<Text, AllocError>
+// The line of a number with its name.
+pub(crate) fn number_line(
+    alloc: Global,
+    name: &str,
+    number: usize,
+) -> Result<Text, AllocError>
     ensures { IfOk result (λ line. line ≡ named name.now (decimal number)) }
 {
     let mut line = Text::new(alloc);
@@ -230,7 +259,7 @@ fn report_lines(alloc: Global, report: &Report) -> Result<Text, AllocError>
     let mut lines = Text::new(alloc);
     lines.text("yes\n")?;
     for (block, counts) in report.blocks.iter().enumerate() {
-        lines.put_line(&block_line(alloc, block, *counts)?)?;
+        lines.put_line(&block_line(alloc, "block", block, *counts)?)?;
     }
     put_losses(alloc, &mut lines, report)?;
     Ok(lines)

@@ -17,7 +17,7 @@ use crate::input::read_session;
 use crate::output::{Unwritten, commit, create};
 use crate::print::Text;
 use crate::wording::put_packet_fault;
-use coder::{Answer, DecodeFault, Gathered, ObjectSymbols, WriteFault, gather};
+use decoder::{Answer, DecodeFault, Gathered, ObjectSymbols, WriteFault, gather};
 use request::DecodeRequest;
 use session::Write;
 use std::alloc::{AllocError, Global};

@@ -1,5 +1,5 @@
 //! The picture of a yes.
-ghost use Rattle.std.specs.Prelude.{Some, IfOk};
+ghost use Rattle.std.specs.Prelude.{IfOk};
 ghost use Rattle.tool.specs.Drawing.{HasDrawn, IsSurveyed};
 
 use cert::{Report, Survey, Verdict};
@@ -14,21 +14,23 @@ pub(crate) struct Drawn<'a> {
     pub(crate) text: String,
 }
 
-/// The picture of a verdict, which is there at a yes.
+/// The picture of a verdict with its survey, where one is asked for and the answer is yes.
 pub(crate) fn picture_of<'a>(
     alloc: Global,
-    request: &CheckRequest<'_>,
-    name: &'a str,
+    request: &CheckRequest<'a>,
     object: &[u8],
     verdict: &Verdict,
-    survey: Option<Survey>,
+    survey: &Option<Survey>,
 ) -> Result<Option<Drawn<'a>>, AllocError>
-    requires { IsSurveyed verdict.now survey }
-    ensures { IfOk result (HasDrawn (Some name.entry) verdict.now) }
+    requires { IsSurveyed verdict.now survey.now }
+    ensures { IfOk result (HasDrawn request.now.picture verdict.now) }
 {
+    let Some(name) = request.picture else {
+        return Ok(None);
+    };
     match (verdict, survey) {
         (Verdict::Yes(report), Some(survey)) => {
-            let text = sheet_text(alloc, request, object, report, &survey)?;
+            let text = sheet_text(alloc, request, object, report, survey)?;
             Ok(Some(Drawn { name, text }))
         }
         (Verdict::Yes(_), None) => unreachable!(),

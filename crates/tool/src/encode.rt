@@ -6,7 +6,7 @@ ghost use Rattle.tool.specs.World.{GivesFile, LeavesBytes};
 ghost use Rattle.tool.specs.Commands.{sized};
 ghost use Rattle.tool.specs.Doing.{HasMade, HasStopped};
 ghost use Rattle.tool.specs.Inputs.{AnObject, Bytes, HasValue};
-ghost use Rattle.coder.specs.ObjectRead.{ReadsObject};
+ghost use Rattle.encoder.specs.ObjectRead.{ReadsObject};
 ghost use Rattle.tool.specs.Sending.{WritesSession, IsUnsent, IsUnsentFrom};
 
 use crate::done::Done;
@@ -15,7 +15,7 @@ use crate::host::Host;
 use crate::input::{open, read_rest};
 use crate::output::{Unwritten, commit, create};
 use crate::sizes::fti_of;
-use coder::{SendFault, SendFromFault};
+use encoder::{SendFault, SendFromFault};
 use partition::{Fti, Order};
 use request::{EncodeRequest, Sending};
 use session::{Read, Write};
@@ -94,7 +94,7 @@ fn send_read<'a, R: Read, W: Write>(
         ..
     } = request.sending;
     let (tsi, toi) = (identity.tsi as u32, identity.toi as u32);
-    match coder::encode_from(alloc, reader, tsi, toi, fti, u32::from(fti_every), writer) {
+    match encoder::encode_from(alloc, reader, tsi, toi, fti, u32::from(fti_every), writer) {
         Ok(count) => Ok(count),
         Err(SendFromFault::Object(_)) => Err(Unwritten::Fault(Fault::File(request.object))),
         Err(SendFromFault::SymbolTooLong) => {
@@ -149,7 +149,7 @@ fn send_held<'a, W: Write>(
         ..
     } = *sending;
     let (tsi, toi) = (identity.tsi as u32, identity.toi as u32);
-    match coder::encode(
+    match encoder::encode(
         alloc,
         object,
         tsi,

@@ -2,7 +2,7 @@
 ghost use Rattle.std.specs.Prelude.{◌≡◌};
 
 use cert::CertFault;
-use coder::SendFault;
+use encoder::SendFault;
 use partition::FtiError;
 use session::{Failed, FrameFault};
 use std::alloc::AllocError;

@@ -25,7 +25,7 @@ use crate::input::{next_datagram, open};
 use crate::output::{Unwritten, commit, create};
 use crate::print::{Text, print_count};
 use crate::wording::put_packet_fault;
-use coder::{DecodeFault, FeedFault, Progress, Receiver};
+use decoder::{DecodeFault, FeedFault, Progress, Receiver};
 use request::FollowRequest;
 use session::{FrameFault, Read, Write};
 use std::alloc::{AllocError, Global};

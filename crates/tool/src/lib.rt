@@ -22,6 +22,7 @@ mod running;
 mod salvage;
 mod show;
 mod sizes;
+mod summary;
 mod telling;
 mod twin;
 mod wording;

@@ -8,7 +8,7 @@ use crate::fault::Fault;
 use crate::print::Text;
 use alc::PacketFault;
 use cert::CertFault;
-use coder::SendFault;
+use encoder::SendFault;
 use partition::FtiError;
 use session::FrameFault;
 use std::alloc::{AllocError, Global};

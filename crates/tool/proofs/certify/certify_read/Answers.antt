@@ -1,5 +1,5 @@
 use Rattle.std.proofs.Common.{◌∙◌, ℕ, [], ◌∷◌, Some, refl, sym, ap, subst, codes}
-use Rattle.coder.specs.ObjectRead.{ReadsObject}
+use Rattle.encoder.specs.ObjectRead.{ReadsObject}
 use Rattle.cert.specs.Certificate.{certificate_text, named_as}
 use Rattle.partition.specs.Fti.{Fti}
 use Rattle.tool.specs.Inputs.{Bytes}

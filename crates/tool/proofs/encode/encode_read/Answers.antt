@@ -1,5 +1,5 @@
 use Rattle.std.proofs.Common.{◌∙◌, ℕ, [], ◌∷◌, Some, refl, sym, ap, subst, codes}
-use Rattle.coder.specs.ObjectRead.{ReadsObject}
+use Rattle.encoder.specs.ObjectRead.{ReadsObject}
 use Rattle.session.specs.Frames.{frames}
 use Rattle.partition.specs.Fti.{Fti}
 use Rattle.tool.specs.Inputs.{Bytes}

@@ -1,6 +1,6 @@
-use Rattle.std.proofs.Common.{◌≡◌, ◌∙◌, ℕ, List, true, false, arith, ap, length, map, sym, subst}
-use Rattle.std.specs.Prelude.{◌==◌, nat_lt}
-use Rattle.std.specs.List.{list_any}
+use Rattle.std.proofs.Common.{◌≡◌, ◌≢◌, ◌∙◌, ℕ, List, true, false, arith, ap, length, map, sym, subst}
+use Rattle.std.specs.Prelude.{◌-◌, ◌==◌, nat_lt}
+use Rattle.std.specs.List.{list_any, sum_by}
 use Rattle.std.proofs.lemmas.Bool.{eqb-true, eqb-false, lt-ltb, le-ltb}
 use Rattle.std.proofs.lemmas.Grind.{common_steps}
 use Rattle.lists.specs.Below.{below}
@@ -23,9 +23,9 @@ use Rattle.cert.proofs.Losing.{are_groups, margin_told, kill_told, burst_told, l
 use Rattle.cert.proofs.walk.Walk.report_and_kill_block.Goals as goal
 
 -- some came, all of them as certified
-all_certified : (walk : Walk) (datagrams : List (List ℕ)) → HasWalked walk datagrams → walk.came ≡ true → AreCertified walk.scope.identity (readings_of datagrams) walk.symbols
+all_certified : (walk : Walk) (datagrams : List (List ℕ)) → HasWalked walk datagrams → walk.taken ≢ 0 → AreCertified walk.scope.identity (readings_of datagrams) walk.symbols
 all_certified walk datagrams h is =
-    are_certified walk.scope.identity walk.symbols (readings_of datagrams) h.clean (some_came (symbols (counted walk.scope.identity (readings_of datagrams))) (h.some ∙ is))
+    are_certified walk.scope.identity walk.symbols (readings_of datagrams) h.clean (some_came (symbols (counted walk.scope.identity (readings_of datagrams))) walk.taken h.counts is)
 
 -- whether a carrier came
 any_carrier : (walk : Walk) (datagrams : List (List ℕ)) → HasWalked walk datagrams → list_any (is_carrier walk.scope.identity) (readings_of datagrams) ≡ nat_lt 0 walk.carriers.len
@@ -45,17 +45,17 @@ carriers_are walk datagrams h e =
     subst (λ (ps : List ℕ). AreCarriers ps (length (readings_of datagrams))) (sym h.placed)
     (are_carriers (is_carrier walk.scope.identity) (readings_of datagrams) (carrier_came walk datagrams h e))
 
-pub returns-then-not-self-clause-no_report : goal.returns-then-not-self-clause-no_report
-returns-then-not-self-clause-no_report c = λ datagrams h. (
+pub returns-then-self-eq0-clause-no_report : goal.returns-then-self-eq0-clause-no_report
+returns-then-self-eq0-clause-no_report c = λ datagrams h. (
   no_reason _ h.clean,
-  none_came (symbols (counted c.args.self.now.scope.identity (readings_of datagrams))) (h.some ∙ c.if-not-self.true),
+  none_came (symbols (counted c.args.self.now.scope.identity (readings_of datagrams))) c.args.self.now.taken h.counts c.if-self-eq0.true,
 )
 
 pub returns-in_err-blocks-clause-no_report : goal.returns-in_err-blocks-clause-no_report
 returns-in_err-blocks-clause-no_report c = λ datagrams h. (
     let who = c.args.self.now.scope.identity in
     let z = c.args.self.now.symbols in
-    let some = some_came (symbols (counted c.args.self.now.scope.identity (readings_of datagrams))) (h.some ∙ c.if-not-self.false) in
+    let some = some_came (symbols (counted c.args.self.now.scope.identity (readings_of datagrams))) c.args.self.now.taken h.counts c.if-self-eq0.false in
     let refused = counts_refused who z datagrams (groups_of c.args.self.now.groups.items) h.grouped c.in_err-blocks.field-0.0 (no_reason _ h.clean) some
     (rw c.deref.ensures.value at c.in_err-blocks.ensures.no_report) in
     passed_on c.from_residual.result c.in_err-blocks.field-0.0 _ c.from_residual.ensures.1 refused)
@@ -66,7 +66,7 @@ returns-then-is_empty-clause-no_report c = λ datagrams h. (
     let z = c.args.self.now.symbols in
     let enough = rw c.deref.ensures.value at c.in_ok-blocks.ensures.enough in (
       no_reason _ h.clean,
-      some_came (symbols (counted c.args.self.now.scope.identity (readings_of datagrams))) (h.some ∙ c.if-not-self.false),
+      some_came (symbols (counted c.args.self.now.scope.identity (readings_of datagrams))) c.args.self.now.taken h.counts c.if-self-eq0.false,
       enough_full who z.fti (readings_of datagrams) (groups_of c.args.self.now.groups.items) h.grouped enough,
       no_carrier c.args.self.now datagrams h (sym c.is_empty.ensures ∙ c.if-is_empty.true),
     ))
@@ -85,7 +85,7 @@ figures_of-requires-clause-groups c =
     let z = c.args.self.now.symbols in
     let h = c.requires.1 in
     let rs = readings_of c.requires.0 in
-    let all = all_certified c.args.self.now c.requires.0 h c.if-not-self.false in
+    let all = all_certified c.args.self.now c.requires.0 h c.if-self-eq0.false in
     let enough = rw c.deref.ensures.value at c.in_ok-blocks.ensures.enough in
     rw (c.deref-2.ensures.value, c.deref-3.ensures.value) (
       length rs,
@@ -98,7 +98,7 @@ returns-clause-report c = λ datagrams each h. (
     let who = c.args.self.now.scope.identity in
     let z = c.args.self.now.symbols in
     let valid = c.args.self.now.valid.fti in
-    let all = all_certified c.args.self.now datagrams h c.if-not-self.false in
+    let all = all_certified c.args.self.now datagrams h c.if-self-eq0.false in
     let rs = readings_of datagrams in
     let groups = groups_of c.args.self.now.groups.items in
     let n = count_of c.args.self.now.groups.items in
@@ -114,6 +114,9 @@ returns-clause-report c = λ datagrams each h. (
       read = read_all datagrams each;
       blocks = lines ∙ ap (λ (m : ℕ). map (line_in (groups_of c.args.self.now.groups.items)) (below m)) (sym n) ∙ lines_are who z.fti rs groups h.grouped;
       carriers = c.len.ensures ∙ c.args.self.now.carriers.ok.0 ∙ ap (λ (ps : List ℕ). length ps) h.placed ∙ places_counted (is_carrier who) 0 rs;
+      repeats =
+          c.without_different-repeats.ensures ∙ ap (λ (bs : List (ℕ × ℕ)). c.args.self.now.taken - sum_by (λ counts. counts.1) bs) c.deref-4.ensures.value
+          ∙ ap (λ (m : ℕ). m - sum_by (λ counts. counts.1) c.in_ok-blocks.blocks.items) (sym h.counts);
       margin = margin_told who z valid rs all.packets groups h.grouped _ (margin (length rs) are carriers);
       kill = kill_told who z valid rs all.packets groups h.grouped _ _ (kill (length rs) are carriers);
       burst = burst_told who z valid rs all.packets groups h.grouped _ (burst (length rs) are carriers);
@@ -122,7 +125,7 @@ returns-clause-report c = λ datagrams each h. (
 pub returns-clause-certified : goal.returns-clause-certified
 returns-clause-certified c = λ datagrams h. (
     let z = c.args.self.now.symbols in
-    let all = all_certified c.args.self.now datagrams h c.if-not-self.false in
+    let all = all_certified c.args.self.now datagrams h c.if-self-eq0.false in
     let enough = rw c.deref.ensures.value at c.in_ok-blocks.ensures.enough in
     record {
       all = all;
@@ -138,7 +141,7 @@ returns-clause-kill_block c = λ datagrams h. (
     let who = c.args.self.now.scope.identity in
     let z = c.args.self.now.symbols in
     let valid = c.args.self.now.valid.fti in
-    let all = all_certified c.args.self.now datagrams h c.if-not-self.false in
+    let all = all_certified c.args.self.now datagrams h c.if-self-eq0.false in
     let rs = readings_of datagrams in
     let groups = groups_of c.args.self.now.groups.items in
     let enough = rw c.deref.ensures.value at c.in_ok-blocks.ensures.enough in

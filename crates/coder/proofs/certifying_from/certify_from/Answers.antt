@@ -1,5 +1,0 @@
-use Rattle.partition.proofs.Laws.{some_block}
-use Rattle.coder.proofs.certifying_from.certify_from.Goals as goal
-
-pub k-requires : goal.k-requires
-k-requires g c = some_block c.args.fti.now c.symbol_length.ensures.valid

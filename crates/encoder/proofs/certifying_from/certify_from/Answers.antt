@@ -1,0 +1,5 @@
+use Rattle.partition.proofs.Laws.{some_block}
+use Rattle.encoder.proofs.certifying_from.certify_from.Goals as goal
+
+pub k-requires : goal.k-requires
+k-requires g c = some_block c.args.fti.now c.symbol_length.ensures.valid

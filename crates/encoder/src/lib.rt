@@ -1,0 +1,27 @@
+//! The encoder: an object's encoding symbols as a session, and its certificate.
+//!
+//! - `rows`: encoding symbols and coefficients of a block, as sums of the rows of its source
+//!   symbols;
+//! - `sending`: the datagrams of an object's encoding symbols, in either order;
+//! - `certifying`: the polynomials of its byte columns; `by_values`: those of large blocks, by the
+//!   values at all points;
+//! - `object`: an object that comes from a reader, block by block; `sending_from`: its session in
+//!   order `Blocks`; `certifying_from`: its certificate;
+//! - `laws`: what encoding, certifying and checking give together.
+#![tactic(auto)]
+
+mod by_values;
+mod certifying;
+mod certifying_from;
+mod laws;
+mod object;
+mod rows;
+mod sending;
+mod sending_from;
+
+pub use certifying::{CertifyFault, certify, certify_to};
+pub use certifying_from::{CertifyFromFault, certify_from};
+pub use laws::sent_checks_yes;
+pub use object::ObjectFault;
+pub use sending::{SendFault, encode};
+pub use sending_from::{SendFromFault, encode_from};

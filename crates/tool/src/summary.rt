@@ -1,0 +1,105 @@
+//! The few lines of a yes that are printed where a summary is asked for.
+ghost use Rattle.std.specs.Prelude.{◌≡◌, ◌-◌, ◌<◌, ◌++◌, ℕ, Some, length, codes, IfOk, OnOk};
+ghost use Rattle.losses.specs.Runs.{run_at};
+ghost use Rattle.losses.specs.declared.longest.Run.{Run as RunValue};
+ghost use Rattle.tool.specs.Summary.{IsWeakest, IsFirstRun, IsSummary, burst_text, short_words};
+ghost use Rattle.tool.specs.Summing.{CanBeSummed};
+
+use crate::check::{block_line, number_line};
+use crate::print::Text;
+use cert::{Report, Survey};
+use losses::Run;
+use std::alloc::{AllocError, Global};
+
+// How many symbols a block has beyond those that it needs.
+fn spare(counts: (usize, usize)) -> usize
+    ensures { result ≡ counts.1 - counts.0 }
+{
+    let (need, have) = counts;
+    have.saturating_sub(need)
+}
+
+// The block with the fewest symbols to spare, the first of such blocks.
+fn weakest(blocks: &[(usize, usize)]) -> usize
+    requires { 0 < length blocks.now }
+    ensures { IsWeakest blocks.now result }
+{
+    let mut weakest = 0;
+    let mut least = spare(blocks[0]);
+    for block in 1..blocks.len() {
+        let here = spare(blocks[block]);
+        if here < least {
+            weakest = block;
+            least = here;
+        }
+    }
+    weakest
+}
+
+// The first of the runs that is so long, and its place.
+fn first_run(runs: &[Option<Run>], length: usize) -> (usize, Run)
+    requires { (place : ℕ) × (run : RunValue)
+        × (run_at runs.now place ≡ Some run) × (run.length ≡ length) }
+    ensures { IsFirstRun runs.now length result.0 result.1 }
+{
+    for place in 0..runs.len() {
+        match runs[place] {
+            Some(run) if run.length == length => return (place, run),
+            _ => {}
+        }
+    }
+    unreachable!()
+}
+
+// Puts last what is short.
+fn put_short(line: &mut Text, block: Option<usize>) -> Result<(), AllocError>
+    ensures { OnOk result (line.new ≡ line.old ++ short_words block) }
+{
+    match block {
+        Some(block) => line.named(" block", block),
+        None => line.text(" carriers"),
+    }
+}
+
+// The line of the block that the kill leaves short.
+fn kill_line(alloc: Global, block: Option<usize>) -> Result<Text, AllocError>
+    ensures { IfOk result (λ line. line ≡ codes "kill" ++ short_words block) }
+{
+    let mut line = Text::new(alloc);
+    line.text("kill")?;
+    put_short(&mut line, block)?;
+    Ok(line)
+}
+
+// The line of the burst: from which place on one neighbour more leaves what short.
+fn burst_line(alloc: Global, place: usize, run: Run) -> Result<Text, AllocError>
+    ensures { IfOk result (λ line. line ≡ burst_text place run) }
+{
+    let mut line = Text::new(alloc);
+    line.named("burst", run.length)?;
+    line.named(" place", place)?;
+    put_short(&mut line, run.block)?;
+    Ok(line)
+}
+
+/// The lines of a summary.
+pub(crate) fn summary_lines(
+    alloc: Global,
+    report: &Report,
+    survey: &Survey,
+) -> Result<Text, AllocError>
+    requires { CanBeSummed report.now survey.now }
+    ensures { IfOk result (IsSummary report.now survey.now) }
+{
+    let block = weakest(&report.blocks);
+    let (place, run) = first_run(&survey.runs, report.burst);
+    let mut lines = Text::new(alloc);
+    lines.text("yes\n")?;
+    lines.put_line(&block_line(alloc, "weakest block", block, report.blocks[block])?)?;
+    lines.put_line(&number_line(alloc, "carriers", report.carriers)?)?;
+    lines.put_line(&number_line(alloc, "repeats", report.repeats)?)?;
+    lines.put_line(&number_line(alloc, "margin", report.margin)?)?;
+    lines.put_line(&kill_line(alloc, survey.kill_block)?)?;
+    lines.put_line(&burst_line(alloc, place, run)?)?;
+    Ok(lines)
+}
