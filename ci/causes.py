@@ -161,7 +161,7 @@ CASES = [
      ["thin.session has 3 different symbols of block 0", "alcrs join"]),
     (["decode", "bare.session", "out", *OF_NOTE], 3, "empty", ["bare.session", "carries the FTI"]),
     (["check", "twice.session", *CHECK], 0, "burst",
-     ["6 datagrams of twice.session are repeats of others"]),
+     ["at least 6 datagrams of twice.session are repeats of others"]),
     (["follow", "clash.session", "out", *OF_NOTE], 0, "object",
      ["1 datagrams of clash.session contradict", "out wrong"]),
     (["check", "-", *CHECK[:2], *OF_BULLETIN], 1, "no N12",

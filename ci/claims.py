@@ -2,8 +2,8 @@
 """Gives the program inputs that are cut, changed or claim great sizes, and tells whether each is
 answered as it may be.
 
-Three kinds, in each command that reads such a file, with room for the inputs and 64 MiB (`ulimit
--v`):
+Three kinds, in each command that reads such a file, but `join`, with room for the inputs and 64 MiB
+(`ulimit -v`):
 
 - every beginning of the note's session, with the FTI in each datagram and in every fourth, of its
   certificate and of the object, with just the answer that it has;

@@ -8,7 +8,8 @@ another has a copy of crates/ for it, below crates/alcrs/out. What was proved in
 linked into the others, and rt knows it there by its stamp. Of the crates that wait for none the one
 with the longest chain above it is next. There are as many at a time as there are processors and
 memory for. The crate whose chain decides how long all takes has half of the
-processors, or all where nothing else is to be proved, and comes before the others there. What fails is tried once more by itself, in the repository's own folder.
+processors, or all where nothing else is to be proved, and comes before the others there. What fails
+is tried once more by itself, in the repository's own folder.
 
 What the prover says goes to LOG, and progress to standard error. Ctrl-C ends all that runs, and so
 does the end of whoever called.

@@ -98,8 +98,8 @@ pub fn repeated<R: Files>(
     };
     match request {
         Request::Check(_) if repeats > 0 => case.say(
-            "{0} datagrams of {S} are repeats of others, and margin and burst count them: what \
-            goes on air once may lose less",
+            "at least {0} datagrams of {S} are repeats of others, and margin and burst count \
+            them: what goes on air once may lose less",
             &[repeats],
         ),
         _ => Ok(None),
