@@ -98,6 +98,8 @@ complete -c alcrs -n '__alcrs_command_is check' -l toi -x \
     -d 'The transport object identifier (TOI), 0 to 4294967295'
 complete -c alcrs -n '__alcrs_command_is check' -l picture -r -F \
     -d 'The SVG file to draw a yes to: symbols to spare, bursts that may be missed'
+complete -c alcrs -n '__alcrs_command_is check' -l summary \
+    -d 'Prints few lines at a yes: the weakest block, not all blocks'
 complete -c alcrs -n '__alcrs_command_is check' -s n -l no-clobber \
     -d 'Keeps a file that is there under the name of OUT, and fails'
 complete -c alcrs -n '__alcrs_command_is check' -s q -l quiet \

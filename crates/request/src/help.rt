@@ -43,14 +43,14 @@ pub(crate) const CHECK: &str = "Prints `no` and the first reason, or `yes` and t
 Blocks and places count from 0. Places are those of the whole session.
 It passes over datagrams of another TSI or TOI.
 With --picture it draws a yes, too. At a no OUT stays as it is.
-With --summary it prints at a yes, in place of the lines above:
-  weakest block B need K have H   the block with the fewest symbols to spare, the first such
-  carriers C
-  repeats R                       R datagrams have a symbol that one before them has, too
-  margin M
-  kill block B                    M + 1 datagrams there are that leave block B short
-  burst N place P block B         N + 1 neighbours from place P on leave block B short
-`carriers` stands in place of a block where all of them are lost.
+With --summary it prints `yes` and these lines:
+  weakest block B need K have H  block B is the first of those with the fewest symbols to spare
+  carriers C                     C datagrams have the FTI
+  repeats R                      R datagrams have a symbol that one before them has, too
+  margin M                       any M datagrams may be missed
+  kill block B                   some M + 1 datagrams, missed together, leave block B short
+  burst N place P block B        N + 1 neighbours, missed from place P on, leave block B short
+`carriers` in place of `block B` says that no carrier is left.
 Statuses: 0 yes, 1 no or a fault, 2 the command line is refused.
 
 Example: alcrs check bulletin.session bulletin.txt bulletin.rsc --tsi 7 --toi 1";

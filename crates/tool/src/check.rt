@@ -230,11 +230,7 @@ fn kill_line(alloc: Global, places: &[usize]) -> Result<Text, AllocError>
 }
 
 // The line of a number with its name.
-pub(crate) fn number_line(
-    alloc: Global,
-    name: &str,
-    number: usize,
-) -> Result<Text, AllocError>
+pub(crate) fn number_line(alloc: Global, name: &str, number: usize) -> Result<Text, AllocError>
     ensures { IfOk result (λ line. line ≡ named name.now (decimal number)) }
 {
     let mut line = Text::new(alloc);
