@@ -112,7 +112,9 @@ PROMISES = [
     ),
 ]
 # The crates that stand on the library and offer it further.
-ABOVE_THE_LIBRARY = {"request", "causes", "tool", "alcrs", "alcrs_c"}
+ABOVE_THE_LIBRARY = {
+    "request", "causes", "host", "program_host", "tool", "alcrs", "alcrs_c",
+}
 
 
 class Module:

@@ -1,9 +1,10 @@
 //! Outputs that find little room, and statuses.
 use crate::command::host_of;
 use crate::sessions::PAIR_SESSION;
+use host::MemoryHost;
 use session::Sink;
 use std::test::Fail;
-use tool::{MemoryHost, answer, refuse, refuse_memory, status_after};
+use tool::{answer, refuse, refuse_memory, status_after};
 
 // Where the line can't be printed the output is there all the same, and the status is 1.
 #[test]

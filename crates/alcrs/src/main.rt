@@ -1,16 +1,10 @@
 //! The program: the answer to its words, over the host's files and streams.
 #![tactic(auto)]
 
-mod host;
-mod last;
-mod parts;
-mod progress;
 mod words;
 
 use causes::{doubt, explain, forewarn, refused, repeated};
-use host::{BUFFER_SIZE, ProgramHost};
-use last::LastLine;
-use progress::Progress;
+use program_host::{BUFFER_SIZE, LastLine, ProgramHost, Progress};
 use request::{Request, Usage, command_line};
 use session::Device;
 use std::alloc::{AllocError, Global};

@@ -7,7 +7,7 @@ use Rattle.cert.specs.declared.certificate.CertFault.{CertFault}
 use Rattle.cert.specs.declared.certificate.CertFault.TheVariants.{Magic, Fti as WrongFti, Size, Io, NoMemory, OtherIdentity}
 use Rattle.request.specs.declared.requests.ConvertRequest.{ConvertRequest}
 use Rattle.request.specs.declared.requests.Request.TheVariants.{Convert}
-use Rattle.tool.specs.World.{Files, World, MayFail, Holds, GivesFile}
+use Rattle.host.specs.World.{Files, World, MayFail, Holds, GivesFile}
 use Rattle.tool.specs.Inputs.{ACertificate, AStream, Polynomials, Opened, HasValue}
 use Rattle.tool.specs.Outcomes.{IsBecause}
 use Rattle.tool.specs.Converted.{IsUnconverted}

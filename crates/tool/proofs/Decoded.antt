@@ -10,7 +10,7 @@ use Rattle.decoder.specs.declared.answer.Answer.TheVariants.{Empty, Fault, Missi
 use Rattle.decoder.specs.declared.answer.DecodeFault.TheVariants.{Packet, OtherFti, SymbolLength, Range, Clash, NotCode}
 use Rattle.request.specs.declared.requests.DecodeRequest.{DecodeRequest}
 use Rattle.request.specs.declared.requests.Request.TheVariants.{Decode}
-use Rattle.tool.specs.World.{IsFree, World, Replaces, one_more}
+use Rattle.host.specs.World.{IsFree, World, Replaces, one_more}
 use Rattle.tool.specs.Inputs.{ASession, Datagrams, HasValue}
 use Rattle.tool.specs.Lines.{line_of, count_line, answer_text}
 use Rattle.tool.specs.Commands.{answer_status, object_of}

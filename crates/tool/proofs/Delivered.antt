@@ -7,7 +7,7 @@ use Rattle.reception.specs.Answer as value
 use Rattle.decoder.specs.declared.receiver.Receiver.{Receiver}
 use Rattle.request.specs.declared.requests.FollowRequest.{FollowRequest}
 use Rattle.request.specs.declared.requests.Request.TheVariants.{Follow}
-use Rattle.tool.specs.World.{Files, World, IsFree, KeepsFiles, IsSilent, Replaces, one_more}
+use Rattle.host.specs.World.{Files, World, IsFree, KeepsFiles, IsSilent, Replaces, one_more}
 use Rattle.tool.specs.Lines.{line_of, count_line, answer_text}
 use Rattle.tool.specs.Following.{complete_line}
 use Rattle.tool.specs.Outcomes.{MayCreate, IsUnmade}

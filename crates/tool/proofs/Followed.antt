@@ -23,7 +23,7 @@ use Rattle.decoder.specs.declared.receiver.FeedFault.TheVariants as feed
 use Rattle.decoder.specs.declared.receiver.Receiver.{Receiver}
 use Rattle.request.specs.declared.requests.FollowRequest.{FollowRequest}
 use Rattle.request.specs.declared.requests.Request.TheVariants.{Follow}
-use Rattle.tool.specs.World.{IsFree, Files, World, KeepsFiles, MayFail, Replaces, one_more}
+use Rattle.host.specs.World.{IsFree, Files, World, KeepsFiles, MayFail, Replaces, one_more}
 use Rattle.tool.specs.Inputs.{AStream, Opened, HasValue}
 use Rattle.tool.specs.Lines.{line_of, answer_text}
 use Rattle.tool.specs.Commands.{answer_status, object_of}

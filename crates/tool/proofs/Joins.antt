@@ -12,7 +12,7 @@ use Rattle.session.specs.declared.frame.FrameFault.{FrameFault}
 use Rattle.session.specs.declared.frame.FrameFault.TheVariants.{CutLength, CutDatagram, TooLong, Io, NoMemory, NoSuchPlace}
 use Rattle.tool.specs.declared.fault.Fault.{Fault}
 use Rattle.tool.specs.declared.fault.Fault.TheVariants.{Open, File, Memory, Frame, Certificate, Fti, Send}
-use Rattle.tool.specs.World.{Files, World, Holds}
+use Rattle.host.specs.World.{Files, World, Holds}
 use Rattle.tool.specs.Inputs.{Input, ASession, AStream, Datagrams, Opened, HasValue, HaveValues, AreThere, IsUnopened, IsUnread, IsFirstUnopened, IsSomeUnread}
 use Rattle.request.specs.declared.requests.DropRequest.{DropRequest}
 use Rattle.request.specs.declared.requests.JoinRequest.{JoinRequest}

@@ -1,6 +1,4 @@
 mod Gains
-mod Pieces
-mod Found
 mod Stopping
 mod Numbered
 mod Showed

@@ -2,7 +2,7 @@
 use Rattle.std.proofs.Common.{◌≡◌, ◌∙◌, ℕ, List, Option, Some, None, Result, Ok, refl, sym, subst, length}
 use Rattle.std.specs.Prelude.{IfSome, IfOk, replicate}
 use Rattle.std.proofs.lemmas.List.{length-replicate}
-use Rattle.tool.specs.World.{Files, Holds, LeavesBytes}
+use Rattle.host.specs.World.{Files, Holds, LeavesBytes}
 use Rattle.tool.specs.Inputs.{AnObject, Bytes, HasValue}
 use Rattle.tool.specs.declared.output.Unwritten.{Unwritten}
 

@@ -19,7 +19,7 @@ use Rattle.request.specs.declared.requests.Request.TheVariants.{Check}
 use Rattle.tool.specs.declared.done.Done.{Done}
 use Rattle.tool.specs.declared.drawing.Drawn.{Drawn}
 use Rattle.request.specs.declared.requests.Output.{Output}
-use Rattle.tool.specs.World.{World, IsFree, Replaces, one_more}
+use Rattle.host.specs.World.{World, IsFree, Replaces, one_more}
 use Rattle.tool.specs.Inputs.{Value, Opened, Bytes, Polynomials}
 use Rattle.tool.specs.Commands.{Outcome, Gives, IsDrawn, TellsVerdict, output_of}
 use Rattle.tool.specs.Outcomes.{IsOutput, MayCreate}

@@ -12,7 +12,7 @@ use Rattle.session.proofs.Writes.{then_appends}
 use Rattle.cert.proofs.FromReader.{consumes_one}
 use Rattle.request.specs.declared.requests.SalvageRequest.{SalvageRequest}
 use Rattle.request.specs.declared.requests.Request.TheVariants.{Salvage}
-use Rattle.tool.specs.World.{World, GivesFile}
+use Rattle.host.specs.World.{World, GivesFile}
 use Rattle.tool.specs.Commands.{IsSalvaged}
 use Rattle.tool.specs.Outcomes.{IsBecause}
 use Rattle.tool.specs.Salvaging.{HasCopied, HasSalvaged, IsBroken, IsUncopied}

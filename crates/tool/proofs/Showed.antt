@@ -12,7 +12,7 @@ use Rattle.cert.proofs.FromReader.{consumes_one}
 use Rattle.alc.specs.Reading.{Reading, Reads}
 use Rattle.request.specs.declared.requests.ShowRequest.{ShowRequest}
 use Rattle.request.specs.declared.requests.Request.TheVariants.{Show}
-use Rattle.tool.specs.World.{World, KeepsFiles, MayFail}
+use Rattle.host.specs.World.{World, KeepsFiles, MayFail}
 use Rattle.tool.specs.Inputs.{AStream, Datagrams, Opened, HasValue}
 use Rattle.tool.specs.Lines.{line_of, numbered, reading_text}
 use Rattle.tool.specs.Commands.{shown_status, AreReadAs}

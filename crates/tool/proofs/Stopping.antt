@@ -6,7 +6,7 @@ use Rattle.std.proofs.KnownBytes.{Appends-nil}
 use Rattle.request.specs.declared.requests.Output.{Output}
 use Rattle.request.specs.declared.requests.Request.{Request}
 use Rattle.request.specs.declared.requests.Request.TheVariants.{Check, Twin, Show, Encode, Certify, Convert, Decode, Follow, Drop, Salvage, Join}
-use Rattle.tool.specs.World.{Files, World, IsToStay, MayFail, KeepsFiles, IsSilent, Replaces, one_more}
+use Rattle.host.specs.World.{Files, World, IsToStay, MayFail, KeepsFiles, IsSilent, Replaces, one_more}
 use Rattle.tool.specs.Commands.{output_of, Refuses}
 use Rattle.tool.specs.Outcomes.{IsUnmade, IsUnhad, IsBecause, BeginsText, MayCreate}
 use Rattle.tool.specs.Doing.{HasStopped, IsUncreated, IsUncommitted, IsUndone, IsUnkept}

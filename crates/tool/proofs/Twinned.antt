@@ -14,7 +14,7 @@ use Rattle.tool.specs.declared.twin.Inputs.{Inputs}
 use Rattle.tool.specs.declared.twin.Answered.{Answered}
 use Rattle.tool.specs.declared.done.Done.{Done}
 use Rattle.tool.specs.declared.done.Told.TheVariants.{Lines}
-use Rattle.tool.specs.World.{IsFree, Files, World, Replaces, one_more}
+use Rattle.host.specs.World.{IsFree, Files, World, Replaces, one_more}
 use Rattle.tool.specs.Inputs.{Value, Datagrams, Bytes, Polynomials}
 use Rattle.tool.specs.Lines.{verdict_text}
 use Rattle.tool.specs.Commands.{Outcome, GivesTwin}

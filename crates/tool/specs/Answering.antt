@@ -7,7 +7,7 @@ use Rattle.request.specs.Requests.{Answers}
 use Rattle.request.specs.declared.requests.CommandLine.{CommandLine}
 use Rattle.request.specs.declared.usage.Usage.{Usage}
 use Rattle.request.specs.declared.usage.Usage.TheVariants.{Help, Line, NoMemory}
-use Rattle.tool.specs.World.{World, KeepsFiles}
+use Rattle.host.specs.World.{World, KeepsFiles}
 use Rattle.tool.specs.Outcomes.{IsRun}
 
 -- what the output for errors had before and has, where it is told, and whether it has failed

@@ -8,7 +8,7 @@ use Rattle.cert.specs.Surveying.{IsSurvey}
 use Rattle.cert.specs.declared.verdict.Verdict.{Verdict}
 use Rattle.request.specs.declared.requests.CheckRequest.{CheckRequest}
 use Rattle.request.specs.declared.requests.Request.TheVariants.{Check}
-use Rattle.tool.specs.World.{Files}
+use Rattle.host.specs.World.{Files}
 use Rattle.tool.specs.Inputs.{Opened, Bytes, Polynomials, HaveValues}
 use Rattle.tool.specs.Commands.{inputs_of, status_of, TellsVerdict}
 use Rattle.tool.specs.declared.check.Answered.{Answered}

@@ -37,7 +37,7 @@ use Rattle.request.specs.declared.requests.Request.{Request}
 use Rattle.request.specs.declared.requests.Request.TheVariants.{Check, Twin, Show, Encode, Certify}
 use Rattle.request.specs.declared.requests.Request.TheVariants.{Convert, Decode, Follow, Drop}
 use Rattle.request.specs.declared.requests.Request.TheVariants.{Salvage, Join}
-use Rattle.tool.specs.World.{World, Holds, MayFail}
+use Rattle.host.specs.World.{World, Holds, MayFail}
 use Rattle.tool.specs.Inputs.{Input, AnObject, ASession, ACertificate, AStream, Value, Bytes}
 use Rattle.tool.specs.Inputs.{Datagrams, Polynomials, Opened, HasValue, HaveValues}
 use Rattle.tool.specs.Lines.{line_of, count_line, short_text, numbered, verdict_text, answer_text}

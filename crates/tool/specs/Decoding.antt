@@ -4,7 +4,7 @@ use Rattle.reception.specs.Answer.{Answer, Object, IsAnswer}
 use Rattle.decoder.specs.SymbolsOf.{AreSymbolsOf}
 use Rattle.decoder.specs.declared.gathering.ObjectSymbols.{ObjectSymbols}
 use Rattle.request.specs.declared.requests.DecodeRequest.{DecodeRequest}
-use Rattle.tool.specs.World.{Files}
+use Rattle.host.specs.World.{Files}
 use Rattle.tool.specs.Inputs.{ASession, Datagrams, HasValue}
 use Rattle.tool.specs.Lines.{line_of, answer_text}
 use Rattle.tool.specs.Commands.{answer_status}

@@ -2,7 +2,7 @@
 use Rattle.std.specs.Prelude.{◌≡◌, ◌⊎◌, ℕ, List, [], Result, Err}
 use Rattle.request.specs.declared.requests.Output.{Output}
 use Rattle.request.specs.declared.requests.Request.{Request}
-use Rattle.tool.specs.World.{World, IsToStay, MayFail, one_more}
+use Rattle.host.specs.World.{World, IsToStay, MayFail, one_more}
 use Rattle.tool.specs.Lines.{count_line}
 use Rattle.tool.specs.Commands.{Outcome}
 use Rattle.tool.specs.Outcomes.{Makes, MayCreate, IsUnmade, IsStopped, IsUnprinted}

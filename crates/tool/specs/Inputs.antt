@@ -8,7 +8,7 @@ use Rattle.cert.specs.Certificate.{Certificate, IsCertificate, certificate_text,
 use Rattle.cert.specs.declared.certificate.CertFault.TheVariants.{Io as CertificateIo}
 use Rattle.cert.specs.declared.certificate.CertFault.TheVariants.{NoMemory as NoCertificateMemory}
 use Rattle.cert.specs.declared.certificate.CertFault.TheVariants.{OtherIdentity}
-use Rattle.tool.specs.World.{Files, World, Holds, MayFail}
+use Rattle.host.specs.World.{Files, World, Holds, MayFail}
 use Rattle.tool.specs.declared.fault.Fault.{Fault}
 use Rattle.tool.specs.declared.fault.Fault.TheVariants.{Open, File, Memory, Frame}
 use Rattle.tool.specs.declared.fault.Fault.TheVariants.{Certificate as NoCertificate}

@@ -7,7 +7,6 @@ pub mod Copying
 pub mod Decoding
 pub mod Doing
 pub mod Drawing
-pub mod Files
 pub mod Following
 pub mod Inputs
 pub mod Lines
@@ -23,5 +22,3 @@ pub mod TwinsTold
 pub mod Summary
 pub mod Summing
 pub mod Words
-pub mod World
-pub mod Worlds

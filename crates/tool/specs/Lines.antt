@@ -20,7 +20,7 @@ use Rattle.decoder.specs.Answers.{fault_value}
 use Rattle.decoder.specs.declared.receiver.FeedFault.{FeedFault}
 use Rattle.decoder.specs.declared.receiver.FeedFault.TheVariants.{Fault as NoObject, Full, Early}
 use Rattle.decoder.specs.declared.receiver.FeedFault.TheVariants.{NoMemory}
-use Rattle.tool.specs.World.{World, KeepsFiles}
+use Rattle.host.specs.World.{World, KeepsFiles}
 use Rattle.tool.specs.Words.{fti_words, packet_words, frame_words, certificate_words, send_words}
 use Rattle.tool.specs.declared.fault.Fault.{Fault}
 use Rattle.tool.specs.declared.fault.Fault.TheVariants.{Open, File, Memory, Frame, Certificate, Fti}

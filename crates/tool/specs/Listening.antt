@@ -13,7 +13,7 @@ use Rattle.decoder.specs.declared.answer.Answer.{Answer}
 use Rattle.decoder.specs.declared.receiver.Receiver.{Receiver}
 use Rattle.request.specs.declared.requests.FollowRequest.{FollowRequest}
 use Rattle.request.specs.declared.requests.Request.TheVariants.{Follow}
-use Rattle.tool.specs.World.{World, one_more}
+use Rattle.host.specs.World.{World, one_more}
 use Rattle.tool.specs.Outcomes.{IsOutput}
 use Rattle.tool.specs.Lines.{line_of, answer_text}
 use Rattle.tool.specs.Commands.{answer_status}

@@ -1,6 +1,6 @@
 -- Several files that are open at once.
 use Rattle.std.specs.Prelude.{ℕ, List, [], ◌∷◌, Option, ⊤}
-use Rattle.tool.specs.World.{Files}
+use Rattle.host.specs.World.{Files}
 use Rattle.tool.specs.Inputs.{AStream, Opened, HasValue}
 
 -- each reader gives the bytes of the file of its name

@@ -7,7 +7,7 @@ use Rattle.request.specs.declared.requests.Output.{Output}
 use Rattle.request.specs.declared.requests.Request.{Request}
 use Rattle.request.specs.declared.requests.Request.TheVariants.{Check, Twin, Show, Decode, Follow}
 use Rattle.request.specs.declared.requests.Request.TheVariants.{Join}
-use Rattle.tool.specs.World.{Files, World, IsFree, IsToStay, MayFail, Replaces, one_more}
+use Rattle.host.specs.World.{Files, World, IsFree, IsToStay, MayFail, Replaces, one_more}
 use Rattle.tool.specs.Inputs.{AStream, Value, Opened, HasValue, HaveValues, AreThere, IsUnopened}
 use Rattle.tool.specs.Inputs.{IsFirstUnopened, IsFirstUnread, IsSomeUnread}
 use Rattle.tool.specs.Lines.{numbered, reading_text, TellsFault}

@@ -5,7 +5,7 @@ use Rattle.session.specs.Frames.{IsReadFault}
 use Rattle.session.specs.declared.frame.FrameFault.{FrameFault}
 use Rattle.session.specs.declared.frame.FrameFault.TheVariants.{NoMemory as NoFrameMemory}
 use Rattle.alc.specs.Reading.{Reading, Reads}
-use Rattle.tool.specs.World.{World}
+use Rattle.host.specs.World.{World}
 use Rattle.tool.specs.Lines.{line_of, numbered, reading_text}
 use Rattle.tool.specs.Commands.{AreReadAs, shown_status}
 use Rattle.tool.specs.declared.fault.Fault.TheVariants.{Memory, Frame}

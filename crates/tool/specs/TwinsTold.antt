@@ -9,7 +9,7 @@ use Rattle.cert.specs.declared.verdict.Verdict.{Verdict}
 use Rattle.cert.specs.declared.verdict.Verdict.TheVariants.{Yes, No}
 use Rattle.request.specs.declared.requests.TwinRequest.{TwinRequest}
 use Rattle.request.specs.declared.requests.Request.TheVariants.{Twin}
-use Rattle.tool.specs.World.{Files, World}
+use Rattle.host.specs.World.{Files, World}
 use Rattle.tool.specs.Inputs.{Datagrams, Bytes, Polynomials, HaveValues, IsFirstUnread}
 use Rattle.tool.specs.Lines.{line_of, short_text, verdict_text}
 use Rattle.tool.specs.Commands.{inputs_of}

@@ -1,11 +1,11 @@
 //! The answer to a command line.
 ghost use Rattle.std.specs.Prelude.{◌≡◌, ◌⊎◌, true, codes, OnOk, OnErr};
 ghost use Rattle.std.specs.Io.KnownBytes.{Appends};
-ghost use Rattle.tool.specs.World.{KeepsFiles};
+ghost use Rattle.host.specs.World.{KeepsFiles};
 ghost use Rattle.tool.specs.Answering.{IsAnswer, Explains, errors_of};
 
-use crate::host::Host;
 use crate::running::{MEMORY_LINE, run, tell_memory};
+use host::Host;
 use request::{Usage, command_line};
 use session::{Failed, Write, write_all};
 use std::alloc::Global;

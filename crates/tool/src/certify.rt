@@ -3,7 +3,7 @@ ghost use Rattle.std.specs.Prelude.{◌≡◌, true, length, IfOk, IfErr};
 ghost use Rattle.cert.specs.Certificate.{IsIdentity};
 ghost use Rattle.partition.specs.Fti.{block_count};
 ghost use Rattle.request.specs.declared.requests.Request.TheVariants.{Certify};
-ghost use Rattle.tool.specs.World.{GivesFile, LeavesBytes};
+ghost use Rattle.host.specs.World.{GivesFile, LeavesBytes};
 ghost use Rattle.tool.specs.Commands.{sized};
 ghost use Rattle.tool.specs.Doing.{HasMade, HasStopped};
 ghost use Rattle.tool.specs.Inputs.{AnObject, Bytes, HasValue};
@@ -12,12 +12,12 @@ ghost use Rattle.tool.specs.Certifying.{WritesCertificate, IsUncertified, IsUnce
 
 use crate::done::Done;
 use crate::fault::Fault;
-use crate::host::Host;
 use crate::input::{open, read_rest};
 use crate::output::{Unwritten, commit, create};
 use crate::sizes::fti_of;
 use cert::CertFault;
 use encoder::{CertifyFault, CertifyFromFault, certify_from, certify_to};
+use host::Host;
 use partition::Fti;
 use reception::Identity;
 use request::CertifyRequest;

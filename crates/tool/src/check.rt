@@ -15,13 +15,13 @@ ghost use Rattle.tool.specs.Lines.{reason_text, verdict_text as text_of_verdict}
 use crate::done::{Done, Told};
 use crate::drawing::{Drawn, picture_of};
 use crate::fault::Fault;
-use crate::host::Host;
 use crate::input::{open, read_certificate, read_object};
 use crate::output::write_output;
 use crate::print::Text;
 use crate::summary::summary_lines;
 use crate::wording::put_packet_fault;
 use cert::{Certificate, CheckFault, Reason, Report, Survey, Verdict, check_from, survey_from};
+use host::Host;
 use reception::Identity;
 use request::{CheckRequest, Output};
 use session::{FrameFault, Read};

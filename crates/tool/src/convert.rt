@@ -7,10 +7,10 @@ ghost use Rattle.tool.specs.Converted.{Converts, IsUnconverted};
 
 use crate::done::Done;
 use crate::fault::Fault;
-use crate::host::Host;
 use crate::input::open;
 use crate::output::{Unwritten, commit, create};
 use cert::{CertFault, ConvertFault};
+use host::Host;
 use reception::Identity;
 use request::ConvertRequest;
 use session::{Read, Write};

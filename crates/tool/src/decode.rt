@@ -12,12 +12,12 @@ ghost use Rattle.tool.specs.Lines.{line_of, answer_text};
 
 use crate::done::{Done, Told};
 use crate::fault::Fault;
-use crate::host::Host;
 use crate::input::read_session;
 use crate::output::{Unwritten, commit, create};
 use crate::print::Text;
 use crate::wording::put_packet_fault;
 use decoder::{Answer, DecodeFault, Gathered, ObjectSymbols, WriteFault, gather};
+use host::Host;
 use request::DecodeRequest;
 use session::Write;
 use std::alloc::{AllocError, Global};

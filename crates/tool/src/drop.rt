@@ -7,9 +7,9 @@ ghost use Rattle.tool.specs.Copying.{IsCutShort};
 
 use crate::done::Done;
 use crate::fault::Fault;
-use crate::host::Host;
 use crate::input::open;
 use crate::output::{Unwritten, commit, create};
+use host::Host;
 use request::DropRequest;
 use session::{FrameFault, Read, Write, thin_frames};
 use std::alloc::Global;

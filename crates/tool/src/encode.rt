@@ -2,7 +2,7 @@
 ghost use Rattle.std.specs.Prelude.{◌≡◌, true, length, IfOk, IfErr};
 ghost use Rattle.partition.specs.declared.order.Order.TheVariants.{Blocks};
 ghost use Rattle.request.specs.declared.requests.Request.TheVariants.{Encode};
-ghost use Rattle.tool.specs.World.{GivesFile, LeavesBytes};
+ghost use Rattle.host.specs.World.{GivesFile, LeavesBytes};
 ghost use Rattle.tool.specs.Commands.{sized};
 ghost use Rattle.tool.specs.Doing.{HasMade, HasStopped};
 ghost use Rattle.tool.specs.Inputs.{AnObject, Bytes, HasValue};
@@ -11,11 +11,11 @@ ghost use Rattle.tool.specs.Sending.{WritesSession, IsUnsent, IsUnsentFrom};
 
 use crate::done::Done;
 use crate::fault::Fault;
-use crate::host::Host;
 use crate::input::{open, read_rest};
 use crate::output::{Unwritten, commit, create};
 use crate::sizes::fti_of;
 use encoder::{SendFault, SendFromFault};
+use host::Host;
 use partition::{Fti, Order};
 use request::{EncodeRequest, Sending};
 use session::{Read, Write};

@@ -7,7 +7,7 @@ ghost use Rattle.session.specs.Frames.{frame, most_bytes};
 ghost use Rattle.decoder.specs.Receiving.{LeaveNoneShort, IsWrittenOf};
 ghost use Rattle.decoder.specs.Stands.{Stands};
 ghost use Rattle.request.specs.declared.requests.Request.TheVariants.{Follow};
-ghost use Rattle.tool.specs.World.{KeepsFiles, IsSilent};
+ghost use Rattle.host.specs.World.{KeepsFiles, IsSilent};
 ghost use Rattle.tool.specs.Doing.{IsUndone, IsUnwritten};
 ghost use Rattle.tool.specs.Following.{complete_line, refusal_line};
 ghost use Rattle.tool.specs.Lines.{refusal_words};
@@ -20,12 +20,12 @@ ghost use Rattle.tool.specs.declared.fault.Stop.TheVariants.{ByFault, Unprinted}
 
 use crate::decode::told_of;
 use crate::fault::{Fault, Stop};
-use crate::host::Host;
 use crate::input::{next_datagram, open};
 use crate::output::{Unwritten, commit, create};
 use crate::print::{Text, print_count};
 use crate::wording::put_packet_fault;
 use decoder::{DecodeFault, FeedFault, Progress, Receiver};
+use host::Host;
 use request::FollowRequest;
 use session::{FrameFault, Read, Write};
 use std::alloc::{AllocError, Global};

@@ -2,7 +2,7 @@
 ghost use Rattle.std.specs.Prelude.{◌≡◌, ◌<◌, ◌≤◌, [], None, false, length, IfOk, IfErr, IfSome};
 ghost use Rattle.std.specs.Io.KnownBytes.{Consumes, IsAtEnd};
 ghost use Rattle.session.specs.Frames.{frame, most_bytes};
-ghost use Rattle.tool.specs.World.{GivesFile};
+ghost use Rattle.host.specs.World.{GivesFile};
 ghost use Rattle.tool.specs.Inputs.{AnObject, ASession, ACertificate, Bytes, Datagrams};
 ghost use Rattle.tool.specs.Inputs.{Polynomials, HasValue, IsUnopened, IsUnread};
 ghost use Rattle.tool.specs.ReadingObjects.{IsRestUnread};
@@ -10,8 +10,8 @@ ghost use Rattle.tool.specs.Listening.{IsFrameUnread};
 ghost use Rattle.tool.specs.declared.fault.Fault.TheVariants.{Frame};
 
 use crate::fault::Fault;
-use crate::host::{FileFault, Host};
 use cert::Certificate;
+use host::{FileFault, Host};
 use session::{FrameFault, Read, ReadFault, Session, read_next, read_to_end};
 use std::alloc::Global;
 

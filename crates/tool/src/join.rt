@@ -9,9 +9,9 @@ ghost use Rattle.tool.specs.Opening.{AreOpen};
 
 use crate::done::Done;
 use crate::fault::Fault;
-use crate::host::Host;
 use crate::input::open;
 use crate::output::{Unwritten, commit, create};
+use host::Host;
 use request::JoinRequest;
 use session::{FrameFault, Read, Write, join_frames};
 use std::alloc::Global;

@@ -12,10 +12,8 @@ mod drop;
 mod encode;
 mod fault;
 mod follow;
-mod host;
 mod input;
 mod join;
-mod memory;
 mod output;
 mod print;
 mod running;
@@ -28,6 +26,4 @@ mod twin;
 mod wording;
 
 pub use answering::{answer, refuse, refuse_memory, status_after};
-pub use host::{FileFault, Host};
-pub use memory::{MemoryHost, MemoryInput};
 pub use running::run;

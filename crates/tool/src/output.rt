@@ -1,10 +1,10 @@
 //! Output files.
 ghost use Rattle.std.specs.Prelude.{◌≡◌, Ok, IfOk, IfErr, IfSome, OnOk, OnErr};
-ghost use Rattle.tool.specs.World.{IsBlank, IsFree, Replaces, IsSilent, one_more};
+ghost use Rattle.host.specs.World.{IsBlank, IsFree, Replaces, IsSilent, one_more};
 ghost use Rattle.tool.specs.Doing.{IsUncreated, IsUncommitted, IsUnkept};
 
 use crate::fault::Fault;
-use crate::host::{FileFault, Host};
+use host::{FileFault, Host};
 use request::Output;
 use session::write_all;
 

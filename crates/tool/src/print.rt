@@ -1,10 +1,10 @@
 //! Printed lines.
 ghost use Rattle.std.specs.Prelude.{◌≡◌, ◌++◌, [], true, OnErr, OnOk};
 ghost use Rattle.std.specs.Io.KnownBytes.{Appends};
-ghost use Rattle.tool.specs.World.{KeepsFiles};
+ghost use Rattle.host.specs.World.{KeepsFiles};
 ghost use Rattle.tool.specs.Lines.{line_of, named, short_text};
 
-use crate::host::Host;
+use host::Host;
 use itoa::{Buffer, Integer};
 use session::Failed;
 use std::alloc::{AllocError, Global};

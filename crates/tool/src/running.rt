@@ -1,7 +1,7 @@
 //! Doing what was asked for.
 ghost use Rattle.std.specs.Prelude.{◌≡◌, ◌⊎◌, ◌≤◌, true, codes, IfOk, IfErr};
 ghost use Rattle.std.specs.Io.KnownBytes.{Appends};
-ghost use Rattle.tool.specs.World.{KeepsFiles};
+ghost use Rattle.host.specs.World.{KeepsFiles};
 ghost use Rattle.tool.specs.Lines.{TellsFault};
 ghost use Rattle.tool.specs.Doing.{IsUndone};
 ghost use Rattle.tool.specs.Outcomes.{IsRun, IsDone};
@@ -14,13 +14,13 @@ use crate::drop::drop_places;
 use crate::encode::encode;
 use crate::fault::{Fault, Stop};
 use crate::follow::follow;
-use crate::host::Host;
 use crate::join::join;
 use crate::salvage::salvage;
 use crate::show::show;
 use crate::telling::finish;
 use crate::twin::twin;
 use crate::wording::fault_line;
+use host::Host;
 use request::Request;
 use std::alloc::Global;
 

@@ -6,9 +6,9 @@ ghost use Rattle.tool.specs.Salvaging.{HasSalvaged, IsBroken, IsUncopied, IsUnre
 
 use crate::done::{Done, Told};
 use crate::fault::Fault;
-use crate::host::Host;
 use crate::input::open;
 use crate::output::{Unwritten, commit, create};
+use host::Host;
 use request::SalvageRequest;
 use session::{FrameFault, Read, Write, read_next, write_one};
 use std::alloc::Global;

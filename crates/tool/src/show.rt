@@ -2,7 +2,7 @@
 ghost use Rattle.std.specs.Prelude.{◌≡◌, ◌≤◌, ◌++◌, true, false, Ok, Err, IfOk, IfErr, OnOk, OnErr};
 ghost use Rattle.alc.specs.Views.{packet_of};
 ghost use Rattle.request.specs.declared.requests.Request.TheVariants.{Show};
-ghost use Rattle.tool.specs.World.{KeepsFiles};
+ghost use Rattle.host.specs.World.{KeepsFiles};
 ghost use Rattle.tool.specs.Doing.{IsUndone};
 ghost use Rattle.tool.specs.Outcomes.{IsDone};
 ghost use Rattle.tool.specs.Lines.{line_of, fti_text, reading_text};
@@ -12,11 +12,11 @@ ghost use Rattle.tool.specs.declared.fault.Fault.TheVariants.{Frame};
 ghost use Rattle.tool.specs.declared.fault.Stop.TheVariants.{ByFault};
 
 use crate::fault::{Fault, Stop};
-use crate::host::Host;
 use crate::input::{next_datagram, open};
 use crate::print::Text;
 use crate::wording::put_packet_fault;
 use alc::{Packet, PacketFault, read};
+use host::Host;
 use partition::Fti;
 use request::ShowRequest;
 use session::{Failed, FrameFault, Read};

@@ -2,14 +2,14 @@
 ghost use Rattle.std.specs.Prelude.{◌≡◌, ◌≤◌, true, IfOk, IfErr, OnOk, OnErr};
 ghost use Rattle.std.specs.Io.KnownBytes.{Appends};
 ghost use Rattle.request.specs.declared.requests.Request.{Request as RequestValue};
-ghost use Rattle.tool.specs.World.{World, KeepsFiles};
+ghost use Rattle.host.specs.World.{World, KeepsFiles};
 ghost use Rattle.tool.specs.Doing.{text_of, HasMade, HasStopped, IsUndone};
 ghost use Rattle.tool.specs.Outcomes.{IsDone};
 
 use crate::done::{Done, Told};
 use crate::fault::{Fault, Stop};
-use crate::host::Host;
 use crate::print::print_count;
+use host::Host;
 use session::Failed;
 
 impl Told {

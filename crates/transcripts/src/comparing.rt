@@ -3,8 +3,8 @@ use crate::bytes::put_row;
 use crate::fault::{Fault, Wrong};
 use crate::line::{Line, read_line};
 use crate::outcome::Outcome;
+use host::MemoryHost;
 use std::alloc::Global;
-use tool::MemoryHost;
 
 /// What no line has told yet of an answer.
 #[derive(Clone, Copy)]

@@ -2,8 +2,8 @@
 use crate::bytes::put_row;
 use crate::fault::{Fault, Wrong};
 use crate::line::{Line, read_line};
+use host::MemoryHost;
 use std::alloc::Global;
-use tool::MemoryHost;
 
 // Adds the bytes of a line behind the one that names their file, if it has any. False where the
 // line belongs to the file no more.

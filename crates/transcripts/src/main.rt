@@ -18,13 +18,13 @@ mod telling;
 use comparing::compare;
 use fault::Fault;
 use given::give;
+use host::MemoryHost;
 use line::{Line, read_line};
 use outcome::run;
 use session::Sink;
 use std::process::ExitCode;
 use std::{env, fs, io};
 use telling::{Place, tell, tell_counts, tell_outcome};
-use tool::MemoryHost;
 
 // Whether the file of this place can be given, which is then done.
 fn try_file(

@@ -1,8 +1,9 @@
 //! What a command answers.
 use crate::fault::Fault;
+use host::MemoryHost;
 use session::Sink;
 use std::alloc::{AllocError, Global};
-use tool::{MemoryHost, answer};
+use tool::answer;
 
 /// What a command answered.
 #[derive(Drop)]

@@ -1,7 +1,7 @@
 use Rattle.std.proofs.Common.{◌≡◌, ℕ, List}
 use Rattle.decoder.specs.Stands.{Stands}
 use Rattle.decoder.specs.Receiving.{LeaveNoneShort}
-use Rattle.tool.specs.World.{KeepsFiles}
+use Rattle.host.specs.World.{KeepsFiles}
 use Rattle.tool.specs.Following.{IsHeard}
 use Rattle.tool.specs.Listening.{AreSaid}
 use Rattle.tool.proofs.follow.listen.Given as goal

@@ -1,6 +1,6 @@
 use Rattle.std.proofs.Common.{◌≡◌, ◌≤◌, List, length}
 use Rattle.alc.specs.Reading.{Reading}
-use Rattle.tool.specs.World.{KeepsFiles}
+use Rattle.host.specs.World.{KeepsFiles}
 use Rattle.tool.specs.Commands.{shown_status}
 use Rattle.tool.specs.Showing.{Shows}
 use Rattle.tool.proofs.show.print_datagrams.Given as goal

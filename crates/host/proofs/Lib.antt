@@ -1,0 +1,2 @@
+mod Found
+mod Pieces

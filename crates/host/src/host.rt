@@ -1,0 +1,79 @@
+//! What a command meets outside.
+ghost use Rattle.std.specs.Prelude.{◌≡◌, true, IfOk, IfErr, IfSome, OnOk, OnErr};
+ghost use Rattle.std.specs.Io.KnownBytes.{Appends};
+ghost use Rattle.host.specs.World.{World, GivesFile, LeavesBytes, IsBlank, Replaces, IsRefused};
+ghost use Rattle.host.specs.World.{IsMissing, IsFree, IsTaken, KeepsFiles, IsSilent, one_more};
+
+use session::{Failed, Read, Write};
+
+/// Why a host refused a file.
+#[derive(Debug, Clone, Copy, PartialEq, Eq)]
+pub enum FileFault {
+    /// The file can't be opened, created, written or kept.
+    Io,
+    NoMemory,
+}
+
+/// Named files, and an output for lines. What is to be a file stands under its name once it is
+/// kept, and not before: it is neither dropped nor forgotten, but kept or given up.
+pub trait Host {
+    type Input: Read + Drop;
+
+    /// What is to be a file.
+    type Output: Write;
+
+    /// What is outside, as far as it is told.
+    ghost world: { Self → World };
+
+    /// Opens a file for reading. `Io` comes only where the file isn't there, or the host may fail.
+    fn open_file(&self, name: &str) -> Result<Self::Input, FileFault>
+        ensures input { IfOk result (λ file. GivesFile (world self.now) name.now
+            (Self.Input.remaining file) (Self.Input.sound file)) }
+        ensures fault { IfErr result (IsMissing (world self.now) name.now) };
+
+    /// How many bytes an input has left, where that is known before they are read.
+    fn length_of(&self, input: &Self::Input) -> Option<u64>
+        ensures { IfSome result (LeavesBytes (Self.Input.remaining input.now)) };
+
+    /// Creates what is to be the file of this name. With `no_clobber` it does so only where none is
+    /// there. `Io` comes only where a file is there that stays, or the host may fail.
+    fn create_file(&mut self, name: &str, no_clobber: bool) -> Result<Self::Output, FileFault>
+        ensures blank { IfOk result (λ file.
+            IsBlank (world self.old) (Self.Output.contents file)) }
+        ensures free { OnOk result (IsFree (world self.old).files name.now no_clobber) }
+        ensures fault { IfErr result (IsTaken (world self.old) name.now no_clobber) }
+        ensures files { (world self.new).files ≡ (world self.old).files }
+        ensures silent { IsSilent (world self.old) (world self.new) }
+        ensures created { OnOk result
+            ((world self.new).created ≡ one_more (world self.old).created) }
+        ensures none { OnErr result ((world self.new).created ≡ (world self.old).created) };
+
+    /// Puts what was written under its name, in the place of the file that was there. `Io` comes
+    /// only where the host may fail; after a fault the files are as they were.
+    fn keep_file(&mut self, name: &str, output: Self::Output) -> Result<(), FileFault>
+        ensures kept { OnOk result (IfSome (Self.Output.contents output)
+            (Replaces (world self.old).files (world self.new).files name.now)) }
+        ensures fault { IfErr result (IsRefused (world self.old)) }
+        ensures files { OnErr result ((world self.new).files ≡ (world self.old).files) }
+        ensures silent { IsSilent (world self.old) (world self.new) }
+        ensures created { (world self.new).created ≡ (world self.old).created };
+
+    /// Drops what was written, and answers why writing has failed, where it has.
+    fn give_up(&mut self, output: Self::Output) -> FileFault
+        ensures fault { IsRefused (world self.old) result }
+        ensures files { KeepsFiles (world self.old) (world self.new) }
+        ensures silent { IsSilent (world self.old) (world self.new) };
+
+    /// Prints these bytes. They may be held back until they are passed on.
+    fn print(&mut self, bytes: &[u8]) -> Result<(), Failed>
+        ensures printed { OnOk result
+            (Appends (world self.old).printed (world self.new).printed bytes.now) }
+        ensures fails { OnErr result ((world self.new).failed ≡ true) }
+        ensures files { KeepsFiles (world self.old) (world self.new) };
+
+    /// Passes on what was printed and is held back.
+    fn pass_on(&mut self) -> Result<(), Failed>
+        ensures stays { OnOk result ((world self.new).printed ≡ (world self.old).printed) }
+        ensures fails { OnErr result ((world self.new).failed ≡ true) }
+        ensures files { KeepsFiles (world self.old) (world self.new) };
+}

@@ -1,0 +1,315 @@
+//! The host's files and its standard output.
+ghost use Rattle.std.specs.Prelude.{◌≡◌, ◌^◌, ◌-◌, [], None, false, IfOk, OnOk, is_err};
+ghost use Rattle.std.specs.Io.KnownBytes.{Keeps};
+ghost use Rattle.std.specs.Io.Buffered.{writer_buffer, writer_contents};
+ghost use Rattle.host.specs.Worlds.{untold};
+
+use crate::last::LastLine;
+use crate::parts::{Part, create_beside};
+use crate::progress::{Counted, Progress};
+use host::{FileFault, Host};
+use request::Output;
+use session::{Device, Failed, Write, write_all};
+use std::alloc::Global;
+use std::cell::Cell;
+use std::fs::{File, Metadata, OpenOptions, Permissions};
+use std::io::{BufReader, BufWriter, ErrorKind};
+use std::rt::Files;
+use std::time::Clock;
+use std::{fs, io};
+
+/// How many bytes stand between a file, or the output, and its reader or writer.
+pub const BUFFER_SIZE: usize = 65536;
+
+/// The name of an input that is standard input.
+const STANDARD_INPUT: &str = "-";
+
+/// Where standard input is opened.
+const INPUT_DEVICE: &str = "/dev/stdin";
+
+/// The files that names lead to as paths, `-` as standard input where it is read, and standard
+/// output.
+#[derive(Drop)]
+pub struct ProgramHost<'a, R, O: std::io::Write + Drop> {
+    rt: &'a R,
+    alloc: Global,
+    out: Device<BufWriter<O>>,
+    last: LastLine,
+    took_input: Cell<bool>,
+    progress: &'a Progress,
+}
+
+impl<'a, R, O: std::io::Write + Drop> ProgramHost<'a, R, O> {
+    /// The files, through the host's runtime, this output for lines, and what is told of inputs.
+    pub fn new(
+        rt: &'a R,
+        alloc: Global,
+        out: Device<BufWriter<O>>,
+        progress: &'a Progress,
+    ) -> ProgramHost<'a, R, O>
+        ensures { result.rt.now ≡ rt.now }
+    {
+        ProgramHost {
+            rt,
+            alloc,
+            out,
+            last: LastLine::new(),
+            took_input: Cell::new(false),
+            progress,
+        }
+    }
+
+    /// What was printed last.
+    pub fn last(&self) -> &LastLine
+        ensures { result.now ≡ self.now.last }
+    {
+        &self.last
+    }
+
+    /// Passes on all that was printed. `Failed` comes exactly where the output has failed, now or
+    /// before.
+    pub fn flush(&mut self) -> Result<(), Failed>
+        ensures passed { OnOk result (writer_buffer self.new.out.inner ≡ []) }
+        ensures inner { Keeps (writer_contents O.contents self.old.out.inner)
+            (writer_contents O.contents self.new.out.inner) }
+        ensures failed { self.new.out.failed ≡ is_err result }
+        ensures works { OnOk result (self.old.out.failed ≡ false) }
+    {
+        self.out.flush()
+    }
+}
+
+/// A file that is written: beside its name until it is kept, or, where a device or a pipe has that,
+/// straight.
+pub struct HostOutput<T: std::io::Write + Drop> {
+    device: Device<BufWriter<T>>,
+    part: Option<Part>,
+}
+
+impl<T: std::io::Write + Drop> Write for HostOutput<T> {
+    ghost contents = { λ _. None };
+
+    ghost failed = { λ output. output.device.failed };
+
+    ghost room = { λ _. 0 };
+
+    fn write(&mut self, bytes: &[u8]) -> Result<usize, Failed> {
+        self.device.write(bytes)
+    }
+}
+
+// A new file beside this name, which has these permissions once it is kept, or those of a new file.
+fn create_anew<R: Files<File = File>>(
+    rt: &R,
+    alloc: Global,
+    name: &str,
+    permissions: Option<Permissions>,
+    no_clobber: bool,
+) -> Result<(File, Option<Part>), FileFault> {
+    match create_beside(rt, alloc, name, permissions, no_clobber) {
+        Ok((file, part)) => Ok((file, Some(part))),
+        Err(error) if error.kind() == ErrorKind::OutOfMemory => Err(FileFault::NoMemory),
+        Err(_) => Err(FileFault::Io),
+    }
+}
+
+// Fails where the file of this name may not be written.
+fn may_write<R: Files>(rt: &R, name: &str) -> Result<(), FileFault> {
+    match OpenOptions::new().write(true).open(rt, name) {
+        Ok(file) => {
+            drop(file);
+            Ok(())
+        }
+        Err(_) => Err(FileFault::Io),
+    }
+}
+
+// A new file that is to take the place of the one of this name.
+fn create_instead<R: Files<File = File>>(
+    rt: &R,
+    alloc: Global,
+    name: &str,
+    there: &Metadata,
+) -> Result<(File, Option<Part>), FileFault> {
+    may_write(rt, name)?;
+    create_anew(rt, alloc, name, Some(there.permissions()), false)
+}
+
+// What has this name, which is no file, to be written straight.
+fn create_straight<R: Files<File = File>>(
+    rt: &R,
+    name: &str,
+) -> Result<(File, Option<Part>), FileFault> {
+    match fs::create(rt, name) {
+        Ok(file) => Ok((file, None)),
+        Err(_) => Err(FileFault::Io),
+    }
+}
+
+// What a link leads to, to be written, so that a command may read the file that it replaces.
+fn create_behind<R: Files<File = File>>(
+    rt: &R,
+    alloc: Global,
+    link: &str,
+) -> Result<(File, Option<Part>), FileFault> {
+    let name = match rt.canonicalize(alloc, link) {
+        Ok(path) => path.into_string(),
+        // It leads to nothing, so nothing is replaced.
+        Err(error) if error.kind() == ErrorKind::NotFound => return create_straight(rt, link),
+        Err(_) => return Err(FileFault::Io),
+    };
+    match fs::symlink_metadata(rt, name.as_str()) {
+        Ok(there) if there.is_file() => create_instead(rt, alloc, name.as_str(), &there),
+        _ => create_straight(rt, link),
+    }
+}
+
+// Whether what has this name is written straight, as a pipe, a device or a link to nothing is.
+fn is_straight<R: Files>(rt: &R, name: &str) -> bool {
+    match fs::metadata(rt, name) {
+        Ok(there) => !there.is_file() && !there.is_dir(),
+        Err(_) => fs::symlink_metadata(rt, name).is_ok(),
+    }
+}
+
+// A file to be written, and where it goes if not straight to this name. With `no_clobber` whatever
+// has the name stays.
+fn create<R: Files<File = File>>(
+    rt: &R,
+    alloc: Global,
+    name: &str,
+    no_clobber: bool,
+) -> Result<(File, Option<Part>), FileFault> {
+    match fs::symlink_metadata(rt, name) {
+        Ok(_) if no_clobber => Err(FileFault::Io),
+        Ok(there) if there.is_file() => create_instead(rt, alloc, name, &there),
+        Ok(there) if there.is_symlink() => create_behind(rt, alloc, name),
+        Ok(_) => create_straight(rt, name),
+        Err(error) if error.kind() == ErrorKind::NotFound && !name.is_empty() => {
+            create_anew(rt, alloc, name, None, no_clobber)
+        }
+        Err(_) => Err(FileFault::Io),
+    }
+}
+
+impl<R: Files<File = File>, O: std::io::Write + Drop> ProgramHost<'_, R, O> {
+    // The file of this name, or standard input, whose bytes come once: it isn't opened again.
+    fn open_input(&self, name: &str) -> io::Result<File> {
+        if name != STANDARD_INPUT {
+            return fs::open(self.rt, name);
+        }
+        if self.took_input.replace(true) {
+            return Err(io::Error::from(ErrorKind::ResourceBusy));
+        }
+        fs::open(self.rt, INPUT_DEVICE)
+    }
+
+    fn remove(&self, part: &Option<Part>) {
+        if let Some(part) = part {
+            part.remove(self.rt);
+        }
+    }
+}
+
+impl<R: Files<File = File> + Clock + Eprint, O: std::io::Write + Drop> ProgramHost<'_, R, O> {
+    /// From now on it is told how far inputs are read. Lines of the command may go to the same
+    /// terminal.
+    pub fn watch(&self, is_shared: bool) {
+        self.progress.begin(self.rt, is_shared);
+    }
+
+    /// Takes away what stands on the terminal.
+    pub fn end_watch(&self) {
+        self.progress.wipe(self.rt);
+    }
+
+    /// Whether a file of this name can't be created, as far as a try tells, which leaves nothing. A
+    /// pipe or a device isn't tried, as that could take something from it.
+    pub fn refuses(&mut self, output: &Output<'_>) -> bool {
+        if !output.no_clobber && is_straight(self.rt, output.name) {
+            return false;
+        }
+        match self.create_file(output.name, output.no_clobber) {
+            Ok(created) => {
+                self.give_up(created);
+                false
+            }
+            Err(FileFault::Io) => true,
+            Err(FileFault::NoMemory) => false,
+        }
+    }
+}
+
+impl<'a, R: Files<File = File> + Clock + Eprint, O: std::io::Write + Drop> Host
+    for ProgramHost<'a, R, O> {
+    type Input = Device<BufReader<Counted<'a, R>>>;
+
+    type Output = HostOutput<File>;
+
+    // Nothing is told of files and output but whether the output has failed.
+    ghost world = { λ host. untold host.out.failed };
+
+    fn open_file(&self, name: &str) -> Result<Device<BufReader<Counted<'a, R>>>, FileFault> {
+        let Ok(file) = self.open_input(name) else {
+            return Err(FileFault::Io);
+        };
+        let counted = Counted::new(self.rt, self.alloc, self.progress, name, file);
+        match BufReader::with_capacity(self.alloc, BUFFER_SIZE, counted) {
+            Ok(reader) => Ok(Device::new(reader)),
+            Err(_) => Err(FileFault::NoMemory),
+        }
+    }
+
+    fn length_of(&self, input: &Device<BufReader<Counted<'a, R>>>) -> Option<u64> {
+        input.get_ref().get_ref().length()
+    }
+
+    fn create_file(&mut self, name: &str, no_clobber: bool) -> Result<HostOutput<File>, FileFault> {
+        let (file, part) = create(self.rt, self.alloc, name, no_clobber)?;
+        match BufWriter::with_capacity(self.alloc, BUFFER_SIZE, file) {
+            Ok(writer) => Ok(HostOutput {
+                device: Device::new(writer),
+                part,
+            }),
+            Err(_) => {
+                self.remove(&part);
+                Err(FileFault::NoMemory)
+            }
+        }
+    }
+
+    // The file is closed last, as its lock keeps other runs from its name.
+    fn keep_file(&mut self, _name: &str, output: HostOutput<File>) -> Result<(), FileFault> {
+        let HostOutput { mut device, part } = output;
+        let flushed = device.flush();
+        let (file, _) = device.into_inner().into_parts();
+        let is_kept = match &part {
+            Some(part) => flushed.is_ok() && part.keep(self.rt, &file),
+            None => flushed.is_ok(),
+        };
+        if !is_kept {
+            self.remove(&part);
+        }
+        drop(file);
+        if is_kept { Ok(()) } else { Err(FileFault::Io) }
+    }
+
+    fn give_up(&mut self, output: HostOutput<File>) -> FileFault {
+        let HostOutput { device, part } = output;
+        let (file, _) = device.into_inner().into_parts();
+        self.remove(&part);
+        drop(file);
+        FileFault::Io
+    }
+
+    fn print(&mut self, bytes: &[u8]) -> Result<(), Failed> {
+        self.progress.make_way(self.rt);
+        self.last.note(bytes);
+        write_all(&mut self.out, bytes)
+    }
+
+    fn pass_on(&mut self) -> Result<(), Failed> {
+        self.progress.make_way(self.rt);
+        self.flush()
+    }
+}

@@ -1,9 +1,0 @@
-use Rattle.std.proofs.Common.{ap, Some, ◌∙◌}
-use Rattle.tool.proofs.Found.{put_in}
-use Rattle.tool.specs.Files.{files_of}
-use Rattle.tool.specs.World.{with_file}
-use Rattle.tool.proofs.memory.MemoryHostHost.keep_file.Goals as goal
-
-pub returns-in-Ok-clause-kept : goal.returns-in-Ok-clause-kept
-returns-in-Ok-clause-kept c =
-    ap Some (put_in _ _ _ _ c.in-Ok.ensures.ok ∙ ap (with_file (files_of c.args.self.now.files.items) c.args.name.now) c.into_bytes.ensures)
