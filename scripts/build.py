@@ -8,7 +8,7 @@ another has a copy of crates/ for it, below crates/alcrs/out. What was proved in
 linked into the others, and rt knows it there by its stamp. Of the crates that wait for none the one
 with the longest chain above it is next. There are as many at a time as there are processors and
 memory for. The crate whose chain decides how long all takes has half of the
-processors, or all where nothing else is to be proved, and comes before the others there. What fails
+processors at least, and those that nothing runs on, and comes before the others there. What fails
 is tried once more by itself, in the repository's own folder.
 
 What the prover says goes to LOG, and progress to standard error. Ctrl-C ends all that runs, and so
@@ -207,7 +207,7 @@ class Build:
             shared = sum(self.lines[it] for it in names.union(ready))
             jobs = max(1, round(self.most * self.lines[name] / max(1, shared)))
             if self.decides(name):
-                jobs = self.most if len(names.union(ready)) == 1 else max(1, self.most // 2)
+                jobs = max(1, self.most // 2, self.most - len(self.running))
             # By itself rt chooses how many processors it takes.
             if not self.start(name, jobs if self.most > 1 else 0):
                 return
