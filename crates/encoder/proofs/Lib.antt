@@ -2,6 +2,7 @@ pub mod Columns
 pub mod EncodedRows
 pub mod InPasses
 pub mod Sent
+pub mod RoundRows
 pub mod Places
 pub mod AllValues
 pub mod FirstRows

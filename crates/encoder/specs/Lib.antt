@@ -1,5 +1,6 @@
 pub mod Sending
 pub mod Passes
+pub mod Rounds
 pub mod Rows
 pub mod Certified
 pub mod AllValues

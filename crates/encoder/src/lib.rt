@@ -2,7 +2,8 @@
 //!
 //! - `rows`: encoding symbols and coefficients of a block, as sums of the rows of its source
 //!   symbols;
-//! - `sending`: the datagrams of an object's encoding symbols, in either order;
+//! - `sending`: the datagrams of an object's encoding symbols, in either order; `rounds`: those of
+//!   several rounds made at once;
 //! - `certifying`: the polynomials of its byte columns; `by_values`: those of large blocks, by the
 //!   values at all points;
 //! - `object`: an object that comes from a reader, block by block; `sending_from`: its session in
@@ -15,6 +16,7 @@ mod certifying;
 mod certifying_from;
 mod laws;
 mod object;
+mod rounds;
 mod rows;
 mod sending;
 mod sending_from;

@@ -4,6 +4,7 @@ ghost use Rattle.std.specs.Prelude.{IfOk, IfErr, OnOk, OnErr};
 ghost use Rattle.alc.specs.Views.{lent};
 ghost use Rattle.reception.specs.Symbols.{Agrees};
 ghost use Rattle.partition.specs.Fti.{IsValidFti, block_count, encoding_count};
+ghost use Rattle.partition.specs.declared.order.Order.TheVariants.{Rounds};
 ghost use Rattle.block_code.specs.Codes.{EachBlockHas};
 ghost use Rattle.block_code.specs.CodesOf.{IsCodeOf};
 ghost use Rattle.lists.specs.Bytes.{AreBytes};
@@ -14,6 +15,7 @@ ghost use Rattle.encoder.specs.Sending.{pairs, items, items_from, fti_at, Sends,
 ghost use Rattle.encoder.specs.Sending.{CanBeSent, IsSendFault, most_symbol_bytes, frame_bytes};
 ghost use Rattle.encoder.specs.Sending.{session_bytes};
 
+use crate::rounds::{self, send_rounds};
 use crate::rows::{block_of, encoding_symbols};
 use alc::{HEADER_SIZE, write};
 use block_code::{BlockCodes, Kind};
@@ -86,9 +88,9 @@ impl Transmission {
     }
 }
 
-// Sends the datagram of an encoding symbol, at this place of the session. `datagram` has room for
-// it.
-fn send_symbol<W: Write>(
+/// Sends the datagram of an encoding symbol, at this place of the session. `datagram` has room for
+/// it.
+pub(crate) fn send_symbol<W: Write>(
     t: &Transmission,
     place: u64,
     block: u32,
@@ -263,8 +265,7 @@ fn pass_count(fti: &Fti, order: Order) -> u8
 }
 
 // Sends all passes: one in order `Blocks`, where a block's symbols are made and sent at once; one
-// for each ESI in order `Rounds`, where a single symbol is made of the object at a time, so that
-// nothing more than it is held.
+// for each ESI in order `Rounds`, where a single symbol is made of the object at a time.
 fn send_all<W: Write>(
     t: &Transmission,
     object: &[u8],
@@ -305,13 +306,72 @@ fn most_at_once(fti: &Fti, order: Order) -> usize
     }
 }
 
+// The symbols of how many rounds are made at once: of fewer than two one symbol at a time is.
+fn rounds_at_once(fti: &Fti, order: Order) -> usize
+    ensures few { result ≤ 255 }
+    ensures rounds { 1 < result → order ≡ Rounds }
+{
+    match order {
+        Order::Blocks => 0,
+        Order::Rounds => rounds::rounds_at_once(fti),
+    }
+}
+
+// How many bytes the encoding symbols take that are made at once.
+fn room(fti: &Fti, order: Order, rounds: usize) -> usize
+    requires { rounds ≤ 255 }
+    ensures one { rounds ≤ 1 → result ≡ at_once order fti.now * fti.now.symbol_length }
+    ensures many { 1 < rounds
+        → result ≡ block_count fti.now * (rounds * fti.now.symbol_length) }
+{
+    let size = usize::from(fti.symbol_length());
+    if rounds > 1 {
+        fti.block_count() as usize * (rounds * size)
+    } else {
+        most_at_once(fti, order) * size
+    }
+}
+
+// Sends all, so many rounds at once or in passes. Answers how many datagrams there are.
+fn send<W: Write>(
+    t: &Transmission,
+    object: &[u8],
+    rounds: usize,
+    symbols: &mut [u8],
+    datagram: &mut [u8],
+    writer: &mut W,
+) -> Result<u64, Failed>
+    requires codes { EachBlockHas (IsCodeOf t.now.fti) t.now.fti t.now.codes }
+    requires few { rounds ≤ 255 }
+    requires order { 1 < rounds → t.now.order ≡ Rounds }
+    requires one { rounds ≤ 1
+        → length symbols.old ≡ at_once t.now.order t.now.fti * t.now.fti.symbol_length }
+    requires many { 1 < rounds
+        → length symbols.old ≡ block_count t.now.fti * (rounds * t.now.fti.symbol_length) }
+    requires datagram { IsDatagramRoom t.now.fti datagram.old }
+    ensures sent { OnOk result (Sends object.now t.now.fti t.now.tsi t.now.toi t.now.every
+        (items t.now.order t.now.fti) (W.contents writer.old) (W.contents writer.new)) }
+    ensures count { IfOk result (λ n. n ≡ length (pairs t.now.order t.now.fti)) }
+    ensures some { OnErr result (SendsSome object.now t.now.fti t.now.tsi t.now.toi
+        t.now.every (items t.now.order t.now.fti) (W.contents writer.old) (W.contents writer.new)) }
+    ensures fails { OnErr result (W.failed writer.new ≡ true) }
+    ensures full { OnErr result (W.room writer.old
+        < session_bytes t.now.fti t.now.every (items t.now.order t.now.fti)) }
+{
+    if rounds > 1 {
+        send_rounds(t, object, rounds, symbols, datagram, writer)
+    } else {
+        send_all(t, object, symbols, datagram, writer)
+    }
+}
+
 /// Sends the object: writes the frame of the datagram of each encoding symbol of each block, source
 /// symbols among them (RFC 5510, section 8), in this order, and tells how many datagrams. Those at
 /// the places that `every` divides, 0 among them, carry the FTI, and no others.
 ///
 /// All memory is asked for before the first byte is written: two generator matrices at most, and
 /// room for one datagram and for the encoding symbols that are made at once: a block's, or in order
-/// `Rounds` one. `Io` comes only where the writer has failed, and never where it is sure to have
+/// `Rounds` those of some rounds, 64 MiB at most. `Io` comes only where the writer has failed, and never where it is sure to have
 /// room for the whole session.
 pub fn encode<W: Write>(
     alloc: Global,
@@ -341,7 +401,8 @@ pub fn encode<W: Write>(
     }
     let codes = BlockCodes::new(alloc, Kind::Generator, fti)?;
     let size = usize::from(fti.symbol_length());
-    let mut symbols = Vec::from_elem(alloc, 0u8, most_at_once(fti, order) * size)?;
+    let rounds = rounds_at_once(fti, order);
+    let mut symbols = Vec::from_elem(alloc, 0u8, room(fti, order, rounds))?;
     let mut datagram = Vec::from_elem(alloc, 0u8, HEADER_SIZE + size)?;
     let transmission = Transmission {
         tsi,
@@ -351,7 +412,8 @@ pub fn encode<W: Write>(
         order,
         codes,
     };
-    let Ok(count) = send_all(&transmission, object, &mut symbols, &mut datagram, writer) else {
+    let t = &transmission;
+    let Ok(count) = send(t, object, rounds, &mut symbols, &mut datagram, writer) else {
         return Err(SendFault::Io);
     };
     Ok(count)
