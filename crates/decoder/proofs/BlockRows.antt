@@ -35,7 +35,7 @@ module _ (f : Fti) (b : ℕ) (at : ℕ → Option (List ℕ)) (g : Grid ℕ) (si
     repair = λ j y past lj some. word_of_values g (encodes_own f b g code) few e.polynomial (form_of c e) j lj ∙ e.symbols j y some;
   }
 
-  can_be_met : ((c : ℕ) → c < f.symbol_length → ColumnExplained f b at c) → CanBeMet at g size
+  pub can_be_met : ((c : ℕ) → c < f.symbol_length → ColumnExplained f b at c) → CanBeMet at g size
   can_be_met explained c lc =
       let e = explained c (omega (arith, lc, is)) in
       record { row = λ i. value e.polynomial (point i); bytes = values_bytes g.rows e.polynomial (form_of c e); meets = meets_values c e }
@@ -116,9 +116,12 @@ module _ (f : Fti) (b : ℕ) (at : ℕ → ℕ → Option (List ℕ)) (within : 
     padding = h.padding;
   }
 
+  pub explained_at : ((c : ℕ) → c < f.symbol_length → ColumnExplained f b (at b) c) → (c : ℕ) → c < f.symbol_length → ColumnExplained f b (bytes_of_esi received) c
+  explained_at explained c lc = (let w = explained c lc in
+      record { polynomial = w.polynomial; form = w.form; symbols = λ j y some. w.symbols j y (sym (same_at j) ∙ some); padding = w.padding })
+
   pub unexplained_at : IsUnexplained f b (bytes_of_esi received) → IsUnexplained f b (at b)
-  unexplained_at h explained = h (λ c lc. (let w = explained c lc in
-      record { polynomial = w.polynomial; form = w.form; symbols = λ j y some. w.symbols j y (sym (same_at j) ∙ some); padding = w.padding }))
+  unexplained_at h explained = h (explained_at explained)
 
 -- the symbols that were read at a block's ESIs, where they are in a vector
 pub record AreArrivals (f : Fti) (b : ℕ) (at : ℕ → ℕ → Option (List ℕ)) (received : List (Option (Bor (List ℕ)))) : Type 0 where

@@ -5,6 +5,7 @@ ghost use Rattle.partition.specs.Fti.{block_count, source_count, encoding_count,
 ghost use Rattle.block_code.specs.Codes.{EachBlockHas};
 ghost use Rattle.block_code.specs.CodesOf.{IsCodeOf};
 ghost use Rattle.decoder.specs.Blocks.{bytes_of_esi, HaveLength};
+ghost use Rattle.decoder.specs.Columns.{ColumnExplained};
 ghost use Rattle.decoder.specs.Decoded.{AreWithin, IsEnoughAt, AreRows, IsUnexplained};
 ghost use Rattle.decoder.specs.Received.{bytes_at};
 ghost use Rattle.decoder.specs.Recoveries.{IsKeptOf};
@@ -38,14 +39,15 @@ fn are_padded(fti: &Fti, b: u32, rows: &Rows) -> bool
     is_zero(&rows.bytes[used..])
 }
 
-/// A block's source symbols, if all that came of it are symbols of an object. `arrivals` has a
-/// place for each of its ESIs.
+/// A block's source symbols, if all that came of it are symbols of an object; that they are may be
+/// known. `arrivals` has a place for each of its ESIs.
 pub(crate) fn block_rows(
     alloc: Global,
     fti: &Fti,
     codes: &BlockCodes,
     b: u32,
     arrivals: &[Option<&[u8]>],
+    are_sound: bool,
     kept: &mut Option<Recovery>,
 ) -> Result<Option<Rows>, AllocError>
     requires number { b < block_count fti.now }
@@ -53,6 +55,8 @@ pub(crate) fn block_rows(
     requires count { length arrivals.now ≡ encoding_count fti.now b }
     requires symbols { HaveLength fti.now.symbol_length (bytes_of_esi arrivals.now) }
     requires enough { IsEnoughAt fti.now b (bytes_of_esi arrivals.now) }
+    requires sound { are_sound ≡ true → (c : ℕ) → c < fti.now.symbol_length
+        → ColumnExplained fti.now b (bytes_of_esi arrivals.now) c }
     requires kept { IsKeptOf codes.now kept.old }
     ensures sizes { IfOk result
         (λ o. IfSome o (HasSizes (source_count fti.now b) fti.now.symbol_length)) }
@@ -72,7 +76,7 @@ pub(crate) fn block_rows(
         size: usize::from(fti.symbol_length()),
         code,
     };
-    let Some(rows) = recover(alloc, &block, kept)? else {
+    let Some(rows) = recover(alloc, &block, are_sound, kept)? else {
         return Ok(None);
     };
     are_bytes(&rows.bytes);
@@ -84,18 +88,21 @@ pub(crate) fn block_rows(
 }
 
 /// The source symbols of a block of what was received, if all that came of it are symbols of an
-/// object.
+/// object; that they are may be known.
 pub(crate) fn received_rows(
     alloc: Global,
     received: &Received<'_>,
     codes: &BlockCodes,
     b: u32,
+    are_sound: bool,
     kept: &mut Option<Recovery>,
 ) -> Result<Option<Rows>, AllocError>
     requires number { b < block_count received.now.fti }
     requires codes { EachBlockHas (IsCodeOf received.now.fti) received.now.fti codes.now }
     requires within { AreWithin received.now.fti (bytes_at received.now.symbols) }
     requires enough { IsEnoughAt received.now.fti b (bytes_at received.now.symbols b) }
+    requires sound { are_sound ≡ true → (c : ℕ) → c < received.now.fti.symbol_length
+        → ColumnExplained received.now.fti b (bytes_at received.now.symbols b) c }
     requires kept { IsKeptOf codes.now kept.old }
     ensures rows { IfOk result (λ o. IfSome o (λ rows.
         AreRows received.now.fti b (bytes_at received.now.symbols b) rows.bytes.items)) }
@@ -106,5 +113,5 @@ pub(crate) fn received_rows(
     let fti = &received.fti;
     let came = received.symbols.of_block(b).unwrap_or(&[]);
     let arrivals = symbols_below(alloc, came, fti.n(b))?;
-    block_rows(alloc, fti, codes, b, &arrivals, kept)
+    block_rows(alloc, fti, codes, b, &arrivals, are_sound, kept)
 }

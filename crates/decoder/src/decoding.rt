@@ -47,7 +47,7 @@ fn decode_all(
     let mut object = Vec::with_capacity(alloc, fti.transfer_length() as usize)?;
     let mut kept = None;
     for b in 0..fti.block_count() {
-        let Some(rows) = received_rows(alloc, received, codes, b, &mut kept)? else {
+        let Some(rows) = received_rows(alloc, received, codes, b, false, &mut kept)? else {
             return Ok(Answer::Fault(DecodeFault::NotCode(b)));
         };
         let left = fti.transfer_length() as usize - object.len();

@@ -90,7 +90,7 @@ fn has_unsolvable(
         if b < last && have(&received.symbols, b, fti.n(b)) == fti.k(b) {
             continue;
         }
-        if received_rows(alloc, received, codes, b, &mut kept)?.is_none() {
+        if received_rows(alloc, received, codes, b, false, &mut kept)?.is_none() {
             return Ok(true);
         }
     }
@@ -183,7 +183,7 @@ fn write_blocks<W: Write>(
     let mut left = fti.transfer_length();
     let mut kept = None;
     for b in 0..fti.block_count() {
-        let Some(rows) = received_rows(alloc, received, codes, b, &mut kept)? else {
+        let Some(rows) = received_rows(alloc, received, codes, b, true, &mut kept)? else {
             unreachable!();
         };
         let used = left.min(rows.bytes.len() as u64);

@@ -90,7 +90,7 @@ impl Pending {
             return Err(PutFault::NoMemory);
         };
         seen[usize::from(packet.esi)] = true;
-        match block_rows(alloc, fti, codes, packet.sbn, &symbols, kept) {
+        match block_rows(alloc, fti, codes, packet.sbn, &symbols, false, kept) {
             Ok(Some(rows)) => Ok(Solved { rows, seen }),
             Ok(None) => Err(PutFault::NotCode),
             Err(_) => Err(PutFault::NoMemory),

@@ -1,6 +1,6 @@
 //! A block's source symbols, made of as many encoding symbols as it has.
 ghost use Rattle.std.specs.Prelude.{◌≡◌, ◌<◌, ◌≤◌, ◌+◌, ℕ, length, filter, slice_index, is_some};
-ghost use Rattle.std.specs.Prelude.{IfOk, IfSome, IsNone, OnOk};
+ghost use Rattle.std.specs.Prelude.{true, IfOk, IfSome, IsNone, OnOk};
 ghost use Rattle.lists.specs.Below.{below};
 ghost use Rattle.gf256.specs.Arithmetic.{sum_of};
 ghost use Rattle.elim.specs.Generator.{Encodes};
@@ -131,9 +131,11 @@ fn solve(
 }
 
 /// A block's source symbols, made of those that came, if all that came are symbols of one word.
+/// Where they are known to be, repair symbols that aren't needed aren't looked at.
 pub(crate) fn recover(
     alloc: Global,
     block: &Block<'_>,
+    are_sound: bool,
     kept: &mut Option<Recovery>,
 ) -> Result<Option<Rows>, AllocError>
     requires code { Encodes block.now.code.now.matrix.rows block.now.code.now.matrix.cols
@@ -141,6 +143,8 @@ pub(crate) fn recover(
     requires enough { block.now.code.now.matrix.rows
         ≤ length (filter (λ j. is_some (bytes_of_esi block.now.received.now j))
         (below block.now.code.now.matrix.cols)) }
+    requires sound { are_sound ≡ true → CanBeMet (bytes_of_esi block.now.received.now)
+        block.now.code.now.matrix block.now.size }
     requires kept { MayServe block.now.code.now.matrix kept.old }
     ensures sizes { IfOk result (λ o. IfSome o
         (HasSizes block.now.code.now.matrix.rows block.now.size)) }
@@ -157,6 +161,9 @@ pub(crate) fn recover(
     let erasure = erasure_of(alloc, block.received, k)?;
     let (used, others) = erasure.repair.split_at(erasure.missing.len());
     solve(alloc, block, &erasure.missing, used, &mut rows, kept)?;
+    if are_sound {
+        return Ok(Some(rows));
+    }
     let left = residuals(alloc, block, others, &rows)?;
     Ok(if is_zero(&left.bytes) {
         Some(rows)

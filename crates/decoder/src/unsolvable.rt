@@ -71,7 +71,7 @@ pub(crate) fn first_unsolvable(
         if have(&received.symbols, *b, fti.n(*b)) < fti.k(*b) {
             continue;
         }
-        if received_rows(alloc, received, codes, *b, &mut kept)?.is_none() {
+        if received_rows(alloc, received, codes, *b, false, &mut kept)?.is_none() {
             least = Some(*b);
         }
     }

@@ -371,8 +371,8 @@ fn send<W: Write>(
 ///
 /// All memory is asked for before the first byte is written: two generator matrices at most, and
 /// room for one datagram and for the encoding symbols that are made at once: a block's, or in order
-/// `Rounds` those of some rounds, 64 MiB at most. `Io` comes only where the writer has failed, and never where it is sure to have
-/// room for the whole session.
+/// `Rounds` those of some rounds, 64 MiB at most. `Io` comes only where the writer has failed, and
+/// never where it is sure to have room for the whole session.
 pub fn encode<W: Write>(
     alloc: Global,
     object: &[u8],

@@ -8,8 +8,17 @@ use Rattle.block_code.proofs.Sizes.{picked_has}
 use Rattle.decoder.specs.Blocks.{bytes_of_esi, AreOnly}
 use Rattle.decoder.specs.Decoded.{row_byte}
 use Rattle.decoder.specs.Rows.{byte_in, HasSizes}
-use Rattle.decoder.proofs.BlockRows.{stands_within, unexplained, rows_from, padding_zero}
+use Rattle.decoder.proofs.BlockRows.{can_be_met, stands_within, unexplained, rows_from, padding_zero}
 use Rattle.decoder.proofs.blocks.block_rows.Goals as goal
+
+pub recover-requires-clause-sound : goal.recover-requires-clause-sound
+recover-requires-clause-sound c = λ sound.
+    let f = c.args.fti.now in
+    let code = picked_has (IsCodeOf c.args.fti.now) c.args.fti.now c.args.codes.now c.requires.codes c.args.b c.k.result c.of-code.result.now c.requires.number c.k.ensures.value c.of-code.ensures in
+    let inside : (j : ℕ) (y : List ℕ) → bytes_of_esi c.args.arrivals.now j ≡ Some y → j < c.of-code.result.now.matrix.cols = λ j y some. (let s = stands_within c.args.arrivals.now j y some in omega (arith, s, c.requires.count, code.cols)) in
+    let is : c.from.result ≡ c.args.fti.now.symbol_length = c.from.ensures ∙ c.symbol_length.ensures.value in
+    can_be_met f c.args.b (bytes_of_esi c.args.arrivals.now) c.of-code.result.now.matrix c.from.result (omega (arith, code.rows, c.k.ensures.value, c.k.ensures.byte)) inside code is
+    (c.requires.sound sound)
 
 pub returns-in_default-clause-none : goal.returns-in_default-clause-none
 returns-in_default-clause-none c = λ _.

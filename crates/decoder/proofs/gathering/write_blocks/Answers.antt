@@ -69,3 +69,8 @@ returns-clause-ok g c =
       answers = object_answers c.args.received.now.fti c.transfer_length-left.ensures.valid (bytes_at c.args.received.now.symbols) c.loop-b.b i.object i.so_far end c.requires.enough;
       gained = i.written;
     }
+
+pub received_rows-requires-clause-sound : goal.received_rows-requires-clause-sound
+received_rows-requires-clause-sound g c = λ _.
+    let hb : c.loop-b.b < block_count c.args.received.now.fti = rw c.block_count-b-end.ensures.value at c.loop-b-test.true in
+    c.requires.sound c.loop-b.b hb (c.requires.enough c.loop-b.b hb)

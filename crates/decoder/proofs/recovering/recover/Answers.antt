@@ -9,7 +9,7 @@ use Rattle.decoder.proofs.RowPlaces.{row_and_column}
 use Rattle.decoder.proofs.Erased.{sum_none_same, sum_itself}
 use Rattle.decoder.proofs.Erasing.{erased_as, enough_repair, few_repair, erasures_of, none_byte, some_bytes}
 use Rattle.decoder.proofs.Those.{few_pass}
-use Rattle.decoder.proofs.Meetings.{are_only, none_meets}
+use Rattle.decoder.proofs.Meetings.{are_only, known_only, none_meets}
 use Rattle.decoder.proofs.recovering.recover.Goals as goal
 use Rattle.decoder.proofs.recovering.recover.Goals.{then-is_zero, else-is_zero}
 
@@ -60,6 +60,23 @@ residuals-requires-clause-few c =
     let erased = erased_as at c.rows-k.result g.rows (length b.received.now) g.cols _ c.deref-3.result.now _ c.deref-2.result.now c.in_ok-erasure.ensures c.rows-k.ensures.value b.all c.deref-3.ensures.value c.deref-2.ensures.value in
     let le = enough_repair at g.rows g.cols _ _ erased c.requires.enough in
     omega (arith, ap length c.split_at.ensures.back, length-drop c.len.result c.deref-2.result.now, few_repair at g.rows g.cols _ _ erased, b.matrix.few_cols)
+
+pub returns-then-are_sound-clause-rows : goal.returns-then-are_sound-clause-rows
+returns-then-are_sound-clause-rows c =
+    let b = c.args.block.now in
+    let g = b.code.now.matrix in
+    let at = bytes_of_esi b.received.now in
+    let erased = erased_as at c.rows-k.result g.rows (length b.received.now) g.cols _ c.deref-3.result.now _ c.deref-2.result.now c.in_ok-erasure.ensures c.rows-k.ensures.value b.all c.deref-3.ensures.value c.deref-2.ensures.value in
+    let le = enough_repair at g.rows g.cols _ _ erased c.requires.enough in
+    let n : c.len.result ≡ length c.deref-3.result.now = omega (arith, c.len.ensures, c.deref-3.ensures.len) in
+    let front = c.split_at.ensures.front ∙ ap (λ (v : ℕ). take v c.deref-2.result.now) n in
+    let rest = c.split_at.ensures.back ∙ ap (λ (v : ℕ). drop v c.deref-2.result.now) n in
+    let esis : length c.deref.result.now ≡ g.rows = ap length c.deref.ensures.value ∙ c.in_ok-source_esis.ensures.len ∙ c.rows-k.ensures.value in
+    let placed : (i y : ℕ) → i < c.args.block.now.code.now.matrix.rows → y < c.args.block.now.size → byte_in c.in_ok-rows.rows i y ≡ byte_of (bytes_of_esi c.args.block.now.received.now i) y =
+    λ i y li ly. c.in_ok-rows.ensures.symbols i y (omega (arith, li, esis)) ly
+    ∙ ap (λ (j : ℕ). byte_of (bytes_of_esi c.args.block.now.received.now j) y) (ap (λ (l : List ℕ). slice_index l i) c.deref.ensures.value ∙ c.in_ok-source_esis.ensures.all i (omega (arith, li, c.rows-k.ensures.value))) in
+    known_only at b.size g c.deref-3.result.now c.deref-2.result.now c.split_at.result.0.now c.split_at.result.1.now erased le front rest
+    (byte_in c.in_ok-rows.rows) (byte_in c.solve.new.rows) placed c.in_ok-solve.ensures.solved (c.requires.sound c.if-are_sound.true)
 
 pub returns-clause-rows : goal.returns-clause-rows
 returns-clause-rows c =
