@@ -1,6 +1,6 @@
 -- Places of a list by ranges.
-use Rattle.std.specs.Prelude.{ℕ, Bool, ◌&&◌, nat_le, max, if◌then◌else◌, List, [], ◌∷◌, Option, Some}
-use Rattle.std.specs.Prelude.{None}
+use Rattle.std.specs.Prelude.{ℕ, Bool, ◌&&◌, nat_le, max, if◌then◌else◌, List, [], ◌∷◌, Option}
+use Rattle.std.specs.Prelude.{Some, None}
 use Rattle.std.specs.List.{list_any}
 use Rattle.session.specs.declared.range.PlaceRange.{PlaceRange}
 

@@ -14,8 +14,8 @@ use Rattle.session.specs.declared.frame.FrameFault.TheVariants.{Io, NoMemory, No
 abbrev pub frames_left : List PlaceRange → List (List ℕ) → List ℕ
 frames_left ranges datagrams = frames (rest (is_in_some ranges) datagrams)
 
--- All that the reader had left were these datagrams' frames. They have all places of the ranges, and
--- the frames of the others were written; their number.
+-- All that the reader had left were these datagrams' frames. They have all places of the ranges,
+-- and the frames of the others were written; their number.
 pub record IsThinned (ranges : List PlaceRange) (old new before after : Option (List ℕ))
     (count : ℕ) : Type 0 where
   pub datagrams : List (List ℕ)

@@ -66,8 +66,8 @@ fn copy_others<R: Read, W: Write>(
 /// are counted from 0; one at a time is held. Answers how many were written.
 ///
 /// `CutLength`, `CutDatagram` and `TooLong` tell what follows whole frames, `Io` that the reader or
-/// the writer has failed, and `NoSuchPlace`, at the reader's end, the first place that it hasn't, of
-/// the first range that has such a place. A beginning of the frames was written then.
+/// the writer has failed, and `NoSuchPlace`, at the reader's end, the first place that it hasn't,
+/// of the first range that has such a place. A beginning of the frames was written then.
 pub fn thin_frames<R: Read, W: Write>(
     alloc: Global,
     reader: &mut R,
