@@ -1,7 +1,7 @@
 -- What a command's words give, where they have no fault: a value of each of its arguments.
 use Rattle.std.proofs.Common.{ℕ, suc, Bool, true, false, List, [], ◌∷◌, ◌≡◌, ◌∙◌, ◌<◌, ◌⊎◌, ◌++◌, ◌&&◌, ◌||◌, not, Bor, Option, Some, None, length, map, codes, ap, refl, sym, subst, arith, inl, inr}
 use Rattle.std.specs.Prelude.{⊤, Contains, find, option_map, unwrap_or, fold, is_some, if◌then◌else◌}
-use Rattle.std.specs.List.{AllByRecursion, AllZip, list_all, list_any}
+use Rattle.std.specs.List.{AllByRecursion, list_all, list_any}
 use Rattle.std.specs.Option.{option_map_or}
 use Rattle.std.specs.Str.{bytes_eq}
 use Rattle.std.specs.Str.Parse.{digits_value, without_leading_plus}
@@ -14,17 +14,16 @@ use Rattle.clap.specs.Words.{first_of}
 use Rattle.clap.specs.Kinds.{or_else}
 use Rattle.clap.specs.Lexer.{long_of, short_of}
 use Rattle.clap.specs.Takes.{is_given, value_passes}
-use Rattle.clap.specs.Values.{read_as, same_text}
+use Rattle.clap.specs.Values.{same_text}
 use Rattle.clap.proofs.OnLiterals.{clap_on_literals}
 use Rattle.clap.proofs.ValueTestLemmas.{accepts-Accepts}
 use Rattle.clap.specs.declared.builder.action.ArgAction.{ArgAction}
 use Rattle.clap.specs.declared.builder.action.ArgAction.TheVariants.{Set, Append, Help, HelpLong, HelpShort, SetTrue, SetFalse, Count, Version}
 use Rattle.clap.specs.declared.builder.value_parser.ValueParser.TheVariants.{Bool as BoolParser, Names, Unsigned}
-use Rattle.clap.specs.declared.builder.value_parser.Reading.TheVariants.{AsWritten}
-use Rattle.request.specs.Arguments.{Argument, File, Number, Choice, Numbers, Files, Flag, FileOption, AText, ANumber, AFlag, SomeNumbers, SomeTexts, MaybeText, IsNumber, rule_for}
+use Rattle.request.specs.Arguments.{Argument, File, Number, Choice, Places, Files, Flag, FileOption, AText, ANumber, AFlag, SomeTexts, MaybeText, IsNumber, rule_for}
 use Rattle.request.specs.Grammar.{commands, grammar_of}
 use Rattle.request.specs.Matching.{IsGiven, IsToldBy, row_of}
-use Rattle.request.proofs.Walks.{Each, found_each, both_none, checks_pass, HasValue as Passes, IsOwn, IsPassed, IsRight, flag_value, option_value, given_row, right_level, text_value}
+use Rattle.request.proofs.Walks.{Each, found_each, both_none, checks_pass, HasValue as Passes, IsOwn, IsRight, flag_value, option_value, given_row, right_level, text_value}
 
 abbrev number : Text → ℕ
 number text = digits_value 10 (without_leading_plus text)
@@ -35,24 +34,6 @@ is_number : (a : Rule) (least most : ℕ) (text : Text) → a.parser ≡ Some (U
 is_number a least most text parser passes =
     let is = accepts-Accepts a.ignore_case (Unsigned least most) text (rw parser at passes) in
     record { digits = is.0; value = refl; range = (is.2, is.3) }
-
-are_numbers : (a : Rule) (least most : ℕ) (texts : List Text) → a.parser ≡ Some (Unsigned least most) → list_all (value_passes a) texts ≡ true
-    → AllZip (IsNumber least most) texts (map number texts)
-are_numbers a least most [] parser all = tt
-are_numbers a least most (text ∷ texts) parser all = go (value_passes a text) refl (are_numbers a least most texts parser)
-  where
-    go : (b : Bool) → value_passes a text ≡ b → (list_all (value_passes a) texts ≡ true → AllZip (IsNumber least most) texts (map number texts))
-        → AllZip (IsNumber least most) (text ∷ texts) (number text ∷ map number texts)
-    go true e rest = (is_number a least most text parser e, rest (rw e at all))
-    go false e rest = let bad : false ≡ true = rw e at all in cc
-
-as_written : (texts : List Text) → map (read_as AsWritten) texts ≡ texts
-as_written [] = refl
-as_written (text ∷ texts) = ap (λ rest. text ∷ rest) (as_written texts)
-
-some_numbers : (texts : List Text) → 0 < length texts → 0 < length (map number texts)
-some_numbers [] lt = absurd (omega arith)
-some_numbers (text ∷ texts) lt = omega arith
 
 -- a value that passes a parser of words is one of them
 among : (names : List (Bor Text)) (value : Text) → list_any (λ name. same_text false name.now value) names ≡ true
@@ -94,8 +75,7 @@ Fits rules (Number name least most (Some default)) = (a : Rule) × (arg_by_id ru
     × (a.parser ≡ Some (Unsigned least most))
 Fits rules (Choice name words default) = (a : Rule) × (arg_by_id rules name ≡ Some a) × (a.defaults ≡ default ∷ []) × takes_one a
     × (a.parser ≡ Some (Names words)) × (a.ignore_case ≡ false)
-Fits rules (Numbers name least most) = (a : Rule) × (arg_by_id rules name ≡ Some a) × (a.required ≡ true) × takes_one a
-    × (a.parser ≡ Some (Unsigned least most))
+Fits rules (Places name) = ⊤
 Fits rules (Files name) = (a : Rule) × (arg_by_id rules name ≡ Some a) × (a.required ≡ true) × takes_one a
 Fits rules (Flag name letter) = (a : Rule) × (arg_by_id rules name ≡ Some a) × (a.defaults ≡ codes "false" ∷ []) × (0 < length a.missing)
     × (a.parser ≡ Some BoolParser)
@@ -121,18 +101,6 @@ module _ (s : Shape) (words : List Text) (right : IsRight s words) where
     | inr e ↦ (AFlag false, has.first ∙ ap Some e)
   ]
 
-  numbers_given : (a : Rule) (name : Text) (least most : ℕ) (r : Row) → a.parser ≡ Some (Unsigned least most) → takes_one a
-      → find (λ r. bytes_eq r.id name) rows ≡ Some r → IsPassed a r → IsGiven rows (Numbers name least most)
-  numbers_given a name least most r parser one found passed = (
-    SomeNumbers (map number r.values),
-    (
-      r.values,
-      rw found (rw (passed.reading, parser) (ap Some (as_written r.values))),
-      are_numbers a least most r.values parser passed.accepted,
-      some_numbers r.values (passed.some (inl (omega (arith, one)))),
-    ),
-  )
-
   given : (argument : Argument) → Fits s.rules argument → IsGiven rows argument
   given (File name) (a, known, wanted, one) = let has = text_value s words a name right known wanted one in (AText has.value, has.first)
   given (Number name least most None) (a, known, wanted, one, parser) =
@@ -141,9 +109,7 @@ module _ (s : Shape) (words : List Text) (right : IsRight s words) where
       number_given a name least most (Some default) parser (option_value s words a name default [] right known is one)
   given (Choice name choices default) (a, known, is, one, parser, exact) =
       word_given a name default choices parser exact (option_value s words a name default [] right known is one)
-  given (Numbers name least most) (a, known, wanted, one, parser) =
-      let (r, found, passed) = given_row s words a name right known wanted in
-      numbers_given a name least most r parser one found passed
+  given (Places name) fits = tt
   given (Files name) (a, known, wanted, one) =
       let (r, found, passed) = given_row s words a name right known wanted in
       (SomeTexts r.values, (rw found refl, passed.some (inl (omega (arith, one)))))
@@ -236,7 +202,7 @@ fits c i (File name) own = (_, own.first, refl, refl)
 fits c i (Number name least most None) own = (_, own.first, refl, refl, refl)
 fits c i (Number name least most (Some default)) own = (_, own.first, refl, refl, refl)
 fits c i (Choice name words default) own = (_, own.first, refl, refl, refl, refl)
-fits c i (Numbers name least most) own = (_, own.first, refl, refl, refl)
+fits c i (Places name) own = tt
 fits c i (Files name) own = (_, own.first, refl, refl)
 fits c i (Flag name letter) own = (_, own.first, refl, omega arith, refl)
 fits c i (FileOption name) own = tt

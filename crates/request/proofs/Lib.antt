@@ -1,7 +1,8 @@
 pub mod Existing
 pub mod Walks
 pub mod Getters
-pub mod Places
+pub mod Texts
+mod PlaceWords
 pub mod Reading
 pub mod Rules
 mod Worked

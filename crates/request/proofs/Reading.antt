@@ -11,14 +11,14 @@ use Rattle.clap.specs.declared.error.kind.ErrorKind.TheVariants.{DisplayHelp, Di
 use Rattle.clap.proofs.OnLiterals.{clap_on_literals}
 use Rattle.request.specs.Arguments.{Argument}
 use Rattle.request.specs.Grammar.{IsOrders, commands, grammar_of}
-use Rattle.request.specs.Requests.{Answers, IsRead, asked_of}
+use Rattle.request.specs.Requests.{Answers, IsRead, TellsPlaces, asked_of}
 use Rattle.request.specs.Matching.{IsMatch, IsTold, IsToldBy, arguments_of}
 use Rattle.request.specs.UsageOf.{IsUsageOf}
 use Rattle.request.specs.Usages.{IsAskedFor}
 use Rattle.request.proofs.Existing.{asks}
 use Rattle.request.specs.declared.requests.CommandLine.{CommandLine}
 use Rattle.request.specs.declared.usage.Usage.{Usage}
-use Rattle.request.specs.declared.usage.Usage.TheVariants.{Help, Line, NoMemory}
+use Rattle.request.specs.declared.usage.Usage.TheVariants.{Help, Line, Places, NoMemory}
 
 abbrev lent : Text → Bor Text
 lent text = record { ref_ptr = (0, 0); now = text }
@@ -55,9 +55,13 @@ module _ (orders : Bor (List (Bor Text))) (are : IsOrders orders) where
   read_request None line told match = absurd told
   read_request (Some command) line told match = (
     arguments_of orders command.0,
-    subst (λ n. Contains (commands orders) (n, arguments_of orders command.0)) (sym match.0) (listed command.0 (commands orders) told.0),
-    (command.1, ap (λ n. Some (n, command.1)) (sym match.0), match.1 orders are),
+    subst (λ n. Contains (commands orders) (n, arguments_of orders command.0)) (sym match.0.0) (listed command.0 (commands orders) told.0),
+    (command.1, ap (λ n. Some (n, command.1)) (sym match.0.0), match.0.1 orders are),
   )
+
+places_told : (read : Option (Text × List Row)) (line : CommandLine) → IsMatch read (Ok line) → TellsPlaces line.request
+places_told None line match = absurd match
+places_told (Some command) line match = match.1
 
 module _ (orders : Bor (List (Bor Text))) (are : IsOrders orders) (words : List Text) where
   module _ (m : ArgMatches) (parsed : Result ArgMatches Error) (app : App) (is : app ≡ grammar_of orders) (has : HasMatchesOf app words m)
@@ -77,8 +81,9 @@ module _ (orders : Bor (List (Bor Text))) (are : IsOrders orders) (words : List 
 
     pub answers : (result : Result CommandLine Usage) → IsMatch (subcommand_rows_of m) result → Answers orders words result
     answers (Ok line) match =
-        (none, subst (λ read. IsRead (commands orders) read (asked_of line)) same (read_request orders are (subcommand_rows_of m) line told match))
+        (none, subst (λ read. IsRead (commands orders) read (asked_of line)) same (read_request orders are (subcommand_rows_of m) line told match), places_told (subcommand_rows_of m) line match)
     answers (Err NoMemory) match = tt
+    answers (Err (Places refusal)) match = (none, (match.0, sym same ∙ match.1, match.2))
     answers (Err (Help told)) match = cc
     answers (Err (Line told)) match = cc
 
@@ -92,6 +97,7 @@ module _ (orders : Bor (List (Bor Text))) (are : IsOrders orders) (words : List 
     where
       go : (u : Usage) → HasKind (fault_of (grammar_of orders) words) error → IsUsageOf error u → Answers orders words (Err u)
       go NoMemory kind of = tt
+      go (Places refusal) kind of = absurd of
       go (Help told) (inl memory) of = absurd (no_memory of.1)
         where
           no_memory : IsAskedFor error → ⊥

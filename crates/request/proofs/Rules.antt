@@ -10,7 +10,7 @@ use Rattle.clap.specs.declared.builder.command.Command.{Command}
 use Rattle.request.specs.Building.{AddsCommands, AddsRules, HasGrammar, IsShaped, outline_shape, with_commands}
 use Rattle.request.specs.Grammar.{IsOrders, grammar_of}
 use Rattle.request.specs.declared.grammar.Argument.{Argument}
-use Rattle.request.specs.declared.grammar.Argument.TheVariants.{File, Number, Choice, Numbers, Files, Flag, FileOption}
+use Rattle.request.specs.declared.grammar.Argument.TheVariants.{File, Number, Choice, Places, Files, Flag, FileOption}
 use Rattle.request.specs.declared.grammar.Outline.{Outline}
 use Rattle.clap.specs.declared.builder.command.Command.TheViews.{out-Command as fields_of}
 
@@ -93,7 +93,7 @@ words_among [] = no_words
 words_among (Choice option ∷ arguments) = option.words
 words_among (File name help ∷ arguments) = words_among arguments
 words_among (Number option ∷ arguments) = words_among arguments
-words_among (Numbers name help least most ∷ arguments) = words_among arguments
+words_among (Places name help ∷ arguments) = words_among arguments
 words_among (Files name help ∷ arguments) = words_among arguments
 words_among (Flag name short help ∷ arguments) = words_among arguments
 words_among (FileOption name value_name help ∷ arguments) = words_among arguments

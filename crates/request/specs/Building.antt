@@ -5,7 +5,7 @@ use Rattle.clap.specs.Words.{App, Rule, Shape, Text, app_of, shape_of, with_subc
 use Rattle.clap.specs.Simple.{new_shape}
 use Rattle.clap.specs.declared.builder.command.Command.{Command}
 use Rattle.clap.specs.declared.builder.command.Command.TheViews.{out-Command as fields_of}
-use Rattle.request.specs.Arguments.{Argument, File, Number, Choice, Numbers, Files, Flag}
+use Rattle.request.specs.Arguments.{Argument, File, Number, Choice, Places, Files, Flag}
 use Rattle.request.specs.Arguments.{FileOption, rule_for}
 use Rattle.request.specs.Grammar.{IsOrders, grammar_of}
 use Rattle.request.specs.declared.grammar.NumberOption.{NumberOption}
@@ -47,7 +47,7 @@ abbrev pub argument_of : Told → Argument
 argument_of (told.File name help) = File name.now
 argument_of (told.Number option) = number_of option
 argument_of (told.Choice option) = choice_of option
-argument_of (told.Numbers name help least most) = Numbers name.now least most
+argument_of (told.Places name help) = Places name.now
 argument_of (told.Files name help) = Files name.now
 argument_of (told.Flag name short help) = Flag name.now short
 argument_of (told.FileOption name value_name help) = FileOption name.now

@@ -4,7 +4,7 @@ use Rattle.std.specs.Prelude.{◌≡◌, ◌∷◌, ◌++◌, [], List, None, So
 use Rattle.std.specs.Borrow.{Bor}
 use Rattle.clap.specs.Words.{App, Text}
 use Rattle.clap.specs.Simple.{new_shape}
-use Rattle.request.specs.Arguments.{Argument, File, Number, Choice, Numbers, Files, Flag}
+use Rattle.request.specs.Arguments.{Argument, File, Number, Choice, Places, Files, Flag}
 use Rattle.request.specs.Arguments.{FileOption, rule_for}
 
 -- a command's name, with its arguments or their values
@@ -46,7 +46,8 @@ commands orders =
     ∷ writing "convert" (file "IN" ∷ file "OUT" ∷ identifiers)
     ∷ writing "check" (file "SESSION" ∷ file "OBJECT" ∷ file "CERT" ∷ identifiers
     ++ FileOption (codes "picture") ∷ Flag (codes "summary") None ∷ [])
-    ∷ writing "drop" (file "SESSION" ∷ file "OUT" ∷ Numbers (codes "PLACE") 0 4294967295 ∷ [])
+    ∷ writing "drop" (file "SESSION" ∷ file "OUT" ∷ Places (codes "PLACE")
+    ∷ FileOption (codes "places") ∷ [])
     ∷ writing "salvage" (file "SESSION" ∷ file "OUT" ∷ [])
     ∷ writing "join" (file "OUT" ∷ Files (codes "SESSION") ∷ Flag (codes "turns") None ∷ [])
     ∷ writing "decode" (file "SESSION" ∷ file "OUT" ∷ identifiers)

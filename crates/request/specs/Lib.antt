@@ -1,4 +1,7 @@
 pub mod Narrow
+pub mod Numbers
+pub mod Places
+pub mod PlaceSteps
 pub mod Arguments
 pub mod Grammar
 pub mod Requests

@@ -1,6 +1,6 @@
 -- What is asked for by the rows that the grammar matched.
 use Rattle.std.specs.Prelude.{◌≡◌, [], true, List, Option, Some, None, Result, Ok, Err, codes, find}
-use Rattle.std.specs.Prelude.{Bool, is_some}
+use Rattle.std.specs.Prelude.{Bool, ℕ, is_some, ⊤}
 use Rattle.std.specs.Borrow.{Bor}
 use Rattle.std.specs.List.{AllByRecursion, AllZip}
 use Rattle.std.specs.Option.{option_map_or}
@@ -10,10 +10,12 @@ use Rattle.clap.specs.declared.parser.matches.ArgMatches.{ArgMatches}
 use Rattle.partition.specs.declared.order.Order.{Order}
 use Rattle.request.specs.declared.requests.CommandLine.{CommandLine}
 use Rattle.request.specs.declared.usage.Usage.{Usage}
-use Rattle.request.specs.declared.usage.Usage.TheVariants.{NoMemory}
-use Rattle.request.specs.Arguments.{Argument, AText, Choice, HasValue, Value, flag_word}
+use Rattle.request.specs.declared.usage.Usage.TheVariants.{NoMemory, Places as Unplaced}
+use Rattle.request.specs.declared.usage.PlacesRefusal.TheVariants.{Word}
+use Rattle.request.specs.Arguments.{Argument, AText, Choice, Places, HasValue, Value, flag_word}
 use Rattle.request.specs.Grammar.{IsOrders, commands}
-use Rattle.request.specs.Requests.{asked_of, order_name}
+use Rattle.request.specs.Places.{IsFirstWrong}
+use Rattle.request.specs.Requests.{asked_of, order_name, LackPlaces, IsUnplaced, TellsPlaces}
 
 abbrev pub rows_in : ArgMatches → List Row
 rows_in matches = rows_of (found_of matches)
@@ -26,8 +28,9 @@ Reads {N} {E} gives read = (text : Text) × (read ≡ Some text) × ((e : E) →
 abbrev pub Gives : {N E : Type 0} → (Text → Result N E → Type 0) → Option Text → N → Type 0
 Gives gives read n = (text : Text) × (read ≡ Some text) × gives text (Ok n)
 
--- the rows have a value of the argument
+-- the rows have a value of the argument; whether texts tell places isn't known yet
 abbrev pub IsGiven : List Row → Argument → Type 0
+IsGiven rows (Places name) = ⊤
 IsGiven rows argument = (value : Value) × HasValue rows argument value
 
 abbrev pub AreGiven : List Row → List Argument → Type 0
@@ -56,10 +59,26 @@ abbrev pub IsAsked : Text → List Row → CommandLine → Type 0
 IsAsked name rows line = ((asked_of line).0 ≡ name) × ((orders : Bor (List (Bor Text)))
     → IsOrders orders → AllZip (HasValue rows) (arguments_of orders name) (asked_of line).1)
 
--- the line that was read, or no memory
+-- why these texts don't all tell places
+abbrev pub AreRefused : List Text → Usage → Type 0
+AreRefused texts (Unplaced (Word word)) = (count : ℕ) × IsFirstWrong texts count word.now
+AreRefused texts usage = usage ≡ NoMemory
+
+-- why there is no request to drop datagrams
+abbrev pub IsUndropped : List Row → Usage → Type 0
+IsUndropped rows (Unplaced refusal) = LackPlaces rows refusal
+IsUndropped rows usage = usage ≡ NoMemory
+
+-- why there is none of a command of this name
+abbrev pub IsUnasked : Text → List Row → Usage → Type 0
+IsUnasked name rows (Unplaced refusal) = (name ≡ codes "drop") × LackPlaces rows refusal
+IsUnasked name rows usage = usage ≡ NoMemory
+
+-- the line that was read, or why there is none
 abbrev pub IsMatch : Option (Text × List Row) → Result CommandLine Usage → Type 0
 IsMatch None (Ok line) = ⊥
-IsMatch (Some command) (Ok line) = IsAsked command.0 command.1 line
+IsMatch (Some command) (Ok line) = IsAsked command.0 command.1 line × TellsPlaces line.request
+IsMatch read (Err (Unplaced refusal)) = IsUnplaced read refusal
 IsMatch read (Err usage) = usage ≡ NoMemory
 
 abbrev pub order_argument : Bor (List (Bor Text)) → Argument

@@ -1,10 +1,10 @@
 -- What the words of a command line ask for.
 use Prim.Native.String.{String}
-use Rattle.std.specs.Prelude.{◌≡◌, ◌∷◌, ◌++◌, [], List, Option, Some, Result, Ok, Err, Contains}
-use Rattle.std.specs.Prelude.{codes, map, option_map, ⊤}
+use Rattle.std.specs.Prelude.{◌≡◌, ◌<◌, ◌⊎◌, ◌∷◌, ◌++◌, [], ℕ, List, Option, Some, None, Result, Ok}
+use Rattle.std.specs.Prelude.{Err, Contains, IsSome, codes, length, map, option_map, ⊤}
 use Rattle.std.specs.Borrow.{Bor}
 use Rattle.std.specs.List.{AllZip}
-use Rattle.clap.specs.Words.{IsAmong, Row, Text, fault_of, kind_of, subcommand_of}
+use Rattle.clap.specs.Words.{IsAmong, Row, Text, fault_of, first_of, kind_of, subcommand_of}
 use Rattle.partition.specs.declared.order.Order.{Order}
 use Rattle.partition.specs.declared.order.Order.TheVariants.{Blocks, Rounds}
 use Rattle.reception.specs.declared.scope.Identity.{Identity}
@@ -16,9 +16,12 @@ use Rattle.request.specs.declared.requests.Request.TheVariants.{Check, Twin, Sho
 use Rattle.request.specs.declared.requests.Request.TheVariants.{Convert, Decode, Follow, Drop}
 use Rattle.request.specs.declared.requests.Request.TheVariants.{Salvage, Join}
 use Rattle.request.specs.declared.usage.Usage.{Usage}
-use Rattle.request.specs.declared.usage.Usage.TheVariants.{Help, Line, NoMemory}
-use Rattle.request.specs.Arguments.{Argument, Value, AText, ANumber, AFlag, SomeNumbers, SomeTexts}
-use Rattle.request.specs.Arguments.{MaybeText, HasValue}
+use Rattle.request.specs.declared.usage.Usage.TheVariants.{Help, Line, Places, NoMemory}
+use Rattle.request.specs.declared.usage.PlacesRefusal.{PlacesRefusal}
+use Rattle.request.specs.declared.usage.PlacesRefusal.TheVariants.{Missing, Word}
+use Rattle.request.specs.Places.{IsFirstWrong}
+use Rattle.request.specs.Arguments.{Argument, Value, AText, ANumber, AFlag, SomePlaces, SomeTexts}
+use Rattle.request.specs.Arguments.{MaybeText, HasValue, given_texts}
 use Rattle.request.specs.Grammar.{command, commands, grammar_of}
 use Rattle.request.specs.Usages.{IsAskedFor, IsRefusal}
 
@@ -56,8 +59,9 @@ command_of (Check r) =
     command "check" (path r.session ∷ path r.object ∷ path r.certificate ∷ whose r.identity
     ++ MaybeText (option_map (λ name. name.now) r.picture) ∷ AFlag r.summary
     ∷ AFlag r.no_clobber ∷ [])
-command_of (Drop r) = writing "drop"
-    (path r.session ∷ path r.output.name ∷ SomeNumbers r.places.items ∷ []) r.output
+command_of (Drop r) = writing "drop" (path r.session ∷ path r.output.name
+    ∷ SomePlaces r.places.items ∷ MaybeText (option_map (λ name. name.now) r.places_file) ∷ [])
+    r.output
 command_of (Salvage r) = writing "salvage" (path r.session ∷ path r.output.name ∷ []) r.output
 command_of (Join r) = writing "join" (path r.output.name
     ∷ SomeTexts (map (λ name. name.now) r.sessions.items) ∷ AFlag r.turns ∷ []) r.output
@@ -80,10 +84,31 @@ abbrev pub IsRead : List (Text × List Argument) → Option (Text × List Row) �
 IsRead table read asked = (arguments : List Argument) × Contains table (asked.0, arguments)
     × ((rows : List Row) × (read ≡ Some (asked.0, rows)) × AllZip (HasValue rows) arguments asked.1)
 
--- the answer to the words: a request where they have no fault, else why there is none; or no memory
+-- a request to drop datagrams has a place, or a file of places
+abbrev pub TellsPlaces : Request → Type 0
+TellsPlaces (Drop r) = (0 < length r.places.items) ⊎ IsSome r.places_file
+TellsPlaces r = ⊤
+
+-- why there are no places to drop: none is given, nor a file of them; or this is the first of the
+-- texts that are given that tells none
+abbrev pub LackPlaces : List Row → PlacesRefusal → Type 0
+LackPlaces rows Missing =
+    (given_texts (codes "PLACE") rows ≡ []) × (first_of (codes "places") rows ≡ None)
+LackPlaces rows (Word word) =
+    (count : ℕ) × IsFirstWrong (given_texts (codes "PLACE") rows) count word.now
+
+abbrev pub IsUnplaced : Option (Text × List Row) → PlacesRefusal → Type 0
+IsUnplaced read refusal =
+    (rows : List Row) × (read ≡ Some (codes "drop", rows)) × LackPlaces rows refusal
+
+-- The answer to the words: a request where they have no fault and, of `drop`, tell places; else why
+-- there is none; or no memory.
 abbrev pub Answers : Bor (List (Bor Text)) → List Text → Result CommandLine Usage → Type 0
 Answers orders words (Ok line) = (fault_of (grammar_of orders) words ≡ [])
     × IsRead (commands orders) (subcommand_of (grammar_of orders) words) (asked_of line)
+    × TellsPlaces line.request
+Answers orders words (Err (Places refusal)) = (fault_of (grammar_of orders) words ≡ [])
+    × IsUnplaced (subcommand_of (grammar_of orders) words) refusal
 Answers orders words (Err (Help told)) =
     IsAskedFor told × IsAmong (kind_of told) (fault_of (grammar_of orders) words)
 Answers orders words (Err (Line told)) =

@@ -51,12 +51,10 @@ enum Argument<'a> {
     Number(NumberOption<'a>),
     /// `--name WORD`.
     Choice(ChoiceOption<'a>),
-    /// One number or more, each in a range.
-    Numbers {
+    /// Places and ranges of them, which may be left out.
+    Places {
         name: &'a str,
         help: &'a str,
-        least: u64,
-        most: u64,
     },
     /// The names of one file or more.
     Files {
@@ -277,11 +275,14 @@ const OUTLINES: [Outline<'static>; 11] = [
         arguments: &[
             SESSION,
             SESSION_TO_WRITE,
-            Argument::Numbers {
+            Argument::Places {
                 name: "PLACE",
-                help: "The places of the datagrams to leave out, 0 to 4294967295, counted from 0",
-                least: 0,
-                most: 4_294_967_295,
+                help: "A datagram to leave out, or N-M for all from N to M; counted from 0",
+            },
+            Argument::FileOption {
+                name: "places",
+                value_name: "FILE",
+                help: "A file of such places, between white space, to leave out, too",
             },
             NO_CLOBBER,
             QUIET,
@@ -377,15 +378,12 @@ fn choice<'a>(alloc: Global, option: &ChoiceOption<'a>) -> Arg<'a>
         .help(option.help)
 }
 
-// An argument that has to be given, once or several times.
+// An argument that may be given several times.
 fn several<'a>(alloc: Global, name: &'a str, help: &'a str) -> Arg<'a>
     ensures rule { rule_of result ≡ several_rule name.now }
     ensures local { result.global ≡ false }
 {
-    Arg::new(alloc, name)
-        .required(true)
-        .num_args(1usize..)
-        .help(help)
+    Arg::new(alloc, name).num_args(1usize..).help(help)
 }
 
 fn flag<'a>(alloc: Global, name: &'a str, short: Option<char>, help: &'a str) -> Arg<'a>
@@ -410,13 +408,8 @@ fn clap_argument<'a>(alloc: Global, argument: &Argument<'a>) -> Arg<'a>
         Argument::File { name, help } => Arg::new(alloc, *name).required(true).help(*help),
         Argument::Number(option) => number(alloc, option),
         Argument::Choice(option) => choice(alloc, option),
-        Argument::Numbers {
-            name,
-            help,
-            least,
-            most,
-        } => several(alloc, *name, *help).value_parser(ValueParser::unsigned(*least, *most)),
-        Argument::Files { name, help } => several(alloc, *name, *help),
+        Argument::Places { name, help } => several(alloc, *name, *help),
+        Argument::Files { name, help } => several(alloc, *name, *help).required(true),
         Argument::Flag { name, short, help } => flag(alloc, *name, *short, *help),
         Argument::FileOption {
             name,

@@ -2,6 +2,7 @@
 //!
 //! - `requests`: the commands with their values.
 //! - `usage`: why words are no request.
+//! - `places`: the places that words tell.
 //! - `grammar`: the commands, their arguments and their help, for clap.
 //! - `help`: what the help of each command says of its lines, statuses and use.
 //! - `matched`: the request of what clap matched.
@@ -12,13 +13,15 @@ mod grammar;
 mod help;
 mod line;
 mod matched;
+mod places;
 mod requests;
 mod usage;
 
 pub use line::command_line;
+pub use places::{PlaceFault, place_range, place_ranges};
 pub use requests::{
     CertifyRequest, CheckRequest, CommandLine, ConvertRequest, DecodeRequest, DropRequest,
     EncodeRequest, FollowRequest, JoinRequest, Output, Request, SalvageRequest, Sending,
     ShowRequest, Sizes, TwinRequest,
 };
-pub use usage::Usage;
+pub use usage::{PlacesRefusal, Usage};

@@ -1,25 +1,30 @@
 //! The line of what the grammar matched. The grammar lets no line through that lacks a value, so
 //! each is there.
-ghost use Rattle.std.specs.Prelude.{◌≡◌, ◌≤◌, Some, true, IfOk, codes, is_some, map, option_map};
+ghost use Rattle.std.specs.Prelude.{◌≡◌, ◌≤◌, Some, true, IfOk, IfErr, codes, is_some, map};
+ghost use Rattle.std.specs.Prelude.{option_map};
 ghost use Rattle.std.specs.List.{AllZip};
 ghost use Rattle.clap.specs.Words.{first_of, one_of, subcommand_rows_of};
-ghost use Rattle.request.specs.Arguments.{HasValue, Files as files_named, Numbers as numbers_named};
-ghost use Rattle.request.specs.Arguments.{SomeNumbers, SomeTexts, flag_word};
+ghost use Rattle.request.specs.Arguments.{HasValue, Files as files_named, SomeTexts, flag_word};
+ghost use Rattle.request.specs.Arguments.{given_texts};
 ghost use Rattle.request.specs.Grammar.{identifiers, size_arguments};
 ghost use Rattle.request.specs.Narrow.{IsNarrow};
-ghost use Rattle.request.specs.Requests.{whose, size_values};
+ghost use Rattle.request.specs.Places.{AreRanges};
+ghost use Rattle.request.specs.Requests.{whose, size_values, TellsPlaces};
 ghost use Rattle.request.specs.Matching.{AreGiven, Gives, IsAsked, IsGiven, IsMatch, IsOrder};
-ghost use Rattle.request.specs.Matching.{IsFlagGiven, IsOrderTold, IsTold, Reads, rows_in};
+ghost use Rattle.request.specs.Matching.{AreRefused, IsFlagGiven, IsOrderTold, IsTold, IsUnasked};
+ghost use Rattle.request.specs.Matching.{IsUndropped, Reads, rows_in};
 
+use crate::places::place_range;
 use crate::requests::{
     CertifyRequest, CheckRequest, CommandLine, ConvertRequest, DecodeRequest, DropRequest,
     EncodeRequest, FollowRequest, JoinRequest, Output, Request, SalvageRequest, Sending,
     ShowRequest, Sizes, TwinRequest,
 };
-use crate::usage::Usage;
+use crate::usage::{PlacesRefusal, Usage};
 use clap::ArgMatches;
 use partition::Order;
 use reception::Identity;
+use session::PlaceRange;
 use std::alloc::{AllocError, Global};
 use std::str::FromStr;
 
@@ -85,17 +90,31 @@ fn order(matches: &ArgMatches<'_>) -> Order
     }
 }
 
-// The values of PLACE.
-fn places(alloc: Global, matches: &ArgMatches<'_>) -> Result<Vec<usize>, AllocError>
-    requires { IsGiven (rows_in matches.now) (numbers_named (codes "PLACE") 0 4294967295) }
-    ensures { IfOk result (λ places. HasValue (rows_in matches.now)
-        (numbers_named (codes "PLACE") 0 4294967295) (SomeNumbers places.items)) }
+// The places that the texts of PLACE tell.
+fn places<'a>(alloc: Global, matches: &ArgMatches<'a>) -> Result<Vec<PlaceRange>, Usage<'a>>
+    ensures ok { IfOk result (λ v.
+        AreRanges (given_texts (codes "PLACE") (rows_in matches.now)) v.items) }
+    ensures fault { IfErr result
+        (AreRefused (given_texts (codes "PLACE") (rows_in matches.now))) }
 {
-    let given = matches.get_many::<u32>("PLACE").unwrap();
+    match matches.get_strs("PLACE") {
+        Some(texts) => read_places(alloc, texts),
+        None => Ok(Vec::new(alloc)),
+    }
+}
+
+fn read_places<'a>(alloc: Global, texts: &[&'a str]) -> Result<Vec<PlaceRange>, Usage<'a>>
+    ensures ok { IfOk result (λ v. AreRanges (map (λ text. text.now) texts.now) v.items) }
+    ensures fault { IfErr result (AreRefused (map (λ text. text.now) texts.now)) }
+{
     let mut places = Vec::new(alloc);
-    for place in given {
-        let Ok(place) = place else { unreachable!() };
-        places.push(place as usize)?;
+    for text in texts {
+        let Some(range) = place_range(*text) else {
+            return Err(Usage::Places(PlacesRefusal::Word(*text)));
+        };
+        let Ok(()) = places.push(range) else {
+            return Err(Usage::NoMemory);
+        };
     }
     Ok(places)
 }
@@ -210,16 +229,24 @@ fn check_line<'a>(matches: &ArgMatches<'a>) -> CommandLine<'a>
     )
 }
 
-fn drop_line<'a>(alloc: Global, matches: &ArgMatches<'a>) -> Result<CommandLine<'a>, AllocError>
+fn drop_line<'a>(alloc: Global, matches: &ArgMatches<'a>) -> Result<CommandLine<'a>, Usage<'a>>
     requires { IsTold (Some (codes "drop", rows_in matches.now)) }
-    ensures { IfOk result (IsAsked (codes "drop") (rows_in matches.now)) }
+    ensures asked { IfOk result (IsAsked (codes "drop") (rows_in matches.now)) }
+    ensures places { IfOk result (λ line. TellsPlaces line.request) }
+    ensures fault { IfErr result (IsUndropped (rows_in matches.now)) }
 {
+    let places = places(alloc, matches)?;
+    let places_file = given_text(matches, "places");
+    if places.is_empty() && places_file.is_none() {
+        return Err(Usage::Places(PlacesRefusal::Missing));
+    }
     Ok(line(
         matches,
         Request::Drop(DropRequest {
             session: text(matches, "SESSION"),
             output: output(matches),
-            places: places(alloc, matches)?,
+            places,
+            places_file,
         }),
     ))
 }
@@ -312,9 +339,11 @@ fn named_line<'a>(
     alloc: Global,
     name: &str,
     matches: &ArgMatches<'a>,
-) -> Result<CommandLine<'a>, AllocError>
+) -> Result<CommandLine<'a>, Usage<'a>>
     requires { IsTold (Some (name.now, rows_in matches.now)) }
-    ensures { IfOk result (IsAsked name.now (rows_in matches.now)) }
+    ensures asked { IfOk result (IsAsked name.now (rows_in matches.now)) }
+    ensures places { IfOk result (λ line. TellsPlaces line.request) }
+    ensures fault { IfErr result (IsUnasked name.now (rows_in matches.now)) }
 {
     Ok(match name {
         "encode" => encode_line(matches),
@@ -333,17 +362,14 @@ fn named_line<'a>(
 }
 
 /// The line of what the grammar matched, which has a value of each argument of its command. An
-/// error is `NoMemory`.
+/// error is `Places` or `NoMemory`.
 pub(crate) fn matched_line<'a>(
     alloc: Global,
     matches: &ArgMatches<'a>,
-) -> Result<CommandLine<'a>, Usage>
+) -> Result<CommandLine<'a>, Usage<'a>>
     requires { IsTold (subcommand_rows_of matches.now) }
     ensures { IsMatch (subcommand_rows_of matches.now) result }
 {
     let (name, values) = matches.subcommand().unwrap();
-    match named_line(alloc, name, values) {
-        Ok(line) => Ok(line),
-        Err(_) => Err(Usage::NoMemory),
-    }
+    named_line(alloc, name, values)
 }

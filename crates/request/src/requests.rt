@@ -4,6 +4,7 @@ ghost use Rattle.request.specs.Narrow.{IsNarrow};
 
 use partition::Order;
 use reception::Identity;
+use session::PlaceRange;
 
 // The most bytes of an encoding symbol: no more go into a datagram.
 pub(crate) const MOST_SYMBOL_BYTES: u16 = 65_475;
@@ -121,12 +122,14 @@ pub struct FollowRequest<'a> {
     ghost narrow: { IsNarrow identity },
 }
 
-/// Leave the datagrams at these places out, counted from 0; one place or more.
+/// Leave the datagrams at these places out, counted from 0, and at those that a file tells; one
+/// place or more, or a file.
 #[derive(Drop)]
 pub struct DropRequest<'a> {
     pub session: &'a str,
     pub output: Output<'a>,
-    pub places: Vec<usize>,
+    pub places: Vec<PlaceRange>,
+    pub places_file: Option<&'a str>,
 }
 
 /// Keep the whole frames that the session begins with.

@@ -1,54 +1,20 @@
--- Frames that are copied but for those at some places, one more each.
-use Rattle.std.specs.Prelude.{Bool, true, false, ◌||◌, ◌==◌, cond, Option, Some, None}
-use Rattle.std.proofs.Common.{◌≡◌, ◌<◌, ◌≤◌, ◌+◌, ℕ, suc, List, [], ◌∷◌, ◌++◌, length, length-append, take, get_or, refl, sym, ap, subst, ◌∙◌, inl, inr, arith}
-use Rattle.std.proofs.lemmas.List.{take_more, take_all, append-nil}
-use Rattle.std.proofs.lemmas.List.Folds.{list_any-append}
+-- Frames that are copied but for those at the places of some ranges, one more each.
+use Rattle.std.specs.Prelude.{Bool, true, false, cond, Option, Some, None}
+use Rattle.std.proofs.Common.{◌≡◌, ◌<◌, ◌≤◌, ◌+◌, ℕ, suc, List, [], ◌∷◌, ◌++◌, length, length-append, refl, sym, ap, subst, ◌∙◌, inl, arith}
+use Rattle.std.proofs.lemmas.List.{take_all, append-nil}
 use Rattle.std.specs.Io.KnownBytes.{Appends, Consumes, IsAtEnd}
 use Rattle.streams.specs.Pieces.{AppendsSome}
 use Rattle.streams.proofs.Fills.{then_consumes}
 use Rattle.streams.proofs.Writes.{then_appends, then_some}
-use Rattle.std.proofs.lemmas.Bool.{cases_order, eq-eqb, ne_eqb, le-ltb, lt-ltb}
-use Rattle.std.specs.Ordering.{nat_cmp, is_eq}
-use Rattle.std.specs.BTreeSet.{BTreeSet, contains}
-use Rattle.lists.specs.Selection.{rest, rest_from, is_among, first_outside}
+use Rattle.lists.specs.Selection.{rest, rest_from}
 use Rattle.session.specs.Frames.{frame, frames, most_bytes, HasRead, IsReadFault}
 use Rattle.session.specs.declared.frame.FrameFault.{FrameFault}
 use Rattle.session.specs.declared.frame.FrameFault.TheVariants as fault
 use Rattle.session.specs.Thinning.{frames_left, ReadsSome, IsThinned, WritesSome, IsUnthinned}
-use Rattle.session.specs.ThinningSteps.{IsSetOf, HasCopied}
+use Rattle.session.specs.ThinningSteps.{HasCopied}
+use Rattle.session.specs.Ranges.{is_in_some, first_unhad}
+use Rattle.session.specs.declared.range.PlaceRange.{PlaceRange}
 use Rattle.session.proofs.Sessions.{frames_push, short_push}
-
-or_none : (a b : Bool) → (a || (b || false)) ≡ (b || a)
-or_none true true = refl
-or_none true false = refl
-or_none false true = refl
-or_none false false = refl
-
--- one place more
-pub among_more : (places : List ℕ) (k i : ℕ) → k < length places → is_among (take (k + 1) places) i ≡ ((get_or places k 0 == i) || is_among (take k places) i)
-among_more places k i l =
-    ap (λ (ps : List ℕ). is_among ps i) (take_more places k 0 l)
-    ∙ list_any-append (λ p. p == i) (take k places) (get_or places k 0 ∷ [])
-    ∙ or_none (is_among (take k places) i) (get_or places k 0 == i)
-
--- two numbers compare as equal where they are
-same_number : (x y : ℕ) → is_eq (nat_cmp x y) ≡ (x == y)
-same_number x y = elim (cases_order x y) [
-  | inl same ↦ (rw (le-ltb x y (omega (arith, same)), eq-eqb x y same) refl)
-  | inr (inl less) ↦ (rw (lt-ltb x y less, ne_eqb x y (λ e. omega (arith, e, less))) refl)
-  | inr (inr more) ↦ (rw (le-ltb x y (omega (arith, more)), ne_eqb x y (λ e. omega (arith, e, more))) refl)
-]
-
-or_is : (a b : Bool) → cond a true b ≡ (a || b)
-or_is true b = refl
-or_is false b = refl
-
--- a set with one place more has one place more
-pub set_more : (places : List ℕ) (k : ℕ) (old new : BTreeSet ℕ) → k < length places → IsSetOf (take k places) old
-    → ((q : ℕ) → contains nat_cmp new q ≡ cond (is_eq (nat_cmp (get_or places k 0) q)) true (contains nat_cmp old q)) → IsSetOf (take (k + 1) places) new
-set_more places k old new l before adds i =
-    adds i ∙ or_is (is_eq (nat_cmp (get_or places k 0) i)) (contains nat_cmp old i)
-    ∙ rw (same_number (get_or places k 0) i, before i) (sym (among_more places k i l))
 
 left_suc : {X : Type 0} (lost : ℕ → Bool) (j : ℕ) (xs : List X) (x : X) → rest_from j lost (xs ++ x ∷ []) ≡ rest_from j lost xs ++ cond (lost (j + length xs)) [] (x ∷ [])
 left_suc lost j [] x =
@@ -78,8 +44,8 @@ nothing_appended None = tt
 nothing_appended (Some x) = sym (append-nil x)
 
 -- before the first
-pub begins : (places : List ℕ) (a b : Option (List ℕ)) (room : ℕ) → HasCopied places a a b b room room 0 0
-begins places a b room = record {
+pub begins : (ranges : List PlaceRange) (a b : Option (List ℕ)) (room : ℕ) → HasCopied ranges a a b b room room 0 0
+begins ranges a b room = record {
   datagrams = [];
   consumed = nothing_consumed a;
   each = λ i. omega arith;
@@ -89,13 +55,13 @@ begins places a b room = record {
   fits = omega arith;
 }
 
-module _ (places : List ℕ) (a mid b m : Option (List ℕ)) (room room_now n k : ℕ) (h : HasCopied places a mid b m room room_now n k) where
+module _ (ranges : List PlaceRange) (a mid b m : Option (List ℕ)) (room room_now n k : ℕ) (h : HasCopied ranges a mid b m room room_now n k) where
   was_read : HasRead a mid h.datagrams
   was_read = record { consumed = h.consumed; each = h.each }
 
   -- no more was read
   pub unread : (e : FrameFault) (sound : Bool) (new : Option (List ℕ)) (failed writer_failed : Bool) → IsReadFault e mid new failed → (e ≡ fault.Io → sound ≡ false)
-      → IsUnthinned e places sound a new failed room writer_failed
+      → IsUnthinned e ranges sound a new failed room writer_failed
   unread fault.CutLength sound new failed writer_failed r io = (h.datagrams, mid, was_read, r)
   unread fault.CutDatagram sound new failed writer_failed r io = (h.datagrams, mid, was_read, r)
   unread fault.TooLong sound new failed writer_failed r io = (h.datagrams, mid, was_read, r)
@@ -104,28 +70,28 @@ module _ (places : List ℕ) (a mid b m : Option (List ℕ)) (room room_now n k 
   unread (fault.NoSuchPlace p) sound new failed writer_failed r io = absurd r
 
   -- what was written until then
-  pub some : WritesSome places a b m
+  pub some : WritesSome ranges a b m
   some =
-      let left = frames_left places h.datagrams in
+      let left = frames_left ranges h.datagrams in
       (h.datagrams, mid, was_read, (length left, subst (λ (x : List ℕ). Appends b m x) (sym (take_all (length left) left (omega arith))) h.gained))
 
   -- the reader has ended
-  pub thinned : IsAtEnd mid → first_outside n places ≡ None → IsThinned places a mid b m k
+  pub thinned : IsAtEnd mid → first_unhad n ranges ≡ None → IsThinned ranges a mid b m k
   thinned over inside = record {
     datagrams = h.datagrams;
     read = was_read;
     end = over;
-    inside = ap (λ (l : ℕ). first_outside l places) h.many ∙ inside;
+    inside = ap (λ (l : ℕ). first_unhad l ranges) h.many ∙ inside;
     written = h.gained;
     counted = sym h.left;
   }
 
-  pub without : (place : ℕ) (sound failed : Bool) (writer_room : ℕ) (writer_failed : Bool) → IsAtEnd mid → first_outside n places ≡ Some place
-      → IsUnthinned (fault.NoSuchPlace place) places sound a mid failed writer_room writer_failed
-  without place sound failed writer_room writer_failed over outside = (over, h.datagrams, was_read, ap (λ (l : ℕ). first_outside l places) h.many ∙ outside)
+  pub without : (place : ℕ) (sound failed : Bool) (writer_room : ℕ) (writer_failed : Bool) → IsAtEnd mid → first_unhad n ranges ≡ Some place
+      → IsUnthinned (fault.NoSuchPlace place) ranges sound a mid failed writer_room writer_failed
+  without place sound failed writer_room writer_failed over outside = (over, h.datagrams, was_read, ap (λ (l : ℕ). first_unhad l ranges) h.many ∙ outside)
 
   -- nothing more was there
-  pub at_end : (next : Option (List ℕ)) → Consumes mid next [] → HasCopied places a next b m room room_now n k
+  pub at_end : (next : Option (List ℕ)) → Consumes mid next [] → HasCopied ranges a next b m room room_now n k
   at_end next none = record {
     datagrams = h.datagrams;
     consumed = subst (λ (x : List ℕ). Consumes a next x) (append-nil (frames h.datagrams)) (then_consumes a mid next (frames h.datagrams) [] h.consumed none);
@@ -151,11 +117,11 @@ module _ (places : List ℕ) (a mid b m : Option (List ℕ)) (room room_now n k 
     counted = let l = length-append h.datagrams (d ∷ []) in omega (arith, l, h.many)
 
     -- and passed over
-    module _ (lost : is_among places n ≡ true) where
-      same_left : rest (is_among places) more ≡ rest (is_among places) h.datagrams
-      same_left = rest_push (is_among places) h.datagrams d n true h.many lost ∙ append-nil (rest (is_among places) h.datagrams)
+    module _ (lost : is_in_some ranges n ≡ true) where
+      same_left : rest (is_in_some ranges) more ≡ rest (is_in_some ranges) h.datagrams
+      same_left = rest_push (is_in_some ranges) h.datagrams d n true h.many lost ∙ append-nil (rest (is_in_some ranges) h.datagrams)
 
-      pub passed_over : (up : ℕ) → n + 1 ≡ up → length d ≤ most_bytes → HasCopied places a next b m room room_now up k
+      pub passed_over : (up : ℕ) → n + 1 ≡ up → length d ≤ most_bytes → HasCopied ranges a next b m room room_now up k
       passed_over up is short = record {
         datagrams = more;
         consumed = read_on;
@@ -167,32 +133,32 @@ module _ (places : List ℕ) (a mid b m : Option (List ℕ)) (room room_now n k 
       }
 
     -- and is to be written
-    module _ (stays : is_among places n ≡ false) where
-      one_left : rest (is_among places) more ≡ rest (is_among places) h.datagrams ++ d ∷ []
-      one_left = rest_push (is_among places) h.datagrams d n false h.many stays
+    module _ (stays : is_in_some ranges n ≡ false) where
+      one_left : rest (is_in_some ranges) more ≡ rest (is_in_some ranges) h.datagrams ++ d ∷ []
+      one_left = rest_push (is_in_some ranges) h.datagrams d n false h.many stays
 
-      bytes_left : frames_left places more ≡ frames_left places h.datagrams ++ frame d
-      bytes_left = ap frames one_left ∙ frames_push (rest (is_among places) h.datagrams) d
+      bytes_left : frames_left ranges more ≡ frames_left ranges h.datagrams ++ frame d
+      bytes_left = ap frames one_left ∙ frames_push (rest (is_in_some ranges) h.datagrams) d
 
-      size_left : length (frames_left places more) ≡ length (frames_left places h.datagrams) + length (frame d)
-      size_left = ap (λ (x : List ℕ). length x) bytes_left ∙ length-append (frames_left places h.datagrams) (frame d)
+      size_left : length (frames_left ranges more) ≡ length (frames_left ranges h.datagrams) + length (frame d)
+      size_left = ap (λ (x : List ℕ). length x) bytes_left ∙ length-append (frames_left ranges h.datagrams) (frame d)
 
       pub written : (m2 : Option (List ℕ)) (room2 up : ℕ) → n + 1 ≡ up → length d ≤ most_bytes → Appends m m2 (frame d) → room_now ≤ room2 + length (frame d)
-          → HasCopied places a next b m2 room room2 up (k + 1)
+          → HasCopied ranges a next b m2 room room2 up (k + 1)
       written m2 room2 up is short gains fills = record {
         datagrams = more;
         consumed = read_on;
         each = short_push h.datagrams d h.each short;
         many = counted ∙ is;
-        gained = subst (λ (x : List ℕ). Appends b m2 x) (sym bytes_left) (then_appends b m m2 (frames_left places h.datagrams) (frame d) h.gained gains);
-        left = ap (λ (xs : List (List ℕ)). length xs) one_left ∙ (let l = length-append (rest (is_among places) h.datagrams) (d ∷ []) in omega (arith, l, h.left));
+        gained = subst (λ (x : List ℕ). Appends b m2 x) (sym bytes_left) (then_appends b m m2 (frames_left ranges h.datagrams) (frame d) h.gained gains);
+        left = ap (λ (xs : List (List ℕ)). length xs) one_left ∙ (let l = length-append (rest (is_in_some ranges) h.datagrams) (d ∷ []) in omega (arith, l, h.left));
         fits = omega (arith, size_left, fills, h.fits);
       }
 
       -- a beginning of it was
-      pub unwritten : (m2 : Option (List ℕ)) → length d ≤ most_bytes → AppendsSome m m2 (frame d) → WritesSome places a b m2
+      pub unwritten : (m2 : Option (List ℕ)) → length d ≤ most_bytes → AppendsSome m m2 (frame d) → WritesSome ranges a b m2
       unwritten m2 short begun =
-          (more, next, read_to short, subst (λ (x : List ℕ). AppendsSome b m2 x) (sym bytes_left) (then_some b m m2 (frames_left places h.datagrams) (frame d) h.gained begun))
+          (more, next, read_to short, subst (λ (x : List ℕ). AppendsSome b m2 x) (sym bytes_left) (then_some b m m2 (frames_left ranges h.datagrams) (frame d) h.gained begun))
 
-      pub no_room : length d ≤ most_bytes → room_now < length (frame d) → ReadsSome a (λ ds left. room < length (frames_left places ds))
+      pub no_room : length d ≤ most_bytes → room_now < length (frame d) → ReadsSome a (λ ds left. room < length (frames_left ranges ds))
       no_room short full = (more, next, read_to short, omega (arith, size_left, full, h.fits))

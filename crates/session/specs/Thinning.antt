@@ -1,27 +1,29 @@
--- Frames that are read, and what is left of them without some places written.
+-- Frames that are read, and what is left of them without the places of some ranges written.
 use Rattle.std.specs.Prelude.{◌≡◌, ◌<◌, ◌⊎◌, ℕ, Bool, true, false, List, Option, None, Some, length}
 use Rattle.std.specs.Prelude.{⊤}
 use Rattle.std.specs.Io.KnownBytes.{Appends, IsAtEnd}
 use Rattle.streams.specs.Pieces.{AppendsSome}
-use Rattle.lists.specs.Selection.{rest, is_among, first_outside}
+use Rattle.lists.specs.Selection.{rest}
 use Rattle.session.specs.Frames.{frames, HasRead, IsReadFault}
+use Rattle.session.specs.Ranges.{is_in_some, first_unhad}
+use Rattle.session.specs.declared.range.PlaceRange.{PlaceRange}
 use Rattle.session.specs.declared.frame.FrameFault.{FrameFault}
 use Rattle.session.specs.declared.frame.FrameFault.TheVariants.{Io, NoMemory, NoSuchPlace}
 
 -- the frames of the datagrams at all other places
-abbrev pub frames_left : List ℕ → List (List ℕ) → List ℕ
-frames_left places datagrams = frames (rest (is_among places) datagrams)
+abbrev pub frames_left : List PlaceRange → List (List ℕ) → List ℕ
+frames_left ranges datagrams = frames (rest (is_in_some ranges) datagrams)
 
--- All that the reader had left were these datagrams' frames. They have all the places, and the
--- frames of the others were written; their number.
-pub record IsThinned (places : List ℕ) (old new before after : Option (List ℕ))
+-- All that the reader had left were these datagrams' frames. They have all places of the ranges,
+-- and the frames of the others were written; their number.
+pub record IsThinned (ranges : List PlaceRange) (old new before after : Option (List ℕ))
     (count : ℕ) : Type 0 where
   pub datagrams : List (List ℕ)
   pub read : HasRead old new datagrams
   pub end : IsAtEnd new
-  pub inside : first_outside (length datagrams) places ≡ None
-  pub written : Appends before after (frames_left places datagrams)
-  pub counted : count ≡ length (rest (is_among places) datagrams)
+  pub inside : first_unhad (length datagrams) ranges ≡ None
+  pub written : Appends before after (frames_left ranges datagrams)
+  pub counted : count ≡ length (rest (is_in_some ranges) datagrams)
 
 -- some datagrams' frames were read, and this holds of them and of what the reader had left then
 abbrev pub ReadsSome : Option (List ℕ) → (List (List ℕ) → Option (List ℕ) → Type 0) → Type 0
@@ -30,21 +32,22 @@ ReadsSome old Holds =
     × Holds datagrams left
 
 -- a beginning of what is left of them was written
-abbrev pub WritesSome : List ℕ → Option (List ℕ) → Option (List ℕ) → Option (List ℕ) → Type 0
-WritesSome places old before after =
-    ReadsSome old (λ ds left. AppendsSome before after (frames_left places ds))
+abbrev pub WritesSome : List PlaceRange → Option (List ℕ) → Option (List ℕ) → Option (List ℕ)
+    → Type 0
+WritesSome ranges old before after =
+    ReadsSome old (λ ds left. AppendsSome before after (frames_left ranges ds))
 
--- Why not all was read and written: the first place that the datagrams don't have; the reader has
+-- Why not all was read and written: a range's place that the datagrams don't have; the reader has
 -- failed, which isn't sound, or the writer, which had no room for what is left of them; want of
 -- memory; or no frame stands behind them.
-abbrev pub IsUnthinned : FrameFault → List ℕ → Bool → Option (List ℕ) → Option (List ℕ) → Bool → ℕ
-    → Bool → Type 0
-IsUnthinned (NoSuchPlace place) places sound old new failed room writer_failed =
+abbrev pub IsUnthinned : FrameFault → List PlaceRange → Bool → Option (List ℕ) → Option (List ℕ)
+    → Bool → ℕ → Bool → Type 0
+IsUnthinned (NoSuchPlace place) ranges sound old new failed room writer_failed =
     IsAtEnd new × (ds : List (List ℕ)) × HasRead old new ds
-    × (first_outside (length ds) places ≡ Some place)
-IsUnthinned Io places sound old new failed room writer_failed =
+    × (first_unhad (length ds) ranges ≡ Some place)
+IsUnthinned Io ranges sound old new failed room writer_failed =
     ((sound ≡ false) × (failed ≡ true))
-    ⊎ ((writer_failed ≡ true) × ReadsSome old (λ ds left. room < length (frames_left places ds)))
-IsUnthinned NoMemory places sound old new failed room writer_failed = ⊤
-IsUnthinned fault places sound old new failed room writer_failed =
+    ⊎ ((writer_failed ≡ true) × ReadsSome old (λ ds left. room < length (frames_left ranges ds)))
+IsUnthinned NoMemory ranges sound old new failed room writer_failed = ⊤
+IsUnthinned fault ranges sound old new failed room writer_failed =
     ReadsSome old (λ ds left. IsReadFault fault left new failed)

@@ -1,25 +1,16 @@
-//! Frames without those at some places, from a reader to a writer.
-ghost use Rattle.std.specs.Prelude.{◌≡◌, ℕ, List, IfOk, IfErr, OnErr};
+//! Frames without those at the places of some ranges, from a reader to a writer.
+ghost use Rattle.std.specs.Prelude.{List, IfOk, IfErr, OnErr};
 ghost use Rattle.std.specs.Io.KnownBytes.{IsAtEnd};
 ghost use Rattle.session.specs.Thinning.{IsThinned, IsUnthinned, WritesSome};
-ghost use Rattle.session.specs.ThinningSteps.{IsSetOf, HasCopied};
+ghost use Rattle.session.specs.ThinningSteps.{HasCopied};
+ghost use Rattle.session.specs.RangeSteps.{AreByFirst, HaveSamePlaces};
+ghost use Rattle.session.specs.declared.range.PlaceRange.{PlaceRange as Range};
 
 use crate::frame::{FrameFault, read_next, write_one};
-use crate::selection::outside;
-use std::alloc::{AllocError, Global};
-use std::collections::BTreeSet;
+use crate::range::PlaceRange;
+use crate::ranges::{Begun, by_first, unhad};
+use std::alloc::Global;
 use streams::{Read, Write};
-
-// The places as a set.
-fn set_of(alloc: Global, places: &[usize]) -> Result<BTreeSet<usize>, AllocError>
-    ensures { IfOk result (IsSetOf places.now) }
-{
-    let mut set = BTreeSet::new(alloc);
-    for place in places {
-        set.insert(*place)?;
-    }
-    Ok(set)
-}
 
 // How many frames were read, and how many of them written.
 #[derive(Clone, Copy)]
@@ -28,30 +19,33 @@ struct Counts {
     written: usize,
 }
 
-// Copies the frames that are left of a reader, but for those at the places of a set.
+// Copies the frames that are left of a reader, but for those at the places of ranges, which are
+// given by their first places.
 fn copy_others<R: Read, W: Write>(
     alloc: Global,
     reader: &mut R,
-    lost: &BTreeSet<usize>,
+    lost: &[PlaceRange],
     writer: &mut W,
 ) -> Result<Counts, FrameFault>
-    ensures copied { (places : List ℕ) → IsSetOf places lost.now
-        → IfOk result (λ n. HasCopied places (R.remaining reader.old) (R.remaining reader.new)
+    requires { AreByFirst lost.now }
+    ensures copied { (ranges : List Range) → HaveSamePlaces ranges lost.now
+        → IfOk result (λ n. HasCopied ranges (R.remaining reader.old) (R.remaining reader.new)
         (W.contents writer.old) (W.contents writer.new)
         (W.room writer.old) (W.room writer.new) n.read n.written) }
     ensures end { IfOk result (λ n. IsAtEnd (R.remaining reader.new)) }
-    ensures fault { (places : List ℕ) → IsSetOf places lost.now
-        → IfErr result (λ e. IsUnthinned e places (R.sound reader.old)
+    ensures fault { (ranges : List Range) → HaveSamePlaces ranges lost.now
+        → IfErr result (λ e. IsUnthinned e ranges (R.sound reader.old)
         (R.remaining reader.old) (R.remaining reader.new) (R.failed reader.new)
         (W.room writer.old) (W.failed writer.new)) }
-    ensures some { (places : List ℕ) → IsSetOf places lost.now
-        → OnErr result (WritesSome places (R.remaining reader.old)
+    ensures some { (ranges : List Range) → HaveSamePlaces ranges lost.now
+        → OnErr result (WritesSome ranges (R.remaining reader.old)
         (W.contents writer.old) (W.contents writer.new)) }
 {
     let mut counts = Counts {
         read: 0,
         written: 0,
     };
+    let mut begun = Begun { count: 0, last: 0 };
     loop {
         let Some(datagram) = read_next(alloc, reader)? else {
             return Ok(counts);
@@ -59,7 +53,8 @@ fn copy_others<R: Read, W: Write>(
         let Some(read) = counts.read.checked_add(1) else {
             return Err(FrameFault::NoMemory);
         };
-        if !lost.contains(&counts.read) {
+        begun = begun.meet(lost, counts.read);
+        if !begun.has(counts.read) {
             write_one(writer, datagram.as_slice())?;
             counts.written += 1;
         }
@@ -67,32 +62,32 @@ fn copy_others<R: Read, W: Write>(
     }
 }
 
-/// Copies the frames that are left of a reader, but for those at these places, which are counted
-/// from 0; one at a time is held. Answers how many were written.
+/// Copies the frames that are left of a reader, but for those at the places of these ranges, which
+/// are counted from 0; one at a time is held. Answers how many were written.
 ///
 /// `CutLength`, `CutDatagram` and `TooLong` tell what follows whole frames, `Io` that the reader or
-/// the writer has failed, and `NoSuchPlace`, at the reader's end, the first place that it hasn't. A
-/// beginning of the frames was written then.
+/// the writer has failed, and `NoSuchPlace`, at the reader's end, the first place that it hasn't,
+/// of the first range that has such a place. A beginning of the frames was written then.
 pub fn thin_frames<R: Read, W: Write>(
     alloc: Global,
     reader: &mut R,
-    places: &[usize],
+    ranges: &[PlaceRange],
     writer: &mut W,
 ) -> Result<usize, FrameFault>
-    ensures thinned { IfOk result (IsThinned places.now
+    ensures thinned { IfOk result (IsThinned ranges.now
         (R.remaining reader.old) (R.remaining reader.new)
         (W.contents writer.old) (W.contents writer.new)) }
-    ensures fault { IfErr result (λ e. IsUnthinned e places.now (R.sound reader.old)
+    ensures fault { IfErr result (λ e. IsUnthinned e ranges.now (R.sound reader.old)
         (R.remaining reader.old) (R.remaining reader.new) (R.failed reader.new)
         (W.room writer.old) (W.failed writer.new)) }
-    ensures some { OnErr result (WritesSome places.now (R.remaining reader.old)
+    ensures some { OnErr result (WritesSome ranges.now (R.remaining reader.old)
         (W.contents writer.old) (W.contents writer.new)) }
 {
-    let Ok(lost) = set_of(alloc, places) else {
+    let Ok(lost) = by_first(alloc, ranges) else {
         return Err(FrameFault::NoMemory);
     };
-    let counts = copy_others(alloc, reader, &lost, writer)?;
-    match outside(places, counts.read) {
+    let counts = copy_others(alloc, reader, lost.as_slice(), writer)?;
+    match unhad(ranges, counts.read) {
         Some(place) => Err(FrameFault::NoSuchPlace(place)),
         None => Ok(counts.written),
     }

@@ -2,7 +2,7 @@ use Rattle.std.proofs.Common.{codes, map, subst, sym}
 use Rattle.std.proofs.lemmas.Result.{IfOk-weaker}
 use Rattle.clap.specs.Words.{found_of, rows_of}
 use Rattle.request.specs.Arguments.{Files, HasValue, SomeTexts}
-use Rattle.request.proofs.Places.{texts_are, texts_found}
+use Rattle.request.proofs.Texts.{texts_are, texts_found}
 use Rattle.request.proofs.matched.sessions.Goals as goal
 
 pub unwrap-requires : goal.unwrap-requires
