@@ -1,5 +1,5 @@
 -- Frames that are copied, one more.
-use Rattle.std.proofs.Common.{◌≡◌, ◌<◌, ◌+◌, ℕ, Bool, false, List, [], ◌∷◌, ◌++◌, Option, length, get_or, set, refl, sym, ap, ◌∙◌, arith, append_assoc, inl, inr, subst}
+use Rattle.std.proofs.Common.{◌≡◌, ◌≢◌, ◌<◌, ◌+◌, ℕ, Bool, false, List, [], ◌∷◌, ◌++◌, Option, length, get_or, set, refl, sym, ap, ◌∙◌, arith, append_assoc, inl, inr, subst}
 use Rattle.std.specs.Prelude.{Some, None, IfSome}
 use Rattle.std.proofs.lemmas.List.{append-nil, length-append, length-set, length_push, take_all, get_or-set_same, get_or-set_other}
 use Rattle.std.specs.Io.KnownBytes.{Appends, Consumes, IsAtEnd}
@@ -8,22 +8,23 @@ use Rattle.streams.specs.Pieces.{AppendsSome}
 use Rattle.session.specs.Frames.{frame, frames, AreShort, HasRead, IsNoFrame, IsReadFault, IsSessionFault, StopsAt}
 use Rattle.session.specs.Joined.{joined}
 use Rattle.session.specs.Turns.{taken}
-use Rattle.session.specs.Joining.{IsJoined, IsUnjoined}
-use Rattle.session.specs.Copying.{HasJoined, IsCopied, IsOver, IsUnread, IsUnwritten, IsWritten}
+use Rattle.session.specs.Joining.{IsJoined, IsUnjoined, IsWhole}
+use Rattle.session.specs.Copying.{HasJoined, IsCopied, IsFirstFault, IsOver, IsUnread, IsUnwritten, IsWritten}
 use Rattle.session.specs.declared.frame.FrameFault.{FrameFault}
 use Rattle.session.specs.declared.frame.FrameFault.TheVariants.{CutLength, CutDatagram, TooLong, Io, NoMemory, NoSuchPlace}
 use Rattle.session.proofs.Joins.{each_set, same_or_not, same_joined}
 use Rattle.session.proofs.Sessions.{frames_push, short_push}
+use Rattle.session.proofs.WholeFrames.{fault_behind, whole_behind}
 
 nothing_more : (a : Option (List ℕ)) → Appends a a []
 nothing_more None = tt
 nothing_more (Some xs) = sym (append-nil xs)
 
-nothing_read : (a : Option (List ℕ)) → Consumes a a []
+pub nothing_read : (a : Option (List ℕ)) → Consumes a a []
 nothing_read None = tt
 nothing_read (Some xs) = refl
 
-consumes_more : (a b c : Option (List ℕ)) (ds : List (List ℕ)) (d : List ℕ) → Consumes a b (frames ds) → Consumes b c (frame d)
+pub consumes_more : (a b c : Option (List ℕ)) (ds : List (List ℕ)) (d : List ℕ) → Consumes a b (frames ds) → Consumes b c (frame d)
     → Consumes a c (frames (ds ++ d ∷ []))
 consumes_more None b c ds d p q = tt
 consumes_more (Some a) None c ds d p q = absurd p
@@ -49,7 +50,7 @@ stops_at fault (Some a) (Some b) ds p short why = record {
   stops = why;
 }
 
-session_fault : (fault : FrameFault) (a b c : Option (List ℕ)) (failed : Bool) (ds : List (List ℕ)) → Consumes a b (frames ds) → AreShort ds
+pub session_fault : (fault : FrameFault) (a b c : Option (List ℕ)) (failed : Bool) (ds : List (List ℕ)) → Consumes a b (frames ds) → AreShort ds
     → IsReadFault fault b c failed → IsSessionFault fault a failed
 session_fault CutLength a b c failed ds p short why = stops_at CutLength a b ds p short why.0
 session_fault CutDatagram a b c failed ds p short why = stops_at CutDatagram a b ds p short why.0
@@ -57,6 +58,15 @@ session_fault TooLong a b c failed ds p short why = stops_at TooLong a b ds p sh
 session_fault Io a b c failed ds p short why = why
 session_fault NoMemory a b c failed ds p short why = tt
 session_fault (NoSuchPlace place) a b c failed ds p short why = why
+
+-- a fault of bytes is one whether a call has failed or not
+whatever_failed : (fault : FrameFault) (a : Option (List ℕ)) (failed other : Bool) → fault ≢ Io → IsSessionFault fault a failed → IsSessionFault fault a other
+whatever_failed CutLength a failed other no_io why = why
+whatever_failed CutDatagram a failed other no_io why = why
+whatever_failed TooLong a failed other no_io why = why
+whatever_failed Io a failed other no_io why = absurd (no_io refl)
+whatever_failed NoMemory a failed other no_io why = tt
+whatever_failed (NoSuchPlace place) a failed other no_io why = why
 
 -- nothing was read or written
 pub none_joined : (turns : Bool) (old : List (Option (List ℕ))) (before : Option (List ℕ)) (room : ℕ) (lists : List (List (List ℕ)))
@@ -164,8 +174,9 @@ module _ (turns : Bool) (old new : List (Option (List ℕ))) (before now : Optio
 
   pub unread : (fault : FrameFault) (p : ℕ) (sound failed : List Bool) (left after : Option (List ℕ)) (writer_failed : Bool)
       → IsUnread fault (get_or sound p false) (get_or new p None) left (get_or failed p false) now after → p < length old
+      → (fault ≢ Io → fault ≢ NoMemory → (i : ℕ) → i < p → IsWhole (get_or old i None))
       → IsUnjoined turns fault old sound failed before after room writer_failed
-  unread fault p sound failed left after writer_failed why l = record {
+  unread fault p sound failed left after writer_failed why l first = record {
     lists = lists;
     many = has.many;
     read = begun;
@@ -176,8 +187,57 @@ module _ (turns : Bool) (old new : List (Option (List ℕ))) (before now : Optio
       inside = l;
       because = session_fault fault (get_or old p None) (get_or new p None) left (get_or failed p false) (get_or lists p []) (has.consumed p) (has.each p) why.because;
       unsound = why.unsound;
+      first = first;
     });
   }
+
+  -- the readers before one that gives no frame were read to their ends: the first fault is told
+  pub first_told : (other fault : FrameFault) (p : ℕ) (sound failed : List Bool) (left after : Option (List ℕ)) (reader_failed writer_failed : Bool)
+      → IsUnread other (get_or sound p false) (get_or new p None) left reader_failed now after → p < length old
+      → other ≢ Io → other ≢ NoMemory
+      → (front : List (Option (List ℕ))) → length front ≡ p → ((i : ℕ) → i < p → get_or front i None ≡ get_or new i None)
+      → (front_sound front_failed : List Bool) → ((i : ℕ) → i < p → get_or front_sound i false ≡ get_or sound i false)
+      → ((i : ℕ) → i < p → get_or front_failed i false ≡ get_or failed i false)
+      → IsFirstFault other fault front front_sound front_failed
+      → IsUnjoined turns fault old sound failed before after room writer_failed
+  first_told other fault p sound failed left after reader_failed writer_failed why l no_io no_memory_lacks front long same front_sound front_failed same_sound same_failed (inl none) =
+      let whole : (i : ℕ) → i < p → IsWhole (get_or old i None) = λ i li.
+      whole_behind (get_or old i None) (get_or new i None) (get_or lists i []) (has.consumed i) (has.each i) (subst (λ (o : Option (List ℕ)). IsWhole o) (same i li) (none.1 i (omega (arith, li, long)))) in
+      subst (λ (e : FrameFault). IsUnjoined turns e old sound failed before after room writer_failed) (sym none.0) (record {
+        lists = lists;
+        many = has.many;
+        read = begun;
+        some = subst (λ (a : Option (List ℕ)). AppendsSome before a (frames (joined turns lists))) (sym why.same)
+            (some_joined now (all_some before now (frames (taken turns lists)) has.written.gained));
+        because = inl (record {
+          place = p;
+          inside = l;
+          because = whatever_failed other (get_or old p None) reader_failed (get_or failed p false) no_io
+              (session_fault other (get_or old p None) (get_or new p None) left reader_failed (get_or lists p []) (has.consumed p) (has.each p) why.because);
+          unsound = λ e. absurd (no_io e);
+          first = λ _ _ i li. whole i li;
+        });
+      })
+  first_told other fault p sound failed left after reader_failed writer_failed why l no_io no_memory_lacks front long same front_sound front_failed same_sound same_failed (inr earlier) =
+      let q : ℕ = earlier.0 in
+      let lq : q < p = omega (arith, earlier.1, long) in
+      record {
+        lists = lists;
+        many = has.many;
+        read = begun;
+        some = subst (λ (a : Option (List ℕ)). AppendsSome before a (frames (joined turns lists))) (sym why.same)
+            (some_joined now (all_some before now (frames (taken turns lists)) has.written.gained));
+        because = inl (record {
+          place = q;
+          inside = omega (arith, lq, l);
+          because = fault_behind fault (get_or old q None) (get_or new q None) (get_or failed q false) (get_or lists q []) (has.consumed q) (has.each q)
+              (subst (λ (o : Option (List ℕ)). IsSessionFault fault o (get_or failed q false)) (same q lq)
+              (subst (λ (b : Bool). IsSessionFault fault (get_or front q None) b) (same_failed q lq) earlier.2));
+          unsound = λ e. sym (same_sound q lq) ∙ earlier.3 e;
+          first = λ _ _ i li. (let lp : i < p = omega (arith, li, lq) in
+              whole_behind (get_or old i None) (get_or new i None) (get_or lists i []) (has.consumed i) (has.each i) (subst (λ (o : Option (List ℕ)). IsWhole o) (same i lp) (earlier.4 i li)));
+        });
+      }
 
   pub unwritten : (fault : FrameFault) (p : ℕ) (sound failed : List Bool) (left after : Option (List ℕ)) (writer_failed : Bool)
       → IsUnwritten fault (get_or new p None) left now after room_now writer_failed → p < length lists → p < length new → IsNext p

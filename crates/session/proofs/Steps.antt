@@ -1,14 +1,16 @@
 -- Loops that copy frames of several readers, one step more.
-use Rattle.std.proofs.Common.{◌≡◌, ◌≢◌, ◌<◌, ◌≤◌, ◌+◌, ◌⊎◌, ℕ, zero, suc, Bool, true, false, List, [], ◌∷◌, ◌++◌, Option, map, drop, length, get_or, set, replicate, refl, sym, ap, ◌∙◌, arith, inl, inr, subst}
+use Rattle.std.proofs.Common.{◌≡◌, ◌≢◌, ◌<◌, ◌≤◌, ◌+◌, ◌-◌, ◌⊎◌, ℕ, zero, suc, Bool, true, false, List, [], ◌∷◌, ◌++◌, Option, map, drop, length, get_or, set, replicate, refl, sym, ap, ◌∙◌, arith, inl, inr, subst, take, length-take-le, get_or-take}
 use Rattle.std.specs.Prelude.{None, Result, Ok, Err, IfErr, IsErrAnd}
-use Rattle.std.proofs.lemmas.List.{length-map, length_push, map-set, get_or-map, get_or-set_same, get_or-set_other, get_or_past, set-get_or, drop_more, drop-set-lt, length-set, get_or_default}
+use Rattle.std.proofs.lemmas.List.{take-map, drop-map, map-append, get_or_append_left, get_or-append_right, get_or-drop, length-map, length_push, map-set, get_or-map, get_or-set_same, get_or-set_other, get_or_past, set-get_or, drop_more, drop-set-lt, length-set, get_or_default}
 use Rattle.std.specs.Io.KnownBytes.{IsAtEnd}
 use Rattle.session.specs.Turns.{taken, longest, one_after_other, rounds}
-use Rattle.session.specs.Joining.{IsUnjoined}
-use Rattle.session.specs.Copying.{HasJoined, IsAfterRounds, IsAtReader, IsCopied, IsInRound, IsOver, IsUnread, IsUnwritten, steps_left}
+use Rattle.session.specs.Joining.{IsUnjoined, IsWhole}
+use Rattle.session.specs.Copying.{HasJoined, IsFirstFault, IsToldFirst, IsAfterRounds, IsAtReader, IsCopied, IsInRound, IsOver, IsUnread, IsUnwritten, steps_left}
 use Rattle.session.specs.declared.frame.FrameFault.{FrameFault}
+use Rattle.session.specs.declared.frame.FrameFault.TheVariants.{CutLength, CutDatagram, TooLong, Io, NoMemory, NoSuchPlace}
+use Rattle.session.proofs.WholeFrames.{whole_end}
 use Rattle.session.proofs.Joins.{next_turn, next_whole, same_or_not}
-use Rattle.session.proofs.Copies.{IsNext, copied, none_joined, over, unread, unwritten}
+use Rattle.session.proofs.Copies.{IsNext, copied, first_told, none_joined, over, unread, unwritten}
 
 module _ {X : Type 0} (remaining : X → Option (List ℕ)) (sound failed : X → Bool) (turns : Bool) (old now : List X) (before mid : Option (List ℕ)) (room room_now count : ℕ)
     (lists : List (List (List ℕ))) (has : HasJoined turns (map remaining old) (map remaining now) before mid room room_now count lists)
@@ -51,16 +53,100 @@ module _ {X : Type 0} (remaining : X → Option (List ℕ)) (sound failed : X �
       ap (λ (bs : List Bool). get_or bs p false) (map-set failed now p y)
       ∙ get_or-set_same (map failed now) p (failed y) false (let e = length-map now failed in omega (arith, e, l))
 
+  -- whatever became of the other readers then
+  step_fault_then : (fault : FrameFault) (y : X) (after : Option (List ℕ)) (writer_failed : Bool) (all : List X) → get_or (map failed all) p false ≡ failed y
+      → IsNext turns (map remaining old) (map remaining now) before mid room room_now count lists has p
+      → (fault ≢ Io → fault ≢ NoMemory → (i : ℕ) → i < p → IsWhole (get_or (map remaining old) i None))
+      → IsUnread fault (sound x) (remaining x) (remaining y) (failed y) mid after ⊎ IsUnwritten fault (remaining x) (remaining y) mid after room_now writer_failed
+      → IsUnjoined turns fault (map remaining old) (map sound old) (map failed all) before after room writer_failed
+  step_fault_then fault y after writer_failed all failed_there next first (inl why) =
+      unread turns (map remaining old) (map remaining now) before mid room room_now count lists has fault p (map sound old) (map failed all) (remaining y) after writer_failed
+      (rw (sound_here, here, failed_there) why) in_old first
+  step_fault_then fault y after writer_failed all failed_there next first (inr why) =
+      unwritten turns (map remaining old) (map remaining now) before mid room room_now count lists has fault p (map sound old) (map failed all) (remaining y) after writer_failed
+      (rw here why) in_lists in_now next
+
   pub step_fault : (fault : FrameFault) (y : X) (after : Option (List ℕ)) (writer_failed : Bool)
       → IsNext turns (map remaining old) (map remaining now) before mid room room_now count lists has p
+      → (fault ≢ Io → fault ≢ NoMemory → (i : ℕ) → i < p → IsWhole (get_or (map remaining old) i None))
       → IsUnread fault (sound x) (remaining x) (remaining y) (failed y) mid after ⊎ IsUnwritten fault (remaining x) (remaining y) mid after room_now writer_failed
       → IsUnjoined turns fault (map remaining old) (map sound old) (map failed (set now p y)) before after room writer_failed
-  step_fault fault y after writer_failed next (inl why) =
-      unread turns (map remaining old) (map remaining now) before mid room room_now count lists has fault p (map sound old) (map failed (set now p y)) (remaining y) after writer_failed
-      (rw (sound_here, here, failed_here y) why) in_old
-  step_fault fault y after writer_failed next (inr why) =
-      unwritten turns (map remaining old) (map remaining now) before mid room room_now count lists has fault p (map sound old) (map failed (set now p y)) (remaining y) after writer_failed
-      (rw here why) in_lists in_now next
+  step_fault fault y after writer_failed next first why = step_fault_then fault y after writer_failed (set now p y) (failed_here y) next first why
+
+  -- the readers before this place were read to their ends behind a fault of bytes there: the first is told
+  step_first : (other fault : FrameFault) (y : X) (after : Option (List ℕ)) (writer_failed : Bool) → other ≢ Io → other ≢ NoMemory
+      → IsUnread other (sound x) (remaining x) (remaining y) (failed y) mid after ⊎ IsUnwritten other (remaining x) (remaining y) mid after room_now writer_failed
+      → (front all : List X) (ends : length front ≡ p) → ((i : ℕ) → i < p → get_or (map failed all) i false ≡ get_or (map failed front) i false)
+      → IsFirstFault other fault (map remaining (take p (set now p y))) (map sound (take p (set now p y))) (map failed front)
+      → IsUnjoined turns fault (map remaining old) (map sound old) (map failed all) before after room writer_failed
+  step_first other fault y after writer_failed no_io no_memory_lacks (inr why) front all ends kept first = absurd (no_io why.io)
+  step_first other fault y after writer_failed no_io no_memory_lacks (inl why) front all ends kept first =
+      let long : length (map remaining (take p (set now p y))) ≡ p = length-map (take p (set now p y)) remaining ∙ length-take-le p (set now p y) (let e = length-set now p y in omega (arith, e, l)) in
+      first_told turns (map remaining old) (map remaining now) before mid room room_now count lists has other fault p (map sound old) (map failed all) (remaining y) after (failed y) writer_failed
+      (rw (sound_here, here) why) in_old no_io no_memory_lacks (map remaining (take p (set now p y))) long
+      (λ i li. front_same remaining None i li)
+      (map sound (take p (set now p y))) (map failed front)
+      (λ i li. front_same sound false i li ∙ ap (λ (bs : List Bool). get_or bs i false) sounds)
+      (λ i li. sym (kept i li)) first
+    where
+      front_same : {A : Type 0} (f : X → A) (d : A) (i : ℕ) → i < p → get_or (map f (take p (set now p y))) i d ≡ get_or (map f now) i d
+      front_same {A = A} f d i li =
+          ap (λ (zs : List A). get_or zs i d) (sym (take-map f p (set now p y)))
+          ∙ get_or-take p (map f (set now p y)) i d li
+          ∙ ap (λ (zs : List A). get_or zs i d) (map-set f now p y)
+          ∙ get_or-set_other (map f now) p i (f y) d (λ e. omega (arith, e, li))
+
+  module _ (y : X) (front : List X) (many : length front ≡ length (take p (set now p y))) where
+    ends : length front ≡ p
+    ends = many ∙ length-take-le p (set now p y) (let e = length-set now p y in omega (arith, e, l))
+
+    abbrev all : List X
+    all = front ++ drop p (set now p y)
+
+    failed_front : (i : ℕ) → i < p → get_or (map failed all) i false ≡ get_or (map failed front) i false
+    failed_front i li =
+        ap (λ (bs : List Bool). get_or bs i false) (map-append failed front (drop p (set now p y)))
+        ∙ get_or_append_left (map failed front) (map failed (drop p (set now p y))) false i (let e = length-map front failed in omega (arith, e, ends, li))
+
+    failed_last : get_or (map failed all) p false ≡ failed y
+    failed_last =
+        let e : length (map failed front) ≡ p = length-map front failed ∙ ends in
+        let z : p - p ≡ 0 = omega arith in
+        let n : p + 0 ≡ p = omega arith in
+        ap (λ (bs : List Bool). get_or bs p false) (map-append failed front (drop p (set now p y)))
+        ∙ get_or-append_right (map failed front) (map failed (drop p (set now p y))) p p false e (omega arith)
+        ∙ ap (λ (k : ℕ). get_or (map failed (drop p (set now p y))) k false) z
+        ∙ ap (λ (bs : List Bool). get_or bs 0 false) (sym (drop-map failed p (set now p y)))
+        ∙ get_or-drop p (map failed (set now p y)) 0 false
+        ∙ ap (λ (k : ℕ). get_or (map failed (set now p y)) k false) n
+        ∙ failed_here y
+
+    -- the first fault of the readers up to this place is told
+    pub step_told : (other fault : FrameFault) (after : Option (List ℕ)) (writer_failed : Bool)
+        → IsNext turns (map remaining old) (map remaining now) before mid room room_now count lists has p
+        → IsUnread other (sound x) (remaining x) (remaining y) (failed y) mid after ⊎ IsUnwritten other (remaining x) (remaining y) mid after room_now writer_failed
+        → IsToldFirst other fault (map remaining (take p (set now p y))) (map sound (take p (set now p y))) (map failed front)
+        → IsUnjoined turns fault (map remaining old) (map sound old) (map failed (front ++ drop p (set now p y))) before after room writer_failed
+    step_told Io fault after writer_failed next why first =
+        subst (λ (e : FrameFault). IsUnjoined turns e (map remaining old) (map sound old) (map failed all) before after room writer_failed) (sym first)
+        (step_fault_then Io y after writer_failed all failed_last next (λ no_io _. absurd (no_io refl)) why)
+    step_told NoMemory fault after writer_failed next why first =
+        subst (λ (e : FrameFault). IsUnjoined turns e (map remaining old) (map sound old) (map failed all) before after room writer_failed) (sym first)
+        (step_fault_then NoMemory y after writer_failed all failed_last next (λ _ no. absurd (no refl)) why)
+    step_told CutLength fault after writer_failed next why first = step_first CutLength fault y after writer_failed (λ e. cc) (λ e. cc) why front all ends failed_front first
+    step_told CutDatagram fault after writer_failed next why first = step_first CutDatagram fault y after writer_failed (λ e. cc) (λ e. cc) why front all ends failed_front first
+    step_told TooLong fault after writer_failed next why first = step_first TooLong fault y after writer_failed (λ e. cc) (λ e. cc) why front all ends failed_front first
+    step_told (NoSuchPlace n) fault after writer_failed next why first = step_first (NoSuchPlace n) fault y after writer_failed (λ e. cc) (λ e. cc) why front all ends failed_front first
+
+-- the first fault is told where the one that came is of bytes
+pub told_as : (other fault : FrameFault) (old : List (Option (List ℕ))) (sound failed : List Bool) → other ≢ Io → other ≢ NoMemory
+    → IsFirstFault other fault old sound failed → IsToldFirst other fault old sound failed
+told_as Io fault old sound failed no_io _ first = absurd (no_io refl)
+told_as NoMemory fault old sound failed _ other_than first = absurd (other_than refl)
+told_as CutLength fault old sound failed _ _ first = first
+told_as CutDatagram fault old sound failed _ _ first = first
+told_as TooLong fault old sound failed _ _ first = first
+told_as (NoSuchPlace n) fault old sound failed _ _ first = first
 
 -- a place is before another or not
 before_or_behind : (i n : ℕ) → (i < n) ⊎ (n ≤ i)
@@ -72,6 +158,12 @@ before_or_behind (suc i) (suc n) = elim (before_or_behind i n) [
 ]
 
 -- ---- one reader after the other
+
+-- the readers before this one have ended
+pub whole_first : (turns : Bool) (old new : List (Option (List ℕ))) (before now : Option (List ℕ)) (room room_now count : ℕ) (lists : List (List (List ℕ)))
+    → HasJoined turns old new before now room room_now count lists → (p : ℕ) → IsAtReader p new lists → (i : ℕ) → i < p → IsWhole (get_or old i None)
+whole_first turns old new before now room room_now count lists has p at i li =
+    whole_end (get_or old i None) (get_or new i None) (get_or lists i []) (has.consumed i) (has.each i) (at.before i li)
 
 module _ (new : List (Option (List ℕ))) (lists : List (List (List ℕ))) (p : ℕ) (at : IsAtReader p new lists) where
   pub whole_next : p < length lists → (d : List ℕ) → taken false (set lists p (get_or lists p [] ++ d ∷ [])) ≡ taken false lists ++ d ∷ []

@@ -1,12 +1,13 @@
 -- How frames are copied from readers to a writer.
-use Rattle.std.specs.Prelude.{◌≡◌, ◌≤◌, ◌<◌, ◌+◌, ℕ, suc, Bool, true, false, List, [], ◌∷◌, Option}
+use Rattle.std.specs.Prelude.{◌≡◌, ◌≤◌, ◌<◌, ◌+◌, ◌⊎◌, ℕ, suc, Bool, true, false, List, [], ◌∷◌, Option}
 use Rattle.std.specs.Prelude.{None, length, slice_index_or}
 use Rattle.std.specs.Io.KnownBytes.{Appends, Consumes, IsAtEnd}
 use Rattle.streams.specs.Pieces.{AppendsSome}
-use Rattle.session.specs.Frames.{frame, frames, most_bytes, AreShort, IsReadFault}
+use Rattle.session.specs.Frames.{frame, frames, most_bytes, AreShort, IsReadFault, IsSessionFault}
+use Rattle.session.specs.Joining.{IsWhole}
 use Rattle.session.specs.Turns.{taken}
 use Rattle.session.specs.declared.frame.FrameFault.{FrameFault}
-use Rattle.session.specs.declared.frame.FrameFault.TheVariants.{Io}
+use Rattle.session.specs.declared.frame.FrameFault.TheVariants.{Io, NoMemory}
 
 -- these bytes were written, which took no more than their room
 pub record IsWritten (before after : Option (List ℕ)) (room_before room_after : ℕ)
@@ -55,6 +56,24 @@ pub record IsUnwritten (fault : FrameFault) (old new before after : Option (List
   pub io : fault ≡ Io
   pub fails : writer_failed ≡ true
   pub full : room < length (frame datagram)
+
+-- Of readers that were read to their ends, the first fault, and where none has one this one of
+-- another.
+abbrev pub IsFirstFault : FrameFault → FrameFault → List (Option (List ℕ)) → List Bool → List Bool
+    → Type 0
+IsFirstFault other fault old sound failed =
+    ((fault ≡ other) × ((i : ℕ) → i < length old → IsWhole (slice_index_or old i None)))
+    ⊎ ((place : ℕ) × (place < length old)
+    × IsSessionFault fault (slice_index_or old place None) (slice_index_or failed place false)
+    × (fault ≡ Io → slice_index_or sound place false ≡ false)
+    × ((i : ℕ) → i < place → IsWhole (slice_index_or old i None)))
+
+-- the first fault where this one of another is of bytes, and else this one
+abbrev pub IsToldFirst : FrameFault → FrameFault → List (Option (List ℕ)) → List Bool → List Bool
+    → Type 0
+IsToldFirst Io fault old sound failed = fault ≡ Io
+IsToldFirst NoMemory fault old sound failed = fault ≡ NoMemory
+IsToldFirst other fault old sound failed = IsFirstFault other fault old sound failed
 
 -- these lists of datagrams were read of the readers, and their frames, joined, written
 pub record HasJoined (turns : Bool) (old new : List (Option (List ℕ)))

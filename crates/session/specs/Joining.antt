@@ -1,9 +1,9 @@
 -- Readers of frames that are joined in a writer.
-use Rattle.std.specs.Prelude.{◌≡◌, ◌<◌, ◌⊎◌, ℕ, Bool, true, false, List, [], Option, None, length}
-use Rattle.std.specs.Prelude.{slice_index_or}
+use Rattle.std.specs.Prelude.{◌≡◌, ◌≢◌, ◌<◌, ◌⊎◌, ℕ, Bool, true, false, List, [], Option, None}
+use Rattle.std.specs.Prelude.{length, slice_index_or, IfSome}
 use Rattle.std.specs.Io.KnownBytes.{Appends, IsAtEnd}
 use Rattle.streams.specs.Pieces.{AppendsSome}
-use Rattle.session.specs.Frames.{frames, HasRead, IsSessionFault}
+use Rattle.session.specs.Frames.{frames, HasRead, IsFramed, IsSessionFault}
 use Rattle.session.specs.Joined.{joined}
 use Rattle.session.specs.declared.frame.FrameFault.{FrameFault}
 use Rattle.session.specs.declared.frame.FrameFault.TheVariants.{Io, NoMemory}
@@ -20,7 +20,12 @@ pub record IsJoined (turns : Bool) (old new : List (Option (List ℕ)))
   pub written : Appends before after (frames (joined turns lists))
   pub counted : count ≡ length (joined turns lists)
 
--- one of the readers gives this fault, which is a failure only where it isn't sound
+-- all that a reader had left, where it is told, were frames
+abbrev pub IsWhole : Option (List ℕ) → Type 0
+IsWhole old = IfSome old (λ x. (datagrams : List (List ℕ)) × IsFramed datagrams x)
+
+-- One of the readers gives this fault, which is a failure only where it isn't sound. Where the
+-- fault is one of bytes, those before it have none.
 pub record BlamesReader (fault : FrameFault) (old : List (Option (List ℕ)))
     (sound failed : List Bool) : Type 0 where
   pub place : ℕ
@@ -28,6 +33,8 @@ pub record BlamesReader (fault : FrameFault) (old : List (Option (List ℕ)))
   pub because : IsSessionFault fault (slice_index_or old place None)
       (slice_index_or failed place false)
   pub unsound : fault ≡ Io → slice_index_or sound place false ≡ false
+  pub first : fault ≢ Io → fault ≢ NoMemory → (i : ℕ) → i < place
+      → IsWhole (slice_index_or old i None)
 
 -- Why not all was joined: a reader's fault, or the writer has failed, which has no room for what
 -- was read, or no memory. A beginning of the frames of what was read, joined, was written.

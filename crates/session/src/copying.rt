@@ -1,7 +1,9 @@
 //! Frames of several readers joined in one writer.
 ghost use Rattle.std.specs.Prelude.{◌≡◌, ◌<◌, ◌≤◌, ◌⊎◌, map, true, false, length, IfOk, IfErr};
-ghost use Rattle.session.specs.Copying.{IsStep, IsUnread, IsUnwritten};
-ghost use Rattle.session.specs.Joining.{IsJoined, IsUnjoined};
+ghost use Rattle.std.specs.Prelude.{OnOk};
+ghost use Rattle.session.specs.Copying.{IsStep, IsToldFirst, IsUnread, IsUnwritten};
+ghost use Rattle.session.specs.Frames.{IsSessionFault};
+ghost use Rattle.session.specs.Joining.{IsJoined, IsUnjoined, IsWhole};
 
 use crate::frame::{FrameFault, read_next, write_one};
 use std::alloc::Global;
@@ -30,6 +32,36 @@ fn copy_one<R: Read, W: Write>(
     };
     write_one(writer, datagram.as_slice())?;
     Ok(true)
+}
+
+// Reads all frames that a reader has left.
+fn read_on<R: Read>(alloc: Global, reader: &mut R) -> Result<(), FrameFault>
+    ensures whole { OnOk result (IsWhole (R.remaining reader.old)) }
+    ensures fault { IfErr result (λ e.
+        IsSessionFault e (R.remaining reader.old) (R.failed reader.new)) }
+    ensures unsound { IfErr result (λ e. e ≡ FrameFault.Io → R.sound reader.old ≡ false) }
+    ensures stays { R.sound reader.new ≡ R.sound reader.old }
+{
+    while let Some(_datagram) = read_next(alloc, reader)? {}
+    Ok(())
+}
+
+// The first fault of these readers, each of which is read to its end, or else this one of another
+// reader. Where that isn't one of bytes, it is the answer, and nothing is read.
+fn first_fault<R: Read>(alloc: Global, readers: &mut [R], other: FrameFault) -> FrameFault
+    ensures { IsToldFirst other result
+        (map R.remaining readers.old) (map R.sound readers.old) (map R.failed readers.new) }
+{
+    match other {
+        FrameFault::Io | FrameFault::NoMemory => return other,
+        _ => {}
+    }
+    for place in 0..readers.len() {
+        if let Err(fault) = read_on(alloc, &mut readers[place]) {
+            return fault;
+        }
+    }
+    other
 }
 
 // All of the first reader, then all of the second, and so on.
@@ -85,7 +117,12 @@ fn join_in_turns<R: Read, W: Write>(
             if ended[place] {
                 continue;
             }
-            if copy_one(alloc, &mut readers[place], writer)? {
+            let some = match copy_one(alloc, &mut readers[place], writer) {
+                Ok(some) => some,
+                // A reader before may have a fault behind what was read of it.
+                Err(fault) => return Err(first_fault(alloc, &mut readers[..place], fault)),
+            };
+            if some {
                 over = false;
                 let Some(next) = count.checked_add(1) else {
                     return Err(FrameFault::NoMemory);
@@ -107,8 +144,9 @@ fn join_in_turns<R: Read, W: Write>(
 /// so on; with `turns` one of each in turn, those that have ended being passed over and not read
 /// again. Answers how many there were.
 ///
-/// `CutLength`, `CutDatagram` and `TooLong` tell why a reader's bytes aren't frames, `Io` that a
-/// reader or the writer has failed. A beginning of the frames was written then.
+/// `CutLength`, `CutDatagram` and `TooLong` tell why a reader's bytes aren't frames: those of the
+/// first such reader, for which the readers before one that has a fault are read to their ends. `Io`
+/// tells that a reader or the writer has failed. A beginning of the frames was written then.
 pub fn join_frames<R: Read, W: Write>(
     alloc: Global,
     readers: &mut [R],

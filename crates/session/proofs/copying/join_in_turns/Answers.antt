@@ -1,11 +1,10 @@
 use Rattle.std.proofs.Common.{◌≡◌, ◌<◌, ◌+◌, ◌++◌, ◌∷◌, [], ℕ, true, false, List, length, map, get_or, set, replicate, sym, ◌∙◌, refl, arith, rules, subst}
 use Rattle.std.proofs.lemmas.List.{length-set, length-map, map-set, get_or_default}
-use Rattle.session.specs.Joining.{IsUnjoined}
 use Rattle.session.specs.Copying.{HasJoined, IsInRound}
 use Rattle.session.proofs.Copies.{all_joined, no_memory}
-use Rattle.session.proofs.Steps.{blank, start, told, step_copied, step_over, step_sound, step_fault, turn_next, turn_copied, turn_over, all_over, first_round, ended_more, in_lists, read_here}
+use Rattle.session.proofs.Steps.{blank, start, step_copied, step_over, step_sound, step_told, turn_next, turn_copied, turn_over, all_over, first_round, ended_more, in_lists, read_here}
 use Rattle.session.proofs.copying.join_in_turns.Goals as goal
-use Rattle.session.proofs.copying.join_in_turns.Goals.{then-branch+in-Some, else-branch}
+use Rattle.session.proofs.copying.join_in_turns.Goals.{then-some+in-Some, else-some}
 
 pub returns-in_default-clause-fault : goal.returns-in_default-clause-fault
 returns-in_default-clause-fault g c =
@@ -26,8 +25,8 @@ loop-round-init g c =
       flags = search rules;
     }
 
-pub returns-in_err-copy_one-clause-fault : goal.returns-in_err-copy_one-clause-fault
-returns-in_err-copy_one-clause-fault g c =
+pub returns-in-Err-clause-fault : goal.returns-in-Err-clause-fault
+returns-in-Err-clause-fault g c =
     let state = c.loop-place.invariant.joined in
     let old = c.args.readers.now in
     let now = c.loop-place.readers in
@@ -44,11 +43,8 @@ returns-in_err-copy_one-clause-fault g c =
     let going : get_or c.loop-place.ended.items p true ≡ false = get_or_default c.loop-place.ended.items p true false le ∙ sym read in
     let inside = in_lists g.R.Read.remaining g.R.Read.sound g.R.Read.failed true old now _ _ _ _ _ state.0 state.1 size sound p l x at in
     let next = turn_next c.loop-round._round p c.loop-place.ended.items (map g.R.Read.remaining now) state.0 state.2 going inside in
-    told c.from_residual.result c.in_err-copy_one.field-0.0
-    (λ e. IsUnjoined true e (map g.R.Read.remaining old) (map g.R.Read.sound old) (map g.R.Read.failed (set now p y)) (g.W.Write.contents c.args.writer.now) (g.W.Write.contents c.copy_one.new.writer) (g.W.Write.room c.args.writer.now) (g.W.Write.failed c.copy_one.new.writer))
-    c.from_residual.ensures.1
-    (step_fault g.R.Read.remaining g.R.Read.sound g.R.Read.failed true old now _ _ _ _ _ state.0 state.1 size sound p l x at
-    c.in_err-copy_one.field-0.0 y _ _ next c.in_err-copy_one.ensures.fault)
+    step_told g.R.Read.remaining g.R.Read.sound g.R.Read.failed true old now _ _ _ _ _ state.0 state.1 size sound p l x at
+    y c.first_fault.new.readers c.first_fault.auto.readers c.in-Err.fault c.first_fault.result _ _ next c.in-Err.ensures.fault c.first_fault.ensures
 
 pub returns-in_default-checked_add-clause-fault : goal.returns-in_default-checked_add-clause-fault
 returns-in_default-checked_add-clause-fault g c =
@@ -68,7 +64,7 @@ returns-in_default-checked_add-clause-fault g c =
     let going : get_or c.loop-place.ended.items p true ≡ false = get_or_default c.loop-place.ended.items p true false le ∙ sym read in
     let inside = in_lists g.R.Read.remaining g.R.Read.sound g.R.Read.failed true old now _ _ _ _ _ state.0 state.1 size sound p l x at in
     let next = turn_next c.loop-round._round p c.loop-place.ended.items (map g.R.Read.remaining now) state.0 state.2 going inside in
-    let one = rw c.if-branch.true at c.in_ok-copy_one.ensures.ok in
+    let one = rw c.if-some.true at c.in-Ok-copy_one.ensures.ok in
     no_memory true _ _ _ _ _ _ _ _ (step_copied g.R.Read.remaining g.R.Read.sound g.R.Read.failed true old now _ _ _ _ _ state.0 state.1 size sound p l x at y _ _ one next) _ _ _
 
 pub loop-place-preserved : goal.loop-place-preserved
@@ -92,9 +88,9 @@ loop-place-preserved g c =
     let same = length-set now p y in
     let many = length-map now g.R.Read.remaining in
     let sound_then = step_sound g.R.Read.remaining g.R.Read.sound g.R.Read.failed true old now _ _ _ _ _ state.0 state.1 size sound p l x at y c.copy_one.ensures.stays in
-    elim c.if-branch.branch [
-      | then-branch+in-Some w ↦
-          (let one = rw w.if-branch.true at c.in_ok-copy_one.ensures.ok in
+    elim c.if-some.branch [
+      | then-some+in-Some w ↦
+          (let one = rw w.if-some.true at c.in-Ok-copy_one.ensures.ok in
           let d : List ℕ = one.datagram in
           let lists = set state.0 p (get_or state.0 p [] ++ one.datagram ∷ []) in
           let more : w.in-Some.next ≡ c.loop-place.count + 1 = (let e = w.in-Some.ensures in omega (arith, e)) in
@@ -111,8 +107,8 @@ loop-place-preserved g c =
             flags = flags ∙ sym same;
             over = λ e. absurd (cc);
           }))
-      | else-branch w ↦
-          (let one = rw w.if-branch.false at c.in_ok-copy_one.ensures.ok in
+      | else-some w ↦
+          (let one = rw w.if-some.false at c.in-Ok-copy_one.ensures.ok in
           let has = step_over g.R.Read.remaining g.R.Read.sound g.R.Read.failed true old now _ _ _ _ _ state.0 state.1 size sound p l x at y _ _ one in
           rw (w.ended-is, w.count-is, w.over-is) (record {
             joined = (

@@ -3,7 +3,7 @@ use Rattle.std.proofs.lemmas.List.{length-set, length-map, map-set}
 use Rattle.session.specs.Joining.{IsUnjoined}
 use Rattle.session.specs.Copying.{HasJoined, IsAtReader}
 use Rattle.session.proofs.Copies.{all_joined, no_memory}
-use Rattle.session.proofs.Steps.{blank, is_blank, start, told, step_copied, step_over, step_sound, step_fault, whole_next, whole_copied, whole_over, whole_ends, fewer_left, one_over, in_lists, read_here}
+use Rattle.session.proofs.Steps.{blank, is_blank, start, told, step_copied, step_over, step_sound, step_fault, whole_next, whole_copied, whole_over, whole_ends, whole_first, fewer_left, one_over, in_lists, read_here}
 use Rattle.session.proofs.copying.join_whole.Goals as goal
 
 pub loop-place-init : goal.loop-place-init
@@ -37,7 +37,8 @@ returns-in_err-copy_one-clause-fault g c =
     (λ e. IsUnjoined false e (map g.R.Read.remaining old) (map g.R.Read.sound old) (map g.R.Read.failed (set now p y)) (g.W.Write.contents c.args.writer.now) (g.W.Write.contents c.copy_one.new.writer) (g.W.Write.room c.args.writer.now) (g.W.Write.failed c.copy_one.new.writer))
     c.from_residual.ensures.1
     (step_fault g.R.Read.remaining g.R.Read.sound g.R.Read.failed false old now _ _ _ _ _ state.0 state.1 size sound p l x at
-    c.in_err-copy_one.field-0.0 y _ _ (whole_next _ state.0 p state.2 inside) c.in_err-copy_one.ensures.fault)
+    c.in_err-copy_one.field-0.0 y _ _ (whole_next _ state.0 p state.2 inside)
+    (λ _ _. whole_first false _ _ _ _ _ _ _ state.0 state.1 p state.2) c.in_err-copy_one.ensures.fault)
 
 pub returns-in_default-clause-fault : goal.returns-in_default-clause-fault
 returns-in_default-clause-fault g c =
