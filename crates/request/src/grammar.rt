@@ -277,12 +277,12 @@ const OUTLINES: [Outline<'static>; 11] = [
             SESSION_TO_WRITE,
             Argument::Places {
                 name: "PLACE",
-                help: "A datagram to leave out, or N-M for all from N to M; counted from 0",
+                help: "The places of the datagrams to leave out, N or N-M, counted from 0",
             },
             Argument::FileOption {
                 name: "places",
                 value_name: "FILE",
-                help: "A file of such places, between white space, to leave out, too",
+                help: "The file that has places to leave out, too, as PLACE does",
             },
             NO_CLOBBER,
             QUIET,

@@ -55,12 +55,16 @@ Statuses: 0 yes, 1 no or a fault, 2 the command line is refused.
 
 Example: alcrs check bulletin.session bulletin.txt bulletin.rsc --tsi 7 --toi 1";
 
-pub(crate) const DROP: &str = "A place that is named twice counts once.
+pub(crate) const DROP: &str =
+    "PLACE is a place N, or a range N-M of places: N, M and all between them, 0 to 4294967295.
+FILE has PLACEs, too, between white space. It may be a pipe.
+A place that is named twice counts once. PLACE or FILE has to be there.
 The places come last: where OUT is left out, a file named like the first place is written.
 Prints `kept D datagrams`.
 Statuses: 0 done, 1 a fault, 2 the command line is refused.
 
-Example: alcrs drop note.session thin.session 0 1 2";
+Example: alcrs drop note.session thin.session 0-2
+Example: echo 0-2 5 | alcrs drop note.session thin.session --places -";
 
 pub(crate) const SALVAGE: &str =
     "Keeps the datagrams whose frames SESSION begins with: all of them, or those before the place

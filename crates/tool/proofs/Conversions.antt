@@ -12,7 +12,7 @@ use Rattle.tool.specs.Inputs.{ACertificate, AStream, Polynomials, Opened, HasVal
 use Rattle.tool.specs.Outcomes.{IsBecause}
 use Rattle.tool.specs.Converted.{IsUnconverted}
 use Rattle.tool.specs.declared.fault.Fault.{Fault}
-use Rattle.tool.specs.declared.fault.Fault.TheVariants.{Open, File, Memory, Frame, Certificate as NoCertificate, Fti as NoFti, Send}
+use Rattle.tool.specs.declared.fault.Fault.TheVariants.{Open, File, Memory, Frame, Certificate as NoCertificate, Fti as NoFti, Send, NoPlace}
 use Rattle.tool.specs.declared.output.Unwritten.{Unwritten}
 use Rattle.tool.specs.declared.output.Unwritten.TheVariants as unwritten
 use Rattle.tool.proofs.Stopping.{by_unread, by_refused}
@@ -56,6 +56,7 @@ module _ (old new : World) (r : ConvertRequest) (left : Option (List ℕ)) (soun
   for_fault (NoCertificate e) why = unconverted old new r left e why.0.0 input.bytes why.0.1 (λ io. input.fails (why.1 io))
   for_fault (NoFti e) why = absurd why
   for_fault (Send e) why = absurd why
+  for_fault (NoPlace n) why = absurd why
 
   pub because_unconverted : (w : Result ℕ Unwritten) → IfErr w (IsUnconverted r.identity left sound) → (f : Fault) → w ≡ Err (unwritten.Fault f) → IsBecause old new (Convert r) [] f
   because_unconverted w why f is = for_fault f (subst (λ (x : Result ℕ Unwritten). IfErr x (IsUnconverted r.identity left sound)) is why)

@@ -81,6 +81,7 @@ for_fault old new r (told_as.Frame e) why = absurd why
 for_fault old new r (told_as.Certificate e) why = absurd why
 for_fault old new r (told_as.Fti e) why = absurd why
 for_fault old new r (told_as.Send e) why = absurd why
+for_fault old new r (told_as.NoPlace n) why = absurd why
 
 pub because_unwritten : (old new : World) (r : DecodeRequest) (w : Result ℕ Unwritten) → IfErr w IsWriteBroken → (f : told.Fault) → w ≡ Err (unwritten.Fault f) → IsBecause old new (Decode r) [] f
 because_unwritten old new r w why f is = for_fault old new r f (subst (λ (x : Result ℕ Unwritten). IfErr x IsWriteBroken) is why)

@@ -33,7 +33,7 @@ use Rattle.tool.specs.Doing.{IsUndone}
 use Rattle.decoder.specs.declared.answer.DecodeFault.{DecodeFault}
 use Rattle.tool.specs.Listening.{AreSaid, IsFrameUnread, stopped_by, HasMadeUp, HasHeardAll, IsCutBehind, IsUnheard, IsUnsaid, IsObjectMade, IsDelivered, IsUndelivered, TellsAnswer, heard_of}
 use Rattle.tool.specs.declared.fault.Fault.{Fault}
-use Rattle.tool.specs.declared.fault.Fault.TheVariants.{Open, File, Memory, Frame, Certificate, Fti, Send}
+use Rattle.tool.specs.declared.fault.Fault.TheVariants.{Open, File, Memory, Frame, Certificate, Fti, Send, NoPlace}
 use Rattle.tool.specs.declared.fault.Stop.{Stop}
 use Rattle.tool.specs.declared.fault.Stop.TheVariants.{ByFault, Unprinted}
 use Rattle.tool.proofs.Stopping.{by_refused, by_unmade, unmade_before}
@@ -130,6 +130,7 @@ stopped_frame who opened old new left rest failed read taken lines true is print
 stopped_frame who opened old new left rest failed read taken lines true is printed (Certificate e) why = absurd why
 stopped_frame who opened old new left rest failed read taken lines true is printed (Fti e) why = absurd why
 stopped_frame who opened old new left rest failed read taken lines true is printed (Send e) why = absurd why
+stopped_frame who opened old new left rest failed read taken lines true is printed (NoPlace n) why = absurd why
 
 pub if_all : (result : Result ℕ Stop) (P Q : ℕ → Type 0) (said : Bool) → OnOk result (said ≡ true) → ((status : ℕ) → said ≡ true → P status → Q status) → IfOk result P → IfOk result Q
 if_all (Ok n) P Q said all f h = f n all h
@@ -167,6 +168,7 @@ module _ (old : World) (r : FollowRequest) (opened : Option (List ℕ)) (held : 
     unheard (ByFault (Certificate e)) why fails = absurd why
     unheard (ByFault (Fti e)) why fails = absurd why
     unheard (ByFault (Send e)) why fails = absurd why
+    unheard (ByFault (NoPlace n)) why fails = absurd why
     unheard Unprinted why fails = record { failed = why; done = inl (files.files, files.created) }
 
   -- ---- the object
@@ -295,6 +297,7 @@ module _ (old : World) (r : FollowRequest) (opened : Option (List ℕ)) (held : 
     is_unsaid new kept (ByFault (Certificate e)) why = absurd why
     is_unsaid new kept (ByFault (Fti e)) why = absurd why
     is_unsaid new kept (ByFault (Send e)) why = absurd why
+    is_unsaid new kept (ByFault (NoPlace n)) why = absurd why
     is_unsaid new kept Unprinted why = record { failed = why; done = inl (kept.files ∙ files.files, kept.created ∙ files.created) }
 
 -- ---- no datagrams

@@ -1,7 +1,8 @@
 -- Sessions of several files, joined; and one that is read frame by frame.
 use Rattle.std.proofs.Common.{◌≡◌, ◌≢◌, ◌⊎◌, ◌<◌, ◌+◌, ◌∙◌, ◌++◌, ◌∷◌, [], ℕ, zero, suc, Bool, List, Option, length, map, take, get_or, inl, inr, refl, sym, ap, arith, subst}
 use Rattle.std.specs.Prelude.{Some, None, Result, Err, IfSome, IfErr, ⊤}
-use Rattle.lists.specs.Selection.{first_outside}
+use Rattle.session.specs.Ranges.{first_unhad}
+use Rattle.session.specs.declared.range.PlaceRange.{PlaceRange}
 use Rattle.std.specs.Io.KnownBytes.{IsAtEnd}
 use Rattle.std.specs.Borrow.{Bor}
 use Rattle.std.proofs.lemmas.List.{append-nil, map-append, take_more}
@@ -11,18 +12,17 @@ use Rattle.session.specs.Thinning.{IsUnthinned}
 use Rattle.session.specs.declared.frame.FrameFault.{FrameFault}
 use Rattle.session.specs.declared.frame.FrameFault.TheVariants.{CutLength, CutDatagram, TooLong, Io, NoMemory, NoSuchPlace}
 use Rattle.tool.specs.declared.fault.Fault.{Fault}
-use Rattle.tool.specs.declared.fault.Fault.TheVariants.{Open, File, Memory, Frame, Certificate, Fti, Send}
+use Rattle.tool.specs.declared.fault.Fault.TheVariants.{Open, File, Memory, Frame, Certificate, Fti, Send, NoPlace}
 use Rattle.host.specs.World.{Files, World, Holds}
 use Rattle.tool.specs.Inputs.{Input, ASession, AStream, Datagrams, Opened, HasValue, HaveValues, AreThere, IsUnopened, IsUnread, IsFirstUnopened, IsSomeUnread}
-use Rattle.request.specs.declared.requests.DropRequest.{DropRequest}
 use Rattle.request.specs.declared.requests.JoinRequest.{JoinRequest}
-use Rattle.request.specs.declared.requests.Request.TheVariants.{Drop, Join}
+use Rattle.request.specs.declared.requests.Request.TheVariants.{Join}
 use Rattle.tool.specs.Opening.{AreOpen}
 use Rattle.tool.specs.Copying.{IsCutShort}
 use Rattle.tool.specs.Outcomes.{IsBecause}
 use Rattle.tool.specs.declared.output.Unwritten.{Unwritten}
 use Rattle.tool.specs.declared.output.Unwritten.TheVariants as unwritten
-use Rattle.tool.proofs.Stopping.{by_unread, by_refused}
+use Rattle.tool.proofs.Stopping.{by_unread}
 
 abbrev pub sessions : List (Bor (List ℕ)) → List Input
 sessions names = map (λ name. ASession name.now) names
@@ -141,53 +141,26 @@ stopped_at : (fault : FrameFault) (opened left : Option (List ℕ)) (ds : List (
 stopped_at fault None left ds read none = tt
 stopped_at fault (Some x) left ds read none = stops fault x ds left read none
 
-abbrev pub HasNoPlace : Option Files → List ℕ → List ℕ → FrameFault → Type 0
-HasNoPlace files name places (NoSuchPlace place) =
-    (datagrams : List (List ℕ)) × HasValue files (ASession name) (Datagrams datagrams) × (first_outside (length datagrams) places ≡ Some place)
-HasNoPlace files name places fault = ⊥
+abbrev pub LacksPlace : Option Files → List ℕ → List PlaceRange → FrameFault → Type 0
+LacksPlace files name ranges (NoSuchPlace place) =
+    (datagrams : List (List ℕ)) × HasValue files (ASession name) (Datagrams datagrams) × (first_unhad (length datagrams) ranges ≡ Some place)
+LacksPlace files name ranges fault = ⊥
 
-pub unthinned : (w : World) (name : List ℕ) (opened : Option (List ℕ)) (fault : FrameFault) (places : List ℕ) (sound : Bool) (new : Option (List ℕ)) (failed : Bool) (room : ℕ)
-    (writer_failed : Bool) → HasValue w.files (AStream name) (Opened opened) → fault ≢ Io → fault ≢ NoMemory → IsUnthinned fault places sound opened new failed room writer_failed
-    → IsUnread w (ASession name) (Frame fault) ⊎ HasNoPlace w.files name places fault
-unthinned w name opened Io places sound new failed room writer_failed opens io memory why = absurd (io refl)
-unthinned w name opened NoMemory places sound new failed room writer_failed opens io memory why = absurd (memory refl)
-unthinned w name opened (NoSuchPlace p) places sound new failed room writer_failed opens io memory (ends, ds, read, outside) =
+pub unthinned : (w : World) (name : List ℕ) (opened : Option (List ℕ)) (fault : FrameFault) (ranges : List PlaceRange) (sound : Bool) (new : Option (List ℕ)) (failed : Bool) (room : ℕ)
+    (writer_failed : Bool) → HasValue w.files (AStream name) (Opened opened) → fault ≢ Io → fault ≢ NoMemory → IsUnthinned fault ranges sound opened new failed room writer_failed
+    → IsUnread w (ASession name) (Frame fault) ⊎ LacksPlace w.files name ranges fault
+unthinned w name opened Io ranges sound new failed room writer_failed opens io memory why = absurd (io refl)
+unthinned w name opened NoMemory ranges sound new failed room writer_failed opens io memory why = absurd (memory refl)
+unthinned w name opened (NoSuchPlace p) ranges sound new failed room writer_failed opens io memory (ends, ds, read, outside) =
     inr (ds, holds_session w.files name opened new ds opens read ends, outside)
-unthinned w name opened CutLength places sound new failed room writer_failed opens io memory (ds, left, read, none) =
+unthinned w name opened CutLength ranges sound new failed room writer_failed opens io memory (ds, left, read, none) =
     inl (stops_at w.files name opened CutLength opens (stopped_at CutLength opened left ds read none.0))
-unthinned w name opened CutDatagram places sound new failed room writer_failed opens io memory (ds, left, read, none) =
+unthinned w name opened CutDatagram ranges sound new failed room writer_failed opens io memory (ds, left, read, none) =
     inl (stops_at w.files name opened CutDatagram opens (stopped_at CutDatagram opened left ds read none.0))
-unthinned w name opened TooLong places sound new failed room writer_failed opens io memory (ds, left, read, none) =
+unthinned w name opened TooLong ranges sound new failed room writer_failed opens io memory (ds, left, read, none) =
     inl (stops_at w.files name opened TooLong opens (stopped_at TooLong opened left ds read none.0))
 
 -- ---- the commands
-
-module _ (old new : World) (r : DropRequest) (opened : Option (List ℕ)) (held : HasValue old.files (AStream r.session.now) (Opened opened)) where
-  no_place : (fault : FrameFault) → HasNoPlace old.files r.session.now r.places.items fault → IsBecause old new (Drop r) [] (Frame fault)
-  no_place (NoSuchPlace p) why = by_refused old new (Drop r) [] (Frame (NoSuchPlace p)) why
-  no_place CutLength why = absurd why
-  no_place CutDatagram why = absurd why
-  no_place TooLong why = absurd why
-  no_place Io why = absurd why
-  no_place NoMemory why = absurd why
-
-  module _ (sound : Bool) (rest : Option (List ℕ)) (failed : Bool) (room : ℕ) (writer_failed : Bool) where
-    thin_fault : (f : Fault) → IsCutShort (λ e. IsUnthinned e r.places.items sound opened rest failed room writer_failed) (unwritten.Fault f) → IsBecause old new (Drop r) [] f
-    thin_fault (Open n) why = absurd why
-    thin_fault (File n) why = absurd why
-    thin_fault Memory why = tt
-    thin_fault (Frame e) why = elim (unthinned old r.session.now opened e r.places.items sound rest failed room writer_failed held why.0 why.1 why.2) [
-      | inl unread ↦ by_unread old new (Drop r) [] (Frame e) (inl unread)
-      | inr outside ↦ no_place e outside
-    ]
-    thin_fault (Certificate e) why = absurd why
-    thin_fault (Fti e) why = absurd why
-    thin_fault (Send e) why = absurd why
-
-    pub because_unthinned : (w : Result ℕ Unwritten) → IfErr w (IsCutShort (λ e. IsUnthinned e r.places.items sound opened rest failed room writer_failed))
-        → (f : Fault) → w ≡ Err (unwritten.Fault f) → IsBecause old new (Drop r) [] f
-    because_unthinned w why f is =
-        thin_fault f (subst (λ (x : Result ℕ Unwritten). IfErr x (IsCutShort (λ e. IsUnthinned e r.places.items sound opened rest failed room writer_failed))) is why)
 
 module _ (old new : World) (r : JoinRequest) (opened : List (Option (List ℕ))) (are : AreOpen old.files (texts r.sessions.items) opened) (turns : Bool) (sound failed : List Bool)
     (before after : Option (List ℕ)) (room : ℕ) (writer_failed : Bool) where
@@ -204,6 +177,7 @@ module _ (old new : World) (r : JoinRequest) (opened : List (Option (List ℕ)))
   join_fault (Certificate e) why = absurd why
   join_fault (Fti e) why = absurd why
   join_fault (Send e) why = absurd why
+  join_fault (NoPlace n) why = absurd why
 
   pub because_unjoined : (w : Result ℕ Unwritten) → IfErr w (IsCutShort (λ e. IsUnjoined turns e opened sound failed before after room writer_failed))
       → (f : Fault) → w ≡ Err (unwritten.Fault f) → IsBecause old new (Join r) [] f

@@ -8,6 +8,7 @@ mod Making
 mod Joins
 mod Conversions
 mod Decoded
+mod Dropped
 mod Followed
 mod Delivered
 mod Salvaged

@@ -17,7 +17,7 @@ use Rattle.tool.specs.Commands.{IsSalvaged}
 use Rattle.tool.specs.Outcomes.{IsBecause}
 use Rattle.tool.specs.Salvaging.{HasCopied, HasSalvaged, IsBroken, IsUncopied}
 use Rattle.tool.specs.declared.fault.Fault.{Fault}
-use Rattle.tool.specs.declared.fault.Fault.TheVariants.{Open, File, Memory, Frame, Certificate, Fti, Send}
+use Rattle.tool.specs.declared.fault.Fault.TheVariants.{Open, File, Memory, Frame, Certificate, Fti, Send, NoPlace}
 use Rattle.tool.specs.declared.output.Unwritten.{Unwritten}
 use Rattle.tool.specs.declared.output.Unwritten.TheVariants as unwritten
 use Rattle.tool.proofs.Followed.{nothing_consumed}
@@ -120,6 +120,7 @@ module _ (old new : World) (r : SalvageRequest) (name : List ℕ) (opened : Opti
   because (Certificate e) why = absurd why
   because (Fti e) why = absurd why
   because (Send e) why = absurd why
+  because (NoPlace n) why = absurd why
 
   pub because_uncopied : (w : Result ℕ Unwritten) → IfErr w (IsUncopied sound failed) → (f : Fault)
       → w ≡ Err (unwritten.Fault f) → IsBecause old new (Salvage r) [] f

@@ -20,7 +20,7 @@ use Rattle.tool.specs.Outcomes.{IsDone, IsBecause, IsStopped}
 use Rattle.tool.specs.Doing.{IsUndone}
 use Rattle.tool.specs.Showing.{Shows, ShowsAll, IsCutBehind, IsUnshown}
 use Rattle.tool.specs.declared.fault.Fault.{Fault}
-use Rattle.tool.specs.declared.fault.Fault.TheVariants.{Open, File, Memory, Frame, Certificate, Fti, Send}
+use Rattle.tool.specs.declared.fault.Fault.TheVariants.{Open, File, Memory, Frame, Certificate, Fti, Send, NoPlace}
 use Rattle.tool.specs.declared.fault.Stop.{Stop}
 use Rattle.tool.specs.declared.fault.Stop.TheVariants.{ByFault, Unprinted}
 use Rattle.tool.proofs.Joins.{holds_session}
@@ -102,6 +102,7 @@ module _ (old : World) (r : ShowRequest) (opened : Option (List ℕ)) (held : Ha
   unshown (ByFault (Certificate e)) why fails = absurd why
   unshown (ByFault (Fti e)) why fails = absurd why
   unshown (ByFault (Send e)) why fails = absurd why
+  unshown (ByFault (NoPlace n)) why fails = absurd why
   unshown Unprinted why fails = record { failed = why; done = inl (files.files, files.created) }
 
   pub is_unshown : (result : Result ℕ Stop) (sound : Bool) → IfErr result (IsUnshown opened old new)

@@ -11,7 +11,7 @@ use Rattle.tool.specs.Commands.{output_of, Refuses}
 use Rattle.tool.specs.Outcomes.{IsUnmade, IsUnhad, IsBecause, BeginsText, MayCreate}
 use Rattle.tool.specs.Doing.{HasStopped, IsUncreated, IsUncommitted, IsUndone, IsUnkept}
 use Rattle.tool.specs.declared.fault.Fault.{Fault}
-use Rattle.tool.specs.declared.fault.Fault.TheVariants.{Open, File, Memory, Frame, Certificate, Fti, Send}
+use Rattle.tool.specs.declared.fault.Fault.TheVariants.{Open, File, Memory, Frame, Certificate, Fti, Send, NoPlace}
 use Rattle.tool.specs.declared.fault.Stop.TheVariants.{ByFault}
 use Rattle.tool.specs.declared.output.Unwritten.{Unwritten}
 use Rattle.tool.specs.declared.output.Unwritten.TheVariants as unwritten
@@ -39,6 +39,7 @@ module _ (old new : World) (r : Request) (text : List ℕ) where
   because (Certificate e) h = h
   because (Fti e) h = h
   because (Send e) h = h
+  because (NoPlace n) h = h
 
   pub by_unread : (fault : Fault) → IsUnhad old r fault → IsBecause old new r text fault
   by_unread fault h = because fault (inl h)
@@ -77,6 +78,7 @@ module _ (old mid : World) (r : Request) (output : Output) (is : output_of r ≡
       reason (Certificate e) why = absurd why
       reason (Fti e) why = absurd why
       reason (Send e) why = absurd why
+      reason (NoPlace n) why = absurd why
 
   module _ (new : World) (created : mid.created ≡ one_more old.created) (may : MayCreate old.files r) (files_then : new.files ≡ mid.files) (silent_then : IsSilent mid new)
       (created_then : new.created ≡ mid.created) where
@@ -159,6 +161,7 @@ unmade_before old mid new r files (Frame e) (may, is, created) = (may_fail_befor
 unmade_before old mid new r files (Certificate e) (may, is, created) = (may_fail_before old mid files may, is, created ∙ ap one_more files.created)
 unmade_before old mid new r files (Fti e) (may, is, created) = (may_fail_before old mid files may, is, created ∙ ap one_more files.created)
 unmade_before old mid new r files (Send e) (may, is, created) = (may_fail_before old mid files may, is, created ∙ ap one_more files.created)
+unmade_before old mid new r files (NoPlace n) (may, is, created) = (may_fail_before old mid files may, is, created ∙ ap one_more files.created)
 
 -- nothing was printed, and the fault is to be told
 pub undone : (old new : World) (r : Request) (fault : Fault) → HasStopped old new r fault → IsUndone old new r (ByFault fault)

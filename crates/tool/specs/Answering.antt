@@ -6,7 +6,7 @@ use Rattle.request.specs.Grammar.{IsOrders}
 use Rattle.request.specs.Requests.{Answers}
 use Rattle.request.specs.declared.requests.CommandLine.{CommandLine}
 use Rattle.request.specs.declared.usage.Usage.{Usage}
-use Rattle.request.specs.declared.usage.Usage.TheVariants.{Help, Line, NoMemory}
+use Rattle.request.specs.declared.usage.Usage.TheVariants.{Help, Line, Places, NoMemory}
 use Rattle.host.specs.World.{World, KeepsFiles}
 use Rattle.tool.specs.Outcomes.{IsRun}
 
@@ -32,18 +32,23 @@ abbrev pub IsRefusedMemory : World → World → ℕ → Type 0
 IsRefusedMemory old new status =
     (status ≡ 1) × ((new.failed ≡ true) ⊎ Appends old.printed new.printed (codes "fault memory\n"))
 
+-- of a refused line a text goes to the output for errors, with 2, whether that has failed or not
+abbrev pub IsToldRefused : World → World → Errors → ℕ → Type 0
+IsToldRefused old new errors status =
+    ((status ≡ 2) × (new.printed ≡ old.printed)
+    × ((errors.failed ≡ true) ⊎ AppendsText errors.before errors.after))
+    ⊎ (HasNoErrors errors × IsRefusedMemory old new status)
+
 -- What is told of a line that makes no request, and the status: help or the version is printed,
--- with 0, or 1 where that has failed; of a refused line a text goes to the output for errors, with
--- 2, whether that has failed or not; or there is no memory. No file changes, and none is created.
+-- with 0, or 1 where that has failed; of a refused line it is told why; or there is no memory. No
+-- file changes, and none is created.
 abbrev pub IsExplained : Usage → World → World → Errors → ℕ → Type 0
 IsExplained (Help error) old new errors status =
     HasNoErrors errors
     × (((status ≡ 0) × AppendsText old.printed new.printed) ⊎ ((status ≡ 1) × (new.failed ≡ true))
     ⊎ IsRefusedMemory old new status)
-IsExplained (Line error) old new errors status =
-    ((status ≡ 2) × (new.printed ≡ old.printed)
-    × ((errors.failed ≡ true) ⊎ AppendsText errors.before errors.after))
-    ⊎ (HasNoErrors errors × IsRefusedMemory old new status)
+IsExplained (Line error) old new errors status = IsToldRefused old new errors status
+IsExplained (Places refusal) old new errors status = IsToldRefused old new errors status
 IsExplained NoMemory old new errors status = HasNoErrors errors × IsRefusedMemory old new status
 
 abbrev pub Explains : Usage → World → World → Errors → ℕ → Type 0

@@ -2,11 +2,13 @@
 use Rattle.std.specs.Prelude.{◌≡◌, ◌⊎◌, ◌<◌, ℕ, Bool, true, List, [], ◌∷◌, ◌++◌, Option, Some, None}
 use Rattle.std.specs.Prelude.{IsSome, IfSome, length, map, option_map, codes, Ok, Err}
 use Rattle.std.specs.Borrow.{Bor}
-use Rattle.lists.specs.Selection.{rest, is_among, first_outside}
+use Rattle.lists.specs.Selection.{rest}
 use Rattle.partition.specs.Fti.{Fti, IsValidFti, fti_from, block_count}
 use Rattle.partition.specs.FtiFault.{fti_fault}
 use Rattle.session.specs.Frames.{frames, HasRead, IsFramed, IsReadFault, StopsAt}
 use Rattle.session.specs.Joined.{joined}
+use Rattle.session.specs.Ranges.{is_in_some, first_unhad}
+use Rattle.session.specs.declared.range.PlaceRange.{PlaceRange}
 use Rattle.session.specs.declared.frame.FrameFault.{FrameFault}
 use Rattle.session.specs.declared.frame.FrameFault.TheVariants.{Io as FrameIo, NoSuchPlace}
 use Rattle.alc.specs.Reading.{Reading}
@@ -38,8 +40,8 @@ use Rattle.request.specs.declared.requests.Request.TheVariants.{Check, Twin, Sho
 use Rattle.request.specs.declared.requests.Request.TheVariants.{Convert, Decode, Follow, Drop}
 use Rattle.request.specs.declared.requests.Request.TheVariants.{Salvage, Join}
 use Rattle.host.specs.World.{World, Holds, MayFail}
-use Rattle.tool.specs.Inputs.{Input, AnObject, ASession, ACertificate, AStream, Value, Bytes}
-use Rattle.tool.specs.Inputs.{Datagrams, Polynomials, Opened, HasValue, HaveValues}
+use Rattle.tool.specs.Inputs.{Input, AnObject, ASession, ACertificate, AStream, APlaces, Value}
+use Rattle.tool.specs.Inputs.{Bytes, Datagrams, Polynomials, Opened, Places, HasValue, HaveValues}
 use Rattle.tool.specs.Lines.{line_of, count_line, short_text, numbered, verdict_text, answer_text}
 use Rattle.tool.specs.Lines.{reading_text}
 use Rattle.tool.specs.Summary.{IsSummary}
@@ -47,6 +49,11 @@ use Rattle.tool.specs.Following.{IsHeard, Ends, ends_text}
 use Rattle.tool.specs.declared.fault.Fault.{Fault}
 use Rattle.tool.specs.declared.fault.Fault.TheVariants.{File, Frame, Certificate as NoCertificate}
 use Rattle.tool.specs.declared.fault.Fault.TheVariants.{Fti as NoFti, Send}
+
+-- the file of places, where one is named
+abbrev pub place_inputs : Option (Bor (List ℕ)) → List Input
+place_inputs None = []
+place_inputs (Some name) = APlaces name.now ∷ []
 
 -- what a request reads, in order
 abbrev pub inputs_of : Request → List Input
@@ -60,7 +67,7 @@ inputs_of (Certify r) = AnObject r.object.now ∷ []
 inputs_of (Convert r) = ACertificate r.certificate.now ∷ []
 inputs_of (Decode r) = ASession r.session.now ∷ []
 inputs_of (Follow r) = AStream r.session.now ∷ []
-inputs_of (Drop r) = ASession r.session.now ∷ []
+inputs_of (Drop r) = place_inputs r.places_file ++ ASession r.session.now ∷ []
 inputs_of (Salvage r) = AStream r.session.now ∷ []
 inputs_of (Join r) = map (λ session. ASession session.now) r.sessions.items
 
@@ -164,6 +171,11 @@ GivesDatagrams name datagrams outcome =
     IsOutcome (count_line name (length datagrams) (codes " datagrams")) 0
     (Some (frames datagrams)) outcome
 
+-- the datagrams at all other places, where there are such places
+abbrev pub GivesOthers : List PlaceRange → List (List ℕ) → Outcome → Type 0
+GivesOthers ranges datagrams outcome = (first_unhad (length datagrams) ranges ≡ None)
+    × GivesDatagrams (codes "kept") (rest (is_in_some ranges) datagrams) outcome
+
 -- The datagrams of the frames that these bytes begin with, all of them: the bytes end there, and
 -- the status is 0; or no frame follows, and it is 1.
 abbrev pub IsSalvaged : List (List ℕ) → ℕ → List ℕ → Type 0
@@ -215,8 +227,9 @@ Gives (Follow r) (Opened opened ∷ []) outcome =
     × Ends answer left
     × IsOutcome (lines ++ ends_text answer read) (answer_status answer) (object_of answer) outcome
 Gives (Drop r) (Datagrams datagrams ∷ []) outcome =
-    (first_outside (length datagrams) r.places.items ≡ None)
-    × GivesDatagrams (codes "kept") (rest (is_among r.places.items) datagrams) outcome
+    GivesOthers r.places.items datagrams outcome
+Gives (Drop r) (Places more ∷ Datagrams datagrams ∷ []) outcome =
+    GivesOthers (r.places.items ++ more) datagrams outcome
 Gives (Salvage r) (Opened opened ∷ []) outcome =
     (datagrams : List (List ℕ)) × (status : ℕ) × IfSome opened (IsSalvaged datagrams status)
     × IsOutcome (count_line (codes "kept") (length datagrams) (codes " datagrams")) status
@@ -225,6 +238,14 @@ Gives (Join r) values outcome =
     (lists : List (List (List ℕ))) × (values ≡ map Datagrams lists)
     × GivesDatagrams (codes "joined") (joined r.turns lists) outcome
 Gives r values outcome = ⊥
+
+-- the first place to leave out that the datagrams don't have
+abbrev pub IsUnhadPlace : List PlaceRange → List Value → ℕ → Type 0
+IsUnhadPlace ranges (Datagrams datagrams ∷ []) place =
+    first_unhad (length datagrams) ranges ≡ Some place
+IsUnhadPlace ranges (Places more ∷ Datagrams datagrams ∷ []) place =
+    first_unhad (length datagrams) (ranges ++ more) ≡ Some place
+IsUnhadPlace ranges values place = ⊥
 
 -- Why nothing does, though the inputs are there, and what was printed before: a frame can't be read
 -- behind others; an object's length makes no FTI, or its symbols are too long; a certificate is
@@ -259,8 +280,7 @@ Refuses world (Certify r) text (NoFti fault) =
 Refuses world (Convert r) text (NoCertificate OtherIdentity) =
     Holds world.files r.certificate.now (IsOfOther r.identity)
 Refuses world (Drop r) text (Frame (NoSuchPlace place)) =
-    (datagrams : List (List ℕ))
-    × HasValue world.files (ASession r.session.now) (Datagrams datagrams)
-    × (first_outside (length datagrams) r.places.items ≡ Some place)
+    (values : List Value) × HaveValues world.files (inputs_of (Drop r)) values
+    × IsUnhadPlace r.places.items values place
 Refuses world (Salvage r) text (Frame FrameIo) = MayFail world
 Refuses world r text fault = ⊥

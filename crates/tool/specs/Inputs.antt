@@ -8,29 +8,35 @@ use Rattle.cert.specs.Certificate.{Certificate, IsCertificate, certificate_text,
 use Rattle.cert.specs.declared.certificate.CertFault.TheVariants.{Io as CertificateIo}
 use Rattle.cert.specs.declared.certificate.CertFault.TheVariants.{NoMemory as NoCertificateMemory}
 use Rattle.cert.specs.declared.certificate.CertFault.TheVariants.{OtherIdentity}
+use Rattle.session.specs.declared.range.PlaceRange.{PlaceRange}
+use Rattle.request.specs.Places.{AreRanges, IsFirstWrong, words_of}
 use Rattle.host.specs.World.{Files, World, Holds, MayFail}
 use Rattle.tool.specs.declared.fault.Fault.{Fault}
-use Rattle.tool.specs.declared.fault.Fault.TheVariants.{Open, File, Memory, Frame}
+use Rattle.tool.specs.declared.fault.Fault.TheVariants.{Open, File, Memory, Frame, NoPlace}
 use Rattle.tool.specs.declared.fault.Fault.TheVariants.{Certificate as NoCertificate}
 
--- a named file, and what it is read as: a stream is a session that is read frame by frame
+-- a named file, and what it is read as: a stream is a session that is read frame by frame, places
+-- are words of a text
 pub data Input : Type 0 where
   AnObject : List ℕ → Input
   ASession : List ℕ → Input
   ACertificate : List ℕ → Input
   AStream : List ℕ → Input
+  APlaces : List ℕ → Input
 
 pub data Value : Type 0 where
   Bytes : List ℕ → Value
   Datagrams : List (List ℕ) → Value
   Polynomials : Certificate → Value
   Opened : Option (List ℕ) → Value
+  Places : List PlaceRange → Value
 
 abbrev pub name_of : Input → List ℕ
 name_of (AnObject name) = name
 name_of (ASession name) = name
 name_of (ACertificate name) = name
 name_of (AStream name) = name
+name_of (APlaces name) = name
 
 -- the file gives this value; a stream its bytes, from the first on
 abbrev pub HasValue : Option Files → Input → Value → Type 0
@@ -40,6 +46,8 @@ HasValue files (ACertificate name) (Polynomials z) =
     IsCertificate z × Holds files name (λ bytes. bytes ≡ certificate_text z)
 HasValue files (AStream name) (Opened remaining) =
     Holds files name (λ bytes. remaining ≡ Some bytes)
+HasValue files (APlaces name) (Places ranges) =
+    Holds files name (λ bytes. AreRanges (words_of bytes) ranges)
 HasValue files input value = ⊥
 
 -- each gives its own
@@ -74,6 +82,9 @@ IsUnread world (ACertificate name) (NoCertificate NoCertificateMemory) = ⊤
 IsUnread world (ACertificate name) (NoCertificate OtherIdentity) = ⊥
 IsUnread world (ACertificate name) (NoCertificate fault) =
     Holds world.files name (λ bytes. text_fault bytes ≡ Some fault)
+IsUnread world (APlaces name) (File read) = (read.now ≡ name) × (MayFail world)
+IsUnread world (APlaces name) (NoPlace count) =
+    Holds world.files name (λ bytes. (word : List ℕ) × IsFirstWrong (words_of bytes) count word)
 IsUnread world input fault = IsUnopened world (name_of input) fault
 
 -- one doesn't open, and those before it are there

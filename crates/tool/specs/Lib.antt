@@ -4,6 +4,7 @@ pub mod Checks
 pub mod Commands
 pub mod Converted
 pub mod Copying
+pub mod Dropping
 pub mod Decoding
 pub mod Doing
 pub mod Drawing

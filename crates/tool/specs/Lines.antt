@@ -24,7 +24,7 @@ use Rattle.host.specs.World.{World, KeepsFiles}
 use Rattle.tool.specs.Words.{fti_words, packet_words, frame_words, certificate_words, send_words}
 use Rattle.tool.specs.declared.fault.Fault.{Fault}
 use Rattle.tool.specs.declared.fault.Fault.TheVariants.{Open, File, Memory, Frame, Certificate, Fti}
-use Rattle.tool.specs.declared.fault.Fault.TheVariants.{Send}
+use Rattle.tool.specs.declared.fault.Fault.TheVariants.{Send, NoPlace}
 
 -- a line as it is printed, with its line feed
 abbrev pub line_of : List ℕ → List ℕ
@@ -59,6 +59,7 @@ fault_text (Frame fault) = frame_words fault
 fault_text (Certificate fault) = certificate_words fault
 fault_text (Fti fault) = fti_words fault
 fault_text (Send fault) = send_words fault
+fault_text (NoPlace word) = named (codes "L1 NoPlace word") (decimal word)
 
 -- the line of the fault was printed, or that there was no memory for it; unless printing has failed
 pub record TellsFault (fault : Fault) (old new : World) : Type 0 where

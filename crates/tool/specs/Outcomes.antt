@@ -6,14 +6,14 @@ use Rattle.decoder.specs.Receiving.{LeaveNoneShort}
 use Rattle.request.specs.declared.requests.Output.{Output}
 use Rattle.request.specs.declared.requests.Request.{Request}
 use Rattle.request.specs.declared.requests.Request.TheVariants.{Check, Twin, Show, Decode, Follow}
-use Rattle.request.specs.declared.requests.Request.TheVariants.{Join}
-use Rattle.host.specs.World.{Files, World, IsFree, IsToStay, MayFail, Replaces, one_more}
+use Rattle.request.specs.declared.requests.Request.TheVariants.{Drop, Join}
+use Rattle.host.specs.World.{Files, World, Holds, IsFree, IsToStay, MayFail, Replaces, one_more}
 use Rattle.tool.specs.Inputs.{AStream, Value, Opened, HasValue, HaveValues, AreThere, IsUnopened}
 use Rattle.tool.specs.Inputs.{IsFirstUnopened, IsFirstUnread, IsSomeUnread}
 use Rattle.tool.specs.Lines.{numbered, reading_text, TellsFault}
 use Rattle.tool.specs.Following.{IsHeard, IsHeardInPart}
-use Rattle.tool.specs.Commands.{inputs_of, output_of, IsWriteFault, Outcome, AreReadAs, Gives}
-use Rattle.tool.specs.Commands.{Refuses}
+use Rattle.tool.specs.Commands.{inputs_of, place_inputs, output_of, IsWriteFault, Outcome}
+use Rattle.tool.specs.Commands.{AreReadAs, Gives, Refuses}
 use Rattle.tool.specs.declared.fault.Fault.{Fault}
 use Rattle.tool.specs.declared.fault.Fault.TheVariants.{Open, Memory}
 
@@ -44,16 +44,22 @@ pub record IsDone (old new : World) (r : Request) (status : ℕ) : Type 0 where
 
 -- The first input that can't be had, in their order. A session that is shown is only opened: what
 -- can't be read of it is told behind the lines of what was (`Refuses`). Sessions that are joined
--- are opened before one is read, and any of them may give no datagrams then.
+-- are opened before one is read, and any of them may give no datagrams then. A session whose
+-- datagrams are dropped is opened before the file of places is read, and read behind it.
 abbrev pub IsUnhad : World → Request → Fault → Type 0
 IsUnhad world (Join r) fault =
     IsFirstUnopened world (inputs_of (Join r)) fault
     ⊎ (AreThere world.files (inputs_of (Join r)) × IsSomeUnread world (inputs_of (Join r)) fault)
+IsUnhad world (Drop r) fault =
+    IsUnopened world r.session.now fault
+    ⊎ (Holds world.files r.session.now (λ bytes. ⊤)
+    × IsFirstUnread world (inputs_of (Drop r)) fault)
 IsUnhad world (Show r) fault = IsUnopened world r.session.now fault
 IsUnhad world r fault = IsFirstUnread world (inputs_of r) fault
 
 -- Whether an output may be created before a fault: of an object that datagrams give, once they do;
--- of a picture, where the answer is yes; else once all inputs are there.
+-- of a picture, where the answer is yes; of a session without some places, once it is there and the
+-- file of places is read; else once all inputs are there.
 abbrev pub GivesOutput : Option Files → Request → Type 0
 GivesOutput files r =
     (values : List Value) × (outcome : Outcome) × (bytes : List ℕ)
@@ -68,6 +74,8 @@ MayCreate files (Follow r) =
     (opened : Option (List ℕ)) × HasValue files (AStream r.session.now) (Opened opened)
     × (left : Option (List ℕ)) × (read : ℕ) × (taken : List (List ℕ)) × (lines : List ℕ)
     × IsHeard r.identity opened left read taken lines × LeaveNoneShort r.identity taken
+MayCreate files (Drop r) = Holds files r.session.now (λ bytes. ⊤)
+    × ((values : List Value) × HaveValues files (place_inputs r.places_file) values)
 MayCreate files r = AreThere files (inputs_of r)
 
 -- The output isn't created, where it may be: a file is there that is to stay, or the host may fail.

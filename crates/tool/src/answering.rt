@@ -2,13 +2,13 @@
 ghost use Rattle.std.specs.Prelude.{◌≡◌, ◌⊎◌, true, codes, OnOk, OnErr};
 ghost use Rattle.std.specs.Io.KnownBytes.{Appends};
 ghost use Rattle.host.specs.World.{KeepsFiles};
-ghost use Rattle.tool.specs.Answering.{IsAnswer, Explains, errors_of};
+ghost use Rattle.tool.specs.Answering.{IsAnswer, Explains, IsToldRefused, errors_of};
 
 use crate::running::{MEMORY_LINE, run, tell_memory};
 use host::Host;
 use request::{Usage, command_line};
 use session::{Failed, Write, write_all};
-use std::alloc::Global;
+use std::alloc::{AllocError, Global};
 
 // The status where a command line is refused.
 const REFUSED: u8 = 2;
@@ -33,8 +33,8 @@ pub fn answer<'a, H: Host, E: Write>(
 }
 
 // Tells why a command line makes no request, and answers the status.
-fn explain<H: Host, E: Write>(alloc: Global, usage: Usage, host: &mut H, err: &mut E) -> u8
-    ensures { Explains usage (H.world host.old) (H.world host.new)
+fn explain<H: Host, E: Write>(alloc: Global, usage: Usage<'_>, host: &mut H, err: &mut E) -> u8
+    ensures { Explains usage.entry (H.world host.old) (H.world host.new)
         (errors_of (E.contents err.old) (E.contents err.new) (E.failed err.new)) result }
 {
     match usage {
@@ -45,14 +45,28 @@ fn explain<H: Host, E: Write>(alloc: Global, usage: Usage, host: &mut H, err: &m
             },
             Err(_) => refuse(host),
         },
-        Usage::Line(error) => match error.to_string(alloc) {
-            Ok(text) => {
-                let _ = write_all(err, text.as_bytes());
-                REFUSED
-            }
-            Err(_) => refuse(host),
-        },
+        Usage::Line(error) => tell_refusal(error.to_string(alloc), host, err),
+        Usage::Places(refusal) => tell_refusal(refusal.to_string(alloc), host, err),
         Usage::NoMemory => refuse(host),
+    }
+}
+
+// Tells this text of a refused line, if there was memory for it, and answers the status.
+fn tell_refusal<H: Host, E: Write>(
+    text: Result<String, AllocError>,
+    host: &mut H,
+    err: &mut E,
+) -> u8
+    ensures told { IsToldRefused (H.world host.old) (H.world host.new)
+        (errors_of (E.contents err.old) (E.contents err.new) (E.failed err.new)) result }
+    ensures files { KeepsFiles (H.world host.old) (H.world host.new) }
+{
+    match text {
+        Ok(text) => {
+            let _ = write_all(err, text.as_bytes());
+            REFUSED
+        }
+        Err(_) => refuse(host),
     }
 }
 

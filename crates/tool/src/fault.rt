@@ -20,6 +20,8 @@ pub(crate) enum Fault<'a> {
     /// The object's length and the command's own numbers are no FTI.
     Fti(FtiError),
     Send(SendFault),
+    /// The first word of a file of places that tells none, by how many stand before it.
+    NoPlace(usize),
 }
 
 impl From<AllocError> for Fault<'_> {

@@ -3,8 +3,8 @@ ghost use Rattle.std.specs.Prelude.{◌≡◌, ◌<◌, ◌≤◌, [], None, fal
 ghost use Rattle.std.specs.Io.KnownBytes.{Consumes, IsAtEnd};
 ghost use Rattle.session.specs.Frames.{frame, most_bytes};
 ghost use Rattle.host.specs.World.{GivesFile};
-ghost use Rattle.tool.specs.Inputs.{AnObject, ASession, ACertificate, Bytes, Datagrams};
-ghost use Rattle.tool.specs.Inputs.{Polynomials, HasValue, IsUnopened, IsUnread};
+ghost use Rattle.tool.specs.Inputs.{AnObject, ASession, ACertificate, APlaces, Bytes, Datagrams};
+ghost use Rattle.tool.specs.Inputs.{Polynomials, Places, HasValue, IsUnopened, IsUnread};
 ghost use Rattle.tool.specs.ReadingObjects.{IsRestUnread};
 ghost use Rattle.tool.specs.Listening.{IsFrameUnread};
 ghost use Rattle.tool.specs.declared.fault.Fault.TheVariants.{Frame};
@@ -12,7 +12,8 @@ ghost use Rattle.tool.specs.declared.fault.Fault.TheVariants.{Frame};
 use crate::fault::Fault;
 use cert::Certificate;
 use host::{FileFault, Host};
-use session::{FrameFault, Read, ReadFault, Session, read_next, read_to_end};
+use request::{PlaceFault, place_ranges};
+use session::{FrameFault, PlaceRange, Read, ReadFault, Session, read_next, read_to_end};
 use std::alloc::Global;
 
 /// A file to be read.
@@ -94,6 +95,24 @@ pub(crate) fn read_object<'a, H: Host>(
 {
     let mut input = open(host, name)?;
     read_rest(alloc, &mut input, name)
+}
+
+/// The places in a file.
+pub(crate) fn read_places<'a, H: Host>(
+    alloc: Global,
+    host: &H,
+    name: &'a str,
+) -> Result<Vec<PlaceRange>, Fault<'a>>
+    ensures ok { IfOk result (λ ranges.
+        HasValue (H.world host.now).files (APlaces name.now) (Places ranges.items)) }
+    ensures fault { IfErr result (IsUnread (H.world host.now) (APlaces name.now)) }
+{
+    let text = read_object(alloc, host, name)?;
+    match place_ranges(alloc, text.as_slice()) {
+        Ok(ranges) => Ok(ranges),
+        Err(PlaceFault::NoPlace(word)) => Err(Fault::NoPlace(word)),
+        Err(PlaceFault::NoMemory) => Err(Fault::Memory),
+    }
 }
 
 /// All bytes that the input of this name has left.

@@ -119,6 +119,7 @@ fn put_fault(line: &mut Text, fault: Fault<'_>) -> Result<(), AllocError>
         Fault::Certificate(fault) => put_certificate_fault(line, fault),
         Fault::Fti(fault) => put_fti_fault(line, fault),
         Fault::Send(fault) => put_send_fault(line, fault),
+        Fault::NoPlace(word) => line.named("L1 NoPlace word", word),
     }
 }
 
