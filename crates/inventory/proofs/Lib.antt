@@ -1,0 +1,4 @@
+mod Pairs
+mod Maps
+mod Steps
+mod Told
