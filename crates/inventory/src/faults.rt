@@ -1,5 +1,6 @@
 //! Why datagrams are no packets, counted.
-ghost use Rattle.std.specs.Prelude.{◌≡◌, ◌<◌, count_by, true, false, [], length, List, ◌++◌, IfOk, OnOk};
+ghost use Rattle.std.specs.Prelude.{◌≡◌, ◌<◌, ◌++◌, true, false, List, [], length, count_by};
+ghost use Rattle.std.specs.Prelude.{IfOk, OnOk};
 ghost use Rattle.alc.specs.Reading.{Reading};
 ghost use Rattle.inventory.specs.Faults.{fault_number, is_same_fault, count_of, fault_counts};
 ghost use Rattle.inventory.specs.Packets.{faults_in};

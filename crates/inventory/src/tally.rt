@@ -1,5 +1,6 @@
 //! The packets of an identity, counted.
-ghost use Rattle.std.specs.Prelude.{◌≡◌, ◌<◌, ◌≤◌, ◌+◌, ◌*◌, ◌^◌, ◌++◌, ◌∷◌, [], ℕ, List, length, OnOk};
+ghost use Rattle.std.specs.Prelude.{◌≡◌, ◌<◌, ◌≤◌, ◌+◌, ◌*◌, ◌^◌, ◌++◌, ◌∷◌, [], ℕ, List};
+ghost use Rattle.std.specs.Prelude.{length, OnOk};
 ghost use Rattle.alc.specs.Packet.{Packet as PacketValue};
 ghost use Rattle.alc.specs.Views.{packet_of};
 
