@@ -1,12 +1,13 @@
 -- What is told of each identity.
-use Rattle.std.specs.Prelude.{◌≡◌, ℕ, ◌-◌, ◌<◌, List, length, map, count_by, Contains}
-use Rattle.std.specs.Prelude.{Option, Some, None, Ok, slice_get, slice_index}
+use Rattle.std.specs.Prelude.{◌≡◌, ℕ, ◌+◌, ◌-◌, ◌<◌, ◌≤◌, List, length, map, filter}
+use Rattle.std.specs.Prelude.{count_by, Contains, ⊤, Option, Some, None, Ok, slice_get, slice_index}
 use Rattle.std.specs.Ordering.{nat_cmp, ordering_then}
 use Rattle.std.specs.declared.cmp.Ordering.{Ordering}
 use Rattle.std.specs.List.{AllByRecursion}
 use Rattle.std.specs.List.Sorted.{IsStrictlySortedBy}
-use Rattle.std.specs.Set.{distinct_count}
-use Rattle.partition.specs.Fti.{Fti}
+use Rattle.std.specs.Set.{distinct_count, is_member}
+use Rattle.lists.specs.Below.{below}
+use Rattle.partition.specs.Fti.{Fti, block_count, source_count, encoding_count}
 use Rattle.alc.specs.Packet.{Packet}
 use Rattle.alc.specs.Reading.{Reading}
 use Rattle.reception.specs.Reception.{same_fti}
@@ -19,6 +20,26 @@ abbrev pub same_count : Option Fti → List Fti → ℕ
 same_count None ftis = 0
 same_count (Some f) ftis = count_by (same_fti f) ftis
 
+-- how many different encoding symbols of a block came, by the blocks and ESIs of those that did
+abbrev pub have_count : Fti → List (ℕ × ℕ) → ℕ → ℕ
+have_count f ids b =
+    length (filter (λ j. is_member same_ids ids (b, j)) (below (encoding_count f b)))
+
+-- The block with the fewest symbols beyond its need (have - need, which may be below zero), the
+-- first of such blocks.
+pub record IsWeakest (f : Fti) (ids : List (ℕ × ℕ)) (block need have : ℕ) : Type 0 where
+  pub within : block < block_count f
+  pub needs : need ≡ source_count f block
+  pub has : have ≡ have_count f ids block
+  pub least : (b : ℕ) → b < block_count f → have + source_count f b ≤ have_count f ids b + need
+  pub first : (b : ℕ) → b < block → have + source_count f b < have_count f ids b + need
+
+-- where there is an FTI
+abbrev pub IsWeakestBy : Option Fti → List (ℕ × ℕ) → Option (ℕ × ℕ × ℕ) → Type 0
+IsWeakestBy (Some f) ids (Some (block, need, have)) = IsWeakest f ids block need have
+IsWeakestBy None ids None = ⊤
+IsWeakestBy fti ids weakest = ⊥
+
 -- The numbers of an identity's packets, of which each has its place. The FTI is that of the first
 -- carrier.
 pub record IsPartOf (xs : List (ℕ × Packet)) (part : Part) : Type 0 where
@@ -30,6 +51,7 @@ pub record IsPartOf (xs : List (ℕ × Packet)) (part : Part) : Type 0 where
   pub symbols : part.symbols ≡ distinct_count same_ids (symbol_ids xs)
   pub fti : part.fti ≡ slice_get (carried xs) 0
   pub with_fti : part.with_fti ≡ same_count part.fti (carried xs)
+  pub weakest : IsWeakestBy part.fti (symbol_ids xs) part.weakest
 
 abbrev pub IsPart : List Reading → Part → Type 0
 IsPart rs part = IsPartOf (packets_of part.identity rs) part

@@ -1,7 +1,7 @@
 -- What the counts of an identity's packets stand for.
 use Rattle.std.specs.Prelude.{◌≡◌, ℕ, ◌-◌, List, length}
 use Rattle.std.specs.Prelude.{slice_get, slice_index}
-use Rattle.std.specs.BTreeSet.{contains}
+use Rattle.std.specs.BTreeSet.{BTreeSet, contains}
 use Rattle.std.specs.Ordering.{nat_cmp, ordering_then}
 use Rattle.std.specs.declared.cmp.Ordering.{Ordering}
 use Rattle.std.specs.Set.{is_member}
@@ -22,11 +22,14 @@ pub record AreCounted (ftis : List Fti) (carriers : Carriers) : Type 0 where
   pub first : carriers.first ≡ slice_get ftis 0
   pub same : carriers.same ≡ same_count (slice_get ftis 0) ftis
 
+-- the set has these blocks and ESIs
+abbrev pub AreIds : List (ℕ × ℕ) → BTreeSet (ℕ × ℕ) → Type 0
+AreIds ids set = (q : ℕ × ℕ) → contains pair_cmp set q ≡ is_member same_ids ids q
+
 -- these packets were counted, each with its place
 pub record IsTally (xs : List (ℕ × Packet)) (tally : Tally) : Type 0 where
   pub datagrams : tally.datagrams ≡ length xs
   pub first : tally.first ≡ slice_index (places xs) 0
   pub last : tally.last ≡ slice_index (places xs) (length xs - 1)
   pub carriers : AreCounted (carried xs) tally.carriers
-  pub symbols : (q : ℕ × ℕ)
-      → contains pair_cmp tally.symbols q ≡ is_member same_ids (symbol_ids xs) q
+  pub symbols : AreIds (symbol_ids xs) tally.symbols

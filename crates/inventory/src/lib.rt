@@ -7,6 +7,7 @@
 //! - `part`: what is told of an identity.
 //! - `carriers`: the FTIs of carriers, counted.
 //! - `tally`: the packets of one identity, counted.
+//! - `weakest`: the block that has the fewest symbols beyond those that it needs.
 //! - `collecting`: a session's datagrams, one after the other.
 //! - `telling`: what is told of each identity.
 //! - `faults`: what is told of datagrams that are no packets.
@@ -18,6 +19,7 @@ mod faults;
 mod part;
 mod tally;
 mod telling;
+mod weakest;
 
 pub use collecting::Summary;
 pub use part::{FaultCount, Part};

@@ -21,6 +21,9 @@ pub struct Part {
     pub fti: Option<Fti>,
     /// How many carriers have this FTI.
     pub with_fti: usize,
+    /// By this FTI the block with the fewest symbols beyond those that it needs, how many it needs,
+    /// and how many different ones it has.
+    pub weakest: Option<(u32, usize, usize)>,
 }
 
 /// Why datagrams are no packets, and how many for this reason.

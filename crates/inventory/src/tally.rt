@@ -6,6 +6,7 @@ ghost use Rattle.alc.specs.Views.{packet_of};
 
 use crate::carriers::Carriers;
 use crate::part::Part;
+use crate::weakest::weakest;
 use alc::Packet;
 use reception::Identity;
 use std::alloc::{AllocError, Global};
@@ -24,8 +25,8 @@ pub(crate) struct Tally {
 }
 
 impl Tally {
-    ghost use Rattle.inventory.specs.Parts.{IsPartOf};
-    ghost use Rattle.inventory.specs.Tally.{IsTally};
+    ghost use Rattle.inventory.specs.Parts.{IsWeakestBy, IsPartOf};
+    ghost use Rattle.inventory.specs.Tally.{AreIds, IsTally};
 
     /// No packet came.
     pub(crate) fn new(alloc: Global) -> Tally
@@ -63,6 +64,17 @@ impl Tally {
         Ok(())
     }
 
+    // The weakest block by the first carrier's FTI, where one came.
+    fn weakest(&self) -> Option<(u32, usize, usize)>
+        ensures { (ids : List (ℕ × ℕ)) → AreIds ids self.now.symbols
+            → IsWeakestBy self.now.carriers.first ids result }
+    {
+        match &self.carriers.first {
+            Some(fti) => Some(weakest(&self.symbols, fti)),
+            None => None,
+        }
+    }
+
     /// What is told of them, where this is whose packets they are.
     pub(crate) fn part(&self, identity: Identity) -> Part
         ensures identity { result.identity ≡ identity }
@@ -78,6 +90,7 @@ impl Tally {
             symbols: self.symbols.len(),
             fti: self.carriers.first,
             with_fti: self.carriers.same,
+            weakest: self.weakest(),
         }
     }
 }

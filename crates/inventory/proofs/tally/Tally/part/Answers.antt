@@ -14,5 +14,6 @@ returns-clause-part c = λ xs some tally. record {
   carriers = tally.carriers.count;
   symbols = c.len.ensures.len ∙ ids_counted (symbol_ids xs) c.args.self.now.symbols c.len.ensures.ordered tally.symbols;
   fti = tally.carriers.first;
+  weakest = c.weakest.ensures (symbol_ids xs) tally.symbols;
   with_fti = tally.carriers.same ∙ ap (λ (o : Option Fti). same_count o (carried xs)) (sym tally.carriers.first);
 }
