@@ -53,7 +53,7 @@ commands orders =
     ∷ writing "decode" (file "SESSION" ∷ file "OUT" ∷ identifiers)
     ∷ writing "follow" (file "SESSION" ∷ file "OUT" ∷ identifiers)
     ∷ writing "twin" (file "SESSION" ∷ file "OBJECT" ∷ file "CERT" ∷ file "OUT" ∷ identifiers)
-    ∷ command "show" (file "SESSION" ∷ quiet ∷ []) ∷ []
+    ∷ command "show" (file "SESSION" ∷ Flag (codes "summary") None ∷ quiet ∷ []) ∷ []
 
 -- `alcrs`, with one of its commands, or with `--version`
 abbrev pub grammar_of : Bor (List (Bor Text)) → App

@@ -71,7 +71,7 @@ command_of (Follow r) =
     writing "follow" (path r.session ∷ path r.output.name ∷ whose r.identity) r.output
 command_of (Twin r) = writing "twin" (path r.session ∷ path r.object ∷ path r.certificate
     ∷ path r.output.name ∷ whose r.identity) r.output
-command_of (Show r) = command "show" (path r.session ∷ [])
+command_of (Show r) = command "show" (path r.session ∷ AFlag r.summary ∷ [])
 
 -- the command of a line, with the values of its arguments in their order
 abbrev pub asked_of : CommandLine → Text × List Value

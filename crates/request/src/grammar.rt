@@ -162,6 +162,12 @@ const SUMMARY: Argument<'static> = Argument::Flag {
     help: "Prints few lines at a yes: the weakest block, not all blocks",
 };
 
+const SHOWN_SUMMARY: Argument<'static> = Argument::Flag {
+    name: "summary",
+    short: None,
+    help: "Prints a few lines for each TSI and TOI, not one for each datagram",
+};
+
 const QUIET: Argument<'static> = Argument::Flag {
     name: "quiet",
     short: Some('q'),
@@ -347,7 +353,7 @@ const OUTLINES: [Outline<'static>; 11] = [
         name: "show",
         about: "Prints a line for each datagram of a session",
         after_help: help::SHOW,
-        arguments: &[SESSION, QUIET],
+        arguments: &[SESSION, SHOWN_SUMMARY, QUIET],
     },
 ];
 

@@ -330,6 +330,7 @@ fn show_line<'a>(matches: &ArgMatches<'a>) -> CommandLine<'a>
         matches,
         Request::Show(ShowRequest {
             session: text(matches, "SESSION"),
+            summary: flag(matches, "summary"),
         }),
     )
 }

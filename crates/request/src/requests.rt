@@ -71,10 +71,12 @@ pub struct TwinRequest<'a> {
     ghost narrow: { IsNarrow identity },
 }
 
-/// What are the datagrams of the session?
+/// What are the datagrams of the session? With a summary, print a few lines for each TSI and TOI in
+/// place of a line for each datagram.
 #[derive(Drop)]
 pub struct ShowRequest<'a> {
     pub session: &'a str,
+    pub summary: bool,
 }
 
 /// Send the object into a session file.

@@ -144,9 +144,9 @@ fn join_in_turns<R: Read, W: Write>(
 /// so on; with `turns` one of each in turn, those that have ended being passed over and not read
 /// again. Answers how many there were.
 ///
-/// `CutLength`, `CutDatagram` and `TooLong` tell why a reader's bytes aren't frames, of several of
-/// them the first one's: readers before one that has a fault are read to their ends. `Io` tells that
-/// a reader or the writer has failed. A beginning of the frames was written then.
+/// `CutLength`, `CutDatagram` and `TooLong` tell why a reader's bytes aren't frames, and of several
+/// such readers the first: those before one that has a fault are read to their ends. `Io` tells
+/// that a reader or the writer has failed. A beginning of the frames was written then.
 pub fn join_frames<R: Read, W: Write>(
     alloc: Global,
     readers: &mut [R],

@@ -2,6 +2,7 @@ mod Gains
 mod Stopping
 mod Numbered
 mod Showed
+mod Totalled
 mod Twinned
 mod Pictured
 mod Making

@@ -15,7 +15,7 @@ use Rattle.request.specs.declared.requests.Request.TheVariants.{Show}
 use Rattle.host.specs.World.{World, KeepsFiles, MayFail}
 use Rattle.tool.specs.Inputs.{AStream, Datagrams, Opened, HasValue}
 use Rattle.tool.specs.Lines.{line_of, numbered, reading_text}
-use Rattle.tool.specs.Commands.{shown_status, AreReadAs}
+use Rattle.tool.specs.Commands.{shown_status, AreReadAs, TellsDatagrams, told_before}
 use Rattle.tool.specs.Outcomes.{IsDone, IsBecause, IsStopped}
 use Rattle.tool.specs.Doing.{IsUndone}
 use Rattle.tool.specs.Showing.{Shows, ShowsAll, IsCutBehind, IsUnshown}
@@ -38,7 +38,7 @@ nothing_appended : (a : Option (List ℕ)) → Appends a a []
 nothing_appended None = tt
 nothing_appended (Some xs) = sym (append-nil xs)
 
-nothing_read : (a : Option (List ℕ)) → Consumes a a []
+pub nothing_read : (a : Option (List ℕ)) → Consumes a a []
 nothing_read None = tt
 nothing_read (Some xs) = refl
 
@@ -62,31 +62,34 @@ one_longer rs r place next at is = let l = length-append rs (r ∷ []) in omega 
 
 -- ---- how showing ends
 
-module _ (old : World) (r : ShowRequest) (opened : Option (List ℕ)) (held : HasValue old.files (AStream r.session.now) (Opened opened)) (new : World) (files : KeepsFiles old new) where
+module _ (old : World) (r : ShowRequest) (each : r.summary ≡ false) (opened : Option (List ℕ)) (held : HasValue old.files (AStream r.session.now) (Opened opened)) (new : World) (files : KeepsFiles old new) where
   pub show_done : (status : ℕ) → ShowsAll opened old new status → IsDone old new (Show r) status
   show_done status (left, rs, ((ds, read, all), printed), end, is) = record {
     outcome = record { text = numbered reading_text 0 rs; status = shown_status rs; output = None };
     makes = record {
       values = Datagrams ds ∷ [];
       read = (holds_session old.files r.session.now opened left ds held read end, tt);
-      gives = (rs, all, (refl, refl, refl));
+      gives = (rs, all, subst (λ (b : Bool). TellsDatagrams b rs (numbered reading_text 0 rs)) (sym each) refl, refl, refl);
       made = (files.files, files.created);
     };
     printed = printed;
     is_status = is;
   }
 
+  told : (rs : List Reading) → numbered reading_text 0 rs ≡ told_before r.summary rs
+  told rs = ap (λ (b : Bool). told_before b rs) (sym each)
+
   stopped_so : (left : Option (List ℕ)) (rs : List Reading) (fault : Fault) → AreReadAs opened left rs → IsBecause old new (Show r) (numbered reading_text 0 rs) fault
       → IsStopped old new (Show r) (numbered reading_text 0 rs) fault
   stopped_so left rs fault read why =
-      record { because = why; before = inr (opened, left, rs, held, read, refl); files = files.files; created = inl files.created }
+      record { because = why; before = inr (opened, left, rs, held, read, told rs); files = files.files; created = inl files.created }
 
   cut : (e : FrameFault) → IsCutBehind e opened old new → (e ≡ frame_fault.Io → MayFail old) → IsUndone old new (Show r) (ByFault (Frame e))
   cut e (left, rs, (read, printed), rest, failed, why) fails = (
     numbered reading_text 0 rs,
     printed,
     stopped_so left rs (Frame e) read
-        (by_refused old new (Show r) (numbered reading_text 0 rs) (Frame e) (opened, left, rs, rest, failed, held, read, refl, why, fails)),
+        (by_refused old new (Show r) (numbered reading_text 0 rs) (Frame e) (opened, left, rs, rest, failed, held, read, told rs, why, fails)),
   )
 
   unshown : (stop : Stop) → IsUnshown opened old new stop → (stop ≡ ByFault (Frame frame_fault.Io) → MayFail old) → IsUndone old new (Show r) stop

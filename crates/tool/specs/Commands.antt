@@ -1,6 +1,7 @@
 -- What each command gives of what it reads.
-use Rattle.std.specs.Prelude.{◌≡◌, ◌⊎◌, ◌<◌, ℕ, Bool, true, List, [], ◌∷◌, ◌++◌, Option, Some, None}
-use Rattle.std.specs.Prelude.{IsSome, IfSome, length, map, option_map, codes, Ok, Err}
+use Rattle.std.specs.Prelude.{◌≡◌, ◌⊎◌, ◌<◌, ℕ, Bool, true, false, List, []}
+use Rattle.std.specs.Prelude.{◌∷◌, ◌++◌, Option, Some, None, IsSome, IfSome, length, map}
+use Rattle.std.specs.Prelude.{option_map, codes, Ok, Err}
 use Rattle.std.specs.Borrow.{Bor}
 use Rattle.lists.specs.Selection.{rest}
 use Rattle.partition.specs.Fti.{Fti, IsValidFti, fti_from, block_count}
@@ -45,6 +46,7 @@ use Rattle.tool.specs.Inputs.{Bytes, Datagrams, Polynomials, Opened, Places, Has
 use Rattle.tool.specs.Lines.{line_of, count_line, short_text, numbered, verdict_text, answer_text}
 use Rattle.tool.specs.Lines.{reading_text}
 use Rattle.tool.specs.Summary.{IsSummary}
+use Rattle.tool.specs.Totals.{AreTotals}
 use Rattle.tool.specs.Following.{IsHeard, Ends, ends_text}
 use Rattle.tool.specs.declared.fault.Fault.{Fault}
 use Rattle.tool.specs.declared.fault.Fault.TheVariants.{File, Frame, Certificate as NoCertificate}
@@ -142,6 +144,16 @@ shown_status [] = 0
 shown_status (Ok packet ∷ readings) = shown_status readings
 shown_status (Err fault ∷ readings) = 1
 
+-- a line for each datagram, or their numbers, where a summary is asked for
+abbrev pub TellsDatagrams : Bool → List Reading → List ℕ → Type 0
+TellsDatagrams true readings text = AreTotals readings text
+TellsDatagrams false readings text = text ≡ numbered reading_text 0 readings
+
+-- what is told of datagrams before a fault: of their numbers nothing
+abbrev pub told_before : Bool → List Reading → List ℕ
+told_before true readings = []
+told_before false readings = numbered reading_text 0 readings
+
 -- datagrams were read, just their frames; what each reads as
 abbrev pub AreReadAs : Option (List ℕ) → Option (List ℕ) → List Reading → Type 0
 AreReadAs opened left readings =
@@ -208,7 +220,8 @@ Gives (Twin r) (Datagrams datagrams ∷ Bytes object ∷ Polynomials z ∷ []) o
     × GivesTwin r.identity verdict z.fti datagrams object outcome
 Gives (Show r) (Datagrams datagrams ∷ []) outcome =
     (readings : List Reading) × ReadAll datagrams readings
-    × IsOutcome (numbered reading_text 0 readings) (shown_status readings) None outcome
+    × TellsDatagrams r.summary readings outcome.text
+    × (outcome.status ≡ shown_status readings) × (outcome.output ≡ None)
 Gives (Encode r) (Bytes object ∷ []) outcome =
     GivesSession r.sending object (sized r.sending.sizes (length object)) outcome
 Gives (Certify r) (Bytes object ∷ []) outcome =
@@ -262,7 +275,7 @@ Refuses world (Show r) text (Frame fault) =
     (opened : Option (List ℕ)) × (left : Option (List ℕ)) × (readings : List Reading)
     × (new : Option (List ℕ)) × (failed : Bool)
     × HasValue world.files (AStream r.session.now) (Opened opened) × AreReadAs opened left readings
-    × (text ≡ numbered reading_text 0 readings)
+    × (text ≡ told_before r.summary readings)
     × IsReadFault fault left new failed × (fault ≡ FrameIo → MayFail world)
 Refuses world (Follow r) text (Frame fault) =
     (opened : Option (List ℕ)) × (left : Option (List ℕ)) × (new : Option (List ℕ))

@@ -22,4 +22,6 @@ pub mod Showing
 pub mod TwinsTold
 pub mod Summary
 pub mod Summing
+pub mod Totals
+pub mod Totalling
 pub mod Words

@@ -10,10 +10,10 @@ use Rattle.request.specs.declared.requests.Request.TheVariants.{Drop, Join}
 use Rattle.host.specs.World.{Files, World, Holds, IsFree, IsToStay, MayFail, Replaces, one_more}
 use Rattle.tool.specs.Inputs.{AStream, Value, Opened, HasValue, HaveValues, AreThere, IsUnopened}
 use Rattle.tool.specs.Inputs.{IsFirstUnopened, IsFirstUnread, IsSomeUnread}
-use Rattle.tool.specs.Lines.{numbered, reading_text, TellsFault}
+use Rattle.tool.specs.Lines.{TellsFault}
 use Rattle.tool.specs.Following.{IsHeard, IsHeardInPart}
 use Rattle.tool.specs.Commands.{inputs_of, place_inputs, output_of, IsWriteFault, Outcome}
-use Rattle.tool.specs.Commands.{AreReadAs, Gives, Refuses}
+use Rattle.tool.specs.Commands.{AreReadAs, Gives, told_before, Refuses}
 use Rattle.tool.specs.declared.fault.Fault.{Fault}
 use Rattle.tool.specs.declared.fault.Fault.TheVariants.{Open, Memory}
 
@@ -95,12 +95,12 @@ IsBecause old new r text fault =
     IsUnhad old r fault ⊎ Refuses old r text fault ⊎ IsUnmade old new r fault
 
 -- what may be printed before a fault: of datagrams that are shown the lines of the first that the
--- file begins with, of those that are followed the lines of some
+-- file begins with, unless a summary is asked for; of those that are followed the lines of some
 abbrev pub BeginsText : Option Files → Request → List ℕ → Type 0
 BeginsText files (Show r) text =
     (text ≡ []) ⊎ ((opened : Option (List ℕ)) × (left : Option (List ℕ)) × (readings : List Reading)
     × HasValue files (AStream r.session.now) (Opened opened) × AreReadAs opened left readings
-    × (text ≡ numbered reading_text 0 readings))
+    × (text ≡ told_before r.summary readings))
 BeginsText files (Follow r) text =
     (text ≡ [])
     ⊎ ((opened : Option (List ℕ)) × HasValue files (AStream r.session.now) (Opened opened)

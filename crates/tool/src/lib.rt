@@ -22,6 +22,7 @@ mod show;
 mod sizes;
 mod summary;
 mod telling;
+mod totals;
 mod twin;
 mod wording;
 

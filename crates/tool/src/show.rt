@@ -14,6 +14,8 @@ ghost use Rattle.tool.specs.declared.fault.Stop.TheVariants.{ByFault};
 use crate::fault::{Fault, Stop};
 use crate::input::{next_datagram, open};
 use crate::print::Text;
+use crate::telling::finish;
+use crate::totals::summarize;
 use crate::wording::put_packet_fault;
 use alc::{Packet, PacketFault, read};
 use host::Host;
@@ -22,13 +24,34 @@ use request::ShowRequest;
 use session::{Failed, FrameFault, Read};
 use std::alloc::{AllocError, Global};
 
-/// Prints a line for each datagram. Answers the status: 0 where all are packets. Where the session
-/// comes as it is sent, a line is passed on before the next datagram is read.
+/// Prints a line for each datagram; or, where a summary is asked for, the session's numbers at its
+/// end. Answers the status: 0 where all are packets.
 pub(crate) fn show<'a, H: Host>(
     alloc: Global,
     host: &mut H,
     request: &ShowRequest<'a>,
 ) -> Result<u8, Stop<'a>>
+    ensures ok { IfOk result
+        (IsDone (H.world host.old) (H.world host.new) (Show request.now)) }
+    ensures fault { IfErr result
+        (IsUndone (H.world host.old) (H.world host.new) (Show request.now)) }
+    ensures small { IfOk result (λ status. status ≤ 3) }
+{
+    if request.summary {
+        let done = summarize(alloc, host, request);
+        return finish(host, done);
+    }
+    show_each(alloc, host, request)
+}
+
+// Prints a line for each datagram. Where the session comes as it is sent, a line is passed on
+// before the next datagram is read.
+fn show_each<'a, H: Host>(
+    alloc: Global,
+    host: &mut H,
+    request: &ShowRequest<'a>,
+) -> Result<u8, Stop<'a>>
+    requires { request.now.summary ≡ false }
     ensures ok { IfOk result
         (IsDone (H.world host.old) (H.world host.new) (Show request.now)) }
     ensures fault { IfErr result
@@ -110,8 +133,8 @@ fn pass_on_live<H: Host>(host: &mut H, is_live: bool) -> Result<(), Failed>
     if is_live { host.pass_on() } else { Ok(()) }
 }
 
-// Puts the FTI of a carrier, or how many bytes of symbol another packet has.
-fn put_fti(line: &mut Text, fti: &Option<Fti>, size: usize) -> Result<(), AllocError>
+/// Puts the FTI of a carrier, or how many bytes of symbol another packet has.
+pub(crate) fn put_fti(line: &mut Text, fti: &Option<Fti>, size: usize) -> Result<(), AllocError>
     ensures { OnOk result (line.new ≡ line.old ++ fti_text fti.now size) }
 {
     match fti {

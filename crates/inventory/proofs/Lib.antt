@@ -1,0 +1,5 @@
+mod Pairs
+mod Maps
+mod Blocks
+mod Steps
+mod Told

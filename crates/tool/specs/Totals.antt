@@ -1,0 +1,51 @@
+-- The lines of a session's numbers, which are printed where a summary is asked for.
+use Rattle.std.specs.Prelude.{◌≡◌, ℕ, ◌-◌, List, [], ◌++◌, if◌then◌else◌, is_some}
+use Rattle.std.specs.Prelude.{flat_map, codes, decimal}
+use Rattle.alc.specs.Reading.{Reading}
+use Rattle.reception.specs.declared.scope.Identity.{Identity}
+use Rattle.inventory.specs.Packets.{faults_in}
+use Rattle.inventory.specs.Parts.{AreParts}
+use Rattle.inventory.specs.Faults.{fault_counts}
+use Rattle.inventory.specs.declared.part.FaultCount.{FaultCount}
+use Rattle.inventory.specs.declared.part.Part.{Part}
+use Rattle.tool.specs.Lines.{line_of, named, fti_text}
+use Rattle.tool.specs.Words.{packet_words}
+
+abbrev pub identity_text : Identity → List ℕ
+identity_text who = named (codes "tsi") (decimal who.tsi) ++ named (codes " toi") (decimal who.toi)
+
+-- the numbers of an identity's packets: those that are no repeats have all different symbols
+abbrev pub packets_text : Part → List ℕ
+packets_text part =
+    identity_text part.identity ++ named (codes " datagrams") (decimal part.datagrams)
+    ++ named (codes " first") (decimal part.first) ++ named (codes " last") (decimal part.last)
+    ++ named (codes " carriers") (decimal part.carriers)
+    ++ named (codes " symbols") (decimal part.symbols)
+    ++ named (codes " repeats") (decimal (part.datagrams - part.symbols))
+
+-- the FTI of its first carrier, and how many have it
+abbrev pub fti_of_text : Part → List ℕ
+fti_of_text part =
+    identity_text part.identity ++ fti_text part.fti 0
+    ++ named (codes " carriers") (decimal part.with_fti)
+
+abbrev pub part_lines : Part → List ℕ
+part_lines part =
+    line_of (packets_text part)
+    ++ (if is_some part.fti then line_of (fti_of_text part) else [])
+
+-- why datagrams are no packets, and how many
+abbrev pub count_text : FaultCount → List ℕ
+count_text count =
+    codes "no packet " ++ packet_words count.fault
+    ++ named (codes " datagrams") (decimal count.datagrams)
+
+abbrev pub totals_text : List Part → List FaultCount → List ℕ
+totals_text parts counts =
+    flat_map part_lines parts ++ flat_map (λ count. line_of (count_text count)) counts
+
+-- the lines of each identity, and of each reason for which datagrams are no packets
+pub record AreTotals (rs : List Reading) (text : List ℕ) : Type 0 where
+  pub parts : List Part
+  pub are : AreParts rs parts
+  pub lines : text ≡ totals_text parts (fault_counts (faults_in rs))

@@ -1,0 +1,162 @@
+//! The numbers of a session's datagrams, where a summary is shown.
+ghost use Rattle.std.specs.Prelude.{◌≡◌, ◌≤◌, ◌++◌, List, true, false, flat_map};
+ghost use Rattle.std.specs.Prelude.{IfOk, IfErr, OnOk};
+ghost use Rattle.alc.specs.Reading.{Reading};
+ghost use Rattle.inventory.specs.Tells.{Tells};
+ghost use Rattle.request.specs.declared.requests.Request.TheVariants.{Show};
+ghost use Rattle.tool.specs.Commands.{shown_status};
+ghost use Rattle.tool.specs.Doing.{HasMade, HasStopped};
+ghost use Rattle.tool.specs.Lines.{line_of};
+ghost use Rattle.tool.specs.Totals.{identity_text, packets_text, fti_of_text};
+ghost use Rattle.tool.specs.Totals.{part_lines, count_text, AreTotals};
+ghost use Rattle.tool.specs.Totalling.{AreAllCounted, IsUncounted};
+ghost use Rattle.tool.specs.declared.fault.Fault.TheVariants.{Frame};
+
+use crate::done::{Done, Told};
+use crate::fault::Fault;
+use crate::input::{next_datagram, open};
+use crate::print::Text;
+use crate::show::put_fti;
+use crate::wording::put_packet_fault;
+use host::Host;
+use inventory::{FaultCount, Part, Summary};
+use reception::Identity;
+use request::ShowRequest;
+use session::{FrameFault, Read};
+use std::alloc::{AllocError, Global};
+
+/// What is told of a session, once it was read to its end.
+pub(crate) fn summarize<'a, H: Host>(
+    alloc: Global,
+    host: &H,
+    request: &ShowRequest<'a>,
+) -> Result<Done, Fault<'a>>
+    requires { request.now.summary ≡ true }
+    ensures ok { IfOk result
+        (HasMade (H.world host.now) (H.world host.now) (Show request.now)) }
+    ensures fault { IfErr result
+        (HasStopped (H.world host.now) (H.world host.now) (Show request.now)) }
+{
+    let mut frames = open(host, request.session)?;
+    let summary = read_all(alloc, &mut frames)?;
+    let text = totals_lines(alloc, &summary)?;
+    Ok(Done {
+        told: Told::Lines(text),
+        status: status_of(&summary),
+    })
+}
+
+// The numbers of the datagrams that a reader has left. One datagram at a time is held.
+fn read_all<'a, R: Read>(alloc: Global, frames: &mut R) -> Result<Summary, Fault<'a>>
+    ensures ok { IfOk result (AreAllCounted (R.remaining frames.old)) }
+    ensures fault { IfErr result (IsUncounted (R.remaining frames.old)) }
+    ensures unsound { IfErr result (λ fault.
+        fault ≡ Frame FrameFault.Io → R.sound frames.old ≡ false) }
+{
+    let mut summary = Summary::new(alloc);
+    loop {
+        let Some(datagram) = next_datagram(alloc, frames)? else {
+            return Ok(summary);
+        };
+        summary.add(alloc, datagram.as_slice())?;
+    }
+}
+
+// 0 where all are packets, else 1.
+fn status_of(summary: &Summary) -> u8
+    ensures value { (readings : List Reading) → Tells readings summary.now
+        → result ≡ shown_status readings }
+    ensures small { result ≤ 3 }
+{
+    if summary.has_faults() { 1 } else { 0 }
+}
+
+// Puts whose packets they are last.
+fn put_identity(line: &mut Text, who: Identity) -> Result<(), AllocError>
+    ensures { OnOk result (line.new ≡ line.old ++ identity_text who) }
+{
+    line.named("tsi", who.tsi)?;
+    line.named(" toi", who.toi)
+}
+
+// The line of an identity's packets.
+fn packets_line(alloc: Global, part: &Part) -> Result<Text, AllocError>
+    ensures { IfOk result (λ line. line ≡ packets_text part.now) }
+{
+    let mut line = Text::new(alloc);
+    put_identity(&mut line, part.identity)?;
+    line.named(" datagrams", part.datagrams)?;
+    line.named(" first", part.first)?;
+    line.named(" last", part.last)?;
+    line.named(" carriers", part.carriers)?;
+    line.named(" symbols", part.symbols)?;
+    line.named(" repeats", part.datagrams.saturating_sub(part.symbols))?;
+    Ok(line)
+}
+
+// The line of the first carrier's FTI, and of how many have it.
+fn fti_line(alloc: Global, part: &Part) -> Result<Text, AllocError>
+    ensures { IfOk result (λ line. line ≡ fti_of_text part.now) }
+{
+    let mut line = Text::new(alloc);
+    put_identity(&mut line, part.identity)?;
+    put_fti(&mut line, &part.fti, 0)?;
+    line.named(" carriers", part.with_fti)?;
+    Ok(line)
+}
+
+// Puts the lines of an identity last.
+fn put_part(alloc: Global, lines: &mut Text, part: &Part) -> Result<(), AllocError>
+    ensures { OnOk result (lines.new ≡ lines.old ++ part_lines part.now) }
+{
+    lines.put_line(&packets_line(alloc, part)?)?;
+    if part.fti.is_some() {
+        lines.put_line(&fti_line(alloc, part)?)?;
+    }
+    Ok(())
+}
+
+// The line of those that are no packets for one reason.
+fn count_line(alloc: Global, count: &FaultCount) -> Result<Text, AllocError>
+    ensures { IfOk result (λ line. line ≡ count_text count.now) }
+{
+    let mut line = Text::new(alloc);
+    line.text("no packet ")?;
+    put_packet_fault(&mut line, count.fault)?;
+    line.named(" datagrams", count.datagrams)?;
+    Ok(line)
+}
+
+// Puts the lines of all identities last.
+fn put_parts(alloc: Global, lines: &mut Text, parts: &[Part]) -> Result<(), AllocError>
+    ensures { OnOk result (lines.new ≡ lines.old ++ flat_map part_lines parts.now) }
+{
+    for part in parts {
+        put_part(alloc, lines, part)?;
+    }
+    Ok(())
+}
+
+// Puts the lines of all reasons last.
+fn put_counts(alloc: Global, lines: &mut Text, counts: &[FaultCount]) -> Result<(), AllocError>
+    ensures { OnOk result (lines.new
+        ≡ lines.old ++ flat_map (λ count. line_of (count_text count)) counts.now) }
+{
+    for count in counts {
+        lines.put_line(&count_line(alloc, count)?)?;
+    }
+    Ok(())
+}
+
+// The lines of the numbers of the datagrams that were read.
+fn totals_lines(alloc: Global, summary: &Summary) -> Result<Text, AllocError>
+    ensures { (readings : List Reading) → Tells readings summary.now
+        → IfOk result (AreTotals readings) }
+{
+    let parts = summary.parts(alloc)?;
+    let counts = summary.fault_counts(alloc)?;
+    let mut lines = Text::new(alloc);
+    put_parts(alloc, &mut lines, &parts)?;
+    put_counts(alloc, &mut lines, &counts)?;
+    Ok(lines)
+}
