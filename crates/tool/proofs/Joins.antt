@@ -6,15 +6,15 @@ use Rattle.session.specs.declared.range.PlaceRange.{PlaceRange}
 use Rattle.std.specs.Io.KnownBytes.{IsAtEnd}
 use Rattle.std.specs.Borrow.{Bor}
 use Rattle.std.proofs.lemmas.List.{append-nil, map-append, take_more}
-use Rattle.session.specs.Frames.{frames, HasRead, IsSessionFault, IsNoFrame, StopsAt}
-use Rattle.session.specs.Joining.{IsUnjoined}
+use Rattle.session.specs.Frames.{frames, HasRead, IsFramed, IsSessionFault, IsNoFrame, StopsAt}
+use Rattle.session.specs.Joining.{IsUnjoined, IsWhole}
 use Rattle.session.specs.Thinning.{IsUnthinned}
 use Rattle.session.specs.declared.frame.FrameFault.{FrameFault}
 use Rattle.session.specs.declared.frame.FrameFault.TheVariants.{CutLength, CutDatagram, TooLong, Io, NoMemory, NoSuchPlace}
 use Rattle.tool.specs.declared.fault.Fault.{Fault}
 use Rattle.tool.specs.declared.fault.Fault.TheVariants.{Open, File, Memory, Frame, Certificate, Fti, Send, NoPlace}
 use Rattle.host.specs.World.{Files, World, Holds}
-use Rattle.tool.specs.Inputs.{Input, ASession, AStream, Datagrams, Opened, HasValue, HaveValues, AreThere, IsUnopened, IsUnread, IsFirstUnopened, IsSomeUnread}
+use Rattle.tool.specs.Inputs.{Input, Value, ASession, AStream, Datagrams, Opened, HasValue, HaveValues, AreThere, IsUnopened, IsUnread, IsFirstUnopened, IsFirstUnread}
 use Rattle.request.specs.declared.requests.JoinRequest.{JoinRequest}
 use Rattle.request.specs.declared.requests.Request.TheVariants.{Join}
 use Rattle.tool.specs.Opening.{AreOpen}
@@ -112,19 +112,31 @@ frame_unread w name opened failed Io opens io memory why = absurd (io refl)
 frame_unread w name opened failed NoMemory opens io memory why = absurd (memory refl)
 frame_unread w name opened failed (NoSuchPlace place) opens io memory why = absurd why
 
+-- a file of frames is a session
+whole_session : (files : Option Files) (name : List ℕ) (opened : Option (List ℕ)) → HasValue files (AStream name) (Opened opened) → IsWhole opened
+    → (value : Value) × HasValue files (ASession name) value
+whole_session None name opened opens whole = (Datagrams [], tt)
+whole_session (Some held) name None opens whole = let bad = opens.2 in absurd (cc)
+whole_session (Some held) name (Some x) (bytes, there, is) whole =
+    let e : x ≡ bytes = cc in
+    (Datagrams whole.0, (bytes, there, subst (λ (b : List ℕ). IsFramed whole.0 b) e whole.1))
+
 unread_at : (w : World) (names : List (Bor (List ℕ))) (opened : List (Option (List ℕ))) (i : ℕ) (failed : Bool) (fault : FrameFault) → AreOpen w.files (texts names) opened
-    → i < length opened → fault ≢ Io → fault ≢ NoMemory → IsSessionFault fault (get_or opened i None) failed → IsSomeUnread w (sessions names) (Frame fault)
-unread_at w [] [] i failed fault are l io memory why = absurd (omega (arith, l))
-unread_at w [] (o ∷ os) i failed fault are l io memory why = absurd are
-unread_at w (n ∷ ns) [] i failed fault are l io memory why = absurd are
-unread_at w (n ∷ ns) (o ∷ os) zero failed fault are l io memory why = inl (frame_unread w n.now o failed fault are.0 io memory why)
-unread_at w (n ∷ ns) (o ∷ os) (suc i) failed fault are l io memory why = inr (unread_at w ns os i failed fault are.1 (omega (arith, l)) io memory why)
+    → i < length opened → fault ≢ Io → fault ≢ NoMemory → IsSessionFault fault (get_or opened i None) failed → ((j : ℕ) → j < i → IsWhole (get_or opened j None))
+    → IsFirstUnread w (sessions names) (Frame fault)
+unread_at w [] [] i failed fault are l io memory why first = absurd (omega (arith, l))
+unread_at w [] (o ∷ os) i failed fault are l io memory why first = absurd are
+unread_at w (n ∷ ns) [] i failed fault are l io memory why first = absurd are
+unread_at w (n ∷ ns) (o ∷ os) zero failed fault are l io memory why first = inl (frame_unread w n.now o failed fault are.0 io memory why)
+unread_at w (n ∷ ns) (o ∷ os) (suc i) failed fault are l io memory why first =
+    let here = whole_session w.files n.now o are.0 (first 0 (omega arith)) in
+    inr (here.0, here.1, unread_at w ns os i failed fault are.1 (omega (arith, l)) io memory why (λ j lj. first (suc j) (omega (arith, lj))))
 
 pub unjoined : (w : World) (names : List (Bor (List ℕ))) (opened : List (Option (List ℕ))) (turns : Bool) (fault : FrameFault) (sound failed : List Bool)
     (before after : Option (List ℕ)) (room : ℕ) (writer_failed : Bool) → AreOpen w.files (texts names) opened
-    → IsUnjoined turns fault opened sound failed before after room writer_failed → fault ≢ Io → fault ≢ NoMemory → IsSomeUnread w (sessions names) (Frame fault)
+    → IsUnjoined turns fault opened sound failed before after room writer_failed → fault ≢ Io → fault ≢ NoMemory → IsFirstUnread w (sessions names) (Frame fault)
 unjoined w names opened turns fault sound failed before after room writer_failed are why io memory = elim why.because [
-  | inl blamed ↦ unread_at w names opened blamed.place _ fault are blamed.inside io memory blamed.because
+  | inl blamed ↦ unread_at w names opened blamed.place _ fault are blamed.inside io memory blamed.because (blamed.first io memory)
   | inr others ↦ elim others [
     | inl writer ↦ absurd (io writer.0)
     | inr none ↦ absurd (memory none)

@@ -100,9 +100,3 @@ IsFirstUnread world [] fault = ⊥
 IsFirstUnread world (input ∷ inputs) fault =
     IsUnread world input fault
     ⊎ ((value : Value) × HasValue world.files input value × IsFirstUnread world inputs fault)
-
--- one gives no value, whichever
-abbrev pub IsSomeUnread : World → List Input → Fault → Type 0
-IsSomeUnread world [] fault = ⊥
-IsSomeUnread world (input ∷ inputs) fault =
-    IsUnread world input fault ⊎ IsSomeUnread world inputs fault

@@ -9,7 +9,7 @@ use Rattle.request.specs.declared.requests.Request.TheVariants.{Check, Twin, Sho
 use Rattle.request.specs.declared.requests.Request.TheVariants.{Drop, Join}
 use Rattle.host.specs.World.{Files, World, Holds, IsFree, IsToStay, MayFail, Replaces, one_more}
 use Rattle.tool.specs.Inputs.{AStream, Value, Opened, HasValue, HaveValues, AreThere, IsUnopened}
-use Rattle.tool.specs.Inputs.{IsFirstUnopened, IsFirstUnread, IsSomeUnread}
+use Rattle.tool.specs.Inputs.{IsFirstUnopened, IsFirstUnread}
 use Rattle.tool.specs.Lines.{TellsFault}
 use Rattle.tool.specs.Following.{IsHeard, IsHeardInPart}
 use Rattle.tool.specs.Commands.{inputs_of, place_inputs, output_of, IsWriteFault, Outcome}
@@ -44,12 +44,12 @@ pub record IsDone (old new : World) (r : Request) (status : ℕ) : Type 0 where
 
 -- The first input that can't be had, in their order. A session that is shown is only opened: what
 -- can't be read of it is told behind the lines of what was (`Refuses`). Sessions that are joined
--- are opened before one is read, and any of them may give no datagrams then. A session whose
--- datagrams are dropped is opened before the file of places is read, and read behind it.
+-- are opened before one is read. A session whose datagrams are dropped is opened before the file of
+-- places is read, and read behind it.
 abbrev pub IsUnhad : World → Request → Fault → Type 0
 IsUnhad world (Join r) fault =
     IsFirstUnopened world (inputs_of (Join r)) fault
-    ⊎ (AreThere world.files (inputs_of (Join r)) × IsSomeUnread world (inputs_of (Join r)) fault)
+    ⊎ (AreThere world.files (inputs_of (Join r)) × IsFirstUnread world (inputs_of (Join r)) fault)
 IsUnhad world (Drop r) fault =
     IsUnopened world r.session.now fault
     ⊎ (Holds world.files r.session.now (λ bytes. ⊤)
