@@ -38,7 +38,8 @@ WIDTH = 100
 
 # Relations that public calls only hand on to one another: what they say inside isn't needed to
 # trust the calls.
-HANDED_ON = {"Rattle.decoder.specs.Stands", "Rattle.decoder.specs.SymbolsOf"}
+HANDED_ON = {"Rattle.decoder.specs.Stands", "Rattle.decoder.specs.SymbolsOf",
+             "Rattle.inventory.specs.Tells"}
 
 
 # What the table tells: a short name, the promise, the clauses that say it (crate, function, labels;
@@ -113,7 +114,7 @@ PROMISES = [
 ]
 # The crates that stand on the library and offer it further.
 ABOVE_THE_LIBRARY = {
-    "request", "causes", "host", "program_host", "tool", "alcrs", "alcrs_c",
+    "request", "causes", "inventory", "host", "program_host", "tool", "alcrs", "alcrs_c",
 }
 
 

@@ -48,7 +48,7 @@ _alcrs() {
         decode) options="--tsi --toi --no-clobber --quiet --help" files=2 ;;
         follow) options="--tsi --toi --no-clobber --quiet --help" files=2 ;;
         twin) options="--tsi --toi --no-clobber --quiet --help" files=4 ;;
-        show) options="--quiet --help" files=1 ;;
+        show) options="--summary --quiet --help" files=1 ;;
         help)
             [ "$COMP_CWORD" -gt 2 ] || _alcrs_words "$commands" "$typed"
             return

@@ -163,6 +163,8 @@ complete -c alcrs -n '__alcrs_command_is twin' -s q -l quiet \
 complete -c alcrs -n '__alcrs_command_is twin' -s h -l help \
     -d 'Print help (see a summary with \'-h\')'
 
+complete -c alcrs -n '__alcrs_command_is show' -l summary \
+    -d 'Prints a few lines for each TSI and TOI, not one for each datagram'
 complete -c alcrs -n '__alcrs_command_is show' -s q -l quiet \
     -d 'Says no sentence on standard error'
 complete -c alcrs -n '__alcrs_command_is show' -s h -l help \

@@ -126,16 +126,13 @@ pub(crate) const SHOW: &str = "Prints one of these lines for each datagram:
 P is its place. L is the object's length in bytes, E the symbol's.
 B is the most source symbols of a block, M the most encoding symbols.
 S is the block's number, J the symbol's in the block. Places, blocks and symbols count from 0.
-With --summary it prints these lines in their place, once all were read:
-  tsi T toi U datagrams D first P last P carriers C symbols N repeats R
-  tsi T toi U length L symbol E block B max M carriers C
-  tsi T toi U weakest block S need K have H
-  no packet REASON datagrams D
-Of each TSI and TOI: D packets came, the first and the last at these places. C of them have the FTI.
-N of their symbols differ, and R packets have one of these again.
-Then the FTI of the first that has one, and how many have the same.
-Then the first of the blocks that have the fewest symbols beyond those that they need.
-Last, for each reason, how many datagrams are no packets.
+With --summary it prints these in their place, the first three for each TSI T and TOI U:
+  tsi T toi U datagrams D first P last P carriers C symbols N repeats R  D packets, places P to P
+  tsi T toi U length L symbol E block B max M carriers C                 C have the FTI of the first
+  tsi T toi U weakest block S need K have H                              the least beyond its need
+  no packet REASON datagrams D                                           D are no packets, for this
+In the first line C have an FTI, N symbols differ, and R packets repeat one of them.
+By the FTI of the second, block S needs K symbols and has H: no other has fewer beyond its need.
 Statuses: 0 all are packets, 1 some are not, or a fault, 2 the command line is refused.
 
 Example: alcrs show bulletin.session";

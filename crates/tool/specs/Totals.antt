@@ -1,6 +1,6 @@
 -- The lines of a session's numbers, which are printed where a summary is asked for.
-use Rattle.std.specs.Prelude.{◌≡◌, ℕ, ◌-◌, List, [], ◌++◌, if◌then◌else◌, is_some}
-use Rattle.std.specs.Prelude.{flat_map, codes, decimal}
+use Rattle.std.specs.Prelude.{◌≡◌, ℕ, ◌-◌, List, [], ◌++◌, if◌then◌else◌}
+use Rattle.std.specs.Prelude.{Option, Some, None, is_some, flat_map, codes, decimal}
 use Rattle.alc.specs.Reading.{Reading}
 use Rattle.reception.specs.declared.scope.Identity.{Identity}
 use Rattle.inventory.specs.Packets.{faults_in}
@@ -29,10 +29,23 @@ fti_of_text part =
     identity_text part.identity ++ fti_text part.fti 0
     ++ named (codes " carriers") (decimal part.with_fti)
 
+-- where a carrier came
+abbrev pub fti_lines : Part → List ℕ
+fti_lines part = if is_some part.fti then line_of (fti_of_text part) else []
+
+-- the block with the fewest symbols beyond its need, by that FTI
+abbrev pub weakest_text : Identity → ℕ × ℕ × ℕ → List ℕ
+weakest_text who (block, need, have) =
+    identity_text who ++ named (codes " weakest block") (decimal block)
+    ++ named (codes " need") (decimal need) ++ named (codes " have") (decimal have)
+
+abbrev pub weakest_lines : Identity → Option (ℕ × ℕ × ℕ) → List ℕ
+weakest_lines who None = []
+weakest_lines who (Some weakest) = line_of (weakest_text who weakest)
+
 abbrev pub part_lines : Part → List ℕ
 part_lines part =
-    line_of (packets_text part)
-    ++ (if is_some part.fti then line_of (fti_of_text part) else [])
+    line_of (packets_text part) ++ fti_lines part ++ weakest_lines part.identity part.weakest
 
 -- why datagrams are no packets, and how many
 abbrev pub count_text : FaultCount → List ℕ

@@ -7,8 +7,9 @@ ghost use Rattle.request.specs.declared.requests.Request.TheVariants.{Show};
 ghost use Rattle.tool.specs.Commands.{shown_status};
 ghost use Rattle.tool.specs.Doing.{HasMade, HasStopped};
 ghost use Rattle.tool.specs.Lines.{line_of};
-ghost use Rattle.tool.specs.Totals.{identity_text, packets_text, fti_of_text};
-ghost use Rattle.tool.specs.Totals.{part_lines, count_text, AreTotals};
+ghost use Rattle.tool.specs.Totals.{identity_text, packets_text, fti_of_text, fti_lines};
+ghost use Rattle.tool.specs.Totals.{weakest_text, weakest_lines, part_lines, count_text};
+ghost use Rattle.tool.specs.Totals.{AreTotals};
 ghost use Rattle.tool.specs.Totalling.{AreAllCounted, IsUncounted};
 ghost use Rattle.tool.specs.declared.fault.Fault.TheVariants.{Frame};
 
@@ -105,15 +106,55 @@ fn fti_line(alloc: Global, part: &Part) -> Result<Text, AllocError>
     Ok(line)
 }
 
+// Puts that line last, where a carrier came.
+fn put_fti_line(alloc: Global, lines: &mut Text, part: &Part) -> Result<(), AllocError>
+    ensures { OnOk result (lines.new ≡ lines.old ++ fti_lines part.now) }
+{
+    if part.fti.is_some() {
+        lines.put_line(&fti_line(alloc, part)?)?;
+    }
+    Ok(())
+}
+
+// The line of the block with the fewest symbols beyond those that it needs.
+fn weakest_line(
+    alloc: Global,
+    who: Identity,
+    weakest: (u32, usize, usize),
+) -> Result<Text, AllocError>
+    ensures { IfOk result (λ line. line ≡ weakest_text who weakest) }
+{
+    let (block, need, have) = weakest;
+    let mut line = Text::new(alloc);
+    put_identity(&mut line, who)?;
+    line.named(" weakest block", block)?;
+    line.named(" need", need)?;
+    line.named(" have", have)?;
+    Ok(line)
+}
+
+// Puts that line last, where there is one.
+fn put_weakest(
+    alloc: Global,
+    lines: &mut Text,
+    who: Identity,
+    weakest: Option<(u32, usize, usize)>,
+) -> Result<(), AllocError>
+    ensures { OnOk result (lines.new ≡ lines.old ++ weakest_lines who weakest) }
+{
+    match weakest {
+        Some(weakest) => lines.put_line(&weakest_line(alloc, who, weakest)?),
+        None => Ok(()),
+    }
+}
+
 // Puts the lines of an identity last.
 fn put_part(alloc: Global, lines: &mut Text, part: &Part) -> Result<(), AllocError>
     ensures { OnOk result (lines.new ≡ lines.old ++ part_lines part.now) }
 {
     lines.put_line(&packets_line(alloc, part)?)?;
-    if part.fti.is_some() {
-        lines.put_line(&fti_line(alloc, part)?)?;
-    }
-    Ok(())
+    put_fti_line(alloc, lines, part)?;
+    put_weakest(alloc, lines, part.identity, part.weakest)
 }
 
 // The line of those that are no packets for one reason.

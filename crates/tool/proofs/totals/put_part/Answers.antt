@@ -1,0 +1,12 @@
+use Rattle.std.proofs.Common.{◌∙◌, ◌++◌, ℕ, List, ap, append_assoc}
+use Rattle.tool.specs.Lines.{line_of}
+use Rattle.tool.specs.Totals.{packets_text, fti_lines, weakest_lines}
+use Rattle.tool.proofs.Gains.{gains_more}
+use Rattle.tool.proofs.totals.put_part.Goals as goal
+
+pub returns : goal.returns
+returns c =
+    let part = c.args.part.now in
+    let first = c.in_ok-put_line.ensures ∙ ap (λ (t : List ℕ). c.args.lines.now ++ line_of t) c.in_ok-packets_line.ensures in
+    gains_more c.put_weakest.result c.args.lines.now c.put_fti_line.new.lines c.put_weakest.new.lines (line_of (packets_text part) ++ fti_lines part) (weakest_lines part.identity part.weakest)
+    (c.in_ok-put_fti_line.ensures ∙ ap (λ (t : List ℕ). t ++ fti_lines part) first ∙ append_assoc c.args.lines.now (line_of (packets_text part)) (fti_lines part)) c.put_weakest.ensures
