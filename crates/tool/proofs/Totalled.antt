@@ -21,7 +21,7 @@ use Rattle.tool.specs.Totalling.{AreCounted, AreAllCounted, IsCutBehind, IsUncou
 use Rattle.tool.specs.declared.done.Done.{Done}
 use Rattle.tool.specs.declared.done.Told.TheVariants.{Lines}
 use Rattle.tool.specs.declared.fault.Fault.{Fault}
-use Rattle.tool.specs.declared.fault.Fault.TheVariants.{Open, File, Memory, Frame, Certificate, Fti, Send}
+use Rattle.tool.specs.declared.fault.Fault.TheVariants.{Open, File, Memory, Frame, Certificate, Fti, Send, NoPlace}
 use Rattle.tool.proofs.Joins.{holds_session}
 use Rattle.tool.proofs.Numbered.{read_more}
 use Rattle.tool.proofs.Showed.{nothing_read}
@@ -85,3 +85,4 @@ module _ (w : World) (r : ShowRequest) (asked : r.summary ≡ true) (opened : Op
   uncounted (Certificate e) why fails = absurd why
   uncounted (Fti e) why fails = absurd why
   uncounted (Send e) why fails = absurd why
+  uncounted (NoPlace n) why fails = absurd why
