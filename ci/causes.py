@@ -55,6 +55,7 @@ def make_files():
         "captured.pcapng", bytes.fromhex("0a0d0d0a1c0000004d3c2b1a01000000ffffffffffffffff1c000000")
     )
     write("empty.txt", b"")
+    write("places.txt", b"0\n1 x7\n2-3\n")
     write("short.rsc", read("note.rsc")[:-1])
     write("longer.txt", read("note.txt") + b"!")
     write("other.txt", bytes([read("note.txt")[0] ^ 1]) + read("note.txt")[1:])
@@ -125,6 +126,14 @@ CASES = [
     (["show", "bad\nname.session"], 1, "fault S2", ["bad?name.session is cut off"]),
     (["drop", "note.session", "out", "9"], 1, "fault S6",
      ["note.session has 6 datagrams", "place 9"]),
+    (["drop", "note.session", "out", "--places", "places.txt"], 1, "fault L1 NoPlace word 2",
+     ["places.txt: word 2, x7, in line 2, is no place"]),
+    (["drop", "note.session", "out", "--places", "-"], 1, "fault L1 NoPlace word 0",
+     ["-: word 0 is no place"], "note.txt"),
+    (["drop", "note.session", "out", "--places", "none.txt"], 1, "fault open none.txt",
+     ["none.txt", "No such file"]),
+    (["drop", "-", "out", "--places", "-"], 1, "fault open -",
+     ["standard input can be read once"], "note.session"),
     (["check", "note.session", "note.txt", "note.txt", *OF_NOTE], 1, "fault Z1",
      ["note.txt begins as text", "SESSION OBJECT CERT"]),
     (["check", "note.session", "note.txt", "short.rsc", *OF_NOTE], 1, "fault Z3",
@@ -206,8 +215,8 @@ REFUSED = [
      "--symbol takes a whole number from 1 to 65475"),
     (["encode", "a", "b", *OF_NOTE, "--symbol", "8", "--block", "1", "--max", "300"],
      "--max takes a whole number from 1 to 255"),
-    (["drop", "note.session", "out", "3", "x' for '--tsi"],
-     "PLACE takes a whole number from 0 to 4294967295"),
+    (["drop", "note.session", "out", "3", "x' for '--tsi"], None),
+    (["drop", "note.session", "out"], None),
     (["decode", "note.session", "out", "--tsi", "-1", "--toi", "2"],
      "the tip is for a file of that name; numbers have no sign"),
     (["show", "note.session", "--order"],

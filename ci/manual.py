@@ -18,8 +18,8 @@ ROOT = Path(__file__).resolve().parent.parent
 HELP = ROOT / "samples" / "help"
 MADE_BY = "ci/manual.py makes this file of samples/help"
 SECTIONS = ("Commands:", "Arguments:", "Options:")
-# An option's names and its value, or an argument, which may be repeated.
-HEAD = re.compile(r"((?:-\w, )?--[\w-]+)? ?(?:<([\w-]+)>)?(\.\.\.)?")
+# An option's names and its value, or an argument, which may be left out or repeated.
+HEAD = re.compile(r"((?:-\w, )?--[\w-]+)? ?(?:[<[]([\w-]+)[>\]])?(\.\.\.)?")
 # What takes a number tells its range.
 RANGE = re.compile(r"\b\d+ to \d+\b")
 # The command that has no help text of its own: it prints those of the others.
@@ -147,7 +147,8 @@ class Help:
             if option.long_name() not in needed | {"--help", "--version"}:
                 words.append((f"{option.long_name()} {option.shown_value()}".strip(), "optional"))
         for argument in self.arguments:
-            words.append((argument.value + ("..." if argument.is_repeated else ""), "argument"))
+            kind = "optional argument" if f"[{argument.value}]" in self.usage else "argument"
+            words.append((argument.value + ("..." if argument.is_repeated else ""), kind))
         return words
 
     def file_arguments(self):
@@ -220,9 +221,11 @@ def synopsis_lines(help_):
     shown = []
     for word, kind in help_.synopsis():
         name, _, value = word.partition(" ")
-        if kind == "argument":
+        if kind.endswith("argument"):
             text = "\\fI" + code(name.removesuffix("...")) + "\\fR"
             text += "..." if name.endswith("...") else ""
+            if kind.startswith("optional"):
+                text = "[" + text + "]"
         elif kind == "command":
             text = "\\fB" + code(name) + "\\fR"
         else:

@@ -23,7 +23,7 @@ _alcrs_files() {
 _alcrs_value() {
     case "$1" in
         --tsi | --toi | --symbol | --block | --max | --fti-every) echo number ;;
-        --picture) echo file ;;
+        --picture | --places) echo file ;;
         --order) echo blocks rounds ;;
     esac
 }
@@ -42,7 +42,7 @@ _alcrs() {
         certify) options="--tsi --toi --symbol --block --max --no-clobber --quiet --help" files=2 ;;
         convert) options="--tsi --toi --no-clobber --quiet --help" files=2 ;;
         check) options="--tsi --toi --picture --summary --no-clobber --quiet --help" files=3 ;;
-        drop) options="--no-clobber --quiet --help" files=2 ;;
+        drop) options="--places --no-clobber --quiet --help" files=2 ;;
         salvage) options="--no-clobber --quiet --help" files=2 ;;
         join) options="--turns --no-clobber --quiet --help" files=any ;;
         decode) options="--tsi --toi --no-clobber --quiet --help" files=2 ;;

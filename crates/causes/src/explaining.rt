@@ -4,8 +4,9 @@ ghost use Rattle.causes.specs.Sentences.{is_doubted, is_reception, tells_repeats
 
 use crate::files::{Kind, STANDARD_INPUT, kind_of, unread, unwritten};
 use crate::names::{
-    Name, certificate_of, identity_of, inputs_named, object_of, output_of, session_of,
+    Name, certificate_of, identity_of, inputs_named, object_of, output_of, places_of, session_of,
 };
+use crate::places::{Word, word_behind};
 use crate::sessions::{Break, Carrier, carrier_from, walk};
 use request::Request;
 use session::FrameFault;
@@ -201,6 +202,7 @@ impl<'a, R: Files> Case<'a, R> {
             "open" | "file" | "S4" | "O3" | "Z4" => self.io(),
             "S1" | "S2" | "S3" => self.broken(),
             "S6" => self.no_such_place(),
+            "L1" => self.no_place(self.number(4)),
             "Z1" | "Z2" | "Z3" => self.no_certificate(),
             "Z6" => self.say(OTHER_IDENTITY, &[]),
             "F1" | "F2" | "F3" | "F4" | "F5" | "F6" => self.say(no_fti(self.word(1)), &[]),
@@ -250,6 +252,7 @@ impl<'a, R: Files> Case<'a, R> {
             session_of(self.request),
             object_of(self.request),
             certificate_of(self.request),
+            places_of(self.request),
         ] {
             if let Some(text) = unread(self.rt, self.alloc, name.unwrap_or("/"))? {
                 if name.is_some() {
@@ -302,6 +305,29 @@ impl<'a, R: Files> Case<'a, R> {
                 &[count, self.number(3)],
             ),
             _ => Ok(None),
+        }
+    }
+
+    // The word of the file of places that is none, behind so many others.
+    fn no_place(&self, count: u64) -> Sentence {
+        let name = places_of(self.request).unwrap_or("the file of places");
+        match word_behind(self.rt, self.alloc, name, count) {
+            Some(Word { shown, line }) => {
+                let mut text = Name { text: name }.to_string(self.alloc)?;
+                let word = Name {
+                    text: shown.as_str(),
+                };
+                let told = format!(in self.alloc;
+                    ": word {count}, {word}, in line {line}, is no place: {PLACES}"
+                )?;
+                text.push_str(told.as_str())?;
+                Ok(Some(text))
+            }
+            None => {
+                let name = Name { text: name };
+                let told = format!(in self.alloc; "{name}: word {count} is no place: {PLACES}")?;
+                Ok(Some(told))
+            }
         }
     }
 
@@ -395,6 +421,9 @@ impl<'a, R: Files> Case<'a, R> {
         )
     }
 }
+
+const PLACES: &str =
+    "words count from 0, and each is N, or N-M with N at most M, of 0 to 4294967295";
 
 const OTHER_IDENTITY: &str =
     "{C} is for another TSI or TOI than {T} and {I}: make one for these with alcrs certify";

@@ -9,6 +9,7 @@
 //! - `explaining`: the sentence for a line.
 //! - `files`: why a file can't be opened or written, and what it is instead of a session.
 //! - `sessions`: where a session's frames stop, and whose FTI its carriers have.
+//! - `places`: a word of a file of places, and its line.
 //! - `names`: a file's name, as it can be shown.
 //! - `refusals`: what a refused command line wants in place of a value.
 //! - `repeats`: how many datagrams are repeats of others, by the lines of a yes.
@@ -17,6 +18,7 @@
 mod explaining;
 mod files;
 mod names;
+mod places;
 mod refusals;
 mod repeats;
 mod sessions;

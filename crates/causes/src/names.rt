@@ -56,6 +56,14 @@ pub(crate) fn certificate_of<'a>(request: &Request<'a>) -> Option<&'a str> {
     }
 }
 
+/// The file of places that it reads, if it names one.
+pub(crate) fn places_of<'a>(request: &Request<'a>) -> Option<&'a str> {
+    match request {
+        Request::Drop(request) => request.places_file,
+        _ => None,
+    }
+}
+
 /// How many of its inputs are to be this file.
 pub(crate) fn inputs_named(request: &Request<'_>, name: &str) -> u64 {
     let mut count = 0u64;
@@ -68,6 +76,7 @@ pub(crate) fn inputs_named(request: &Request<'_>, name: &str) -> u64 {
         session_of(request),
         object_of(request),
         certificate_of(request),
+        places_of(request),
     ] {
         count = count.saturating_add(u64::from(input == Some(name)));
     }

@@ -12,7 +12,6 @@ fn refused_argument(text: &str) -> Option<&str> {
 fn numbers_of(argument: &str) -> Option<(&str, u64, u64)> {
     match argument {
         "--tsi" | "--toi" => Some((argument, 0, 4_294_967_295)),
-        "<PLACE>..." | "[PLACE]..." => Some(("PLACE", 0, 4_294_967_295)),
         "--symbol" => Some((argument, 1, 65_475)),
         "--block" | "--max" | "--fti-every" => Some((argument, 1, 255)),
         _ => None,

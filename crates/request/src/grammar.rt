@@ -283,7 +283,7 @@ const OUTLINES: [Outline<'static>; 11] = [
             SESSION_TO_WRITE,
             Argument::Places {
                 name: "PLACE",
-                help: "The places of the datagrams to leave out, N or N-M, counted from 0",
+                help: "Places to leave out, counted from 0: N, or a range N-M; 0 to 4294967295",
             },
             Argument::FileOption {
                 name: "places",
