@@ -78,6 +78,7 @@ fn tell_beforehand<O: std::io::Write + Drop>(
 // through a pipe.
 fn may_print_between(rt: &HostRuntime, request: &Request<'_>) -> bool {
     match request {
+        Request::Show(show) if show.summary => false,
         Request::Show(_) | Request::Follow(_) => match fs::metadata(rt, "/dev/stdout") {
             Ok(there) => !there.is_file(),
             Err(_) => true,

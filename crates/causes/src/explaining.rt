@@ -48,8 +48,8 @@ pub fn explain<R: Files>(
             &[case.number(2), case.number(4), case.number(6)],
         ),
         "empty" => case.say(
-            "{S} has no packet of TSI {T} and TOI {I} that carries the FTI: alcrs show {S} tells \
-            what it has",
+            "{S} has no packet of TSI {T} and TOI {I} that carries the FTI: alcrs show --summary \
+            {S} tells what it has",
             &[],
         ),
         _ => Ok(None),
@@ -510,7 +510,9 @@ fn reason_text(code: &str) -> Option<&'static str> {
             "{O} hasn't the length that {C} is for: one of the two is another object's, or their \
             order is wrong (SESSION OBJECT CERT)"
         }
-        "N3" => "{S} has no packet of TSI {T} and TOI {I}: alcrs show {S} tells which it has",
+        "N3" => {
+            "{S} has no packet of TSI {T} and TOI {I}: alcrs show --summary {S} tells which it has"
+        }
         "N4" => {
             "{S}: datagram {0} is no packet: take strays out with alcrs drop, or sort them out \
             when you capture"
