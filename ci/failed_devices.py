@@ -225,7 +225,8 @@ def is_told(words, call, whole, ran):
         return whole[1].startswith(output) and left in (BEFORE, whole[3])
     lines = output.decode().splitlines(keepends=True)
     before = "".join(lines[:-1]).encode()
-    is_before = before == b"" or words[0] in ("show", "follow") and whole[1].startswith(before)
+    may_print = words[0] in ("show", "follow") and "--summary" not in words
+    is_before = before == b"" or may_print and whole[1].startswith(before)
     return left == BEFORE and is_before and "".join(lines[-1:]).rstrip("\n") in call.faults(words)
 
 

@@ -3,9 +3,9 @@
 
 Each command runs once with all the memory it asks for, and then once for each allocation, which is
 refused. A run ends well where it prints the same and writes the same, or `fault memory` as its last
-line with status 1; before that line a run may have printed whole lines of `show` and `follow`, and
-nothing else, and its output is what it was. A C compiler, `cc`, builds the library that refuses.
-After `./alcrs` has built the program.
+line with status 1; before that line a run may have printed whole lines of `follow` and, without a
+summary, of `show`, and nothing else, and its output is what it was. A C compiler, `cc`, builds the
+library that refuses. After `./alcrs` has built the program.
 """
 import os
 import sys
@@ -72,7 +72,7 @@ def ends_well(words, whole, ran):
     status, output, messages, left, parts = ran
     lines = output.splitlines(keepends=True)
     before = b"".join(lines[:-1])
-    may_print = words[:1] in (["show"], ["follow"])
+    may_print = words[:1] in (["show"], ["follow"]) and "--summary" not in words
     told = (status, lines[-1:], messages, left, parts) == (1, [b"fault memory\n"], b"", BEFORE, [])
     return ran == whole or told and (before == b"" or may_print and whole[1].startswith(before))
 

@@ -99,6 +99,8 @@ COMMANDS = [
     ["show", "sparse.session"],
     ["show", "spoiled.session"],
     ["show", "cut.session"],
+    ["show", "two.session", "--summary"],
+    ["show", "spoiled.session", "--summary"],
     ["--help"],
     ["encode", "--help"],
     ["follow", "--help"],
