@@ -98,10 +98,11 @@ def summary(lines):
         told.append(f"{who} datagrams {len(packets)} first {packets[0][0]} last {packets[-1][0]} "
                     f"carriers {len(ftis)} symbols {len(symbols)} "
                     f"repeats {len(packets) - len(symbols)}")
-        if ftis:
-            length, size, block, most = ftis[0]
+        for fti in sorted(set(ftis)):
+            length, size, block, most = fti
             told.append(f"{who} length {length} symbol {size} block {block} max {most} "
-                        f"carriers {ftis.count(ftis[0])}")
+                        f"carriers {ftis.count(fti)}")
+        if ftis:
             sbn, need, have = weakest(ftis[0], symbols)
             told.append(f"{who} weakest block {sbn} need {need} have {have}")
     for reason in sorted(reasons, key=REASONS.index):

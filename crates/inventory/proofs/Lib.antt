@@ -3,3 +3,4 @@ mod Maps
 mod Blocks
 mod Steps
 mod Told
+mod Ftis

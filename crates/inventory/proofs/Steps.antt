@@ -16,7 +16,6 @@ use Rattle.std.specs.BTreeSet.{BTreeSet, contains, btree_set_len, IsOrdered}
 use Rattle.std.specs.Ordering.{is_eq}
 use Rattle.std.specs.Prelude.{cond}
 use Rattle.std.specs.Set.{distinct_count}
-use Rattle.inventory.specs.Parts.{same_count}
 use Rattle.inventory.specs.Tally.{pair_cmp}
 use Rattle.inventory.proofs.Pairs.{pair_total, same_is, one_test, same_laws}
 use Rattle.partition.specs.Fti.{Fti}
@@ -85,11 +84,11 @@ pub none_first : (ftis : List Fti) → slice_get ftis 0 ≡ None → ftis ≡ []
 none_first [] none = refl
 none_first (f ∷ ftis) none = absurd (cc)
 
-same_itself : (f : Fti) → same_fti f f ≡ true
+pub same_itself : (f : Fti) → same_fti f f ≡ true
 same_itself f =
     rw (eq-eqb f.transfer_length f.transfer_length refl, eq-eqb f.symbol_length f.symbol_length refl, eq-eqb f.block_length f.block_length refl, eq-eqb f.max_symbols f.max_symbols refl) refl
 
-count_push : (f : Fti) (ftis : List Fti) (x : Fti) → count_by (same_fti f) (ftis ++ x ∷ []) ≡ count_by (same_fti f) ftis + cond (same_fti f x) 1 0
+pub count_push : (f : Fti) (ftis : List Fti) (x : Fti) → count_by (same_fti f) (ftis ++ x ∷ []) ≡ count_by (same_fti f) ftis + cond (same_fti f x) 1 0
 count_push f ftis x =
     let last : 0 + cond (same_fti f x) 1 0 ≡ cond (same_fti f x) 1 0 = omega arith in
     sum_by-append (λ (g : Fti). cond (same_fti f g) 1 0) ftis (x ∷ []) ∙ ap (λ (n : ℕ). count_by (same_fti f) ftis + n) last
@@ -102,30 +101,9 @@ module _ (ftis : List Fti) (f x : Fti) (first : slice_get ftis 0 ≡ Some f) whe
       go [] is = absurd (cc)
       go (g ∷ gs) is = is
 
-  module _ (n : ℕ) (before : n ≡ same_count (slice_get ftis 0) ftis) where
-    was : n ≡ count_by (same_fti f) ftis
-    was = before ∙ ap (λ (o : Option Fti). same_count o ftis) first
-
-    now : (m : ℕ) → m ≡ count_by (same_fti f) (ftis ++ x ∷ []) → m ≡ same_count (slice_get (ftis ++ x ∷ []) 0) (ftis ++ x ∷ [])
-    now m is = is ∙ sym (ap (λ (o : Option Fti). same_count o (ftis ++ x ∷ [])) first_stays)
-
-    pub same_more : same_fti f x ≡ true → n + 1 ≡ same_count (slice_get (ftis ++ x ∷ []) 0) (ftis ++ x ∷ [])
-    same_more same = now (n + 1) (ap (λ (k : ℕ). k + 1) was ∙ sym (count_push f ftis x ∙ ap (λ (b : Bool). count_by (same_fti f) ftis + cond b 1 0) same))
-
-    pub same_other : same_fti f x ≡ false → n ≡ same_count (slice_get (ftis ++ x ∷ []) 0) (ftis ++ x ∷ [])
-    same_other other =
-        let pushed = count_push f ftis x ∙ ap (λ (b : Bool). count_by (same_fti f) ftis + cond b 1 0) other in
-        let is : n ≡ count_by (same_fti f) (ftis ++ x ∷ []) = omega (arith, was, pushed) in
-        now n is
-
 module _ (ftis : List Fti) (x : Fti) (none : slice_get ftis 0 ≡ None) where
   pub first_now : Some x ≡ slice_get (ftis ++ x ∷ []) 0
   first_now = sym (ap (λ (gs : List Fti). slice_get (gs ++ x ∷ []) 0) (none_first ftis none))
-
-  pub one_counted : 1 ≡ same_count (slice_get (ftis ++ x ∷ []) 0) (ftis ++ x ∷ [])
-  one_counted =
-      sym (ap (λ (gs : List Fti). same_count (slice_get (gs ++ x ∷ []) 0) (gs ++ x ∷ [])) (none_first ftis none)
-      ∙ count_push x [] x ∙ ap (λ (b : Bool). 0 + cond b 1 0) (same_itself x))
 
 -- ---- the blocks and ESIs of symbols
 

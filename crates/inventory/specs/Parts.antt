@@ -13,12 +13,30 @@ use Rattle.alc.specs.Reading.{Reading}
 use Rattle.reception.specs.Reception.{same_fti}
 use Rattle.reception.specs.declared.scope.Identity.{Identity}
 use Rattle.inventory.specs.Packets.{packets_of, places, carried, symbol_ids, same_ids}
+use Rattle.inventory.specs.declared.part.FtiCount.{FtiCount}
 use Rattle.inventory.specs.declared.part.Part.{Part}
 
--- how many have this FTI
-abbrev pub same_count : Option Fti → List Fti → ℕ
-same_count None ftis = 0
-same_count (Some f) ftis = count_by (same_fti f) ftis
+-- how many have this FTI, and some do
+pub record IsFtiCount (ftis : List Fti) (counted : FtiCount) : Type 0 where
+  pub count : counted.carriers ≡ count_by (same_fti counted.fti) ftis
+  pub some : 0 < counted.carriers
+
+-- by the lengths of object and symbol, then by the most symbols of a block
+abbrev pub fti_cmp : Fti → Fti → Ordering
+fti_cmp a b =
+    ordering_then
+    (ordering_then (nat_cmp a.transfer_length b.transfer_length)
+    (nat_cmp a.symbol_length b.symbol_length))
+    (ordering_then (nat_cmp a.block_length b.block_length) (nat_cmp a.max_symbols b.max_symbols))
+
+abbrev pub ftis_of : List FtiCount → List Fti
+ftis_of counts = map (λ counted. counted.fti) counts
+
+-- each FTI that occurs, in ascending order, and how many have it
+pub record AreFtis (ftis : List Fti) (counts : List FtiCount) : Type 0 where
+  pub each : AllByRecursion (IsFtiCount ftis) counts
+  pub whole : (f : Fti) → Contains ftis f → Contains (ftis_of counts) f
+  pub rising : IsStrictlySortedBy fti_cmp (ftis_of counts)
 
 -- how many different encoding symbols of a block came, by the blocks and ESIs of those that did
 abbrev pub have_count : Fti → List (ℕ × ℕ) → ℕ → ℕ
@@ -40,8 +58,8 @@ IsWeakestBy (Some f) ids (Some (block, need, have)) = IsWeakest f ids block need
 IsWeakestBy None ids None = ⊤
 IsWeakestBy fti ids weakest = ⊥
 
--- The numbers of an identity's packets, of which each has its place. The FTI is that of the first
--- carrier.
+-- The numbers of an identity's packets, of which each has its place. The weakest block is that by
+-- the FTI of the first carrier.
 pub record IsPartOf (xs : List (ℕ × Packet)) (part : Part) : Type 0 where
   pub some : 0 < length xs
   pub datagrams : part.datagrams ≡ length xs
@@ -49,9 +67,8 @@ pub record IsPartOf (xs : List (ℕ × Packet)) (part : Part) : Type 0 where
   pub last : part.last ≡ slice_index (places xs) (length xs - 1)
   pub carriers : part.carriers ≡ length (carried xs)
   pub symbols : part.symbols ≡ distinct_count same_ids (symbol_ids xs)
-  pub fti : part.fti ≡ slice_get (carried xs) 0
-  pub with_fti : part.with_fti ≡ same_count part.fti (carried xs)
-  pub weakest : IsWeakestBy part.fti (symbol_ids xs) part.weakest
+  pub ftis : AreFtis (carried xs) part.ftis.items
+  pub weakest : IsWeakestBy (slice_get (carried xs) 0) (symbol_ids xs) part.weakest
 
 abbrev pub IsPart : List Reading → Part → Type 0
 IsPart rs part = IsPartOf (packets_of part.identity rs) part

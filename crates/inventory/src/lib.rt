@@ -22,4 +22,4 @@ mod telling;
 mod weakest;
 
 pub use collecting::Summary;
-pub use part::{FaultCount, Part};
+pub use part::{FaultCount, FtiCount, Part};

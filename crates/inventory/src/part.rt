@@ -3,8 +3,15 @@ use alc::PacketFault;
 use partition::Fti;
 use reception::Identity;
 
-/// What is told of an identity, of which a packet came.
+/// An FTI, and how many carriers have it.
 #[derive(Debug, Clone, Copy, PartialEq, Eq)]
+pub struct FtiCount {
+    pub fti: Fti,
+    pub carriers: usize,
+}
+
+/// What is told of an identity, of which a packet came.
+#[derive(Drop)]
 pub struct Part {
     pub identity: Identity,
     /// How many of the datagrams are its packets.
@@ -17,12 +24,10 @@ pub struct Part {
     pub carriers: usize,
     /// How many different symbols they have: not two of one block and ESI.
     pub symbols: usize,
-    /// The FTI of the first carrier, where one came.
-    pub fti: Option<Fti>,
-    /// How many carriers have this FTI.
-    pub with_fti: usize,
-    /// By this FTI the block with the fewest symbols beyond those that it needs, how many it needs,
-    /// and how many different ones it has.
+    /// Each FTI that carriers have, by its numbers.
+    pub ftis: Vec<FtiCount>,
+    /// By the first carrier's FTI the block with the fewest symbols beyond those that it needs, how
+    /// many it needs, and how many different ones it has.
     pub weakest: Option<(u32, usize, usize)>,
 }
 

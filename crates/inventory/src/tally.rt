@@ -1,6 +1,6 @@
 //! The packets of an identity, counted.
 ghost use Rattle.std.specs.Prelude.{◌≡◌, ◌<◌, ◌≤◌, ◌+◌, ◌*◌, ◌^◌, ◌++◌, ◌∷◌, [], ℕ, List};
-ghost use Rattle.std.specs.Prelude.{length, OnOk};
+ghost use Rattle.std.specs.Prelude.{length, IfOk, OnOk};
 ghost use Rattle.alc.specs.Packet.{Packet as PacketValue};
 ghost use Rattle.alc.specs.Views.{packet_of};
 
@@ -37,7 +37,7 @@ impl Tally {
             datagrams: 0,
             first: 0,
             last: 0,
-            carriers: Carriers::new(),
+            carriers: Carriers::new(alloc),
             symbols: BTreeSet::new(alloc),
         }
     }
@@ -59,7 +59,7 @@ impl Tally {
         self.last = place;
         self.datagrams += 1;
         if let Some(fti) = packet.fti {
-            self.carriers.note(fti);
+            self.carriers.note(fti)?;
         }
         Ok(())
     }
@@ -76,21 +76,20 @@ impl Tally {
     }
 
     /// What is told of them, where this is whose packets they are.
-    pub(crate) fn part(&self, identity: Identity) -> Part
-        ensures identity { result.identity ≡ identity }
+    pub(crate) fn part(&self, alloc: Global, identity: Identity) -> Result<Part, AllocError>
+        ensures identity { IfOk result (λ part. part.identity ≡ identity) }
         ensures part { (xs : List (ℕ × PacketValue)) → 0 < length xs → IsTally xs self.now
-            → IsPartOf xs result }
+            → IfOk result (IsPartOf xs) }
     {
-        Part {
+        Ok(Part {
             identity,
             datagrams: self.datagrams,
             first: self.first,
             last: self.last,
             carriers: self.carriers.count,
             symbols: self.symbols.len(),
-            fti: self.carriers.first,
-            with_fti: self.carriers.same,
+            ftis: self.carriers.ftis(alloc)?,
             weakest: self.weakest(),
-        }
+        })
     }
 }

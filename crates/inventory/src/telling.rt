@@ -18,7 +18,7 @@ impl Summary {
         let mut parts = Vec::new(alloc);
         for (key, tally) in &self.tallies {
             let (tsi, toi) = *key;
-            parts.push(tally.part(Identity { tsi, toi }))?;
+            parts.push(tally.part(alloc, Identity { tsi, toi })?)?;
         }
         Ok(parts)
     }

@@ -128,11 +128,12 @@ B is the most source symbols of a block, M the most encoding symbols.
 S is the block's number, J the symbol's in the block. Places, blocks and symbols count from 0.
 With --summary it prints these in their place, the first three for each TSI T and TOI U:
   tsi T toi U datagrams D first P last P carriers C symbols N repeats R  D packets, places P to P
-  tsi T toi U length L symbol E block B max M carriers C                 C have the FTI of the first
+  tsi T toi U length L symbol E block B max M carriers C                 C have this FTI
   tsi T toi U weakest block S need K have H                              the least beyond its need
   no packet REASON datagrams D                                           D are no packets, for this
 In the first line C have an FTI, N symbols differ, and R packets repeat one of them.
-By the FTI of the second, block S needs K symbols and has H: no other has fewer beyond its need.
+The second comes for each FTI. By that of the first of the C, block S needs K symbols and has H:
+no other has fewer beyond its need.
 Statuses: 0 all are packets, 1 some are not, or a fault, 2 the command line is refused.
 
 Example: alcrs show bulletin.session";

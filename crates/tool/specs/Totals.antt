@@ -1,12 +1,13 @@
 -- The lines of a session's numbers, which are printed where a summary is asked for.
-use Rattle.std.specs.Prelude.{◌≡◌, ℕ, ◌-◌, List, [], ◌++◌, if◌then◌else◌}
-use Rattle.std.specs.Prelude.{Option, Some, None, is_some, flat_map, codes, decimal}
+use Rattle.std.specs.Prelude.{◌≡◌, ℕ, ◌-◌, List, [], ◌++◌}
+use Rattle.std.specs.Prelude.{Option, Some, None, flat_map, codes, decimal}
 use Rattle.alc.specs.Reading.{Reading}
 use Rattle.reception.specs.declared.scope.Identity.{Identity}
 use Rattle.inventory.specs.Packets.{faults_in}
 use Rattle.inventory.specs.Parts.{AreParts}
 use Rattle.inventory.specs.Faults.{fault_counts}
 use Rattle.inventory.specs.declared.part.FaultCount.{FaultCount}
+use Rattle.inventory.specs.declared.part.FtiCount.{FtiCount}
 use Rattle.inventory.specs.declared.part.Part.{Part}
 use Rattle.tool.specs.Lines.{line_of, named, fti_text}
 use Rattle.tool.specs.Words.{packet_words}
@@ -23,17 +24,16 @@ packets_text part =
     ++ named (codes " symbols") (decimal part.symbols)
     ++ named (codes " repeats") (decimal (part.datagrams - part.symbols))
 
--- the FTI of its first carrier, and how many have it
-abbrev pub fti_of_text : Part → List ℕ
-fti_of_text part =
-    identity_text part.identity ++ fti_text part.fti 0
-    ++ named (codes " carriers") (decimal part.with_fti)
+-- an FTI that carriers of an identity have, and how many have it
+abbrev pub fti_of_text : Identity → FtiCount → List ℕ
+fti_of_text who counted =
+    identity_text who ++ fti_text (Some counted.fti) 0
+    ++ named (codes " carriers") (decimal counted.carriers)
 
--- where a carrier came
-abbrev pub fti_lines : Part → List ℕ
-fti_lines part = if is_some part.fti then line_of (fti_of_text part) else []
+abbrev pub fti_lines : Identity → List FtiCount → List ℕ
+fti_lines who ftis = flat_map (λ counted. line_of (fti_of_text who counted)) ftis
 
--- the block with the fewest symbols beyond its need, by that FTI
+-- the block with the fewest symbols beyond its need, by the first carrier's FTI
 abbrev pub weakest_text : Identity → ℕ × ℕ × ℕ → List ℕ
 weakest_text who (block, need, have) =
     identity_text who ++ named (codes " weakest block") (decimal block)
@@ -45,7 +45,8 @@ weakest_lines who (Some weakest) = line_of (weakest_text who weakest)
 
 abbrev pub part_lines : Part → List ℕ
 part_lines part =
-    line_of (packets_text part) ++ fti_lines part ++ weakest_lines part.identity part.weakest
+    line_of (packets_text part) ++ fti_lines part.identity part.ftis.items
+    ++ weakest_lines part.identity part.weakest
 
 -- why datagrams are no packets, and how many
 abbrev pub count_text : FaultCount → List ℕ

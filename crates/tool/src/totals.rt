@@ -20,7 +20,7 @@ use crate::print::Text;
 use crate::show::put_fti;
 use crate::wording::put_packet_fault;
 use host::Host;
-use inventory::{FaultCount, Part, Summary};
+use inventory::{FaultCount, FtiCount, Part, Summary};
 use reception::Identity;
 use request::ShowRequest;
 use session::{FrameFault, Read};
@@ -95,23 +95,28 @@ fn packets_line(alloc: Global, part: &Part) -> Result<Text, AllocError>
     Ok(line)
 }
 
-// The line of the first carrier's FTI, and of how many have it.
-fn fti_line(alloc: Global, part: &Part) -> Result<Text, AllocError>
-    ensures { IfOk result (λ line. line ≡ fti_of_text part.now) }
+// The line of an FTI, and of how many carriers have it.
+fn fti_line(alloc: Global, who: Identity, counted: &FtiCount) -> Result<Text, AllocError>
+    ensures { IfOk result (λ line. line ≡ fti_of_text who counted.now) }
 {
     let mut line = Text::new(alloc);
-    put_identity(&mut line, part.identity)?;
-    put_fti(&mut line, &part.fti, 0)?;
-    line.named(" carriers", part.with_fti)?;
+    put_identity(&mut line, who)?;
+    put_fti(&mut line, &Some(counted.fti), 0)?;
+    line.named(" carriers", counted.carriers)?;
     Ok(line)
 }
 
-// Puts that line last, where a carrier came.
-fn put_fti_line(alloc: Global, lines: &mut Text, part: &Part) -> Result<(), AllocError>
-    ensures { OnOk result (lines.new ≡ lines.old ++ fti_lines part.now) }
+// Puts the line of each FTI last.
+fn put_ftis(
+    alloc: Global,
+    lines: &mut Text,
+    who: Identity,
+    ftis: &[FtiCount],
+) -> Result<(), AllocError>
+    ensures { OnOk result (lines.new ≡ lines.old ++ fti_lines who ftis.now) }
 {
-    if part.fti.is_some() {
-        lines.put_line(&fti_line(alloc, part)?)?;
+    for counted in ftis {
+        lines.put_line(&fti_line(alloc, who, counted)?)?;
     }
     Ok(())
 }
@@ -153,7 +158,7 @@ fn put_part(alloc: Global, lines: &mut Text, part: &Part) -> Result<(), AllocErr
     ensures { OnOk result (lines.new ≡ lines.old ++ part_lines part.now) }
 {
     lines.put_line(&packets_line(alloc, part)?)?;
-    put_fti_line(alloc, lines, part)?;
+    put_ftis(alloc, lines, part.identity, part.ftis.as_slice())?;
     put_weakest(alloc, lines, part.identity, part.weakest)
 }
 

@@ -25,15 +25,15 @@ loop-key-preserved c =
     record {
       each = λ rs told.
           let counted = subst (λ (o : Option Tally). IsTallyAt (packets_of (named_by key) rs) o) turn.1 (told.tallies key) in
-          let part = c.part.ensures.part (packets_of (named_by key) rs) counted.0 counted.1 in
+          let part = c.in_ok-part.ensures.part (packets_of (named_by key) rs) counted.0 counted.1 in
           subst (λ (parts : List Part). AllByRecursion (IsPart rs) parts) (sym pushed)
-          (all_push (IsPart rs) c.loop-key.parts.items c.part.result (c.loop-key.invariant.each rs told)
-          (subst (λ (w : Identity). IsPartOf (packets_of w rs) c.part.result) (sym c.part.ensures.identity) part));
+          (all_push (IsPart rs) c.loop-key.parts.items c.in_ok-part.field-0 (c.loop-key.invariant.each rs told)
+          (subst (λ (w : Identity). IsPartOf (packets_of w rs) c.in_ok-part.field-0) (sym c.in_ok-part.ensures.identity) part));
       named =
           subst (λ (parts : List Part). identities parts ++ map (λ e. named_by e.0) c.next.new.self ≡ map (λ e. named_by e.0) c.args.self.now.tallies.entries) (sym pushed)
-          (one_named c.loop-key.parts.items c.part.result (c.in-Some.key.now, c.in-Some.tally.now) c.next.new.self c.args.self.now.tallies.entries
+          (one_named c.loop-key.parts.items c.in_ok-part.field-0 (c.in-Some.key.now, c.in-Some.tally.now) c.next.new.self c.args.self.now.tallies.entries
           (subst (λ (es : List ((ℕ × ℕ) × Tally)). identities c.loop-key.parts.items ++ map (λ e. named_by e.0) es ≡ map (λ e. named_by e.0) c.args.self.now.tallies.entries) step
-          c.loop-key.invariant.named) c.part.ensures.identity);
+          c.loop-key.invariant.named) c.in_ok-part.ensures.identity);
     }
 
 pub returns : goal.returns

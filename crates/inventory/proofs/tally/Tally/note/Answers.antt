@@ -11,8 +11,8 @@ use Rattle.inventory.proofs.Steps.{first_of_none, first_of_some, last_is, carrie
 use Rattle.inventory.proofs.tally.Tally.note.Goals as goal
 use Rattle.inventory.proofs.tally.Tally.note.Goals.{then-self-eq0, else-self-eq0}
 
-pub returns-in-Some-clause-counted : goal.returns-in-Some-clause-counted
-returns-in-Some-clause-counted c = λ xs tally.
+pub returns-in_ok-note-clause-counted : goal.returns-in_ok-note-clause-counted
+returns-in_ok-note-clause-counted c = λ xs tally.
     let x : ℕ × Packet = (c.args.place, packet_of c.args.packet.now) in
     let longer = length_push xs x in
     let before = tally.datagrams in
@@ -25,7 +25,7 @@ returns-in-Some-clause-counted c = λ xs tally.
       last = sym (last_is xs x);
       carriers = subst (λ (ftis : List Fti). AreCounted ftis c.note.new.self)
           (sym (carried_more xs x ∙ ap (λ (o : Option Fti). carried xs ++ option_to_list o) c.in-Some.is))
-          (c.note.ensures.counted (carried xs) tally.carriers);
+          (c.in_ok-note.ensures.counted (carried xs) tally.carriers);
       symbols = ids_added xs x c.args.self.now.symbols c.insert.new.self c.in_ok-insert.ensures.updates.0 tally.symbols;
     }
 
