@@ -65,8 +65,9 @@ def main():
     else:
         print(f"rt version: {kit}")
         for name, other in OF_TOOLCHAIN:
+            # The gate's machines have different kits of one logic, and the documents name each.
             told = {" ".join(text.split()) for text in found_in(name, other)}
-            if told != {kit}:
+            if kit not in told:
                 wrong.append(f"{name}: {', '.join(sorted(told)) or 'no toolchain'}, not {kit}")
     for line in wrong:
         print(line)
