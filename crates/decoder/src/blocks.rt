@@ -39,8 +39,8 @@ fn are_padded(fti: &Fti, b: u32, rows: &Rows) -> bool
     is_zero(&rows.bytes[used..])
 }
 
-/// A block's source symbols, if all that came of it are symbols of an object; that they are may be
-/// known. `arrivals` has a place for each of its ESIs.
+/// A block's source symbols, if all that came of it are symbols of an object; `are_sound` says that
+/// this is known. `arrivals` has a place for each of its ESIs.
 pub(crate) fn block_rows(
     alloc: Global,
     fti: &Fti,
@@ -88,7 +88,7 @@ pub(crate) fn block_rows(
 }
 
 /// The source symbols of a block of what was received, if all that came of it are symbols of an
-/// object; that they are may be known.
+/// object; `are_sound` says that this is known.
 pub(crate) fn received_rows(
     alloc: Global,
     received: &Received<'_>,

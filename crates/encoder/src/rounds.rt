@@ -28,8 +28,8 @@ struct Batch {
     count: usize,
 }
 
-/// The symbols of how many rounds of repair symbols are made at once: as many as take 64 MiB, and
-/// no more than there are.
+/// How many rounds of repair symbols are made at once: as many as 64 MiB hold, and no more than
+/// there are.
 pub(crate) fn rounds_at_once(fti: &Fti) -> usize
     ensures { result ≤ 255 }
 {

@@ -306,7 +306,7 @@ fn most_at_once(fti: &Fti, order: Order) -> usize
     }
 }
 
-// The symbols of how many rounds are made at once: of fewer than two one symbol at a time is.
+// How many rounds are made at once. Where these are fewer than two, one symbol is made at a time.
 fn rounds_at_once(fti: &Fti, order: Order) -> usize
     ensures few { result ≤ 255 }
     ensures rounds { 1 < result → order ≡ Rounds }

@@ -26,7 +26,7 @@ value_number BlockZero = 12
 value_number MaxBelowBlock = 13
 value_number TooManyBlocks = 14
 
--- where a fault stands among them
+-- where a fault stands among them: a number of its own for each
 abbrev pub fault_number : PacketFault → ℕ
 fault_number TooShort = 0
 fault_number Version = 1

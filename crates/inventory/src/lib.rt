@@ -2,7 +2,8 @@
 //! the first and the last stand, what its carriers say, how many different symbols came; and why
 //! other datagrams are no packets.
 //!
-//! No datagram is kept: of each identity its counts, and of each symbol its block and its ESI.
+//! No datagram is kept: of each identity its counts and FTIs, of each symbol its block and its ESI,
+//! and of each datagram that is no packet its fault.
 //!
 //! - `part`: what is told of an identity.
 //! - `carriers`: the FTIs of carriers, counted.

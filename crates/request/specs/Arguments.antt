@@ -14,7 +14,7 @@ use Rattle.request.specs.Places.{AreRanges}
 
 -- An argument by its name, and what it takes. A number is in a range, and may have a default. A
 -- choice is one of some words, and has a default. A flag may have a letter, too. A file's name may
--- be an option's value, which may be left out, and so may be places.
+-- be an option's value; that may be left out. Places may be left out, too.
 pub data Argument : Type 0 where
   File : Text → Argument
   Number : Text → ℕ → ℕ → Option Text → Argument

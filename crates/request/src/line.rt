@@ -26,7 +26,8 @@ fn usage_of<'a>(error: Error) -> Usage<'a>
 /// its texts from them. Any words may be given.
 ///
 /// An error is `Help` where the words ask for help or the version, `Line` where the grammar refuses
-/// them, `Places` where they tell `drop` no places, and `NoMemory` where there is no memory.
+/// them, `Places` where they tell `drop` no places or a word in a place's stead tells none, and
+/// `NoMemory` where there is no memory.
 pub fn command_line<'a>(alloc: Global, words: &'a [&'a str]) -> Result<CommandLine<'a>, Usage<'a>>
     // The command that the grammar reads from the words where they have no fault, else why they are
     // none; or no memory.

@@ -1,5 +1,5 @@
 //! The line of what the grammar matched. The grammar lets no line through that lacks a value, so
-//! each is there.
+//! each is there, but for places, which are read here.
 ghost use Rattle.std.specs.Prelude.{◌≡◌, ◌≤◌, Some, true, IfOk, IfErr, codes, is_some, map};
 ghost use Rattle.std.specs.Prelude.{option_map};
 ghost use Rattle.std.specs.List.{AllZip};

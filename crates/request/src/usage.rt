@@ -38,7 +38,7 @@ pub enum Usage<'a> {
     Help(Error),
     /// U1: the line is refused; why is the error's text.
     Line(Error),
-    /// U1: the line is refused, since it tells no places to leave out.
+    /// U1: the line is refused: it tells no places, or a word in a place's stead tells none.
     Places(PlacesRefusal<'a>),
     /// There is no memory.
     NoMemory,

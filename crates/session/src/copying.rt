@@ -46,8 +46,9 @@ fn read_on<R: Read>(alloc: Global, reader: &mut R) -> Result<(), FrameFault>
     Ok(())
 }
 
-// The first fault of these readers, each of which is read to its end, or else this one of another
-// reader. Where that isn't one of bytes, it is the answer, and nothing is read.
+// The first fault of these readers, which are read to their ends up to that one; where they have
+// none, this one of another reader. Where that isn't one of bytes, it is the answer, and nothing is
+// read.
 fn first_fault<R: Read>(alloc: Global, readers: &mut [R], other: FrameFault) -> FrameFault
     ensures { IsToldFirst other result
         (map R.remaining readers.old) (map R.sound readers.old) (map R.failed readers.new) }
@@ -141,8 +142,8 @@ fn join_in_turns<R: Read, W: Write>(
 }
 
 /// Copies the frames of all readers up to their ends: all of the first, then all of the second, and
-/// so on; with `turns` one of each in turn, those that have ended being passed over and not read
-/// again. Answers how many there were.
+/// so on; with `turns` one of each in turn, those that have ended being passed over. Answers how
+/// many there were.
 ///
 /// `CutLength`, `CutDatagram` and `TooLong` tell why a reader's bytes aren't frames, and of several
 /// such readers the first: those before one that has a fault are read to their ends. `Io` tells

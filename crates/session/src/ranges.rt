@@ -18,7 +18,7 @@ pub(crate) fn unhad(ranges: &[PlaceRange], len: usize) -> Option<usize>
     None
 }
 
-/// The ranges, by their first places.
+/// The ranges, sorted by their first places.
 pub(crate) fn by_first(alloc: Global, ranges: &[PlaceRange]) -> Result<Vec<PlaceRange>, AllocError>
     ensures same { IfOk result (λ v. HaveSamePlaces ranges.now v.items) }
     ensures rising { IfOk result (λ v. AreByFirst v.items) }
@@ -28,8 +28,8 @@ pub(crate) fn by_first(alloc: Global, ranges: &[PlaceRange]) -> Result<Vec<Place
     Ok(sorted)
 }
 
-/// So many ranges begin at the places that were met, and the last place that they have, if they are
-/// some.
+/// How many ranges begin at the places that were met, and the greatest of their last places, where
+/// there are some.
 #[derive(Clone, Copy)]
 pub(crate) struct Begun {
     pub(crate) count: usize,

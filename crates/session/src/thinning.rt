@@ -20,7 +20,7 @@ struct Counts {
 }
 
 // Copies the frames that are left of a reader, but for those at the places of ranges, which are
-// given by their first places.
+// sorted by their first places.
 fn copy_others<R: Read, W: Write>(
     alloc: Global,
     reader: &mut R,

@@ -183,7 +183,7 @@ GivesDatagrams name datagrams outcome =
     IsOutcome (count_line name (length datagrams) (codes " datagrams")) 0
     (Some (frames datagrams)) outcome
 
--- the datagrams at all other places, where there are such places
+-- the datagrams at all other places, where the session has every place of the ranges
 abbrev pub GivesOthers : List PlaceRange → List (List ℕ) → Outcome → Type 0
 GivesOthers ranges datagrams outcome = (first_unhad (length datagrams) ranges ≡ None)
     × GivesDatagrams (codes "kept") (rest (is_in_some ranges) datagrams) outcome

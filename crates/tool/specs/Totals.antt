@@ -15,7 +15,7 @@ use Rattle.tool.specs.Words.{packet_words}
 abbrev pub identity_text : Identity → List ℕ
 identity_text who = named (codes "tsi") (decimal who.tsi) ++ named (codes " toi") (decimal who.toi)
 
--- the numbers of an identity's packets: those that are no repeats have all different symbols
+-- the numbers of an identity's packets; a repeat has a symbol that a packet before it has
 abbrev pub packets_text : Part → List ℕ
 packets_text part =
     identity_text part.identity ++ named (codes " datagrams") (decimal part.datagrams)
