@@ -218,7 +218,7 @@ REFUSED = [
     (["drop", "note.session", "out", "3", "x' for '--tsi"], None),
     (["drop", "note.session", "out"], None),
     (["decode", "note.session", "out", "--tsi", "-1", "--toi", "2"],
-     "the tip is for a file of that name; numbers have no sign"),
+     "the tip is for a file of that name; no number is negative"),
     (["show", "note.session", "--order"],
      "the tip is for a file of that name; --help tells which options there are"),
     (["send", "note.session"], None),

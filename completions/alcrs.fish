@@ -108,7 +108,7 @@ complete -c alcrs -n '__alcrs_command_is check' -s h -l help \
     -d 'Print help (see a summary with \'-h\')'
 
 complete -c alcrs -n '__alcrs_command_is drop' -l places -r -F \
-    -d 'The file that has places to leave out, too, as PLACE does'
+    -d 'A file of places to leave out, written as PLACE is'
 complete -c alcrs -n '__alcrs_command_is drop' -s n -l no-clobber \
     -d 'Keeps a file that is there under the name of OUT, and fails'
 complete -c alcrs -n '__alcrs_command_is drop' -s q -l quiet \

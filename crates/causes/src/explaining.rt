@@ -404,8 +404,8 @@ impl<'a, R: Files> Case<'a, R> {
         let (one, two) = (first.fti, other.fti);
         self.say(
             "{S}: datagram {0} tells a length of {1}, --symbol {2}, --block {3}, --max {4}, and \
-            datagram {5} tells {6}, {7}, {8}, {9}: either may be the wrong one; alcrs show {S} \
-            tells which most have",
+            datagram {5} tells {6}, {7}, {8}, {9}: either may be the wrong one; alcrs show \
+            --summary {S} tells how many have each",
             &[
                 first.place,
                 one.transfer_length(),
@@ -502,10 +502,7 @@ fn undecoded(code: &str) -> &'static str {
 // Why a check says no, where the line's numbers but the place aren't told again.
 fn reason_text(code: &str) -> Option<&'static str> {
     let text = match code {
-        "twin" => {
-            "no block of {S} is short, or the check of it says no for another reason: alcrs check \
-            tells"
-        }
+        "twin" => { "no block of {S} is short: its datagrams give the object" }
         "N1" => {
             "{O} hasn't the length that {C} is for: one of the two is another object's, or their \
             order is wrong (SESSION OBJECT CERT)"

@@ -42,7 +42,7 @@ pub fn refused(alloc: Global, text: &str) -> Result<Option<String>, AllocError> 
     }
     if text.contains("\n  tip: to pass '") {
         let sentence = if has_sign(text) {
-            "the tip is for a file of that name; numbers have no sign"
+            "the tip is for a file of that name; no number is negative"
         } else {
             "the tip is for a file of that name; --help tells which options there are"
         };

@@ -288,7 +288,7 @@ const OUTLINES: [Outline<'static>; 11] = [
             Argument::FileOption {
                 name: "places",
                 value_name: "FILE",
-                help: "The file that has places to leave out, too, as PLACE does",
+                help: "A file of places to leave out, written as PLACE is",
             },
             NO_CLOBBER,
             QUIET,

@@ -56,10 +56,10 @@ Statuses: 0 yes, 1 no or a fault, 2 the command line is refused.
 Example: alcrs check bulletin.session bulletin.txt bulletin.rsc --tsi 7 --toi 1";
 
 pub(crate) const DROP: &str =
-    "PLACE is a place N, or a range N-M of places: N, M and all between them, 0 to 4294967295.
-FILE has PLACEs, too, between white space. It may be a pipe.
-A place that is named twice counts once. PLACE or FILE has to be there.
-The places come last: where OUT is left out, a file named like the first place is written.
+    "PLACE is N, or a range N-M with N at most M: N, M and all places between, 0 to 4294967295.
+FILE has places, written as PLACE is, with white space between them. It may be a pipe.
+A place that is named twice counts once. A PLACE or --places has to be given.
+The places come last: where OUT is left out, the first PLACE is taken for OUT.
 Prints `kept D datagrams`.
 Statuses: 0 done, 1 a fault, 2 the command line is refused.
 
@@ -126,13 +126,13 @@ pub(crate) const SHOW: &str = "Prints one of these lines for each datagram:
 P is its place. L is the object's length in bytes, E the symbol's.
 B is the most source symbols of a block, M the most encoding symbols.
 S is the block's number, J the symbol's in the block. Places, blocks and symbols count from 0.
-With --summary it prints these in their place, the first three for each TSI T and TOI U:
+With --summary it prints these lines instead, the first three for each TSI T and TOI U:
   tsi T toi U datagrams D first P last P carriers C symbols N repeats R  D packets, places P to P
   tsi T toi U length L symbol E block B max M carriers C                 C have this FTI
   tsi T toi U weakest block S need K have H                              the least beyond its need
   no packet REASON datagrams D                                           D are no packets, for this
 In the first line C have an FTI, N symbols differ, and R packets repeat one of them.
-The second comes for each FTI. By that of the first of the C, block S needs K symbols and has H:
+The second comes for each FTI. By the FTI that came first, block S needs K symbols and has H:
 no other has fewer beyond its need.
 Statuses: 0 all are packets, 1 some are not, or a fault, 2 the command line is refused.
 
