@@ -42,7 +42,8 @@ MayFail world = (world.files ≡ None) ⊎ (world.fallible ≡ true)
 
 -- ---- what the host's calls promise
 
--- an input that was opened gives the file's bytes, and only fails where the host may
+-- an input that was opened gives the file's bytes, from the front on or at offsets, and only fails
+-- where the host may
 pub record GivesFile (world : World) (name : List ℕ) (remaining : Option (List ℕ))
     (sound : Bool) : Type 0 where
   pub bytes : Holds world.files name (λ bytes. remaining ≡ Some bytes)

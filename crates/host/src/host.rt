@@ -4,7 +4,8 @@ ghost use Rattle.std.specs.Io.KnownBytes.{Appends};
 ghost use Rattle.host.specs.World.{World, GivesFile, LeavesBytes, IsBlank, Replaces, IsRefused};
 ghost use Rattle.host.specs.World.{IsMissing, IsFree, IsTaken, KeepsFiles, IsSilent, one_more};
 
-use session::{Failed, Read, Write};
+use session::{Failed, Read};
+use streams::{ReadAt, WriteAt};
 
 /// Why a host refused a file.
 #[derive(Debug, Clone, Copy, PartialEq, Eq)]
@@ -17,10 +18,11 @@ pub enum FileFault {
 /// Named files, and an output for lines. What is to be a file stands under its name once it is
 /// kept, and not before: it is neither dropped nor forgotten, but kept or given up.
 pub trait Host {
-    type Input: Read + Drop;
+    /// What is read from the front on, or at any offset where its length is known.
+    type Input: Read + ReadAt + Drop;
 
     /// What is to be a file.
-    type Output: Write;
+    type Output: WriteAt;
 
     /// What is outside, as far as it is told.
     ghost world: { Self → World };
@@ -29,9 +31,12 @@ pub trait Host {
     fn open_file(&self, name: &str) -> Result<Self::Input, FileFault>
         ensures input { IfOk result (λ file. GivesFile (world self.now) name.now
             (Self.Input.remaining file) (Self.Input.sound file)) }
+        ensures content { IfOk result (λ file. GivesFile (world self.now) name.now
+            (Self.Input.content file) (Self.Input.reliable file)) }
         ensures fault { IfErr result (IsMissing (world self.now) name.now) };
 
-    /// How many bytes an input has left, where that is known before they are read.
+    /// How many bytes an input has left, where that is known before they are read. What has a known
+    /// length can be read at any offset.
     fn length_of(&self, input: &Self::Input) -> Option<u64>
         ensures { IfSome result (LeavesBytes (Self.Input.remaining input.now)) };
 

@@ -8,6 +8,7 @@ ghost use Rattle.host.specs.Worlds.{memory_world};
 use crate::host::{FileFault, Host};
 use session::{Failed, Read, Sink, write_all};
 use std::alloc::{AllocError, Global};
+use streams::{ReadAt, copy_at};
 
 /// A copy of a file's bytes, which gives `most` at a time at most. It never fails.
 #[derive(Drop)]
@@ -35,6 +36,16 @@ impl Read for MemoryInput {
         buf[..n].copy_from_slice(front);
         self.at += n;
         Ok(n)
+    }
+}
+
+impl ReadAt for MemoryInput {
+    ghost content = { λ input. Some input.bytes.items };
+
+    ghost reliable = { λ _. true };
+
+    fn read_at(&self, offset: u64, buf: &mut [u8]) -> Result<usize, Failed> {
+        Ok(copy_at(self.bytes.as_slice(), offset, self.most, buf))
     }
 }
 

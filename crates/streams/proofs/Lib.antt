@@ -1,3 +1,4 @@
 pub mod Fills
 pub mod Results
 pub mod Writes
+pub mod AtOffsets

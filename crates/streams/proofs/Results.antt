@@ -9,3 +9,7 @@ no_error (Err e) P h = absurd (cc)
 pub at_ok : {T E : Type 0} (r : Result T E) (P : Type 0) → P → OnOk r P
 at_ok (Ok x) P p = p
 at_ok (Err e) P p = tt
+
+pub at_err : {T E : Type 0} (r : Result T E) (P : Type 0) → P → OnErr r P
+at_err (Ok x) P p = tt
+at_err (Err e) P p = p

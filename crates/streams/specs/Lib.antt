@@ -1,2 +1,3 @@
+pub mod Offsets
 pub mod Pieces
 pub mod Sinks

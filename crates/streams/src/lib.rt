@@ -4,17 +4,23 @@
 //! - `device`: the standard library's as ours;
 //! - `memory`: those over bytes in memory;
 //! - `filling` and `whole`: the loops over them: a buffer filled, all bytes written, a reader read
-//!   to its end.
+//!   to its end;
+//! - `offsets`: what is read and written at any offset, and the loops over that; `cursor`: a reader
+//!   of what is read at offsets.
 #![tactic(auto)]
 
+mod cursor;
 mod device;
 mod filling;
 mod io;
 mod memory;
+mod offsets;
 mod whole;
 
+pub use cursor::Cursor;
 pub use device::Device;
 pub use filling::{fill, write_all};
 pub use io::{Failed, Read, Write};
-pub use memory::{Pieces, Sink};
+pub use memory::{MemoryFile, Pieces, Sink, copy_at};
+pub use offsets::{ReadAt, WriteAt, fill_at, write_all_at};
 pub use whole::{ReadFault, read_to_end};

@@ -1,9 +1,11 @@
 //! A reader and a writer in memory.
 ghost use Rattle.std.specs.Prelude.{◌≡◌, ◌<◌, ◌≤◌, ◌+◌, ◌^◌, ◌-◌, [], Some, true, false, min};
-ghost use Rattle.std.specs.Prelude.{length, IsOk, IfOk, OnOk, OnErr};
+ghost use Rattle.std.specs.Prelude.{length, take, IsOk, IfOk, OnOk, OnErr};
 ghost use Rattle.std.specs.Io.KnownBytes.{ReadConsumes, WriteAppends};
+ghost use Rattle.streams.specs.Offsets.{StandsAt};
 
 use crate::io::{Failed, Read, Write};
+use crate::offsets::{ReadAt, WriteAt};
 use std::alloc::{AllocError, Global};
 
 /// A reader of bytes in memory, which gives `most` at a time at most. It never fails.
@@ -163,5 +165,75 @@ impl Write for Sink {
                 Err(Failed)
             }
         }
+    }
+}
+
+/// A file in memory. Reads give `most` bytes at a time at most, and never fail.
+pub struct MemoryFile<'a> {
+    bytes: &'a [u8],
+    most: usize,
+    ghost some: { 0 < most },
+}
+
+impl<'a> MemoryFile<'a> {
+    /// A file of these bytes.
+    pub fn new(bytes: &'a [u8], most: usize) -> MemoryFile<'a>
+        requires { 0 < most }
+        ensures bytes { result.bytes.now ≡ bytes.now }
+        ensures most { result.most ≡ most }
+    {
+        MemoryFile { bytes, most }
+    }
+}
+
+impl ReadAt for MemoryFile<'_> {
+    ghost content = { λ f. Some f.bytes.now };
+
+    ghost reliable = { λ _. true };
+
+    fn read_at(&self, offset: u64, buf: &mut [u8]) -> Result<usize, Failed> {
+        Ok(copy_at(self.bytes, offset, self.most, buf))
+    }
+}
+
+/// Copies bytes from an offset on into the front of `buf`, `most` at most, and answers how many.
+pub fn copy_at(bytes: &[u8], offset: u64, most: usize, buf: &mut [u8]) -> usize
+    requires { 0 < most }
+    ensures bound { result ≤ length buf.old }
+    ensures count { result ≡ min (min (length buf.old) (length bytes.now - offset)) most }
+    ensures bytes { StandsAt (Some bytes.now) offset (take result buf.new) }
+    ensures within { 0 < result → offset + result ≤ length bytes.now }
+{
+    let from = bytes.len().min(offset as usize);
+    let (_, rest) = bytes.split_at(from);
+    let count = buf.len().min(rest.len()).min(most);
+    let (front, _) = rest.split_at(count);
+    buf[..count].copy_from_slice(front);
+    count
+}
+
+impl WriteAt for Sink {
+    fn is_seekable(&self) -> bool {
+        true
+    }
+
+    /// Fails where that is more than there is room or memory for.
+    fn set_len(&mut self, len: u64) -> Result<(), Failed> {
+        if !self.failed && len <= self.room as u64 && self.bytes.resize(len as usize, 0).is_ok() {
+            return Ok(());
+        }
+        self.failed = true;
+        Err(Failed)
+    }
+
+    /// Takes as many bytes as come and as it takes at a time.
+    fn write_at(&mut self, offset: u64, bytes: &[u8]) -> Result<usize, Failed> {
+        if self.failed {
+            return Err(Failed);
+        }
+        let from = offset as usize;
+        let count = bytes.len().min(self.most);
+        self.bytes[from..from + count].copy_from_slice(&bytes[..count]);
+        Ok(count)
     }
 }
