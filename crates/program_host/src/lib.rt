@@ -1,16 +1,20 @@
 //! The program's host: the files that names lead to, standard input and standard output.
 //!
-//! - `program`: the host of commands, over the system's files.
+//! - `program`: the host of commands, over the system's files; `input` and `output`: those files.
 //! - `parts`: what becomes a file: it is written beside its name, and takes that once it is whole.
 //! - `progress`: how far inputs are read, for a terminal.
 //! - `last`: what was printed last, for the sentence on its cause.
 #![tactic(auto)]
 
+mod input;
 mod last;
+mod output;
 mod parts;
 mod program;
 mod progress;
 
+pub use input::HostInput;
 pub use last::LastLine;
-pub use program::{BUFFER_SIZE, HostOutput, ProgramHost};
+pub use output::HostOutput;
+pub use program::{BUFFER_SIZE, ProgramHost};
 pub use progress::{Counted, Progress};

@@ -4,12 +4,14 @@ ghost use Rattle.std.specs.Io.KnownBytes.{Keeps};
 ghost use Rattle.std.specs.Io.Buffered.{writer_buffer, writer_contents};
 ghost use Rattle.host.specs.Worlds.{untold};
 
+use crate::input::HostInput;
 use crate::last::LastLine;
+use crate::output::HostOutput;
 use crate::parts::{Part, create_beside};
 use crate::progress::{Counted, Progress};
 use host::{FileFault, Host};
 use request::Output;
-use session::{Device, Failed, Write, write_all};
+use session::{Device, Failed, write_all};
 use std::alloc::Global;
 use std::cell::Cell;
 use std::fs::{File, Metadata, OpenOptions, Permissions};
@@ -76,25 +78,6 @@ impl<'a, R, O: std::io::Write + Drop> ProgramHost<'a, R, O> {
         ensures works { OnOk result (self.old.out.failed ≡ false) }
     {
         self.out.flush()
-    }
-}
-
-/// A file that is written: beside its name until it is kept, or, where a device or a pipe has that,
-/// straight.
-pub struct HostOutput<T: std::io::Write + Drop> {
-    device: Device<BufWriter<T>>,
-    part: Option<Part>,
-}
-
-impl<T: std::io::Write + Drop> Write for HostOutput<T> {
-    ghost contents = { λ _. None };
-
-    ghost failed = { λ output. output.device.failed };
-
-    ghost room = { λ _. 0 };
-
-    fn write(&mut self, bytes: &[u8]) -> Result<usize, Failed> {
-        self.device.write(bytes)
     }
 }
 
@@ -242,35 +225,32 @@ impl<R: Files<File = File> + Clock + Eprint, O: std::io::Write + Drop> ProgramHo
 
 impl<'a, R: Files<File = File> + Clock + Eprint, O: std::io::Write + Drop> Host
     for ProgramHost<'a, R, O> {
-    type Input = Device<BufReader<Counted<'a, R>>>;
+    type Input = HostInput<'a, R>;
 
-    type Output = HostOutput<File>;
+    type Output = HostOutput;
 
     // Nothing is told of files and output but whether the output has failed.
     ghost world = { λ host. untold host.out.failed };
 
-    fn open_file(&self, name: &str) -> Result<Device<BufReader<Counted<'a, R>>>, FileFault> {
+    fn open_file(&self, name: &str) -> Result<HostInput<'a, R>, FileFault> {
         let Ok(file) = self.open_input(name) else {
             return Err(FileFault::Io);
         };
         let counted = Counted::new(self.rt, self.alloc, self.progress, name, file);
         match BufReader::with_capacity(self.alloc, BUFFER_SIZE, counted) {
-            Ok(reader) => Ok(Device::new(reader)),
+            Ok(reader) => Ok(HostInput::new(reader)),
             Err(_) => Err(FileFault::NoMemory),
         }
     }
 
-    fn length_of(&self, input: &Device<BufReader<Counted<'a, R>>>) -> Option<u64> {
-        input.get_ref().get_ref().length()
+    fn length_of(&self, input: &HostInput<'a, R>) -> Option<u64> {
+        input.length()
     }
 
-    fn create_file(&mut self, name: &str, no_clobber: bool) -> Result<HostOutput<File>, FileFault> {
+    fn create_file(&mut self, name: &str, no_clobber: bool) -> Result<HostOutput, FileFault> {
         let (file, part) = create(self.rt, self.alloc, name, no_clobber)?;
         match BufWriter::with_capacity(self.alloc, BUFFER_SIZE, file) {
-            Ok(writer) => Ok(HostOutput {
-                device: Device::new(writer),
-                part,
-            }),
+            Ok(writer) => Ok(HostOutput::new(writer, part)),
             Err(_) => {
                 self.remove(&part);
                 Err(FileFault::NoMemory)
@@ -279,10 +259,9 @@ impl<'a, R: Files<File = File> + Clock + Eprint, O: std::io::Write + Drop> Host
     }
 
     // The file is closed last, as its lock keeps other runs from its name.
-    fn keep_file(&mut self, _name: &str, output: HostOutput<File>) -> Result<(), FileFault> {
-        let HostOutput { mut device, part } = output;
-        let flushed = device.flush();
-        let (file, _) = device.into_inner().into_parts();
+    fn keep_file(&mut self, _name: &str, mut output: HostOutput) -> Result<(), FileFault> {
+        let flushed = output.flush();
+        let (file, part) = output.into_parts();
         let is_kept = match &part {
             Some(part) => flushed.is_ok() && part.keep(self.rt, &file),
             None => flushed.is_ok(),
@@ -294,9 +273,8 @@ impl<'a, R: Files<File = File> + Clock + Eprint, O: std::io::Write + Drop> Host
         if is_kept { Ok(()) } else { Err(FileFault::Io) }
     }
 
-    fn give_up(&mut self, output: HostOutput<File>) -> FileFault {
-        let HostOutput { device, part } = output;
-        let (file, _) = device.into_inner().into_parts();
+    fn give_up(&mut self, output: HostOutput) -> FileFault {
+        let (file, part) = output.into_parts();
         self.remove(&part);
         drop(file);
         FileFault::Io

@@ -1,8 +1,11 @@
 //! How far reading has come, told on a terminal.
+ghost use Rattle.std.specs.Prelude.{◌≤◌, length, IfOk};
+
 use std::alloc::Global;
 use std::cell::Cell;
 use std::fs::File;
 use std::io::Read;
+use std::os::unix::fs::FileExt;
 use std::time::{Clock, Instant};
 use std::{fmt, io};
 
@@ -93,17 +96,23 @@ struct Meter<'a, R> {
     length: Option<u64>,
     /// After how many milliseconds it was opened.
     opened: u64,
-    bytes: u64,
-    reads: u64,
+    bytes: Cell<u64>,
+    reads: Cell<u64>,
 }
 
 impl<R: Clock + Eprint> Meter<'_, R> {
-    // Takes so many bytes into account. A read that fills its buffer hasn't waited, so that the
-    // clock needn't be looked at each time.
-    fn count(&mut self, bytes: usize, is_full: bool) {
-        self.bytes = self.bytes.saturating_add(bytes as u64);
-        self.reads = self.reads.wrapping_add(1);
-        if !is_full || self.reads % READS_BETWEEN == 0 {
+    // Takes so many bytes more into account.
+    fn count(&self, bytes: usize, is_full: bool) {
+        self.reach(self.bytes.get().saturating_add(bytes as u64), is_full);
+    }
+
+    // Takes into account that reading has come so far. A read that fills its buffer hasn't waited,
+    // so that the clock needn't be looked at each time.
+    fn reach(&self, bytes: u64, is_full: bool) {
+        self.bytes.set(bytes);
+        let reads = self.reads.get().wrapping_add(1);
+        self.reads.set(reads);
+        if !is_full || reads % READS_BETWEEN == 0 {
             self.tell();
         }
     }
@@ -114,7 +123,7 @@ impl<R: Clock + Eprint> Meter<'_, R> {
         };
         let line = Line {
             name: self.name.as_str(),
-            bytes: self.bytes,
+            bytes: self.bytes.get(),
             length: self.length,
             milliseconds: now.saturating_sub(self.opened),
         };
@@ -178,8 +187,8 @@ fn meter_of<'a, R: Clock>(
         name,
         length: length_of(file),
         opened,
-        bytes: 0,
-        reads: 0,
+        bytes: Cell::new(0),
+        reads: Cell::new(0),
     })
 }
 
@@ -202,6 +211,19 @@ impl<'a, R: Clock> Counted<'a, R> {
     }
 }
 
+impl<R: Clock + Eprint> Counted<'_, R> {
+    /// Reads bytes from an offset on.
+    pub(crate) fn read_at(&self, offset: u64, buf: &mut [u8]) -> io::Result<usize>
+        ensures { IfOk result (λ n. n ≤ length buf.old) }
+    {
+        let bytes = self.file.read_at(buf, offset)?;
+        if let Some(meter) = &self.meter {
+            meter.reach(offset.saturating_add(bytes as u64), bytes == buf.len());
+        }
+        Ok(bytes)
+    }
+}
+
 // A device or a pipe doesn't tell its length, nor does a file of the system's own, whose bytes are
 // made as they are read and which calls itself empty.
 fn length_of(file: &File) -> Option<u64> {
@@ -214,7 +236,7 @@ fn length_of(file: &File) -> Option<u64> {
 impl<R: Clock + Eprint> Read for Counted<'_, R> {
     fn read(&mut self, buf: &mut [u8]) -> io::Result<usize> {
         let bytes = self.file.read(buf)?;
-        if let Some(meter) = &mut self.meter {
+        if let Some(meter) = &self.meter {
             meter.count(bytes, bytes == buf.len());
         }
         Ok(bytes)

@@ -12,6 +12,7 @@ use crate::offsets::ReadAt;
 const BUFFER_SIZE: usize = 1 << 15;
 
 /// A reader of a file's bytes from the first one on, 32 KiB of them at a time.
+#[derive(Drop)]
 pub struct Cursor<'a, F: ReadAt> {
     file: &'a F,
     // The bytes that were read and not given stand in the buffer from `at` to `end`. Behind them

@@ -1,0 +1,56 @@
+//! The program's input files.
+ghost use Rattle.std.specs.Prelude.{None, false};
+
+use crate::progress::Counted;
+use session::{Device, Failed, Read};
+use std::io::BufReader;
+use std::time::Clock;
+use streams::ReadAt;
+
+/// A file that is read, from the front on through a buffer, or at any offset.
+#[derive(Drop)]
+pub struct HostInput<'a, R> {
+    device: Device<BufReader<Counted<'a, R>>>,
+}
+
+impl<'a, R: Clock + Eprint> HostInput<'a, R> {
+    /// A file of which nothing was read.
+    pub(crate) fn new(reader: BufReader<Counted<'a, R>>) -> HostInput<'a, R> {
+        HostInput {
+            device: Device::new(reader),
+        }
+    }
+
+    /// How many bytes the file has, where that is known.
+    pub(crate) fn length(&self) -> Option<u64> {
+        self.device.get_ref().get_ref().length()
+    }
+}
+
+impl<R: Clock + Eprint> Read for HostInput<'_, R> {
+    ghost remaining = { λ _. None };
+
+    ghost left = { λ input. input.device.left };
+
+    ghost failed = { λ input. input.device.failed };
+
+    ghost sound = { λ _. false };
+
+    fn read(&mut self, buf: &mut [u8]) -> Result<usize, Failed> {
+        self.device.read(buf)
+    }
+}
+
+impl<R: Clock + Eprint> ReadAt for HostInput<'_, R> {
+    // What another program writes to the file meanwhile is read, too, so that nothing is told.
+    ghost content = { λ _. None };
+
+    ghost reliable = { λ _. false };
+
+    fn read_at(&self, offset: u64, buf: &mut [u8]) -> Result<usize, Failed> {
+        match self.device.get_ref().get_ref().read_at(offset, buf) {
+            Ok(n) if offset.checked_add(n as u64).is_some() => Ok(n),
+            _ => Err(Failed),
+        }
+    }
+}
