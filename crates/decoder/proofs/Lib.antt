@@ -6,6 +6,7 @@ pub mod Words
 pub mod Index
 pub mod Receiving
 pub mod Erasing
+pub mod Combined
 pub mod Solved
 pub mod RowPlaces
 pub mod BlockRows

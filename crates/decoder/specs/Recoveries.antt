@@ -1,21 +1,39 @@
 -- What recovers missing source symbols, and whether what was kept may be used again.
-use Rattle.std.specs.Prelude.{◌≡◌, ◌≤◌, ◌⊎◌, ℕ, List, length, Option, IfSome}
+use Rattle.std.specs.Prelude.{◌≡◌, ◌<◌, ◌≤◌, ◌+◌, ◌*◌, ◌⊎◌, ℕ, List, length, slice_index, Option}
+use Rattle.std.specs.Prelude.{IfSome}
 use Rattle.lists.specs.Bytes.{IsByte}
-use Rattle.elim.specs.Grid.{Grid, HasElements, HasShape}
+use Rattle.gf256.specs.Arithmetic.{sum_of, product}
+use Rattle.gf256.specs.Sums.{row_times}
+use Rattle.elim.specs.Grid.{Grid, HasElements, entry}
+use Rattle.elim.specs.Matrices.{identity_entry}
 use Rattle.elim.specs.Erasures.{Recovers}
 use Rattle.block_code.specs.Codes.{code_for}
-use Rattle.block_code.specs.Columns.{AreColumns}
+use Rattle.decoder.specs.Erasures.{IsApart}
 use Rattle.block_code.specs.declared.codes.BlockCodes.{BlockCodes}
 use Rattle.decoder.specs.declared.recovery.Recovery.{Recovery}
 
--- the coefficients that make the missing source symbols of these repair symbols
+-- for each repair symbol the coefficients of the source symbols that came, and in the places of the
+-- missing ones those of the repair symbols: one of its own
+pub record AreResiduals (g : Grid ℕ) (missing repair : List ℕ)
+    (residual : ℕ → ℕ → ℕ) : Type 0 where
+  pub small : (q i : ℕ) → residual q i < 256
+  pub apart : (q i : ℕ) → q < length missing → i < g.rows → IsApart missing i
+      → residual q i ≡ entry 0 g i (slice_index repair q)
+  pub own : (q p : ℕ) → q < length missing → p < length missing
+      → residual q (slice_index missing p) ≡ identity_entry 0 1 p q
+
+-- the coefficients that make the missing source symbols of those that came and these repair symbols
 pub record AreRecovering (g : Grid ℕ) (missing repair coefficients : List ℕ) : Type 0 where
   pub few : length missing ≤ 255
   pub matrix : Grid ℕ
-  pub shape : HasShape (length missing) (length missing) matrix
   pub elements : HasElements IsByte 0 matrix
   pub recovers : Recovers g missing repair matrix
-  pub columns : AreColumns matrix coefficients
+  pub residual : ℕ → ℕ → ℕ
+  pub residuals : AreResiduals g missing repair residual
+  pub count : length coefficients ≡ length missing * g.rows
+  pub made : (a i : ℕ) → a < length missing → i < g.rows
+      → slice_index coefficients (a * g.rows + i)
+      ≡ row_times sum_of product 0 (λ q. residual q i) (entry 0 matrix) (length missing) a
 
 -- a recovery for a code, of these symbols of its blocks
 pub record IsRecovery (g : Grid ℕ) (missing repair : List ℕ) (r : Recovery) : Type 0 where

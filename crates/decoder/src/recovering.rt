@@ -91,7 +91,8 @@ fn put_rows(rows: &mut Rows, places: &[u8], others: &Rows)
 }
 
 // Works missing source symbols out of as many repair symbols, and puts them at their places, which
-// are empty. What recovers them is kept for the next block.
+// are empty. Till then the repair symbols stand there, so that all that a missing symbol is made of
+// are the rows. What recovers them is kept for the next block.
 fn solve(
     alloc: Global,
     block: &Block<'_>,
@@ -120,10 +121,12 @@ fn solve(
     }
     let recovery = Recovery::of(alloc, block.code, missing, repair, kept.take())?;
     rows.are_bytes();
-    let sums = residuals(alloc, block, repair, rows)?;
-    sums.are_bytes();
+    let symbols = symbols_at(alloc, block, repair)?;
+    symbols.are_bytes();
+    put_rows(rows, missing, &symbols);
+    rows.are_bytes();
     let mut solved = Rows::zeros(alloc, missing.len(), block.size)?;
-    solved.add_products(&recovery.coefficients, &sums);
+    solved.add_products(&recovery.coefficients, rows);
     *kept = Some(recovery);
     put_rows(rows, missing, &solved);
     rows.are_bytes();
