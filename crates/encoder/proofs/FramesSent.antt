@@ -17,16 +17,15 @@ use Rattle.session.specs.Frames.{frame, frames}
 use Rattle.streams.specs.Offsets.{overwritten, Overwrites, Resizes, HasRoomAt}
 use Rattle.streams.proofs.AtOffsets.{length-overwritten}
 use Rattle.encoder.specs.Sending.{Item, IsSent, AreSent, Sends, items_from, items, pairs, pair_with, pairs_of_round, fti_at, frame_bytes}
-use Rattle.encoder.specs.RoundPlaces.{place_of, offset_of, run_of_round, Progress, progress, IsWritten, IsFrameOf, HasFrames, IsAsLong}
+use Rattle.encoder.specs.RoundPlaces.{place_of, offset_of, run_of_round, Progress, progress, IsWritten, IsFrameOf, HasFrames, IsAsLong, emptied}
 use Rattle.encoder.proofs.Sent.{nothing_sent, one_sent, behind_sends, flat_next, with_pair, without_pair}
 use Rattle.encoder.proofs.RoundPlaces.{place_here, place_none, place_rising, round_start, round_end, round_before, last_place, place_within, place_inside, run_place, run_at, run_next}
 use Rattle.encoder.proofs.Replaced.{replaced, joined, HaveSizes, length_replaced, before, within, behind, sizes_replaced, joined_replaced, joined_long, pieces_of}
 
-gains : (old new : Option (List ℕ)) (pieces ds : List (List ℕ)) → IfSome old (λ xs. xs ≡ []) → is_some new ≡ is_some old → IfSome new (λ xs. xs ≡ joined pieces) → joined pieces ≡ frames ds
-    → Appends old new (frames ds)
-gains None new pieces ds blank told is whole = tt
-gains (Some xs) None pieces ds blank told is whole = absurd (cc)
-gains (Some xs) (Some ys) pieces ds blank told is whole = is ∙ whole ∙ sym (ap (λ (l : List ℕ). l ++ frames ds) blank)
+gains : (old new : Option (List ℕ)) (pieces ds : List (List ℕ)) → is_some new ≡ is_some old → IfSome new (λ xs. xs ≡ joined pieces) → joined pieces ≡ frames ds → Appends (emptied old) new (frames ds)
+gains None new pieces ds told is whole = tt
+gains (Some xs) None pieces ds told is whole = absurd (cc)
+gains (Some xs) (Some ys) pieces ds told is whole = is ∙ whole
 
 -- a length before a datagram makes its frame
 pub framed_at : (head out datagram rest : List ℕ) (size : ℕ) → out ≡ datagram ++ rest → length datagram ≡ size → head ≡ big_bytes 2 size → take (2 + size) (head ++ out) ≡ frame (take size out)
@@ -47,12 +46,12 @@ pub as_long : (f : Fti) (every from : ℕ) (bytes : List ℕ) (old new : Option 
 as_long f every from bytes None new room put is = rw put tt
 as_long f every from bytes (Some xs) new room put is = rw put (length-overwritten xs from bytes room ∙ is)
 
-pub resized_long : (f : Fti) (every : ℕ) (old new : Option (List ℕ)) → IfSome old (λ xs. xs ≡ []) → Resizes old new (offset_of f every (length (pairs Rounds f))) → IsAsLong f every new
-resized_long f every None new blank put = rw put tt
-resized_long f every (Some xs) new blank put =
+pub resized_long : (f : Fti) (every : ℕ) (old new : Option (List ℕ)) → Resizes old new (offset_of f every (length (pairs Rounds f))) → IsAsLong f every new
+resized_long f every None new put = rw put tt
+resized_long f every (Some xs) new put =
     let n : ℕ = offset_of f every (length (pairs Rounds f)) in
     let long : length (take n xs ++ replicate (n - length xs) 0) ≡ n =
-    length-append (take n xs) (replicate (n - length xs) 0) ∙ omega (arith, ap length blank, length-take n xs, length-replicate {A = ℕ} (n - length xs) 0) in
+    length-append (take n xs) (replicate (n - length xs) 0) ∙ omega (arith, length-take n xs, length-replicate {A = ℕ} (n - length xs) 0) in
     rw put long
 
 pub resized_told : (n : ℕ) (old new : Option (List ℕ)) → Resizes old new n → is_some new ≡ is_some old
@@ -304,9 +303,9 @@ module _ (object : List ℕ) (f : Fti) (t u every : ℕ) where
         (rounds_sent valid j) last in
         rw e at g
 
-    pub all_sent : IsValidFti f → (old : Option (List ℕ)) → IfSome old (λ xs. xs ≡ []) → is_some contents ≡ is_some old → Sends object f t u every (items Rounds f) old contents
-    all_sent valid old blank told =
+    pub all_sent : IsValidFti f → (old : Option (List ℕ)) → is_some contents ≡ is_some old → Sends object f t u every (items Rounds f) (emptied old) contents
+    all_sent valid old told =
         let r = rounds_sent valid f.max_symbols in
         let whole : joined h.pieces ≡ frames r.datagrams =
         ap joined (sym (take_all (place_of f f.max_symbols 0) h.pieces (omega (arith, h.count, last_place f)))) ∙ r.gained in
-        record { datagrams = r.datagrams; sent = r.sent; gained = gains old contents h.pieces r.datagrams blank told h.joined whole }
+        record { datagrams = r.datagrams; sent = r.sent; gained = gains old contents h.pieces r.datagrams told h.joined whole }

@@ -1,6 +1,7 @@
 -- The places of frames in a session of order Rounds that is written by groups of blocks.
 use Rattle.std.specs.Prelude.{◌≡◌, ◌⊎◌, ℕ, zero, suc, ◌<◌, ◌≤◌, ◌+◌, ◌*◌, Bool, true, List, [], length}
 use Rattle.std.specs.Prelude.{flat_map, slice_index_or, Option, IfSome}
+use Rattle.std.specs.Option.{option_map}
 use Rattle.std.specs.Io.KnownBytes.{Consumes}
 use Rattle.lists.specs.Below.{below}
 use Rattle.lists.specs.Bytes.{AreBytes}
@@ -104,6 +105,10 @@ pub record HasFrames (object : List ℕ) (f : Fti) (tsi toi every : ℕ) (p : Pr
 abbrev pub IsAsLong : Fti → ℕ → Option (List ℕ) → Type 0
 IsAsLong f every contents =
     IfSome contents (λ xs. length xs ≡ offset_of f every (length (pairs Rounds f)))
+
+-- what was written before is gone
+abbrev pub emptied : Option (List ℕ) → Option (List ℕ)
+emptied contents = option_map (λ xs. []) contents
 
 -- Why no session was written, by what the reader had left before, whether it was sound and has
 -- failed, what was written and whether the writer has failed. What stands in the writer then is no

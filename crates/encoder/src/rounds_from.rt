@@ -19,7 +19,8 @@ ghost use Rattle.encoder.specs.Passes.{IsBlocksFault};
 ghost use Rattle.encoder.specs.Sending.{frame_bytes};
 ghost use Rattle.encoder.specs.RoundPlaces.{sent_before, place_of, offset_of, run_of_round};
 ghost use Rattle.encoder.specs.RoundPlaces.{AreSymbolsAt, AreSymbolsOf, ReadsBlock, progress};
-ghost use Rattle.encoder.specs.RoundPlaces.{IsFrameOf, HasFrames, IsAsLong, IsRoundsFromFault};
+ghost use Rattle.encoder.specs.RoundPlaces.{IsFrameOf, HasFrames, IsAsLong, emptied};
+ghost use Rattle.encoder.specs.RoundPlaces.{IsRoundsFromFault};
 
 use crate::object::{ObjectFault, block_bytes, read_block, read_end};
 use crate::rows::encoding_symbols;
@@ -327,10 +328,9 @@ fn write_object<R: Read, W: WriteAt>(
     requires symbols { at_once * (encoding_count t.now.fti 0 * t.now.fti.symbol_length)
         ≤ length symbols.old }
     requires room { at_once * (34 + t.now.fti.symbol_length) ≤ length run.old }
-    requires blank { IfSome (W.contents writer.old) (λ xs. xs ≡ []) }
     ensures sent { OnOk result (ReadsObject t.now.fti (R.remaining reader.old)
         (λ object. Sends object t.now.fti t.now.tsi t.now.toi t.now.every
-        (items Rounds t.now.fti) (W.contents writer.old) (W.contents writer.new))) }
+        (items Rounds t.now.fti) (emptied (W.contents writer.old)) (W.contents writer.new))) }
     ensures end { OnOk result (IsAtEnd (R.remaining reader.new)) }
     ensures count { IfOk result (λ n. n ≡ length (pairs Rounds t.now.fti)) }
     ensures fault { IfErr result (λ e. IsBlocksFault e t.now.fti (R.remaining reader.old)
@@ -357,8 +357,9 @@ fn blocks_at_once(fti: &Fti) -> usize
 }
 
 /// Reads the object, all up to the reader's end, and writes what `encode` writes of it in order
-/// `Rounds`; tells how many datagrams. The writer is empty, and its bytes have offsets: its length
-/// is set, and then groups of blocks are written, each frame to its place.
+/// `Rounds`, in the place of all that the writer held; tells how many datagrams. The writer's
+/// length is set, and then groups of blocks are written, each frame to its place. So its bytes must
+/// have offsets.
 ///
 /// Memory doesn't grow with the object: it is asked for two generator matrices at most, for the
 /// bytes of the greatest block, for the encoding symbols of a group, which are 1 MiB or one block's,
@@ -377,10 +378,9 @@ pub fn encode_rounds_from<R: Read, W: WriteAt>(
     writer: &mut W,
 ) -> Result<u64, SendFromFault>
     requires every { 1 ≤ every }
-    requires blank { IfSome (W.contents writer.old) (λ xs. xs ≡ []) }
     ensures sent { OnOk result (ReadsObject fti.now (R.remaining reader.old)
         (λ object. Sends object fti.now tsi toi every (items Rounds fti.now)
-        (W.contents writer.old) (W.contents writer.new))) }
+        (emptied (W.contents writer.old)) (W.contents writer.new))) }
     ensures end { OnOk result (IsAtEnd (R.remaining reader.new)) }
     ensures count { IfOk result (λ n. n ≡ length (pairs Rounds fti.now)) }
     ensures short { OnOk result (fti.now.symbol_length ≤ most_symbol_bytes) }

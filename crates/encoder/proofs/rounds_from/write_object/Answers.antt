@@ -23,5 +23,5 @@ returns-clause-sent g c =
     let t = c.args.t.now in
     let f = t.fti in
     then_object f _ _ _
-    (λ object form h. all_sent object f t.tsi t.toi t.every _ h t.valid _ c.requires.blank (c.in_ok-write_groups.ensures.told ∙ resized_told c.frame_offset.result _ _ c.in-Ok.ensures.resized))
+    (λ object form h. all_sent object f t.tsi t.toi t.every _ h t.valid _ (c.in_ok-write_groups.ensures.told ∙ resized_told c.frame_offset.result _ _ c.in-Ok.ensures.resized))
     (object_read f t.valid _ _ _ c.in_ok-write_groups.ensures.ok c.in_ok-read_end.ensures.none)
