@@ -249,10 +249,10 @@ module _ (object : List ℕ) (f : Fti) (t u every : ℕ) where
   none_written None is =
       let zeros : List ℕ = replicate (offset_of f every (length (pairs Rounds f))) 0 in
       let r = pieces_of f every (length (pairs Rounds f)) zeros (length-replicate (offset_of f every (length (pairs Rounds f))) 0) in
-      record { pieces = r.0; count = r.1; sizes = r.2; joined = tt; frames = λ j d hd hj w. absurd (elim w [ | inl lt ↦ (let l : d < 0 = lt in omega (arith, l)) | inr more ↦ (let l : j < 0 = more.1 in omega (arith, l)) ]) }
+      record { pieces = r.0; count = r.1; sizes = r.2; joined = tt; frames = λ j d hd hj w. absurd (elim w [ inl lt ↦ (let l : d < 0 = lt in omega (arith, l)) | inr more ↦ (let l : j < 0 = more.1 in omega (arith, l)) ]) }
   none_written (Some xs) is =
       let r = pieces_of f every (length (pairs Rounds f)) xs is in
-      record { pieces = r.0; count = r.1; sizes = r.2; joined = r.3; frames = λ j d hd hj w. absurd (elim w [ | inl lt ↦ (let l : d < 0 = lt in omega (arith, l)) | inr more ↦ (let l : j < 0 = more.1 in omega (arith, l)) ]) }
+      record { pieces = r.0; count = r.1; sizes = r.2; joined = r.3; frames = λ j d hd hj w. absurd (elim w [ inl lt ↦ (let l : d < 0 = lt in omega (arith, l)) | inr more ↦ (let l : j < 0 = more.1 in omega (arith, l)) ]) }
 
   -- ---- all is written
 

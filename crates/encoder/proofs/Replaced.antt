@@ -118,8 +118,7 @@ module _ (f : Fti) (every : ℕ) where
       let r = pieces_of n (take (offset_of f every n) xs) short in
       let many : length r.0 ≡ n = r.1 in
       let last : List ℕ = drop (offset_of f every n) xs in
-      let long : length last ≡ frame_bytes f every n = omega (arith, length-drop (offset_of f every n) xs, whole, more) in
-      (
+      let long : length last ≡ frame_bytes f every n = omega (arith, length-drop (offset_of f every n) xs, whole, more) in (
         r.0 ++ last ∷ [],
         length_push r.0 last ∙ omega (arith, many),
         λ i lt. elim (cases_lt i n) [
@@ -130,5 +129,5 @@ module _ (f : Fti) (every : ℕ) where
               ap length (get_or_push r.0 last [] i at) ∙ long ∙ ap (frame_bytes f every) same)
         ],
         sym (take-append-drop (offset_of f every n) xs) ∙ ap (λ (l : List ℕ). l ++ last) r.3 ∙ ap (λ (l : List ℕ). joined r.0 ++ l) (sym (append-nil last))
-        ∙ sym (flat_map-append (λ (x : List ℕ). x) r.0 (last ∷ [])),
+            ∙ sym (flat_map-append (λ (x : List ℕ). x) r.0 (last ∷ [])),
       )

@@ -7,7 +7,8 @@
 //! - `certifying`: the polynomials of its byte columns; `by_values`: those of large blocks, by the
 //!   values at all points;
 //! - `object`: an object that comes from a reader, block by block; `sending_from`: its session in
-//!   order `Blocks`; `certifying_from`: its certificate;
+//!   order `Blocks`; `rounds_from`: that in order `Rounds`, where it is written to places;
+//!   `certifying_from`: its certificate;
 //! - `laws`: what encoding, certifying and checking give together.
 #![tactic(auto)]
 

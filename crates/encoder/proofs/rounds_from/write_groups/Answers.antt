@@ -38,15 +38,15 @@ loop-block-preserved g c =
     let at : c.loop-block.block ≡ first + count = sym c.loop-block.invariant.at in
     let made : (object : List ℕ) → AreSymbolsAt object f count b c.make_block.new.symbols → AreSymbolsOf object f first count c.loop-block.symbols → AreSymbolsOf object f first (count + 1) c.make_block.new.symbols =
     λ object own before.
-        symbols_more object f t.valid first count c.loop-block.symbols c.make_block.new.symbols c.make_block.auto.symbols c.in_ok-make_block.ensures.before before
-        (subst (λ (n : ℕ). AreSymbolsAt object f count n c.make_block.new.symbols) at own) in
+    symbols_more object f t.valid first count c.loop-block.symbols c.make_block.new.symbols c.make_block.auto.symbols c.in_ok-make_block.ensures.before before
+    (subst (λ (n : ℕ). AreSymbolsAt object f count n c.make_block.new.symbols) at own) in
     elim c.if-group-at_once.branch [
       | then-group-at_once+in-Ok w ↦ rw (w.writer-is, w.group-is) (record {
         read = block_more f t.valid b _ _ _ _ _ _ c.loop-block.invariant.read inside c.in_ok-make_block.ensures.read
             (λ object own before. (
               subst (λ (n : ℕ). HasFrames object f t.tsi t.toi t.every (progress n 0 0) (g.W.Write.contents w.write_group.new.writer))
-              (let next : first + (count + 1) ≡ b + 1 = omega (arith, at) in next)
-              (w.in-Ok.ensures.frames object (made object own before.1) before.0),
+                  (let next : first + (count + 1) ≡ b + 1 = omega (arith, at) in next)
+                  (w.in-Ok.ensures.frames object (made object own before.1) before.0),
               λ i lt. absurd (omega arith),
             ));
         at = omega arith;
