@@ -1,7 +1,8 @@
 //! The encoder and the decoder under one name.
 //!
-//! - The crate `encoder` has [`encode`] and [`encode_from`], which make the session of an object,
-//!   and [`certify`], [`certify_to`] and [`certify_from`], which make its certificate.
+//! - The crate `encoder` has [`encode`], [`encode_from`] and [`encode_rounds_from`], which make the
+//!   session of an object, and [`certify`], [`certify_to`] and [`certify_from`], which make its
+//!   certificate.
 //! - The crate `decoder` has [`decode`] and [`Receiver`], which give the object that datagrams
 //!   carry.
 //!
@@ -14,5 +15,5 @@ pub use decoder::{
 };
 pub use encoder::{
     CertifyFault, CertifyFromFault, ObjectFault, SendFault, SendFromFault, certify, certify_from,
-    certify_to, encode, encode_from, sent_checks_yes,
+    certify_to, encode, encode_from, encode_rounds_from, sent_checks_yes,
 };

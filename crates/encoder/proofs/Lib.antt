@@ -11,3 +11,8 @@ pub mod SourcePlaces
 mod Vectors
 pub mod ObjectBlocks
 pub mod CertificateRead
+pub mod RoundPlaces
+pub mod FrameOffsets
+pub mod Replaced
+pub mod FramesSent
+pub mod Groups

@@ -9,3 +9,4 @@ pub mod ObjectRead
 pub mod BlocksRead
 pub mod CertifiedFrom
 pub mod SentFrom
+pub mod RoundPlaces

@@ -7,7 +7,8 @@
 //! - `certifying`: the polynomials of its byte columns; `by_values`: those of large blocks, by the
 //!   values at all points;
 //! - `object`: an object that comes from a reader, block by block; `sending_from`: its session in
-//!   order `Blocks`; `certifying_from`: its certificate;
+//!   order `Blocks`; `rounds_from`: that in order `Rounds`, where it is written to places;
+//!   `certifying_from`: its certificate;
 //! - `laws`: what encoding, certifying and checking give together.
 #![tactic(auto)]
 
@@ -17,6 +18,7 @@ mod certifying_from;
 mod laws;
 mod object;
 mod rounds;
+mod rounds_from;
 mod rows;
 mod sending;
 mod sending_from;
@@ -25,5 +27,6 @@ pub use certifying::{CertifyFault, certify, certify_to};
 pub use certifying_from::{CertifyFromFault, certify_from};
 pub use laws::sent_checks_yes;
 pub use object::ObjectFault;
+pub use rounds_from::encode_rounds_from;
 pub use sending::{SendFault, encode};
 pub use sending_from::{SendFromFault, encode_from};

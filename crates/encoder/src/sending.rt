@@ -77,7 +77,7 @@ pub(crate) struct Run {
 
 impl Transmission {
     // The FTI, where the datagram at this place of the session carries it.
-    fn fti_at(&self, place: u64) -> Option<&Fti>
+    pub(crate) fn fti_at(&self, place: u64) -> Option<&Fti>
         ensures { lent result ≡ fti_at self.now.fti self.now.every place }
     {
         if place % u64::from(self.every) == 0 {

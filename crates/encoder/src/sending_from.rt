@@ -135,8 +135,8 @@ fn send_object<R: Read, W: Write>(
 }
 
 /// Reads the object, all up to the reader's end, and writes what `encode` writes of it in order
-/// `Blocks`; tells how many datagrams. In order `Rounds` the whole object has to be held, and
-/// `encode` sends it.
+/// `Blocks`; tells how many datagrams. In order `Rounds` `encode_rounds_from` writes it, where the
+/// writer's bytes have offsets.
 ///
 /// One block is held at a time: memory is asked for two generator matrices at most, and for the
 /// bytes and the encoding symbols of the greatest block and one datagram, and all of it before the
