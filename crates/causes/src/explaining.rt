@@ -227,9 +227,26 @@ impl<'a, R: Files> Case<'a, R> {
                 &[],
             );
         }
+        if self.has_changed() {
+            return self.say(
+                "{S} was changed while it was read: read it again once nothing writes to it",
+                &[],
+            );
+        }
         match output_of(self.request) {
             Some(output) => Ok(Some(unwritten(self.rt, self.alloc, output)?)),
             None => self.say("reading {S} failed half way", &[]),
+        }
+    }
+
+    // Whether the line blames the session's file, which is read twice where it is decoded.
+    fn has_changed(&self) -> bool {
+        match self.request {
+            Request::Decode(request) => {
+                self.line.trim_end().strip_prefix("fault file ") == Some(request.session)
+                    && request.session != request.output.name
+            }
+            _ => false,
         }
     }
 
