@@ -190,7 +190,9 @@ class Call:
 
     def faults(self, words):
         """The lines that may tell that it failed."""
-        moves = self.name.strip("_").startswith(("read", "write", "pread", "pwrite"))
+        moves = self.name.strip("_").startswith(
+            ("read", "write", "pread", "pwrite", "ftruncate", "lseek")
+        )
         written = WRITING.get(words[0], "fault file out")
         if self.name.startswith(("rename", "fsync")):
             return [written]

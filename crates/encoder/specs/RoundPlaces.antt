@@ -1,6 +1,6 @@
 -- The places of frames in a session of order Rounds that is written by groups of blocks.
-use Rattle.std.specs.Prelude.{◌≡◌, ◌⊎◌, ℕ, zero, suc, ◌<◌, ◌≤◌, ◌+◌, ◌*◌, Bool, true, List, [], length}
-use Rattle.std.specs.Prelude.{flat_map, slice_index_or, Option, IfSome}
+use Rattle.std.specs.Prelude.{◌≡◌, ◌⊎◌, ℕ, zero, suc, ◌<◌, ◌≤◌, ◌+◌, ◌*◌, Bool, true, List, []}
+use Rattle.std.specs.Prelude.{length, flat_map, slice_index_or, Option, IfSome}
 use Rattle.std.specs.Option.{option_map}
 use Rattle.std.specs.Io.KnownBytes.{Consumes}
 use Rattle.lists.specs.Below.{below}

@@ -4,7 +4,8 @@
 //! encoding symbols are made as in order `Blocks`, and what is sent of it in a round is written at
 //! once, to its place in the session. Memory is that of a group, whatever the object's length.
 ghost use Rattle.std.specs.Prelude.{◌≡◌, ◌<◌, ◌≤◌, ◌+◌, ◌*◌, ◌^◌, ℕ, List, [], length, take};
-ghost use Rattle.std.specs.Prelude.{slice_index, true, is_some, Some, IfOk, IfErr, IfSome, OnOk, OnErr};
+ghost use Rattle.std.specs.Prelude.{slice_index, true, is_some, Some, IfOk, IfErr, IfSome, OnOk};
+ghost use Rattle.std.specs.Prelude.{OnErr};
 ghost use Rattle.std.specs.Io.KnownBytes.{IsAtEnd};
 ghost use Rattle.partition.specs.Fti.{IsValidFti, block_count, source_count, encoding_count};
 ghost use Rattle.partition.specs.Fti.{large_blocks};
@@ -362,8 +363,8 @@ fn blocks_at_once(fti: &Fti) -> usize
 /// have offsets.
 ///
 /// Memory doesn't grow with the object: it is asked for two generator matrices at most, for the
-/// bytes of the greatest block, for the encoding symbols of a group, which are 1 MiB or one block's,
-/// and for one frame of each of its blocks, and all of it before the first byte is written.
+/// bytes of the greatest block, for the encoding symbols of a group, which take 1 MiB or are one
+/// block's, and for one frame of each of its blocks, and all of it before the first byte is written.
 ///
 /// `Object` tells that the object has another length than the FTI's, or that the reader has failed,
 /// which a sound one never does; `Write` comes only where the writer has failed. What stands in the
