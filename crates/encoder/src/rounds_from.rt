@@ -364,7 +364,8 @@ fn blocks_at_once(fti: &Fti) -> usize
 ///
 /// Memory doesn't grow with the object: it is asked for two generator matrices at most, for the
 /// bytes of the greatest block, for the encoding symbols of a group, which take 1 MiB or are one
-/// block's, and for one frame of each of its blocks, and all of it before the first byte is written.
+/// block's, and for one frame of each of its blocks. All of it is asked for before the first byte is
+/// written.
 ///
 /// `Object` tells that the object has another length than the FTI's, or that the reader has failed,
 /// which a sound one never does; `Write` comes only where the writer has failed. What stands in the
