@@ -364,7 +364,7 @@ fn blocks_at_once(fti: &Fti) -> usize
 ///
 /// Memory doesn't grow with the object: it is asked for two generator matrices at most, for the
 /// bytes of the greatest block, for the encoding symbols of a group, which take 1 MiB or are one
-/// block's, and for one frame of each of its blocks. All of it is asked for before the first byte is
+/// block's, and for one frame of each of its blocks. It is all there before the first byte is
 /// written.
 ///
 /// `Object` tells that the object has another length than the FTI's, or that the reader has failed,
