@@ -1,5 +1,5 @@
 -- Where the frames of a session begin.
-use Rattle.std.proofs.Common.{◌≡◌, ℕ, zero, suc, ◌+◌, ◌-◌, ◌*◌, ◌/◌, ◌%◌, ◌^◌, ◌<◌, ◌≤◌, Bool, true, false, List, [], refl, ap, sym, ◌∙◌, inl, inr, arith}
+use Rattle.std.proofs.Common.{◌≡◌, ℕ, zero, suc, ◌+◌, ◌-◌, ◌*◌, ◌/◌, ◌%◌, ◌^◌, ◌<◌, ◌≤◌, true, false, refl, ap, sym, ◌∙◌, inl, inr, arith}
 use Rattle.std.specs.Prelude.{◌==◌}
 use Rattle.std.specs.Int.{div_ceil}
 use Rattle.std.proofs.lemmas.Bool.{cases_lt, eq-eqb, ne_eqb}
@@ -7,7 +7,7 @@ use Rattle.std.proofs.lemmas.Nat.{div-mul-add, div-add-mod'}
 use Rattle.std.proofs.Math.Nat.{mul-le-mul_right}
 use Rattle.partition.specs.Fti.{Fti, IsValidFti, ceiling}
 use Rattle.partition.proofs.Laws.{ceiling_is}
-use Rattle.encoder.specs.Sending.{frame_bytes, fti_at, is_carrier_at}
+use Rattle.encoder.specs.Sending.{frame_bytes}
 use Rattle.encoder.specs.RoundPlaces.{offset_of}
 
 module _ (f : Fti) (every : ℕ) where

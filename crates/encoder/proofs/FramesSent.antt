@@ -1,5 +1,5 @@
 -- Frames of sent datagrams at their places: a run of them is written, and in the end all were sent.
-use Rattle.std.proofs.Common.{◌≡◌, ◌≢◌, ℕ, zero, suc, ◌+◌, ◌-◌, ◌*◌, ◌<◌, ◌≤◌, ◌⊎◌, Bool, List, [], ◌∷◌, ◌++◌, Option, Some, None, Result, Ok, Err, length, map, get_or, take, drop, refl, ap, sym, subst, ◌∙◌, inl, inr, arith, append_assoc, length-append, length-take, length-take-le}
+use Rattle.std.proofs.Common.{◌≡◌, ℕ, zero, suc, ◌+◌, ◌-◌, ◌<◌, ◌≤◌, ◌⊎◌, List, [], ◌∷◌, ◌++◌, Option, Some, None, Result, Ok, Err, length, map, get_or, take, refl, ap, sym, subst, ◌∙◌, inl, inr, arith, length-append, length-take, length-take-le}
 use Rattle.std.specs.Prelude.{flat_map, is_some, IfSome, OnOk, replicate}
 use Rattle.std.specs.Io.KnownBytes.{Appends}
 use Rattle.std.proofs.lemmas.Bool.{cases_lt, cases_eq}
@@ -8,19 +8,20 @@ use Rattle.std.proofs.lemmas.Grind.{flat_map-append}
 use Rattle.std.proofs.lemmas.List.Folds.{flat_map-map}
 use Rattle.lists.specs.Below.{below}
 use Rattle.partition.specs.Fti.{Fti, IsValidFti, block_count, encoding_count}
-use Rattle.partition.proofs.Laws.{encoding_most, some_block}
+use Rattle.partition.proofs.Laws.{encoding_most}
 use Rattle.partition.specs.declared.order.Order.TheVariants.{Rounds}
-use Rattle.alc.specs.Written.{header_size, packet_from}
+use Rattle.alc.specs.Written.{header_size}
 use Rattle.alc.proofs.Writes.{length-written}
 use Rattle.byteorder.specs.Endian.{big_bytes}
 use Rattle.session.specs.Frames.{frame, frames}
 use Rattle.streams.specs.Offsets.{overwritten, Overwrites, Resizes, HasRoomAt}
 use Rattle.streams.proofs.AtOffsets.{length-overwritten}
 use Rattle.encoder.specs.Sending.{Item, IsSent, AreSent, Sends, items_from, items, pairs, pair_with, pairs_of_round, fti_at, frame_bytes}
-use Rattle.encoder.specs.RoundPlaces.{place_of, offset_of, run_of_round, Progress, progress, IsWritten, IsFrameOf, HasFrames, IsAsLong, emptied}
+use Rattle.encoder.specs.RoundPlaces.{place_of, offset_of, run_of_round, Progress, progress, IsWritten, IsFrameOf, HasFrames, IsAsLong}
+use Rattle.encoder.specs.SentInRounds.{emptied}
 use Rattle.encoder.proofs.Sent.{nothing_sent, one_sent, behind_sends, flat_next, with_pair, without_pair}
-use Rattle.encoder.proofs.RoundPlaces.{place_here, place_none, place_rising, round_start, round_end, round_before, last_place, place_within, place_inside, run_place, run_at, run_next}
-use Rattle.encoder.proofs.Replaced.{replaced, joined, HaveSizes, length_replaced, before, within, behind, sizes_replaced, joined_replaced, joined_long, pieces_of}
+use Rattle.encoder.proofs.RoundPlaces.{place_here, place_none, place_rising, round_start, round_end, round_before, last_place, place_within, place_inside, run_place, run_at}
+use Rattle.encoder.proofs.Replaced.{replaced, joined, HaveSizes, length_replaced, before, within, behind, sizes_replaced, joined_replaced, pieces_of}
 
 gains : (old new : Option (List ℕ)) (pieces ds : List (List ℕ)) → is_some new ≡ is_some old → IfSome new (λ xs. xs ≡ joined pieces) → joined pieces ≡ frames ds → Appends (emptied old) new (frames ds)
 gains None new pieces ds told is whole = tt

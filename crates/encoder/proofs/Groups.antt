@@ -1,9 +1,8 @@
 -- Groups of blocks that are read: their encoding symbols, one block more, and what holds of the object.
-use Rattle.std.proofs.Common.{◌≡◌, ℕ, ◌+◌, ◌-◌, ◌*◌, ◌<◌, ◌≤◌, List, ◌++◌, Option, length, get_or, take, drop, refl, sym, ap, subst, ◌∙◌, inl, inr, arith}
+use Rattle.std.proofs.Common.{◌≡◌, ℕ, ◌+◌, ◌-◌, ◌*◌, ◌<◌, List, Option, length, get_or, take, drop, sym, ap, subst, ◌∙◌, inl, inr, arith}
 use Rattle.std.proofs.lemmas.Bool.{cases_eq}
 use Rattle.partition.specs.Fti.{Fti, IsValidFti, block_count, encoding_count}
-use Rattle.reception.specs.Symbols.{Agrees, IsObject}
-use Rattle.encoder.specs.ObjectRead.{Begins}
+use Rattle.reception.specs.Symbols.{Agrees}
 use Rattle.encoder.specs.BlocksRead.{HasRead}
 use Rattle.encoder.specs.Rows.{row_at}
 use Rattle.encoder.specs.RoundPlaces.{AreSymbolsAt, AreSymbolsOf, ReadsBlock}

@@ -1,17 +1,16 @@
 -- Places in a session of order Rounds: they rise from block to block and from round to round.
-use Rattle.std.proofs.Common.{◌≡◌, ◌≢◌, ℕ, zero, suc, ◌+◌, ◌-◌, ◌*◌, ◌^◌, ◌<◌, ◌≤◌, ◌⊎◌, List, [], ◌∷◌, ◌++◌, length, get_or, refl, ap, sym, ◌∙◌, inl, inr, arith, append_assoc, length-append}
+use Rattle.std.proofs.Common.{◌≡◌, ℕ, zero, suc, ◌+◌, ◌-◌, ◌*◌, ◌^◌, ◌<◌, ◌≤◌, List, ◌∷◌, ◌++◌, length, get_or, refl, ap, sym, ◌∙◌, inl, inr, arith, append_assoc, length-append}
 use Rattle.std.specs.Prelude.{flat_map, min}
-use Rattle.std.specs.List.{sum_by}
-use Rattle.std.proofs.lemmas.Bool.{cases_lt, cases_eq}
+use Rattle.std.proofs.lemmas.Bool.{cases_lt}
 use Rattle.std.proofs.Math.Nat.{mul-le-mul_right}
-use Rattle.std.proofs.lemmas.List.{append-nil, get_or_at}
+use Rattle.std.proofs.lemmas.List.{get_or_at}
 use Rattle.lists.specs.Below.{below}
 use Rattle.partition.specs.Fti.{Fti, IsValidFti, block_count, source_count, encoding_count, large_blocks}
 use Rattle.partition.proofs.Laws.{large_count, other_count, some_block, encoding_most, shares, small_count}
 use Rattle.partition.specs.declared.order.Order.TheVariants.{Rounds}
 use Rattle.encoder.specs.Sending.{pairs, pair_with, pairs_of_round}
-use Rattle.encoder.specs.RoundPlaces.{sent_before, place_of, run_of_round, IsWritten, progress}
-use Rattle.encoder.proofs.Sent.{flat_next, flat_later, flat_parts, length_next, with_pair, without_pair}
+use Rattle.encoder.specs.RoundPlaces.{sent_before, place_of, run_of_round}
+use Rattle.encoder.proofs.Sent.{flat_later, flat_parts, length_next, with_pair, without_pair}
 use Rattle.encoder.proofs.InPasses.{first_most}
 
 longer : (xs ys zs : List (ℕ × ℕ)) → xs ≡ ys ++ zs → length ys ≤ length xs

@@ -10,3 +10,4 @@ pub mod BlocksRead
 pub mod CertifiedFrom
 pub mod SentFrom
 pub mod RoundPlaces
+pub mod SentInRounds

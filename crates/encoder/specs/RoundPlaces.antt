@@ -1,7 +1,6 @@
 -- The places of frames in a session of order Rounds that is written by groups of blocks.
-use Rattle.std.specs.Prelude.{◌≡◌, ◌⊎◌, ℕ, zero, suc, ◌<◌, ◌≤◌, ◌+◌, ◌*◌, Bool, true, List, []}
+use Rattle.std.specs.Prelude.{◌≡◌, ◌⊎◌, ℕ, zero, suc, ◌<◌, ◌+◌, ◌*◌, List, []}
 use Rattle.std.specs.Prelude.{length, flat_map, slice_index_or, Option, IfSome}
-use Rattle.std.specs.Option.{option_map}
 use Rattle.std.specs.Io.KnownBytes.{Consumes}
 use Rattle.lists.specs.Below.{below}
 use Rattle.lists.specs.Bytes.{AreBytes}
@@ -9,14 +8,9 @@ use Rattle.partition.specs.Fti.{Fti, block_count, encoding_count}
 use Rattle.partition.specs.declared.order.Order.TheVariants.{Rounds}
 use Rattle.reception.specs.Symbols.{Agrees}
 use Rattle.session.specs.Frames.{frame}
-use Rattle.encoder.specs.declared.sending_from.SendFromFault.{SendFromFault}
-use Rattle.encoder.specs.declared.sending_from.SendFromFault.TheVariants.{Object, SymbolTooLong}
-use Rattle.encoder.specs.declared.sending_from.SendFromFault.TheVariants.{Write, NoMemory}
-use Rattle.encoder.specs.ObjectRead.{IsObjectFault}
 use Rattle.encoder.specs.BlocksRead.{block_bytes}
 use Rattle.encoder.specs.Rows.{row_at, AreSourcesOf}
 use Rattle.encoder.specs.Sending.{Item, IsSent, pairs, pair_with, pairs_of_round, frame_bytes}
-use Rattle.encoder.specs.Sending.{most_symbol_bytes}
 
 -- ---- places
 
@@ -105,21 +99,3 @@ pub record HasFrames (object : List ℕ) (f : Fti) (tsi toi every : ℕ) (p : Pr
 abbrev pub IsAsLong : Fti → ℕ → Option (List ℕ) → Type 0
 IsAsLong f every contents =
     IfSome contents (λ xs. length xs ≡ offset_of f every (length (pairs Rounds f)))
-
--- what was written before is gone
-abbrev pub emptied : Option (List ℕ) → Option (List ℕ)
-emptied contents = option_map (λ xs. []) contents
-
--- Why no session was written, by what the reader had left before, whether it was sound and has
--- failed, what was written and whether the writer has failed. What stands in the writer then is no
--- beginning of the session, unless it is what stood there before.
-abbrev pub IsRoundsFromFault : SendFromFault → Fti → Option (List ℕ) → Bool → Bool
-    → Option (List ℕ) → Option (List ℕ) → Bool → Type 0
-IsRoundsFromFault (Object e) f left sound reader_failed old new writer_failed =
-    (f.symbol_length ≤ most_symbol_bytes) × IsObjectFault e f left sound reader_failed
-IsRoundsFromFault SymbolTooLong f left sound reader_failed old new writer_failed =
-    (most_symbol_bytes < f.symbol_length) × (new ≡ old)
-IsRoundsFromFault Write f left sound reader_failed old new writer_failed =
-    (f.symbol_length ≤ most_symbol_bytes) × (writer_failed ≡ true)
-IsRoundsFromFault NoMemory f left sound reader_failed old new writer_failed =
-    (f.symbol_length ≤ most_symbol_bytes) × (new ≡ old)

@@ -20,8 +20,8 @@ ghost use Rattle.encoder.specs.Passes.{IsBlocksFault};
 ghost use Rattle.encoder.specs.Sending.{frame_bytes};
 ghost use Rattle.encoder.specs.RoundPlaces.{sent_before, place_of, offset_of, run_of_round};
 ghost use Rattle.encoder.specs.RoundPlaces.{AreSymbolsAt, AreSymbolsOf, ReadsBlock, progress};
-ghost use Rattle.encoder.specs.RoundPlaces.{IsFrameOf, HasFrames, IsAsLong, emptied};
-ghost use Rattle.encoder.specs.RoundPlaces.{IsRoundsFromFault};
+ghost use Rattle.encoder.specs.RoundPlaces.{IsFrameOf, HasFrames, IsAsLong};
+ghost use Rattle.encoder.specs.SentInRounds.{emptied, IsRoundsFromFault};
 
 use crate::object::{ObjectFault, block_bytes, read_block, read_end};
 use crate::rows::encoding_symbols;

@@ -1,4 +1,4 @@
-use Rattle.std.proofs.Common.{arith, ◌<◌, ◌*◌, ◌≤◌, ℕ}
+use Rattle.std.proofs.Common.{arith, ◌*◌, ◌≤◌}
 use Rattle.std.proofs.Math.Nat.{mul-le-mul_right}
 use Rattle.partition.proofs.Laws.{some_block, some_source}
 use Rattle.encoder.proofs.rounds_from.blocks_at_once.Goals as goal

@@ -1,5 +1,5 @@
 use Rattle.std.proofs.Common.{◌≡◌, ◌*◌, ◌-◌, ℕ, ap, ◌∙◌, arith}
-use Rattle.partition.specs.Fti.{source_count, block_count, symbol_count, large_blocks}
+use Rattle.partition.specs.Fti.{source_count, block_count}
 use Rattle.partition.proofs.Laws.{shares, small_count}
 use Rattle.encoder.proofs.RoundPlaces.{last_small}
 use Rattle.encoder.proofs.rounds_from.large_blocks.Goals as goal

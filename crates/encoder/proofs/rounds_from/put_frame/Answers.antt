@@ -1,4 +1,4 @@
-use Rattle.std.proofs.Common.{ℕ, List, ◌++◌, ◌≤◌, length, take, ap, sym, arith, ◌∙◌}
+use Rattle.std.proofs.Common.{ℕ, List, ◌++◌, take, ap, sym, arith, ◌∙◌}
 use Rattle.std.proofs.lemmas.List.{drop_all}
 use Rattle.byteorder.specs.Endian.{big_bytes}
 use Rattle.alc.specs.Views.{lent}

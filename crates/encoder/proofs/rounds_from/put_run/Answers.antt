@@ -1,9 +1,9 @@
-use Rattle.std.proofs.Common.{◌≡◌, ◌<◌, ◌≤◌, ◌+◌, ◌-◌, ◌*◌, ◌∙◌, ℕ, List, [], ◌∷◌, Some, take, length, drop, refl, ap, sym, subst, arith, length-take, length-drop, ◌++◌}
+use Rattle.std.proofs.Common.{◌≡◌, ◌<◌, ◌≤◌, ◌+◌, ◌-◌, ◌*◌, ◌∙◌, ℕ, List, Some, take, length, drop, ap, sym, subst, arith, length-take, length-drop, ◌++◌}
 use Rattle.std.specs.Prelude.{flat_map}
 use Rattle.std.proofs.lemmas.List.{append-nil}
 use Rattle.std.proofs.Math.Nat.{mul-le-mul_right}
 use Rattle.lists.specs.Below.{below}
-use Rattle.partition.specs.Fti.{block_count, encoding_count}
+use Rattle.partition.specs.Fti.{encoding_count}
 use Rattle.partition.proofs.Laws.{some_block}
 use Rattle.streams.proofs.Fills.{take_filled}
 use borrow.Rule.Slice.PartMut.{put_mid}

@@ -1,4 +1,4 @@
-use Rattle.std.proofs.Common.{◌≡◌, ◌<◌, ◌≤◌, ◌-◌, ℕ, ap, arith, ◌∙◌, sym}
+use Rattle.std.proofs.Common.{◌≡◌, ◌-◌, ℕ, ap, arith, ◌∙◌, sym}
 use Rattle.partition.specs.Fti.{encoding_count, block_count}
 use Rattle.encoder.proofs.RoundPlaces.{in_all, in_large, in_none}
 use Rattle.encoder.proofs.rounds_from.sent_before.Goals as goal

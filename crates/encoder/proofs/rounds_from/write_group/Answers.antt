@@ -1,4 +1,4 @@
-use Rattle.std.proofs.Common.{◌≡◌, ◌≤◌, ◌+◌, ◌^◌, ℕ, ap, ◌∙◌, refl, arith}
+use Rattle.std.proofs.Common.{◌≡◌, ◌≤◌, ◌^◌, ap, ◌∙◌, refl, arith}
 use Rattle.lists.specs.Below.{below}
 use Rattle.partition.specs.Fti.{block_count}
 use Rattle.encoder.specs.RoundPlaces.{sent_before}

@@ -1,4 +1,4 @@
-use Rattle.std.proofs.Common.{◌≡◌, ◌≤◌, ◌+◌, ◌*◌, ◌^◌, ℕ, List}
+use Rattle.std.proofs.Common.{◌≡◌, ◌≤◌, ◌*◌, ◌^◌, ℕ, List}
 use Rattle.std.specs.Prelude.{is_some}
 use Rattle.encoder.specs.RoundPlaces.{AreSymbolsOf, HasFrames, IsAsLong, progress, place_of}
 use Rattle.encoder.proofs.rounds_from.write_group.Given as goal

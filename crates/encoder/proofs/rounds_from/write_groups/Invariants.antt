@@ -1,4 +1,4 @@
-use Rattle.std.proofs.Common.{◌≡◌, ◌≤◌, ◌<◌, ◌+◌, ◌*◌, ℕ, List}
+use Rattle.std.proofs.Common.{◌≡◌, ◌<◌, ◌+◌}
 use Rattle.std.specs.Prelude.{is_some}
 use Rattle.partition.specs.Fti.{block_count}
 use Rattle.encoder.specs.BlocksRead.{HasRead}

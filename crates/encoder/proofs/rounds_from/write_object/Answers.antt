@@ -1,5 +1,4 @@
 use Rattle.std.proofs.Common.{◌∙◌, arith}
-use Rattle.partition.specs.Fti.{block_count}
 use Rattle.cert.proofs.DatagramSteps.{passed_on}
 use Rattle.encoder.specs.declared.sending_from.SendFromFault.TheVariants.{Object}
 use Rattle.encoder.proofs.RoundPlaces.{pairs_fit}

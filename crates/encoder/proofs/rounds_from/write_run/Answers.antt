@@ -1,8 +1,8 @@
 use Rattle.std.proofs.Common.{◌≡◌, ◌<◌, ◌≤◌, ◌+◌, ◌^◌, ◌∙◌, ℕ, length, take, ap, subst, arith, length-take-le}
 use Rattle.partition.specs.declared.order.Order.TheVariants.{Rounds}
-use Rattle.streams.specs.Offsets.{Overwrites, HasRoomAt}
+use Rattle.streams.specs.Offsets.{Overwrites}
 use Rattle.encoder.specs.Sending.{pairs}
-use Rattle.encoder.specs.RoundPlaces.{offset_of, place_of, run_of_round}
+use Rattle.encoder.specs.RoundPlaces.{offset_of, run_of_round}
 use Rattle.encoder.proofs.RoundPlaces.{place_fits, pairs_fit, place_within, run_place}
 use Rattle.encoder.proofs.FrameOffsets.{offset_rising, offset_fits}
 use Rattle.encoder.proofs.FramesSent.{has_room, as_long, then_ok, run_written}
