@@ -9,7 +9,10 @@ the output may be whole; where standard error does, a file is closed or its acce
 nothing changes. An interruption may also be passed over. Then each command runs with reads and
 writes that move 1 to 7 bytes at a time, which changes nothing, and with standard input, output and
 error closed, so that files get their numbers: no input changes, and the output is whole or what it
-was. A C compiler, `cc`, builds the library that fails. After `./alcrs` has built the program.
+was. `decode` reads its session at offsets, parts of it twice: for each such read it runs once more,
+and the first byte of that read is another one, as of a file that is changed meanwhile. It gives the
+object or a fault then, and never another object. A C compiler, `cc`, builds the library that fails.
+After `./alcrs` has built the program.
 """
 import os
 import subprocess
@@ -34,7 +37,8 @@ GREAT_COMMANDS = [
 ]
 
 # Counts calls, lets the one with the number FAILED fail with ERROR, and moves at most PIECE bytes
-# at a time. Tells each call, its descriptor and its file in the file TOLD.
+# at a time. The read with the number SPOILED gives another first byte. Tells each call, its
+# descriptor and its file in the file TOLD.
 FAILING = r"""
 #define _GNU_SOURCE
 #include <dlfcn.h>
@@ -45,7 +49,7 @@ FAILING = r"""
 
 extern long syscall(long number, ...);
 
-static long calls, failed = -1, error, piece, told = -1;
+static long calls, failed = -1, error, piece, spoiled, told = -1;
 
 static long number_of(const char *name) {
     char *number = getenv(name);
@@ -72,6 +76,7 @@ static int fails(const char *name, const char *path, long descriptor) {
         if (file) told = syscall(SYS_openat, -100, file, 02101, 0600);
         error = number_of("ERROR");
         piece = number_of("PIECE");
+        spoiled = number_of("SPOILED");
         failed = number_of("FAILED");
     }
     if (told >= 0) tell(name, path, descriptor);
@@ -105,6 +110,16 @@ typedef long call(long, long, long, long, long);
         return next(a, b, piece > 0 && c > piece ? piece : c, d, e); \
     }
 
+#define READING(name) \
+    long name(long a, long b, long c, long d, long e) { \
+        NEXT(name) \
+        if (fails(#name, 0, a)) return -1; \
+        long spoils = calls == spoiled; \
+        long got = next(a, b, piece > 0 && c > piece ? piece : c, d, e); \
+        if (spoils && got > 0) *(char *)b ^= 128; \
+        return got; \
+    }
+
 struct part {
     char *start;
     unsigned long size;
@@ -131,7 +146,7 @@ OF_PATH(chmod, a) OF_PATH(fchmodat, b)
 OF_FILE(fchmod) OF_FILE(flock) OF_FILE(fstat) OF_FILE(fstat64) OF_FILE(lseek) OF_FILE(lseek64)
 OF_FILE(fsync) OF_FILE(ftruncate)
 MOVING(read) MOVING(write) MOVING(__write)
-MOVING(pread) MOVING(pwrite) MOVING(pread64) MOVING(pwrite64)
+READING(pread) MOVING(pwrite) READING(pread64) MOVING(pwrite64)
 MOVING_PARTS(readv, read) MOVING_PARTS(writev, write)
 
 // A file is closed, whatever is answered.
@@ -232,6 +247,13 @@ def is_told(words, call, whole, ran):
     return left == BEFORE and is_before and "".join(lines[-1:]).rstrip("\n") in call.faults(words)
 
 
+def is_none_or_whole(whole, ran):
+    """Whether a run that was given another byte has made the output, or told why not."""
+    if ran[0] == 0:
+        return ran == whole
+    return ran[0] in (1, 3) and ran[1] != b"" and ran[3] in (BEFORE, whole[3]) and not ran[4]
+
+
 # What is closed, as a shell says it.
 CLOSED = ["<&-", ">&-", "2>&-", "<&- >&-", ">&- 2>&-", "<&- >&- 2>&-"]
 
@@ -267,7 +289,7 @@ def main():
         def run_without(words, closed):
             return rooms.run(words, {}, shell=f'exec "$0" "$@" {closed}')
 
-        runs, short_runs, closed_runs, bad = 0, 0, 0, []
+        runs, short_runs, closed_runs, spoiled_runs, bad = 0, 0, 0, 0, []
         for words in COMMANDS + GREAT_COMMANDS:
             told = os.path.join(folder, "told")
             if os.path.exists(told):
@@ -296,6 +318,14 @@ def main():
                         (words, f"{error} of {call.name} {call.descriptor} {call.file}", ran)
                     )
             runs += len(tries)
+            reads = [n for n, call in enumerate(calls, 1) if call.name.startswith("pread")]
+            answers = in_turn(lambda n: run(words, SPOILED=str(n)), reads)
+            bad += [
+                (words, f"another byte from call {n}", ran)
+                for n, ran in zip(reads, answers)
+                if not is_none_or_whole(whole, ran)
+            ]
+            spoiled_runs += len(reads)
             answers = in_turn(lambda closed: run_without(words, closed), CLOSED)
             bad += [
                 (words, c, ran)
@@ -317,7 +347,8 @@ def main():
         print(f"alcrs {' '.join(words)}: {failure}: status {ran[0]}, {ran[1][-200:]}, {ran[4]}")
     print(
         f"{runs} calls failed in turn, of {len(COMMANDS + GREAT_COMMANDS)} runs, "
-        f"{short_runs} runs in small pieces and {closed_runs} with streams closed: "
+        f"{short_runs} runs in small pieces, {closed_runs} with streams closed and {spoiled_runs} "
+        "with a byte changed: "
         f"{len(bad)} ended otherwise than they may"
     )
     return 1 if bad else 0
