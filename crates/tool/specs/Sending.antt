@@ -1,5 +1,5 @@
 -- What is written of an object that is sent, and why it isn't.
-use Rattle.std.specs.Prelude.{◌≡◌, ◌<◌, ℕ, Bool, List, length, Option, ⊤}
+use Rattle.std.specs.Prelude.{◌≡◌, ◌<◌, ℕ, Bool, List, [], ◌∷◌, length, Option, Some, None, ⊤}
 use Rattle.std.specs.Io.KnownBytes.{Appends}
 use Rattle.partition.specs.Fti.{Fti, IsValidFti}
 use Rattle.session.specs.Frames.{frames}
@@ -20,6 +20,12 @@ pub record WritesSession (object : List ℕ) (f : Fti) (s : Sending) (count : �
   pub sent : IsSessionOf object f s.identity.tsi s.identity.toi s.fti_every s.order datagrams
   pub gained : Appends old new (frames datagrams)
   pub counted : count ≡ length (pairs s.order f)
+
+-- what a file held before, where it is told that this was nothing
+abbrev pub where_empty : Option (List ℕ) → Option (List ℕ)
+where_empty None = None
+where_empty (Some []) = Some []
+where_empty (Some (x ∷ xs)) = None
 
 -- writing has failed, or symbols are too long, or there is no memory
 abbrev pub IsUnsent : Fti → Unwritten → Type 0

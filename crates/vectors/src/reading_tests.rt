@@ -1,11 +1,14 @@
-//! Objects that are read and sent block by block.
+//! Objects that are read and sent block by block, or by groups of blocks.
 ghost use Rattle.std.specs.Prelude.{◌<◌, ◌≤◌};
 
 use crate::ONE;
 use crate::converting_tests::{LENGTH, front, fti, is_at_end, object_and_more};
 use coder::{CertifyFromFault, ObjectFault, SendFromFault, certify_from, encode, encode_from};
+use coder::encode_rounds_from;
 use partition::{Fti, Order};
-use session::{Pieces, Sink};
+use rand_core::Rng;
+use rand_pcg::Pcg32;
+use session::{Pieces, Sink, write_all};
 use std::alloc::Global;
 use std::test::Fail;
 
@@ -82,6 +85,61 @@ fn small_objects_from_a_reader(rt: HostRuntime) -> Result<(), Fail> {
     Ok(())
 }
 
+// Whether an object that comes in pieces is sent in rounds as one that is there, where a file held
+// other bytes before.
+fn is_sent_alike_in_rounds(alloc: Global, object: &[u8], fti: &Fti, every: u32) -> bool
+    requires { 1 ≤ every }
+{
+    let mut whole = Sink::new(alloc);
+    let Ok(count) = encode(alloc, object, 7, 1, fti, every, Order::Rounds, &mut whole) else {
+        return false;
+    };
+    let mut sink = Sink::new(alloc);
+    let Ok(()) = write_all(&mut sink, &[9; 100]) else {
+        return false;
+    };
+    let mut reader = Pieces::new(object, 1000);
+    let sent = encode_rounds_from(alloc, &mut reader, 7, 1, fti, every, &mut sink);
+    sent == Ok(count) && sink.bytes() == whole.bytes() && is_at_end(&mut reader)
+}
+
+// Blocks of one size and of two, of one symbol and of many, and symbols of one byte and of more.
+#[test]
+fn small_objects_in_rounds(rt: HostRuntime) -> Result<(), Fail> {
+    let object = object_and_more(rt.alloc())?;
+    for (length, e, b, max_n) in [
+        (1usize, 1, 1, 1),
+        (2, 1, 2, 3),
+        (3, 2, 2, 3),
+        (10, 1, 4, 6),
+        (5, 2, 1, 3),
+        (1000, 7, 20, 33),
+        (20000, 37, 97, 194),
+    ] {
+        let fti = Fti::new(length as u64, e, b, max_n)?;
+        let bytes = front(&object, length);
+        for every in [1, 3, 255] {
+            let right = is_sent_alike_in_rounds(rt.alloc(), bytes, &fti, every);
+            assert!(rt; right, "{length} bytes, every {every}");
+        }
+    }
+    Ok(())
+}
+
+// Groups of five blocks, the last one of two, and blocks that are groups each.
+#[test]
+fn groups_in_rounds(rt: HostRuntime) -> Result<(), Fail> {
+    let mut random = Pcg32::new(12, 5510);
+    let mut object = Vec::from_elem(rt.alloc(), 0u8, 1_500_000)?;
+    random.fill_bytes(&mut object);
+    for (e, b, max_n) in [(65475, 2, 3), (50001, 12, 30)] {
+        let fti = Fti::new(1_500_000, e, b, max_n)?;
+        let right = is_sent_alike_in_rounds(rt.alloc(), object.as_slice(), &fti, 4);
+        assert!(rt; right, "symbols of {e} bytes");
+    }
+    Ok(())
+}
+
 // What certifying bytes in pieces says.
 fn certifying(alloc: Global, bytes: &[u8], fti: &Fti) -> Result<(), CertifyFromFault> {
     let mut sink = Sink::new(alloc);
@@ -92,6 +150,11 @@ fn certifying(alloc: Global, bytes: &[u8], fti: &Fti) -> Result<(), CertifyFromF
 fn sending(alloc: Global, bytes: &[u8], fti: &Fti) -> Result<u64, SendFromFault> {
     let mut sink = Sink::new(alloc);
     encode_from(alloc, &mut Pieces::new(bytes, 500), 7, 1, fti, 1, &mut sink)
+}
+
+fn sending_in_rounds(alloc: Global, bytes: &[u8], fti: &Fti) -> Result<u64, SendFromFault> {
+    let mut sink = Sink::new(alloc);
+    encode_rounds_from(alloc, &mut Pieces::new(bytes, 500), 7, 1, fti, 1, &mut sink)
 }
 
 // An object that is shorter or longer than its length said, wherever it ends.
@@ -111,6 +174,11 @@ fn another_length(rt: HostRuntime) -> Result<(), Fail> {
             sent == Err(SendFromFault::Object(ObjectFault::Length)),
             "{length}"
         );
+        let sent = sending_in_rounds(rt.alloc(), bytes, &fti);
+        assert!(rt;
+            sent == Err(SendFromFault::Object(ObjectFault::Length)),
+            "{length}"
+        );
     }
     Ok(())
 }
@@ -120,6 +188,7 @@ fn another_length(rt: HostRuntime) -> Result<(), Fail> {
 fn symbol_too_long(rt: HostRuntime) -> Result<(), Fail> {
     let fti = Fti::new(5, 65476, 1, 3)?;
     assert!(rt; sending(rt.alloc(), &[0; 5], &fti) == Err(SendFromFault::SymbolTooLong));
+    assert!(rt; sending_in_rounds(rt.alloc(), &[0; 5], &fti) == Err(SendFromFault::SymbolTooLong));
     let fti = Fti::new(5, 65475, 1, 3)?;
     assert!(rt; sending(rt.alloc(), &[0; 5], &fti) == Ok(3));
     Ok(())

@@ -6,8 +6,8 @@ use Rattle.tool.specs.Inputs.{Bytes}
 use Rattle.tool.specs.Lines.{count_line}
 use Rattle.tool.specs.Commands.{sized, GivesSession}
 use Rattle.tool.specs.Doing.{text_of}
-use Rattle.tool.specs.Sending.{WritesSession}
-use Rattle.tool.proofs.Making.{committed, gives_object}
+use Rattle.tool.specs.Sending.{WritesSession, where_empty}
+use Rattle.tool.proofs.Making.{committed, gives_object, blank_where_empty}
 use Rattle.tool.proofs.Stopping.{kept_whole}
 use Rattle.tool.proofs.encode.encode_read.Goals as goal
 
@@ -16,7 +16,7 @@ returns-clause-ok g c =
     let r = c.args.request.now in
     let count = c.in_ok-count.count in
     let left = g.H.Input.Read.remaining c.args.input.now in
-    let blank = g.H.Output.Write.contents c.in_ok-file.file in
+    let blank = where_empty (g.H.Output.Write.contents c.in_ok-file.file) in
     let contents = g.H.Output.Write.contents c.send_read-sent.new.writer in
     let read = committed c.send_read-sent.result count (λ n. ReadsObject c.args.fti.now left (λ object. WritesSession object c.args.fti.now r.sending n blank contents))
     c.in_ok-count.ensures.count c.send_read-sent.ensures.sent in
@@ -33,7 +33,7 @@ returns-clause-ok g c =
             (s.valid, s.can, s.datagrams, s.sent, (ap (λ (n : ℕ). count_line (codes "encoded") n (codes " datagrams")) s.counted, refl, refl));
         made = (
           kept_whole (g.H.Host.world c.args.host.now).files (g.H.Host.world c.create.new.host).files (g.H.Host.world c.commit.new.host).files r.output.name.now (frames s.datagrams) blank contents
-              c.in_ok-file.ensures.blank s.gained c.create.ensures.files c.in_ok-count.ensures.kept,
+              (blank_where_empty (g.H.Host.world c.args.host.now).files (g.H.Output.Write.contents c.in_ok-file.file) c.in_ok-file.ensures.blank) s.gained c.create.ensures.files c.in_ok-count.ensures.kept,
           c.commit.ensures.created ∙ c.in_ok-file.ensures.created,
           c.in_ok-file.ensures.free,
         );
