@@ -6,6 +6,7 @@ pub mod Columns
 pub mod Received
 pub mod Decoded
 pub mod Unsolvable
+pub mod Sources
 pub mod Promised
 pub mod Refusals
 pub mod Recoveries

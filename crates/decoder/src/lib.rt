@@ -47,12 +47,15 @@ mod recovery;
 mod rows;
 mod selecting;
 mod solved_block;
+mod source;
 mod store;
 mod stored;
 mod storing;
 mod symbols;
 mod taking;
 mod unsolvable;
+mod verdict;
+mod writing;
 
 pub use answer::{Answer, DecodeFault};
 pub use decoding::decode;
