@@ -72,8 +72,7 @@ pub counted_short : (f : Fti) → IsValidFti f → (at : ℕ → ℕ → Option 
 counted_short f valid at s n inside is have need few enough = λ arrivals index within.
     let most = λ (b : ℕ) (hb : b < block_count f). (counts f valid b hb).2 in
     let count : s.have ≡ arrived_count arrivals s.block =
-    counted_held f arrivals at s.block n s.have index within is (rw is (most s.block inside)) have in
-    (
+    counted_held f arrivals at s.block n s.have index within is (rw is (most s.block inside)) have in (
       record {
         in_range = inside;
         short = lt-leb (source_count f s.block) (arrived_count arrivals s.block) (omega (arith, count, need, few));

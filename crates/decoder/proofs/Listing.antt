@@ -72,3 +72,10 @@ module _ {S : Type 0} (held : S → List ℕ) (s : Symbols S) where
       all = passed blocks (λ b stands. stands) (λ j h. absurd (let n = none j in cc));
       some = listed.some;
     }
+
+  -- with no key left all are listed
+  pub listed_all : (blocks : List ℕ) → AreListed held s [] blocks → (b j : ℕ) → is_some (came_at held s b j) ≡ true → Stands blocks b
+  listed_all blocks listed b j h = elim (listed.all b j h) [
+    | inl member ↦ absurd (cc)
+    | inr stands ↦ stands
+  ]

@@ -23,3 +23,5 @@ pub mod Differences
 pub mod SymbolsOf
 pub mod Gathering
 pub mod Written
+pub mod InFile
+pub mod Indexing

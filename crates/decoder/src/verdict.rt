@@ -20,11 +20,7 @@ use std::alloc::Global;
 // Whether some block is of no object, where no block is short. Any `k` symbols of a block are those
 // of some polynomials, so that only blocks with more have to be solved, and the last one, whose
 // symbols have to fit the object's padding.
-fn has_unsolvable<S: Source>(
-    alloc: Global,
-    source: &S,
-    codes: &BlockCodes,
-) -> Result<bool, Unread>
+fn has_unsolvable<S: Source>(alloc: Global, source: &S, codes: &BlockCodes) -> Result<bool, Unread>
     requires codes { EachBlockHas (IsCodeOf (S.known source.now)) (S.known source.now) codes.now }
     requires within { S.Told source.now → AreWithin (S.known source.now) (S.at source.now) }
     requires enough { (b : ℕ) → b < block_count (S.known source.now)

@@ -1,5 +1,5 @@
-use Rattle.std.specs.Prelude.{is_some}
-use Rattle.std.proofs.Common.{◌≡◌, ◌∙◌, ◌+◌, ℕ, List, sym, ap, arith, add-one, refl}
+use Rattle.std.specs.Prelude.{is_some, filter}
+use Rattle.std.proofs.Common.{◌≡◌, ◌∙◌, ◌+◌, ℕ, List, length, sym, ap, arith, add-one, refl}
 use Rattle.lists.specs.Below.{below}
 use Rattle.decoder.specs.Arrivals.{seen_at}
 use Rattle.decoder.specs.Received.{came_at}
@@ -32,3 +32,8 @@ loop-j-preserved g c =
             ∙ sym (none_more_held (λ (j : ℕ). is_some (came_at held c.args.symbols.now c.args.b j)) c.loop-j.j (is held ∙ w.if-seen-j.false)));
       }
     ]
+
+pub returns : goal.returns
+returns g c = λ held.
+    let end : c.loop-j.j ≡ c.args.n = omega (arith, c.loop-j-test.false, c.loop-j.auto.j-end) in
+    c.loop-j.invariant.counts held ∙ ap (λ (n : ℕ). length (filter (λ (j : ℕ). is_some (came_at held c.args.symbols.now c.args.b j)) (below n))) end

@@ -31,4 +31,3 @@ pub returns-in-Err-Unread-clause-front : goal.returns-in-Err-Unread-clause-front
 returns-in-Err-Unread-clause-front g c = λ who ds object are answer.
     let r = c.args.self.now.received in
     begun_of who ds r.fti (bytes_at r.symbols) are.read are.received _ _ (c.in-Err-Unread.ensures.front tt) object answer
-
