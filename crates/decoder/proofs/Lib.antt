@@ -37,3 +37,4 @@ pub mod Places
 pub mod Framed
 pub mod FirstCarrier
 pub mod Indexed
+pub mod FromFile

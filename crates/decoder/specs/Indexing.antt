@@ -1,7 +1,6 @@
 -- What a pass over a session file's frames tells.
 use Rattle.std.specs.Prelude.{◌≡◌, ℕ, Bool, false, List, Option, Result, Err, ⊤, IfSome, IsNone, IsOk}
-use Rattle.session.specs.Frames.{StopsAt}
-use Rattle.session.specs.Joining.{IsWhole}
+use Rattle.session.specs.Frames.{StopsAt, IsFramed, AreDatagrams}
 use Rattle.session.specs.declared.frame.FrameFault.{FrameFault}
 use Rattle.session.specs.declared.frame.FrameFault.TheVariants as frame_fault
 use Rattle.partition.specs.Fti.{Fti}
@@ -20,6 +19,11 @@ use Rattle.decoder.specs.declared.indexing.Unindexed.TheVariants.{Frame, Fault, 
 use Rattle.decoder.specs.declared.received.Refusal.TheVariants as refusal
 use Rattle.decoder.specs.declared.source.Unread.{Unread}
 use Rattle.decoder.specs.declared.source.Unread.TheVariants as unread
+
+-- all bytes of the file are frames of datagrams
+abbrev pub AreFrames : Option (List ℕ) → Type 0
+AreFrames content = IfSome content
+    (λ x. (datagrams : List (List ℕ)) × IsFramed datagrams x × AreDatagrams datagrams)
 
 -- what a look at a datagram says, where no FTI is known: the FTI that comes to be known, and the fault
 pub record IsAlone (who : Identity) (place : ℕ) (datagram : List ℕ) (fti : Option Fti)
@@ -49,7 +53,7 @@ IsNotAgain content reliable unread.NoMemory = ⊤
 -- why nothing was made of the file; a fault at a place only where all of it is frames
 abbrev pub IsUnindexed : Option (List ℕ) → Bool → Unindexed → Type 0
 IsUnindexed content reliable (Frame fault) = IsFrameFault content reliable fault
-IsUnindexed content reliable (Fault fault) = IsWhole content
+IsUnindexed content reliable (Fault fault) = AreFrames content
 IsUnindexed content reliable (Again fault) = IsNotAgain content reliable fault
 
 -- a fault at a place is the first that these datagrams have

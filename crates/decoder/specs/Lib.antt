@@ -25,3 +25,4 @@ pub mod Gathering
 pub mod Written
 pub mod InFile
 pub mod Indexing
+pub mod GatheringIn

@@ -12,9 +12,8 @@ ghost use Rattle.reception.specs.Reception.{symbol_of, with_fti};
 ghost use Rattle.reception.specs.Answer.{clashes};
 ghost use Rattle.reception.specs.Walks.{scope_in};
 ghost use Rattle.session.specs.Frames.{most_bytes, IsFramed, IsSessionFault};
-ghost use Rattle.session.specs.Joining.{IsWhole};
 ghost use Rattle.decoder.specs.InFile.{held_in, AreSymbolsIn, IsSymbolIn, AreOfBlock};
-ghost use Rattle.decoder.specs.Indexing.{IsAlone, IsUnindexed, IsFaultAmong};
+ghost use Rattle.decoder.specs.Indexing.{AreFrames, IsAlone, IsUnindexed, IsFaultAmong};
 ghost use Rattle.decoder.specs.Received.{AreReceived, IsIndex, IsNothing, came_at, list_of};
 ghost use Rattle.decoder.specs.Sources.{AreInRange, IsUnreadOf};
 ghost use Rattle.decoder.specs.declared.place.Place.{Place as PlaceValue};
@@ -26,6 +25,7 @@ use crate::received::fault_at;
 use crate::source::Unread;
 use crate::symbols::Symbols;
 use alc::Packet;
+use lists::are_bytes;
 use partition::Fti;
 use reception::{Identity, Look, Scope};
 use session::{FrameFault, Read, read_next};
@@ -121,15 +121,16 @@ impl Position {
 
 // Reads the frames that are left.
 fn read_rest<R: Read>(alloc: Global, reader: &mut R) -> Result<(), FrameFault>
-    ensures whole { OnOk result (IsWhole (R.remaining reader.old)) }
+    ensures whole { OnOk result (AreFrames (R.remaining reader.old)) }
     ensures fault { IfErr result (λ e.
         IsSessionFault e (R.remaining reader.old) (R.failed reader.new)) }
     ensures unsound { IfErr result (λ e. e ≡ FrameFault.Io → R.sound reader.old ≡ false) }
 {
     loop {
-        if read_next(alloc, reader)?.is_none() {
+        let Some(datagram) = read_next(alloc, reader)? else {
             return Ok(());
-        }
+        };
+        are_bytes(datagram.as_slice());
     }
 }
 
@@ -163,7 +164,7 @@ fn first_fti<R: Read>(
         → IsFramed ds x → IfOk result (λ o. IsNone o → IsNothing identity ds) }
     ensures fault { (x : List ℕ) (ds : List (List ℕ)) → R.remaining reader.old ≡ Some x
         → IsFramed ds x → IfErr result (IsFaultAmong identity ds) }
-    ensures whole { IfOk result (λ o. IsNone o → IsWhole (R.remaining reader.old)) }
+    ensures whole { IfOk result (λ o. IsNone o → AreFrames (R.remaining reader.old)) }
     ensures unindexed { IfErr result (IsUnindexed (R.remaining reader.old) (R.sound reader.old)) }
 {
     let mut first = None;
@@ -175,7 +176,9 @@ fn first_fti<R: Read>(
                 None => Ok(None),
             };
         };
-        let (carried, fault) = look_alone(identity, place, &datagram);
+        let bytes = datagram.as_slice();
+        are_bytes(bytes);
+        let (carried, fault) = look_alone(identity, place, bytes);
         if let Some(fti) = carried {
             return Ok(Some(fti));
         }
@@ -201,7 +204,7 @@ pub(crate) fn find_fti<F: ReadAt>(
         → IsFramed ds x → IfOk result (λ o. IsNone o → IsNothing identity ds) }
     ensures fault { (x : List ℕ) (ds : List (List ℕ)) → F.content file.now ≡ Some x
         → IsFramed ds x → IfErr result (IsFaultAmong identity ds) }
-    ensures whole { IfOk result (λ o. IsNone o → IsWhole (F.content file.now)) }
+    ensures whole { IfOk result (λ o. IsNone o → AreFrames (F.content file.now)) }
     ensures unindexed { IfErr result (IsUnindexed (F.content file.now) (F.reliable file.now)) }
 {
     let mut cursor = Cursor::new(file);
@@ -291,7 +294,7 @@ fn index_frames<R: Read, F: ReadAt>(
     ensures fault { (x : List ℕ) (ds : List (List ℕ)) → F.content file.now ≡ Some x
         → IsFramed ds x → scope_in identity ds ≡ with_fti identity fti
         → IfErr result (IsFaultAmong identity ds) }
-    ensures whole { OnOk result (IsWhole (F.content file.now)) }
+    ensures whole { OnOk result (AreFrames (F.content file.now)) }
     ensures unindexed { IfErr result (IsUnindexed (F.content file.now) (F.reliable file.now)) }
 {
     let mut symbols = Symbols::new(alloc);
@@ -303,11 +306,13 @@ fn index_frames<R: Read, F: ReadAt>(
         let Some(datagram) = read_next(alloc, reader)? else {
             return Ok(symbols);
         };
+        let bytes = datagram.as_slice();
+        are_bytes(bytes);
         let place = position.place;
-        let (here, next) = position.pass(datagram.len())?;
+        let (here, next) = position.pass(bytes.len())?;
         position = next;
         let mut scope = Scope::with_fti(identity, fti);
-        let packet = match scope.look(&datagram) {
+        let packet = match scope.look(bytes) {
             Ok(Look::InRange(packet)) => packet,
             Ok(Look::Other) => continue,
             Ok(Look::Early) => continue,
@@ -344,7 +349,7 @@ pub(crate) fn index<F: ReadAt>(
     ensures fault { (x : List ℕ) (ds : List (List ℕ)) → F.content file.now ≡ Some x
         → IsFramed ds x → scope_in identity ds ≡ with_fti identity fti
         → IfErr result (IsFaultAmong identity ds) }
-    ensures whole { OnOk result (IsWhole (F.content file.now)) }
+    ensures whole { OnOk result (AreFrames (F.content file.now)) }
     ensures unindexed { IfErr result (IsUnindexed (F.content file.now) (F.reliable file.now)) }
 {
     let mut cursor = Cursor::new(file);

@@ -35,6 +35,8 @@ mod counting;
 mod decoding;
 mod erasure;
 mod feeding;
+mod file_gathering;
+mod file_source;
 mod gathering;
 mod giving;
 mod indexing;
@@ -61,6 +63,8 @@ mod writing;
 
 pub use answer::{Answer, DecodeFault};
 pub use decoding::decode;
+pub use file_gathering::{FileFault, FileSymbols, FileWriteFault, GatheredFile, gather_file};
 pub use gathering::{Gathered, ObjectSymbols, WriteFault, gather};
 pub use receiver::{FeedFault, Progress, Receiver};
 pub use selecting::{decode_selection, one_answer};
+pub use source::Unread;
