@@ -111,7 +111,7 @@ pub fault_gathered : (who : Identity) (content : Option (List ℕ)) (reliable : 
 fault_gathered who content reliable fault e is why among = (
   tt,
   told_if content (λ x. (ds : List (List ℕ)) × IsFramed ds x × IsAnswer who ds (answer_value (answer.Fault e)))
-  (λ x told.
+      (λ x told.
       let frames = subst (λ (u : Unindexed). IsUnindexed content reliable u) is why in
       let w = if_told content (λ x. (ds : List (List ℕ)) × IsFramed ds x × AreDatagrams ds) x told frames in
       let refused = subst (λ (u : Unindexed). IsFaultAmong who w.0 u) is (among x w.0 told w.1) in

@@ -67,7 +67,7 @@ IsGatheredIn who content (gathered.Answer answer) =
     × IfSome content (λ x. (datagrams : List (List ℕ)) × IsFramed datagrams x
     × IsAnswer who datagrams (answer_value answer))
 IsGatheredIn who content (gathered.Symbols s) =
-    AreEnoughPlaces s
+    AreGatheredIn content s
     × IfSome content (λ x. (datagrams : List (List ℕ)) × ArePlacesOf who datagrams x s
     × (object : List ℕ) × IsAnswer who datagrams (value.Object object))
 

@@ -12,13 +12,11 @@ pub returns-in-Ok-None-clause-gathered : goal.returns-in-Ok-None-clause-gathered
 returns-in-Ok-None-clause-gathered g c =
     let content = g.F.ReadAt.content c.args.file.now in
     let reliable = g.F.ReadAt.reliable c.args.file.now in
-    let who = c.args.identity in
-    (
+    let who = c.args.identity in (
       tt,
       told_if content (λ (x : List ℕ). (ds : List (List ℕ)) × IsFramed ds x × IsAnswer c.args.identity ds value.Empty) (λ x told.
           let whole = c.in-Ok-None.ensures.whole (rw c.in-Ok-None.field-0-is refl) in
-          let w = if_told content (λ (y : List ℕ). (ds : List (List ℕ)) × IsFramed ds y × AreDatagrams ds) x told whole in
-          (
+          let w = if_told content (λ (y : List ℕ). (ds : List (List ℕ)) × IsFramed ds y × AreDatagrams ds) x told whole in (
             w.0,
             w.1,
             record {
@@ -54,8 +52,8 @@ returns-in-Err-index-clause-gathered g c =
     let reliable = g.F.ReadAt.reliable c.args.file.now in
     let who = c.args.identity in
     told_gathered who content reliable c.in-Err-index.fault c.told_of-in-Err-index.result c.told_of-in-Err-index.ensures.answer c.in-Err-index.ensures.unindexed (λ x ds told framed.
-        let known = rw c.in-Ok-Some.field-0-is at (c.in-Ok-Some.ensures.some x ds told framed) in
-        c.in-Err-index.ensures.fault x ds told framed known)
+    let known = rw c.in-Ok-Some.field-0-is at (c.in-Ok-Some.ensures.some x ds told framed) in
+    c.in-Err-index.ensures.fault x ds told framed known)
 
 pub returns-in-Err-index-clause-fault : goal.returns-in-Err-index-clause-fault
 returns-in-Err-index-clause-fault g c = c.told_of-in-Err-index.ensures.fault (g.F.ReadAt.content c.args.file.now) (g.F.ReadAt.reliable c.args.file.now) c.in-Err-index.ensures.unindexed

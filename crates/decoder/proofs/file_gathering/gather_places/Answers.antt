@@ -5,6 +5,7 @@ use Rattle.session.specs.Frames.{IsFramed}
 use Rattle.reception.specs.Answer as value
 use Rattle.reception.specs.Answer.{IsAnswer}
 use Rattle.reception.specs.Reception.{with_fti}
+use Rattle.reception.specs.declared.scope.Identity.{Identity}
 use Rattle.decoder.specs.Answers.{answer_value}
 use Rattle.decoder.specs.Decoded.{Answers, Stand}
 use Rattle.decoder.specs.GatheringIn.{ArePlacesOf}
@@ -57,8 +58,7 @@ returns-in-Some-clause-gathered g c =
     let content = g.F.ReadAt.content c.args.file.now in
     let s = c.args.indexed.symbols in
     let f = c.args.indexed.fti in
-    let who = c.args.indexed.identity in
-    (
+    let who = c.args.indexed.identity in (
       rw c.in-Some.is at c.in_ok-answer.ensures.none,
       told_if content (λ (x : List ℕ). (ds : List (List ℕ)) × IsFramed ds x × IsAnswer c.args.indexed.identity ds (answer_value c.in-Some.answer)) (λ x told.
           let w = c.requires.told x told in
@@ -75,20 +75,25 @@ returns-in-None-clause-gathered g c =
     let f = c.args.indexed.fti in
     let who = c.args.indexed.identity in
     let made : FileSymbols = record { indexed = c.args.indexed; codes = c.in_ok-codes.codes } in
-    let enough = (rw c.in-None.is at c.in_ok-answer.ensures.enough) refl in
-    (
-      record {
-        codes = c.in_ok-codes.ensures;
-        range = c.requires.range;
-        enough = λ held b hb. enough_same f b _ _ (λ j lj. some_any (held_in (unwrap_or content [])) held s b j) (enough b hb);
-      },
+    let enough = (rw c.in-None.is at c.in_ok-answer.ensures.enough) refl in (
+      (
+        record {
+          codes = c.in_ok-codes.ensures;
+          range = c.requires.range;
+          enough = λ held b hb. enough_same f b _ _ (λ j lj. some_any (held_in (unwrap_or content [])) held s b j) (enough b hb);
+        },
+        told_if content (λ (x : List ℕ). (who : Identity) × (ds : List (List ℕ)) × ArePlacesOf who ds x (record { indexed = c.args.indexed; codes = c.in_ok-codes.codes })) (λ x told.
+            let w = c.requires.told x told in
+            let v = rw c.in-None.is at (c.in_ok-answer.ensures.told (x, told, w.2.placed)) in
+            let sound = subst (λ (y : List ℕ). AreSound c.args.indexed.fti (came_at (held_in y) c.args.indexed.symbols)) (told_is content x told) v.0 in
+            (who, w.0, record { framed = w.1; indexed = w.2; sound = sound })),
+      ),
       told_if content (λ (x : List ℕ). (ds : List (List ℕ)) × ArePlacesOf c.args.indexed.identity ds x (record { indexed = c.args.indexed; codes = c.in_ok-codes.codes })
           × (object : List ℕ) × IsAnswer c.args.indexed.identity ds (value.Object object)) (λ x told.
           let w = c.requires.told x told in
           let v = rw c.in-None.is at (c.in_ok-answer.ensures.told (x, told, w.2.placed)) in
           let sound = subst (λ (y : List ℕ). AreSound c.args.indexed.fti (came_at (held_in y) c.args.indexed.symbols)) (told_is content x told) v.0 in
-          let answers = subst (λ (y : List ℕ). Answers c.args.indexed.fti (came_at (held_in y) c.args.indexed.symbols) (value.Object v.1)) (told_is content x told) v.2 in
-          (
+          let answers = subst (λ (y : List ℕ). Answers c.args.indexed.fti (came_at (held_in y) c.args.indexed.symbols) (value.Object v.1)) (told_is content x told) v.2 in (
             w.0,
             record { framed = w.1; indexed = w.2; sound = sound },
             v.1,

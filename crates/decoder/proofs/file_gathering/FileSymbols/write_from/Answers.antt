@@ -38,8 +38,7 @@ returns-in-Ok-clause-written g c = λ who ds x told are.
     let f = c.args.self.now.indexed.fti in
     let o = c.in-Ok.ensures.ok (x, told, are.indexed.placed) in
     let answers =
-    subst (λ (y : List ℕ). Answers c.args.self.now.indexed.fti (came_at (held_in y) c.args.self.now.indexed.symbols) (value.Object o.object)) (told_is content x told) o.answers in
-    (
+    subst (λ (y : List ℕ). Answers c.args.self.now.indexed.fti (came_at (held_in y) c.args.self.now.indexed.symbols) (value.Object o.object)) (told_is content x told) o.answers in (
       o.object,
       answer_of who ds f (came_at (held_in x) s) are.indexed.read are.indexed.received (value.Object o.object) answers,
       o.gained,
