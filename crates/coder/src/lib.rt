@@ -10,8 +10,9 @@
 #![tactic(auto)]
 
 pub use decoder::{
-    Answer, DecodeFault, FeedFault, Gathered, ObjectSymbols, Progress, Receiver, WriteFault,
-    decode, decode_selection, gather, one_answer,
+    Answer, DecodeFault, FeedFault, FileFault, FileSymbols, FileWriteFault, Gathered, GatheredFile,
+    ObjectSymbols, Progress, Receiver, Unread, WriteFault, decode, decode_selection, gather,
+    gather_file, one_answer,
 };
 pub use encoder::{
     CertifyFault, CertifyFromFault, ObjectFault, SendFault, SendFromFault, certify, certify_from,

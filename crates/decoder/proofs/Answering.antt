@@ -1,5 +1,5 @@
 -- The answer to datagrams, from what was received.
-use Rattle.std.specs.Prelude.{◌==◌, Result, Ok, Err, IfOk, IfSome, None}
+use Rattle.std.specs.Prelude.{◌==◌, Result, Ok, Err, IfOk, IfSome, None, is_some}
 use Rattle.std.specs.Borrow.{Bor}
 use Rattle.std.proofs.lemmas.List.{length-map}
 use Rattle.std.proofs.Common.{◌≡◌, ℕ, suc, ◌<◌, true, List, [], ◌∷◌, Option, Some, map, length, get_or, arith, subst, refl, leb-true}
@@ -21,7 +21,19 @@ use Rattle.reception.proofs.Within.{within}
 use Rattle.reception.proofs.Full.{found}
 use Rattle.decoder.specs.Decoded.{AreWithin, IsEnoughAt, AnswerBy, Answers, Stand}
 use Rattle.decoder.specs.Received.{AreReceived}
+use Rattle.decoder.specs.Sources.{AreInRange}
 use Rattle.decoder.proofs.Counts.{held_is}
+
+some_is : {V : Type 0} (o : Option V) → is_some o ≡ true → (v : V) × (o ≡ Some v)
+some_is None some = absurd (cc)
+some_is (Some v) some = (v, refl)
+
+-- symbols that the FTI has are of its blocks and at their ESIs
+pub in_range : (f : Fti) (at : ℕ → ℕ → Option (List ℕ)) → AreWithin f at → AreInRange f at
+in_range f at within = record {
+  block = λ b j some. let w = some_is (at b j) some in within.block b j w.0 w.1;
+  esi = λ b j some. let w = some_is (at b j) some in within.esi b j w.0 w.1;
+}
 
 -- an answer to symbols is one to what came, where no datagram has a fault
 pub answers_came : (reception : Reception Clash) (f : Fti) (v : value.Answer) → IsClean reception f → AnswerBy f reception.symbols v → AnswerTo reception v

@@ -12,7 +12,8 @@ use Rattle.std.proofs.lemmas.Grind.{get_or-set_at}
 use Rattle.std.proofs.lemmas.List.{take_more, get_or-set_other}
 use Rattle.decoder.specs.Blocks.{bytes_of_esi}
 use Rattle.decoder.specs.Arrivals.{with_esi, with_arrived, arrived_at, seen_at}
-use Rattle.decoder.specs.Received.{arrived_of}
+use Rattle.decoder.specs.Received.{arrived_of, came_at}
+use Rattle.decoder.specs.declared.symbols.Symbols.{Symbols}
 use Rattle.decoder.specs.declared.arrivals.Arrival.{Arrival}
 use Rattle.decoder.proofs.Index.{number_eq}
 use Rattle.decoder.proofs.Kept.{with_here, with_other}
@@ -108,26 +109,26 @@ pub some_length : {A : Type 0} (xs : List A) → not (length xs == 0) ≡ true �
 some_length [] some = absurd (cc)
 some_length (x ∷ xs) some = omega arith
 
-abbrev Slice : Type 0
-Slice = Arrival (Bor (List ℕ))
-
 -- the symbols of a block, or none where it has none
-pub arrived_or : (at : ℕ → Option (List ℕ)) (o : Option (Bor (List Slice))) (d came : Bor (List Slice)) → came ≡ unwrap_or o d → d.now ≡ [] → (IsNone o → (j : ℕ) → at j ≡ None)
-    → IfSome o (λ v. (j : ℕ) → arrived_at (λ s. s.now) v.now j ≡ at j) → (j : ℕ) → arrived_at (λ s. s.now) came.now j ≡ at j
-arrived_or at None d came is empty none some j = ap (λ (l : List Slice). arrived_at (λ s. s.now) l j) (ap (λ (b : Bor (List Slice)). b.now) is ∙ empty) ∙ sym (none refl j)
-arrived_or at (Some v) d came is empty none some j = ap (λ (b : Bor (List Slice)). arrived_at (λ s. s.now) b.now j) is ∙ some j
+pub arrived_or : {S : Type 0} (held : S → List ℕ) (s : Symbols S) (b : ℕ) (o : Option (Bor (List (Arrival S)))) (d came : Bor (List (Arrival S))) → came ≡ unwrap_or o d → d.now ≡ []
+    → (IsNone o → (h : S → List ℕ) (j : ℕ) → came_at h s b j ≡ None)
+    → IfSome o (λ v. (h : S → List ℕ) (j : ℕ) → arrived_at h v.now j ≡ came_at h s b j) → (j : ℕ) → arrived_at held came.now j ≡ came_at held s b j
+arrived_or {S} held s b None d came is empty none some j =
+    ap (λ (l : List (Arrival S)). arrived_at held l j) (ap (λ (x : Bor (List (Arrival S))). x.now) is ∙ empty) ∙ sym (none refl held j)
+arrived_or {S} held s b (Some v) d came is empty none some j = ap (λ (x : Bor (List (Arrival S))). arrived_at held x.now j) is ∙ some held j
 
 -- in a map in which a block has one symbol more, all else is as before
-pub more_elsewhere : (m new : BTreeMap ℕ (Vec Slice)) (block : ℕ) (v w : Vec Slice) (a : Slice) → get nat_cmp m block ≡ Some v → get nat_cmp new block ≡ Some w
+pub more_elsewhere : {S : Type 0} (held : S → List ℕ) (m new : BTreeMap ℕ (Vec (Arrival S))) (block : ℕ) (v w : Vec (Arrival S)) (a : Arrival S) → get nat_cmp m block ≡ Some v
+    → get nat_cmp new block ≡ Some w
     → ((q : ℕ) → is_eq (nat_cmp block q) ≡ false → get nat_cmp new q ≡ get nat_cmp m q) → w.items ≡ v.items ++ a ∷ []
-    → (b j : ℕ) → (block == b && a.esi == j) ≡ false → arrived_of (get nat_cmp new b) j ≡ arrived_of (get nat_cmp m b) j
-more_elsewhere m new block v w a was is others items b j other = elim (cases_eq block b) [
-  | inr ne ↦ ap (λ (o : Option (Vec Slice)). arrived_of o j) (others b (sym (number_eq block b) ∙ ne_eqb block b ne))
+    → (b j : ℕ) → (block == b && a.esi == j) ≡ false → arrived_of held (get nat_cmp new b) j ≡ arrived_of held (get nat_cmp m b) j
+more_elsewhere {S} held m new block v w a was is others items b j other = elim (cases_eq block b) [
+  | inr ne ↦ ap (λ (o : Option (Vec (Arrival S))). arrived_of held o j) (others b (sym (number_eq block b) ∙ ne_eqb block b ne))
   | inl same ↦ elim (cases_eq a.esi j) [
     | inl e ↦ absurd (let t = rw (eq-eqb block b same, eq-eqb a.esi j e) at other in cc)
     | inr ne ↦ rw (← same, was, is) (
-        ap (λ (l : List Slice). arrived_at (λ s. s.now) l j) items
-        ∙ ap (λ (g : ℕ → Option (List ℕ)). g j) (arrived_more (λ s. s.now) v.items a)
-        ∙ with_other (arrived_at (λ s. s.now) v.items) a.esi j a.symbol.now ne)
+        ap (λ (l : List (Arrival S)). arrived_at held l j) items
+        ∙ ap (λ (g : ℕ → Option (List ℕ)). g j) (arrived_more held v.items a)
+        ∙ with_other (arrived_at held v.items) a.esi j (held a.symbol) ne)
   ]
 ]

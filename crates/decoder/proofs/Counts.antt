@@ -2,14 +2,17 @@
 use Rattle.std.specs.Prelude.{filter, is_some, ◌==◌, ◌-◌}
 use Rattle.std.proofs.Common.{◌≡◌, ℕ, suc, zero, ◌+◌, ◌<◌, ◌≤◌, Bool, true, false, List, [], ◌∷◌, Option, Some, None, refl, sym, ap, subst, ◌∙◌, arith, length, length-append, add-zero, add-suc}
 use Rattle.std.specs.List.{AllByRecursion}
-use Rattle.std.proofs.lemmas.Bool.{and_parts, or_from, eqb-true, false_from_ne_true}
+use Rattle.std.proofs.lemmas.Bool.{and_parts, or_from, eqb-true, false_from_ne_true, lt-leb, le-leb}
 use Rattle.std.proofs.lemmas.List.Elements.{filter-append}
 use Rattle.lists.specs.Below.{below}
 use Rattle.lists.proofs.Lists.{filter_same, all_of}
-use Rattle.partition.specs.Fti.{Fti, encoding_count}
+use Rattle.partition.specs.Fti.{Fti, IsValidFti, block_count, source_count, encoding_count}
+use Rattle.partition.proofs.Laws.{counts}
 use Rattle.reception.specs.Symbols.{Symbol, is_of, has_arrived, arrived_count}
 use Rattle.reception.specs.Within.{IsWithin}
 use Rattle.decoder.specs.Received.{IsIndex}
+use Rattle.decoder.specs.Decoded.{IsEnoughAt, IsShort}
+use Rattle.decoder.specs.declared.counting.Short.{Short}
 
 parts_count : (t : ℕ → Bool) (n : ℕ) → length (filter t (below (suc n))) ≡ length (filter t (below n)) + length (filter t (n ∷ []))
 unfolding below
@@ -61,3 +64,22 @@ pub counted_held : (f : Fti) (arrivals : List Symbol) (at : ℕ → ℕ → Opti
     → n ≡ encoding_count f b → n ≤ 255 → count ≡ length (filter (λ j. is_some (at b j)) (below n)) → count ≡ arrived_count arrivals b
 counted_held f arrivals at b n count index within is few counts =
     counts ∙ ap (λ (x : ℕ). length (filter (λ j. is_some (at b j)) (below x))) is ∙ sym (held_is f arrivals at b index within (omega (arith, is, few)))
+
+-- the least block that is short, by counts of it and of those below
+pub counted_short : (f : Fti) → IsValidFti f → (at : ℕ → ℕ → Option (List ℕ)) (s : Short) (n : ℕ) → s.block < block_count f → n ≡ encoding_count f s.block
+    → s.have ≡ length (filter (λ j. is_some (at s.block j)) (below n)) → s.need ≡ source_count f s.block → s.have < s.need
+    → ((a : ℕ) → a < s.block → IsEnoughAt f a (at a)) → IsShort f at s
+counted_short f valid at s n inside is have need few enough = λ arrivals index within.
+    let most = λ (b : ℕ) (hb : b < block_count f). (counts f valid b hb).2 in
+    let count : s.have ≡ arrived_count arrivals s.block =
+    counted_held f arrivals at s.block n s.have index within is (rw is (most s.block inside)) have in (
+      record {
+        in_range = inside;
+        short = lt-leb (source_count f s.block) (arrived_count arrivals s.block) (omega (arith, count, need, few));
+        least = λ a la.
+            let e = enough a la in
+            le-leb (source_count f a) (arrived_count arrivals a) (omega (arith, e, held_is f arrivals at a index within (most a (omega (arith, la, inside)))));
+      },
+      count,
+      need,
+    )

@@ -33,3 +33,8 @@ pub mod JustEnough
 pub mod SoundObject
 pub mod SymbolBytes
 pub mod Amount
+pub mod Places
+pub mod Framed
+pub mod FirstCarrier
+pub mod Indexed
+pub mod FromFile

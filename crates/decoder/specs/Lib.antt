@@ -6,6 +6,7 @@ pub mod Columns
 pub mod Received
 pub mod Decoded
 pub mod Unsolvable
+pub mod Sources
 pub mod Promised
 pub mod Refusals
 pub mod Recoveries
@@ -22,3 +23,6 @@ pub mod Differences
 pub mod SymbolsOf
 pub mod Gathering
 pub mod Written
+pub mod InFile
+pub mod Indexing
+pub mod GatheringIn

@@ -1,5 +1,5 @@
 -- The encoding symbols that came, found by block and ESI.
-use Rattle.std.specs.Prelude.{◌≡◌, ℕ, true, false, List, Option, Some, None}
+use Rattle.std.specs.Prelude.{◌≡◌, ℕ, true, false, List, [], Option, Some, None}
 use Rattle.std.specs.Borrow.{Bor}
 use Rattle.std.specs.BTreeMap.{get}
 use Rattle.std.specs.Global.{Vec}
@@ -15,14 +15,27 @@ use Rattle.decoder.specs.Arrivals.{arrived_at}
 use Rattle.decoder.specs.declared.arrivals.Arrival.{Arrival}
 use Rattle.decoder.specs.declared.symbols.Symbols.{Symbols}
 
--- the bytes of the symbol that came of a block at an ESI, if one did
-abbrev pub arrived_of : Option (Vec (Arrival (Bor (List ℕ)))) → ℕ → Option (List ℕ)
-arrived_of None j = None
-arrived_of (Some v) j = arrived_at (λ s. s.now) v.items j
+-- the bytes of the symbol that came of a block at an ESI, if one did, by what each symbol holds
+abbrev pub arrived_of : {S : Type 0} → (S → List ℕ) → Option (Vec (Arrival S)) → ℕ
+    → Option (List ℕ)
+arrived_of held None j = None
+arrived_of held (Some v) j = arrived_at held v.items j
 
--- the bytes that stand at a block and an ESI
-abbrev pub bytes_at : Symbols → ℕ → ℕ → Option (List ℕ)
-bytes_at s b j = arrived_of (get nat_cmp s.blocks b) j
+-- the bytes that stand at a block and an ESI, by what each symbol holds
+abbrev pub came_at : {S : Type 0} → (S → List ℕ) → Symbols S → ℕ → ℕ → Option (List ℕ)
+came_at held s b j = arrived_of held (get nat_cmp s.blocks b) j
+
+-- the symbols of a block, in the order in which they came
+abbrev pub listed : {S : Type 0} → Option (Vec (Arrival S)) → List (Arrival S)
+listed None = []
+listed (Some v) = v.items
+
+abbrev pub list_of : {S : Type 0} → Symbols S → ℕ → List (Arrival S)
+list_of s b = listed (get nat_cmp s.blocks b)
+
+-- the bytes of slices
+abbrev pub bytes_at : Symbols (Bor (List ℕ)) → ℕ → ℕ → Option (List ℕ)
+bytes_at s b j = came_at (λ slice. slice.now) s b j
 
 -- the symbol came, and wherever it did with these bytes
 pub record HasBytes (arrivals : List Symbol) (b j : ℕ) (bytes : List ℕ) : Type 0 where

@@ -1,5 +1,5 @@
 -- What writing an object block by block has made of the symbols that stand so.
-use Rattle.std.specs.Prelude.{◌≡◌, ℕ, List, length, Option}
+use Rattle.std.specs.Prelude.{◌≡◌, ℕ, List, length, Option, Some, None}
 use Rattle.std.specs.Io.KnownBytes.{Appends}
 use Rattle.session.specs.Frames.{AppendsSome}
 use Rattle.partition.specs.Fti.{Fti}
@@ -10,6 +10,8 @@ use Rattle.decoder.specs.Decoded.{Answers}
 use Rattle.decoder.specs.Received.{bytes_at, IsIndex}
 use Rattle.decoder.specs.Gathering.{IsNoObject}
 use Rattle.decoder.specs.SymbolsOf.{AreEnough}
+use Rattle.decoder.specs.Unsolvable.{AreSound}
+use Rattle.decoder.specs.declared.answer.Answer.{Answer}
 use Rattle.decoder.specs.declared.gathering.Gathered.{Gathered}
 use Rattle.decoder.specs.declared.gathering.Gathered.TheVariants as gathered
 
@@ -20,6 +22,11 @@ Gathers f at (gathered.Answer answer) = Answers f at (answer_value answer) × Is
 Gathers f at (gathered.Symbols s) =
     (s.received.fti ≡ f) × (bytes_at s.received.symbols ≡ at) × AreEnough s × (object : List ℕ)
     × Answers f at (value.Object object)
+
+-- the answer to the symbols that stand so, where it is told; else they are those of an object
+abbrev pub IsVerdict : Fti → (ℕ → ℕ → Option (List ℕ)) → Option Answer → Type 0
+IsVerdict f at (Some answer) = Answers f at (answer_value answer)
+IsVerdict f at None = AreSound f at × (object : List ℕ) × Answers f at (value.Object object)
 
 -- their object was written, of the FTI's transfer length
 pub record WritesObject (f : Fti) (at : ℕ → ℕ → Option (List ℕ))

@@ -40,7 +40,7 @@ pub(crate) struct Arrival<S> {
 
 /// Puts a symbol behind the others. Where there is no room for one more, makes room for it and for
 /// a quarter of what came: twice as much would be more than the datagrams' places take.
-pub(crate) fn push<S: SymbolBytes>(
+pub(crate) fn push<S: Drop>(
     arrivals: &mut Vec<Arrival<S>>,
     arrival: Arrival<S>,
 ) -> Result<(), AllocError>
@@ -68,9 +68,9 @@ pub(crate) fn symbol_at<S: SymbolBytes>(arrivals: &[Arrival<S>], esi: u8) -> Opt
 }
 
 /// Whether the symbol at each ESI came.
-pub(crate) fn seen_of<S: SymbolBytes>(arrivals: &[Arrival<S>]) -> [bool; 256]
-    ensures { (j : ℕ) → j < 256
-        → seen_at result j ≡ is_some (arrived_at S.held arrivals.now j) }
+pub(crate) fn seen_of<S: Drop>(arrivals: &[Arrival<S>]) -> [bool; 256]
+    ensures { (held : S → List ℕ) (j : ℕ) → j < 256
+        → seen_at result j ≡ is_some (arrived_at held arrivals.now j) }
 {
     let mut seen = [false; 256];
     for arrival in arrivals {

@@ -1,16 +1,14 @@
 //! How many of a block's encoding symbols came.
 ghost use Rattle.std.specs.Prelude.{◌≡◌, ◌<◌, ◌≤◌, ℕ, List, length, filter, is_some, IfSome};
 ghost use Rattle.std.specs.Prelude.{IfNone};
-ghost use Rattle.std.specs.List.{AllByRecursion};
 ghost use Rattle.lists.specs.Below.{below};
-ghost use Rattle.partition.specs.Fti.{source_count};
-ghost use Rattle.reception.specs.Symbols.{Symbol, arrived_count, AllFull, IsFirstShort};
-ghost use Rattle.reception.specs.Within.{IsWithin};
-ghost use Rattle.decoder.specs.Received.{bytes_at, IsIndex};
+ghost use Rattle.partition.specs.Fti.{block_count};
+ghost use Rattle.decoder.specs.Decoded.{IsEnoughAt, IsShort};
+ghost use Rattle.decoder.specs.Received.{came_at};
 
 use crate::arrivals::seen_of;
+use crate::source::Source;
 use crate::symbols::Symbols;
-use partition::Fti;
 
 /// A block that has fewer encoding symbols than it needs.
 #[derive(Clone, Copy)]
@@ -24,9 +22,10 @@ pub(crate) struct Short {
 }
 
 /// How many different ESIs below `n` came of a block.
-pub(crate) fn have(symbols: &Symbols<'_>, b: u32, n: usize) -> usize
+pub(crate) fn have<S: Drop>(symbols: &Symbols<S>, b: u32, n: usize) -> usize
     requires { n ≤ 255 }
-    ensures { result ≡ length (filter (λ j. is_some (bytes_at symbols.now b j)) (below n)) }
+    ensures { (held : S → List ℕ)
+        → result ≡ length (filter (λ j. is_some (came_at held symbols.now b j)) (below n)) }
 {
     let Some(arrivals) = symbols.of_block(b) else {
         return 0;
@@ -42,18 +41,14 @@ pub(crate) fn have(symbols: &Symbols<'_>, b: u32, n: usize) -> usize
 }
 
 /// The first block that has fewer encoding symbols than source symbols.
-pub(crate) fn first_short(symbols: &Symbols<'_>, fti: &Fti) -> Option<Short>
-    ensures short { (arrivals : List Symbol) → IsIndex arrivals (bytes_at symbols.now)
-        → AllByRecursion (IsWithin fti.now) arrivals
-        → IfSome result (λ s. IsFirstShort fti.now arrivals s.block
-        × (s.have ≡ arrived_count arrivals s.block)
-        × (s.need ≡ source_count fti.now s.block)) }
-    ensures full { (arrivals : List Symbol) → IsIndex arrivals (bytes_at symbols.now)
-        → AllByRecursion (IsWithin fti.now) arrivals
-        → IfNone result (AllFull fti.now arrivals) }
+pub(crate) fn first_short<S: Source>(source: &S) -> Option<Short>
+    ensures short { IfSome result (IsShort (S.known source.now) (S.at source.now)) }
+    ensures enough { IfNone result ((b : ℕ) → b < block_count (S.known source.now)
+        → IsEnoughAt (S.known source.now) b (S.at source.now b)) }
 {
+    let fti = source.fti();
     for block in 0..fti.block_count() {
-        let have = have(symbols, block, fti.n(block));
+        let have = source.count(block, fti.n(block));
         let need = fti.k(block);
         if have < need {
             return Some(Short { block, have, need });

@@ -1,5 +1,6 @@
 //! Decoding: the object that datagrams give, or why they give none.
 ghost use Rattle.std.specs.Prelude.{◌≡◌, ◌<◌, ℕ, [], length, map, slice_index_or, IfOk};
+ghost use Rattle.std.specs.Prelude.{IfErr};
 ghost use Rattle.lists.specs.Bytes.{AreBytes};
 ghost use Rattle.partition.specs.Fti.{block_count};
 ghost use Rattle.block_code.specs.Codes.{EachBlockHas};
@@ -9,11 +10,13 @@ ghost use Rattle.decoder.specs.Answers.{answer_value};
 ghost use Rattle.decoder.specs.Decoded.{AreWithin, IsEnoughAt, IsShort, Answers, Stand};
 ghost use Rattle.decoder.specs.Gathering.{IsNoObject};
 ghost use Rattle.decoder.specs.Received.{bytes_at};
+ghost use Rattle.decoder.specs.Sources.{AreInRange, IsUnreadOf};
 
 use crate::answer::{Answer, DecodeFault};
 use crate::blocks::received_rows;
 use crate::counting::{Short, first_short};
 use crate::received::{Received, Refusal, receive};
+use crate::source::{Source, Unread};
 use crate::unsolvable::first_unsolvable;
 use block_code::{BlockCodes, Kind};
 use lists::are_bytes;
@@ -57,20 +60,22 @@ fn decode_all(
 }
 
 /// The answer where a block is short: the first such, if no full one is of no object.
-pub(crate) fn short_answer(
+pub(crate) fn short_answer<S: Source>(
     alloc: Global,
-    received: &Received<'_>,
+    source: &S,
     codes: &BlockCodes,
     short: Short,
-) -> Result<Answer, AllocError>
-    requires codes { EachBlockHas (IsCodeOf received.now.fti) received.now.fti codes.now }
-    requires within { AreWithin received.now.fti (bytes_at received.now.symbols) }
-    requires short { IsShort received.now.fti (bytes_at received.now.symbols) short }
-    ensures answers { IfOk result (λ a.
-        Answers received.now.fti (bytes_at received.now.symbols) (answer_value a)) }
+) -> Result<Answer, Unread>
+    requires codes { EachBlockHas (IsCodeOf (S.known source.now)) (S.known source.now) codes.now }
+    requires range { AreInRange (S.known source.now) (S.at source.now) }
+    requires within { S.Told source.now → AreWithin (S.known source.now) (S.at source.now) }
+    requires short { IsShort (S.known source.now) (S.at source.now) short }
+    ensures answers { S.Told source.now → IfOk result (λ a.
+        Answers (S.known source.now) (S.at source.now) (answer_value a)) }
     ensures none { IfOk result IsNoObject }
+    ensures fault { IfErr result (IsUnreadOf (S.Told source.now) (S.reliable source.now)) }
 {
-    match first_unsolvable(alloc, received, codes)? {
+    match first_unsolvable(alloc, source, codes)? {
         Some(b) => Ok(Answer::Fault(DecodeFault::NotCode(b))),
         None => Ok(Answer::Missing {
             block: short.block,
@@ -88,8 +93,11 @@ fn answer(alloc: Global, received: &Received<'_>) -> Result<Answer, AllocError>
 {
     received.fti.is_valid();
     let codes = BlockCodes::new(alloc, Kind::Generator, &received.fti)?;
-    match first_short(&received.symbols, &received.fti) {
-        Some(short) => short_answer(alloc, received, &codes, short),
+    match first_short(received) {
+        Some(short) => match short_answer(alloc, received, &codes, short) {
+            Ok(answer) => Ok(answer),
+            Err(_) => Err(AllocError),
+        },
         None => decode_all(alloc, received, &codes),
     }
 }

@@ -16,14 +16,13 @@ ghost use Rattle.decoder.specs.Gathering.{IsGathered};
 ghost use Rattle.decoder.specs.Written.{Gathers, WritesObject, BeginsObject};
 
 use crate::answer::{Answer, DecodeFault};
-use crate::blocks::received_rows;
-use crate::counting::{first_short, have};
-use crate::decoding::{all_are_bytes, short_answer};
+use crate::decoding::all_are_bytes;
 use crate::received::{Received, Refusal, receive};
-use crate::unsolvable::first_unsolvable;
+use crate::verdict::verdict;
+use crate::writing::{Unwritten, write_blocks};
 use block_code::{BlockCodes, Kind};
 use reception::Identity;
-use session::{Write, write_all};
+use session::Write;
 use std::alloc::{AllocError, Global};
 use thiserror::Error;
 
@@ -65,61 +64,6 @@ impl From<AllocError> for WriteFault {
     }
 }
 
-// Whether some block is of no object, where no block is short. Any `k` symbols of a block are those
-// of some polynomials, so that only blocks with more have to be solved, and the last one, whose
-// symbols have to fit the object's padding.
-fn has_unsolvable(
-    alloc: Global,
-    received: &Received<'_>,
-    codes: &BlockCodes,
-) -> Result<bool, AllocError>
-    requires codes { EachBlockHas (IsCodeOf received.now.fti) received.now.fti codes.now }
-    requires within { AreWithin received.now.fti (bytes_at received.now.symbols) }
-    requires enough { (b : ℕ) → b < block_count received.now.fti
-        → IsEnoughAt received.now.fti b (bytes_at received.now.symbols b) }
-    requires bytes { HaveBytes (bytes_at received.now.symbols) }
-    ensures { IfOk result (λ v. MatchBool v
-        (SomeUnsound received.now.fti (bytes_at received.now.symbols))
-        (AreSound received.now.fti (bytes_at received.now.symbols))) }
-{
-    let fti = &received.fti;
-    fti.is_valid();
-    let last = fti.block_count() - 1;
-    let mut kept = None;
-    for b in 0..fti.block_count() {
-        if b < last && have(&received.symbols, b, fti.n(b)) == fti.k(b) {
-            continue;
-        }
-        if received_rows(alloc, received, codes, b, false, &mut kept)?.is_none() {
-            return Ok(true);
-        }
-    }
-    Ok(false)
-}
-
-// The symbols, where no block is short, or the least block that is of no object.
-fn enough<'a>(
-    alloc: Global,
-    received: Received<'a>,
-    codes: BlockCodes,
-) -> Result<Gathered<'a>, AllocError>
-    requires codes { EachBlockHas (IsCodeOf received.fti) received.fti codes }
-    requires stand { Stand received.fti (bytes_at received.symbols) }
-    requires enough { (b : ℕ) → b < block_count received.fti
-        → IsEnoughAt received.fti b (bytes_at received.symbols b) }
-    requires bytes { HaveBytes (bytes_at received.symbols) }
-    ensures { IfOk result (Gathers received.entry.fti (bytes_at received.entry.symbols)) }
-{
-    received.fti.is_valid();
-    if !has_unsolvable(alloc, &received, &codes)? {
-        return Ok(Gathered::Symbols(ObjectSymbols { received, codes }));
-    }
-    match first_unsolvable(alloc, &received, &codes)? {
-        Some(b) => Ok(Gathered::Answer(Answer::Fault(DecodeFault::NotCode(b)))),
-        None => unreachable!(),
-    }
-}
-
 // What the symbols give.
 fn gather_symbols<'a>(alloc: Global, received: Received<'a>) -> Result<Gathered<'a>, AllocError>
     requires stand { Stand received.fti (bytes_at received.symbols) }
@@ -128,12 +72,11 @@ fn gather_symbols<'a>(alloc: Global, received: Received<'a>) -> Result<Gathered<
 {
     received.fti.is_valid();
     let codes = BlockCodes::new(alloc, Kind::Generator, &received.fti)?;
-    match first_short(&received.symbols, &received.fti) {
-        Some(short) => {
-            let answer = short_answer(alloc, &received, &codes, short)?;
-            Ok(Gathered::Answer(answer))
-        }
-        None => enough(alloc, received, codes),
+    match verdict(alloc, &received, &codes) {
+        Ok(Some(answer)) => Ok(Gathered::Answer(answer)),
+        Ok(None) => Ok(Gathered::Symbols(ObjectSymbols { received, codes })),
+        // Symbols that are held are given.
+        Err(_) => Err(AllocError),
     }
 }
 
@@ -159,42 +102,6 @@ pub fn gather<'a>(
     }
 }
 
-// Solves the blocks one by one, and writes each before the next.
-fn write_blocks<W: Write>(
-    alloc: Global,
-    received: &Received<'_>,
-    codes: &BlockCodes,
-    writer: &mut W,
-) -> Result<(), WriteFault>
-    requires codes { EachBlockHas (IsCodeOf received.now.fti) received.now.fti codes.now }
-    requires within { AreWithin received.now.fti (bytes_at received.now.symbols) }
-    requires enough { (b : ℕ) → b < block_count received.now.fti
-        → IsEnoughAt received.now.fti b (bytes_at received.now.symbols b) }
-    requires sound { AreSound received.now.fti (bytes_at received.now.symbols) }
-    ensures ok { OnOk result (WritesObject received.now.fti (bytes_at received.now.symbols)
-        (W.contents writer.old) (W.contents writer.new)) }
-    ensures fault { IfErr result (λ e. e ≡ WriteFault.Io → W.failed writer.new ≡ true) }
-    ensures front { OnErr result (BeginsObject received.now.fti (bytes_at received.now.symbols)
-        (W.contents writer.old) (W.contents writer.new)) }
-    ensures full { IfErr result (λ e. e ≡ WriteFault.Io
-        → W.room writer.old < received.now.fti.transfer_length) }
-{
-    let fti = &received.fti;
-    let mut left = fti.transfer_length();
-    let mut kept = None;
-    for b in 0..fti.block_count() {
-        let Some(rows) = received_rows(alloc, received, codes, b, true, &mut kept)? else {
-            unreachable!();
-        };
-        let used = left.min(rows.bytes.len() as u64);
-        let Ok(()) = write_all(writer, &rows.bytes[..used as usize]) else {
-            return Err(WriteFault::Io);
-        };
-        left -= used;
-    }
-    Ok(())
-}
-
 impl ObjectSymbols<'_> {
     /// Writes the object, and answers its length in bytes. One block of it is held at a time.
     ///
@@ -217,7 +124,9 @@ impl ObjectSymbols<'_> {
     {
         match write_blocks(alloc, &self.received, &self.codes, writer) {
             Ok(()) => Ok(self.received.fti.transfer_length()),
-            Err(fault) => Err(fault),
+            Err(Unwritten::Writer) => Err(WriteFault::Io),
+            // Symbols that are held are given.
+            Err(Unwritten::Unread(_)) => Err(WriteFault::NoMemory),
         }
     }
 }

@@ -45,7 +45,7 @@ impl From<AllocError> for Unkept {
 #[derive(Drop)]
 pub(crate) struct Received<'a> {
     pub(crate) fti: Fti,
-    pub(crate) symbols: Symbols<'a>,
+    pub(crate) symbols: Symbols<&'a [u8]>,
 }
 
 /// The fault of the datagram at a place.
@@ -61,7 +61,11 @@ pub(crate) fn fault_at(place: usize, fault: PlaceFault) -> DecodeFault
 }
 
 // Keeps the packet's symbol, unless an earlier one of its block and ESI has other bytes.
-fn keep<'a>(alloc: Global, symbols: &mut Symbols<'a>, packet: &Packet<'a>) -> Result<(), Unkept>
+fn keep<'a>(
+    alloc: Global,
+    symbols: &mut Symbols<&'a [u8]>,
+    packet: &Packet<'a>,
+) -> Result<(), Unkept>
     ensures here { OnOk result
         (bytes_at symbols.new packet.now.sbn packet.now.esi ≡ Some packet.now.symbol.now) }
     ensures elsewhere { OnOk result
@@ -74,7 +78,7 @@ fn keep<'a>(alloc: Global, symbols: &mut Symbols<'a>, packet: &Packet<'a>) -> Re
         → clashes earlier (symbol_of (packet_of packet.now)) ≡ true) }
 {
     let Some(bytes) = symbols.get(packet.sbn, packet.esi) else {
-        symbols.put(alloc, packet)?;
+        symbols.put(alloc, packet.sbn, packet.esi, packet.symbol)?;
         return Ok(());
     };
     if *bytes != *packet.symbol {

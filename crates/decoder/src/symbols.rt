@@ -1,26 +1,25 @@
 //! The encoding symbols that came, by block and ESI.
-ghost use Rattle.std.specs.Prelude.{◌≡◌, ◌==◌, ◌&&◌, ℕ, Some, None, true, false, is_some};
+ghost use Rattle.std.specs.Prelude.{◌≡◌, ◌==◌, ◌&&◌, ◌++◌, ◌∷◌, [], ℕ, List, Some, None, true, false, is_some};
 ghost use Rattle.std.specs.Prelude.{option_map, IsNone, IfSome, OnOk};
-ghost use Rattle.alc.specs.Views.{packet_of};
 ghost use Rattle.decoder.specs.Arrivals.{arrived_at};
-ghost use Rattle.decoder.specs.Received.{bytes_at};
+ghost use Rattle.decoder.specs.Received.{bytes_at, came_at, list_of};
 
 use crate::arrivals::{Arrival, push, symbol_at};
-use alc::Packet;
 use std::alloc::{AllocError, Global};
 use std::collections::BTreeMap;
 
 /// The symbols of a session: by source block number those of a block, in the order in which they
 /// came.
 #[derive(Drop)]
-pub(crate) struct Symbols<'a> {
-    pub(crate) blocks: BTreeMap<u32, Vec<Arrival<&'a [u8]>>>,
+pub(crate) struct Symbols<S> {
+    pub(crate) blocks: BTreeMap<u32, Vec<Arrival<S>>>,
 }
 
-impl<'a> Symbols<'a> {
+impl<S: Drop> Symbols<S> {
     /// Nothing came.
-    pub(crate) fn new(alloc: Global) -> Symbols<'a>
-        ensures { (b j : ℕ) → bytes_at result b j ≡ None }
+    pub(crate) fn new(alloc: Global) -> Symbols<S>
+        ensures none { (held : S → List ℕ) (b j : ℕ) → came_at held result b j ≡ None }
+        ensures empty { (b : ℕ) → list_of result b ≡ [] }
     {
         Symbols {
             blocks: BTreeMap::new(alloc),
@@ -28,10 +27,13 @@ impl<'a> Symbols<'a> {
     }
 
     /// The symbols of a block, where some came.
-    pub(crate) fn of_block(&self, block: u32) -> Option<&[Arrival<&'a [u8]>]>
-        ensures none { IsNone result → (j : ℕ) → bytes_at self.now block j ≡ None }
-        ensures some { IfSome result
-            (λ v. (j : ℕ) → arrived_at (λ s. s.now) v.now j ≡ bytes_at self.now block j) }
+    pub(crate) fn of_block(&self, block: u32) -> Option<&[Arrival<S>]>
+        ensures none { IsNone result
+            → (held : S → List ℕ) (j : ℕ) → came_at held self.now block j ≡ None }
+        ensures some { IfSome result (λ v. (held : S → List ℕ) (j : ℕ)
+            → arrived_at held v.now j ≡ came_at held self.now block j) }
+        ensures list { IfSome result (λ v. v.now ≡ list_of self.now block) }
+        ensures empty { IsNone result → list_of self.now block ≡ [] }
     {
         match self.blocks.get(&block) {
             Some(arrivals) => Some(arrivals.as_slice()),
@@ -39,18 +41,12 @@ impl<'a> Symbols<'a> {
         }
     }
 
-    /// The bytes of the symbol at a block and an ESI, if it came.
-    pub(crate) fn get(&self, block: u32, esi: u8) -> Option<&[u8]>
-        ensures { option_map (λ s. s.now) result ≡ bytes_at self.now block esi }
-    {
-        symbol_at(self.of_block(block)?, esi)
-    }
-
     /// Whether something came of a block.
     pub(crate) fn has_some(&self, block: u32) -> bool
-        ensures some { result ≡ true
-            → (j : ℕ) × (is_some (bytes_at self.now block j) ≡ true) }
-        ensures none { result ≡ false → (j : ℕ) → bytes_at self.now block j ≡ None }
+        ensures some { result ≡ true → (held : S → List ℕ)
+            → (j : ℕ) × (is_some (came_at held self.now block j) ≡ true) }
+        ensures none { result ≡ false → (held : S → List ℕ) (j : ℕ)
+            → came_at held self.now block j ≡ None }
     {
         match self.of_block(block) {
             Some(arrivals) => !arrivals.is_empty(),
@@ -58,19 +54,26 @@ impl<'a> Symbols<'a> {
         }
     }
 
-    /// Puts the packet's symbol behind those of its block.
-    pub(crate) fn put(&mut self, alloc: Global, packet: &Packet<'a>) -> Result<(), AllocError>
-        ensures here { OnOk result
-            (bytes_at self.new packet.now.sbn packet.now.esi ≡ Some packet.now.symbol.now) }
-        ensures elsewhere { OnOk result
-            ((b j : ℕ) → (packet.now.sbn == b && packet.now.esi == j) ≡ false
-            → bytes_at self.new b j ≡ bytes_at self.old b j) }
+    /// Puts a symbol behind those of its block.
+    pub(crate) fn put(
+        &mut self,
+        alloc: Global,
+        block: u32,
+        esi: u8,
+        symbol: S,
+    ) -> Result<(), AllocError>
+        ensures here { OnOk result ((held : S → List ℕ)
+            → came_at held self.new block esi ≡ Some (held symbol)) }
+        ensures elsewhere { OnOk result ((held : S → List ℕ) (b j : ℕ)
+            → (block == b && esi == j) ≡ false
+            → came_at held self.new b j ≡ came_at held self.old b j) }
+        ensures more { OnOk result (list_of self.new block
+            ≡ list_of self.old block ++ record { esi = esi; symbol = symbol } ∷ []) }
+        ensures others { OnOk result ((b : ℕ) → (block == b) ≡ false
+            → list_of self.new b ≡ list_of self.old b) }
     {
-        let arrival = Arrival {
-            esi: packet.esi,
-            symbol: packet.symbol,
-        };
-        match self.blocks.get_mut(&packet.sbn) {
+        let arrival = Arrival { esi, symbol };
+        match self.blocks.get_mut(&block) {
             Some(arrivals) => {
                 push(arrivals, arrival)?;
                 Ok(())
@@ -78,9 +81,18 @@ impl<'a> Symbols<'a> {
             None => {
                 let mut arrivals = Vec::new(alloc);
                 arrivals.push(arrival)?;
-                self.blocks.insert(packet.sbn, arrivals)?;
+                self.blocks.insert(block, arrivals)?;
                 Ok(())
             }
         }
+    }
+}
+
+impl Symbols<&[u8]> {
+    /// The bytes of the symbol at a block and an ESI, if it came.
+    pub(crate) fn get(&self, block: u32, esi: u8) -> Option<&[u8]>
+        ensures { option_map (λ s. s.now) result ≡ bytes_at self.now block esi }
+    {
+        symbol_at(self.of_block(block)?, esi)
     }
 }

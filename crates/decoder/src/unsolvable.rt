@@ -1,5 +1,6 @@
 //! Blocks whose symbols are those of no object.
 ghost use Rattle.std.specs.Prelude.{◌≡◌, ◌<◌, ℕ, List, true, length, is_some, slice_index, IfOk};
+ghost use Rattle.std.specs.Prelude.{IfErr};
 ghost use Rattle.std.specs.Prelude.{IfSome, IsNone, IsTrue, ◌↔◌};
 ghost use Rattle.std.specs.List.{AllByRecursion};
 ghost use Rattle.block_code.specs.Codes.{EachBlockHas};
@@ -7,21 +8,24 @@ ghost use Rattle.block_code.specs.CodesOf.{IsCodeOf};
 ghost use Rattle.reception.specs.Symbols.{Symbol, FullSolvable, IsFirstUnsolvable};
 ghost use Rattle.reception.specs.Within.{IsWithin};
 ghost use Rattle.decoder.specs.Decoded.{AreWithin};
-ghost use Rattle.decoder.specs.Received.{bytes_at, IsIndex};
+ghost use Rattle.decoder.specs.Received.{came_at, IsIndex};
+ghost use Rattle.decoder.specs.Sources.{AreInRange, IsUnreadOf};
 
-use crate::blocks::received_rows;
-use crate::counting::have;
-use crate::received::Received;
+use crate::source::{Source, Unread};
 use crate::symbols::Symbols;
 use block_code::BlockCodes;
 use std::alloc::{AllocError, Global};
 
 // The source blocks of which something came.
-fn blocks_of(alloc: Global, symbols: &Symbols<'_>) -> Result<Vec<u32>, AllocError>
-    ensures all { IfOk result (λ v. (b j : ℕ) → is_some (bytes_at symbols.now b j) ≡ true
+pub(crate) fn blocks_of<S: Drop>(
+    alloc: Global,
+    symbols: &Symbols<S>,
+) -> Result<Vec<u32>, AllocError>
+    ensures all { IfOk result (λ v. (held : S → List ℕ) (b j : ℕ)
+        → is_some (came_at held symbols.now b j) ≡ true
         → (i : ℕ) × (i < length v.items) × (slice_index v.items i ≡ b)) }
-    ensures some { IfOk result (λ v. (i : ℕ) → i < length v.items
-        → (j : ℕ) × (is_some (bytes_at symbols.now (slice_index v.items i) j) ≡ true)) }
+    ensures some { IfOk result (λ v. (held : S → List ℕ) (i : ℕ) → i < length v.items
+        → (j : ℕ) × (is_some (came_at held symbols.now (slice_index v.items i) j) ≡ true)) }
 {
     let mut blocks = Vec::new(alloc);
     for block in symbols.blocks.keys() {
@@ -43,35 +47,37 @@ fn is_before(b: u32, least: Option<u32>) -> bool
 }
 
 /// The least block that has enough symbols and whose symbols are those of no object.
-pub(crate) fn first_unsolvable(
+pub(crate) fn first_unsolvable<S: Source>(
     alloc: Global,
-    received: &Received<'_>,
+    source: &S,
     codes: &BlockCodes,
-) -> Result<Option<u32>, AllocError>
-    requires codes { EachBlockHas (IsCodeOf received.now.fti) received.now.fti codes.now }
-    requires within { AreWithin received.now.fti (bytes_at received.now.symbols) }
-    ensures none { IfOk result (λ o. IsNone o → (arrivals : List Symbol)
-        → IsIndex arrivals (bytes_at received.now.symbols)
-        → AllByRecursion (IsWithin received.now.fti) arrivals
-        → FullSolvable received.now.fti arrivals) }
-    ensures some { IfOk result (λ o. IfSome o (λ b. (arrivals : List Symbol)
-        → IsIndex arrivals (bytes_at received.now.symbols)
-        → AllByRecursion (IsWithin received.now.fti) arrivals
-        → IsFirstUnsolvable received.now.fti arrivals b)) }
+) -> Result<Option<u32>, Unread>
+    requires codes { EachBlockHas (IsCodeOf (S.known source.now)) (S.known source.now) codes.now }
+    requires range { AreInRange (S.known source.now) (S.at source.now) }
+    requires within { S.Told source.now → AreWithin (S.known source.now) (S.at source.now) }
+    ensures none { S.Told source.now → IfOk result (λ o. IsNone o → (arrivals : List Symbol)
+        → IsIndex arrivals (S.at source.now)
+        → AllByRecursion (IsWithin (S.known source.now)) arrivals
+        → FullSolvable (S.known source.now) arrivals) }
+    ensures some { S.Told source.now → IfOk result (λ o. IfSome o (λ b. (arrivals : List Symbol)
+        → IsIndex arrivals (S.at source.now)
+        → AllByRecursion (IsWithin (S.known source.now)) arrivals
+        → IsFirstUnsolvable (S.known source.now) arrivals b)) }
+    ensures fault { IfErr result (IsUnreadOf (S.Told source.now) (S.reliable source.now)) }
 {
-    let fti = &received.fti;
+    let fti = source.fti();
     fti.is_valid();
-    let blocks = blocks_of(alloc, &received.symbols)?;
+    let blocks = source.blocks(alloc)?;
     let mut least = None;
     let mut kept = None;
     for b in &blocks {
         if !is_before(*b, least) {
             continue;
         }
-        if have(&received.symbols, *b, fti.n(*b)) < fti.k(*b) {
+        if source.count(*b, fti.n(*b)) < fti.k(*b) {
             continue;
         }
-        if received_rows(alloc, received, codes, *b, false, &mut kept)?.is_none() {
+        if source.rows(alloc, codes, *b, false, &mut kept)?.is_none() {
             least = Some(*b);
         }
     }

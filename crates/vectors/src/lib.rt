@@ -11,6 +11,8 @@ mod converting_tests;
 #[cfg(test)]
 mod decoding_tests;
 #[cfg(test)]
+mod file_tests;
+#[cfg(test)]
 mod hostile_tests;
 #[cfg(test)]
 mod reading_tests;

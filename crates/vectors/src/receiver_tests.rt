@@ -17,10 +17,14 @@ use std::alloc::{AllocError, Global};
 use std::test::Fail;
 
 /// In how many orders a session comes.
-const ORDERS: usize = 100;
+pub(crate) const ORDERS: usize = 100;
 
 // An object of so many bytes.
-fn object_of(alloc: Global, random: &mut Pcg32, length: usize) -> Result<Vec<u8>, AllocError> {
+pub(crate) fn object_of(
+    alloc: Global,
+    random: &mut Pcg32,
+    length: usize,
+) -> Result<Vec<u8>, AllocError> {
     let mut object = Vec::new(alloc);
     for _ in 0..length {
         object.push((random.next_u32() % 256) as u8)?;
@@ -29,7 +33,7 @@ fn object_of(alloc: Global, random: &mut Pcg32, length: usize) -> Result<Vec<u8>
 }
 
 // The datagrams that are sent of an object, those at the places that `every` divides with the FTI.
-fn sent(alloc: Global, object: &[u8], fti: &Fti, every: u32) -> Result<Session, Fail>
+pub(crate) fn sent(alloc: Global, object: &[u8], fti: &Fti, every: u32) -> Result<Session, Fail>
     requires { 1 ≤ every }
 {
     let mut sink = Sink::new(alloc);
@@ -49,7 +53,7 @@ fn spoiled(alloc: Global, datagram: &[u8]) -> Result<Vec<u8>, AllocError> {
 
 // The session's datagrams as they may come: of 64 some four don't, eight come twice, and one comes
 // also with another byte.
-fn disturbed(
+pub(crate) fn disturbed(
     alloc: Global,
     random: &mut Pcg32,
     session: &Session,
@@ -72,7 +76,7 @@ fn disturbed(
     Ok(datagrams)
 }
 
-fn is_same(a: &Answer, b: &Answer) -> bool {
+pub(crate) fn is_same(a: &Answer, b: &Answer) -> bool {
     match (a, b) {
         (Answer::Empty, Answer::Empty) => true,
         (Answer::Object(a), Answer::Object(b)) => a.as_slice() == b.as_slice(),

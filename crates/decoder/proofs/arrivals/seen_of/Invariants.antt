@@ -1,10 +1,10 @@
 use Rattle.std.specs.Prelude.{is_some}
-use Rattle.std.proofs.Common.{◌≡◌, ℕ, ◌<◌, length, take}
+use Rattle.std.proofs.Common.{◌≡◌, ℕ, ◌<◌, length, take, List}
 use Rattle.decoder.specs.Arrivals.{arrived_at, seen_at}
 use Rattle.decoder.proofs.arrivals.seen_of.Given as goal
 
 abbrev pub invariant-loop-arrival : goal.invariant-loop-arrival
 invariant-loop-arrival g l = record {
   len : length l.seen ≡ 256;
-  at : (j : ℕ) → j < 256 → seen_at l.seen j ≡ is_some (arrived_at g.S.SymbolBytes.held (take l.arrival-index l.arrivals) j);
+  at : (held : g.row.S.Denot → List ℕ) (j : ℕ) → j < 256 → seen_at l.seen j ≡ is_some (arrived_at held (take l.arrival-index l.arrivals) j);
 }

@@ -1,38 +1,30 @@
-use Rattle.std.proofs.Common.{◌≡◌, ◌<◌, ℕ, true, sym, subst, inl, inr, arith}
-use Rattle.std.proofs.lemmas.Bool.{cases_eq, le-leb, lt-leb}
-use Rattle.partition.specs.Fti.{block_count, source_count}
-use Rattle.reception.specs.Symbols.{is_full, arrived_count}
-use Rattle.decoder.specs.Received.{bytes_at}
-use Rattle.decoder.proofs.Counts.{counted_held}
+use Rattle.std.proofs.Common.{◌<◌, ◌≡◌, ◌∙◌, ℕ, ap, sym, subst, arith, below_more}
+use Rattle.partition.specs.Fti.{Fti, IsValidFti, block_count, source_count, encoding_count}
+use Rattle.decoder.specs.Decoded.{IsEnoughAt}
+use Rattle.decoder.proofs.Counts.{counted_short}
+use Rattle.decoder.proofs.Unsound.{enough_counted}
 use Rattle.decoder.proofs.counting.first_short.Goals as goal
 
 pub loop-block-preserved : goal.loop-block-preserved
-loop-block-preserved c = λ arrivals index within a la.
-    let f = c.args.fti.now in
-    let b = c.loop-block.block in
-    let counts = counted_held f arrivals (bytes_at c.args.symbols.now) b c.n.result c.have-have.result index within c.n.ensures.value c.n.ensures.byte c.have-have.ensures in
-    let need = c.k-need.ensures.value in
-    elim (cases_eq a b) [
-      | inl e ↦ subst (λ (x : ℕ). is_full f arrivals x ≡ true) (sym e) (le-leb (source_count f b) (arrived_count arrivals b) (omega (arith, counts, need)))
-      | inr ne ↦ c.loop-block.invariant arrivals index within a (omega arith)
-    ]
+loop-block-preserved g c =
+    let f = g.S.Source.known c.args.source.now in
+    let at = g.S.Source.at c.args.source.now in
+    below_more (λ a. IsEnoughAt (g.S.Source.known c.args.source.now) a (g.S.Source.at c.args.source.now a)) _ c.loop-block.invariant
+    (enough_counted f at c.loop-block.block c.n.result c.count-have.result (rw c.fti-fti.ensures at c.n.ensures.value) c.count-have.ensures
+    (let need = rw c.fti-fti.ensures at c.k-need.ensures.value in omega (arith, c.if-have-need.false, need)))
 
-pub returns-then-have-need-clause-short : goal.returns-then-have-need-clause-short
-returns-then-have-need-clause-short c = λ arrivals index within.
-    let f = c.args.fti.now in
-    let b = c.loop-block.block in
-    let hb : b < block_count f = rw c.block_count-block-end.ensures.value at c.loop-block-test.true in
-    let counts = counted_held f arrivals (bytes_at c.args.symbols.now) b c.n.result c.have-have.result index within c.n.ensures.value c.n.ensures.byte c.have-have.ensures in
-    let need = c.k-need.ensures.value in (
-      record {
-        in_range = hb;
-        short = lt-leb (source_count f b) (arrived_count arrivals b) (omega (arith, counts, need));
-        least = c.loop-block.invariant arrivals index within;
-      },
-      counts,
-      need,
-    )
+pub returns-then-have-need : goal.returns-then-have-need
+returns-then-have-need g c =
+    let f = g.S.Source.known c.args.source.now in
+    let many = rw c.fti-fti.ensures at c.block_count-block-end.ensures.value in
+    record {
+      short = counted_short f (subst IsValidFti c.fti-fti.ensures c.block_count-block-end.ensures.valid) (g.S.Source.at c.args.source.now)
+          (record { block = c.loop-block.block; have = c.count-have.result; need = c.k-need.result }) c.n.result (omega (arith, many, c.loop-block-test.true))
+          (rw c.fti-fti.ensures at c.n.ensures.value) c.count-have.ensures (rw c.fti-fti.ensures at c.k-need.ensures.value) c.if-have-need.true c.loop-block.invariant;
+      enough = tt;
+    }
 
-pub returns-clause-full : goal.returns-clause-full
-returns-clause-full c = λ arrivals index within b hb.
-    c.loop-block.invariant arrivals index within b (let e = c.block_count-block-end.ensures.value in omega arith)
+pub returns-clause-enough : goal.returns-clause-enough
+returns-clause-enough g c = λ b hb.
+    let many = rw c.fti-fti.ensures at c.block_count-block-end.ensures.value in
+    c.loop-block.invariant b (omega (arith, many, hb, c.loop-block-test.false))

@@ -1,11 +1,15 @@
+use Rattle.std.proofs.Common.{refl}
 use Rattle.decoder.specs.Received.{bytes_at}
-use Rattle.decoder.proofs.Answering.{are_within, enough_where_full}
+use Rattle.decoder.proofs.Answering.{are_within, in_range}
 use Rattle.decoder.proofs.gathering.gather_symbols.Goals as goal
 
-pub short_answer-requires-clause-within : goal.short_answer-requires-clause-within
-short_answer-requires-clause-within c = are_within c.args.received.fti (bytes_at c.args.received.symbols) c.requires.stand
+pub verdict-requires-clause-range : goal.verdict-requires-clause-range
+verdict-requires-clause-range c = in_range c.args.received.fti (bytes_at c.args.received.symbols) (are_within c.args.received.fti (bytes_at c.args.received.symbols) c.requires.stand)
 
-pub enough-requires-clause-enough : goal.enough-requires-clause-enough
-enough-requires-clause-enough c =
-    let s = c.requires.stand in
-    enough_where_full c.args.received.fti (bytes_at c.args.received.symbols) s c.is_valid.ensures (rw c.in-None.is at (c.first_short.ensures.full s.arrivals s.index s.within))
+pub returns-in-Ok-Some : goal.returns-in-Ok-Some
+returns-in-Ok-Some c = ((rw c.in-Ok-Some.field-0-is at c.in-Ok-Some.ensures.told) tt, rw c.in-Ok-Some.field-0-is at c.in-Ok-Some.ensures.none)
+
+pub returns-in-Ok-None : goal.returns-in-Ok-None
+returns-in-Ok-None c =
+    let told = (rw c.in-Ok-None.field-0-is at c.in-Ok-None.ensures.told) tt in
+    (refl, refl, record { codes = c.in_ok-codes.ensures; enough = (rw c.in-Ok-None.field-0-is at c.in-Ok-None.ensures.enough) refl; sound = told.0 }, told.1, told.2)

@@ -20,7 +20,7 @@ pub loop-place-init : goal.loop-place-init
 loop-place-init c =
     let ds = map (λ (d : Bor (List ℕ)). d.now) c.args.datagrams.now in
     subst (λ (s : Scope). Scanned (scope_in c.args.identity ds) ds s (bytes_at c.new-symbols.result) 0) (sym (c.found_in-scope.ensures _ c.requires))
-    (starts (scope_in c.args.identity ds) ds (bytes_at c.new-symbols.result) c.new-symbols.ensures)
+    (starts (scope_in c.args.identity ds) ds (bytes_at c.new-symbols.result) (c.new-symbols.ensures.none (λ slice. slice.now)))
 
 pub loop-place-preserved-in-Ok-Other : goal.loop-place-preserved-in-Ok-Other
 loop-place-preserved-in-Ok-Other c =

@@ -6,7 +6,7 @@ use Rattle.decoder.proofs.GatheredSymbols.{answer_of, begun_of, object_length}
 use Rattle.decoder.proofs.gathering.ObjectSymbols.write.Goals as goal
 
 pub write_blocks-requires-clause-within : goal.write_blocks-requires-clause-within
-write_blocks-requires-clause-within g c =
+write_blocks-requires-clause-within g c = λ told.
     let r = c.args.self.now.received in
     let of = c.requires.2 in
     are_within r.fti (bytes_at r.symbols) (stand_of c.requires.0 c.requires.1 r.fti (bytes_at r.symbols) of.received)
@@ -14,15 +14,20 @@ write_blocks-requires-clause-within g c =
 pub returns-in-Ok-clause-written : goal.returns-in-Ok-clause-written
 returns-in-Ok-clause-written g c = λ who ds are.
     let r = c.args.self.now.received in
-    let w = c.in-Ok.ensures.ok in
+    let w = c.in-Ok.ensures.ok tt in
     (w.object, answer_of who ds r.fti (bytes_at r.symbols) are.read are.received (Object w.object) w.answers, w.gained, c.transfer_length.ensures.value ∙ sym w.count)
 
-pub returns-in-Err-clause-front : goal.returns-in-Err-clause-front
-returns-in-Err-clause-front g c = λ who ds object are answer.
+pub returns-in-Err-Writer-clause-front : goal.returns-in-Err-Writer-clause-front
+returns-in-Err-Writer-clause-front g c = λ who ds object are answer.
     let r = c.args.self.now.received in
-    begun_of who ds r.fti (bytes_at r.symbols) are.read are.received _ _ c.in-Err.ensures.front object answer
+    begun_of who ds r.fti (bytes_at r.symbols) are.read are.received _ _ (c.in-Err-Writer.ensures.front tt) object answer
 
-pub returns-in-Err-clause-room : goal.returns-in-Err-clause-room
-returns-in-Err-clause-room g c = λ who ds object are answer io.
+pub returns-in-Err-Writer-clause-room : goal.returns-in-Err-Writer-clause-room
+returns-in-Err-Writer-clause-room g c = λ who ds object are answer io.
     let r = c.args.self.now.received in
-    omega (arith, c.in-Err.ensures.full io, object_length who ds r.fti (bytes_at r.symbols) are.read are.received object answer)
+    omega (arith, c.in-Err-Writer.ensures.full c.in-Err-Writer.field-0-is, object_length who ds r.fti (bytes_at r.symbols) are.read are.received object answer)
+
+pub returns-in-Err-Unread-clause-front : goal.returns-in-Err-Unread-clause-front
+returns-in-Err-Unread-clause-front g c = λ who ds object are answer.
+    let r = c.args.self.now.received in
+    begun_of who ds r.fti (bytes_at r.symbols) are.read are.received _ _ (c.in-Err-Unread.ensures.front tt) object answer

@@ -28,7 +28,7 @@ invariant_of-result c =
     let front : c.in-Ok-to_vec.seen.items ≡ take c.n-n.result c.seen_of.result = c.in-Ok-to_vec.ensures.items_if_clones_equal (λ x y e. e) in
     let are =
     seen_are f k.sbn p (arrived_in p) c.requires.pending c.n-n.result c.n-n.ensures.value k.esi c.requires.given.esi c.seen_of.result seen c.deref-2.result.now c.from.result k.symbol.now
-    front c.deref-2.ensures.value all c.n-n.ensures.byte c.seen_of.ensures c.from.ensures in
+    front c.deref-2.ensures.value all c.n-n.ensures.byte (c.seen_of.ensures (λ v. v.items)) c.from.ensures in
     let taken : length c.in-Ok-to_vec.seen.items ≡ c.n-n.result = ap length front ∙ length-take-le c.n-n.result c.seen_of.result (omega (arith, all, c.n-n.ensures.byte)) in
     let len = length-set seen c.from.result true ∙ taken ∙ c.n-n.ensures.value in
     let enough = enough_with f k.sbn p (arrived_in p) k.esi k.symbol.now c.requires.pending c.requires.given.esi c.requires.free c.requires.last in
@@ -50,7 +50,7 @@ returns-in-Ok-Some-clause-solved c =
     let front : c.in-Ok-to_vec.seen.items ≡ take c.n-n.result c.seen_of.result = c.in-Ok-to_vec.ensures.items_if_clones_equal (λ x y e. e) in
     let are =
     seen_are f k.sbn p (arrived_in p) c.requires.pending c.n-n.result c.n-n.ensures.value k.esi c.requires.given.esi c.seen_of.result seen c.deref-2.result.now c.from.result k.symbol.now
-    front c.deref-2.ensures.value all c.n-n.ensures.byte c.seen_of.ensures c.from.ensures in
+    front c.deref-2.ensures.value all c.n-n.ensures.byte (c.seen_of.ensures (λ v. v.items)) c.from.ensures in
     let taken : length c.in-Ok-to_vec.seen.items ≡ c.n-n.result = ap length front ∙ length-take-le c.n-n.result c.seen_of.result (omega (arith, all, c.n-n.ensures.byte)) in
     let len = length-set seen c.from.result true ∙ taken ∙ c.n-n.ensures.value in
     record {

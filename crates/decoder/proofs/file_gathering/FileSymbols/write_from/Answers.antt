@@ -1,0 +1,75 @@
+use Rattle.std.specs.Option.{unwrap_or}
+use Rattle.std.proofs.Common.{◌≡◌, ◌∙◌, ℕ, List, [], Option, Some, sym, subst, arith}
+use Rattle.reception.specs.Answer as value
+use Rattle.decoder.specs.Decoded.{AreWithin, Answers}
+use Rattle.decoder.specs.InFile.{held_in}
+use Rattle.decoder.specs.Received.{came_at}
+use Rattle.decoder.specs.Unsolvable.{AreSound}
+use Rattle.decoder.specs.Written.{BeginsObject}
+use Rattle.decoder.proofs.Answering.{are_within, stand_of}
+use Rattle.decoder.proofs.FromFile.{told_is}
+use Rattle.decoder.proofs.GatheredSymbols.{answer_of, begun_of, object_length}
+use Rattle.decoder.proofs.file_gathering.FileSymbols.write_from.Goals as goal
+
+pub write_blocks-requires-clause-within : goal.write_blocks-requires-clause-within
+write_blocks-requires-clause-within g c = λ told.
+    let content = g.F.ReadAt.content c.args.file.now in
+    let s = c.args.self.now.indexed.symbols in
+    let f = c.args.self.now.indexed.fti in
+    let w = rw told.1 at c.requires.1 in
+    subst (λ (y : List ℕ). AreWithin c.args.self.now.indexed.fti (came_at (held_in y) c.args.self.now.indexed.symbols)) (sym (told_is content told.0 told.1))
+    (are_within f (came_at (held_in told.0) s) (stand_of w.0 w.1 f (came_at (held_in told.0) s) w.2.indexed.received))
+
+pub write_blocks-requires-clause-enough : goal.write_blocks-requires-clause-enough
+write_blocks-requires-clause-enough g c = c.requires.0.enough (held_in (unwrap_or (g.F.ReadAt.content c.args.file.now) []))
+
+pub write_blocks-requires-clause-sound : goal.write_blocks-requires-clause-sound
+write_blocks-requires-clause-sound g c = λ told.
+    let content = g.F.ReadAt.content c.args.file.now in
+    let s = c.args.self.now.indexed.symbols in
+    let f = c.args.self.now.indexed.fti in
+    let w = rw told.1 at c.requires.1 in
+    subst (λ (y : List ℕ). AreSound c.args.self.now.indexed.fti (came_at (held_in y) c.args.self.now.indexed.symbols)) (sym (told_is content told.0 told.1)) w.2.sound
+
+pub returns-in-Ok-clause-written : goal.returns-in-Ok-clause-written
+returns-in-Ok-clause-written g c = λ who ds x told are.
+    let content = g.F.ReadAt.content c.args.file.now in
+    let s = c.args.self.now.indexed.symbols in
+    let f = c.args.self.now.indexed.fti in
+    let o = c.in-Ok.ensures.ok (x, told, are.indexed.placed) in
+    let answers =
+    subst (λ (y : List ℕ). Answers c.args.self.now.indexed.fti (came_at (held_in y) c.args.self.now.indexed.symbols) (value.Object o.object)) (told_is content x told) o.answers in (
+      o.object,
+      answer_of who ds f (came_at (held_in x) s) are.indexed.read are.indexed.received (value.Object o.object) answers,
+      o.gained,
+      c.transfer_length.ensures.value ∙ sym o.count,
+    )
+
+pub returns-in-Err-Writer-clause-front : goal.returns-in-Err-Writer-clause-front
+returns-in-Err-Writer-clause-front g c = λ who ds x object told are answer.
+    let content = g.F.ReadAt.content c.args.file.now in
+    let s = c.args.self.now.indexed.symbols in
+    let f = c.args.self.now.indexed.fti in
+    let begins =
+    subst
+    (λ (y : List ℕ). BeginsObject c.args.self.now.indexed.fti (came_at (held_in y) c.args.self.now.indexed.symbols) (g.W.Write.contents c.args.writer.now) (g.W.Write.contents c.write_blocks.new.writer))
+    (told_is content x told) (c.in-Err-Writer.ensures.front (x, told, are.indexed.placed)) in
+    begun_of who ds f (came_at (held_in x) s) are.indexed.read are.indexed.received _ _ begins object answer
+
+pub returns-in-Err-Unread-clause-front : goal.returns-in-Err-Unread-clause-front
+returns-in-Err-Unread-clause-front g c = λ who ds x object told are answer.
+    let content = g.F.ReadAt.content c.args.file.now in
+    let s = c.args.self.now.indexed.symbols in
+    let f = c.args.self.now.indexed.fti in
+    let begins =
+    subst
+    (λ (y : List ℕ). BeginsObject c.args.self.now.indexed.fti (came_at (held_in y) c.args.self.now.indexed.symbols) (g.W.Write.contents c.args.writer.now) (g.W.Write.contents c.write_blocks.new.writer))
+    (told_is content x told) (c.in-Err-Unread.ensures.front (x, told, are.indexed.placed)) in
+    begun_of who ds f (came_at (held_in x) s) are.indexed.read are.indexed.received _ _ begins object answer
+
+pub returns-in-Err-Writer-clause-room : goal.returns-in-Err-Writer-clause-room
+returns-in-Err-Writer-clause-room g c = λ who ds x object told are answer io.
+    let content = g.F.ReadAt.content c.args.file.now in
+    let s = c.args.self.now.indexed.symbols in
+    let f = c.args.self.now.indexed.fti in
+    omega (arith, c.in-Err-Writer.ensures.full c.in-Err-Writer.field-0-is, object_length who ds f (came_at (held_in x) s) are.indexed.read are.indexed.received object answer)

@@ -1,0 +1,39 @@
+use Rattle.std.specs.Prelude.{is_some}
+use Rattle.std.specs.Global.{Vec}
+use Rattle.std.proofs.Common.{◌≡◌, ◌∙◌, ℕ, List, refl, sym, ap, arith, get_or}
+use Rattle.std.proofs.lemmas.List.{get_or_default, take_all}
+use Rattle.std.proofs.lemmas.Result.{err_from_is_err_and}
+use Rattle.decoder.specs.Arrivals.{arrived_at}
+use Rattle.decoder.specs.InFile.{held_in, StandsIn, BlockStandsIn}
+use Rattle.decoder.specs.declared.arrivals.Arrival.{Arrival}
+use Rattle.decoder.specs.declared.place.Place.{Place}
+use Rattle.decoder.proofs.Places.{same_more, some_more, lengths_more, unread_of}
+use Rattle.decoder.proofs.place.read_block_again.Goals as goal
+
+pub returns-in_err-symbol-clause-fault : goal.returns-in_err-symbol-clause-fault
+returns-in_err-symbol-clause-fault g c =
+    let p = err_from_is_err_and c.from_residual-in_err-symbol.result c.from_residual-in_err-symbol.ensures.1 in
+    rw (p.1, p.2)
+    (unread_of _ (BlockStandsIn (g.F.ReadAt.content c.args.file.now) c.args.scope.now c.args.b c.args.came.now) _ _
+    (λ all. (all.0, all.1, all.2 c.loop-arrival.arrival-index (record { esi = 0; symbol = record { offset = 0; length = 0 } }) c.loop-arrival-test.true)) c.in_err-symbol.ensures.fault)
+
+pub loop-arrival-preserved : goal.loop-arrival-preserved
+loop-arrival-preserved g c =
+    let i = c.loop-arrival.arrival-index in
+    let came = c.args.came.now in
+    let again = c.loop-arrival.again.items in
+    let b : Arrival Place = get_or c.args.came.now c.loop-arrival.arrival-index (record { esi = 0; symbol = record { offset = 0; length = 0 } }) in
+    let a : Arrival (Vec ℕ) = record { esi = (get_or c.args.came.now c.loop-arrival.arrival-index (record { esi = 0; symbol = record { offset = 0; length = 0 } })).esi; symbol = c.in_ok-symbol.symbol } in
+    let is = get_or_default came i (record { esi = 0; symbol = record { offset = 0; length = 0 } }) b c.loop-arrival-test.true in
+    rw c.in_ok-push.ensures.pushed (record {
+      some = λ held j. some_more (λ v. v.items) held again came i a b c.loop-arrival-test.true is refl j (c.loop-arrival.invariant.some held j);
+      size = λ f e. lengths_more (λ v. v.items) f.symbol_length again a (c.in_ok-symbol.ensures.size f e) (c.loop-arrival.invariant.size f e);
+      symbols = λ x told all.
+          same_more (λ v. v.items) (held_in x) again came i a b c.loop-arrival-test.true is refl
+          (c.in_ok-symbol.ensures.symbol x told (all i (record { esi = 0; symbol = record { offset = 0; length = 0 } }) c.loop-arrival-test.true)) (c.loop-arrival.invariant.symbols x told all);
+    })
+
+pub returns-clause-some : goal.returns-clause-some
+returns-clause-some g c = λ held j.
+    c.loop-arrival.invariant.some held j
+    ∙ ap (λ (l : List (Arrival Place)). is_some (arrived_at held l j)) (take_all c.loop-arrival.arrival-index c.args.came.now (omega (arith, c.loop-arrival-test.false)))

@@ -1,0 +1,118 @@
+//! Places of packets in a session file, and the symbols that are read there again.
+ghost use Rattle.std.specs.Prelude.{◌≡◌, ◌≤◌, ◌+◌, ℕ, List, Some, length, is_some, IfOk, IfErr, false};
+ghost use Rattle.std.specs.Prelude.{IfSome, IsNone};
+ghost use Rattle.partition.specs.Fti.{Fti as FtiValue};
+ghost use Rattle.decoder.specs.Arrivals.{arrived_at};
+ghost use Rattle.decoder.specs.Blocks.{HaveLength};
+ghost use Rattle.decoder.specs.InFile.{datagram_in, symbol_in, held_in, IsSymbolOf, IsSymbolIn};
+ghost use Rattle.decoder.specs.InFile.{AreOfBlock, StandsIn, BlockStandsIn};
+ghost use Rattle.decoder.specs.Sources.{IsUnreadOf};
+ghost use Rattle.decoder.specs.declared.place.Place.{Place as PlaceValue};
+
+use crate::arrivals::{Arrival, push};
+use crate::source::Unread;
+use reception::{Look, Scope};
+use std::alloc::Global;
+use streams::{ReadAt, fill_at};
+
+/// Where a datagram stands in a file: how many bytes before it, and how many of its own.
+#[derive(Clone, Copy)]
+pub(crate) struct Place {
+    pub(crate) offset: u64,
+    pub(crate) length: u16,
+}
+
+// The bytes at a place.
+fn datagram_at<F: ReadAt>(alloc: Global, file: &F, place: Place) -> Result<Vec<u8>, Unread>
+    ensures bytes { (x : List ℕ) → F.content file.now ≡ Some x
+        → place.offset + place.length ≤ length x
+        → IfOk result (λ v. v.items ≡ datagram_in x place) }
+    ensures changed { IfErr result (λ e. e ≡ Unread.Changed → (x : List ℕ)
+        → F.content file.now ≡ Some x → place.offset + place.length ≤ length x → ⊥) }
+    ensures io { IfErr result (λ e. e ≡ Unread.Io → F.reliable file.now ≡ false) }
+{
+    let mut datagram = Vec::from_elem(alloc, 0u8, usize::from(place.length))?;
+    let Ok(got) = fill_at(file, place.offset, datagram.as_mut_slice()) else {
+        return Err(Unread::Io);
+    };
+    if got < datagram.len() {
+        return Err(Unread::Changed);
+    }
+    Ok(datagram)
+}
+
+// The symbol of a datagram, if it's a packet in range, of the block and the ESI.
+fn symbol_of<'a>(scope: &Scope, b: u32, esi: u8, datagram: &'a [u8]) -> Option<&'a [u8]>
+    requires { (f : FtiValue) × (scope.now.fti ≡ Some f) }
+    ensures symbol { IfSome result (λ s. s.now ≡ symbol_in datagram.now) }
+    ensures size { (f : FtiValue) → scope.now.fti ≡ Some f
+        → IfSome result (λ s. length s.now ≡ f.symbol_length) }
+    ensures none { IsNone result → IsSymbolOf scope.now b esi datagram.now → ⊥ }
+{
+    let mut known = *scope;
+    let packet = match known.look(datagram) {
+        Ok(Look::InRange(packet)) => packet,
+        Ok(Look::Other) => return None,
+        Ok(Look::Early) => return None,
+        Err(_) => return None,
+    };
+    if packet.sbn != b || packet.esi != esi {
+        return None;
+    }
+    Some(packet.symbol)
+}
+
+/// The symbol at a place, where a packet of the block and the ESI stood.
+pub(crate) fn read_again<F: ReadAt>(
+    alloc: Global,
+    file: &F,
+    scope: &Scope,
+    b: u32,
+    esi: u8,
+    place: Place,
+) -> Result<Vec<u8>, Unread>
+    requires { (f : FtiValue) × (scope.now.fti ≡ Some f) }
+    ensures symbol { (x : List ℕ) → F.content file.now ≡ Some x
+        → IsSymbolIn x scope.now b esi place
+        → IfOk result (λ v. v.items ≡ held_in x place) }
+    ensures size { (f : FtiValue) → scope.now.fti ≡ Some f
+        → IfOk result (λ v. length v.items ≡ f.symbol_length) }
+    ensures fault { IfErr result (IsUnreadOf (StandsIn (F.content file.now) scope.now b esi place)
+        (F.reliable file.now)) }
+{
+    let datagram = datagram_at(alloc, file, place)?;
+    let Some(symbol) = symbol_of(scope, b, esi, &datagram) else {
+        return Err(Unread::Changed);
+    };
+    let mut own = Vec::with_capacity(alloc, symbol.len())?;
+    own.extend_from_slice(symbol)?;
+    Ok(own)
+}
+
+/// The symbols at the places of a block.
+pub(crate) fn read_block_again<F: ReadAt>(
+    alloc: Global,
+    file: &F,
+    scope: &Scope,
+    b: u32,
+    came: &[Arrival<Place>],
+) -> Result<Vec<Arrival<Vec<u8>>>, Unread>
+    requires { (f : FtiValue) × (scope.now.fti ≡ Some f) }
+    ensures some { (held : PlaceValue → List ℕ) → IfOk result (λ v. (j : ℕ)
+        → is_some (arrived_at (λ s. s.items) v.items j) ≡ is_some (arrived_at held came.now j)) }
+    ensures size { (f : FtiValue) → scope.now.fti ≡ Some f → IfOk result (λ v.
+        HaveLength f.symbol_length (arrived_at (λ s. s.items) v.items)) }
+    ensures symbols { (x : List ℕ) → F.content file.now ≡ Some x
+        → AreOfBlock x scope.now b came.now → IfOk result (λ v.
+        arrived_at (λ s. s.items) v.items ≡ arrived_at (held_in x) came.now) }
+    ensures fault { IfErr result (IsUnreadOf (BlockStandsIn (F.content file.now) scope.now b came.now)
+        (F.reliable file.now)) }
+{
+    let mut again = Vec::with_capacity(alloc, came.len())?;
+    for arrival in came {
+        let esi = arrival.esi;
+        let symbol = read_again(alloc, file, scope, b, esi, arrival.symbol)?;
+        push(&mut again, Arrival { esi, symbol })?;
+    }
+    Ok(again)
+}

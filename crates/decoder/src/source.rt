@@ -1,0 +1,138 @@
+//! Where the symbols of an object are had from, block by block.
+ghost use Rattle.std.specs.Prelude.{◌≡◌, ◌<◌, ◌≤◌, ℕ, Bool, List, Option, true, length, filter};
+ghost use Rattle.std.specs.Prelude.{is_some, slice_index, ⊤, IfOk, IfErr, IfSome, IsNone};
+ghost use Rattle.lists.specs.Below.{below};
+ghost use Rattle.partition.specs.Fti.{Fti as FtiValue, block_count};
+ghost use Rattle.block_code.specs.Codes.{EachBlockHas};
+ghost use Rattle.block_code.specs.CodesOf.{IsCodeOf};
+ghost use Rattle.decoder.specs.Columns.{ColumnExplained};
+ghost use Rattle.decoder.specs.Decoded.{AreWithin, IsEnoughAt, AreRows, IsUnexplained};
+ghost use Rattle.decoder.specs.Received.{bytes_at};
+ghost use Rattle.decoder.specs.Recoveries.{IsKeptOf};
+ghost use Rattle.decoder.specs.Sources.{IsUnreadOf};
+
+use crate::blocks::received_rows;
+use crate::counting::have;
+use crate::received::Received;
+use crate::recovery::Recovery;
+use crate::rows::Rows;
+use crate::unsolvable::blocks_of;
+use block_code::BlockCodes;
+use partition::Fti;
+use std::alloc::{AllocError, Global};
+use thiserror::Error;
+
+/// Why symbols that came weren't read again.
+#[derive(Debug, Clone, Copy, PartialEq, Eq, Error)]
+pub enum Unread {
+    /// Reading has failed.
+    #[error("Io")]
+    Io,
+    /// What is there isn't what was there before.
+    #[error("Changed")]
+    Changed,
+    /// Memory is wanting.
+    #[error("NoMemory")]
+    NoMemory,
+}
+
+impl From<AllocError> for Unread {
+    ghost use Rattle.std.specs.Prelude.{◌≡◌};
+    ghost use Rattle.decoder.specs.declared.source.Unread.TheVariants.{NoMemory};
+
+    ghost from_gives = { λ _ fault. fault ≡ NoMemory };
+
+    fn from(_: AllocError) -> Self {
+        Unread::NoMemory
+    }
+}
+
+/// What came of an object. Which ESIs came of a block is known; their symbols are given where they
+/// can be had again.
+pub(crate) trait Source {
+    /// The object's FTI.
+    ghost known: { Self → FtiValue };
+
+    /// The bytes that came at each block and ESI.
+    ghost at: { Self → ℕ → ℕ → Option (List ℕ) };
+
+    /// That these bytes are those that are given.
+    ghost Told: { Self → Type 0 };
+
+    /// Whether reading can't fail.
+    ghost reliable: { Self → Bool };
+
+    /// The object's FTI.
+    fn fti(&self) -> Fti
+        ensures { result ≡ known self.now };
+
+    /// How many different ESIs below `n` came of a block.
+    fn count(&self, b: u32, n: usize) -> usize
+        requires { n ≤ 255 }
+        ensures { result ≡ length (filter (λ j. is_some (at self.now b j)) (below n)) };
+
+    /// The source blocks of which something came.
+    fn blocks(&self, alloc: Global) -> Result<Vec<u32>, AllocError>
+        ensures all { IfOk result (λ v. (b j : ℕ) → is_some (at self.now b j) ≡ true
+            → (i : ℕ) × (i < length v.items) × (slice_index v.items i ≡ b)) }
+        ensures some { IfOk result (λ v. (i : ℕ) → i < length v.items
+            → (j : ℕ) × (is_some (at self.now (slice_index v.items i) j) ≡ true)) };
+
+    /// The source symbols of a block, if all that came of it are symbols of an object; `are_sound`
+    /// says that this is known.
+    fn rows(
+        &self,
+        alloc: Global,
+        codes: &BlockCodes,
+        b: u32,
+        are_sound: bool,
+        kept: &mut Option<Recovery>,
+    ) -> Result<Option<Rows>, Unread>
+        requires number { b < block_count (known self.now) }
+        requires codes { EachBlockHas (IsCodeOf (known self.now)) (known self.now) codes.now }
+        requires within { Told self.now → AreWithin (known self.now) (at self.now) }
+        requires enough { IsEnoughAt (known self.now) b (at self.now b) }
+        requires sound { are_sound ≡ true → Told self.now
+            → (c : ℕ) → c < (known self.now).symbol_length
+            → ColumnExplained (known self.now) b (at self.now b) c }
+        requires kept { IsKeptOf codes.now kept.old }
+        ensures rows { Told self.now → IfOk result (λ o. IfSome o (λ rows.
+            AreRows (known self.now) b (at self.now b) rows.bytes.items)) }
+        ensures none { Told self.now → IfOk result (λ o. IsNone o
+            → IsUnexplained (known self.now) b (at self.now b)) }
+        ensures keeps { IsKeptOf codes.now kept.new }
+        ensures fault { IfErr result (IsUnreadOf (Told self.now) (reliable self.now)) };
+}
+
+impl Source for Received<'_> {
+    ghost known = { λ received. received.fti };
+
+    ghost at = { λ received. bytes_at received.symbols };
+
+    ghost Told = { λ _. ⊤ };
+
+    ghost reliable = { λ _. true };
+
+    fn fti(&self) -> Fti {
+        self.fti
+    }
+
+    fn count(&self, b: u32, n: usize) -> usize {
+        have(&self.symbols, b, n)
+    }
+
+    fn blocks(&self, alloc: Global) -> Result<Vec<u32>, AllocError> {
+        blocks_of(alloc, &self.symbols)
+    }
+
+    fn rows(
+        &self,
+        alloc: Global,
+        codes: &BlockCodes,
+        b: u32,
+        are_sound: bool,
+        kept: &mut Option<Recovery>,
+    ) -> Result<Option<Rows>, Unread> {
+        Ok(received_rows(alloc, self, codes, b, are_sound, kept)?)
+    }
+}

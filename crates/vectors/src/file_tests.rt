@@ -1,0 +1,130 @@
+//! Sessions in files beside sessions that are held: the answer and the object are those of `decode`.
+ghost use Rattle.std.specs.Prelude.{◌≤◌};
+
+use crate::ONE;
+use crate::receiver_tests::{ORDERS, disturbed, is_same, object_of, sent};
+use coder::{Answer, DecodeFault, FileFault, GatheredFile, decode, gather_file};
+use partition::Fti;
+use rand_pcg::Pcg32;
+use session::{FrameFault, MOST_BYTES, Sink, write_one};
+use std::alloc::Global;
+use std::test::Fail;
+use streams::{MemoryFile, ReadAt};
+
+// What a file gives, with the object that is written from it.
+fn from_file<F: ReadAt>(alloc: Global, file: &F) -> Result<Answer, FileFault> {
+    match gather_file(alloc, file, ONE)? {
+        GatheredFile::Answer(answer) => Ok(answer),
+        GatheredFile::Symbols(symbols) => {
+            let mut sink = Sink::new(alloc);
+            match symbols.write_from(alloc, file, &mut sink) {
+                Ok(_) => Ok(Answer::Object(sink.into_bytes())),
+                Err(_) => Err(FileFault::Changed),
+            }
+        }
+    }
+}
+
+// The datagrams as a session file.
+fn framed(alloc: Global, datagrams: &[Vec<u8>]) -> Result<Vec<u8>, Fail> {
+    let mut sink = Sink::new(alloc);
+    for datagram in datagrams {
+        if datagram.len() <= MOST_BYTES {
+            write_one(&mut sink, datagram.as_slice())?;
+        }
+    }
+    Ok(sink.into_bytes())
+}
+
+// What the datagrams give, and what they give as a file.
+fn same_from_file(alloc: Global, datagrams: &[Vec<u8>]) -> Result<bool, Fail> {
+    let mut slices = Vec::new(alloc);
+    for datagram in datagrams {
+        slices.push(datagram.as_slice())?;
+    }
+    let held = decode(alloc, slices.as_slice(), ONE)?;
+    let bytes = framed(alloc, datagrams)?;
+    let file = MemoryFile::new(bytes.as_slice(), 100);
+    match from_file(alloc, &file) {
+        Ok(answer) => Ok(is_same(&answer, &held)),
+        Err(_) => Ok(false),
+    }
+}
+
+// Whether files say what held sessions do, in all orders.
+fn same_in_all(alloc: Global, length: usize, fti: &Fti, every: u32) -> Result<bool, Fail>
+    requires { 1 ≤ every }
+{
+    let mut random = Pcg32::new(length as u64, 5510);
+    let object = object_of(alloc, &mut random, length)?;
+    let session = sent(alloc, object.as_slice(), fti, every)?;
+    for _ in 0..ORDERS {
+        let datagrams = disturbed(alloc, &mut random, &session)?;
+        if !same_from_file(alloc, datagrams.as_slice())? {
+            return Ok(false);
+        }
+    }
+    Ok(true)
+}
+
+// Datagrams are lost, come twice and in any order, and some come with another byte, too.
+#[test]
+fn of_small_objects(rt: HostRuntime) -> Result<(), Fail> {
+    for (length, e, b, max_n, every) in [
+        (2, 1, 2, 3, 1),
+        (29, 8, 8, 12, 1),
+        (10, 1, 4, 6, 1),
+        (10, 1, 4, 6, 4),
+        (29, 8, 8, 12, 3),
+    ] {
+        let fti = Fti::new(length, e, b, max_n)?;
+        let same = same_in_all(rt.alloc(), length as usize, &fti, every)?;
+        assert!(rt; same, "{length} bytes, every {every}");
+    }
+    Ok(())
+}
+
+#[test]
+fn of_a_bulletin(rt: HostRuntime) -> Result<(), Fail> {
+    let fti = Fti::new(20000, 250, 32, 40)?;
+    assert!(rt; same_in_all(rt.alloc(), 20000, &fti, 1)?);
+    Ok(())
+}
+
+// Whether a file of these bytes has this fault.
+fn has_fault(alloc: Global, bytes: &[u8], fault: FrameFault) -> bool {
+    let file = MemoryFile::new(bytes, 3);
+    match from_file(alloc, &file) {
+        Err(FileFault::Frame(told)) => told == fault,
+        _ => false,
+    }
+}
+
+// Whether a file of these bytes has a fault at place 0.
+fn is_no_packet(alloc: Global, bytes: &[u8]) -> bool {
+    let file = MemoryFile::new(bytes, 3);
+    match from_file(alloc, &file) {
+        Ok(Answer::Fault(DecodeFault::Packet(place, _))) => place == 0,
+        _ => false,
+    }
+}
+
+fn is_empty(alloc: Global, bytes: &[u8]) -> bool {
+    let file = MemoryFile::new(bytes, 3);
+    match from_file(alloc, &file) {
+        Ok(Answer::Empty) => true,
+        _ => false,
+    }
+}
+
+// A fault of the frames is told before one at a place, wherever it stands.
+#[test]
+fn frames_first(rt: HostRuntime) -> Result<(), Fail> {
+    let alloc = rt.alloc();
+    assert!(rt; is_empty(alloc, &[]));
+    assert!(rt; is_no_packet(alloc, &[0, 1, 7, 0, 0]));
+    assert!(rt; has_fault(alloc, &[0, 1, 7, 0], FrameFault::CutLength));
+    assert!(rt; has_fault(alloc, &[0, 1, 7, 0, 2, 7], FrameFault::CutDatagram));
+    assert!(rt; has_fault(alloc, &[0, 1, 7, 0xFF, 0xE4], FrameFault::TooLong));
+    Ok(())
+}
