@@ -39,7 +39,7 @@ WIDTH = 100
 # Relations that public calls only hand on to one another: what they say inside isn't needed to
 # trust the calls.
 HANDED_ON = {"Rattle.decoder.specs.Stands", "Rattle.decoder.specs.SymbolsOf",
-             "Rattle.inventory.specs.Tells"}
+             "Rattle.decoder.specs.PlacesOf", "Rattle.inventory.specs.Tells"}
 
 
 # What the table tells: a short name, the promise, the clauses that say it (crate, function, labels;

@@ -15,7 +15,8 @@ use Rattle.session.proofs.Sessions.{frames_push, short_push, datagrams_push}
 use Rattle.session.proofs.WholeFrames.{whole_end}
 use Rattle.session.proofs.Copies.{session_fault}
 use Rattle.lists.specs.Bytes.{AreBytes}
-use Rattle.decoder.specs.Indexing.{AreFrames, IsFrameFault, IsNotAgain}
+use Rattle.decoder.specs.Indexing.{AreFrames}
+use Rattle.decoder.specs.FileFaults.{IsFrameFault, IsNotAgain}
 use Rattle.decoder.specs.declared.source.Unread.{Unread}
 use Rattle.decoder.specs.declared.source.Unread.TheVariants as unread
 use Rattle.decoder.specs.InFile.{datagram_in}

@@ -15,7 +15,8 @@ use Rattle.session.specs.Frames.{IsFramed, AreDatagrams}
 use Rattle.reception.specs.declared.scope.Identity.{Identity}
 use Rattle.reception.specs.Answer.{IsAnswer}
 use Rattle.decoder.specs.Answers.{answer_value}
-use Rattle.decoder.specs.GatheringIn.{IsFileFault, IsGatheredIn, fault_of}
+use Rattle.decoder.specs.GatheringIn.{IsFileFault, IsGatheredIn}
+use Rattle.decoder.specs.ReadAgain.{fault_of}
 use Rattle.decoder.specs.Indexing.{IsUnindexed, IsFaultAmong}
 use Rattle.decoder.specs.Sources.{IsUnreadOf}
 use Rattle.decoder.specs.declared.answer.Answer.TheVariants as answer

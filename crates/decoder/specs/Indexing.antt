@@ -1,8 +1,6 @@
 -- What a pass over a session file's frames tells.
-use Rattle.std.specs.Prelude.{◌≡◌, ℕ, Bool, false, List, Option, Result, Err, ⊤, IfSome, IsNone, IsOk}
-use Rattle.session.specs.Frames.{StopsAt, IsFramed, AreDatagrams}
-use Rattle.session.specs.declared.frame.FrameFault.{FrameFault}
-use Rattle.session.specs.declared.frame.FrameFault.TheVariants as frame_fault
+use Rattle.std.specs.Prelude.{◌≡◌, ℕ, Bool, List, Option, Result, Err, ⊤, IfSome, IsNone, IsOk}
+use Rattle.session.specs.Frames.{IsFramed, AreDatagrams}
 use Rattle.partition.specs.Fti.{Fti}
 use Rattle.reception.specs.declared.scope.Identity.{Identity}
 use Rattle.reception.specs.declared.scope.Look.{Look}
@@ -13,19 +11,19 @@ use Rattle.reception.specs.Step.{IsLook}
 use Rattle.reception.specs.Answer as value
 use Rattle.decoder.specs.Answers.{fault_value}
 use Rattle.decoder.specs.declared.answer.DecodeFault.{DecodeFault}
+use Rattle.decoder.specs.FileFaults.{IsFrameFault, IsNotAgain}
 use Rattle.decoder.specs.Refusals.{IsRefusal}
 use Rattle.decoder.specs.declared.indexing.Unindexed.{Unindexed}
 use Rattle.decoder.specs.declared.indexing.Unindexed.TheVariants.{Frame, Fault, Again}
 use Rattle.decoder.specs.declared.received.Refusal.TheVariants as refusal
-use Rattle.decoder.specs.declared.source.Unread.{Unread}
-use Rattle.decoder.specs.declared.source.Unread.TheVariants as unread
 
 -- all bytes of the file are frames of datagrams
 abbrev pub AreFrames : Option (List ℕ) → Type 0
 AreFrames content = IfSome content
     (λ x. (datagrams : List (List ℕ)) × IsFramed datagrams x × AreDatagrams datagrams)
 
--- what a look at a datagram says, where no FTI is known: the FTI that comes to be known, and the fault
+-- what a look at a datagram says, where no FTI is known: the FTI that comes to be known, and the
+-- fault
 pub record IsAlone (who : Identity) (place : ℕ) (datagram : List ℕ) (fti : Option Fti)
     (fault : Option DecodeFault) : Type 0 where
   pub scope : Scope
@@ -35,20 +33,6 @@ pub record IsAlone (who : Identity) (place : ℕ) (datagram : List ℕ) (fti : O
   pub clean : IsNone fault → IsOk looked
   pub wrong : IfSome fault (λ e. (f : PlaceFault) × (looked ≡ Err f)
       × (fault_value e ≡ value.Fault place (Faulty f)))
-
--- why the file's frames weren't read: its bytes are whole frames, and then something that is none;
--- or reading has failed, which isn't reliable
-abbrev pub IsFrameFault : Option (List ℕ) → Bool → FrameFault → Type 0
-IsFrameFault content reliable frame_fault.Io = reliable ≡ false
-IsFrameFault content reliable frame_fault.NoMemory = ⊤
-IsFrameFault content reliable (frame_fault.NoSuchPlace place) = ⊥
-IsFrameFault content reliable fault = IfSome content (StopsAt fault)
-
--- why what stood in it isn't there again: it isn't the same each time, which nothing is told of
-abbrev pub IsNotAgain : Option (List ℕ) → Bool → Unread → Type 0
-IsNotAgain content reliable unread.Io = reliable ≡ false
-IsNotAgain content reliable unread.Changed = IfSome content (λ x. ⊥)
-IsNotAgain content reliable unread.NoMemory = ⊤
 
 -- why nothing was made of the file; a fault at a place only where all of it is frames
 abbrev pub IsUnindexed : Option (List ℕ) → Bool → Unindexed → Type 0

@@ -26,3 +26,6 @@ pub mod Written
 pub mod InFile
 pub mod Indexing
 pub mod GatheringIn
+pub mod FileFaults
+pub mod PlacesOf
+pub mod ReadAgain

@@ -4,9 +4,10 @@ ghost use Rattle.std.specs.Prelude.{Bool, Option};
 ghost use Rattle.session.specs.Frames.{AppendsSome, IsFramed};
 ghost use Rattle.reception.specs.declared.scope.Identity.{Identity as IdentityValue};
 ghost use Rattle.reception.specs.Answer.{Object, IsAnswer};
-ghost use Rattle.decoder.specs.GatheringIn.{AreGatheredIn, ArePlacesOf, IsFileFault};
+ghost use Rattle.decoder.specs.GatheringIn.{IsFileFault};
+ghost use Rattle.decoder.specs.PlacesOf.{AreGatheredIn, ArePlacesOf};
 ghost use Rattle.decoder.specs.GatheringIn.{IsFileWriteFault, IsGatheredIn};
-ghost use Rattle.decoder.specs.GatheringIn.{AreIndexedOf};
+ghost use Rattle.decoder.specs.PlacesOf.{AreIndexedOf};
 ghost use Rattle.decoder.specs.Indexing.{IsUnindexed};
 ghost use Rattle.decoder.specs.Receiving.{IsWrittenOf};
 ghost use Rattle.decoder.specs.Received.{came_at};
@@ -70,7 +71,7 @@ pub enum FileWriteFault {
 
 impl From<Unread> for FileFault {
     ghost use Rattle.std.specs.Prelude.{◌≡◌};
-    ghost use Rattle.decoder.specs.GatheringIn.{fault_of};
+    ghost use Rattle.decoder.specs.ReadAgain.{fault_of};
 
     ghost from_gives = { λ unread fault. fault ≡ fault_of unread };
 
@@ -134,7 +135,7 @@ fn gather_places<F: ReadAt>(
 }
 
 /// What the datagrams of a session file say of the object that was sent under an identity, as
-/// `gather` tells, of which only places in the file are held: 16 bytes for each symbol, and the
+/// `gather` tells, of which only places in the file are held: 24 bytes for each symbol, and the
 /// symbols of one block at a time.
 ///
 /// `Frame` tells why the file is no session, before any fault at a place. A file that is not the

@@ -247,7 +247,8 @@ fn keep<F: ReadAt>(
     ensures none { (x : List ℕ) → F.content file.now ≡ Some x → AreSymbolsIn x scope.now symbols.old
         → OnOk result ((earlier : List Symbol) → IsIndex earlier (came_at (held_in x) symbols.old)
         → clashes earlier (symbol_of (packet_of packet.now)) ≡ false) }
-    ensures clash { (x : List ℕ) → F.content file.now ≡ Some x → AreSymbolsIn x scope.now symbols.old
+    ensures clash { (x : List ℕ) → F.content file.now ≡ Some x
+        → AreSymbolsIn x scope.now symbols.old
         → IfErr result (λ e. e ≡ Unkept.Clash → (earlier : List Symbol)
         → IsIndex earlier (came_at (held_in x) symbols.old)
         → clashes earlier (symbol_of (packet_of packet.now)) ≡ true) }
@@ -258,7 +259,8 @@ fn keep<F: ReadAt>(
         → packet.now.esi < encoding_count f packet.now.sbn → (held : PlaceValue → List ℕ)
         → AreInRange f (came_at held symbols.old)
         → OnOk result (AreInRange f (came_at held symbols.new)) }
-    ensures again { (x : List ℕ) → F.content file.now ≡ Some x → AreSymbolsIn x scope.now symbols.old
+    ensures again { (x : List ℕ) → F.content file.now ≡ Some x
+        → AreSymbolsIn x scope.now symbols.old
         → IfErr result (λ e. e ≡ Unkept.Again Unread.Changed → ⊥) }
     ensures io { IfErr result (λ e. e ≡ Unkept.Again Unread.Io → F.reliable file.now ≡ false) }
 {

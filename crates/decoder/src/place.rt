@@ -1,6 +1,6 @@
 //! Places of packets in a session file, and the symbols that are read there again.
-ghost use Rattle.std.specs.Prelude.{◌≡◌, ◌≤◌, ◌+◌, ℕ, List, Some, length, is_some, IfOk, IfErr, false};
-ghost use Rattle.std.specs.Prelude.{IfSome, IsNone};
+ghost use Rattle.std.specs.Prelude.{◌≡◌, ◌≤◌, ◌+◌, ℕ, List, Some, length, is_some, IfOk, false};
+ghost use Rattle.std.specs.Prelude.{IfErr, IfSome, IsNone};
 ghost use Rattle.partition.specs.Fti.{Fti as FtiValue};
 ghost use Rattle.decoder.specs.Arrivals.{arrived_at};
 ghost use Rattle.decoder.specs.Blocks.{HaveLength};
@@ -105,8 +105,8 @@ pub(crate) fn read_block_again<F: ReadAt>(
     ensures symbols { (x : List ℕ) → F.content file.now ≡ Some x
         → AreOfBlock x scope.now b came.now → IfOk result (λ v.
         arrived_at (λ s. s.items) v.items ≡ arrived_at (held_in x) came.now) }
-    ensures fault { IfErr result (IsUnreadOf (BlockStandsIn (F.content file.now) scope.now b came.now)
-        (F.reliable file.now)) }
+    ensures fault { IfErr result (IsUnreadOf
+        (BlockStandsIn (F.content file.now) scope.now b came.now) (F.reliable file.now)) }
 {
     let mut again = Vec::with_capacity(alloc, came.len())?;
     for arrival in came {

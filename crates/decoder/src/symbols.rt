@@ -1,6 +1,6 @@
 //! The encoding symbols that came, by block and ESI.
-ghost use Rattle.std.specs.Prelude.{◌≡◌, ◌==◌, ◌&&◌, ◌++◌, ◌∷◌, [], ℕ, List, Some, None, true, false, is_some};
-ghost use Rattle.std.specs.Prelude.{option_map, IsNone, IfSome, OnOk};
+ghost use Rattle.std.specs.Prelude.{◌≡◌, ◌==◌, ◌&&◌, ◌++◌, ◌∷◌, [], ℕ, List, Some, None, true};
+ghost use Rattle.std.specs.Prelude.{false, is_some, option_map, IsNone, IfSome, OnOk};
 ghost use Rattle.decoder.specs.Arrivals.{arrived_at};
 ghost use Rattle.decoder.specs.Received.{bytes_at, came_at, list_of};
 

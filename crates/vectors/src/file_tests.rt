@@ -1,4 +1,5 @@
-//! Sessions in files beside sessions that are held: the answer and the object are those of `decode`.
+//! Sessions in files beside sessions that are held: the answer and the object are those of
+//! `decode`.
 ghost use Rattle.std.specs.Prelude.{◌≤◌};
 
 use crate::ONE;

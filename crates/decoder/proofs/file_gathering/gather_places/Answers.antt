@@ -8,7 +8,7 @@ use Rattle.reception.specs.Reception.{with_fti}
 use Rattle.reception.specs.declared.scope.Identity.{Identity}
 use Rattle.decoder.specs.Answers.{answer_value}
 use Rattle.decoder.specs.Decoded.{Answers, Stand}
-use Rattle.decoder.specs.GatheringIn.{ArePlacesOf}
+use Rattle.decoder.specs.PlacesOf.{ArePlacesOf}
 use Rattle.decoder.specs.InFile.{held_in, AllStandIn}
 use Rattle.decoder.specs.Received.{came_at}
 use Rattle.decoder.specs.Unsolvable.{AreSound, HaveBytes}

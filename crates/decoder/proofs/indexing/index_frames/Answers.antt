@@ -6,7 +6,7 @@ use Rattle.reception.specs.Reception.{with_fti}
 use Rattle.reception.specs.declared.scope.Scope.{Scope}
 use Rattle.reception.proofs.Looks.{faultless_look}
 use Rattle.decoder.specs.InFile.{held_in, AreSymbolsIn, IsSymbolIn}
-use Rattle.decoder.specs.Indexing.{IsNotAgain}
+use Rattle.decoder.specs.FileFaults.{IsNotAgain}
 use Rattle.decoder.specs.declared.indexing.Unkept.TheVariants as unkept
 use Rattle.decoder.specs.declared.source.Unread.{Unread}
 use Rattle.decoder.specs.Received.{came_at, list_of}
