@@ -1,13 +1,13 @@
 -- Missing symbols as sums of the source symbols that came and of repair symbols in the places of the
 -- missing ones.
-use Rattle.std.proofs.Common.{◌≡◌, ◌≢◌, ◌+◌, ◌*◌, ℕ, ◌<◌, List, length, get_or, arith, ap, ◌∙◌, sym, inl, inr, refl}
+use Rattle.std.proofs.Common.{◌≡◌, ◌≢◌, ◌+◌, ◌*◌, ℕ, ◌<◌, List, length, get_or, ap, ◌∙◌, sym, inl, inr, refl}
 use Rattle.std.specs.Prelude.{slice_index}
 use Rattle.std.specs.Int.Bits.{xor_zero_r}
 use Rattle.std.proofs.lemmas.Bool.{cases_eq}
 use Rattle.lists.specs.Bytes.{IsByte}
 use Rattle.gf256.specs.Arithmetic.{sum_of, product}
 use Rattle.gf256.specs.ByteField.{byte_field}
-use Rattle.gf256.specs.Sums.{row_times, sum_below}
+use Rattle.gf256.specs.Sums.{row_times}
 use Rattle.elim.specs.Matrices.{AreElements, identity_entry}
 use Rattle.elim.specs.Grid.{Grid, entry, HasElements}
 use Rattle.elim.specs.Erasures.{AreRising}

@@ -1,19 +1,18 @@
 -- Datagrams that are read frame by frame, of a file whose bytes are told.
-use Rattle.std.specs.Prelude.{IfSome, is_some, true, option_map, ◌-◌}
+use Rattle.std.specs.Prelude.{IfSome, option_map, ◌-◌}
 use Rattle.std.proofs.Common.{◌≡◌, ℕ, suc, ◌<◌, ◌≤◌, ◌+◌, Bool, false, List, [], ◌∷◌, ◌++◌, Option, Some, None, length, get_or, take, drop, length-append, append_assoc, refl, sym, ap, subst, ◌∙◌, inl, inr, arith}
 use Rattle.std.proofs.lemmas.Bool.{cases_lt}
 use Rattle.std.proofs.lemmas.Grind.{flat_map-append}
-use Rattle.std.proofs.Math.Seq.{take-append_seam, drop-append_seam, drop-append-add}
+use Rattle.std.proofs.Math.Seq.{take-append_seam, drop-append-add}
 use Rattle.std.proofs.lemmas.List.{append-nil, get_or_append_left, get_or-append_right}
 use Rattle.std.specs.Io.KnownBytes.{Consumes, IsAtEnd}
-use Rattle.session.specs.Frames.{frame, frames, most_bytes, AreShort, AreDatagrams, IsFramed, IsReadFault, IsSessionFault}
+use Rattle.session.specs.Frames.{frame, frames, most_bytes, AreShort, AreDatagrams, IsFramed, IsSessionFault}
 use Rattle.session.specs.Joining.{IsWhole}
 use Rattle.session.specs.declared.frame.FrameFault.{FrameFault}
 use Rattle.session.specs.declared.frame.FrameFault.TheVariants as frame_fault
 use Rattle.session.proofs.OneSession.{only, one_frame, length_frame, behind_length}
 use Rattle.session.proofs.Sessions.{frames_push, short_push, datagrams_push}
 use Rattle.session.proofs.WholeFrames.{whole_end}
-use Rattle.session.proofs.Copies.{session_fault}
 use Rattle.lists.specs.Bytes.{AreBytes}
 use Rattle.decoder.specs.Indexing.{AreFrames}
 use Rattle.decoder.specs.FileFaults.{IsFrameFault, IsNotAgain}

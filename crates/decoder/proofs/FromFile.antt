@@ -1,11 +1,11 @@
 -- Blocks whose symbols are read from a file again, and what is gathered of it.
-use Rattle.std.specs.Prelude.{filter, is_some, IfSome, IsNone, Result, Ok, Err, IfOk}
+use Rattle.std.specs.Prelude.{is_some, IfSome, IsNone, Result, Ok, Err, IfOk}
 use Rattle.std.specs.Option.{unwrap_or}
 use Rattle.std.specs.Borrow.{Bor}
 use Rattle.std.specs.BTreeMap.{get}
 use Rattle.std.specs.Ordering.{nat_cmp}
 use Rattle.std.specs.Global.{Vec}
-use Rattle.std.proofs.Common.{◌≡◌, ℕ, ◌+◌, ◌<◌, ◌≤◌, Bool, true, List, [], ◌∷◌, Option, Some, None, length, get_or, refl, sym, ap, subst, ◌∙◌, inl, inr, arith}
+use Rattle.std.proofs.Common.{◌≡◌, ℕ, ◌<◌, ◌≤◌, Bool, List, [], ◌∷◌, Option, Some, None, length, refl, sym, ap, subst, ◌∙◌, inl, inr, arith}
 use Rattle.std.proofs.lemmas.Bool.{cases_eq}
 use Rattle.lists.specs.Below.{below}
 use Rattle.lists.proofs.Lists.{filter_same}
@@ -30,7 +30,7 @@ use Rattle.decoder.specs.declared.source.Unread.{Unread}
 use Rattle.decoder.specs.declared.source.Unread.TheVariants as unread
 use Rattle.reception.specs.Reception.{ReadAll}
 use Rattle.reception.specs.Walks.{readings_of}
-use Rattle.decoder.specs.Arrivals.{with_esi, with_arrived, arrived_at}
+use Rattle.decoder.specs.Arrivals.{with_esi, with_arrived}
 use Rattle.decoder.specs.Blocks.{bytes_of_esi, HaveLength}
 use Rattle.decoder.specs.Decoded.{IsEnoughAt}
 use Rattle.decoder.specs.Received.{arrived_of, came_at}

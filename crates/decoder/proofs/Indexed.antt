@@ -1,8 +1,8 @@
 -- Places of packets that are kept one by one.
-use Rattle.std.specs.Prelude.{Result, Ok, Err, nat_lt, is_some, option_map, ◌==◌}
+use Rattle.std.specs.Prelude.{Ok, Err, nat_lt, is_some, option_map, ◌==◌}
 use Rattle.std.specs.List.{All, Contains}
 use Rattle.std.proofs.Common.{◌≡◌, ℕ, zero, suc, ◌+◌, ◌<◌, ◌≤◌, true, false, List, [], ◌∷◌, ◌++◌, Option, Some, None, length, get_or, take, refl, sym, ap, subst, ◌∙◌, inl, inr, arith}
-use Rattle.std.proofs.lemmas.Bool.{cases_eq, cases_Bool, eq-eqb, eqb-true, ne_eqb, and_parts}
+use Rattle.std.proofs.lemmas.Bool.{cases_eq, cases_Bool, eqb-true, ne_eqb, and_parts}
 use Rattle.std.proofs.lemmas.List.Elements.{All-append}
 use Rattle.std.proofs.lemmas.List.{get_or_default, take_more}
 use Rattle.decoder.specs.Arrivals.{with_esi, arrived_at}

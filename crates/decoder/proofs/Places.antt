@@ -1,7 +1,7 @@
 -- Symbols that are read again at their places in a file.
 use Rattle.std.specs.Prelude.{is_some, Ok, Err, Result, if◌then◌else◌}
 use Rattle.std.specs.Option.{option_or}
-use Rattle.std.proofs.Common.{◌≡◌, ℕ, ◌+◌, ◌<◌, ◌≤◌, Bool, true, false, List, [], ◌∷◌, ◌++◌, Option, Some, None, length, get_or, take, drop, refl, sym, ap, subst, ◌∙◌, inl, inr, arith}
+use Rattle.std.proofs.Common.{◌≡◌, ℕ, ◌+◌, ◌<◌, ◌≤◌, Bool, true, false, List, [], ◌∷◌, ◌++◌, Option, Some, length, get_or, take, drop, refl, sym, ap, subst, ◌∙◌, inl, inr, arith}
 use Rattle.std.proofs.lemmas.Bool.{cases_eq}
 use Rattle.std.proofs.lemmas.List.{take_all, take_more}
 use Rattle.partition.specs.Fti.{Fti}
@@ -15,7 +15,7 @@ use Rattle.reception.specs.declared.scope.Scope.{Scope}
 use Rattle.reception.specs.declared.scope.Look.{Look}
 use Rattle.reception.specs.declared.scope.Look.TheVariants as look_at
 use Rattle.reception.specs.declared.scope.PlaceFault.{PlaceFault}
-use Rattle.reception.specs.Reception.{Seen, InRange, look, counts, learned, carried}
+use Rattle.reception.specs.Reception.{InRange, look, counts, learned, carried}
 use Rattle.reception.specs.Step.{IsLook, looked}
 use Rattle.reception.proofs.Looks.{length_look, fti_after}
 use Rattle.reception.proofs.Stepping.{scope}

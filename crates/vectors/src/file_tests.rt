@@ -10,7 +10,23 @@ use rand_pcg::Pcg32;
 use session::{FrameFault, MOST_BYTES, Sink, write_one};
 use std::alloc::Global;
 use std::test::Fail;
-use streams::{MemoryFile, ReadAt};
+use streams::{Failed, ReadAt, copy_at};
+
+// A file of bytes in memory, of which some come at a time.
+#[derive(Drop)]
+struct Bytes<'a>(&'a [u8]);
+
+impl ReadAt for Bytes<'_> {
+    ghost use Rattle.std.specs.Prelude.{Some, true};
+
+    ghost content = { λ f. Some f.0.now };
+
+    ghost reliable = { λ _. true };
+
+    fn read_at(&self, offset: u64, buf: &mut [u8]) -> Result<usize, Failed> {
+        Ok(copy_at(self.0, offset, 100, buf))
+    }
+}
 
 // What a file gives, with the object that is written from it.
 fn from_file<F: ReadAt>(alloc: Global, file: &F) -> Result<Answer, FileFault> {
@@ -37,7 +53,14 @@ fn framed(alloc: Global, datagrams: &[Vec<u8>]) -> Result<Vec<u8>, Fail> {
     Ok(sink.into_bytes())
 }
 
-// What the datagrams give, and what they give as a file.
+fn is_same_answer(a: &Answer, b: &Answer) -> bool {
+    match (a, b) {
+        (Answer::Fault(a), Answer::Fault(b)) => a == b,
+        _ => is_same(a, b),
+    }
+}
+
+// Whether a file of the datagrams gives what they give.
 fn same_from_file(alloc: Global, datagrams: &[Vec<u8>]) -> Result<bool, Fail> {
     let mut slices = Vec::new(alloc);
     for datagram in datagrams {
@@ -45,9 +68,9 @@ fn same_from_file(alloc: Global, datagrams: &[Vec<u8>]) -> Result<bool, Fail> {
     }
     let held = decode(alloc, slices.as_slice(), ONE)?;
     let bytes = framed(alloc, datagrams)?;
-    let file = MemoryFile::new(bytes.as_slice(), 100);
+    let file = Bytes(bytes.as_slice());
     match from_file(alloc, &file) {
-        Ok(answer) => Ok(is_same(&answer, &held)),
+        Ok(answer) => Ok(is_same_answer(&answer, &held)),
         Err(_) => Ok(false),
     }
 }
@@ -94,7 +117,7 @@ fn of_a_bulletin(rt: HostRuntime) -> Result<(), Fail> {
 
 // Whether a file of these bytes has this fault.
 fn has_fault(alloc: Global, bytes: &[u8], fault: FrameFault) -> bool {
-    let file = MemoryFile::new(bytes, 3);
+    let file = Bytes(bytes);
     match from_file(alloc, &file) {
         Err(FileFault::Frame(told)) => told == fault,
         _ => false,
@@ -103,7 +126,7 @@ fn has_fault(alloc: Global, bytes: &[u8], fault: FrameFault) -> bool {
 
 // Whether a file of these bytes has a fault at place 0.
 fn is_no_packet(alloc: Global, bytes: &[u8]) -> bool {
-    let file = MemoryFile::new(bytes, 3);
+    let file = Bytes(bytes);
     match from_file(alloc, &file) {
         Ok(Answer::Fault(DecodeFault::Packet(place, _))) => place == 0,
         _ => false,
@@ -111,7 +134,7 @@ fn is_no_packet(alloc: Global, bytes: &[u8]) -> bool {
 }
 
 fn is_empty(alloc: Global, bytes: &[u8]) -> bool {
-    let file = MemoryFile::new(bytes, 3);
+    let file = Bytes(bytes);
     match from_file(alloc, &file) {
         Ok(Answer::Empty) => true,
         _ => false,

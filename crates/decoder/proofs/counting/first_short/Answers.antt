@@ -1,5 +1,5 @@
-use Rattle.std.proofs.Common.{◌<◌, ◌≡◌, ◌∙◌, ℕ, ap, sym, subst, arith, below_more}
-use Rattle.partition.specs.Fti.{Fti, IsValidFti, block_count, source_count, encoding_count}
+use Rattle.std.proofs.Common.{subst, arith, below_more}
+use Rattle.partition.specs.Fti.{IsValidFti}
 use Rattle.decoder.specs.Decoded.{IsEnoughAt}
 use Rattle.decoder.proofs.Counts.{counted_short}
 use Rattle.decoder.proofs.Unsound.{enough_counted}

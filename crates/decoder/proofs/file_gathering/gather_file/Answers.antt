@@ -1,10 +1,8 @@
-use Rattle.std.proofs.Common.{◌≡◌, ◌∙◌, ℕ, List, Option, Some, refl, sym, subst}
+use Rattle.std.proofs.Common.{ℕ, List, refl}
 use Rattle.session.specs.Frames.{IsFramed, AreDatagrams}
 use Rattle.reception.specs.Answer as value
 use Rattle.reception.specs.Answer.{IsAnswer}
 use Rattle.reception.specs.Walks.{readings_of}
-use Rattle.decoder.specs.GatheringIn.{IsGatheredIn}
-use Rattle.decoder.specs.declared.file_gathering.GatheredFile.{GatheredFile}
 use Rattle.decoder.proofs.FromFile.{told_if, if_told, readings, told_gathered}
 use Rattle.decoder.proofs.file_gathering.gather_file.Goals as goal
 

@@ -1,5 +1,5 @@
 use Rattle.std.specs.Option.{unwrap_or}
-use Rattle.std.proofs.Common.{◌≡◌, ◌∙◌, ℕ, List, [], Option, Some, refl, sym, subst}
+use Rattle.std.proofs.Common.{ℕ, List, [], refl, sym, subst}
 use Rattle.std.proofs.lemmas.Result.{err_from_is_err_and}
 use Rattle.session.specs.Frames.{IsFramed}
 use Rattle.reception.specs.Answer as value

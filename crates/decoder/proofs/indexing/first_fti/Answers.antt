@@ -1,10 +1,6 @@
-use Rattle.std.proofs.Common.{◌≡◌, ◌∙◌, ◌+◌, ℕ, Option, length, refl, sym, ap, subst, arith}
-use Rattle.std.specs.Option.{option_or}
-use Rattle.reception.proofs.Heard.{Heard}
-use Rattle.reception.specs.Reception.{asked}
-use Rattle.decoder.specs.declared.answer.DecodeFault.{DecodeFault}
+use Rattle.std.proofs.Common.{◌≡◌, ◌∙◌, ◌+◌, length, refl, sym, subst, arith}
 use Rattle.decoder.proofs.FirstCarrier.{FirstSoFar, none_yet, carrier, heard_still, first_next, no_carrier, nothing_said}
-use Rattle.decoder.proofs.Framed.{Behind, at_start, read_more, is_next, all_read, read_frames}
+use Rattle.decoder.proofs.Framed.{at_start, read_more, is_next, all_read, read_frames}
 use Rattle.decoder.proofs.indexing.first_fti.Goals as goal
 
 pub loop-datagram-init : goal.loop-datagram-init

@@ -1,4 +1,4 @@
-use Rattle.std.proofs.Common.{◌≡◌, ◌∙◌, ◌+◌, ◌<◌, ℕ, List, length, refl, sym, ap, subst, arith}
+use Rattle.std.proofs.Common.{◌≡◌, ◌∙◌, ◌+◌, ℕ, length, refl, sym, ap, subst, arith}
 use Rattle.std.proofs.lemmas.Result.{err_from_is_err_and}
 use Rattle.session.proofs.WholeFrames.{fault_behind}
 use Rattle.reception.specs.declared.scope.Look.TheVariants as look_at
@@ -9,10 +9,10 @@ use Rattle.decoder.specs.InFile.{held_in, AreSymbolsIn, IsSymbolIn}
 use Rattle.decoder.specs.FileFaults.{IsNotAgain}
 use Rattle.decoder.specs.declared.indexing.Unkept.TheVariants as unkept
 use Rattle.decoder.specs.declared.source.Unread.{Unread}
-use Rattle.decoder.specs.Received.{came_at, list_of}
+use Rattle.decoder.specs.Received.{came_at}
 use Rattle.decoder.proofs.Framed.{Behind, at_start, read_more, is_next, stands, all_read, read_frames, rest_frames, frame_fault_is, not_again}
 use Rattle.decoder.proofs.Indexed.{scan_starts, scan_ends, scan_passes, scan_stops, scan_clashes, scan_keeps, none_in_range, has_both}
-use Rattle.decoder.proofs.Places.{symbol_here, symbol_is, same_scope, symbol_moves}
+use Rattle.decoder.proofs.Places.{same_scope, symbol_moves}
 use Rattle.decoder.proofs.indexing.index_frames.Goals as goal
 
 pub loop-symbols-init : goal.loop-symbols-init

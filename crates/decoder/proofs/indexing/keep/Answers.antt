@@ -1,4 +1,4 @@
-use Rattle.std.proofs.Common.{◌∙◌, ◌≡◌, sym, ap, refl, length, List, ℕ, Some}
+use Rattle.std.proofs.Common.{◌∙◌, sym, ap, Some}
 use Rattle.alc.specs.Views.{packet_of}
 use Rattle.reception.specs.Reception.{symbol_of}
 use Rattle.decoder.specs.InFile.{held_in}

@@ -1,4 +1,3 @@
-use Rattle.std.proofs.Common.{refl}
 use Rattle.decoder.proofs.Indexed.{found_here, listed_here, found_before}
 use Rattle.decoder.specs.Received.{list_of}
 use Rattle.decoder.proofs.indexing.place_of.Goals as goal

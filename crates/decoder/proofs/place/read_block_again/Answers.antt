@@ -1,10 +1,10 @@
 use Rattle.std.specs.Prelude.{is_some}
 use Rattle.std.specs.Global.{Vec}
-use Rattle.std.proofs.Common.{◌≡◌, ◌∙◌, ℕ, List, refl, sym, ap, arith, get_or}
+use Rattle.std.proofs.Common.{◌∙◌, ℕ, List, refl, ap, arith, get_or}
 use Rattle.std.proofs.lemmas.List.{get_or_default, take_all}
 use Rattle.std.proofs.lemmas.Result.{err_from_is_err_and}
 use Rattle.decoder.specs.Arrivals.{arrived_at}
-use Rattle.decoder.specs.InFile.{held_in, StandsIn, BlockStandsIn}
+use Rattle.decoder.specs.InFile.{held_in, BlockStandsIn}
 use Rattle.decoder.specs.declared.arrivals.Arrival.{Arrival}
 use Rattle.decoder.specs.declared.place.Place.{Place}
 use Rattle.decoder.proofs.Places.{same_more, some_more, lengths_more, unread_of}

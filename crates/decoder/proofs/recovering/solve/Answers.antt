@@ -1,4 +1,4 @@
-use Rattle.std.proofs.Common.{◌≡◌, ◌+◌, ◌*◌, ◌<◌, ◌∙◌, ℕ, List, length, ap, sym, arith}
+use Rattle.std.proofs.Common.{◌≡◌, ◌+◌, ◌*◌, ◌<◌, ◌∙◌, ℕ, List, length, ap, arith}
 use Rattle.std.specs.Prelude.{slice_index}
 use Rattle.gf256.specs.Arithmetic.{sum_of, product}
 use Rattle.gf256.specs.Sums.{row_times}

@@ -1,6 +1,6 @@
-use Rattle.std.proofs.Common.{◌≡◌, ◌∙◌, ◌<◌, ℕ, List, true, is_some, refl, sym, ap, subst, arith, length, get_or}
+use Rattle.std.proofs.Common.{◌≡◌, ◌∙◌, ℕ, List, true, is_some, refl, ap, subst, arith, length, get_or}
 use Rattle.std.specs.Prelude.{not}
-use Rattle.partition.specs.Fti.{Fti, IsValidFti, block_count, source_count, encoding_count}
+use Rattle.partition.specs.Fti.{IsValidFti}
 use Rattle.decoder.proofs.Listing.{Stands}
 use Rattle.decoder.proofs.Unsound.{LeastSoFar, least_stays, least_falls, sound_short, enough_counted, some_explain, none_gives, some_gives}
 use Rattle.decoder.proofs.unsolvable.first_unsolvable.Goals as goal

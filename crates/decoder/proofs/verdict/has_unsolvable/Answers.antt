@@ -1,5 +1,5 @@
-use Rattle.std.proofs.Common.{◌≡◌, ℕ, suc, ◌<◌, arith, ap, ◌∙◌, sym, subst, below_more}
-use Rattle.partition.specs.Fti.{Fti, IsValidFti, block_count, source_count, encoding_count}
+use Rattle.std.proofs.Common.{suc, ◌<◌, arith, ◌∙◌, subst, below_more}
+use Rattle.partition.specs.Fti.{IsValidFti, block_count}
 use Rattle.decoder.specs.Unsolvable.{IsSound}
 use Rattle.decoder.proofs.JustEnough.{just_enough}
 use Rattle.decoder.proofs.Unsound.{some_explain}

@@ -1,5 +1,5 @@
 use Rattle.std.proofs.Common.{◌≡◌, ◌≤◌, ◌<◌, ◌-◌, ◌+◌, ◌++◌, ◌∙◌, ℕ, List, [], length, take, length-append, length-take-le, ap, sym, subst, refl, arith}
-use Rattle.partition.specs.Fti.{Fti, IsValidFti, block_count}
+use Rattle.partition.specs.Fti.{IsValidFti, block_count}
 use Rattle.session.proofs.Writes.{then_appends, then_some}
 use Rattle.decoder.proofs.Beginnings.{begins, begins_whole}
 use Rattle.decoder.proofs.ObjectSoFar.{nothing_yet, one_more_block, object_answers}

@@ -1,5 +1,5 @@
 use Rattle.std.specs.Option.{unwrap_or}
-use Rattle.std.proofs.Common.{◌≡◌, ◌∙◌, ℕ, List, [], Option, Some, sym, subst, arith}
+use Rattle.std.proofs.Common.{◌∙◌, ℕ, List, [], sym, subst, arith}
 use Rattle.reception.specs.Answer as value
 use Rattle.decoder.specs.Decoded.{AreWithin, Answers}
 use Rattle.decoder.specs.InFile.{held_in}

@@ -1,13 +1,13 @@
-use Rattle.std.specs.Prelude.{is_some, IsNone}
+use Rattle.std.specs.Prelude.{is_some}
 use Rattle.std.specs.Option.{unwrap_or}
 use Rattle.std.specs.Global.{Vec}
-use Rattle.std.proofs.Common.{◌≡◌, ◌∙◌, ◌<◌, ℕ, List, [], Option, Some, length, refl, sym, ap}
+use Rattle.std.proofs.Common.{◌≡◌, ◌∙◌, ◌<◌, ℕ, List, [], Option, length, refl, sym, ap}
 use Rattle.std.proofs.lemmas.Result.{err_from_is_err_and}
 use Rattle.reception.specs.declared.scope.Scope.{Scope}
 use Rattle.decoder.specs.Arrivals.{arrived_at}
 use Rattle.decoder.specs.Blocks.{bytes_of_esi}
-use Rattle.decoder.specs.Decoded.{AreRows, IsUnexplained}
-use Rattle.decoder.specs.InFile.{file_at, held_in, AreOfBlock, AllStandIn, BlockStandsIn}
+use Rattle.decoder.specs.Decoded.{AreRows}
+use Rattle.decoder.specs.InFile.{file_at, held_in, AreOfBlock}
 use Rattle.decoder.specs.Received.{came_at, list_of}
 use Rattle.decoder.specs.declared.arrivals.Arrival.{Arrival}
 use Rattle.decoder.specs.declared.rows.Rows.{Rows}

@@ -1,4 +1,4 @@
-use Rattle.std.proofs.Common.{◌≡◌, ◌≤◌, ◌<◌, ◌+◌, ◌*◌, ℕ, List, length, ap, sym, arith, rules, ◌∙◌}
+use Rattle.std.proofs.Common.{◌≡◌, ◌<◌, ◌+◌, ◌*◌, ℕ, List, length, ap, sym, arith, rules, ◌∙◌}
 use Rattle.std.specs.Prelude.{slice_index}
 use Rattle.lists.specs.Bytes.{IsByte}
 use Rattle.gf256.specs.Arithmetic.{sum_of, product}
@@ -6,7 +6,6 @@ use Rattle.gf256.specs.Sums.{row_times}
 use Rattle.elim.specs.Grid.{Grid, entry, HasElements, HasShape}
 use Rattle.elim.proofs.Entries.{elements_by_row}
 use Rattle.block_code.specs.Columns.{AreColumns}
-use Rattle.decoder.specs.Recoveries.{IsRecovery, AreRecovering, AreResiduals}
 use Rattle.decoder.specs.Rows.{byte_in}
 use Rattle.decoder.proofs.Erased.{sum_with_none}
 use Rattle.decoder.proofs.Erasing.{factors_changed}

@@ -1,5 +1,5 @@
 use Rattle.std.specs.Global.{Vec}
-use Rattle.std.proofs.Common.{◌∙◌, ◌++◌, ◌∷◌, [], ℕ, List, Option, sym, ap, rules}
+use Rattle.std.proofs.Common.{◌∙◌, ◌++◌, ◌∷◌, [], Option, sym, ap, rules}
 use Rattle.decoder.specs.Received.{arrived_of, listed}
 use Rattle.decoder.proofs.Index.{number_eq}
 use Rattle.decoder.specs.declared.arrivals.Arrival.{Arrival}
