@@ -21,8 +21,8 @@ use crate::output::{Unwritten, commit, create};
 use crate::print::Text;
 use crate::wording::put_packet_fault;
 use decoder::{
-    Answer, DecodeFault, FileFault, FileSymbols, FileWriteFault, Gathered, GatheredFile, ObjectSymbols,
-    WriteFault, gather, gather_file,
+    Answer, DecodeFault, FileFault, FileSymbols, FileWriteFault, Gathered, GatheredFile,
+    ObjectSymbols, WriteFault, gather, gather_file,
 };
 use host::Host;
 use request::DecodeRequest;

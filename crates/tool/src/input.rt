@@ -48,15 +48,15 @@ pub(crate) fn read_session<'a, H: Host>(
 /// The session that an input gives, which was opened under this name.
 pub(crate) fn session_in<'a, H: Host>(
     alloc: Global,
-    _host: &H,
-    _name: &'a str,
+    host: &H,
+    name: &'a str,
     input: &mut H::Input,
 ) -> Result<Session, Fault<'a>>
-    requires { GivesFile (H.world _host.now) _name.now
+    requires { GivesFile (H.world host.now) name.now
         (H.Input.remaining input.old) (H.Input.sound input.old) }
     ensures ok { IfOk result (λ session.
-        HasValue (H.world _host.now).files (ASession _name.now) (Datagrams session)) }
-    ensures fault { IfErr result (IsUnread (H.world _host.now) (ASession _name.now)) }
+        HasValue (H.world host.now).files (ASession name.now) (Datagrams session)) }
+    ensures fault { IfErr result (IsUnread (H.world host.now) (ASession name.now)) }
 {
     Ok(Session::read(alloc, input)?)
 }
