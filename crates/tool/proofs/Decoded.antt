@@ -24,7 +24,7 @@ use Rattle.tool.specs.declared.output.Unwritten.{Unwritten}
 use Rattle.tool.specs.declared.output.Unwritten.TheVariants as unwritten
 
 -- an answer that is no object has no bytes
-no_bytes : (answer : Answer) → IsNoObject answer → object_of (answer_value answer) ≡ None
+pub no_bytes : (answer : Answer) → IsNoObject answer → object_of (answer_value answer) ≡ None
 no_bytes Empty none = refl
 no_bytes (Fault (Packet i e)) none = refl
 no_bytes (Fault (OtherFti i)) none = refl

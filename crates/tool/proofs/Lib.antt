@@ -9,6 +9,7 @@ mod Making
 mod Joins
 mod Conversions
 mod Decoded
+mod DecodedFiles
 mod Dropped
 mod Followed
 mod Delivered

@@ -208,6 +208,11 @@ abbrev pub object_of : Answer → Option (List ℕ)
 object_of (Object object) = Some object
 object_of answer = None
 
+-- the answer to the datagrams of a file's bytes, where they are told
+abbrev pub IsAnswerIn : Identity → Option (List ℕ) → Answer → Type 0
+IsAnswerIn who content answer = IfSome content
+    (λ bytes. (datagrams : List (List ℕ)) × IsFramed datagrams bytes × IsAnswer who datagrams answer)
+
 -- what comes of the values that a request's inputs give
 abbrev pub Gives : Request → List Value → Outcome → Type 0
 Gives (Check r) (Opened opened ∷ Bytes object ∷ Polynomials z ∷ []) outcome =
@@ -232,6 +237,9 @@ Gives (Convert r) (Polynomials z ∷ []) outcome =
     (Some (certificate_text (named_as r.identity z))) outcome
 Gives (Decode r) (Datagrams datagrams ∷ []) outcome =
     (answer : Answer) × IsAnswer r.identity datagrams answer
+    × IsOutcome (line_of (answer_text answer)) (answer_status answer) (object_of answer) outcome
+Gives (Decode r) (Opened content ∷ []) outcome =
+    (answer : Answer) × IsAnswerIn r.identity content answer
     × IsOutcome (line_of (answer_text answer)) (answer_status answer) (object_of answer) outcome
 Gives (Follow r) (Opened opened ∷ []) outcome =
     (left : Option (List ℕ)) × (read : ℕ) × (taken : List (List ℕ)) × (lines : List ℕ)

@@ -4,8 +4,8 @@ use Rattle.reception.specs.Answer.{Answer, Object, IsAnswer}
 use Rattle.decoder.specs.SymbolsOf.{AreSymbolsOf}
 use Rattle.decoder.specs.declared.gathering.ObjectSymbols.{ObjectSymbols}
 use Rattle.request.specs.declared.requests.DecodeRequest.{DecodeRequest}
-use Rattle.host.specs.World.{Files}
-use Rattle.tool.specs.Inputs.{ASession, Datagrams, HasValue}
+use Rattle.host.specs.World.{Files, World}
+use Rattle.tool.specs.Inputs.{ASession, Datagrams, HasValue, IsUnread}
 use Rattle.tool.specs.Lines.{line_of, answer_text}
 use Rattle.tool.specs.Commands.{answer_status}
 use Rattle.tool.specs.Doing.{text_of}
@@ -25,6 +25,11 @@ GivesSymbols files r symbols =
     (datagrams : List (List ℕ)) × HasValue files (ASession r.session.now) (Datagrams datagrams)
     × AreSymbolsOf r.identity datagrams symbols × (object : List ℕ)
     × IsAnswer r.identity datagrams (Object object)
+
+-- writing has failed, or the session can't be read again
+abbrev pub IsWriteBrokenFrom : World → List ℕ → Unwritten → Type 0
+IsWriteBrokenFrom world session Writing = ⊤
+IsWriteBrokenFrom world session (Fault fault) = IsUnread world (ASession session) fault
 
 -- writing has failed, or there is no memory
 abbrev pub IsWriteBroken : Unwritten → Type 0

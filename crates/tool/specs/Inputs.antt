@@ -42,6 +42,8 @@ name_of (APlaces name) = name
 abbrev pub HasValue : Option Files → Input → Value → Type 0
 HasValue files (AnObject name) (Bytes object) = Holds files name (λ bytes. bytes ≡ object)
 HasValue files (ASession name) (Datagrams datagrams) = Holds files name (IsFramed datagrams)
+HasValue files (ASession name) (Opened content) =
+    Holds files name (λ bytes. content ≡ Some bytes)
 HasValue files (ACertificate name) (Polynomials z) =
     IsCertificate z × Holds files name (λ bytes. bytes ≡ certificate_text z)
 HasValue files (AStream name) (Opened remaining) =
@@ -73,6 +75,7 @@ IsUnopened world name fault = ⊥
 -- host may fail
 abbrev pub IsUnread : World → Input → Fault → Type 0
 IsUnread world (AnObject name) (File read) = (read.now ≡ name) × (MayFail world)
+IsUnread world (ASession name) (File read) = (read.now ≡ name) × (MayFail world)
 IsUnread world (ASession name) (Frame FrameIo) = MayFail world
 IsUnread world (ASession name) (Frame NoFrameMemory) = ⊤
 IsUnread world (ASession name) (Frame (NoSuchPlace place)) = ⊥

@@ -1,5 +1,9 @@
 //! The command `decode`.
-ghost use Rattle.std.specs.Prelude.{◌≡◌, ◌≤◌, ◌++◌, ℕ, List, true, IfOk, IfErr, OnOk};
+ghost use Rattle.std.specs.Prelude.{◌≡◌, ◌≤◌, ◌++◌, ℕ, Bool, List, Option, Some, true, IfOk, IfErr, OnOk};
+ghost use Rattle.host.specs.World.{World, GivesFile};
+ghost use Rattle.decoder.specs.GatheringIn.{IsGatheredIn, IsFileFault, AreGatheredIn, ArePlacesOf};
+ghost use Rattle.decoder.specs.declared.file_gathering.GatheredFile.TheVariants.{Symbols};
+ghost use Rattle.tool.specs.Inputs.{ASession, IsUnread};
 ghost use Rattle.reception.specs.declared.scope.Identity.{Identity as IdentityValue};
 ghost use Rattle.request.specs.declared.requests.Request.TheVariants.{Decode};
 ghost use Rattle.decoder.specs.Answers.{answer_value, fault_value};
@@ -7,20 +11,24 @@ ghost use Rattle.decoder.specs.Receiving.{IsWrittenOf};
 ghost use Rattle.decoder.specs.SymbolsOf.{AreSymbolsOf, AreGathered};
 ghost use Rattle.tool.specs.Commands.{answer_status};
 ghost use Rattle.tool.specs.Doing.{HasMade, HasStopped};
-ghost use Rattle.tool.specs.Decoding.{IsToldOf, GivesSymbols, IsWriteBroken};
+ghost use Rattle.tool.specs.Decoding.{IsToldOf, GivesSymbols, IsWriteBroken, IsWriteBrokenFrom};
 ghost use Rattle.tool.specs.Lines.{line_of, answer_text};
 
 use crate::done::{Done, Told};
 use crate::fault::Fault;
-use crate::input::read_session;
+use crate::input::{open, session_in};
 use crate::output::{Unwritten, commit, create};
 use crate::print::Text;
 use crate::wording::put_packet_fault;
-use decoder::{Answer, DecodeFault, Gathered, ObjectSymbols, WriteFault, gather};
+use decoder::{
+    Answer, DecodeFault, FileFault, FileSymbols, FileWriteFault, Gathered, GatheredFile,
+    ObjectSymbols, WriteFault, gather, gather_file,
+};
 use host::Host;
 use request::DecodeRequest;
 use session::Write;
 use std::alloc::{AllocError, Global};
+use streams::ReadAt;
 
 /// Writes the object that the identity's packets in the session give. The output is created only
 /// where there is an object, which is written block by block.
@@ -34,11 +42,116 @@ pub(crate) fn decode<'a, H: Host>(
     ensures fault { IfErr result
         (HasStopped (H.world host.old) (H.world host.new) (Decode request.now)) }
 {
-    let session = read_session(alloc, host, request.session)?;
+    let mut input = open(host, request.session)?;
+    if host.length_of(&input).is_some() {
+        decode_file(alloc, host, request, &input)
+    } else {
+        decode_stream(alloc, host, request, &mut input)
+    }
+}
+
+// What the session that an input gives decodes to.
+fn decode_stream<'a, H: Host>(
+    alloc: Global,
+    host: &mut H,
+    request: &DecodeRequest<'a>,
+    input: &mut H::Input,
+) -> Result<Done, Fault<'a>>
+    requires { GivesFile (H.world host.old) request.now.session.now
+        (H.Input.remaining input.old) (H.Input.sound input.old) }
+    ensures ok { IfOk result
+        (HasMade (H.world host.old) (H.world host.new) (Decode request.now)) }
+    ensures fault { IfErr result
+        (HasStopped (H.world host.old) (H.world host.new) (Decode request.now)) }
+{
+    let session = session_in(alloc, host, request.session, input)?;
     let datagrams = session.views(alloc)?;
     match gather(alloc, &datagrams, request.identity)? {
         Gathered::Answer(answer) => Ok(told_of(alloc, &answer)?),
         Gathered::Symbols(symbols) => deliver(alloc, host, request, &symbols),
+    }
+}
+
+// What a session file decodes to. It is read at offsets, so that it isn't held.
+fn decode_file<'a, H: Host>(
+    alloc: Global,
+    host: &mut H,
+    request: &DecodeRequest<'a>,
+    input: &H::Input,
+) -> Result<Done, Fault<'a>>
+    requires { GivesFile (H.world host.old) request.now.session.now
+        (H.Input.content input.now) (H.Input.reliable input.now) }
+    ensures ok { IfOk result
+        (HasMade (H.world host.old) (H.world host.new) (Decode request.now)) }
+    ensures fault { IfErr result
+        (HasStopped (H.world host.old) (H.world host.new) (Decode request.now)) }
+{
+    match gather_file(alloc, input, request.identity) {
+        Ok(GatheredFile::Answer(answer)) => Ok(told_of(alloc, &answer)?),
+        Ok(GatheredFile::Symbols(symbols)) => deliver_from(alloc, host, request, input, &symbols),
+        Err(fault) => Err(file_fault(request.session, fault)),
+    }
+}
+
+// A fault of a session file, as it is told.
+fn file_fault<'a>(session: &'a str, fault: FileFault) -> Fault<'a>
+    ensures { (world : World) (content : Option (List ℕ)) (reliable : Bool)
+        → GivesFile world session.now content reliable → IsFileFault content reliable fault
+        → IsUnread world (ASession session.now) result }
+{
+    match fault {
+        FileFault::Frame(fault) => Fault::Frame(fault),
+        FileFault::Changed => Fault::File(session),
+        FileFault::NoMemory => Fault::Memory,
+    }
+}
+
+// Writes the object whose symbols stand in a file.
+fn deliver_from<'a, H: Host>(
+    alloc: Global,
+    host: &mut H,
+    request: &DecodeRequest<'a>,
+    input: &H::Input,
+    symbols: &FileSymbols,
+) -> Result<Done, Fault<'a>>
+    requires file { GivesFile (H.world host.old) request.now.session.now
+        (H.Input.content input.now) (H.Input.reliable input.now) }
+    requires symbols { IsGatheredIn request.now.identity (H.Input.content input.now)
+        (Symbols symbols.now) }
+    ensures ok { IfOk result
+        (HasMade (H.world host.old) (H.world host.new) (Decode request.now)) }
+    ensures fault { IfErr result
+        (HasStopped (H.world host.old) (H.world host.new) (Decode request.now)) }
+{
+    let mut file = create(host, &request.output)?;
+    let written = write_object_from(alloc, request.session, input, symbols, &mut file);
+    let failure = Fault::File(request.output.name);
+    let length = commit(host, request.output.name, file, written, failure)?;
+    Ok(Done::counted("object", length, " bytes"))
+}
+
+// Answers the object's length in bytes.
+fn write_object_from<'a, F: ReadAt, W: Write>(
+    alloc: Global,
+    session: &'a str,
+    input: &F,
+    symbols: &FileSymbols,
+    writer: &mut W,
+) -> Result<u64, Unwritten<'a>>
+    requires { AreGatheredIn (F.content input.now) symbols.now }
+    ensures written { (who : IdentityValue) (ds : List (List ℕ)) (x : List ℕ)
+        → F.content input.now ≡ Some x → ArePlacesOf who ds x symbols.now
+        → IfOk result (IsWrittenOf who ds (W.contents writer.old) (W.contents writer.new)) }
+    ensures fault { (world : World) → GivesFile world session.now (F.content input.now)
+        (F.reliable input.now) → IfErr result (IsWriteBrokenFrom world session.now) }
+    ensures writing { IfErr result (λ e. e ≡ Unwritten.Writing → W.failed writer.new ≡ true) }
+{
+    match symbols.write_from(alloc, input, writer) {
+        Ok(length) => Ok(length),
+        Err(FileWriteFault::Io) => Err(Unwritten::Writing),
+        Err(FileWriteFault::Unread(unread)) => {
+            Err(Unwritten::Fault(file_fault(session, FileFault::from(unread))))
+        }
     }
 }
 

@@ -20,6 +20,8 @@ use std::alloc::Global;
 pub(crate) fn open<'a, H: Host>(host: &H, name: &'a str) -> Result<H::Input, Fault<'a>>
     ensures input { IfOk result (λ file. GivesFile (H.world host.now) name.now
         (H.Input.remaining file) (H.Input.sound file)) }
+    ensures content { IfOk result (λ file. GivesFile (H.world host.now) name.now
+        (H.Input.content file) (H.Input.reliable file)) }
     ensures fault { IfErr result (IsUnopened (H.world host.now) name.now) }
 {
     match host.open_file(name) {
@@ -40,7 +42,23 @@ pub(crate) fn read_session<'a, H: Host>(
     ensures fault { IfErr result (IsUnread (H.world host.now) (ASession name.now)) }
 {
     let mut input = open(host, name)?;
-    Ok(Session::read(alloc, &mut input)?)
+    session_in(alloc, host, name, &mut input)
+}
+
+/// The session that an input gives, which was opened under this name.
+pub(crate) fn session_in<'a, H: Host>(
+    alloc: Global,
+    host: &H,
+    name: &'a str,
+    input: &mut H::Input,
+) -> Result<Session, Fault<'a>>
+    requires { GivesFile (H.world host.now) name.now
+        (H.Input.remaining input.old) (H.Input.sound input.old) }
+    ensures ok { IfOk result (λ session.
+        HasValue (H.world host.now).files (ASession name.now) (Datagrams session)) }
+    ensures fault { IfErr result (IsUnread (H.world host.now) (ASession name.now)) }
+{
+    Ok(Session::read(alloc, input)?)
 }
 
 /// The next datagram of a session, or `None` at the end.

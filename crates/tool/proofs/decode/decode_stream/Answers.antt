@@ -3,7 +3,7 @@ use Rattle.std.specs.Borrow.{Bor}
 use Rattle.decoder.specs.declared.gathering.Gathered.TheVariants as gathered
 use Rattle.decoder.specs.Gathering.{IsGathered}
 use Rattle.tool.proofs.Decoded.{none_decoded}
-use Rattle.tool.proofs.decode.decode.Goals as goal
+use Rattle.tool.proofs.decode.decode_stream.Goals as goal
 
 pub returns-in-Answer-clause-ok : goal.returns-in-Answer-clause-ok
 returns-in-Answer-clause-ok g c =

@@ -1,0 +1,131 @@
+-- A session file that was decoded where it stands, by its parts.
+use Rattle.std.proofs.Common.{◌≡◌, ◌⊎◌, ◌∙◌, ℕ, Bool, false, List, [], ◌∷◌, Option, Some, None, Result, Err, inl, inr, refl, sym, ap, subst, length, codes}
+use Rattle.std.specs.Prelude.{IfErr, IfSome}
+use Rattle.std.specs.Borrow.{Bor}
+use Rattle.session.specs.Frames.{IsFramed, StopsAt}
+use Rattle.session.specs.declared.frame.FrameFault.{FrameFault}
+use Rattle.session.specs.declared.frame.FrameFault.TheVariants as frame_fault
+use Rattle.reception.specs.Answer as value
+use Rattle.reception.specs.Answer.{IsAnswer}
+use Rattle.decoder.specs.Answers.{answer_value}
+use Rattle.decoder.specs.Gathering.{IsNoObject}
+use Rattle.decoder.specs.Indexing.{IsFrameFault}
+use Rattle.reception.specs.declared.scope.Identity.{Identity}
+use Rattle.std.specs.Prelude.{replicate}
+use Rattle.std.proofs.lemmas.List.{length-replicate}
+use Rattle.decoder.specs.GatheringIn.{ArePlacesOf}
+use Rattle.decoder.specs.Receiving.{IsWrittenOf}
+use Rattle.decoder.specs.declared.file_gathering.FileSymbols.{FileSymbols}
+use Rattle.tool.proofs.Stopping.{kept_whole}
+use Rattle.decoder.specs.declared.answer.Answer.{Answer}
+use Rattle.request.specs.declared.requests.DecodeRequest.{DecodeRequest}
+use Rattle.request.specs.declared.requests.Request.TheVariants.{Decode}
+use Rattle.host.specs.World.{Files, GivesFile, Holds, IsFree, MayFail, World, Replaces, one_more}
+use Rattle.tool.specs.Inputs.{ASession, Opened, HasValue, IsUnread}
+use Rattle.tool.specs.Lines.{line_of, count_line, answer_text}
+use Rattle.tool.specs.Commands.{answer_status, object_of, IsAnswerIn}
+use Rattle.tool.specs.Outcomes.{MayCreate, IsBecause}
+use Rattle.tool.specs.Doing.{text_of, HasMade}
+use Rattle.tool.specs.Decoding.{IsToldOf, IsWriteBrokenFrom}
+use Rattle.tool.specs.declared.done.Done.{Done}
+use Rattle.tool.specs.declared.fault.Fault as told
+use Rattle.tool.specs.declared.fault.Fault.TheVariants as told_as
+use Rattle.tool.specs.declared.output.Unwritten.{Unwritten}
+use Rattle.tool.specs.declared.output.Unwritten.TheVariants as unwritten
+use Rattle.tool.proofs.Decoded.{no_bytes}
+use Rattle.tool.proofs.Stopping.{by_unread}
+
+-- what is told of a file's bytes is so of those that it holds
+pub holds_told : (files : Option Files) (name : List ℕ) (content : Option (List ℕ)) (P : List ℕ → Type 0) → Holds files name (λ bytes. content ≡ Some bytes) → IfSome content P → Holds files name P
+holds_told None name content P given h = tt
+holds_told (Some held) name content P given h = (given.0, given.1, (rw given.2 at h))
+
+-- a file that isn't the same each time is one of which nothing is told
+untold : (files : Option Files) (name : List ℕ) (content : Option (List ℕ)) → Holds files name (λ bytes. content ≡ Some bytes) → IfSome content (λ x. ⊥) → files ≡ None
+untold None name content given h = refl
+untold (Some held) name content given h = absurd (rw given.2 at h)
+
+module _ (w : World) (name : Bor (List ℕ)) (content : Option (List ℕ)) (reliable : Bool) (given : GivesFile w name.now content reliable) where
+  pub changed : IfSome content (λ x. ⊥) → IsUnread w (ASession name.now) (told_as.File name)
+  changed h = (refl, inl (untold w.files name.now content given.bytes h))
+
+  pub frame_unread : (e : FrameFault) → IsFrameFault content reliable e → IsUnread w (ASession name.now) (told_as.Frame e)
+  frame_unread frame_fault.CutLength h = holds_told w.files name.now content (StopsAt frame_fault.CutLength) given.bytes h
+  frame_unread frame_fault.CutDatagram h = holds_told w.files name.now content (StopsAt frame_fault.CutDatagram) given.bytes h
+  frame_unread frame_fault.TooLong h = holds_told w.files name.now content (StopsAt frame_fault.TooLong) given.bytes h
+  frame_unread frame_fault.Io h = given.fails h
+  frame_unread frame_fault.NoMemory h = tt
+  frame_unread (frame_fault.NoSuchPlace p) h = h
+
+module _ (old new : World) (r : DecodeRequest) (content : Option (List ℕ)) (held : HasValue old.files (ASession r.session.now) (Opened content)) (silent : new.printed ≡ old.printed) where
+  pub none_decoded_in : (answer : Answer) → IsAnswerIn r.identity content (answer_value answer) → IsNoObject answer → new.files ≡ old.files → new.created ≡ old.created
+      → (done : Done) → IsToldOf (answer_value answer) done → HasMade old new (Decode r) done
+  none_decoded_in answer is none files created done told = record {
+    outcome = record { text = line_of (answer_text (answer_value answer)); status = answer_status (answer_value answer); output = None };
+    makes = record {
+      values = Opened content ∷ [];
+      read = (held, tt);
+      gives = (answer_value answer, is, (refl, refl, sym (no_bytes answer none)));
+      made = (files, created);
+    };
+    text = sym told.0;
+    status = sym told.1;
+    silent = silent;
+  }
+
+  pub object_decoded_in : (object : List ℕ) (count : ℕ) → IsAnswerIn r.identity content (value.Object object) → count ≡ length object → Replaces old.files new.files r.output.name.now object
+      → new.created ≡ one_more old.created → IsFree old.files r.output.name.now r.output.no_clobber
+      → (done : Done) → count_line (codes "object") count (codes " bytes") ≡ text_of done.told → 0 ≡ done.status → HasMade old new (Decode r) done
+  object_decoded_in object count is many replaced created free done text status = record {
+    outcome = record { text = line_of (answer_text (value.Object object)); status = 0; output = Some object };
+    makes = record {
+      values = Opened content ∷ [];
+      read = (held, tt);
+      gives = (value.Object object, is, (refl, refl, refl));
+      made = (replaced, created, free);
+    };
+    text = ap (λ (n : ℕ). count_line (codes "object") n (codes " bytes")) (sym many) ∙ text;
+    status = status;
+    silent = silent;
+  }
+
+pub may_write_in : (old : World) (r : DecodeRequest) (content : Option (List ℕ)) → HasValue old.files (ASession r.session.now) (Opened content) → (object : List ℕ)
+    → IsAnswerIn r.identity content (value.Object object) → MayCreate old.files (Decode r)
+may_write_in old r content held object is =
+    (Opened content ∷ [], record { text = line_of (answer_text (value.Object object)); status = 0; output = Some object }, object, (held, tt), (value.Object object, is, (refl, refl, refl)), refl)
+
+-- some object is the answer, where nothing is told
+pub some_object : (content : Option (List ℕ)) (P : List ℕ → List ℕ → Type 0) → IfSome content (λ x. (object : List ℕ) × P x object) → (object : List ℕ) × IfSome content (λ x. P x object)
+some_object None P h = ([], tt)
+some_object (Some x) P h = (h.0, h.1)
+
+-- why the object isn't written
+pub because_unread : (old new : World) (r : DecodeRequest) (w : Result ℕ Unwritten) → IfErr w (IsWriteBrokenFrom old r.session.now) → (f : told.Fault) → w ≡ Err (unwritten.Fault f) → IsBecause old new (Decode r) [] f
+because_unread old new r w why f is = by_unread old new (Decode r) [] f (inl (subst (λ (x : Result ℕ Unwritten). IfErr x (IsWriteBrokenFrom old r.session.now)) is why))
+
+-- the object that the file's datagrams give; any, where nothing is told of them
+pub gathered_object : (who : Identity) (content : Option (List ℕ)) (s : FileSymbols) → IfSome content (λ x. (ds : List (List ℕ)) × ArePlacesOf who ds x s × (object : List ℕ) × IsAnswer who ds (value.Object object))
+    → (object : List ℕ) × IsAnswerIn who content (value.Object object)
+gathered_object who None s h = ([], tt)
+gathered_object who (Some x) s h = (h.2, (h.0, h.1.framed, h.3))
+
+nothing_held : (files : Option Files) (name : List ℕ) → Holds files name (λ bytes. ◌≡◌ {A = Option (List ℕ)} None (Some bytes)) → files ≡ None
+nothing_held None name h = refl
+nothing_held (Some held) name h = absurd (let e = h.2 in cc)
+
+-- what was written is the object
+pub delivered_from : (old new : World) (mid : Option Files) (r : DecodeRequest) (content : Option (List ℕ)) (s : FileSymbols) (blank contents : Option (List ℕ)) (count : ℕ)
+    → HasValue old.files (ASession r.session.now) (Opened content) → new.printed ≡ old.printed
+    → IfSome content (λ x. (ds : List (List ℕ)) × ArePlacesOf r.identity ds x s × (object : List ℕ) × IsAnswer r.identity ds (value.Object object))
+    → ((ds : List (List ℕ)) (x : List ℕ) → content ≡ Some x → ArePlacesOf r.identity ds x s → IsWrittenOf r.identity ds blank contents count)
+    → IfSome old.files (λ held. blank ≡ Some []) → mid ≡ old.files → IfSome contents (Replaces mid new.files r.output.name.now)
+    → new.created ≡ one_more old.created → IsFree old.files r.output.name.now r.output.no_clobber
+    → (done : Done) → count_line (codes "object") count (codes " bytes") ≡ text_of done.told → 0 ≡ done.status → HasMade old new (Decode r) done
+delivered_from old new mid r None s blank contents count held silent gathered written empty same kept created free done text status =
+    let none = nothing_held old.files r.session.now held in
+    object_decoded_in old new r None held silent (replicate count 0) count tt (sym (length-replicate count 0))
+    (subst (λ (f : Option Files). Replaces f new.files r.output.name.now (replicate count 0)) (sym none) tt) created free done text status
+delivered_from old new mid r (Some x) s blank contents count held silent gathered written empty same kept created free done text status =
+    let w = written gathered.0 x refl gathered.1 in
+    object_decoded_in old new r (Some x) held silent w.0 count (gathered.0, gathered.1.framed, w.1) w.3
+    (kept_whole old.files mid new.files r.output.name.now w.0 blank contents empty w.2 same kept) created free done text status
