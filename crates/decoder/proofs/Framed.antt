@@ -10,7 +10,8 @@ use Rattle.session.specs.Frames.{frame, frames, most_bytes, AreShort, AreDatagra
 use Rattle.session.specs.Joining.{IsWhole}
 use Rattle.session.specs.declared.frame.FrameFault.{FrameFault}
 use Rattle.session.specs.declared.frame.FrameFault.TheVariants as frame_fault
-use Rattle.session.proofs.OneSession.{only, one_frame, length_frame, behind_length}
+use Rattle.session.proofs.OneSession.{only}
+use Rattle.decoder.proofs.OneFrame.{one_frame, length_frame, behind_length}
 use Rattle.session.proofs.Sessions.{frames_push, short_push, datagrams_push}
 use Rattle.session.proofs.WholeFrames.{whole_end}
 use Rattle.lists.specs.Bytes.{AreBytes}

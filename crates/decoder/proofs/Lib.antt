@@ -34,6 +34,7 @@ pub mod SoundObject
 pub mod SymbolBytes
 pub mod Amount
 pub mod Places
+pub mod OneFrame
 pub mod Framed
 pub mod FirstCarrier
 pub mod Indexed

@@ -14,15 +14,11 @@ told_again d rest short =
     ap (λ (x : List ℕ). told_length x) (append_assoc (big_bytes 2 (length d)) d rest)
     ∙ big_number-reads_back 2 (length d) (d ++ rest) (omega (arith, short))
 
-pub length_frame : (d : List ℕ) → length (frame d) ≡ 2 + length d
+length_frame : (d : List ℕ) → length (frame d) ≡ 2 + length d
 length_frame d = omega arith
 
--- a datagram stands behind the two bytes of its length
-pub behind_length : (d rest : List ℕ) → drop 2 (frame d ++ rest) ≡ d ++ rest
-behind_length d rest = ap (drop 2) (append_assoc (big_bytes 2 (length d)) d rest) ∙ drop-append_seam (big_bytes 2 (length d)) (d ++ rest)
-
 -- two frames with which the same bytes begin are one
-pub one_frame : (d e xs ys : List ℕ) → length d ≤ most_bytes → length e ≤ most_bytes → frame d ++ xs ≡ frame e ++ ys → (d ≡ e) × (xs ≡ ys)
+one_frame : (d e xs ys : List ℕ) → length d ≤ most_bytes → length e ≤ most_bytes → frame d ++ xs ≡ frame e ++ ys → (d ≡ e) × (xs ≡ ys)
 one_frame d e xs ys short_d short_e same =
     let sizes : length d ≡ length e =
     sym (told_again d xs short_d) ∙ ap (λ (x : List ℕ). told_length x) same ∙ told_again e ys short_e in

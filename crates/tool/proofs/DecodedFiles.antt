@@ -9,11 +9,11 @@ use Rattle.reception.specs.Answer as value
 use Rattle.reception.specs.Answer.{IsAnswer}
 use Rattle.decoder.specs.Answers.{answer_value}
 use Rattle.decoder.specs.Gathering.{IsNoObject}
-use Rattle.decoder.specs.Indexing.{IsFrameFault}
+use Rattle.decoder.specs.FileFaults.{IsFrameFault}
 use Rattle.reception.specs.declared.scope.Identity.{Identity}
 use Rattle.std.specs.Prelude.{replicate}
 use Rattle.std.proofs.lemmas.List.{length-replicate}
-use Rattle.decoder.specs.GatheringIn.{ArePlacesOf}
+use Rattle.decoder.specs.PlacesOf.{ArePlacesOf}
 use Rattle.decoder.specs.Receiving.{IsWrittenOf}
 use Rattle.decoder.specs.declared.file_gathering.FileSymbols.{FileSymbols}
 use Rattle.tool.proofs.Stopping.{kept_whole}
@@ -39,6 +39,12 @@ use Rattle.tool.proofs.Stopping.{by_unread}
 pub holds_told : (files : Option Files) (name : List ℕ) (content : Option (List ℕ)) (P : List ℕ → Type 0) → Holds files name (λ bytes. content ≡ Some bytes) → IfSome content P → Holds files name P
 holds_told None name content P given h = tt
 holds_told (Some held) name content P given h = (given.0, given.1, (rw given.2 at h))
+
+-- the file's bytes are those of a session
+pub session_held : (files : Option Files) (name : List ℕ) (content : Option (List ℕ)) (who : Identity) (answer : value.Answer) → Holds files name (λ bytes. content ≡ Some bytes)
+    → IsAnswerIn who content answer → HasValue files (ASession name) (Opened content)
+session_held None name content who answer given is = tt
+session_held (Some held) name content who answer given is = let told = rw given.2 at is in (given.0, given.1, (given.2, told.0, told.1))
 
 -- a file that isn't the same each time is one of which nothing is told
 untold : (files : Option Files) (name : List ℕ) (content : Option (List ℕ)) → Holds files name (λ bytes. content ≡ Some bytes) → IfSome content (λ x. ⊥) → files ≡ None
@@ -109,9 +115,9 @@ pub gathered_object : (who : Identity) (content : Option (List ℕ)) (s : FileSy
 gathered_object who None s h = ([], tt)
 gathered_object who (Some x) s h = (h.2, (h.0, h.1.framed, h.3))
 
-nothing_held : (files : Option Files) (name : List ℕ) → Holds files name (λ bytes. ◌≡◌ {A = Option (List ℕ)} None (Some bytes)) → files ≡ None
+nothing_held : (files : Option Files) (name : List ℕ) → HasValue files (ASession name) (Opened None) → files ≡ None
 nothing_held None name h = refl
-nothing_held (Some held) name h = absurd (let e = h.2 in cc)
+nothing_held (Some held) name h = absurd (let e = h.2.0 in cc)
 
 -- what was written is the object
 pub delivered_from : (old new : World) (mid : Option Files) (r : DecodeRequest) (content : Option (List ℕ)) (s : FileSymbols) (blank contents : Option (List ℕ)) (count : ℕ)

@@ -211,7 +211,8 @@ object_of answer = None
 -- the answer to the datagrams of a file's bytes, where they are told
 abbrev pub IsAnswerIn : Identity → Option (List ℕ) → Answer → Type 0
 IsAnswerIn who content answer = IfSome content
-    (λ bytes. (datagrams : List (List ℕ)) × IsFramed datagrams bytes × IsAnswer who datagrams answer)
+    (λ bytes. (datagrams : List (List ℕ)) × IsFramed datagrams bytes
+    × IsAnswer who datagrams answer)
 
 -- what comes of the values that a request's inputs give
 abbrev pub Gives : Request → List Value → Outcome → Type 0

@@ -38,12 +38,13 @@ name_of (ACertificate name) = name
 name_of (AStream name) = name
 name_of (APlaces name) = name
 
--- the file gives this value; a stream its bytes, from the first on
+-- the file gives this value; a stream its bytes, from the first on, and so may a session
 abbrev pub HasValue : Option Files → Input → Value → Type 0
 HasValue files (AnObject name) (Bytes object) = Holds files name (λ bytes. bytes ≡ object)
 HasValue files (ASession name) (Datagrams datagrams) = Holds files name (IsFramed datagrams)
 HasValue files (ASession name) (Opened content) =
-    Holds files name (λ bytes. content ≡ Some bytes)
+    Holds files name (λ bytes. (content ≡ Some bytes)
+    × (datagrams : List (List ℕ)) × IsFramed datagrams bytes)
 HasValue files (ACertificate name) (Polynomials z) =
     IsCertificate z × Holds files name (λ bytes. bytes ≡ certificate_text z)
 HasValue files (AStream name) (Opened remaining) =

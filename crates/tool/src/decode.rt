@@ -1,7 +1,9 @@
 //! The command `decode`.
-ghost use Rattle.std.specs.Prelude.{◌≡◌, ◌≤◌, ◌++◌, ℕ, Bool, List, Option, Some, true, IfOk, IfErr, OnOk};
+ghost use Rattle.std.specs.Prelude.{◌≡◌, ◌≤◌, ◌++◌, ℕ, Bool, List, Option, Some, true, IfOk};
+ghost use Rattle.std.specs.Prelude.{IfErr, OnOk};
 ghost use Rattle.host.specs.World.{World, GivesFile};
-ghost use Rattle.decoder.specs.GatheringIn.{IsGatheredIn, IsFileFault, AreGatheredIn, ArePlacesOf};
+ghost use Rattle.decoder.specs.GatheringIn.{IsGatheredIn, IsFileFault};
+ghost use Rattle.decoder.specs.PlacesOf.{AreGatheredIn, ArePlacesOf};
 ghost use Rattle.decoder.specs.declared.file_gathering.GatheredFile.TheVariants.{Symbols};
 ghost use Rattle.tool.specs.Inputs.{ASession, IsUnread};
 ghost use Rattle.reception.specs.declared.scope.Identity.{Identity as IdentityValue};
