@@ -3,8 +3,10 @@ ghost use Rattle.std.specs.Prelude.{◌<◌, ◌≤◌};
 
 use crate::ONE;
 use crate::converting_tests::{LENGTH, front, fti, is_at_end, object_and_more};
-use coder::{CertifyFromFault, ObjectFault, SendFromFault, certify_from, encode, encode_from};
-use coder::encode_rounds_from;
+use coder::{
+    CertifyFromFault, ObjectFault, SendFromFault, certify_from, encode, encode_from,
+    encode_rounds_from,
+};
 use partition::{Fti, Order};
 use rand_core::Rng;
 use rand_pcg::Pcg32;
