@@ -45,7 +45,7 @@ def commands():
 def random_sessions():
     """The sessions in random orders beside which a receiver is fed."""
     text = text_of("crates/vectors/src/receiver_tests.rt")
-    [orders] = re.findall(r"^const ORDERS: usize = (\d+);", text, re.M)
+    [orders] = re.findall(r"^(?:pub\(crate\) )?const ORDERS: usize = (\d+);", text, re.M)
     objects = re.findall(r"^        \((?:\d+, ){4}\d+\),$|assert!\(rt; agree\(", text, re.M)
     return int(orders) * len(objects)
 
