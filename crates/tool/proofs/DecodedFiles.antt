@@ -9,11 +9,15 @@ use Rattle.reception.specs.Answer as value
 use Rattle.reception.specs.Answer.{IsAnswer}
 use Rattle.decoder.specs.Answers.{answer_value}
 use Rattle.decoder.specs.Gathering.{IsNoObject}
-use Rattle.decoder.specs.FileFaults.{IsFrameFault}
+use Rattle.decoder.specs.FileFaults.{IsFrameFault, IsNotAgain}
+use Rattle.decoder.specs.declared.source.Unread.{Unread}
+use Rattle.decoder.specs.declared.source.Unread.TheVariants as unread
 use Rattle.reception.specs.declared.scope.Identity.{Identity}
 use Rattle.std.specs.Prelude.{replicate}
 use Rattle.std.proofs.lemmas.List.{length-replicate}
 use Rattle.decoder.specs.PlacesOf.{ArePlacesOf}
+use Rattle.decoder.specs.GatheringIn.{IsFileFault}
+use Rattle.decoder.specs.ReadAgain.{fault_of}
 use Rattle.decoder.specs.Receiving.{IsWrittenOf}
 use Rattle.decoder.specs.declared.file_gathering.FileSymbols.{FileSymbols}
 use Rattle.tool.proofs.Stopping.{kept_whole}
@@ -135,3 +139,9 @@ delivered_from old new mid r (Some x) s blank contents count held silent gathere
     let w = written gathered.0 x refl gathered.1 in
     object_decoded_in old new r (Some x) held silent w.0 count (gathered.0, gathered.1.framed, w.1) w.3
     (kept_whole old.files mid new.files r.output.name.now w.0 blank contents empty w.2 same kept) created free done text status
+
+-- why a symbol isn't there again, as a fault of the file
+pub again_fault : (content : Option (List ℕ)) (reliable : Bool) (u : Unread) → IsNotAgain content reliable u → IsFileFault content reliable (fault_of u)
+again_fault content reliable unread.Io h = h
+again_fault content reliable unread.Changed h = h
+again_fault content reliable unread.NoMemory h = tt
