@@ -52,6 +52,6 @@ returns-clause-ok g c =
     delivered_from old new (g.H.Host.world c.create.new.host).files r content c.args.symbols.now blank contents c.in_ok-length.length held
     (c.commit.ensures.silent.printed ∙ c.create.ensures.silent.printed) c.requires.symbols.1
     (λ ds x told are. committed c.write_object_from-written.result c.in_ok-length.length (IsWrittenOf r.identity ds blank contents) c.in_ok-length.ensures.count
-        (c.write_object_from-written.ensures.written r.identity ds x told are))
+    (c.write_object_from-written.ensures.written r.identity ds x told are))
     c.in_ok-file.ensures.blank c.create.ensures.files c.in_ok-length.ensures.kept
     (c.commit.ensures.created ∙ c.in_ok-file.ensures.created) c.in_ok-file.ensures.free c.counted.result (ap text_of (sym c.counted.ensures.told)) (sym c.counted.ensures.status)
