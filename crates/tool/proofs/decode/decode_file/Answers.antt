@@ -1,4 +1,4 @@
-use Rattle.std.proofs.Common.{inl, refl}
+use Rattle.std.proofs.Common.{[], inl, refl}
 use Rattle.request.specs.declared.requests.Request.TheVariants.{Decode}
 use Rattle.decoder.specs.Answers.{answer_value}
 use Rattle.tool.proofs.DecodedFiles.{none_decoded_in, session_held}
@@ -19,5 +19,5 @@ returns-in-Err-clause-fault g c =
     let w = g.H.Host.world c.args.host.now in
     let r = c.args.request.now in
     stopped w (Decode r) c.file_fault.result
-    (by_unread w w (Decode r) _ c.file_fault.result
+    (by_unread w w (Decode r) [] c.file_fault.result
     (inl (c.file_fault.ensures w (g.H.Input.ReadAt.content c.args.input.now) (g.H.Input.ReadAt.reliable c.args.input.now) c.requires c.in-Err.ensures.fault)))
