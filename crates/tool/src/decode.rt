@@ -32,6 +32,10 @@ use session::Write;
 use std::alloc::{AllocError, Global};
 use streams::ReadAt;
 
+// A session of up to so many bytes, 256 MiB, is held: reading symbols twice where they stand takes up
+// to two and a half times as long, where many are to spare.
+const MOST_HELD: u64 = 1 << 28;
+
 /// Writes the object that the identity's packets in the session give. The output is created only
 /// where there is an object, which is written block by block.
 pub(crate) fn decode<'a, H: Host>(
@@ -45,10 +49,9 @@ pub(crate) fn decode<'a, H: Host>(
         (HasStopped (H.world host.old) (H.world host.new) (Decode request.now)) }
 {
     let mut input = open(host, request.session)?;
-    if host.length_of(&input).is_some() {
-        decode_file(alloc, host, request, &input)
-    } else {
-        decode_stream(alloc, host, request, &mut input)
+    match host.length_of(&input) {
+        Some(length) if length > MOST_HELD => decode_file(alloc, host, request, &input),
+        _ => decode_stream(alloc, host, request, &mut input),
     }
 }
 
