@@ -9,10 +9,7 @@ the output may be whole; where standard error does, a file is closed or its acce
 nothing changes. An interruption may also be passed over. Then each command runs with reads and
 writes that move 1 to 7 bytes at a time, which changes nothing, and with standard input, output and
 error closed, so that files get their numbers: no input changes, and the output is whole or what it
-was. `decode` reads its session at offsets, parts of it twice: for each such read it runs once more,
-and the first byte of that read is another one, as of a file that is changed meanwhile. It gives the
-object or a fault then, and never another object. A C compiler, `cc`, builds the library that fails.
-After `./alcrs` has built the program.
+was. A C compiler, `cc`, builds the library that fails. After `./alcrs` has built the program.
 """
 import os
 import subprocess
@@ -247,13 +244,6 @@ def is_told(words, call, whole, ran):
     return left == BEFORE and is_before and "".join(lines[-1:]).rstrip("\n") in call.faults(words)
 
 
-def is_none_or_whole(whole, ran):
-    """Whether a run that was given another byte has made the output, or told why not."""
-    if ran[0] == 0:
-        return ran == whole
-    return ran[0] in (1, 3) and ran[1] != b"" and ran[3] in (BEFORE, whole[3]) and not ran[4]
-
-
 # What is closed, as a shell says it.
 CLOSED = ["<&-", ">&-", "2>&-", "<&- >&-", ">&- 2>&-", "<&- >&- 2>&-"]
 
@@ -289,7 +279,7 @@ def main():
         def run_without(words, closed):
             return rooms.run(words, {}, shell=f'exec "$0" "$@" {closed}')
 
-        runs, short_runs, closed_runs, spoiled_runs, bad = 0, 0, 0, 0, []
+        runs, short_runs, closed_runs, bad = 0, 0, 0, []
         for words in COMMANDS + GREAT_COMMANDS:
             told = os.path.join(folder, "told")
             if os.path.exists(told):
@@ -318,14 +308,6 @@ def main():
                         (words, f"{error} of {call.name} {call.descriptor} {call.file}", ran)
                     )
             runs += len(tries)
-            reads = [n for n, call in enumerate(calls, 1) if call.name.startswith("pread")]
-            answers = in_turn(lambda n: run(words, SPOILED=str(n)), reads)
-            bad += [
-                (words, f"another byte from call {n}", ran)
-                for n, ran in zip(reads, answers)
-                if not is_none_or_whole(whole, ran)
-            ]
-            spoiled_runs += len(reads)
             answers = in_turn(lambda closed: run_without(words, closed), CLOSED)
             bad += [
                 (words, c, ran)
@@ -347,8 +329,7 @@ def main():
         print(f"alcrs {' '.join(words)}: {failure}: status {ran[0]}, {ran[1][-200:]}, {ran[4]}")
     print(
         f"{runs} calls failed in turn, of {len(COMMANDS + GREAT_COMMANDS)} runs, "
-        f"{short_runs} runs in small pieces, {closed_runs} with streams closed and {spoiled_runs} "
-        "with a byte changed: "
+        f"{short_runs} runs in small pieces and {closed_runs} with streams closed: "
         f"{len(bad)} ended otherwise than they may"
     )
     return 1 if bad else 0
