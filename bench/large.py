@@ -3,14 +3,15 @@
 most memory that each held, in MiB.
 
 The object is random bytes, 4 GiB of them by default, with 128 source symbols of 1,024 bytes in a
-block, and 160 encoding symbols. `drop` leaves a thousand places out, and `decode` and `follow` read
-what it wrote. What they write is compared with the object. All files stand in one folder, which
-needs seven times the object's size; the folder's file system decides how long reading and writing
-take. The table goes to standard output, the seconds to standard error as they come.
+block, and 160 encoding symbols. `drop` leaves a thousand places out, by chance, and `decode` and
+`follow` read what it wrote. What they write is compared with the object. All files stand in one
+folder, which needs seven times the object's size; the folder's file system decides how long reading
+and writing take. The table goes to standard output, the seconds to standard error as they come.
 """
 import argparse
 import filecmp
 import os
+import random
 import subprocess
 import sys
 import tempfile
@@ -26,7 +27,7 @@ def commands_of(case, order):
     """The words of each command, in an order in which each has its inputs."""
     sizes = ["--symbol", str(SYMBOL), "--block", str(BLOCK), "--max", str(MOST)]
     datagrams = sum(n for _, n in case.blocks())
-    places = [str(i * datagrams // DROPPED) for i in range(DROPPED)]
+    places = map(str, sorted(random.Random(1).sample(range(datagrams), DROPPED)))
     return {
         "encode": ["object", "session", *IDENTIFIERS, *sizes, "--order", order],
         "certify": ["object", "certificate", *IDENTIFIERS, *sizes],
