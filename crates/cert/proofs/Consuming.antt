@@ -35,7 +35,7 @@ head_fault NoMemory old new failed x read end told fault = absurd told
 head_fault OtherIdentity old new failed x read end told fault = absurd told
 
 -- other than the right number of coefficients behind a head
-size_behind : (name : Option Identity) (f : Fti) (rest : List ℕ) → fti_fault f ≡ None → IsValidFti f → length rest ≢ coefficient_count f
+pub size_behind : (name : Option Identity) (f : Fti) (rest : List ℕ) → fti_fault f ≡ None → IsValidFti f → length rest ≢ coefficient_count f
     → text_fault (head_text name f ++ rest) ≡ Some Size
 unfolding head_text
 size_behind None f rest good valid wrong =

@@ -33,7 +33,7 @@ use Rattle.cert.proofs.Undecided.{undecided, tells}
 pub no_datagrams : AreDatagrams []
 no_datagrams i = record { short = omega arith; bytes = λ j. omega arith }
 
-datagrams_append : (xs ys : List (List ℕ)) → AreDatagrams xs → AreDatagrams ys → AreDatagrams (xs ++ ys)
+pub datagrams_append : (xs ys : List (List ℕ)) → AreDatagrams xs → AreDatagrams ys → AreDatagrams (xs ++ ys)
 datagrams_append [] ys h k i = k i
 datagrams_append (x ∷ xs) ys h k zero = h 0
 datagrams_append (x ∷ xs) ys h k (suc i) = datagrams_append xs ys (λ j. h (suc j)) k i
@@ -92,7 +92,7 @@ module _ (who : Identity) (z : Certificate) (object : List ℕ) (name : is_for w
   report_no ds (ByReason r) h = refused who (readings_of ds) object z r name form gives h
 
   module _ (ds : List (List ℕ)) (each : AreDatagrams ds) (left : Option (List ℕ)) where
-    what_follows : (r : Reason) → first_reason who z (readings_of ds) ≡ Some r
+    pub what_follows : (r : Reason) → first_reason who z (readings_of ds) ≡ Some r
         → (rest : List (List ℕ)) → AreDatagrams rest → IsVerdict who (ds ++ rest) object z (No r)
     what_follows r h = λ rest more.
         verdict_no (ds ++ rest) r (datagrams_append ds rest each more) (against_place who z (readings_of (ds ++ rest)) r (reason_stays who z ds rest r h))

@@ -10,6 +10,7 @@ pub mod OneText
 pub mod RowsOfText
 pub mod TextsWithoutFault
 pub mod Consuming
+pub mod TextView
 pub mod BlockByBlock
 pub mod GivenName
 pub mod ConvertedBegun
@@ -32,3 +33,4 @@ pub mod OneVerdict
 pub mod Named
 pub mod DatagramSteps
 pub mod FromReader
+pub mod Feeding

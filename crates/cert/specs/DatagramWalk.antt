@@ -2,6 +2,7 @@
 use Rattle.std.specs.Prelude.{◌≡◌, ◌≢◌, ℕ, ◌+◌, true, false, List, [], length, Option}
 use Rattle.std.specs.Prelude.{None, Some, IfSome, ⊤}
 use Rattle.std.specs.Io.KnownBytes.{Consumes, IsAtEnd}
+use Rattle.std.specs.Cow.{cow_slice_items}
 use Rattle.session.specs.Frames.{frames, AreDatagrams}
 use Rattle.losses.specs.Groups.{Group, groups_of}
 use Rattle.losses.specs.Losses.{places_from}
@@ -96,4 +97,4 @@ pub record IsWalkedFrom (who : Identity) (old new : Option (List ℕ)) (object :
   pub walked : HasWalked walk datagrams
   pub identity : walk.scope.identity ≡ who
   pub certificate : walk.symbols ≡ z
-  pub object_is : walk.object.now ≡ object
+  pub object_is : cow_slice_items walk.object ≡ object

@@ -18,4 +18,5 @@ pub mod NotGiven
 pub mod DatagramWalk
 pub mod FromReader
 pub mod Endings
+pub mod Feeding
 pub mod WrongColumns

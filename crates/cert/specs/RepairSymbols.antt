@@ -3,15 +3,6 @@ use Rattle.std.specs.Prelude.{◌≡◌, ℕ, ◌<◌, ◌≤◌, ◌+◌, ◌*�
 use Rattle.partition.specs.Fti.{block_count, source_count, encoding_count}
 use Rattle.cert.specs.Certificate.{Certificate, IsCertificate, certified_byte}
 
--- how many symbols of each block are kept, of how many blocks, and of which certificate
-pub record KeptSymbols : Type 0 where
-  pub certificate : Certificate
-  pub count : ℕ
-  pub blocks : ℕ
-
-abbrev pub kept_of : Certificate → ℕ → ℕ → KeptSymbols
-kept_of z n blocks = record { certificate = z; count = n; blocks = blocks }
-
 -- n symbols of block b stand at its place, from the first repair symbol on
 abbrev pub AreKeptOf : Certificate → ℕ → ℕ → List ℕ → Type 0
 AreKeptOf z n b bytes =
@@ -28,7 +19,7 @@ pub record AreKept (z : Certificate) (n blocks : ℕ) (bytes : List ℕ) : Type 
   pub symbols : (b : ℕ) → b < blocks → AreKeptOf z n b bytes
 
 -- symbol j of block b is kept
-pub record Keeps (s : KeptSymbols) (b j : ℕ) : Type 0 where
-  pub block : b < s.blocks
-  pub from_first : source_count s.certificate.fti b ≤ j
-  pub to_last : j < source_count s.certificate.fti b + s.count
+pub record Keeps (z : Certificate) (n blocks b j : ℕ) : Type 0 where
+  pub block : b < blocks
+  pub from_first : source_count z.fti b ≤ j
+  pub to_last : j < source_count z.fti b + n

@@ -5,14 +5,20 @@ ghost use Rattle.cert.specs.Certificate.{IsCertificate};
 ghost use Rattle.cert.specs.CertifiedSymbol.{IsCertifiedSymbol};
 ghost use Rattle.cert.specs.BlockSymbols.{AreSymbols, Holds};
 
-use crate::certificate::Certificate;
+use crate::view::CertificateView;
 use evaluation::evaluate;
 use partition::Fti;
 use std::alloc::{AllocError, Global};
 use std::marker::Model;
 
 // Makes the front of these bytes `count` symbols of a block, from ESI `first` on.
-fn put_symbols(certificate: &Certificate, block: u32, first: usize, count: usize, bytes: &mut [u8])
+fn put_symbols(
+    certificate: &CertificateView<'_>,
+    block: u32,
+    first: usize,
+    count: usize,
+    bytes: &mut [u8],
+)
     requires block { block < block_count certificate.now.fti }
     requires near { first ≤ 255 }
     requires few { count ≤ 255 }
@@ -36,7 +42,7 @@ fn put_symbols(certificate: &Certificate, block: u32, first: usize, count: usize
 /// Contracts see of which certificate and block they are, and their ESIs.
 #[derive(Drop)]
 pub(crate) struct BlockSymbols<'a> {
-    certificate: &'a Certificate,
+    certificate: CertificateView<'a>,
     block: u32,
     first: usize,
     count: usize,
@@ -48,10 +54,10 @@ impl<'a> Model for BlockSymbols<'a> {
 
     ghost Value = { MadeSymbols };
 
-    ghost view = { λ s. made_of s.certificate.now s.block s.first s.count };
+    ghost view = { λ s. made_of s.certificate s.block s.first s.count };
 
     ghost invariant = { λ s.
-        AreMade (made_of s.certificate.now s.block s.first s.count) s.bytes.items };
+        AreMade (made_of s.certificate s.block s.first s.count) s.bytes.items };
 }
 
 impl<'a> BlockSymbols<'a> {
@@ -60,9 +66,9 @@ impl<'a> BlockSymbols<'a> {
     /// Asks for room. No symbols are made yet.
     pub(crate) fn new(
         alloc: Global,
-        certificate: &'a Certificate,
+        certificate: CertificateView<'a>,
     ) -> Result<BlockSymbols<'a>, AllocError>
-        ensures { IfOk result (λ s. s ≡ made_of certificate.now 0 0 0) }
+        ensures { IfOk result (λ s. s ≡ made_of certificate.entry 0 0 0) }
     {
         let fti = certificate.fti();
         let width = usize::from(fti.symbol_length());
@@ -91,7 +97,7 @@ impl<'a> BlockSymbols<'a> {
         requires few { count ≤ encoding_count self.old.certificate.fti 0 }
         ensures { self.new ≡ made_of self.old.certificate block first count }
     {
-        put_symbols(self.certificate, block, first, count, &mut self.bytes);
+        put_symbols(&self.certificate, block, first, count, &mut self.bytes);
         self.block = block;
         self.first = first;
         self.count = count;

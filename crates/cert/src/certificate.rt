@@ -15,11 +15,13 @@ ghost use Rattle.cert.specs.CoefficientRows.{AreRowsOf};
 
 use crate::column_text::{rows_of, write_columns};
 use crate::head::{read_head, write_head};
+use crate::view::{CertificateView, part, rows_of_block};
 use lists::are_bytes;
 use partition::{Fti, FtiError};
 use reception::Identity;
 use session::{Failed, Read, ReadFault, Write, read_to_end, write_all};
 use std::alloc::Global;
+use std::borrow::CowSlice;
 use std::marker::Model;
 use thiserror::Error;
 
@@ -88,15 +90,6 @@ pub(crate) fn is_for(identity: &Identity, name: &Option<Identity>) -> bool
         Some(name) => name.tsi == identity.tsi && name.toi == identity.toi,
         None => true,
     }
-}
-
-// So many bytes from a place on.
-fn part(bytes: &[u8], from: usize, count: usize) -> &[u8]
-    requires { from + count ≤ length bytes.now }
-    ensures value { result.now ≡ take count (drop from bytes.now) }
-    ensures len { length result.now ≡ count }
-{
-    &bytes[from..from + count]
 }
 
 // All bytes up to the end, where there are `count`.
@@ -218,16 +211,22 @@ impl Certificate {
         })
     }
 
-    // The rows of coefficients of block `b`, one behind the other.
-    pub(crate) fn rows(&self, b: u32) -> &[u8]
-        requires { b < block_count self.now.fti }
-        ensures len { length result.now
-            ≡ source_count self.now.fti b * self.now.fti.symbol_length }
-        ensures rows { AreRowsOf self.now b result.now }
+    /// The same certificate, with its coefficients borrowed.
+    pub fn view(&self) -> CertificateView<'_>
+        ensures { result ≡ self.now }
     {
-        let width = usize::from(self.fti.symbol_length());
-        let from = self.fti.start(b) as usize * width;
-        part(self.coefficients.as_slice(), from, self.fti.k(b) * width)
+        CertificateView::of_rows(
+            self.fti,
+            self.name,
+            CowSlice::Borrowed(self.coefficients.as_slice()),
+        )
+    }
+
+    /// The same certificate, as a view that owns its coefficients.
+    pub fn into_view<'a>(self) -> CertificateView<'a>
+        ensures { result ≡ self }
+    {
+        CertificateView::of_rows(self.fti, self.name, CowSlice::Owned(self.coefficients))
     }
 
     /// Coefficient `i` of the polynomials of block `b`: its byte of each column, E bytes. It needs
@@ -239,7 +238,8 @@ impl Certificate {
         ensures value { IsRowOf self.now b i result.now }
     {
         let width = usize::from(self.fti.symbol_length());
-        part(self.rows(b), i * width, width)
+        let rows = rows_of_block(&self.fti, self.coefficients.as_slice(), b);
+        part(rows, i * width, width)
     }
 
     /// Coefficient `i` of the polynomial of byte column `c` of block `b`.

@@ -9,12 +9,13 @@ ghost use Rattle.cert.specs.Certificate.{IsCertificate};
 ghost use Rattle.cert.specs.CertifiedSymbol.{IsCertifiedSymbol};
 ghost use Rattle.cert.specs.BlockSymbols.{Holds};
 ghost use Rattle.cert.specs.Columns.{IsFirstWrong};
+ghost use Rattle.cert.specs.RepairSymbols.{AreKept};
 
 use crate::block_symbols::BlockSymbols;
-use crate::certificate::Certificate;
 use crate::differing::first_difference;
 use crate::repair_symbols::RepairSymbols;
 use crate::runs::Runs;
+use crate::view::CertificateView;
 use partition::Fti;
 use std::alloc::{AllocError, Global};
 use std::marker::Model;
@@ -24,19 +25,21 @@ use std::marker::Model;
 pub(crate) struct CertifiedSymbols<'a> {
     latest: BlockSymbols<'a>,
     // The repair symbols of the blocks so far, where all are few enough and there is room for them.
-    kept: Option<RepairSymbols<'a>>,
+    kept: Option<RepairSymbols>,
     runs: Runs,
 }
 
 impl<'a> Model for CertifiedSymbols<'a> {
-    ghost use Rattle.std.specs.Prelude.{◌≡◌, IfSome};
+    ghost use Rattle.std.specs.Prelude.{IfSome};
     ghost use Rattle.cert.specs.Certificate.{Certificate as CertificateValue};
+    ghost use Rattle.cert.specs.RepairSymbols.{AreKept};
 
     ghost Value = { CertificateValue };
 
     ghost view = { λ s. s.latest.certificate };
 
-    ghost invariant = { λ s. IfSome s.kept (λ k. k.certificate ≡ s.latest.certificate) };
+    ghost invariant = { λ s. IfSome s.kept
+        (λ k. AreKept s.latest.certificate k.count k.blocks k.bytes.items) };
 }
 
 // Whether the repair symbols of all blocks, as many of each as of the greatest, are no more than
@@ -53,11 +56,13 @@ fn are_few(fti: &Fti) -> bool
 
 // Makes all source symbols of a block, and its repair symbols with them where they are the next to
 // be kept.
-fn make_source<'a>(latest: &mut BlockSymbols<'a>, kept: &mut Option<RepairSymbols<'a>>, block: u32)
+fn make_source(latest: &mut BlockSymbols<'_>, kept: &mut Option<RepairSymbols>, block: u32)
     requires block { block < block_count latest.old.certificate.fti }
-    requires kept { IfSome kept.old (λ s. s.certificate ≡ latest.old.certificate) }
+    requires kept { IfSome kept.old
+        (λ s. AreKept latest.old.certificate s.count s.blocks s.bytes.items) }
     ensures certificate { latest.new.certificate ≡ latest.old.certificate }
-    ensures kept { IfSome kept.new (λ s. s.certificate ≡ latest.old.certificate) }
+    ensures kept { IfSome kept.new
+        (λ s. AreKept latest.old.certificate s.count s.blocks s.bytes.items) }
     ensures block { latest.new.block ≡ block }
     ensures first { latest.new.first ≡ 0 }
     ensures count { source_count latest.old.certificate.fti block ≤ latest.new.count }
@@ -94,13 +99,13 @@ impl<'a> CertifiedSymbols<'a> {
     /// Asks for room for one block.
     pub(crate) fn new(
         alloc: Global,
-        certificate: &'a Certificate,
+        certificate: CertificateView<'a>,
     ) -> Result<CertifiedSymbols<'a>, AllocError>
-        ensures { IfOk result (λ s. s ≡ certificate.now) }
+        ensures { IfOk result (λ s. s ≡ certificate.entry) }
     {
         let latest = BlockSymbols::new(alloc, certificate)?;
-        let kept = if are_few(&certificate.fti()) {
-            RepairSymbols::new(alloc, certificate).ok()
+        let kept = if are_few(&latest.fti()) {
+            RepairSymbols::new(alloc, &latest).ok()
         } else {
             None
         };
@@ -141,7 +146,7 @@ impl<'a> CertifiedSymbols<'a> {
         ensures some { IfSome result (IsFirstWrong self.old block esi bytes.now) }
     {
         if let Some(kept) = &self.kept {
-            if let Some(symbol) = kept.get(block, esi) {
+            if let Some(symbol) = kept.get(&self.latest, block, esi) {
                 return first_difference(symbol, bytes);
             }
         }

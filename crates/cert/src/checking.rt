@@ -13,6 +13,7 @@ use crate::walk::{NoReport, Walk};
 use reception::Identity;
 use session::Session;
 use std::alloc::{AllocError, Global};
+use std::borrow::CowSlice;
 
 // The report, or the first reason why there is none.
 fn report_of(
@@ -27,7 +28,8 @@ fn report_of(
     ensures report { IfOk result (IsReport identity session.now certificate.now.fti) }
     ensures no { IfErr result (IsNo identity session.now object.now certificate.now) }
 {
-    let mut walk = Walk::new(alloc, object, certificate, identity)?;
+    let object = CowSlice::Borrowed(object);
+    let mut walk = Walk::new(alloc, object, certificate.view(), identity)?;
     for place in 0..session.len() {
         walk.step(session.get(place))?;
     }

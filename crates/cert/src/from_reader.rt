@@ -6,11 +6,13 @@ ghost use Rattle.cert.specs.FromReader.{IsCheckedFrom, IsRefusedBehind, IsCheckF
 
 use crate::certificate::Certificate;
 use crate::verdict::{Reason, Report, Verdict};
+use crate::view::CertificateView;
 use crate::walk::{NoReport, Walk};
 use lists::are_bytes;
 use reception::Identity;
 use session::{FrameFault, Read, read_next};
 use std::alloc::Global;
+use std::borrow::CowSlice;
 use thiserror::Error;
 
 /// Why datagrams weren't checked as they were read.
@@ -61,18 +63,18 @@ pub(crate) fn walk_from<'a, R: Read>(
     alloc: Global,
     reader: &mut R,
     object: &'a [u8],
-    certificate: &'a Certificate,
+    certificate: CertificateView<'a>,
     identity: Identity,
 ) -> Result<Walk<'a>, Ending>
     ensures walked { IfOk result (IsWalkedFrom identity (R.remaining reader.old)
-        (R.remaining reader.new) object.now certificate.now) }
+        (R.remaining reader.new) object.now certificate.entry) }
     ensures no { IfErr result (IsEnding identity (R.remaining reader.old)
-        (R.remaining reader.new) (R.failed reader.new) object.now certificate.now) }
+        (R.remaining reader.new) (R.failed reader.new) object.now certificate.entry) }
     ensures unsound { IfErr result (λ ending.
         ending ≡ Ending.Fault (CheckFault.Frame FrameFault.Io) → R.sound reader.old ≡ false) }
     ensures stays { R.sound reader.new ≡ R.sound reader.old }
 {
-    let mut walk = Walk::new(alloc, object, certificate, identity)?;
+    let mut walk = Walk::new(alloc, CowSlice::Borrowed(object), certificate, identity)?;
     loop {
         let Some(datagram) = read_next(alloc, reader)? else {
             return Ok(walk);
@@ -88,13 +90,13 @@ fn report_from<R: Read>(
     alloc: Global,
     reader: &mut R,
     object: &[u8],
-    certificate: &Certificate,
+    certificate: CertificateView<'_>,
     identity: Identity,
 ) -> Result<Report, Ending>
     ensures yes { IfOk result (λ report. IsCheckedFrom identity (R.remaining reader.old)
-        (R.remaining reader.new) object.now certificate.now (Verdict.Yes report)) }
+        (R.remaining reader.new) object.now certificate.entry (Verdict.Yes report)) }
     ensures no { IfErr result (IsEnding identity (R.remaining reader.old)
-        (R.remaining reader.new) (R.failed reader.new) object.now certificate.now) }
+        (R.remaining reader.new) (R.failed reader.new) object.now certificate.entry) }
     ensures unsound { IfErr result (λ ending.
         ending ≡ Ending.Fault (CheckFault.Frame FrameFault.Io) → R.sound reader.old ≡ false) }
     ensures stays { R.sound reader.new ≡ R.sound reader.old }
@@ -124,6 +126,26 @@ pub fn check_from<R: Read>(
     ensures fault { IfErr result (IsCheckFault (λ fault. IsRefusedBehind identity fault
         (R.remaining reader.old) (R.remaining reader.new) (R.failed reader.new)
         object.now certificate.now)) }
+    ensures unsound { IfErr result (λ fault.
+        fault ≡ CheckFault.Frame FrameFault.Io → R.sound reader.old ≡ false) }
+    ensures stays { R.sound reader.new ≡ R.sound reader.old }
+{
+    check_view_from(alloc, reader, object, certificate.view(), identity)
+}
+
+/// The check as [`check_from`] does it, with a certificate whose coefficients may be borrowed.
+pub fn check_view_from<R: Read>(
+    alloc: Global,
+    reader: &mut R,
+    object: &[u8],
+    certificate: CertificateView<'_>,
+    identity: Identity,
+) -> Result<Verdict, CheckFault>
+    ensures verdict { IfOk result (IsCheckedFrom identity (R.remaining reader.old)
+        (R.remaining reader.new) object.now certificate.entry) }
+    ensures fault { IfErr result (IsCheckFault (λ fault. IsRefusedBehind identity fault
+        (R.remaining reader.old) (R.remaining reader.new) (R.failed reader.new)
+        object.now certificate.entry)) }
     ensures unsound { IfErr result (λ fault.
         fault ≡ CheckFault.Frame FrameFault.Io → R.sound reader.old ≡ false) }
     ensures stays { R.sound reader.new ≡ R.sound reader.old }

@@ -24,7 +24,7 @@ const MAGIC_OF_NAMED: [u8; 4] = *b"RSC2";
 // The bytes of a head without a name, and with one.
 const LENGTH: usize = 14;
 
-const LENGTH_OF_NAMED: usize = 34;
+pub(crate) const LENGTH_OF_NAMED: usize = 34;
 
 /// What a certificate's first bytes tell: whose it is, if it has a name, and its FTI.
 #[derive(Clone, Copy)]

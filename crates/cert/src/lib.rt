@@ -30,6 +30,7 @@
 mod block_symbols;
 mod certificate;
 mod certified_symbols;
+mod checker;
 mod checking;
 mod column_text;
 mod converting;
@@ -44,12 +45,14 @@ mod source;
 mod surveying;
 mod twins;
 mod verdict;
+mod view;
 mod walk;
 
 pub use certificate::{CertFault, Certificate, one_certificate};
+pub use checker::Checker;
 pub use checking::check;
 pub use converting::{ConvertFault, convert};
-pub use from_reader::{CheckFault, check_from};
+pub use from_reader::{CheckFault, check_from, check_view_from};
 pub use head::write_head;
 pub use laws::{
     first_column, first_reason, one_verdict, own_name_changes_nothing, reason_order,
@@ -59,3 +62,5 @@ pub use losses::Run;
 pub use surveying::survey_from;
 pub use twins::{session_twin, twin};
 pub use verdict::{Reason, Report, Survey, Verdict};
+pub use view::CertificateView;
+pub use walk::NoReport;

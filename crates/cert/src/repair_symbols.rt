@@ -3,51 +3,35 @@ ghost use Rattle.std.specs.Prelude.{◌≡◌, ◌<◌, ◌+◌, length, IfSome,
 ghost use Rattle.partition.specs.Fti.{block_count, source_count};
 ghost use Rattle.cert.specs.CertifiedSymbol.{IsCertifiedSymbol};
 ghost use Rattle.cert.specs.BlockSymbols.{made_of};
+ghost use Rattle.cert.specs.RepairSymbols.{AreKept, Keeps};
 
 use crate::block_symbols::BlockSymbols;
-use crate::certificate::Certificate;
 use std::alloc::{AllocError, Global};
-use std::marker::Model;
 
 /// As many symbols of each of the first blocks, from the block's first repair symbol on, as the
-/// greatest block has repair symbols. Contracts see of which certificate, how many, and of how many
-/// blocks.
+/// greatest block has repair symbols. Whose they are, the symbols say that are passed with them.
 #[derive(Drop)]
-pub(crate) struct RepairSymbols<'a> {
-    certificate: &'a Certificate,
+pub(crate) struct RepairSymbols {
     // Of each block.
     count: usize,
     blocks: u32,
     bytes: Vec<u8>,
 }
 
-impl<'a> Model for RepairSymbols<'a> {
-    ghost use Rattle.cert.specs.RepairSymbols.{KeptSymbols, kept_of, AreKept};
-
-    ghost Value = { KeptSymbols };
-
-    ghost view = { λ s. kept_of s.certificate.now s.count s.blocks };
-
-    ghost invariant = { λ s. AreKept s.certificate.now s.count s.blocks s.bytes.items };
-}
-
-impl<'a> RepairSymbols<'a> {
-    ghost use Rattle.cert.specs.RepairSymbols.{Keeps};
-
+impl RepairSymbols {
     /// Asks for room for all blocks, and keeps none yet.
     pub(crate) fn new(
         alloc: Global,
-        certificate: &'a Certificate,
-    ) -> Result<RepairSymbols<'a>, AllocError>
-        ensures certificate { IfOk result (λ s. s.certificate ≡ certificate.now) }
-        ensures none { IfOk result (λ s. s.blocks ≡ 0) }
+        latest: &BlockSymbols<'_>,
+    ) -> Result<RepairSymbols, AllocError>
+        ensures { IfOk result (λ s.
+            AreKept latest.now.certificate s.count s.blocks s.bytes.items) }
     {
-        let fti = certificate.fti();
+        let fti = latest.fti();
         let count = fti.n(0) - fti.k(0);
         let size = count * usize::from(fti.symbol_length());
         let bytes = Vec::with_capacity(alloc, fti.block_count() as usize * size)?;
         Ok(RepairSymbols {
-            certificate,
             count,
             blocks: 0,
             bytes,
@@ -62,10 +46,12 @@ impl<'a> RepairSymbols<'a> {
     }
 
     /// Makes all symbols of the next block at once, and keeps its repair symbols.
-    pub(crate) fn make_next(&mut self, latest: &mut BlockSymbols<'a>)
-        requires certificate { self.old.certificate ≡ latest.old.certificate }
+    pub(crate) fn make_next(&mut self, latest: &mut BlockSymbols<'_>)
+        requires kept { AreKept latest.old.certificate self.old.count self.old.blocks
+            self.old.bytes.items }
         requires block { self.old.blocks < block_count latest.old.certificate.fti }
-        ensures certificate { self.new.certificate ≡ self.old.certificate }
+        ensures kept { AreKept latest.old.certificate self.new.count self.new.blocks
+            self.new.bytes.items }
         ensures made { latest.new ≡ made_of latest.old.certificate self.old.blocks 0
             (source_count latest.old.certificate.fti self.old.blocks + self.old.count) }
     {
@@ -78,15 +64,18 @@ impl<'a> RepairSymbols<'a> {
     }
 
     /// The symbol of a block that has this ESI, where it is kept.
-    pub(crate) fn get(&self, block: u32, esi: u8) -> Option<&[u8]>
-        requires { block < block_count self.now.certificate.fti }
-        ensures none { IsNone result → ¬ Keeps self.now block esi }
+    pub(crate) fn get(&self, latest: &BlockSymbols<'_>, block: u32, esi: u8) -> Option<&[u8]>
+        requires kept { AreKept latest.now.certificate self.now.count self.now.blocks
+            self.now.bytes.items }
+        requires block { block < block_count latest.now.certificate.fti }
+        ensures none { IsNone result
+            → ¬ Keeps latest.now.certificate self.now.count self.now.blocks block esi }
         ensures some { IfSome result (λ s.
-            IsCertifiedSymbol self.now.certificate block esi s.now) }
+            IsCertifiedSymbol latest.now.certificate block esi s.now) }
         ensures len { IfSome result (λ s.
-            length s.now ≡ self.now.certificate.fti.symbol_length) }
+            length s.now ≡ latest.now.certificate.fti.symbol_length) }
     {
-        let fti = self.certificate.fti();
+        let fti = latest.fti();
         let k = fti.k(block);
         let esi = usize::from(esi);
         if block >= self.blocks || esi < k || esi - k >= self.count {

@@ -27,7 +27,7 @@ fn survey_of<R: Read>(
         ending ≡ Ending.Fault (CheckFault.Frame FrameFault.Io) → R.sound reader.old ≡ false) }
     ensures stays { R.sound reader.new ≡ R.sound reader.old }
 {
-    let walk = walk_from(alloc, reader, object, certificate, identity)?;
+    let walk = walk_from(alloc, reader, object, certificate.view(), identity)?;
     Ok(walk.survey(alloc)?)
 }
 

@@ -3,6 +3,7 @@ ghost use Rattle.reception.specs.Walks.{in_range};
 ghost use Rattle.std.specs.Prelude.{◌≡◌, ◌<◌, ◌≤◌, ◌++◌, ◌∷◌, ◌+◌, ◌-◌, ◌^◌, [], true, None, ℕ};
 ghost use Rattle.std.specs.Prelude.{List, length, map, IfOk, IfErr, OnOk};
 ghost use Rattle.std.specs.List.{sum_by};
+ghost use Rattle.std.specs.Cow.{cow_slice_items};
 ghost use Rattle.lists.specs.Below.{below};
 ghost use Rattle.lists.specs.Selection.{rest, is_among};
 ghost use Rattle.losses.specs.Groups.{groups_of, InEachList};
@@ -20,21 +21,24 @@ ghost use Rattle.cert.specs.Scan.{line_in, with_carrier, AreEnough, AreEnoughCer
 ghost use Rattle.cert.specs.Scan.{IsShortGroup, IsPut, IsNoReport};
 ghost use Rattle.cert.specs.Verdict.{GivesObject, uncertified};
 
-use crate::certificate::Certificate;
 use crate::certified_symbols::CertifiedSymbols;
 use crate::datagrams::{empty_groups, first_wrong_column_of, put, put_carrier, reason_of};
 use crate::source::first_not_given;
 use crate::verdict::{Reason, Report, Survey};
+use crate::view::CertificateView;
 use alc::Packet;
 use lists::are_bytes;
 use losses::{Figures, Group, figures_of, runs_of};
 use reception::{Identity, Look, Scope};
 use std::alloc::{AllocError, Global};
+use std::borrow::CowSlice;
 
-/// Why there is no report: a reason, or want of memory.
-#[derive(Clone, Copy)]
-pub(crate) enum NoReport {
+/// Why there is no report.
+#[derive(Debug, Clone, Copy, PartialEq, Eq)]
+pub enum NoReport {
+    /// The reason for a no.
     Reason(Reason),
+    /// There is no memory.
     NoMemory,
 }
 
@@ -55,7 +59,7 @@ impl From<AllocError> for NoReport {
 #[derive(Drop)]
 pub(crate) struct Walk<'a> {
     symbols: CertifiedSymbols<'a>,
-    object: &'a [u8],
+    object: CowSlice<'a, u8, Global>,
     scope: Scope,
     groups: Vec<Group>,
     carriers: Vec<usize>,
@@ -65,8 +69,8 @@ pub(crate) struct Walk<'a> {
     ghost few: { taken ≤ count },
     ghost valid: { IsCertificate symbols },
     ghost name: { is_for scope.identity symbols.name ≡ true },
-    ghost form: { IsObject symbols.fti object.now },
-    ghost gives: { GivesObject object.now symbols },
+    ghost form: { IsObject symbols.fti (cow_slice_items object) },
+    ghost gives: { GivesObject (cow_slice_items object) symbols },
 }
 
 impl<'a> Walk<'a> {
@@ -75,26 +79,29 @@ impl<'a> Walk<'a> {
     /// Before the first datagram, or the reason against the certificate's name or the object.
     pub(crate) fn new(
         alloc: Global,
-        object: &'a [u8],
-        certificate: &'a Certificate,
+        object: CowSlice<'a, u8, Global>,
+        certificate: CertificateView<'a>,
         identity: Identity,
     ) -> Result<Walk<'a>, NoReport>
         ensures identity { IfOk result (λ walk. walk.scope.identity ≡ identity) }
-        ensures certificate { IfOk result (λ walk. walk.symbols ≡ certificate.now) }
-        ensures object { IfOk result (λ walk. walk.object.now ≡ object.now) }
+        ensures certificate { IfOk result (λ walk. walk.symbols ≡ certificate.entry) }
+        ensures object { IfOk result (λ walk.
+            cow_slice_items walk.object ≡ cow_slice_items object.entry) }
         ensures none { IfOk result (λ walk. HasWalked walk []) }
-        ensures no_report { IfErr result (IsNotBegun identity object.now certificate.now) }
+        ensures no_report { IfErr result
+            (IsNotBegun identity (cow_slice_items object.entry) certificate.entry) }
     {
         if !certificate.is_for(&identity) {
             return Err(NoReport::Reason(Reason::OtherCertificate));
         }
-        are_bytes(object);
+        let bytes = object.as_slice();
+        are_bytes(bytes);
         let fti = certificate.fti();
-        if object.len() as u64 != fti.transfer_length() {
+        if bytes.len() as u64 != fti.transfer_length() {
             return Err(NoReport::Reason(Reason::ObjectLength));
         }
         let mut symbols = CertifiedSymbols::new(alloc, certificate)?;
-        match first_not_given(object, &mut symbols) {
+        match first_not_given(object.as_slice(), &mut symbols) {
             Some(reason) => return Err(NoReport::Reason(reason)),
             None => {}
         }
@@ -114,7 +121,7 @@ impl<'a> Walk<'a> {
         requires { (datagrams : List (List ℕ)) × HasWalked self.old datagrams }
         ensures identity { self.new.scope.identity ≡ self.old.scope.identity }
         ensures certificate { self.new.symbols ≡ self.old.symbols }
-        ensures object { self.new.object.now ≡ self.old.object.now }
+        ensures object { cow_slice_items self.new.object ≡ cow_slice_items self.old.object }
         ensures passed { (datagrams : List (List ℕ)) → HasWalked self.old datagrams
             → OnOk result (HasWalked self.new (datagrams ++ datagram.now ∷ [])) }
         ensures no_report { (datagrams : List (List ℕ)) → HasWalked self.old datagrams
@@ -142,7 +149,7 @@ impl<'a> Walk<'a> {
         requires block { packet.now.sbn < length self.old.groups.items }
         requires counted { self.old.taken < self.old.count }
         ensures certificate { self.new.symbols ≡ self.old.symbols }
-        ensures object { self.new.object.now ≡ self.old.object.now }
+        ensures object { cow_slice_items self.new.object ≡ cow_slice_items self.old.object }
         ensures scope { self.new.scope ≡ self.old.scope }
         ensures count { self.new.count ≡ self.old.count }
         ensures taken { OnOk result (self.new.taken ≡ self.old.taken + 1) }
@@ -154,7 +161,7 @@ impl<'a> Walk<'a> {
             (self.new.carriers.items ≡ with_carrier self.old.carriers.items place packet.now.fti) }
         ensures no_report { IfErr result (IsNotKept self.old.symbols place (packet_of packet.now)) }
     {
-        match first_wrong_column_of(&mut self.symbols, self.object, packet) {
+        match first_wrong_column_of(&mut self.symbols, self.object.as_slice(), packet) {
             Some(column) => return Err(NoReport::Reason(Reason::Symbol(place, column))),
             None => {}
         }

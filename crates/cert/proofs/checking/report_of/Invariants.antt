@@ -1,4 +1,5 @@
 use Rattle.std.proofs.Common.{◌≡◌, take}
+use Rattle.std.specs.Cow.{cow_slice_items}
 use Rattle.cert.specs.DatagramWalk.{HasWalked}
 use Rattle.cert.proofs.checking.report_of.Given as goal
 
@@ -6,6 +7,6 @@ abbrev pub invariant-loop-place : goal.invariant-loop-place
 invariant-loop-place l = record {
   identity : l.walk.scope.identity ≡ l.fn.identity;
   certificate : l.walk.symbols ≡ l.certificate;
-  object : l.walk.object.now ≡ l.object;
+  object : cow_slice_items l.walk.object ≡ l.object;
   walked : HasWalked l.walk (take l.place l.session);
 }

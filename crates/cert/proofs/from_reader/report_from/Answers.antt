@@ -6,7 +6,7 @@ use Rattle.cert.proofs.from_reader.report_from.Goals as goal
 pub returns-in_err-report-clause-no : goal.returns-in_err-report-clause-no
 returns-in_err-report-clause-no g c =
     let who = c.args.identity in
-    let z = c.args.certificate.now in
+    let z = c.args.certificate in
     let object = c.args.object.now in
     let w = c.in_ok-walk.ensures.walked in
     let name = rw (w.identity, w.certificate) at c.in_ok-walk.walk.name in
@@ -20,7 +20,7 @@ returns-in_err-report-clause-no g c =
 pub returns-clause-yes : goal.returns-clause-yes
 returns-clause-yes g c =
     let who = c.args.identity in
-    let z = c.args.certificate.now in
+    let z = c.args.certificate in
     let object = c.args.object.now in
     let w = c.in_ok-walk.ensures.walked in
     let name = rw (w.identity, w.certificate) at c.in_ok-walk.walk.name in

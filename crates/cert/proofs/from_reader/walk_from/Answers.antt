@@ -11,12 +11,12 @@ use Rattle.cert.proofs.from_reader.walk_from.Goals as goal
 pub returns-in_err-walk-clause-no : goal.returns-in_err-walk-clause-no
 returns-in_err-walk-clause-no g c =
     passed_on c.from_residual.result (ending_of c.in_err-walk.field-0.0) _ c.from_residual.ensures.1
-    (not_begun c.args.identity (g.R.Read.remaining c.args.reader.now) (g.R.Read.failed c.args.reader.now) c.args.certificate.now c.args.object.now c.in_err-walk.field-0.0 c.in_err-walk.ensures.no_report)
+    (not_begun c.args.identity (g.R.Read.remaining c.args.reader.now) (g.R.Read.failed c.args.reader.now) c.args.certificate c.args.object.now c.in_err-walk.field-0.0 c.in_err-walk.ensures.no_report)
 
 pub returns-in_err-datagram-clause-no : goal.returns-in_err-datagram-clause-no
 returns-in_err-datagram-clause-no g c =
     let who = c.args.identity in
-    let z = c.args.certificate.now in
+    let z = c.args.certificate in
     let object = c.args.object.now in
     let name = rw (c.loop-walk.invariant.identity, c.loop-walk.invariant.certificate) at c.loop-walk.walk.name in
     let form = rw (c.loop-walk.invariant.certificate, c.loop-walk.invariant.object) at c.loop-walk.walk.form in
@@ -30,7 +30,7 @@ returns-in_err-datagram-clause-no g c =
 pub returns-in_err-step-clause-no : goal.returns-in_err-step-clause-no
 returns-in_err-step-clause-no g c =
     let who = c.args.identity in
-    let z = c.args.certificate.now in
+    let z = c.args.certificate in
     let object = c.args.object.now in
     let name = rw (c.loop-walk.invariant.identity, c.loop-walk.invariant.certificate) at c.loop-walk.walk.name in
     let form = rw (c.loop-walk.invariant.certificate, c.loop-walk.invariant.object) at c.loop-walk.walk.form in

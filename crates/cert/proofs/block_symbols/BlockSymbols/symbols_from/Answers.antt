@@ -6,7 +6,7 @@ use Rattle.cert.proofs.block_symbols.BlockSymbols.symbols_from.Goals as goal
 pub returns-clause-len : goal.returns-clause-len
 returns-clause-len c =
     let m = c.self.invariant in
-    let z = c.self.inside.certificate.now in
+    let z = c.self.inside.certificate in
     let w = c.from-width.result in
     let le = rw (← c.self.view_is) at c.requires in
     let width_is = c.from-width.ensures ∙ c.symbol_length.ensures.value ∙ ap (λ (f : Fti). f.symbol_length) c.fti.ensures.value in
@@ -16,7 +16,7 @@ returns-clause-len c =
 pub returns-clause-certified : goal.returns-clause-certified
 returns-clause-certified c =
     let m = c.self.invariant in
-    let z = c.self.inside.certificate.now in
+    let z = c.self.inside.certificate in
     let le = rw (← c.self.view_is) at c.requires in
     let width_is = c.from-width.ensures ∙ c.symbol_length.ensures.value ∙ ap (λ (f : Fti). f.symbol_length) c.fti.ensures.value in
     rw (← c.self.view_is, c.deref.ensures.value)

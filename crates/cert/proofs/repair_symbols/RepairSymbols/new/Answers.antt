@@ -2,7 +2,7 @@ use Rattle.partition.proofs.Laws.{some_block}
 use Rattle.cert.proofs.repair_symbols.RepairSymbols.new.Goals as goal
 
 pub n-requires : goal.n-requires
-n-requires c = rw c.fti-fti.ensures.value (some_block c.args.certificate.now.fti c.fti-fti.ensures.certificate.fti)
+n-requires c = rw c.fti-fti.ensures.value (some_block c.args.latest.now.certificate.fti c.fti-fti.ensures.certificate.fti)
 
 pub k-requires : goal.k-requires
-k-requires c = rw c.fti-fti.ensures.value (some_block c.args.certificate.now.fti c.fti-fti.ensures.certificate.fti)
+k-requires c = rw c.fti-fti.ensures.value (some_block c.args.latest.now.certificate.fti c.fti-fti.ensures.certificate.fti)

@@ -1,0 +1,126 @@
+//! The check of datagrams that are fed to it one at a time.
+ghost use Rattle.std.specs.Prelude.{◌≡◌, ◌≤◌, ◌++◌, ◌∷◌, [], ℕ, List, length, IfOk, IfErr};
+ghost use Rattle.std.specs.Cow.{cow_slice_items};
+ghost use Rattle.session.specs.Frames.{most_bytes};
+ghost use Rattle.reception.specs.Headline.{DecodesWhereEnough, TwinWhereShort, TellsElse};
+ghost use Rattle.reception.specs.declared.scope.Identity.{Identity as IdentityValue};
+ghost use Rattle.cert.specs.Certificate.{Certificate as CertificateValue};
+ghost use Rattle.cert.specs.Feeding.{IsFed, WasFed, IsNoToAll, IsReasonSoFar, IsUnfed};
+ghost use Rattle.cert.specs.Report.{IsReport, OnYes};
+ghost use Rattle.cert.specs.declared.verdict.Reason.{Reason as ReasonValue};
+ghost use Rattle.cert.specs.Verdict.{IsVerdict};
+
+use crate::from_reader::CheckFault;
+use crate::verdict::{Reason, Verdict};
+use crate::view::CertificateView;
+use crate::walk::{NoReport, Walk};
+use lists::are_bytes;
+use reception::Identity;
+use session::{FrameFault, MOST_BYTES};
+use std::alloc::{AllocError, Global};
+use std::borrow::CowSlice;
+
+/// A check of an identity's packets among datagrams that are fed to it one at a time. It holds the
+/// places and the ESIs of their symbols, and none of the datagrams.
+#[derive(Drop)]
+pub struct Checker<'a> {
+    walk: Walk<'a>,
+    // Why no datagram more is looked at.
+    ended: Option<NoReport>,
+}
+
+impl<'a> Checker<'a> {
+    /// A check that was fed nothing yet. A reason against the certificate's name or the object is
+    /// told at once: it is the verdict whatever datagrams come.
+    pub fn new(
+        alloc: Global,
+        object: CowSlice<'a, u8, Global>,
+        certificate: CertificateView<'a>,
+        identity: Identity,
+    ) -> Result<Checker<'a>, NoReport>
+        ensures fed { IfOk result (λ checker.
+            IsFed checker identity (cow_slice_items object.entry) certificate.entry []) }
+        ensures no { IfErr result (λ e. (r : ReasonValue) → e ≡ NoReport.Reason r
+            → IsNoToAll identity [] (cow_slice_items object.entry) certificate.entry r) }
+    {
+        Ok(Checker {
+            walk: Walk::new(alloc, object, certificate, identity)?,
+            ended: None,
+        })
+    }
+
+    /// One datagram more. `Some` has the first reason against a datagram that was fed, this one or
+    /// an earlier one, which is the verdict whatever follows. `TooLong` tells that no session has
+    /// so long a datagram, and it doesn't count. Where memory lacks, the check is over: from then
+    /// on it answers only that.
+    pub fn feed(&mut self, datagram: &[u8]) -> Result<Option<Reason>, CheckFault>
+        requires { WasFed self.old }
+        ensures fed { (who : IdentityValue) (object : List ℕ) (z : CertificateValue)
+            (ds : List (List ℕ)) → IsFed self.old who object z ds
+            → IfOk result (λ _. IsFed self.new who object z (ds ++ datagram.now ∷ [])) }
+        ensures reason { (who : IdentityValue) (object : List ℕ) (z : CertificateValue)
+            (ds : List (List ℕ)) → IsFed self.old who object z ds
+            → IfOk result (IsReasonSoFar who (ds ++ datagram.now ∷ []) object z) }
+        ensures unfed { IfErr result (IsUnfed datagram.now) }
+        ensures short { IfOk result (λ _. length datagram.now ≤ most_bytes) }
+        ensures stays { (who : IdentityValue) (object : List ℕ) (z : CertificateValue)
+            (ds : List (List ℕ)) → IsFed self.old who object z ds
+            → IfErr result (λ _. IsFed self.new who object z ds) }
+    {
+        if datagram.len() > MOST_BYTES {
+            return Err(CheckFault::Frame(FrameFault::TooLong));
+        }
+        are_bytes(datagram);
+        if let Some(why) = self.ended {
+            return match why {
+                NoReport::Reason(reason) => Ok(Some(reason)),
+                NoReport::NoMemory => Err(CheckFault::NoMemory),
+            };
+        }
+        match self.walk.step(datagram) {
+            Ok(()) => Ok(None),
+            Err(NoReport::Reason(reason)) => {
+                self.ended = Some(NoReport::Reason(reason));
+                Ok(Some(reason))
+            }
+            Err(NoReport::NoMemory) => {
+                self.ended = Some(NoReport::NoMemory);
+                Err(CheckFault::NoMemory)
+            }
+        }
+    }
+
+    /// The verdict on the datagrams that were fed, in their order, as [`crate::check`] has it of a
+    /// session of them. More may be fed afterwards. Want of memory is the only error.
+    pub fn verdict(&self, alloc: Global) -> Result<Verdict, AllocError>
+        requires { WasFed self.now }
+        ensures verdict { (who : IdentityValue) (object : List ℕ) (z : CertificateValue)
+            (ds : List (List ℕ)) → IsFed self.now who object z ds
+            → IfOk result (IsVerdict who ds object z) }
+        // At yes the datagrams promise what a session of them does.
+        ensures decodes { (who : IdentityValue) (object : List ℕ) (z : CertificateValue)
+            (ds : List (List ℕ)) → IsFed self.now who object z ds
+            → IfOk result (λ v. OnYes v (λ _. DecodesWhereEnough who z.fti ds object)) }
+        ensures undecided { (who : IdentityValue) (object : List ℕ) (z : CertificateValue)
+            (ds : List (List ℕ)) → IsFed self.now who object z ds
+            → IfOk result (λ v. OnYes v (λ _. TwinWhereShort who z.fti ds object)) }
+        ensures tells { (who : IdentityValue) (object : List ℕ) (z : CertificateValue)
+            (ds : List (List ℕ)) → IsFed self.now who object z ds
+            → IfOk result (λ v. OnYes v (λ _. TellsElse who z.fti ds)) }
+        ensures report { (who : IdentityValue) (object : List ℕ) (z : CertificateValue)
+            (ds : List (List ℕ)) → IsFed self.now who object z ds
+            → IfOk result (λ v. OnYes v (IsReport who ds z.fti)) }
+    {
+        if let Some(why) = self.ended {
+            return match why {
+                NoReport::Reason(reason) => Ok(Verdict::No(reason)),
+                NoReport::NoMemory => Err(AllocError),
+            };
+        }
+        match self.walk.report(alloc) {
+            Ok(report) => Ok(Verdict::Yes(report)),
+            Err(NoReport::Reason(reason)) => Ok(Verdict::No(reason)),
+            Err(NoReport::NoMemory) => Err(AllocError),
+        }
+    }
+}
