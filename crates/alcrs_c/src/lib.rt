@@ -21,6 +21,6 @@ mod status;
 mod told;
 mod twin;
 
-pub use held::Held;
+pub use held::{HeldChecker, HeldReceiver};
 pub use receiver::AlcrsReceiver;
 pub use told::{AlcrsBlock, AlcrsFault, AlcrsReport};
