@@ -14,13 +14,13 @@ ghost use Rattle.alcrs_c.specs.Statuses.{in_front};
 ghost use Rattle.alcrs_c.specs.Told.{told_reason, told_report, told_block, told_frame};
 ghost use Rattle.alcrs_c.specs.Told.{told_certificate};
 
-use crate::input::{identity, read_certificate};
+use crate::input::identity;
 use crate::status;
 use crate::told::{
     AlcrsBlock, AlcrsFault, AlcrsReport, certificate_fault, frame_fault, put_blocks, put_kill,
     reason_fault, report_numbers,
 };
-use cert::{CertFault, Certificate, CheckFault, Verdict, check_from};
+use cert::{CertFault, CertificateView, CheckFault, Verdict, check_view_from};
 use reception::Identity;
 use session::{FrameFault, Pieces};
 use std::alloc::Global;
@@ -37,16 +37,16 @@ fn check_bytes(
     alloc: Global,
     session: &[u8],
     object: &[u8],
-    certificate: &Certificate,
+    certificate: CertificateView<'_>,
     identity: Identity,
 ) -> Result<Verdict, CheckFault>
     ensures verdict { IfOk result (λ v. (left : List ℕ)
-        × IsCheckedFrom identity (Some session.now) (Some left) object.now certificate.now v) }
+        × IsCheckedFrom identity (Some session.now) (Some left) object.now certificate.entry v) }
     ensures fault { IfErr result (IsCheckFault (λ e. (left : List ℕ) × IsRefusedBehind identity e
-        (Some session.now) (Some left) false object.now certificate.now)) }
+        (Some session.now) (Some left) false object.now certificate.entry)) }
 {
     let mut frames = Pieces::new(session, usize::MAX);
-    check_from(alloc, &mut frames, object, certificate, identity)
+    check_view_from(alloc, &mut frames, object, certificate, identity)
 }
 
 fn verdict_of(
@@ -61,12 +61,12 @@ fn verdict_of(
     ensures unchecked { IfErr result
         (IsUnchecked identity session.now object.now certificate.now) }
 {
-    let certificate = match read_certificate(alloc, certificate) {
+    let certificate = match CertificateView::from_text(alloc, certificate) {
         Ok(certificate) => certificate,
         Err(CertFault::NoMemory) => return Err(Unchecked::NoMemory),
         Err(fault) => return Err(Unchecked::Certificate(fault)),
     };
-    match check_bytes(alloc, session, object, &certificate, identity) {
+    match check_bytes(alloc, session, object, certificate, identity) {
         Ok(verdict) => Ok(verdict),
         Err(CheckFault::Frame(FrameFault::NoMemory)) => Err(Unchecked::NoMemory),
         Err(CheckFault::Frame(fault)) => Err(Unchecked::Session(fault)),
