@@ -1,3 +1,3 @@
 pub mod InFront
 mod BoxParts
-mod ReceiverParts
+mod HeapParts

@@ -11,3 +11,6 @@ pub mod Making
 pub mod Unmade
 pub mod Ownership
 pub mod Handles
+pub mod Fed
+pub mod Unready
+pub mod CheckerHandles

@@ -5,12 +5,13 @@
 //! - `input`: identities, certificates and sessions of what C passes; `frames`: a session's
 //!   datagrams without a copy;
 //! - `check`, `decode`, `twin`, `making`: the calls from bytes to bytes;
-//! - `receiver`: a receiver behind a handle; `held`: what a handle owns; `apart`: a box as a
-//!   pointer and its allocator.
+//! - `receiver`: a receiver behind a handle; `checker`: a check behind a handle that is fed
+//!   datagrams; `held`: what a handle owns; `apart`: a box as a pointer and its allocator.
 #![tactic(auto)]
 
 mod apart;
 mod check;
+mod checker;
 mod decode;
 mod frames;
 mod held;
@@ -21,6 +22,7 @@ mod status;
 mod told;
 mod twin;
 
+pub use checker::AlcrsChecker;
 pub use held::{HeldChecker, HeldReceiver};
 pub use receiver::AlcrsReceiver;
 pub use told::{AlcrsBlock, AlcrsFault, AlcrsReport};

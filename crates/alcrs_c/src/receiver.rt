@@ -13,7 +13,7 @@ ghost use Rattle.alcrs_c.specs.Statuses.{not_open, more, early, full, IsOneOf};
 ghost use Rattle.alcrs_c.specs.Told.{told_decode, told_missing};
 
 use crate::apart::Apart;
-use crate::held::Held;
+use crate::held::HeldReceiver;
 use crate::input::identity;
 use crate::status;
 use crate::told::{AlcrsFault, decode_fault, missing_fault, put_bytes};
@@ -25,7 +25,7 @@ use std::alloc::Global;
 #[repr(C)]
 #[derive(Drop)]
 pub struct AlcrsReceiver {
-    pub held: Held,
+    pub held: HeldReceiver,
     pub is_open: bool,
 }
 

@@ -24,27 +24,28 @@ use denote.Steps.{nothing, opens, closes, peeks}
 use denote.Triple.Walked.{says, Stays, stay_ref, stay_dropped, Goes-ref, walk_of, ends_at}
 use Rattle.core.proofs.alloc.Calls.{Goes-blank}
 use Rattle.std.proofs.raw_atomic.Walks.{proved_at}
-use Rattle.alcrs_c.proofs.ReceiverParts.{Parts, two, two_fit, parts_out}
-use Rattle.alcrs_c.specs.contracts.held.Held.{the_row as R, the_type}
-use Rattle.alcrs_c.proofs.held.Held.TheLaws.{lowers}
-use Rattle.alcrs_c.specs.contracts.held.Held.put as f
-use Rattle.alcrs_c.specs.contracts.held.Held.put.Key.{name as #self}
-use Rattle.alcrs_c.proofs.held.Held.put.Statement.{statement}
-use Rattle.alcrs_c.proofs.held.Held.put.Code as code
+use Rattle.alcrs_c.specs.Ownership.{receiver_row}
+use Rattle.alcrs_c.proofs.HeapParts.{Parts, two, two_fit, parts_out}
+use Rattle.alcrs_c.specs.contracts.held.HeldReceiver.{the_row as R, the_type}
+use Rattle.alcrs_c.proofs.held.HeldReceiver.TheLaws.{lowers}
+use Rattle.alcrs_c.specs.contracts.held.HeldReceiver.put as f
+use Rattle.alcrs_c.specs.contracts.held.HeldReceiver.put.Key.{name as #self}
+use Rattle.alcrs_c.proofs.held.HeldReceiver.put.Statement.{statement}
+use Rattle.alcrs_c.proofs.held.HeldReceiver.put.Code as code
 
 abbrev stayed : Stays f.ended.signature.params f.ended.kept
-stayed = (stay_ref (0 ∷ []) tt (plain (λ _. R)), (stay_dropped (plain (λ _. Parts)) yes, tt))
+stayed = (stay_ref (0 ∷ []) tt (plain (λ _. R)), (stay_dropped (plain (λ _. Parts receiver_row)) yes, tt))
 
 pub put_spec : {M : Type 1} → statement M
 put_spec 𝓤 𝓛 𝓜 𝓡 wired =
     let c = f.clauses 𝓛 𝓜.mem 𝓡.returns in let 𝓣 = tables 𝓤 𝓛.H 𝓜 𝓡 𝓡.env in let fn = code.function in
-    proved_at 𝓛 f.ended stayed c 𝓜 𝓡 (Goes-ref 𝓛 1 0 tt (plain (λ _. R)), (Goes-blank 𝓛 1 (plain (λ _. Parts)) yes (λ κs x g. tt), tt)) #self fn (code.unfolded 𝓤 𝓛.H 𝓜 𝓡 wired) (λ z are.
+    proved_at 𝓛 f.ended stayed c 𝓜 𝓡 (Goes-ref 𝓛 1 0 tt (plain (λ _. R)), (Goes-blank 𝓛 1 (plain (λ _. Parts receiver_row)) yes (λ κs x g. tt), tt)) #self fn (code.unfolded 𝓤 𝓛.H 𝓜 𝓡 wired) (λ z are.
     let κ = z.0.0.0 in let q = z.0.1.0 in let self = z.0.3.0 in let rb = self.ref_ptr.0 in let ro = self.ref_ptr.1 in let γ = self.ghost_name in let d = self.now in
     let w = z.0.3.1.0 in let us0 = z.0.4.0 in let us1 = z.0.4.1.0 in
     let Post : Val → SProp 𝓤 = (walk_of 𝓛 f.ended stayed c).post z in let Run : List Val → SProp 𝓤 = λ ws. WpFn 𝓤 𝓛.H 𝓣.C 𝓣.Λ fn ws Post in
     qed 𝓛 (((‵ (flft κ q) ⊛ ‵ ftrue) ⊛ ‵ (owns (types_at f.ended.signature.params z.0.0) z.0.3 z.0.4)) ∷ ‵ ftrue ∷ []) ∵
     split ! $ split ! $ move ! (2 ∷ []) $ fsplit ! $ fsplit3 ! $ feq_l ! (λ e0. move ! (2 ∷ []) $ fsplit ! $
-    parts_out ! w us1 (λ b o h e e1 fits. keep ! (3 ∷ 4 ∷ 5 ∷ 0 ∷ []) $
+    parts_out receiver_row ! w us1 (λ b o h e e1 fits. keep ! (3 ∷ 4 ∷ 5 ∷ 0 ∷ []) $
     let passed = two (vptr b o) h in let word = vstruct (vcons (vptr b o) vnil) in
     suffices ! (Run (vptr rb ro ∷ passed ∷ [])) (subst (λ (us : List Val). ent 𝓤 (Run (vptr rb ro ∷ passed ∷ [])) (Run us)) (sym (λ i. e0 i ++ (e1 i ++ []))) (id⊢ 𝓤 (Run (vptr rb ro ∷ passed ∷ [])))) $
     enter ! 𝓣.C 𝓣.Λ fn (vptr rb ro ∷ passed ∷ []) Post $ alloc_all ! (λ l. pass_all ! refl ((tt, tt), (two_fit b o h fits, tt)) $

@@ -25,15 +25,14 @@ use denote.Triple.Walked.{says, Stays, stay_ref, stay_dropped, Goes-ref, walk_of
 use Rattle.core.proofs.alloc.Calls.{Goes-blank, handle_tells}
 use Rattle.std.proofs.raw_atomic.Walks.{proved_at}
 use Rattle.std_alloc.specs.Box.Ownership.{box_owns}
-use Rattle.decoder.specs.contracts.receiver.Receiver as receiver
-use Rattle.alcrs_c.specs.Ownership.{held, token}
-use Rattle.alcrs_c.proofs.ReceiverParts.{Z, allocator, two, two_fit, parts_in}
-use Rattle.alcrs_c.specs.contracts.held.Held.{the_row as R}
-use Rattle.alcrs_c.proofs.held.Held.TheLaws.{lowers}
-use Rattle.alcrs_c.specs.contracts.held.Held.take as f
-use Rattle.alcrs_c.specs.contracts.held.Held.take.Key.{name as #self}
-use Rattle.alcrs_c.proofs.held.Held.take.Statement.{statement}
-use Rattle.alcrs_c.proofs.held.Held.take.Code as code
+use Rattle.alcrs_c.specs.Ownership.{held, token, receiver_row}
+use Rattle.alcrs_c.proofs.HeapParts.{Z, allocator, two, two_fit, parts_in}
+use Rattle.alcrs_c.specs.contracts.held.HeldReceiver.{the_row as R}
+use Rattle.alcrs_c.proofs.held.HeldReceiver.TheLaws.{lowers}
+use Rattle.alcrs_c.specs.contracts.held.HeldReceiver.take as f
+use Rattle.alcrs_c.specs.contracts.held.HeldReceiver.take.Key.{name as #self}
+use Rattle.alcrs_c.proofs.held.HeldReceiver.take.Statement.{statement}
+use Rattle.alcrs_c.proofs.held.HeldReceiver.take.Code as code
 
 abbrev stayed : Stays f.ended.signature.params f.ended.kept
 stayed = (stay_ref (0 ∷ []) tt (plain (λ _. R)), (stay_dropped (plain (λ _. Z)) yes, tt))
@@ -52,8 +51,8 @@ take_spec 𝓤 𝓛 𝓜 𝓡 wired =
     suffices ! (Run (vptr rb ro ∷ h ∷ [])) (subst (λ (us : List Val). ent 𝓤 (Run (vptr rb ro ∷ h ∷ [])) (Run us)) (sym (λ i. e0 i ++ (e1 i ++ []))) (id⊢ 𝓤 (Run (vptr rb ro ∷ h ∷ [])))) $
     enter ! 𝓣.C 𝓣.Λ fn (vptr rb ro ∷ h ∷ []) Post $ alloc_all ! (λ l. pass_all ! refl ((tt, tt), (fits, tt)) $
     opens ! tt R {h = d} rb ro (λ us. move ! (1 ∷ []) $ peeks ! R _ (shows 𝓛 R) d us (λ is. fsplit ! $ move ! (1 ∷ []) $
-    rewrite ! 0 (λ (x : Bool). ‵ (held x d.place d.value)) full refl $
-    in_a_block ! d.place (λ p. box_owns token receiver.the_row p d.value) (fst∗ 𝓤 (never 𝓤) (sem 𝓛 (token (bare (lone receiver.the_row.mir)) null_ptr))) (λ b o e.
+    rewrite ! 0 (λ (x : Bool). ‵ (held receiver_row x d.place d.value)) full refl $
+    in_a_block ! d.place (λ p. box_owns token receiver_row p d.value) (fst∗ 𝓤 (never 𝓤) (sem 𝓛 (token (bare (lone receiver_row.mir)) null_ptr))) (λ b o e.
     let word = lowers.val_is d us is ∙ ap (λ (p : Ptr). lowers.lowered (record d { place = p }) ∷ []) e in
     let Cell = λ (ws : List Val). ‵ (cell_at full_share R.mir ws rb ro) in
     rewrite ! 2 Cell word refl $
@@ -63,7 +62,7 @@ take_spec 𝓤 𝓛 𝓜 𝓡 wired =
     sets ! (of_opd ! (get ! refl)) refl (tt, tt) $
     let made = two_fit b o h fits in
     sets ! (agg ! (and_then ! (get ! refl) (and_then ! (get ! refl) (no_more !)))) refl made $
-    move ! (0 ∷ 6 ∷ []) $ parts_in ! b o h a d.value $ rewrite ! 2 Cell (sym word) refl $
+    move ! (0 ∷ 6 ∷ []) $ parts_in receiver_row ! b o h a d.value $ rewrite ! 2 Cell (sym word) refl $
     -- [the parts; what the fields own; the cell; the open borrow, in three entries; the locals]
     move ! (1 ∷ []) $ nothing ! $ move ! (1 ∷ 0 ∷ []) $ fjoin ! $ move ! (2 ∷ 0 ∷ 3 ∷ 4 ∷ 5 ∷ []) $ closes ! tt R new us rb ro $
     returns ! (look_at ! 0 refl) $ free_all ! refl $ keep ! (0 ∷ 1 ∷ 2 ∷ 3 ∷ []) $
