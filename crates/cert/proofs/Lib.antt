@@ -25,6 +25,7 @@ pub mod Adding
 pub mod TwinObject
 pub mod Few
 pub mod Short
+pub mod HeldEsis
 pub mod Columns
 pub mod GreatestBlock
 pub mod BlockSymbols

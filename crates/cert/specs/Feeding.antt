@@ -7,6 +7,7 @@ use Rattle.reception.specs.declared.scope.Identity.{Identity}
 use Rattle.reception.specs.Walks.{readings_of}
 use Rattle.cert.specs.Certificate.{Certificate}
 use Rattle.cert.specs.DatagramWalk.{HasWalked}
+use Rattle.cert.specs.Twins.{IsShortIn}
 use Rattle.cert.specs.Verdict.{IsVerdict, first_reason}
 use Rattle.cert.specs.declared.checker.Checker.{Checker}
 use Rattle.cert.specs.declared.from_reader.CheckFault.{CheckFault}
@@ -55,6 +56,15 @@ pub record WasFed (checker : Checker) : Type 0 where
   pub z : Certificate
   pub datagrams : List (List ℕ)
   pub fed : IsFed checker who object z datagrams
+
+-- so that their verdict is that this block is the least that has too few symbols
+pub record IsFedShort (checker : Checker) (b : ℕ) : Type 0 where
+  pub who : Identity
+  pub object : List ℕ
+  pub z : Certificate
+  pub datagrams : List (List ℕ)
+  pub fed : IsFed checker who object z datagrams
+  pub short : IsShortIn who datagrams object z b
 
 -- what a reason tells that came with the last of these datagrams, or that none came
 abbrev pub IsReasonSoFar : Identity → List (List ℕ) → List ℕ → Certificate → Option Reason → Type 0

@@ -215,11 +215,8 @@ impl Certificate {
     pub fn view(&self) -> CertificateView<'_>
         ensures { result ≡ self.now }
     {
-        CertificateView::of_rows(
-            self.fti,
-            self.name,
-            CowSlice::Borrowed(self.coefficients.as_slice()),
-        )
+        let rows = CowSlice::Borrowed(self.coefficients.as_slice());
+        CertificateView::of_rows(self.fti, self.name, rows)
     }
 
     /// The same certificate, as a view that owns its coefficients.

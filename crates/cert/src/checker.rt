@@ -5,7 +5,9 @@ ghost use Rattle.session.specs.Frames.{most_bytes};
 ghost use Rattle.reception.specs.Headline.{DecodesWhereEnough, TwinWhereShort, TellsElse};
 ghost use Rattle.reception.specs.declared.scope.Identity.{Identity as IdentityValue};
 ghost use Rattle.cert.specs.Certificate.{Certificate as CertificateValue};
-ghost use Rattle.cert.specs.Feeding.{IsFed, WasFed, IsNoToAll, IsReasonSoFar, IsUnfed};
+ghost use Rattle.cert.specs.Feeding.{IsFed, WasFed, IsFedShort, IsNoToAll, IsReasonSoFar};
+ghost use Rattle.cert.specs.Feeding.{IsUnfed};
+ghost use Rattle.cert.specs.Twins.{IsShortIn, IsTwinOfSession};
 ghost use Rattle.cert.specs.Report.{IsReport, OnYes};
 ghost use Rattle.cert.specs.declared.verdict.Reason.{Reason as ReasonValue};
 ghost use Rattle.cert.specs.Verdict.{IsVerdict};
@@ -122,5 +124,22 @@ impl<'a> Checker<'a> {
             Err(NoReport::Reason(reason)) => Ok(Verdict::No(reason)),
             Err(NoReport::NoMemory) => Err(AllocError),
         }
+    }
+
+    /// A twin where the verdict is `Thin` of this block, as it needs: another object of the
+    /// certificate's FTI that agrees with all of the identity's packets that were fed, as
+    /// [`crate::session_twin`] makes it. Want of memory is the only error.
+    pub fn twin(&self, alloc: Global, block: u32) -> Result<Vec<u8>, AllocError>
+        requires { IsFedShort self.now block }
+        ensures { (who : IdentityValue) (object : List ℕ) (z : CertificateValue)
+            (ds : List (List ℕ)) → IsFed self.now who object z ds → IsShortIn who ds object z block
+            → IfOk result (λ other.
+            IsTwinOfSession who z.fti block ds object other.items) }
+    {
+        // A check that has ended for a reason doesn't say `Thin`.
+        if self.ended.is_some() {
+            return Err(AllocError);
+        }
+        self.walk.twin(alloc, block)
     }
 }

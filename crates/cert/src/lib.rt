@@ -6,10 +6,13 @@
 //! block. `verdict` has what a check answers, `specs/Verdict` which answer is right, `specs/Report`
 //! what a yes tells.
 //!
-//! A check asks for one identity's packets and is a walk over datagrams, one step each (`walk`), in
-//! two loops: [`check`] goes over a session (`checking`), [`check_from`] over what a reader gives
-//! (`from_reader`, `specs/FromReader`). [`survey_from`] is the same with what a picture of a yes
-//! shows (`surveying`, `specs/Surveying`). The certificate's FTI is known from the start, so a
+//! `view` has a certificate whose coefficients may be borrowed.
+//!
+//! A check asks for one identity's packets and is a walk over datagrams, one step each (`walk`).
+//! [`check`] goes over a session (`checking`), [`check_from`] over what a reader gives
+//! (`from_reader`, `specs/FromReader`), and a [`Checker`] is fed one datagram at a time (`checker`,
+//! `specs/Feeding`). [`survey_from`] is the second with what a picture of a yes shows (`surveying`,
+//! `specs/Surveying`). The certificate's FTI is known from the start, so a
 //! packet is judged whether a carrier came before it or not; that none came is told in the end.
 //!
 //! The walk puts three parts together: `certified_symbols` makes each symbol that the certificate

@@ -20,10 +20,7 @@ pub(crate) struct RepairSymbols {
 
 impl RepairSymbols {
     /// Asks for room for all blocks, and keeps none yet.
-    pub(crate) fn new(
-        alloc: Global,
-        latest: &BlockSymbols<'_>,
-    ) -> Result<RepairSymbols, AllocError>
+    pub(crate) fn new(alloc: Global, latest: &BlockSymbols<'_>) -> Result<RepairSymbols, AllocError>
         ensures { IfOk result (λ s.
             AreKept latest.now.certificate s.count s.blocks s.bytes.items) }
     {

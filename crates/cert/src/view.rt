@@ -57,10 +57,16 @@ impl<'a> Model for CertificateView<'a> {
     ghost Value = { CertificateValue };
 
     ghost view = { λ z. record {
-        fti = z.fti; name = z.name; coefficients = cow_slice_items z.coefficients } };
+      fti = z.fti;
+      name = z.name;
+      coefficients = cow_slice_items z.coefficients;
+    } };
 
     ghost invariant = { λ z. IsCertificate (record {
-        fti = z.fti; name = z.name; coefficients = cow_slice_items z.coefficients }) };
+      fti = z.fti;
+      name = z.name;
+      coefficients = cow_slice_items z.coefficients;
+    }) };
 }
 
 impl<'a> CertificateView<'a> {
@@ -71,9 +77,15 @@ impl<'a> CertificateView<'a> {
         coefficients: CowSlice<'a, u8, Global>,
     ) -> CertificateView<'a>
         requires { IsCertificate (record {
-            fti = fti; name = name; coefficients = cow_slice_items coefficients }) }
+          fti = fti;
+          name = name;
+          coefficients = cow_slice_items coefficients;
+        }) }
         ensures { result ≡ record {
-            fti = fti; name = name; coefficients = cow_slice_items coefficients.entry } }
+          fti = fti;
+          name = name;
+          coefficients = cow_slice_items coefficients.entry;
+        } }
     {
         CertificateView {
             fti,

@@ -17,6 +17,7 @@ ghost use Rattle.cert.specs.Certificate.{IsCertificate, is_for};
 ghost use Rattle.reception.specs.Walks.{readings_of};
 ghost use Rattle.cert.specs.Report.{IsReport, blocks_of};
 ghost use Rattle.cert.specs.Surveying.{IsSurvey};
+ghost use Rattle.cert.specs.Twins.{IsShortIn, IsTwinOfSession};
 ghost use Rattle.cert.specs.Scan.{line_in, with_carrier, AreEnough, AreEnoughCertified};
 ghost use Rattle.cert.specs.Scan.{IsShortGroup, IsPut, IsNoReport};
 ghost use Rattle.cert.specs.Verdict.{GivesObject, uncertified};
@@ -24,11 +25,12 @@ ghost use Rattle.cert.specs.Verdict.{GivesObject, uncertified};
 use crate::certified_symbols::CertifiedSymbols;
 use crate::datagrams::{empty_groups, first_wrong_column_of, put, put_carrier, reason_of};
 use crate::source::first_not_given;
+use crate::twins::twin;
 use crate::verdict::{Reason, Report, Survey};
 use crate::view::CertificateView;
 use alc::Packet;
 use lists::are_bytes;
-use losses::{Figures, Group, figures_of, runs_of};
+use losses::{Figures, Group, Member, figures_of, runs_of};
 use reception::{Identity, Look, Scope};
 use std::alloc::{AllocError, Global};
 use std::borrow::CowSlice;
@@ -215,6 +217,30 @@ impl<'a> Walk<'a> {
         Ok((report, survey))
     }
 
+    /// A twin where the datagrams so far leave this block short: the verdict on them is `Thin` of
+    /// it.
+    pub(crate) fn twin(&self, alloc: Global, block: u32) -> Result<Vec<u8>, AllocError>
+        requires { (datagrams : List (List ℕ)) × AreDatagrams datagrams
+            × HasWalked self.now datagrams × IsShortIn self.now.scope.identity datagrams
+            (cow_slice_items self.now.object) self.now.symbols block }
+        ensures { (datagrams : List (List ℕ)) → AreDatagrams datagrams
+            → HasWalked self.now datagrams → IsShortIn self.now.scope.identity datagrams
+            (cow_slice_items self.now.object) self.now.symbols block
+            → IfOk result (λ other. IsTwinOfSession self.now.scope.identity self.now.symbols.fti
+            block datagrams (cow_slice_items self.now.object) other.items) }
+    {
+        let members = &self.groups[block as usize].members;
+        let arrived_esis = esis_of_members(alloc, members.as_slice())?;
+        let fti = self.symbols.fti();
+        twin(
+            alloc,
+            self.object.as_slice(),
+            &fti,
+            block,
+            arrived_esis.as_slice(),
+        )
+    }
+
     // The report, and a block that its kill leaves short.
     fn report_and_kill_block(&self, alloc: Global) -> Result<(Report, Option<usize>), NoReport>
         requires { (datagrams : List (List ℕ)) × HasWalked self.now datagrams }
@@ -293,4 +319,15 @@ fn block_lines(alloc: Global, groups: &[Group]) -> Result<Vec<(usize, usize)>, N
         };
     }
     Ok(blocks)
+}
+
+// The ESIs of a block's symbols, as they came.
+fn esis_of_members(alloc: Global, members: &[Member]) -> Result<Vec<u8>, AllocError>
+    ensures { IfOk result (λ v. v.items ≡ map (λ q. q.esi) members.now) }
+{
+    let mut arrived_esis = Vec::with_capacity(alloc, members.len())?;
+    for member in members {
+        arrived_esis.push(member.esi)?;
+    }
+    Ok(arrived_esis)
 }

@@ -1,0 +1,38 @@
+-- The ESIs of a block that came, as its group has them.
+use Rattle.std.proofs.Common.{◌≡◌, ◌<◌, ◌++◌, Bool, true, false, cond, ℕ, List, [], ◌∷◌, get_or, length, map, refl, sym, ap, ◌∙◌, arith}
+use Rattle.std.specs.Prelude.{◌==◌}
+use Rattle.std.proofs.lemmas.List.{map-append, length-map}
+use Rattle.losses.specs.Groups.{group_of, groups_of}
+use Rattle.losses.specs.declared.groups.Group.{Group as GroupOf}
+use Rattle.losses.specs.declared.groups.Member.{Member}
+use Rattle.losses.proofs.GroupFigures.{members_seen}
+use Rattle.partition.specs.Fti.{Fti, block_count}
+use Rattle.reception.specs.Symbols.{Symbol}
+use Rattle.reception.specs.Reception.{Placed, symbols, symbols_in}
+use Rattle.cert.specs.Scan.{members_at, members_of, AreGroupsOf}
+use Rattle.cert.specs.Twins.{esis_of}
+use Rattle.cert.proofs.Short.{esis_more}
+
+esis_at : (b i : ℕ) (ss : List Symbol) → map (λ (q : Member). q.esi) (members_at b i ss) ≡ esis_of b ss
+esis_at b i [] = refl
+esis_at b i (s ∷ ss) =
+    elim (s.block == b) as (λ v. map (λ (q : Member). q.esi) (cond v (record { place = i; esi = s.esi } ∷ members_at b i ss) (members_at b i ss)) ≡ cond v (s.esi ∷ []) [] ++ esis_of b ss) [
+      | true ↦ ap (λ (js : List ℕ). s.esi ∷ js) (esis_at b i ss)
+      | false ↦ esis_at b i ss
+    ]
+
+esis_of_placed : (b : ℕ) (xs : List Placed) → map (λ (q : Member). q.esi) (members_of b xs) ≡ esis_of b (symbols xs)
+esis_of_placed b [] = refl
+esis_of_placed b (x ∷ xs) =
+    map-append (λ (q : Member). q.esi) (members_at b x.place (symbols_in x.reading)) (members_of b xs)
+    ∙ ap (λ (js : List ℕ). js ++ map (λ (q : Member). q.esi) (members_of b xs)) (esis_at b x.place (symbols_in x.reading))
+    ∙ ap (λ (js : List ℕ). esis_of b (symbols_in x.reading) ++ js) (esis_of_placed b xs)
+    ∙ sym (esis_more b (symbols_in x.reading) (symbols xs))
+
+pub held_esis : (f : Fti) (xs : List Placed) (gs : List GroupOf) (b : ℕ) (g : GroupOf) → AreGroupsOf f xs (groups_of gs) → b < block_count f → g ≡ get_or gs b g
+    → map (λ (q : Member). q.esi) g.members.items ≡ esis_of b (symbols xs)
+held_esis f xs gs b g are within is =
+    let within_groups : b < length gs = omega (arith, within, are.count, length-map gs group_of) in
+    ap (λ (x : GroupOf). map (λ (q : Member). q.esi) x.members.items) is
+    ∙ ap (map (λ (q : Member). q.esi)) (sym (members_seen gs b g within_groups) ∙ are.members b within)
+    ∙ esis_of_placed b xs
