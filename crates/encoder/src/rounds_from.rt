@@ -34,8 +34,12 @@ use partition::{Fti, Order};
 use std::alloc::Global;
 use streams::{Failed, Read, WriteAt, write_all_at};
 
-// The most bytes that the encoding symbols of several blocks take: what the caches hold.
-const MOST_BYTES: usize = 1 << 20;
+// How many bytes a group takes: as many as the caches hold, where its runs are long enough then;
+// a 64th of a large object, whose runs go to a disk; never more than 32 MiB.
+const LEAST_BYTES: usize = 5 << 18;
+const MOST_BYTES: usize = 1 << 25;
+const LONG_RUN: usize = 16;
+const GROUPS: u64 = 64;
 
 // The bytes of a datagram's length before it.
 const LENGTH_SIZE: usize = 2;
@@ -346,15 +350,17 @@ fn write_object<R: Read, W: WriteAt>(
     Ok(count)
 }
 
-// How many blocks make a group: as many as there are and `MOST_BYTES` hold of their encoding
-// symbols, and one at least.
+// How many blocks make a group: as many as there are and its bytes hold, their encoding symbols and
+// a frame of each, and one at least.
 fn blocks_at_once(fti: &Fti) -> usize
     ensures some { 0 < result }
     ensures few { result ≤ 2 ^ 20 }
 {
     let size = usize::from(fti.symbol_length());
-    let block = fti.n(0) * size;
-    (MOST_BYTES / block).min(fti.block_count() as usize).max(1)
+    let block = fti.n(0) * size + LENGTH_SIZE + HEADER_SIZE + size;
+    let of_object = (fti.transfer_length() / GROUPS).min(MOST_BYTES as u64) as usize;
+    let bytes = (LONG_RUN * block).max(of_object).clamp(LEAST_BYTES, MOST_BYTES);
+    (bytes / block).min(fti.block_count() as usize).max(1)
 }
 
 /// Reads the object, all up to the reader's end, and writes what `encode` writes of it in order
@@ -362,10 +368,10 @@ fn blocks_at_once(fti: &Fti) -> usize
 /// length is set, and then groups of blocks are written, each frame to its place. So its bytes must
 /// have offsets.
 ///
-/// Memory doesn't grow with the object: it is asked for two generator matrices at most, for the
-/// bytes of the greatest block, for the encoding symbols of a group, which take 1 MiB or are one
-/// block's, and for one frame of each of its blocks. It is all there before the first byte is
-/// written.
+/// Memory is asked for two generator matrices at most, for the bytes of the greatest block, for the
+/// encoding symbols of a group, and for one frame of each of its blocks. A group takes a 64th of
+/// the object, or as much as 16 blocks where that is more, within 1.25 and 32 MiB, or is one block.
+/// It is all there before the first byte is written.
 ///
 /// `Object` tells that the object has another length than the FTI's, or that the reader has failed,
 /// which a sound one never does; `Write` comes only where the writer has failed. What stands in the
