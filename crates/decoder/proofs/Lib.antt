@@ -39,3 +39,4 @@ pub mod Framed
 pub mod FirstCarrier
 pub mod Indexed
 pub mod FromFile
+pub mod BelowEsi

@@ -24,6 +24,7 @@ pub mod SymbolsOf
 pub mod Gathering
 pub mod Written
 pub mod InFile
+pub mod Enough
 pub mod Indexing
 pub mod GatheringIn
 pub mod FileFaults

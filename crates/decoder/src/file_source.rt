@@ -1,10 +1,19 @@
 //! What came of an object in a session file, of which only the places are held.
+ghost use Rattle.std.specs.Prelude.{◌<◌, ℕ, IfOk, IfErr, IfSome, IsNone};
+ghost use Rattle.partition.specs.Fti.{block_count};
+ghost use Rattle.block_code.specs.Codes.{EachBlockHas};
+ghost use Rattle.block_code.specs.CodesOf.{IsCodeOf};
 ghost use Rattle.reception.specs.Reception.{with_fti};
+ghost use Rattle.decoder.specs.Columns.{ColumnExplained};
+ghost use Rattle.decoder.specs.Decoded.{AreWithin, IsEnoughAt, AreRows, IsUnexplained};
 ghost use Rattle.decoder.specs.InFile.{file_at, AllStandIn};
+ghost use Rattle.decoder.specs.Recoveries.{IsKeptOf};
+ghost use Rattle.decoder.specs.Sources.{IsUnreadOf};
 
 use crate::arrivals::symbols_below;
 use crate::blocks::block_rows;
 use crate::counting::have;
+use crate::enough::{least_enough, places_below};
 use crate::place::{Place, read_block_again};
 use crate::recovery::Recovery;
 use crate::rows::Rows;
@@ -32,6 +41,53 @@ pub(crate) struct FileSource<'a, F: ReadAt> {
     pub(crate) indexed: &'a Indexed,
 }
 
+impl<F: ReadAt> FileSource<'_, F> {
+    // The source symbols of a block whose symbols are all known to be those of an object. As many
+    // are read as it needs, those with the least ESIs. Where they aren't of an object, the file
+    // isn't what it was.
+    fn sound_rows(
+        &self,
+        alloc: Global,
+        codes: &BlockCodes,
+        b: u32,
+        kept: &mut Option<Recovery>,
+    ) -> Result<Option<Rows>, Unread>
+        requires number { b < block_count self.now.indexed.now.fti }
+        requires codes { EachBlockHas (IsCodeOf self.now.indexed.now.fti)
+            self.now.indexed.now.fti codes.now }
+        requires within { AllStandIn (F.content self.now.file.now)
+            (with_fti self.now.indexed.now.identity self.now.indexed.now.fti)
+            self.now.indexed.now.symbols → AreWithin self.now.indexed.now.fti (file_at (F.content self.now.file.now) self.now.indexed.now.symbols) }
+        requires enough { IsEnoughAt self.now.indexed.now.fti b (file_at (F.content self.now.file.now) self.now.indexed.now.symbols b) }
+        requires sound { AllStandIn (F.content self.now.file.now)
+            (with_fti self.now.indexed.now.identity self.now.indexed.now.fti)
+            self.now.indexed.now.symbols → (c : ℕ) → c < self.now.indexed.now.fti.symbol_length
+            → ColumnExplained self.now.indexed.now.fti b (file_at (F.content self.now.file.now) self.now.indexed.now.symbols b) c }
+        requires kept { IsKeptOf codes.now kept.old }
+        ensures rows { AllStandIn (F.content self.now.file.now)
+            (with_fti self.now.indexed.now.identity self.now.indexed.now.fti)
+            self.now.indexed.now.symbols → IfOk result (λ o. IfSome o (λ rows.
+            AreRows self.now.indexed.now.fti b (file_at (F.content self.now.file.now) self.now.indexed.now.symbols b) rows.bytes.items)) }
+        ensures none { AllStandIn (F.content self.now.file.now)
+            (with_fti self.now.indexed.now.identity self.now.indexed.now.fti)
+            self.now.indexed.now.symbols → IfOk result (λ o. IsNone o
+            → IsUnexplained self.now.indexed.now.fti b (file_at (F.content self.now.file.now) self.now.indexed.now.symbols b)) }
+        ensures keeps { IsKeptOf codes.now kept.new }
+        ensures fault { IfErr result (IsUnreadOf (AllStandIn (F.content self.now.file.now)
+            (with_fti self.now.indexed.now.identity self.now.indexed.now.fti)
+            self.now.indexed.now.symbols) (F.reliable self.now.file.now)) }
+    {
+        let fti = &self.indexed.fti;
+        let scope = Scope::with_fti(self.indexed.identity, *fti);
+        let arrived = self.indexed.symbols.of_block(b).unwrap_or(&[]);
+        let limit = least_enough(arrived, fti.k(b), fti.n(b));
+        let chosen = places_below(alloc, arrived, limit)?;
+        let again = read_block_again(alloc, self.file, &scope, b, &chosen)?;
+        let arrivals = symbols_below(alloc, &again, fti.n(b))?;
+        Ok(block_rows(alloc, fti, codes, b, &arrivals, false, kept)?)
+    }
+}
+
 impl<F: ReadAt> Source for FileSource<'_, F> {
     ghost known = { λ source. source.indexed.now.fti };
 
@@ -54,15 +110,18 @@ impl<F: ReadAt> Source for FileSource<'_, F> {
         blocks_of(alloc, &self.indexed.symbols)
     }
 
-    // All symbols are looked at: nothing says that the file is what it was.
+    // All symbols are looked at, unless they are known to be sound.
     fn rows(
         &self,
         alloc: Global,
         codes: &BlockCodes,
         b: u32,
-        _are_sound: bool,
+        are_sound: bool,
         kept: &mut Option<Recovery>,
     ) -> Result<Option<Rows>, Unread> {
+        if are_sound {
+            return self.sound_rows(alloc, codes, b, kept);
+        }
         let fti = &self.indexed.fti;
         let scope = Scope::with_fti(self.indexed.identity, *fti);
         let came = self.indexed.symbols.of_block(b).unwrap_or(&[]);

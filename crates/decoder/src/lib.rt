@@ -33,6 +33,7 @@ mod block;
 mod blocks;
 mod counting;
 mod decoding;
+mod enough;
 mod erasure;
 mod feeding;
 mod file_gathering;

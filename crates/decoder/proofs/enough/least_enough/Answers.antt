@@ -1,0 +1,32 @@
+use Rattle.std.specs.Prelude.{is_some, filter}
+use Rattle.std.proofs.Common.{◌≡◌, ◌∙◌, ◌+◌, ℕ, List, sym, ap, arith, add-one, refl}
+use Rattle.lists.specs.Below.{below}
+use Rattle.decoder.specs.Arrivals.{seen_at, arrived_at}
+use Rattle.decoder.specs.declared.place.Place.{Place}
+use Rattle.decoder.proofs.Counts.{one_more_held, none_more_held}
+use Rattle.decoder.proofs.enough.least_enough.Goals as goal
+use Rattle.decoder.proofs.enough.least_enough.Goals.{then-seen-esi, else-seen-esi}
+
+pub loop-esi-init : goal.loop-esi-init
+unfolding below
+loop-esi-init c = record { few = omega arith; counts = λ held. refl }
+
+pub loop-esi-preserved : goal.loop-esi-preserved
+loop-esi-preserved c =
+    let is : (held : Place → List ℕ) → is_some (arrived_at held c.args.came.now c.loop-esi.esi) ≡ seen_at c.seen_of-seen.result c.loop-esi.esi =
+    λ held. sym (c.seen_of-seen.ensures held c.loop-esi.esi (omega arith)) in
+    elim c.if-seen-esi.branch [
+      | then-seen-esi w ↦ record {
+        few = omega arith;
+        counts = λ held. rw add-one (w.count-is ∙ ap (λ (x : ℕ). x + 1) (c.loop-esi.invariant.counts held)
+            ∙ sym (one_more_held (λ (j : ℕ). is_some (arrived_at held c.args.came.now j)) c.loop-esi.esi (is held ∙ w.if-seen-esi.true)));
+      }
+      | else-seen-esi w ↦ record {
+        few = omega arith;
+        counts = λ held. rw add-one (w.count-is ∙ c.loop-esi.invariant.counts held
+            ∙ sym (none_more_held (λ (j : ℕ). is_some (arrived_at held c.args.came.now j)) c.loop-esi.esi (is held ∙ w.if-seen-esi.false)));
+      }
+    ]
+
+pub returns-then-count-need-clause-enough : goal.returns-then-count-need-clause-enough
+returns-then-count-need-clause-enough c = λ held h. omega (arith, c.if-count-need.true, c.loop-esi.invariant.counts held)
