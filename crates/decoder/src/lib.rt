@@ -27,6 +27,7 @@
 //!   source symbols give.
 #![tactic(auto)]
 
+mod ahead;
 mod answer;
 mod arrivals;
 mod block;

@@ -9,11 +9,12 @@ ghost use Rattle.decoder.specs.InFile.{AreOfBlock, StandsIn, BlockStandsIn};
 ghost use Rattle.decoder.specs.Sources.{IsUnreadOf};
 ghost use Rattle.decoder.specs.declared.place.Place.{Place as PlaceValue};
 
+use crate::ahead::Ahead;
 use crate::arrivals::{Arrival, push};
 use crate::source::Unread;
 use reception::{Look, Scope};
 use std::alloc::Global;
-use streams::{ReadAt, fill_at};
+use streams::ReadAt;
 
 /// Where a datagram stands in a file: how many bytes before it, and how many of its own.
 #[derive(Clone, Copy)]
@@ -23,16 +24,21 @@ pub(crate) struct Place {
 }
 
 // The bytes at a place.
-fn datagram_at<F: ReadAt>(alloc: Global, file: &F, place: Place) -> Result<Vec<u8>, Unread>
-    ensures bytes { (x : List ℕ) → F.content file.now ≡ Some x
+fn datagram_at<F: ReadAt>(
+    alloc: Global,
+    file: &mut Ahead<'_, F>,
+    place: Place,
+) -> Result<Vec<u8>, Unread>
+    ensures bytes { (x : List ℕ) → F.content file.old.file.now ≡ Some x
         → place.offset + place.length ≤ length x
         → IfOk result (λ v. v.items ≡ datagram_in x place) }
     ensures changed { IfErr result (λ e. e ≡ Unread.Changed → (x : List ℕ)
-        → F.content file.now ≡ Some x → place.offset + place.length ≤ length x → ⊥) }
-    ensures io { IfErr result (λ e. e ≡ Unread.Io → F.reliable file.now ≡ false) }
+        → F.content file.old.file.now ≡ Some x → place.offset + place.length ≤ length x → ⊥) }
+    ensures io { IfErr result (λ e. e ≡ Unread.Io → F.reliable file.old.file.now ≡ false) }
+    ensures file { file.new.file.now ≡ file.old.file.now }
 {
     let mut datagram = Vec::from_elem(alloc, 0u8, usize::from(place.length))?;
-    let Ok(got) = fill_at(file, place.offset, datagram.as_mut_slice()) else {
+    let Ok(got) = file.fill(place.offset, datagram.as_mut_slice()) else {
         return Err(Unread::Io);
     };
     if got < datagram.len() {
@@ -65,20 +71,22 @@ fn symbol_of<'a>(scope: &Scope, b: u32, esi: u8, datagram: &'a [u8]) -> Option<&
 /// The symbol at a place, where a packet of the block and the ESI stood.
 pub(crate) fn read_again<F: ReadAt>(
     alloc: Global,
-    file: &F,
+    file: &mut Ahead<'_, F>,
     scope: &Scope,
     b: u32,
     esi: u8,
     place: Place,
 ) -> Result<Vec<u8>, Unread>
     requires { (f : FtiValue) × (scope.now.fti ≡ Some f) }
-    ensures symbol { (x : List ℕ) → F.content file.now ≡ Some x
+    ensures symbol { (x : List ℕ) → F.content file.old.file.now ≡ Some x
         → IsSymbolIn x scope.now b esi place
         → IfOk result (λ v. v.items ≡ held_in x place) }
     ensures size { (f : FtiValue) → scope.now.fti ≡ Some f
         → IfOk result (λ v. length v.items ≡ f.symbol_length) }
-    ensures fault { IfErr result (IsUnreadOf (StandsIn (F.content file.now) scope.now b esi place)
-        (F.reliable file.now)) }
+    ensures fault { IfErr result (IsUnreadOf
+        (StandsIn (F.content file.old.file.now) scope.now b esi place)
+        (F.reliable file.old.file.now)) }
+    ensures file { file.new.file.now ≡ file.old.file.now }
 {
     let datagram = datagram_at(alloc, file, place)?;
     let Some(symbol) = symbol_of(scope, b, esi, &datagram) else {
@@ -109,9 +117,10 @@ pub(crate) fn read_block_again<F: ReadAt>(
         (BlockStandsIn (F.content file.now) scope.now b came.now) (F.reliable file.now)) }
 {
     let mut again = Vec::with_capacity(alloc, came.len())?;
+    let mut ahead = Ahead::new(file);
     for arrival in came {
         let esi = arrival.esi;
-        let symbol = read_again(alloc, file, scope, b, esi, arrival.symbol)?;
+        let symbol = read_again(alloc, &mut ahead, scope, b, esi, arrival.symbol)?;
         push(&mut again, Arrival { esi, symbol })?;
     }
     Ok(again)

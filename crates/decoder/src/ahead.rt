@@ -1,0 +1,103 @@
+//! Bytes of a file at offsets, read ahead where they follow one another.
+ghost use Rattle.std.specs.Prelude.{◌≡◌, ◌<◌, ◌≤◌, ◌+◌, true, false, length, take, IfOk, OnErr};
+ghost use Rattle.std.proofs.Props.{props};
+ghost use Rattle.streams.specs.Offsets.{StandsAt, EndsBy};
+
+use streams::{Failed, ReadAt, fill_at};
+
+// How many bytes are read ahead: more than a frame has.
+const AHEAD: usize = 1 << 16;
+
+// How many bytes stand between two datagrams: the length of the second.
+const LENGTH_SIZE: u64 = 2;
+
+/// A reader of a file's datagrams at their offsets. Where one stands just behind the last that was
+/// asked for, the next ones are read with it.
+#[derive(Drop)]
+pub(crate) struct Ahead<'a, F: ReadAt> {
+    file: &'a F,
+    // The file's bytes from `offset` on, `count` of them.
+    buffer: [u8; AHEAD],
+    offset: u64,
+    count: usize,
+    // Behind the datagram that was asked for last.
+    next: u64,
+    ghost within: { count ≤ length buffer },
+    ghost held: { StandsAt (F.content file.now) offset (take count buffer) }
+        by { Prim.hlevel props },
+}
+
+impl<'a, F: ReadAt> Ahead<'a, F> {
+    /// Nothing is read yet.
+    pub(crate) fn new(file: &'a F) -> Ahead<'a, F>
+        ensures { result.file.now ≡ file.now }
+    {
+        Ahead {
+            file,
+            buffer: [0; AHEAD],
+            offset: 0,
+            count: 0,
+            next: 0,
+        }
+    }
+
+    // Gives bytes of the buffer, where all of them stand there.
+    fn give(&self, offset: u64, buf: &mut [u8]) -> bool
+        ensures bytes { result ≡ true
+            → StandsAt (F.content self.now.file.now) offset buf.new }
+        ensures len { length buf.new ≡ length buf.old }
+    {
+        let Some(before) = offset.checked_sub(self.offset) else {
+            return false;
+        };
+        if before > self.count as u64 || buf.len() > self.count - before as usize {
+            return false;
+        }
+        let at = before as usize;
+        buf.copy_from_slice(&self.buffer[at..at + buf.len()]);
+        true
+    }
+
+    // Reads the bytes from an offset on, as many as come.
+    fn load(&mut self, offset: u64) -> Result<(), Failed>
+        ensures file { self.new.file.now ≡ self.old.file.now }
+        ensures unsound { OnErr result (F.reliable self.old.file.now ≡ false) }
+    {
+        match self.file.read_at(offset, &mut self.buffer) {
+            Ok(count) => {
+                self.offset = offset;
+                self.count = count;
+                Ok(())
+            }
+            Err(_) => {
+                self.count = 0;
+                Err(Failed)
+            }
+        }
+    }
+
+    /// Fills `buf` with the bytes from an offset on, as `fill_at` does.
+    pub(crate) fn fill(&mut self, offset: u64, buf: &mut [u8]) -> Result<usize, Failed>
+        ensures file { self.new.file.now ≡ self.old.file.now }
+        ensures bound { IfOk result (λ n. n ≤ length buf.old) }
+        ensures len { length buf.new ≡ length buf.old }
+        ensures bytes { IfOk result (λ n.
+            StandsAt (F.content self.old.file.now) offset (take n buf.new)) }
+        ensures end { IfOk result (λ n. n < length buf.old
+            → EndsBy (F.content self.old.file.now) (offset + n)) }
+        ensures unsound { OnErr result (F.reliable self.old.file.now ≡ false) }
+    {
+        let follows = offset.checked_sub(self.next) == Some(LENGTH_SIZE);
+        self.next = offset.saturating_add(buf.len() as u64);
+        if self.give(offset, buf) {
+            return Ok(buf.len());
+        }
+        if follows {
+            self.load(offset)?;
+            if self.give(offset, buf) {
+                return Ok(buf.len());
+            }
+        }
+        fill_at(self.file, offset, buf)
+    }
+}
