@@ -1,8 +1,10 @@
 //! The datagrams of a session's bytes, as views of them.
 ghost use Rattle.std.specs.Prelude.{◌≡◌, ◌≤◌, ◌++◌, false, Some, map, length, IfOk, IfErr};
-ghost use Rattle.session.specs.Frames.{frame, most_bytes, IsNoFrame, IsFramed, IsSessionFault};
+ghost use Rattle.session.specs.Frames.{frame, most_bytes, IsNoFrame, IsFramed, AreDatagrams};
+ghost use Rattle.session.specs.Frames.{IsSessionFault};
 
 use byteorder::{BigEndian, ByteOrder};
+use lists::are_bytes;
 use session::{FrameFault, MOST_BYTES};
 use std::alloc::Global;
 
@@ -40,12 +42,14 @@ fn cut(bytes: &[u8]) -> Result<Front<'_>, FrameFault>
 /// tell what follows whole frames, `NoMemory` that there is none for the list.
 pub(crate) fn datagrams_of(alloc: Global, bytes: &[u8]) -> Result<Vec<&[u8]>, FrameFault>
     ensures framed { IfOk result (λ views. IsFramed (map (λ v. v.now) views.items) bytes.now) }
+    ensures each { IfOk result (λ views. AreDatagrams (map (λ v. v.now) views.items)) }
     ensures fault { IfErr result (λ e. IsSessionFault e (Some bytes.now) false) }
 {
     let mut datagrams = Vec::new(alloc);
     let mut left = bytes;
     while !left.is_empty() {
         let front = cut(left)?;
+        are_bytes(front.datagram);
         let Ok(()) = datagrams.push(front.datagram) else {
             return Err(FrameFault::NoMemory);
         };

@@ -1,12 +1,11 @@
 //! What C passes.
 ghost use Rattle.std.specs.Prelude.{◌≡◌, false, Some, IfOk, IfErr};
-ghost use Rattle.session.specs.Frames.{IsFramed, IsSessionFault};
 ghost use Rattle.cert.specs.Certificate.{IsCertificate, certificate_text, IsCertFault};
 ghost use Rattle.alcrs_c.specs.Asked.{identity_of};
 
 use cert::{CertFault, Certificate};
 use reception::Identity;
-use session::{FrameFault, Pieces, Session};
+use session::Pieces;
 use std::alloc::Global;
 
 /// The identity of a TSI and of the two halves of a TOI.
@@ -17,14 +16,6 @@ pub(crate) fn identity(tsi: u64, toi_high: u64, toi_low: u64) -> Identity
         tsi,
         toi: u128::from(toi_high) * (1 << 64) + u128::from(toi_low),
     }
-}
-
-/// A copy of the datagrams whose frames the bytes are.
-pub(crate) fn read_session(alloc: Global, bytes: &[u8]) -> Result<Session, FrameFault>
-    ensures ok { IfOk result (λ s. IsFramed s bytes.now) }
-    ensures fault { IfErr result (λ e. IsSessionFault e (Some bytes.now) false) }
-{
-    Session::read(alloc, &mut Pieces::new(bytes, usize::MAX))
 }
 
 /// The certificate whose text the bytes are.

@@ -1,9 +1,11 @@
 //! The twin.
 ghost use Rattle.std.specs.Prelude.{◌≡◌, ◌≢◌, ◌<◌, ◌++◌, ◌∷◌, [], ℕ, List, Some, None, IfOk, IfErr};
-ghost use Rattle.std.specs.Prelude.{drop, length};
-ghost use Rattle.session.specs.Frames.{StopsAt};
+ghost use Rattle.std.specs.Prelude.{drop, length, map};
+ghost use Rattle.session.specs.Frames.{AreDatagrams, StopsAt};
 ghost use Rattle.session.specs.declared.frame.FrameFault.{FrameFault as FrameFaultValue};
 ghost use Rattle.cert.specs.Certificate.{text_fault};
+ghost use Rattle.cert.specs.Feeding.{IsFed};
+ghost use Rattle.cert.specs.Verdict.{IsVerdict};
 ghost use Rattle.cert.specs.declared.certificate.CertFault.{CertFault as CertFaultValue};
 ghost use Rattle.cert.specs.declared.verdict.Report.{Report as ReportValue};
 ghost use Rattle.cert.specs.declared.verdict.Reason.{Reason as ReasonValue};
@@ -14,13 +16,17 @@ ghost use Rattle.alcrs_c.specs.Statuses.{ok, no, no_session, no_certificate, no_
 ghost use Rattle.alcrs_c.specs.Statuses.{none_short, IsOneOf};
 ghost use Rattle.alcrs_c.specs.Told.{told_reason, told_frame, told_certificate};
 
-use crate::input::{identity, read_certificate, read_session};
+use crate::frames::datagrams_of;
+use crate::input::identity;
 use crate::status;
 use crate::told::{AlcrsFault, certificate_fault, frame_fault, put_bytes, reason_fault};
-use cert::{CertFault, Certificate, Reason, Verdict, check, session_twin};
+use cert::{
+    CertFault, CertificateView, CheckFault, Checker, NoReport, Reason, Verdict,
+};
 use reception::Identity;
-use session::{FrameFault, Session};
+use session::FrameFault;
 use std::alloc::Global;
+use std::borrow::CowSlice;
 
 /// A twin, and the block that is short.
 struct Twin {
@@ -58,19 +64,52 @@ fn short_block(reason: Reason) -> Option<(u32, usize, usize)>
     }
 }
 
+// A check that was fed the datagrams.
+fn fed<'a>(
+    alloc: Global,
+    datagrams: &[&[u8]],
+    object: &'a [u8],
+    certificate: CertificateView<'a>,
+    identity: Identity,
+) -> Result<Checker<'a>, NoReport>
+    requires { AreDatagrams (map (λ d. d.now) datagrams.now) }
+    ensures fed { IfOk result (λ checker. IsFed checker identity object.now certificate.entry
+        (map (λ d. d.now) datagrams.now)) }
+    ensures no { IfErr result (λ e. (r : ReasonValue) → e ≡ NoReport.Reason r
+        → IsVerdict identity (map (λ d. d.now) datagrams.now) object.now certificate.entry
+        (Verdict.No r) × (short_of r ≡ None)) }
+{
+    let mut checker = Checker::new(alloc, CowSlice::Borrowed(object), certificate, identity)?;
+    for datagram in datagrams {
+        match checker.feed(datagram) {
+            Ok(_) => {}
+            Err(CheckFault::NoMemory) => return Err(NoReport::NoMemory),
+            Err(CheckFault::Frame(_)) => unreachable!(),
+        }
+    }
+    Ok(checker)
+}
+
 // The twin that the verdict on the datagrams asks for.
 fn twin_in(
     alloc: Global,
-    session: &Session,
+    datagrams: &[&[u8]],
     object: &[u8],
-    certificate: &Certificate,
+    certificate: CertificateView<'_>,
     identity: Identity,
 ) -> Result<Twin, Untwinned>
-    ensures twin { IfOk result (λ t. IsTwinIn identity session.now object.now certificate.now
-        (t.block, t.have, t.need) t.bytes.items) }
-    ensures none { IfErr result (IsNoTwin identity session.now object.now certificate.now) }
+    requires { AreDatagrams (map (λ d. d.now) datagrams.now) }
+    ensures twin { IfOk result (λ t. IsTwinIn identity (map (λ d. d.now) datagrams.now)
+        object.now certificate.entry (t.block, t.have, t.need) t.bytes.items) }
+    ensures none { IfErr result (IsNoTwin identity (map (λ d. d.now) datagrams.now)
+        object.now certificate.entry) }
 {
-    let reason = match check(alloc, session, object, certificate, identity) {
+    let checker = match fed(alloc, datagrams, object, certificate, identity) {
+        Ok(checker) => checker,
+        Err(NoReport::Reason(reason)) => return Err(Untwinned::No(reason)),
+        Err(NoReport::NoMemory) => return Err(Untwinned::NoMemory),
+    };
+    let reason = match checker.verdict(alloc) {
         Ok(Verdict::Yes(_)) => return Err(Untwinned::NoneShort),
         Ok(Verdict::No(reason)) => reason,
         Err(_) => return Err(Untwinned::NoMemory),
@@ -78,7 +117,7 @@ fn twin_in(
     let Some((block, have, need)) = short_block(reason) else {
         return Err(Untwinned::No(reason));
     };
-    match session_twin(alloc, session, object, certificate, block, identity) {
+    match checker.twin(alloc, block) {
         Ok(bytes) => Ok(Twin {
             block,
             have,
@@ -101,17 +140,17 @@ fn twin_of(
     ensures none { IfErr result
         (IsUntwinned identity session.now object.now certificate.now) }
 {
-    let session = match read_session(alloc, session) {
-        Ok(session) => session,
+    let datagrams = match datagrams_of(alloc, session) {
+        Ok(datagrams) => datagrams,
         Err(FrameFault::NoMemory) => return Err(Untwinned::NoMemory),
         Err(fault) => return Err(Untwinned::Session(fault)),
     };
-    let certificate = match read_certificate(alloc, certificate) {
+    let certificate = match CertificateView::from_text(alloc, certificate) {
         Ok(certificate) => certificate,
         Err(CertFault::NoMemory) => return Err(Untwinned::NoMemory),
         Err(fault) => return Err(Untwinned::Certificate(fault)),
     };
-    twin_in(alloc, &session, object, &certificate, identity)
+    twin_in(alloc, &datagrams, object, certificate, identity)
 }
 
 /// Makes a twin of an object where a session has too few symbols of a block: another object of the

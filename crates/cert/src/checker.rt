@@ -5,6 +5,7 @@ ghost use Rattle.session.specs.Frames.{most_bytes};
 ghost use Rattle.reception.specs.Headline.{DecodesWhereEnough, TwinWhereShort, TellsElse};
 ghost use Rattle.reception.specs.declared.scope.Identity.{Identity as IdentityValue};
 ghost use Rattle.cert.specs.Certificate.{Certificate as CertificateValue};
+ghost use Rattle.cert.specs.DatagramWalk.{IsNotBegun};
 ghost use Rattle.cert.specs.Feeding.{IsFed, WasFed, IsFedShort, IsNoToAll, IsReasonSoFar};
 ghost use Rattle.cert.specs.Feeding.{IsUnfed};
 ghost use Rattle.cert.specs.Twins.{IsShortIn, IsTwinOfSession};
@@ -42,6 +43,8 @@ impl<'a> Checker<'a> {
     ) -> Result<Checker<'a>, NoReport>
         ensures fed { IfOk result (λ checker.
             IsFed checker identity (cow_slice_items object.entry) certificate.entry []) }
+        ensures against { IfErr result
+            (IsNotBegun identity (cow_slice_items object.entry) certificate.entry) }
         ensures no { IfErr result (λ e. (r : ReasonValue) → e ≡ NoReport.Reason r
             → IsNoToAll identity [] (cow_slice_items object.entry) certificate.entry r) }
     {
