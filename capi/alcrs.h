@@ -2,10 +2,10 @@
  * them.
  *
  * Each call is a function of its arguments alone. There is no global state and nothing to set up or
- * tear down. Calls may run at the same time in several threads, as long as no two share an output
- * or a receiver. A call takes memory from malloc and frees it before it returns; only an open
- * receiver has memory between calls. No call keeps a pointer that it was passed, and none ends the
- * process.
+ * tear down. Calls may run at the same time in several threads, as long as no two share an output,
+ * a receiver or a checker. A call takes memory from malloc and frees it before it returns; only an
+ * open receiver or checker has memory between calls. No call keeps a pointer that it was passed,
+ * and none ends the process.
  *
  * What a caller has to see to:
  * - no pointer is NULL, not even one to no bytes;
@@ -48,8 +48,8 @@ enum alcrs_status {
     ALCRS_NO_MEMORY = 10,      /* malloc or realloc has refused; nothing is said of the inputs */
     ALCRS_OUT_OF_RANGE = 11,   /* a number is out of its range, as the call tells */
     ALCRS_NONE_SHORT = 12,     /* the check says yes, so that there is no twin */
-    ALCRS_IS_OPEN = 13,        /* the receiver is open already */
-    ALCRS_NOT_OPEN = 14,       /* the receiver isn't open */
+    ALCRS_IS_OPEN = 13,        /* the receiver or checker is open already */
+    ALCRS_NOT_OPEN = 14,       /* the receiver or checker isn't open */
     ALCRS_MORE = 15,           /* the datagram was accepted, and more are needed */
     ALCRS_EARLY = 16,          /* the datagram is refused: it has no FTI, and came before one */
     ALCRS_FULL = 17            /* refused: as many were accepted as can be counted */
@@ -110,8 +110,8 @@ struct alcrs_report {
 uint32_t alcrs_version(void);
 
 /* Checks the identity's packets in a session, with the object and its certificate. The session is
- * read from the front, one datagram at a time, and not behind the first reason for a no. A copy of
- * the certificate is held, and symbols.
+ * read from the front, one datagram at a time, and not behind the first reason for a no. Symbols
+ * are held, and of a certificate without a name (RSC1) a copy.
  *
  * ALCRS_OK              yes. *report has the numbers. blocks and kill begin with as many blocks and
  *                       places as they have room for; both rooms may be 0.
@@ -251,6 +251,62 @@ enum alcrs_status alcrs_receiver_object(struct alcrs_receiver *receiver, struct 
 
 /* Closes a receiver, and frees its memory. One that isn't open stays so. It may be opened again. */
 void alcrs_receiver_close(struct alcrs_receiver *receiver);
+
+/* A check of an object's datagrams that come one at a time. Its verdict is that of alcrs_check on a
+ * session of the datagrams that it was fed with, in the order in which they came. It keeps copies
+ * of the object and of the certificate, and symbols, but no datagram.
+ *
+ * Set it to zero before anything else, as by struct alcrs_checker checker = {0}, and leave its
+ * members to the calls below. It may be moved to another place, but of two copies only one may be
+ * used. It stays on the thread that opened it. Close it in the end, or its memory is lost. */
+struct alcrs_checker {
+    void *place;
+    bool is_open;
+};
+
+/* Opens a checker for the packets of a TSI and TOI, with the object and its certificate. The
+ * caller's bytes of both may be freed then.
+ *
+ * ALCRS_OK              it is open, and no datagram was fed
+ * ALCRS_NO              the verdict is no, whatever datagrams come. *fault is the reason: N1, N2 or
+ *                       N12.
+ * ALCRS_NO_CERTIFICATE  *fault. This is told before anything of the object.
+ * ALCRS_NO_MEMORY
+ * ALCRS_IS_OPEN
+ * At all but the first the checker is as it was. */
+enum alcrs_status alcrs_checker_open(struct alcrs_checker *checker, const uint8_t *object,
+                                     size_t object_size, const uint8_t *certificate,
+                                     size_t certificate_size, uint64_t tsi, uint64_t toi_high,
+                                     uint64_t toi_low, struct alcrs_fault *fault);
+
+/* Passes one datagram on. Packets of other identities are taken, and passed over.
+ *
+ * ALCRS_OK          it was taken, and no datagram so far has a reason against it
+ * ALCRS_NO          a datagram has a reason against it. *fault is the first such reason: N4, N6,
+ *                   N7, N8 or N10. Its place is that among the datagrams that were fed. It is the
+ *                   verdict, whatever follows: from then on each feed and verdict returns it.
+ * ALCRS_NO_SESSION  it has more than 65,507 bytes, so no session has it: *fault is S3. It isn't
+ *                   counted, and the checker is as it was.
+ * ALCRS_NO_MEMORY   the check is over: from then on each feed and verdict returns this. Close the
+ *                   checker, and begin again.
+ * ALCRS_NOT_OPEN */
+enum alcrs_status alcrs_checker_feed(struct alcrs_checker *checker, const uint8_t *datagram,
+                                     size_t datagram_size, struct alcrs_fault *fault);
+
+/* Tells the verdict on the datagrams that were fed so far. The checker may be fed further, and
+ * asked again.
+ *
+ * ALCRS_OK         yes. *report, blocks and kill are written as by alcrs_check.
+ * ALCRS_NO         no. *fault is the first reason: that of the feed that returned ALCRS_NO, or N3,
+ *                  N9 or N11.
+ * ALCRS_NO_MEMORY  where the check isn't over, the verdict may be asked for again
+ * ALCRS_NOT_OPEN */
+enum alcrs_status alcrs_checker_verdict(struct alcrs_checker *checker, struct alcrs_fault *fault,
+                                        struct alcrs_report *report, struct alcrs_block *blocks,
+                                        size_t block_room, size_t *kill, size_t kill_room);
+
+/* Closes a checker, and frees its memory. One that isn't open stays so. It may be opened again. */
+void alcrs_checker_close(struct alcrs_checker *checker);
 
 #ifdef __cplusplus
 }
