@@ -7,7 +7,7 @@
 /* The sizes that docs/EMBEDDING.md tells. */
 _Static_assert(sizeof(struct alcrs_fault) == 56 && sizeof(struct alcrs_block) == 16 &&
                    sizeof(struct alcrs_report) == 40 && sizeof(struct alcrs_receiver) == 16 &&
-                   sizeof(enum alcrs_status) == 4,
+                   sizeof(struct alcrs_checker) == 16 && sizeof(enum alcrs_status) == 4,
                "the layouts that the library was built with");
 
 static int wrong;
@@ -279,6 +279,114 @@ int main(int count, char **words) {
     EXPECT(alcrs_receiver_open(&moved, tsi, 0, toi) == ALCRS_OK);
     alcrs_receiver_close(&moved);
     alcrs_receiver_close(&other);
+
+#define FED(checker, at) alcrs_checker_feed(&checker, session + (at)*frame + 2, frame - 2, &fault)
+#define VERDICT(checker, room, kill_room)                                                          \
+    alcrs_checker_verdict(&checker, &fault, &report, blocks, room, kill, kill_room)
+#define OPENED(checker, o, z, tsi)                                                                 \
+    alcrs_checker_open(&checker, object, o, certificate, z, tsi, 0, toi, &fault)
+    struct alcrs_checker checker = {0}, twice = {0};
+    CLEAR();
+    EXPECT(FED(checker, 0) == ALCRS_NOT_OPEN && same_fault());
+    EXPECT(VERDICT(checker, 2, 2) == ALCRS_NOT_OPEN && same_fault() && same_report());
+    alcrs_checker_close(&checker);
+
+    /* What is no, or no certificate, before any datagram comes isn't opened. */
+    EXPECT(OPENED(checker, o - 1, z, tsi) == ALCRS_NO && is_fault(1, 0, 0, 0, 0, 0, 0));
+    EXPECT(OPENED(checker, o - 1, z, tsi + 1) == ALCRS_NO && is_fault(12, 0, 0, 0, 0, 0, 0));
+    EXPECT(OPENED(checker, o - 1, z - 1, tsi + 1) == ALCRS_NO_CERTIFICATE &&
+           is_fault(3, 0, 0, 0, 0, 0, 0));
+    EXPECT(OPENED(checker, o, 3, tsi) == ALCRS_NO_CERTIFICATE && is_fault(1, 0, 0, 0, 0, 0, 0));
+    memcpy(buffer, object, o);
+    buffer[9] ^= 1;
+    EXPECT(alcrs_checker_open(&checker, buffer, o, certificate, z, tsi, 0, toi, &fault) ==
+               ALCRS_NO &&
+           fault.number == 2 && fault.column == 1 && fault.symbol == 1 && !fault.block);
+    CLEAR();
+    EXPECT(!checker.place && !checker.is_open && FED(checker, 0) == ALCRS_NOT_OPEN);
+    EXPECT(VERDICT(checker, 2, 2) == ALCRS_NOT_OPEN && same_fault() && same_report());
+
+    /* The object and the certificate may be freed when it is open. */
+    uint8_t *copies = room(o + z);
+    memcpy(copies, object, o);
+    memcpy(copies + o, certificate, z);
+    EXPECT(alcrs_checker_open(&checker, copies, o, copies + o, z, tsi, 0, toi, &fault) ==
+               ALCRS_OK &&
+           same_fault());
+    memset(copies, 0, o + z);
+    free(copies);
+    EXPECT(OPENED(checker, o, z - 1, tsi) == ALCRS_IS_OPEN && same_fault());
+    EXPECT(OPENED(twice, o, z, tsi) == ALCRS_OK && same_fault());
+    EXPECT(VERDICT(checker, 2, 2) == ALCRS_NO && is_fault(3, 0, 0, 0, 0, 0, 0) && same_report());
+    CLEAR();
+    for (size_t i = 0; i < 3; i++) EXPECT(FED(checker, i) == ALCRS_OK && same_fault());
+    EXPECT(VERDICT(checker, 2, 2) == ALCRS_NO && is_fault(9, 0, 0, 0, 0, 3, 4) && same_report());
+
+    /* A datagram that no session has isn't counted. */
+    uint8_t *long_one = room(65508);
+    memset(long_one, 0, 65508);
+    EXPECT(alcrs_checker_feed(&checker, long_one, 65508, &fault) == ALCRS_NO_SESSION &&
+           is_fault(3, 0, 0, 0, 0, 0, 0));
+    EXPECT(VERDICT(checker, 2, 2) == ALCRS_NO && is_fault(9, 0, 0, 0, 0, 3, 4) && same_report());
+    EXPECT(alcrs_checker_feed(&twice, long_one, 65507, &fault) == ALCRS_NO &&
+           is_fault(4, 2, 0, 0, 0, 0, 0));
+    alcrs_checker_close(&twice);
+
+    /* A checker may be moved. */
+    CLEAR();
+    struct alcrs_checker fed = checker;
+    EXPECT(FED(fed, 3) == ALCRS_OK && VERDICT(fed, 2, 2) == ALCRS_OK && same_fault());
+    EXPECT(report.block_count == 1 && report.carriers == 4 && !report.margin && !report.burst);
+    EXPECT(report.kill_count == 1 && kill[0] == 0 && kill[1] == kill_before[1]);
+    EXPECT(blocks[0].need == 4 && blocks[0].have == 4 &&
+           !memcmp(blocks + 1, blocks_before + 1, sizeof *blocks));
+
+    /* At the end it says what the check of the session says, however much room there is. */
+    EXPECT(FED(fed, 4) == ALCRS_OK && FED(fed, 5) == ALCRS_OK);
+    CLEAR();
+    EXPECT(CHECKED(session, s, o, z, tsi, blocks, 2) == ALCRS_OK);
+    report_before = report;
+    memcpy(blocks_before, blocks, sizeof blocks);
+    memcpy(kill_before, kill, sizeof kill);
+    memset(&report, 0xEE, sizeof report);
+    memset(blocks, 0xEE, sizeof blocks);
+    memset(kill, 0xEE, sizeof kill);
+    EXPECT(VERDICT(fed, 2, 2) == ALCRS_OK && same_report() && same_fault());
+    clear();
+    EXPECT(VERDICT(fed, 0, 0) == ALCRS_OK && report.margin == 2 && same_fault());
+    report = report_before;
+    EXPECT(same_report());
+
+    /* The first reason against a datagram stays. */
+    CLEAR();
+    memcpy(buffer, session, frame);
+    buffer[frame - 1] ^= 1;
+    EXPECT(alcrs_checker_feed(&fed, buffer + 2, frame - 2, &fault) == ALCRS_NO &&
+           fault.number == 8 && fault.place == 6 && fault.column == 7);
+    fault_before = fault;
+    memset(&fault, 0xEE, sizeof fault);
+    EXPECT(FED(fed, 0) == ALCRS_NO && same_fault());
+    memset(&fault, 0xEE, sizeof fault);
+    EXPECT(alcrs_checker_feed(&fed, long_one, 3, &fault) == ALCRS_NO && same_fault());
+    memset(&fault, 0xEE, sizeof fault);
+    EXPECT(alcrs_checker_feed(&fed, long_one, 65508, &fault) == ALCRS_NO && same_fault());
+    memset(&fault, 0xEE, sizeof fault);
+    EXPECT(VERDICT(fed, 2, 2) == ALCRS_NO && same_fault() && same_report());
+    alcrs_checker_close(&fed);
+    alcrs_checker_close(&fed);
+    CLEAR();
+    EXPECT(FED(fed, 0) == ALCRS_NOT_OPEN && VERDICT(fed, 2, 2) == ALCRS_NOT_OPEN && same_fault());
+
+    /* A closed one may be opened again. Packets of others are counted, and passed over. */
+    EXPECT(OPENED(fed, o, z, tsi) == ALCRS_OK);
+    memcpy(buffer, session, frame);
+    buffer[2 + 15] ^= 1;
+    EXPECT(alcrs_checker_feed(&fed, buffer + 2, frame - 2, &fault) == ALCRS_OK && same_fault());
+    EXPECT(VERDICT(fed, 2, 2) == ALCRS_NO && is_fault(3, 0, 0, 0, 0, 0, 0) && same_report());
+    EXPECT(alcrs_checker_feed(&fed, session, 0, &fault) == ALCRS_NO &&
+           is_fault(4, 1, 0, 0, 1, 0, 0));
+    alcrs_checker_close(&fed);
+    free(long_one);
 
     free_files(&files);
     free(buffer);

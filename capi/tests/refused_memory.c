@@ -114,6 +114,73 @@ static int is_untouched(void) {
     return !memcmp(&outputs, &untouched, sizeof outputs);
 }
 
+static enum alcrs_status open_checker(struct alcrs_checker *checker) {
+    return alcrs_checker_open(checker, files.object.at, files.object.size, files.certificate.at,
+                              files.certificate.size, files.tsi, 0, files.toi, &outputs.fault);
+}
+
+/* Feeds a checker with the session. */
+static enum alcrs_status feed_all(struct alcrs_checker *checker) {
+    const uint8_t *session = files.session.at;
+    enum alcrs_status status = ALCRS_OK;
+    for (size_t at = 0, length; status == ALCRS_OK && at < files.session.size; at += 2 + length) {
+        length = (size_t)session[at] << 8 | session[at + 1];
+        status = alcrs_checker_feed(checker, session + at + 2, length, &outputs.fault);
+    }
+    return status;
+}
+
+static enum alcrs_status verdict(struct alcrs_checker *checker) {
+    return alcrs_checker_verdict(checker, &outputs.fault, &outputs.report, outputs.blocks, 4,
+                                 outputs.kill, 8);
+}
+
+/* Has a checker say yes as the check does. Where a feed is refused memory the check is over, and is
+ * begun again. A verdict that is refused it is asked for once more. */
+static int checks(void) {
+    struct alcrs_checker checker = {0};
+    int again = 0, right = 1;
+    memset(&outputs, 0xEE, sizeof outputs);
+    memset(buffer, 0xEE, buffer_size);
+    enum alcrs_status status = open_checker(&checker);
+    /* what each later call says, once memory was refused */
+    enum alcrs_status later = status == ALCRS_OK ? ALCRS_NO_MEMORY : ALCRS_NOT_OPEN;
+    if (status == ALCRS_OK) status = feed_all(&checker);
+    if (status == ALCRS_NO_MEMORY) {
+        again++;
+        right = alcrs_checker_feed(&checker, files.session.at, 3, &outputs.fault) == later &&
+                verdict(&checker) == later && is_untouched();
+        alcrs_checker_close(&checker);
+        status = open_checker(&checker);
+        if (status == ALCRS_OK) status = feed_all(&checker);
+    }
+    right = right && status == ALCRS_OK;
+    while ((status = verdict(&checker)) == ALCRS_NO_MEMORY && !again++)
+        right = right && is_untouched();
+    alcrs_checker_close(&checker);
+    struct outputs told = outputs;
+    memset(&outputs, 0xEE, sizeof outputs);
+    left = -1;
+    return right && status == ALCRS_OK && again <= refused && call(CHECK) == ALCRS_OK &&
+           !memcmp(&told, &outputs, sizeof told);
+}
+
+/* Runs it with each of its allocations refused in turn, and returns how often. */
+static int try_all(const char *name, int (*goes_right)(void), int *wrong) {
+    int runs = 0;
+    for (long at = 0;; at++, runs++) {
+        refused = 0;
+        left = at;
+        int right = goes_right();
+        left = -1;
+        if (!right) {
+            printf("%s, allocation %ld: wrong\n", name, at);
+            ++*wrong;
+        }
+        if (!refused) return runs;
+    }
+}
+
 int main(int count, char **words) {
     files = read_files(count, words);
     buffer_size = 4 * files.object.size + 100000;
@@ -135,17 +202,7 @@ int main(int count, char **words) {
             if (!refused) break;
         }
     }
-    for (long at = 0;; at++, runs++) {
-        refused = 0;
-        left = at;
-        int right = receives();
-        left = -1;
-        if (!right) {
-            printf("receiver, allocation %ld: wrong\n", at);
-            wrong++;
-        }
-        if (!refused) break;
-    }
+    runs += try_all("receiver", receives, &wrong) + try_all("checker", checks, &wrong);
     printf("refused memory: %d runs, %d wrong\n", runs, wrong);
     free_files(&files);
     free(buffer);

@@ -1,5 +1,5 @@
-/* Four threads check, decode and receive the same bytes at once, each with outputs and a receiver
- * of its own. */
+/* Four threads check, decode and receive the same bytes at once, each with outputs, a receiver and
+ * a checker of its own. */
 #include "files.h"
 #include <alcrs.h>
 #include <pthread.h>
@@ -40,6 +40,19 @@ static void *work(void *wrong) {
         memcmp(out, files.object.at, files.object.size))
         ++*(int *)wrong;
     alcrs_receiver_close(&receiver);
+    struct alcrs_checker checker = {0};
+    struct alcrs_report report = {0};
+    struct alcrs_block blocks[4] = {{0, 0}};
+    size_t kill[8] = {0};
+    status = alcrs_checker_open(&checker, files.object.at, files.object.size, files.certificate.at,
+                                files.certificate.size, files.tsi, 0, files.toi, &fault);
+    for (size_t at = 0, length; !status && at < files.session.size; at += 2 + length) {
+        length = (size_t)files.session.at[at] << 8 | files.session.at[at + 1];
+        status = alcrs_checker_feed(&checker, files.session.at + at + 2, length, &fault);
+    }
+    if (status || alcrs_checker_verdict(&checker, &fault, &report, blocks, 4, kill, 8))
+        ++*(int *)wrong;
+    alcrs_checker_close(&checker);
     free(out);
     return 0;
 }
