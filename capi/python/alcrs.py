@@ -16,11 +16,11 @@ from ctypes import POINTER, byref, c_bool, c_char_p, c_size_t, c_void_p
 from ctypes import c_uint8, c_uint16, c_uint32, c_uint64
 from dataclasses import dataclass
 from enum import IntEnum
-from typing import Callable, List, Tuple, Union
+from typing import Callable, List, Optional, Tuple, Union
 
 __all__ = [
-    "AlcrsError", "Early", "Empty", "Missing", "No", "NoCertificate", "NoneShort", "NoSession",
-    "Receiver", "Refused", "Report", "Status",
+    "AlcrsError", "Checker", "Early", "Empty", "Missing", "No", "NoCertificate", "NoneShort",
+    "NoSession", "Receiver", "Refused", "Report", "Status",
     "certify", "check", "decode", "encode", "object_length", "twin", "version",
 ]
 
@@ -64,7 +64,9 @@ class _Report(ctypes.Structure):
     ]
 
 
-class _Receiver(ctypes.Structure):
+class _Handle(ctypes.Structure):
+    """A receiver or a checker."""
+
     _fields_ = [("place", c_void_p), ("is_open", c_bool)]
 
 
@@ -111,7 +113,7 @@ _OTHERS = {
     Status.NO_MEMORY: "NoMemory",
     Status.OUT_OF_RANGE: "a number is out of its range",
     Status.NONE_SHORT: "no twin",
-    Status.NOT_OPEN: "the receiver is closed",
+    Status.NOT_OPEN: "the receiver or checker is closed",
     Status.EARLY: "G2 Early",
     Status.FULL: "G1 Full",
 }
@@ -221,22 +223,28 @@ _INPUT = (c_char_p, c_size_t)
 _NAME = (c_uint64, c_uint64, c_uint64)
 _NUMBERS = (c_uint16, c_uint8, c_uint8)
 _OUTPUT = (POINTER(_Fault), POINTER(c_uint8), c_size_t, POINTER(c_size_t))
+_VERDICT = (
+    POINTER(_Fault), POINTER(_Report), POINTER(_Block), c_size_t, POINTER(c_size_t), c_size_t,
+)
 for _call, _arguments in {
     "version": (),
-    "check": (*_INPUT, *_INPUT, *_INPUT, *_NAME, POINTER(_Fault), POINTER(_Report),
-              POINTER(_Block), c_size_t, POINTER(c_size_t), c_size_t),
+    "check": (*_INPUT, *_INPUT, *_INPUT, *_NAME, *_VERDICT),
     "object_length": (*_INPUT, *_NAME, POINTER(_Fault), POINTER(c_uint64)),
     "decode": (*_INPUT, *_NAME, *_OUTPUT),
     "encode": (*_INPUT, c_uint32, c_uint32, *_NUMBERS, c_uint32, c_bool, *_OUTPUT),
     "certify": (*_INPUT, *_NAME, *_NUMBERS, *_OUTPUT),
     "twin": (*_INPUT, *_INPUT, *_INPUT, *_NAME, *_OUTPUT),
-    "receiver_open": (POINTER(_Receiver), *_NAME),
-    "receiver_feed": (POINTER(_Receiver), *_INPUT, POINTER(_Fault)),
-    "receiver_object": (POINTER(_Receiver), *_OUTPUT),
-    "receiver_close": (POINTER(_Receiver),),
+    "receiver_open": (POINTER(_Handle), *_NAME),
+    "receiver_feed": (POINTER(_Handle), *_INPUT, POINTER(_Fault)),
+    "receiver_object": (POINTER(_Handle), *_OUTPUT),
+    "receiver_close": (POINTER(_Handle),),
+    "checker_open": (POINTER(_Handle), *_INPUT, *_INPUT, *_NAME, POINTER(_Fault)),
+    "checker_feed": (POINTER(_Handle), *_INPUT, POINTER(_Fault)),
+    "checker_verdict": (POINTER(_Handle), *_VERDICT),
+    "checker_close": (POINTER(_Handle),),
 }.items():
     getattr(_library, f"alcrs_{_call}").argtypes = _arguments
-    getattr(_library, f"alcrs_{_call}").restype = None if _call == "receiver_close" else c_uint32
+    getattr(_library, f"alcrs_{_call}").restype = None if _call.endswith("_close") else c_uint32
 
 
 def version() -> int:
@@ -275,6 +283,35 @@ def _put(call: Callable[..., int], room: int) -> bytes:
     return bytes(memoryview(out)[: size.value])
 
 
+def _no(fault: _Fault) -> No:
+    return No(
+        **{name: getattr(fault, name) for name, _ in _Fault._fields_},
+        words=_words(Status.NO, fault),
+    )
+
+
+def _verdict(call: Callable[..., int]) -> Union[Report, No]:
+    """Calls with room for some blocks and places, and once more where there are more."""
+    fault, report = _Fault(), _Report()
+    block_room, kill_room = 256, 256
+    while True:
+        blocks, kill = (_Block * block_room)(), (c_size_t * kill_room)()
+        status = call(byref(fault), byref(report), blocks, block_room, kill, kill_room)
+        if status != Status.OK or (
+            report.block_count <= block_room and report.kill_count <= kill_room
+        ):
+            break
+        block_room = max(block_room, report.block_count)
+        kill_room = max(kill_room, report.kill_count)
+    if status == Status.NO:
+        return _no(fault)
+    if status != Status.OK:
+        raise _error(status, fault)
+    have = [(it.need, it.have) for it in blocks[: report.block_count]]
+    killed = list(kill[: report.kill_count])
+    return Report(have, report.carriers, report.margin, killed, report.burst)
+
+
 def check(
     session: bytes, an_object: bytes, certificate: bytes, tsi: int, toi: int
 ) -> Union[Report, No]:
@@ -283,30 +320,13 @@ def check(
 
     Raises NoSession, NoCertificate or MemoryError.
     """
-    fault, report = _Fault(), _Report()
-    block_room, kill_room = 256, 256
-    while True:
-        blocks, kill = (_Block * block_room)(), (c_size_t * kill_room)()
-        status = _library.alcrs_check(
+    name = _name(tsi, toi)
+    return _verdict(
+        lambda *out: _library.alcrs_check(
             session, len(session), an_object, len(an_object), certificate, len(certificate),
-            *_name(tsi, toi), byref(fault), byref(report), blocks, block_room, kill, kill_room,
+            *name, *out,
         )
-        if status != Status.OK or (
-            report.block_count <= block_room and report.kill_count <= kill_room
-        ):
-            break
-        block_room = max(block_room, report.block_count)
-        kill_room = max(kill_room, report.kill_count)
-    if status == Status.NO:
-        return No(
-            **{name: getattr(fault, name) for name, _ in _Fault._fields_},
-            words=_words(Status.NO, fault),
-        )
-    if status != Status.OK:
-        raise _error(status, fault)
-    have = [(it.need, it.have) for it in blocks[: report.block_count]]
-    killed = list(kill[: report.kill_count])
-    return Report(have, report.carriers, report.margin, killed, report.burst)
+    )
 
 
 def object_length(session: bytes, tsi: int, toi: int) -> int:
@@ -395,7 +415,7 @@ class Receiver:
     """
 
     def __init__(self, tsi: int, toi: int) -> None:
-        self._handle = _Receiver()
+        self._handle = _Handle()
         status = _library.alcrs_receiver_open(byref(self._handle), *_name(tsi, toi))
         if status != Status.OK:
             raise _error(status, _Fault())
@@ -425,6 +445,75 @@ class Receiver:
         _library.alcrs_receiver_close(byref(self._handle))
 
     def __enter__(self) -> "Receiver":
+        return self
+
+    def __exit__(self, *_: object) -> None:
+        self.close()
+
+    def __del__(self) -> None:
+        if hasattr(self, "_handle"):
+            self.close()
+
+
+class Checker:
+    """A check of the datagrams of one object, one at a time: its verdict is that of check on a
+    session of the datagrams that came. It belongs to one thread; a with statement closes it.
+
+        with alcrs.Checker(an_object, certificate, tsi=7, toi=1) as checker:
+            while checker.feed(next_datagram()) is None:
+                print(checker.verdict())
+    """
+
+    def __init__(self, an_object: bytes, certificate: bytes, tsi: int, toi: int) -> None:
+        """Where the object and its certificate alone give a no, whatever datagrams come, that is
+        what feed and verdict return. Raises NoCertificate or MemoryError.
+        """
+        self._handle = _Handle()
+        self._reason: Optional[No] = None
+        fault = _Fault()
+        status = _library.alcrs_checker_open(
+            byref(self._handle), an_object, len(an_object), certificate, len(certificate),
+            *_name(tsi, toi), byref(fault),
+        )
+        if status == Status.NO:
+            self._reason = _no(fault)
+        elif status != Status.OK:
+            raise _error(status, fault)
+
+    def feed(self, datagram: bytes) -> Optional[No]:
+        """Passes a datagram on, and returns the first reason against it or against one before it,
+        or None. Such a reason is the verdict, whatever follows.
+
+        Raises NoSession for a datagram of more than 65,507 bytes, which isn't counted. Raises
+        MemoryError, as does each later feed and verdict then, or ValueError where the checker is
+        closed.
+        """
+        if self._reason is not None:
+            return self._reason
+        fault = _Fault()
+        status = _library.alcrs_checker_feed(
+            byref(self._handle), datagram, len(datagram), byref(fault)
+        )
+        if status == Status.NO:
+            return _no(fault)
+        if status != Status.OK:
+            raise _error(status, fault)
+        return None
+
+    def verdict(self) -> Union[Report, No]:
+        """The verdict on the datagrams so far: a Report or a No. More may be fed then, and it may
+        be asked for again. Raises MemoryError, or ValueError where the checker is closed.
+        """
+        if self._reason is not None:
+            return self._reason
+        return _verdict(lambda *out: _library.alcrs_checker_verdict(byref(self._handle), *out))
+
+    def close(self) -> None:
+        """Frees what was kept. A checker that is closed stays so."""
+        self._reason = None
+        _library.alcrs_checker_close(byref(self._handle))
+
+    def __enter__(self) -> "Checker":
         return self
 
     def __exit__(self, *_: object) -> None:

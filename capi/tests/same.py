@@ -3,7 +3,8 @@
 
 Sessions, objects and certificates are cut, thinned, joined, turned about and changed at random,
 always the same way. Of each the library and the program check, decode and make a twin; the lines
-have to be the same, and so do the files.
+have to be the same, and so do the files. A check that is fed with the datagrams of a session one at
+a time has to give the lines of the check of the session, at its end and somewhere before.
 """
 import os
 import random
@@ -12,7 +13,8 @@ import subprocess
 import sys
 import tempfile
 from collections import Counter
-from typing import Callable, List, Optional, Tuple
+from itertools import zip_longest
+from typing import Callable, List, Optional, Tuple, Union
 
 import alcrs
 
@@ -105,10 +107,19 @@ def library_answer(call: Callable[[], Answer]) -> Answer:
         return [f"no {told}"], None
 
 
-def check_lines(session: bytes, an_object: bytes, certificate: bytes, toi: int) -> Answer:
-    answer = alcrs.check(session, an_object, certificate, 7, toi)
+def differing(right: Answer, own: Answer) -> str:
+    for line, said in zip_longest(right[0], own[0]):
+        if line != said:
+            return f"{line} is right, and the library says {said}"
+    return "another file"
+
+
+Verdict = Union[alcrs.Report, alcrs.No]
+
+
+def lines_of(answer: Verdict) -> List[str]:
     if isinstance(answer, alcrs.No):
-        return [f"no {answer}"], None
+        return [f"no {answer}"]
     return [
         "yes",
         *[f"block {i} need {need} have {have}" for i, (need, have) in enumerate(answer.blocks)],
@@ -116,7 +127,42 @@ def check_lines(session: bytes, an_object: bytes, certificate: bytes, toi: int) 
         f"margin {answer.margin}",
         "kill" + "".join(f" {place}" for place in answer.kill),
         f"burst {answer.burst}",
-    ], None
+    ]
+
+
+def check_lines(session: bytes, an_object: bytes, certificate: bytes, toi: int) -> Answer:
+    return lines_of(alcrs.check(session, an_object, certificate, 7, toi)), None
+
+
+def lasting(answer: Verdict) -> Optional[alcrs.No]:
+    """The reason of a no that stays one whatever datagrams follow, which a feed has to give."""
+    if isinstance(answer, alcrs.No) and answer.number not in (3, 9, 11):
+        return answer
+    return None
+
+
+def fed_lines(parts: List[List[bytes]], an_object: bytes, certificate: bytes, toi: int) -> Answer:
+    """What a check says that is fed with the datagrams of these frames, behind each part."""
+    lines = []
+    with alcrs.Checker(an_object, certificate, 7, toi) as checker:
+        reason = lasting(checker.verdict())
+        for part in parts:
+            for frame in part:
+                reason = checker.feed(frame[2:])
+            answer = checker.verdict()
+            lines += lines_of(answer)
+            if reason != lasting(answer):
+                lines.append(f"where the last feed gives {reason}")
+    return lines, None
+
+
+def part_lines(parts: List[List[bytes]], an_object: bytes, certificate: bytes, toi: int) -> Answer:
+    """What the check says of the session up to the end of each part."""
+    lines, session = [], b""
+    for part in parts:
+        session += b"".join(part)
+        lines += check_lines(session, an_object, certificate, toi)[0]
+    return lines, None
 
 
 def decode_lines(session: bytes, toi: int) -> Answer:
@@ -197,15 +243,21 @@ def main(program: str, samples: str, count: int) -> int:
                 calls.append(("twin", (*three, "out"), twin))
             if number % 4 == 2 and is_whole(session):
                 calls.append(("follow", ("session", "out"), lambda: follow_lines(session, toi)))
-            for what, names, call in calls:
-                told = program_answer(program, room, what, *names, *ids)
-                own = library_answer(call)
-                seen[" ".join([what, *told[0][0].split()[:2]])] += 1
-                if told != own:
+            answers = [
+                (what, program_answer(program, room, what, *names, *ids), library_answer(call))
+                for what, names, call in calls
+            ]
+            if is_whole(session):
+                frames = frames_of(session)
+                half = number % (len(frames) + 1)
+                inputs = ([frames[:half], frames[half:]], an_object, certificate, toi)
+                right = library_answer(lambda: part_lines(*inputs))
+                answers.append(("fed", right, library_answer(lambda: fed_lines(*inputs))))
+            for what, right, own in answers:
+                seen[" ".join([what, *right[0][0].split()[:2]])] += 1
+                if right != own:
                     differ += 1
-                    print(
-                        f"input {number}: {what}: the program says {told[0]}, the library {own[0]}"
-                    )
+                    print(f"input {number}: {what}: {differing(right, own)}")
     print(f"same.py: {count} inputs, {len(seen)} kinds of answers, {differ} differ")
     if os.environ.get("VERBOSE"):
         for kind, times in sorted(seen.items()):
