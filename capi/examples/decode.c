@@ -4,7 +4,7 @@
 
 int main(void) {
     const uint8_t text[48] = "Any four of these six datagrams give this text.";
-    uint8_t session[1024], received[48];
+    uint8_t session[1024] = {0}, received[48] = {0};
     struct alcrs_fault fault = {0};
     size_t size = 0, length = 0,
            frame = 2 + 32 + 12; /* the datagram's length, its header, and a symbol of 12 bytes */
