@@ -1,3 +1,4 @@
 pub mod InFront
 mod BoxParts
 mod HeapParts
+mod Twins
