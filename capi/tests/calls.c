@@ -369,7 +369,8 @@ int main(int count, char **words) {
     memset(&fault, 0xEE, sizeof fault);
     EXPECT(alcrs_checker_feed(&fed, long_one, 3, &fault) == ALCRS_NO && same_fault());
     memset(&fault, 0xEE, sizeof fault);
-    EXPECT(alcrs_checker_feed(&fed, long_one, 65508, &fault) == ALCRS_NO && same_fault());
+    EXPECT(alcrs_checker_feed(&fed, long_one, 65508, &fault) == ALCRS_NO_SESSION &&
+           is_fault(3, 0, 0, 0, 0, 0, 0));
     memset(&fault, 0xEE, sizeof fault);
     EXPECT(VERDICT(fed, 2, 2) == ALCRS_NO && same_fault() && same_report());
     alcrs_checker_close(&fed);
