@@ -20,9 +20,7 @@ use crate::frames::datagrams_of;
 use crate::input::identity;
 use crate::status;
 use crate::told::{AlcrsFault, certificate_fault, frame_fault, put_bytes, reason_fault};
-use cert::{
-    CertFault, CertificateView, CheckFault, Checker, NoReport, Reason, Verdict,
-};
+use cert::{CertFault, CertificateView, CheckFault, Checker, NoReport, Reason, Verdict};
 use reception::Identity;
 use session::FrameFault;
 use std::alloc::Global;

@@ -91,7 +91,7 @@ module _ (f : Fti) (b : ℕ) (at : ℕ → Option (List ℕ)) (n : ℕ) (few : e
 
 -- nothing stands below an ESI where nothing came
 pub none_below : (n j : ℕ) → at_below n (λ i. None) j ≡ None
-none_below n j = elim (cases_lt j n) [ | inl lt ↦ below_in n (λ i. None) j lt | inr past ↦ below_past n (λ i. None) j past ]
+none_below n j = elim (cases_lt j n) [ inl lt ↦ below_in n (λ i. None) j lt | inr past ↦ below_past n (λ i. None) j past ]
 
 module _ {S : Type 0} (held : S → List ℕ) (n : ℕ) (came : List (Arrival S)) (i : ℕ) (a : Arrival S) (li : i < length came) (is : a ≡ get_or came i a) (chosen : List (Arrival S))
     (known : (j : ℕ) → arrived_at held chosen j ≡ at_below n (arrived_at held (take i came)) j) where

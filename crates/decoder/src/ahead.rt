@@ -23,8 +23,7 @@ pub(crate) struct Ahead<'a, F: ReadAt> {
     // Behind the datagram that was asked for last.
     next: u64,
     ghost within: { count ≤ length buffer },
-    ghost held: { StandsAt (F.content file.now) offset (take count buffer) }
-        by { Prim.hlevel props },
+    ghost held: { StandsAt (F.content file.now) offset (take count buffer) } by { Prim.hlevel props },
 }
 
 impl<'a, F: ReadAt> Ahead<'a, F> {

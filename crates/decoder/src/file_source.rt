@@ -57,25 +57,35 @@ impl<F: ReadAt> FileSource<'_, F> {
             self.now.indexed.now.fti codes.now }
         requires within { AllStandIn (F.content self.now.file.now)
             (with_fti self.now.indexed.now.identity self.now.indexed.now.fti)
-            self.now.indexed.now.symbols → AreWithin self.now.indexed.now.fti (file_at (F.content self.now.file.now) self.now.indexed.now.symbols) }
-        requires enough { IsEnoughAt self.now.indexed.now.fti b (file_at (F.content self.now.file.now) self.now.indexed.now.symbols b) }
+            self.now.indexed.now.symbols
+            → AreWithin self.now.indexed.now.fti
+            (file_at (F.content self.now.file.now) self.now.indexed.now.symbols) }
+        requires enough { IsEnoughAt self.now.indexed.now.fti b
+            (file_at (F.content self.now.file.now) self.now.indexed.now.symbols b) }
         requires sound { AllStandIn (F.content self.now.file.now)
             (with_fti self.now.indexed.now.identity self.now.indexed.now.fti)
-            self.now.indexed.now.symbols → (c : ℕ) → c < self.now.indexed.now.fti.symbol_length
-            → ColumnExplained self.now.indexed.now.fti b (file_at (F.content self.now.file.now) self.now.indexed.now.symbols b) c }
+            self.now.indexed.now.symbols
+            → (c : ℕ) → c < self.now.indexed.now.fti.symbol_length
+            → ColumnExplained self.now.indexed.now.fti b
+            (file_at (F.content self.now.file.now) self.now.indexed.now.symbols b) c }
         requires kept { IsKeptOf codes.now kept.old }
         ensures rows { AllStandIn (F.content self.now.file.now)
             (with_fti self.now.indexed.now.identity self.now.indexed.now.fti)
-            self.now.indexed.now.symbols → IfOk result (λ o. IfSome o (λ rows.
-            AreRows self.now.indexed.now.fti b (file_at (F.content self.now.file.now) self.now.indexed.now.symbols b) rows.bytes.items)) }
+            self.now.indexed.now.symbols
+            → IfOk result (λ o. IfSome o (λ rows. AreRows self.now.indexed.now.fti b
+            (file_at (F.content self.now.file.now) self.now.indexed.now.symbols b)
+            rows.bytes.items)) }
         ensures none { AllStandIn (F.content self.now.file.now)
             (with_fti self.now.indexed.now.identity self.now.indexed.now.fti)
-            self.now.indexed.now.symbols → IfOk result (λ o. IsNone o
-            → IsUnexplained self.now.indexed.now.fti b (file_at (F.content self.now.file.now) self.now.indexed.now.symbols b)) }
+            self.now.indexed.now.symbols
+            → IfOk result (λ o. IsNone o → IsUnexplained self.now.indexed.now.fti b
+            (file_at (F.content self.now.file.now) self.now.indexed.now.symbols b)) }
         ensures keeps { IsKeptOf codes.now kept.new }
-        ensures fault { IfErr result (IsUnreadOf (AllStandIn (F.content self.now.file.now)
+        ensures fault { IfErr result (IsUnreadOf
+            (AllStandIn (F.content self.now.file.now)
             (with_fti self.now.indexed.now.identity self.now.indexed.now.fti)
-            self.now.indexed.now.symbols) (F.reliable self.now.file.now)) }
+            self.now.indexed.now.symbols)
+            (F.reliable self.now.file.now)) }
     {
         let fti = &self.indexed.fti;
         let scope = Scope::with_fti(self.indexed.identity, *fti);

@@ -11,6 +11,9 @@
 //!   the object's padding, told before they are solved; `unsolvable`: the blocks whose symbols are
 //!   those of no object;
 //! - `gathering`: the same for an object that is written block by block, so that it is never held;
+//!   `file_gathering`: the same of a session file, of which only places are held. `indexing` finds
+//!   them, `source` says what symbols are had of, `file_source` has those of a file, by `place` and
+//!   `ahead`, and by `enough` no more of them than a block needs;
 //! - `decoding`: the public call, and `selecting`: the same for a selection of a session's
 //!   datagrams, with what a check's yes promises of it;
 //! - `receiver`: the same for one datagram at a time: `feeding` takes one more, and `taking` gives

@@ -37,8 +37,11 @@ use streams::{Failed, Read, WriteAt, write_all_at};
 // How many bytes a group takes: as many as the caches hold, where its runs are long enough then;
 // a 64th of a large object, whose runs go to a disk; never more than 32 MiB.
 const LEAST_BYTES: usize = 5 << 18;
+
 const MOST_BYTES: usize = 1 << 25;
+
 const LONG_RUN: usize = 16;
+
 const GROUPS: u64 = 64;
 
 // The bytes of a datagram's length before it.
@@ -359,7 +362,9 @@ fn blocks_at_once(fti: &Fti) -> usize
     let size = usize::from(fti.symbol_length());
     let block = fti.n(0) * size + LENGTH_SIZE + HEADER_SIZE + size;
     let of_object = (fti.transfer_length() / GROUPS).min(MOST_BYTES as u64) as usize;
-    let bytes = (LONG_RUN * block).max(of_object).clamp(LEAST_BYTES, MOST_BYTES);
+    let bytes = (LONG_RUN * block)
+        .max(of_object)
+        .clamp(LEAST_BYTES, MOST_BYTES);
     (bytes / block).min(fti.block_count() as usize).max(1)
 }
 
