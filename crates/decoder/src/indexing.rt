@@ -19,9 +19,8 @@ ghost use Rattle.decoder.specs.Sources.{AreInRange, IsUnreadOf};
 ghost use Rattle.decoder.specs.declared.place.Place.{Place as PlaceValue};
 ghost use Rattle.partition.specs.Fti.{Fti as FtiValue, block_count, encoding_count};
 
-use crate::ahead::Ahead;
 use crate::answer::DecodeFault;
-use crate::place::{Place, read_again};
+use crate::place::{Place, read_alone};
 use crate::received::fault_at;
 use crate::source::Unread;
 use crate::symbols::Symbols;
@@ -269,8 +268,7 @@ fn keep<F: ReadAt>(
         symbols.put(alloc, packet.sbn, packet.esi, place)?;
         return Ok(());
     };
-    let mut ahead = Ahead::new(file);
-    let symbol = read_again(alloc, &mut ahead, scope, packet.sbn, packet.esi, earlier)?;
+    let symbol = read_alone(alloc, file, scope, packet.sbn, packet.esi, earlier)?;
     if symbol.as_slice() != packet.symbol {
         return Err(Unkept::Clash);
     }

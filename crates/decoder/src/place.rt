@@ -97,6 +97,28 @@ pub(crate) fn read_again<F: ReadAt>(
     Ok(own)
 }
 
+/// The symbol at one place alone.
+pub(crate) fn read_alone<F: ReadAt>(
+    alloc: Global,
+    file: &F,
+    scope: &Scope,
+    b: u32,
+    esi: u8,
+    place: Place,
+) -> Result<Vec<u8>, Unread>
+    requires { (f : FtiValue) × (scope.now.fti ≡ Some f) }
+    ensures symbol { (x : List ℕ) → F.content file.now ≡ Some x
+        → IsSymbolIn x scope.now b esi place
+        → IfOk result (λ v. v.items ≡ held_in x place) }
+    ensures size { (f : FtiValue) → scope.now.fti ≡ Some f
+        → IfOk result (λ v. length v.items ≡ f.symbol_length) }
+    ensures fault { IfErr result (IsUnreadOf (StandsIn (F.content file.now) scope.now b esi place)
+        (F.reliable file.now)) }
+{
+    let mut ahead = Ahead::new(file);
+    read_again(alloc, &mut ahead, scope, b, esi, place)
+}
+
 /// The symbols at the places of a block.
 pub(crate) fn read_block_again<F: ReadAt>(
     alloc: Global,

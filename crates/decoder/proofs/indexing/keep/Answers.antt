@@ -19,13 +19,13 @@ returns-in_default-clause-placed g c = λ x placed here.
 pub returns-then-ne-clause-clash : goal.returns-then-ne-clause-clash
 returns-then-ne-clause-clash g c = λ x told placed _ earlier index.
     let stands = listed_placed x c.args.scope.now c.args.symbols.now placed c.args.packet.now.sbn c.args.packet.now.esi c.in-Some.earlier c.in-Some.ensures.listed in
-    let is = c.as_slice.ensures.value ∙ c.in_ok-symbol.ensures.symbol x (rw (← c.new-ahead.ensures) at told) stands in
+    let is = c.as_slice.ensures.value ∙ c.in_ok-symbol.ensures.symbol x told stands in
     let at = sym (c.in-Some.ensures.at (held_in x)) ∙ ap Some (sym is) in
     sym (c.ne.ensures ∙ clash_some (symbol_of (packet_of c.args.packet.now)) earlier (came_at (held_in x) c.args.symbols.now) c.as_slice.result.now index at) ∙ c.if-ne.true
 
 pub returns-clause-none : goal.returns-clause-none
 returns-clause-none g c = λ x told placed earlier index.
     let stands = listed_placed x c.args.scope.now c.args.symbols.now placed c.args.packet.now.sbn c.args.packet.now.esi c.in-Some.earlier c.in-Some.ensures.listed in
-    let is = c.as_slice.ensures.value ∙ c.in_ok-symbol.ensures.symbol x (rw (← c.new-ahead.ensures) at told) stands in
+    let is = c.as_slice.ensures.value ∙ c.in_ok-symbol.ensures.symbol x told stands in
     let at = sym (c.in-Some.ensures.at (held_in x)) ∙ ap Some (sym is) in
     sym (c.ne.ensures ∙ clash_some (symbol_of (packet_of c.args.packet.now)) earlier (came_at (held_in x) c.args.symbols.now) c.as_slice.result.now index at) ∙ c.if-ne.false
