@@ -2,7 +2,7 @@
 use Rattle.std.specs.Prelude.{◌≡◌, ℕ, Bool, true, false, List, [], ⊤}
 use Rattle.reception.specs.declared.scope.Identity.{Identity}
 use Rattle.cert.specs.Certificate.{Certificate, IsCertificate, certificate_text}
-use Rattle.cert.specs.Feeding.{IsFed, WasFed}
+use Rattle.cert.specs.Fed.{IsFed, WasFed}
 use Rattle.alcrs_c.specs.declared.checker.AlcrsChecker.{AlcrsChecker}
 
 -- what is behind the flag: a checker that was made or fed, or anything

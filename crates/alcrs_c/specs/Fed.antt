@@ -3,20 +3,12 @@ use Rattle.std.specs.Prelude.{◌≡◌, ℕ, List, []}
 use Rattle.reception.specs.Headline.{DecodesWhereEnough, TwinWhereShort, TellsElse}
 use Rattle.reception.specs.declared.scope.Identity.{Identity}
 use Rattle.cert.specs.Certificate.{Certificate, IsCertificate, certificate_text}
-use Rattle.cert.specs.Feeding.{IsFed, IsNoToAll}
+use Rattle.cert.specs.Feeding.{IsNoToAll}
 use Rattle.cert.specs.Report.{IsReport}
 use Rattle.cert.specs.Verdict.{IsVerdict}
-use Rattle.cert.specs.declared.checker.Checker.{Checker}
 use Rattle.cert.specs.declared.verdict.Reason.{Reason}
 use Rattle.cert.specs.declared.verdict.Report.{Report}
 use Rattle.cert.specs.declared.verdict.Verdict.TheVariants.{Yes}
-
--- The certificate's bytes are a certificate's, and the checker is one for it that was fed nothing.
-pub record IsReady (who : Identity) (object certificate : List ℕ) (checker : Checker) : Type 0 where
-  pub z : Certificate
-  pub is : IsCertificate z
-  pub text : certificate ≡ certificate_text z
-  pub fed : IsFed checker who object z []
 
 -- The certificate's bytes are a certificate's, and the verdict is no for this reason whatever
 -- datagrams come.

@@ -12,5 +12,6 @@ pub mod Unmade
 pub mod Ownership
 pub mod Handles
 pub mod Fed
+pub mod Ready
 pub mod Unready
 pub mod CheckerHandles

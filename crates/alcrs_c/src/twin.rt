@@ -4,7 +4,7 @@ ghost use Rattle.std.specs.Prelude.{drop, length, map};
 ghost use Rattle.session.specs.Frames.{AreDatagrams, StopsAt};
 ghost use Rattle.session.specs.declared.frame.FrameFault.{FrameFault as FrameFaultValue};
 ghost use Rattle.cert.specs.Certificate.{text_fault};
-ghost use Rattle.cert.specs.Feeding.{IsFed};
+ghost use Rattle.cert.specs.Fed.{IsFed};
 ghost use Rattle.cert.specs.Verdict.{IsVerdict};
 ghost use Rattle.cert.specs.declared.certificate.CertFault.{CertFault as CertFaultValue};
 ghost use Rattle.cert.specs.declared.verdict.Report.{Report as ReportValue};

@@ -13,8 +13,10 @@ use Rattle.cert.specs.declared.verdict.Verdict.TheVariants.{Yes, No}
 use Rattle.cert.specs.declared.walk.NoReport.TheVariants.{Reason as ByReason}
 use Rattle.cert.specs.declared.walk.Walk.{Walk}
 use Rattle.cert.specs.Certificate.{Certificate, is_for}
-use Rattle.cert.specs.DatagramWalk.{IsNotBegun, IsNotPassed}
-use Rattle.cert.specs.Feeding.{IsNoToAll, IsWalkOver, IsFed}
+use Rattle.cert.specs.NotBegun.{IsNotBegun}
+use Rattle.cert.specs.DatagramWalk.{IsNotPassed}
+use Rattle.cert.specs.Feeding.{IsNoToAll}
+use Rattle.cert.specs.Fed.{IsWalkOver, IsFed}
 use Rattle.cert.specs.declared.checker.Checker.{Checker}
 use Rattle.cert.specs.Scan.{AreEnoughCertified, IsNoReport}
 use Rattle.cert.specs.Verdict.{GivesObject, IsVerdict, VerdictOn}

@@ -1,6 +1,5 @@
 -- What is known of datagrams that were looked at one by one.
-use Rattle.std.specs.Prelude.{◌≡◌, ◌≢◌, ℕ, ◌+◌, true, false, List, [], length, Option}
-use Rattle.std.specs.Prelude.{None, Some, IfSome, ⊤}
+use Rattle.std.specs.Prelude.{◌≡◌, ℕ, ◌+◌, List, [], length, Option, None, Some, IfSome, ⊤}
 use Rattle.std.specs.Io.KnownBytes.{Consumes, IsAtEnd}
 use Rattle.std.specs.Cow.{cow_slice_items}
 use Rattle.session.specs.Frames.{frames, AreDatagrams}
@@ -15,13 +14,12 @@ use Rattle.cert.specs.declared.walk.Walk.{Walk}
 use Rattle.cert.specs.declared.walk.NoReport.{NoReport}
 use Rattle.cert.specs.declared.walk.NoReport.TheVariants.{Reason as ByReason, NoMemory}
 use Rattle.cert.specs.declared.verdict.Reason.{Reason}
-use Rattle.cert.specs.declared.verdict.Reason.TheVariants.{OtherCertificate, ObjectLength}
-use Rattle.cert.specs.declared.verdict.Reason.TheVariants.{NotObject, Packet as NoPacket, OtherFti}
+use Rattle.cert.specs.declared.verdict.Reason.TheVariants.{Packet as NoPacket, OtherFti}
 use Rattle.cert.specs.declared.verdict.Reason.TheVariants.{SymbolLength, Range, Symbol}
 use Rattle.cert.specs.declared.verdict.Verdict.TheVariants.{No}
-use Rattle.cert.specs.Certificate.{Certificate, is_for}
+use Rattle.cert.specs.Certificate.{Certificate}
 use Rattle.cert.specs.Scan.{AreGroupsOf}
-use Rattle.cert.specs.Verdict.{IsFirstNotGiven, reception_to, first_reason, VerdictOn, uncertified}
+use Rattle.cert.specs.Verdict.{reception_to, first_reason, VerdictOn, uncertified}
 
 -- these datagrams came to the check of a certificate, none with a reason against it: what is known
 -- of them
@@ -39,21 +37,6 @@ HasWalked walk datagrams =
     AreWalked walk.scope.identity walk.symbols walk.scope walk.count walk.taken
     (groups_of walk.groups.items)
     walk.carriers.items datagrams
-
--- a reason against the certificate's name or the object, whatever datagrams come
-abbrev pub IsAgainstObject : Identity → Reason → List ℕ → Certificate → Type 0
-IsAgainstObject who OtherCertificate object z = is_for who z.name ≡ false
-IsAgainstObject who ObjectLength object z =
-    (is_for who z.name ≡ true) × (length object ≢ z.fti.transfer_length)
-IsAgainstObject who (NotObject b c i) object z =
-    (is_for who z.name ≡ true) × (length object ≡ z.fti.transfer_length)
-    × IsFirstNotGiven object z b c i
-IsAgainstObject who _ object z = ⊥
-
--- why no datagram is looked at
-abbrev pub IsNotBegun : Identity → List ℕ → Certificate → NoReport → Type 0
-IsNotBegun who object z (ByReason r) = IsAgainstObject who r object z
-IsNotBegun who object z NoMemory = ⊤
 
 -- the place that a reason tells
 abbrev pub place_of : Reason → Option ℕ

@@ -1,70 +1,21 @@
--- A check that is fed datagrams, one at a time.
-use Rattle.std.specs.Prelude.{◌≡◌, ◌<◌, ℕ, List, ◌++◌, ◌∷◌, [], length, Option, Some, None, ⊤}
-use Rattle.std.specs.Cow.{cow_slice_items}
+-- What a check tells that is fed datagrams, one at a time.
+use Rattle.std.specs.Prelude.{◌≡◌, ◌<◌, ℕ, List, ◌++◌, length, Option, Some, None, ⊤}
 use Rattle.session.specs.Frames.{AreDatagrams, most_bytes}
 use Rattle.session.specs.declared.frame.FrameFault.TheVariants.{TooLong}
 use Rattle.reception.specs.declared.scope.Identity.{Identity}
 use Rattle.reception.specs.Walks.{readings_of}
 use Rattle.cert.specs.Certificate.{Certificate}
-use Rattle.cert.specs.DatagramWalk.{HasWalked}
-use Rattle.cert.specs.Twins.{IsShortIn}
 use Rattle.cert.specs.Verdict.{IsVerdict, first_reason}
-use Rattle.cert.specs.declared.checker.Checker.{Checker}
 use Rattle.cert.specs.declared.from_reader.CheckFault.{CheckFault}
 use Rattle.cert.specs.declared.from_reader.CheckFault.TheVariants.{Frame, NoMemory}
 use Rattle.cert.specs.declared.verdict.Reason.{Reason}
 use Rattle.cert.specs.declared.verdict.Verdict.TheVariants.{No}
-use Rattle.cert.specs.declared.walk.NoReport.{NoReport}
-use Rattle.cert.specs.declared.walk.NoReport.TheVariants.{Reason as ByReason}
-use Rattle.cert.specs.declared.walk.NoReport.TheVariants.{NoMemory as NoReportMemory}
-use Rattle.cert.specs.declared.walk.Walk.{Walk}
 
 -- the verdict on these datagrams is no for this reason, whatever others follow
 abbrev pub IsNoToAll : Identity → List (List ℕ) → List ℕ → Certificate → Reason → Type 0
 IsNoToAll who datagrams object z reason =
     (rest : List (List ℕ)) → AreDatagrams rest
     → IsVerdict who (datagrams ++ rest) object z (No reason)
-
--- the walk is one over these datagrams, for this identity, object and certificate
-pub record IsWalkOver (walk : Walk) (who : Identity) (object : List ℕ) (z : Certificate)
-    (datagrams : List (List ℕ)) : Type 0 where
-  pub identity : walk.scope.identity ≡ who
-  pub certificate : walk.symbols ≡ z
-  pub object_is : cow_slice_items walk.object ≡ object
-  pub walked : HasWalked walk datagrams
-
--- where the check of these datagrams stands: it goes on, or has its reason, or lacked memory, after
--- which nothing is known
-abbrev pub StandsAt : Option NoReport → Walk → Identity → List ℕ → Certificate → List (List ℕ)
-    → Type 0
-StandsAt None walk who object z datagrams = IsWalkOver walk who object z datagrams
-StandsAt (Some (ByReason reason)) walk who object z datagrams =
-    IsNoToAll who datagrams object z reason
-StandsAt (Some NoReportMemory) walk who object z datagrams = ⊤
-
--- these datagrams were fed to a checker of this identity's packets, with this object and this
--- certificate
-pub record IsFed (checker : Checker) (who : Identity) (object : List ℕ) (z : Certificate)
-    (datagrams : List (List ℕ)) : Type 0 where
-  pub each : AreDatagrams datagrams
-  pub stands : StandsAt checker.ended checker.walk who object z datagrams
-
--- some were
-pub record WasFed (checker : Checker) : Type 0 where
-  pub who : Identity
-  pub object : List ℕ
-  pub z : Certificate
-  pub datagrams : List (List ℕ)
-  pub fed : IsFed checker who object z datagrams
-
--- so that their verdict is that this block is the least that has too few symbols
-pub record IsFedShort (checker : Checker) (b : ℕ) : Type 0 where
-  pub who : Identity
-  pub object : List ℕ
-  pub z : Certificate
-  pub datagrams : List (List ℕ)
-  pub fed : IsFed checker who object z datagrams
-  pub short : IsShortIn who datagrams object z b
 
 -- what a reason tells that came with the last of these datagrams, or that none came
 abbrev pub IsReasonSoFar : Identity → List (List ℕ) → List ℕ → Certificate → Option Reason → Type 0

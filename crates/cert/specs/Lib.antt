@@ -15,8 +15,10 @@ pub mod ConvertingBlocks
 pub mod CertifiedSymbol
 pub mod TwinBytes
 pub mod NotGiven
+pub mod NotBegun
 pub mod DatagramWalk
 pub mod FromReader
 pub mod Endings
 pub mod Feeding
+pub mod Fed
 pub mod WrongColumns

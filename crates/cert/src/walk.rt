@@ -76,7 +76,8 @@ pub(crate) struct Walk<'a> {
 }
 
 impl<'a> Walk<'a> {
-    ghost use Rattle.cert.specs.DatagramWalk.{HasWalked, IsNotBegun, IsNotPassed, IsNotKept};
+    ghost use Rattle.cert.specs.DatagramWalk.{HasWalked, IsNotPassed, IsNotKept};
+    ghost use Rattle.cert.specs.NotBegun.{IsNotBegun};
 
     /// Before the first datagram, or the reason against the certificate's name or the object.
     pub(crate) fn new(

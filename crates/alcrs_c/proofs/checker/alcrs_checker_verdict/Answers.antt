@@ -1,5 +1,5 @@
 use Rattle.std.proofs.Common.{◌≡◌, subst, rules}
-use Rattle.cert.specs.Feeding.{IsFed}
+use Rattle.cert.specs.Fed.{IsFed}
 use Rattle.cert.specs.Report.{OnYes}
 use Rattle.cert.specs.Verdict.{IsVerdict}
 use Rattle.cert.specs.declared.verdict.Report.{Report}

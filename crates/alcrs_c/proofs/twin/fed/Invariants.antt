@@ -1,5 +1,5 @@
 use Rattle.std.proofs.Common.{map, take}
-use Rattle.cert.specs.Feeding.{IsFed}
+use Rattle.cert.specs.Fed.{IsFed}
 use Rattle.alcrs_c.proofs.twin.fed.Given as goal
 
 abbrev pub invariant-loop-datagram : goal.invariant-loop-datagram

@@ -1,6 +1,6 @@
 use Rattle.std.proofs.Common.{sym, subst}
 use Rattle.std.specs.Cow.{cow_slice_items}
-use Rattle.cert.specs.DatagramWalk.{IsNotBegun}
+use Rattle.cert.specs.NotBegun.{IsNotBegun}
 use Rattle.cert.proofs.DatagramSteps.{passed_on}
 use Rattle.cert.proofs.Feeding.{not_begun}
 use Rattle.cert.proofs.checker.Checker.new.Goals as goal
