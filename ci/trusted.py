@@ -38,8 +38,9 @@ WIDTH = 100
 
 # Relations that public calls only hand on to one another: what they say inside isn't needed to
 # trust the calls.
-HANDED_ON = {"Rattle.decoder.specs.Stands", "Rattle.decoder.specs.SymbolsOf",
-             "Rattle.decoder.specs.PlacesOf", "Rattle.inventory.specs.Tells"}
+HANDED_ON = {"Rattle.cert.specs.Fed", "Rattle.decoder.specs.Stands",
+             "Rattle.decoder.specs.SymbolsOf", "Rattle.decoder.specs.PlacesOf",
+             "Rattle.inventory.specs.Tells"}
 
 
 # What the table tells: a short name, the promise, the clauses that say it (crate, function, labels;
@@ -55,6 +56,7 @@ PROMISES = [
         ("decoder", "new", []),
         ("decoder", "feed", []),
         ("decoder", "take", []),
+        ("decoder", "write_object", []),
         ("decoder", "stored", []),
     ], ["headline"]),
     (
@@ -78,17 +80,26 @@ PROMISES = [
         ("cert", "reason_order", []),
         ("cert", "first_column", []),
     ], ["headline", "verdict"]),
-    ("sending", "`encode`, `certify` and their sessions", [
+    ("sending", "`encode`, `certify` and their sessions, also of what a reader gives", [
         ("encoder", "encode", []),
         ("encoder", "certify", []),
+        ("encoder", "certify_to", []),
+        ("encoder", "encode_from", []),
+        ("encoder", "encode_rounds_from", []),
+        ("encoder", "certify_from", []),
         ("encoder", "sent_checks_yes", []),
     ], ["headline", "verdict"]),
-    (
-        "reading",
-        "`check_from`: a check of what a reader gives",
-        [("cert", "check_from", [])],
-        ["headline", "verdict", "losses"],
-    ),
+    ("reading", "`check_from`: a check of what a reader gives", [
+        ("cert", "check_from", []),
+        ("cert", "check_view_from", []),
+        ("cert", "view", []),
+        ("cert", "into_view", []),
+    ], ["headline", "verdict", "losses"]),
+    ("feeding", "`Checker`: a check of one datagram at a time", [
+        ("cert", "new", []),
+        ("cert", "feed", []),
+        ("cert", "verdict", []),
+    ], ["headline", "verdict", "losses"]),
     ("picture", "`survey_from`: a check with what a picture shows", [("cert", "survey_from", [])],
      ["headline", "verdict", "losses", "reading"]),
     (
@@ -102,6 +113,7 @@ PROMISES = [
         ("alcrs_c", f"alcrs_{call}", []) for call in (
             "check", "object_length", "decode", "encode", "certify", "twin",
             "receiver_open", "receiver_feed", "receiver_object", "receiver_close",
+            "checker_open", "checker_feed", "checker_verdict", "checker_close",
         )
     ], ["library"]),
     ("commands", "the program's commands", [("tool", "run", [])], ["library"]),
