@@ -1,6 +1,5 @@
 #!/usr/bin/env python3
-"""Decodes sessions that are too long for `decode` to hold, which it reads at offsets, and compares
-what comes with the object.
+"""Decodes large sessions, which `decode` reads at offsets, and compares what comes with the object.
 
 The object has 280 MiB. Its sessions have it in both orders, with every symbol and with as few as
 each block needs. Each run may hold 32 MiB at most. Then reads of the session fail, and give another
