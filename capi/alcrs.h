@@ -286,7 +286,8 @@ enum alcrs_status alcrs_checker_open(struct alcrs_checker *checker, const uint8_
  *                   N7, N8 or N10. Its place is that among the datagrams that were fed. It is the
  *                   verdict, whatever follows: from then on each feed and verdict returns it.
  * ALCRS_NO_SESSION  it has more than 65,507 bytes, so no session has it: *fault is S3. It isn't
- *                   counted, and the checker is as it was. This is told before all else.
+ *                   counted, and the checker is as it was. This is told before all else but
+ *                   ALCRS_NOT_OPEN.
  * ALCRS_NO_MEMORY   the check is over: from then on each feed and verdict returns this. Close the
  *                   checker, and begin again.
  * ALCRS_NOT_OPEN */
