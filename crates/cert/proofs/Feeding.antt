@@ -15,12 +15,12 @@ use Rattle.cert.specs.declared.walk.Walk.{Walk}
 use Rattle.cert.specs.Certificate.{Certificate, is_for}
 use Rattle.cert.specs.NotBegun.{IsNotBegun}
 use Rattle.cert.specs.DatagramWalk.{IsNotPassed}
-use Rattle.cert.specs.Feeding.{IsNoToAll}
+use Rattle.cert.specs.Feeding.{HasNoReason, IsNoToAll}
 use Rattle.cert.specs.Fed.{IsWalkOver, IsFed}
 use Rattle.cert.specs.declared.checker.Checker.{Checker}
 use Rattle.cert.specs.Scan.{AreEnoughCertified, IsNoReport}
 use Rattle.cert.specs.Verdict.{GivesObject, IsVerdict, VerdictOn}
-use Rattle.cert.proofs.Judging.{read_all, yes_all}
+use Rattle.cert.proofs.Judging.{no_reason, read_all, yes_all}
 use Rattle.cert.proofs.FromReader.{datagrams_append, no_datagrams, what_follows, report_no}
 
 module _ (who : Identity) (object : List ℕ) (z : Certificate) where
@@ -73,6 +73,12 @@ module _ (who : Identity) (object : List ℕ) (z : Certificate) where
 
     pub is_yes : (report : Report) → AreEnoughCertified walk.scope.identity ds walk.symbols → IsVerdict who ds object z (Yes report)
     is_yes report enough = record { readings = readings_of ds; read = read_all ds each; judged = judged_yes report enough }
+
+    -- none of them has a reason against it
+    pub no_reason_so_far : HasNoReason who ds z
+    no_reason_so_far =
+        let clean = rw (over.identity, over.certificate) at over.walked.clean in
+        record { readings = readings_of ds; read = read_all ds each; none = no_reason _ clean }
 
     -- they don't suffice
     pub is_short : (r : Reason) → IsNoReport walk.scope.identity ds walk.symbols (ByReason r) → IsVerdict who ds object z (No r)

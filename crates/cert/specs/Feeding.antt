@@ -2,8 +2,9 @@
 use Rattle.std.specs.Prelude.{◌≡◌, ◌<◌, ℕ, List, ◌++◌, length, Option, Some, None, ⊤}
 use Rattle.session.specs.Frames.{AreDatagrams, most_bytes}
 use Rattle.session.specs.declared.frame.FrameFault.TheVariants.{TooLong}
+use Rattle.alc.specs.Reading.{Reading}
 use Rattle.reception.specs.declared.scope.Identity.{Identity}
-use Rattle.reception.specs.Walks.{readings_of}
+use Rattle.reception.specs.Reception.{ReadAll}
 use Rattle.cert.specs.Certificate.{Certificate}
 use Rattle.cert.specs.Verdict.{IsVerdict, first_reason}
 use Rattle.cert.specs.declared.from_reader.CheckFault.{CheckFault}
@@ -17,9 +18,15 @@ IsNoToAll who datagrams object z reason =
     (rest : List (List ℕ)) → AreDatagrams rest
     → IsVerdict who (datagrams ++ rest) object z (No reason)
 
+-- no datagram has a reason against it
+pub record HasNoReason (who : Identity) (datagrams : List (List ℕ)) (z : Certificate) : Type 0 where
+  pub readings : List Reading
+  pub read : ReadAll datagrams readings
+  pub none : first_reason who z readings ≡ None
+
 -- what a reason tells that came with the last of these datagrams, or that none came
 abbrev pub IsReasonSoFar : Identity → List (List ℕ) → List ℕ → Certificate → Option Reason → Type 0
-IsReasonSoFar who datagrams object z None = first_reason who z (readings_of datagrams) ≡ None
+IsReasonSoFar who datagrams object z None = HasNoReason who datagrams z
 IsReasonSoFar who datagrams object z (Some reason) = IsNoToAll who datagrams object z reason
 
 -- why a datagram wasn't fed: no session has one so long, or memory lacks

@@ -16,14 +16,14 @@ const LENGTH_SIZE: u64 = 2;
 #[derive(Drop)]
 pub(crate) struct Ahead<'a, F: ReadAt> {
     file: &'a F,
-    // The file's bytes from `offset` on, `count` of them.
-    buffer: [u8; AHEAD],
+    // The file's bytes from `offset` on, `size` of them.
+    bytes: [u8; AHEAD],
     offset: u64,
-    count: usize,
+    size: usize,
     // Behind the datagram that was asked for last.
     next: u64,
-    ghost within: { count ≤ length buffer },
-    ghost held: { StandsAt (F.content file.now) offset (take count buffer) } by { Prim.hlevel props },
+    ghost within: { size ≤ length bytes },
+    ghost held: { StandsAt (F.content file.now) offset (take size bytes) } by { Prim.hlevel props },
 }
 
 impl<'a, F: ReadAt> Ahead<'a, F> {
@@ -33,14 +33,14 @@ impl<'a, F: ReadAt> Ahead<'a, F> {
     {
         Ahead {
             file,
-            buffer: [0; AHEAD],
+            bytes: [0; AHEAD],
             offset: 0,
-            count: 0,
+            size: 0,
             next: 0,
         }
     }
 
-    // Gives bytes of the buffer, where all of them stand there.
+    // Gives bytes that were read, where all of them stand there.
     fn give(&self, offset: u64, buf: &mut [u8]) -> bool
         ensures bytes { result ≡ true
             → StandsAt (F.content self.now.file.now) offset buf.new }
@@ -49,11 +49,11 @@ impl<'a, F: ReadAt> Ahead<'a, F> {
         let Some(before) = offset.checked_sub(self.offset) else {
             return false;
         };
-        if before > self.count as u64 || buf.len() > self.count - before as usize {
+        if before > self.size as u64 || buf.len() > self.size - before as usize {
             return false;
         }
         let at = before as usize;
-        buf.copy_from_slice(&self.buffer[at..at + buf.len()]);
+        buf.copy_from_slice(&self.bytes[at..at + buf.len()]);
         true
     }
 
@@ -62,14 +62,14 @@ impl<'a, F: ReadAt> Ahead<'a, F> {
         ensures file { self.new.file.now ≡ self.old.file.now }
         ensures unsound { OnErr result (F.reliable self.old.file.now ≡ false) }
     {
-        match self.file.read_at(offset, &mut self.buffer) {
+        match self.file.read_at(offset, &mut self.bytes) {
             Ok(count) => {
                 self.offset = offset;
-                self.count = count;
+                self.size = count;
                 Ok(())
             }
             Err(_) => {
-                self.count = 0;
+                self.size = 0;
                 Err(Failed)
             }
         }

@@ -32,8 +32,8 @@ use session::Write;
 use std::alloc::{AllocError, Global};
 use streams::ReadAt;
 
-// A session of up to so many bytes, 256 MiB, is held. Where many symbols are to spare, to read each
-// by itself, where it stands, takes up to two and a half times as long.
+// A session of up to so many bytes, 256 MiB, is held. To read each symbol again, where it stands,
+// takes longer: up to 1.6 times as long where nothing was lost.
 const MOST_HELD: u64 = 1 << 28;
 
 /// Writes the object that the identity's packets in the session give. The output is created only

@@ -2,7 +2,7 @@ use Rattle.std.proofs.Common.{◌≡◌, ◌∙◌, ◌++◌, ◌∷◌, [], ◌
 use Rattle.session.specs.Frames.{IsDatagram}
 use Rattle.cert.specs.declared.walk.NoReport.{NoReport}
 use Rattle.cert.specs.declared.walk.NoReport.TheVariants.{Reason as ByReason}
-use Rattle.cert.proofs.Feeding.{one_more, still_no, now_no, has_reason, goes_on, fed_with_reason, fed_on}
+use Rattle.cert.proofs.Feeding.{one_more, no_reason_so_far, still_no, now_no, has_reason, goes_on, fed_with_reason, fed_on}
 use Rattle.cert.proofs.checker.Checker.feed.Goals as goal
 
 pub returns-in-Reason-clause-fed : goal.returns-in-Reason-clause-fed
@@ -43,3 +43,16 @@ returns-in-Err-Reason-clause-reason c = λ who object z ds fed.
     let over = goes_on c.args.self.now who object z ds c.in_default.is fed in
     now_no who object z ds d here c.args.self.now.walk over fed.each c.in-Err-Reason.reason
     (rw c.in-Err-Reason.field-0-is at (c.in-Err-Reason.ensures.no_report ds over.walked))
+
+pub returns-in-Ok-clause-reason : goal.returns-in-Ok-clause-reason
+returns-in-Ok-clause-reason c = λ who object z ds fed.
+    let d = c.args.datagram.now in
+    let here : IsDatagram d = record { short = omega (arith, c.if-datagram-gt-MOST_BYTES.false); bytes = c.are_bytes.ensures } in
+    let over = goes_on c.args.self.now who object z ds c.in_default.is fed in
+    no_reason_so_far who object z (ds ++ d ∷ []) c.step.new.self
+    (record {
+      identity = c.in-Ok.ensures.identity ∙ over.identity;
+      certificate = c.in-Ok.ensures.certificate ∙ over.certificate;
+      object_is = c.in-Ok.ensures.object ∙ over.object_is;
+      walked = c.in-Ok.ensures.passed ds over.walked;
+    }) (one_more who object z ds d here fed.each)
