@@ -185,8 +185,8 @@ enum alcrs_status alcrs_certify(const uint8_t *object, size_t object_size, uint6
                                 size_t certificate_room, size_t *size);
 
 /* Makes a twin where the check says N9: another object of the same length that agrees with all of
- * the identity's packets in the session. It is made for the least block that is short. A copy of
- * the session and of the certificate is held.
+ * the identity's packets in the session. It is made for the least block that is short. Symbols are
+ * held, and of a certificate without a name (RSC1) a copy.
  *
  * ALCRS_OK              twin begins with the twin, *size is its length, and *fault the N9 of the
  *                       check
