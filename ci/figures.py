@@ -1,5 +1,6 @@
 #!/usr/bin/env python3
-"""Fails where a document has a figure that isn't what can be counted, or a link that leads nowhere.
+"""Fails where a document has a figure that isn't what can be counted, a list of commands or calls
+that lacks one, or a link that leads nowhere.
 
 Each figure stands below with the documents that have it, and what finds it there. A document that
 has it no more is a failure, too, so that no figure goes unseen by being put into other words.
@@ -50,6 +51,44 @@ def random_sessions():
     return int(orders) * len(objects)
 
 
+def constant(name, pattern):
+    """A number that a source file has once."""
+    [told] = re.findall(pattern, text_of(name), re.M)
+    return number(told.replace("_", ","))
+
+
+def constants():
+    """Limits of the program that documents have, too."""
+    held = 2 ** constant("crates/tool/src/decode.rt", r"^const MOST_HELD: u64 = 1 << (\d+);") >> 20
+    yield "README.md", r"`decode` holds a session of up to (\d+) MiB", [held]
+    for name in ("docs/OPERATING.md", "docs/FORMATS.md", "docs/DECISIONS.md"):
+        yield name, r"(?i:session) above (\d+) MiB", [held]
+    symbol = constant("crates/request/src/requests.rt", r"MOST_SYMBOL_BYTES: u16 = ([\d_]+);")
+    yield "README.md", r"of an encoding symbol in bytes, 1 to ([\d,]+)", [symbol]
+    yield "docs/FORMATS.md", r"`--symbol` is E in bytes, 1 to ([\d,]+)", [symbol]
+    yield "docs/FORMATS.md", r"its length in two bytes, at most ([\d,]+)", [
+        constant("crates/session/src/frame.rt", r"^pub const MOST_BYTES: usize = (\d+);")
+    ]
+    parts = constant("crates/program_host/src/parts.rt", r"^const MOST_PARTS: u8 = (\d+);")
+    yield "docs/FORMATS.md", r"up to `OUT.part(\d+)`", [parts - 1]
+    columns = r"^const COLUMNS: usize = (\d+);"
+    yield "docs/FORMATS.md", r"there are more than (\d+) blocks", [
+        constant("crates/picture/src/spares.rt", columns)
+    ]
+    yield "docs/FORMATS.md", r"there are more than (\d+) places", [
+        constant("crates/picture/src/bursts.rt", columns)
+    ]
+    yield "docs/FORMATS.md", r"longer than (\d+) letters", [
+        constant("crates/picture/src/canvas.rt", r"^const NAME_LETTERS: usize = (\d+);")
+    ]
+    values = constant("crates/block_code/src/codes.rt", r"LEAST_BY_VALUES: usize = (\d+);")
+    yield "docs/DECISIONS.md", r"It begins at (\d+) source symbols", [values]
+    yield "docs/BENCHMARKS.md", r"So it begins at (\d+)\.", [values]
+    products = constant("crates/evaluation/src/values.rt", r"MOST_PRODUCTS: usize = (\d+);")
+    yield "docs/DECISIONS.md", r"Up to ([\d,]+) products of rows", [products]
+    yield "docs/BENCHMARKS.md", r"it is used above ([\d,]+)\.", [products]
+
+
 def definitions():
     """Those that public contracts speak of, all, and their lines; of the headline number and lines:
     as docs/THEOREMS.md lists them, which ci/trusted.py compares."""
@@ -67,6 +106,8 @@ def counted():
     sizes = re.findall(r"sizeof\(struct (alcrs_\w+)\) == (\d+)", text_of("capi/tests/calls.c"))
     inputs = int(re.search(r"\$\{1:-(\d+)\}", text_of("capi/try")).group(1))
     changes = int(re.search(r"else (\d+)\)$", text_of("ci/claims.py"), re.M).group(1))
+    errors = constant("crates/transcripts/stdout", r"^wrong\.txt: \d+ commands, (\d+) wrong$")
+    many = constant("ci/summaries.py", r"^MANY = ([\d_]+)$")
     yield "README.md", r"plants (\d+) bugs", [gated]
     yield "README.md", r"(\d+) of them, in (\d+) lines, for the promise", [first, first_lines]
     yield "docs/MUTANTS.md", r"must-fail/` \| (\d+) \|", [gated]
@@ -89,6 +130,11 @@ def counted():
     yield "docs/THEOREMS.md", r"tries (\d+) causes", [causes]
     yield "docs/DECISIONS.md", r"one does much\*\*, (\d+) in all; (\d+) others", [gated, by_hand]
     yield "docs/DECISIONS.md", r"by name are among the (\d+)\.", [gated]
+    yield "docs/BENCHMARKS.md", r"the gate now has (\d+) mutants", [gated]
+    yield "docs/ASSURANCE.md", r"One transcript has (\d+) deliberate", [errors]
+    yield "docs/DECISIONS.md", r"One transcript has (\d+) deliberate", [errors]
+    yield "docs/ASSURANCE.md", r"It tries ([\d,]+) datagrams, each", [many]
+    yield "docs/DECISIONS.md", r"in each of ([\d,]+) TOIs", [many]
     for name, size in sizes:
         yield "docs/EMBEDDING.md", rf"`{name}` (\d+)", [int(size)]
 
@@ -151,6 +197,58 @@ def wrong_texts():
         yield f"docs/FORMATS.md: {it}: {'not listed' if it in printed else 'printed by no command'}"
 
 
+def wrong_commands():
+    """The commands that README or docs/FORMATS.md lacks, or that there aren't."""
+    there = {it.stem for it in ROOT.glob("samples/help/*.txt")} - {"alcrs", "version"}
+    for name, pattern in [
+        ("README.md", r"^- `alcrs (\w+) "),
+        ("docs/FORMATS.md", r"^### `alcrs (\w+) "),
+    ]:
+        for it in sorted(there ^ set(re.findall(pattern, text_of(name), re.M))):
+            yield f"{name}: alcrs {it}: {'not listed' if it in there else 'no command'}"
+
+
+def wrong_calls():
+    """The calls for C that docs/EMBEDDING.md lacks, or that there aren't; and those whose comment
+    in capi/alcrs.h names other statuses than their contract.
+    """
+    header = text_of("capi/alcrs.h")
+    calls = re.findall(r"/\*((?:(?!\*/).)*)\*/\n\w[\w ]* (alcrs_\w+)\(", header, re.S)
+    named = {call: set(re.findall(r"^ \* ALCRS_(\w+)", told, re.M)) for told, call in calls}
+    structs = set(re.findall(r"^struct (alcrs_\w+) \{", header, re.M)) | {"alcrs_status"}
+    listed = set(re.findall(r"\balcrs_[a-z_]+\b", text_of("docs/EMBEDDING.md")))
+    for it in sorted(named.keys() ^ (listed - structs - {"alcrs_c"})):
+        yield f"docs/EMBEDDING.md: {it}: {'not listed' if it in named else 'no call'}"
+    code = "".join(text_of(it) for it in ROOT.glob("crates/alcrs_c/src/*.rt"))
+    for call, body in re.findall(r'extern "C" fn (alcrs_\w+)\((.*?)\n\{', code, re.S):
+        returned = re.search(r"ensures statuses \{ IsOneOf\s*\((.*?)\)", body, re.S)
+        there = set(re.findall(r"\w+", returned.group(1).upper())) if returned else set()
+        if named.pop(call, None) != there:
+            yield f"capi/alcrs.h: {call}: its contract has the statuses {', '.join(sorted(there))}"
+    for call in named:
+        yield f"capi/alcrs.h: {call}: no contract"
+
+
+def wrong_crates(listed):
+    """The crates that docs/ARCHITECTURE.md has above one that they stand on, and those that its
+    picture lacks. `coder` has no code, and isn't drawn.
+    """
+    above = set()
+    for name, names in crates_of_architecture():
+        for it in sorted((names & listed.keys()) - above):
+            yield f"docs/ARCHITECTURE.md: {name} stands above {it}"
+        above.add(name)
+    drawn = re.sub(r"<[^>]*>", " ", text_of("docs/crates.svg"))
+    for it in sorted(listed.keys() - {"coder"} - set(re.findall(r"\w+", drawn))):
+        yield f"docs/crates.svg: no crate {it}"
+
+
+def anchors(path):
+    """What a link may name behind a `#`, of a document's headings."""
+    for heading in re.findall(r"^#+ (.*)$", path.read_text(encoding="utf-8"), re.M):
+        yield re.sub(r"[^\w\- ]", "", heading.lower()).replace(" ", "-")
+
+
 def crates_of_architecture():
     """What each crate stands on, as docs/ARCHITECTURE.md has it."""
     text = text_of("docs/ARCHITECTURE.md")
@@ -160,8 +258,8 @@ def crates_of_architecture():
 
 
 def main():
-    wrong, count = [*wrong_losses(), *wrong_texts()], 0
-    for name, pattern, wanted in counted():
+    wrong, count = [*wrong_losses(), *wrong_texts(), *wrong_commands(), *wrong_calls()], 0
+    for name, pattern, wanted in [*counted(), *constants()]:
         # A line of a document ends anywhere.
         found = re.findall(pattern.replace(" ", r"\s+"), text_of(name))
         count += 1
@@ -180,11 +278,18 @@ def main():
     for name in listed.keys() | told.keys():
         if listed.get(name) != told.get(name):
             wrong.append(f"docs/ARCHITECTURE.md: {name} stands on other crates in crates.txt")
+    wrong += wrong_crates(listed)
     for path in DOCUMENTS:
-        for link in re.findall(r"\]\(([^)#\s]+)[^)]*\)", path.read_text(encoding="utf-8")):
+        for link in re.findall(r"\]\(([^)\s]+)[^)]*\)", path.read_text(encoding="utf-8")):
             count += 1
-            if "://" not in link and not (path.parent / link).exists():
-                wrong.append(f"{path.relative_to(ROOT)}: no file {link}")
+            if "://" in link:
+                continue
+            name, _, anchor = link.partition("#")
+            to = path.parent / name if name else path
+            if not to.exists():
+                wrong.append(f"{path.relative_to(ROOT)}: no file {name}")
+            elif anchor and anchor not in anchors(to):
+                wrong.append(f"{path.relative_to(ROOT)}: no heading {link}")
     for line in wrong:
         print(line)
     print(f"{count} figures and links of documents, {len(wrong)} wrong")
