@@ -57,6 +57,12 @@ def constant(name, pattern):
     return number(told.replace("_", ","))
 
 
+def symbols_of(name):
+    """`--block` and `--max` of a script's sessions."""
+    [told] = re.findall(r'"--block", "(\d+)", "--max", "(\d+)"', text_of(name))
+    return [int(it) for it in told]
+
+
 def constants():
     """Limits of the program that documents have, too."""
     held = 2 ** constant("crates/tool/src/decode.rt", r"^const MOST_HELD: u64 = 1 << (\d+);") >> 20
@@ -81,6 +87,13 @@ def constants():
     yield "docs/FORMATS.md", r"longer than (\d+) letters", [
         constant("crates/picture/src/canvas.rt", r"^const NAME_LETTERS: usize = (\d+);")
     ]
+    shift = r"^const MOST_BYTES: usize = 1 << (\d+);"
+    group = 2 ** constant("crates/encoder/src/rounds_from.rt", shift) >> 20
+    yield "README.md", r"up to (\d+) MiB of encoding symbols", [group]
+    yield "docs/OPERATING.md", r"within 1\.25 and (\d+) MiB", [group]
+    batch = 2 ** constant("crates/encoder/src/rounds.rt", shift) >> 20
+    for name in ("docs/OPERATING.md", "docs/EMBEDDING.md"):
+        yield name, r"up to (\d+) MiB of repair symbols", [batch]
     values = constant("crates/block_code/src/codes.rt", r"LEAST_BY_VALUES: usize = (\d+);")
     yield "docs/DECISIONS.md", r"It begins at (\d+) source symbols", [values]
     yield "docs/BENCHMARKS.md", r"So it begins at (\d+)\.", [values]
@@ -108,6 +121,9 @@ def counted():
     changes = int(re.search(r"else (\d+)\)$", text_of("ci/claims.py"), re.M).group(1))
     errors = constant("crates/transcripts/stdout", r"^wrong\.txt: \d+ commands, (\d+) wrong$")
     many = constant("ci/summaries.py", r"^MANY = ([\d_]+)$")
+    large = constant("ci/large_sessions.py", r"^LENGTH = (\d+) << 20$")
+    held = constant("ci/large_sessions.py", r"^MOST_KIB = (\d+) << 10$")
+    need, have = symbols_of("ci/large_sessions.py")
     yield "README.md", r"plants (\d+) bugs", [gated]
     yield "README.md", r"(\d+) of them, in (\d+) lines, for the promise", [first, first_lines]
     yield "docs/MUTANTS.md", r"must-fail/` \| (\d+) \|", [gated]
@@ -135,6 +151,8 @@ def counted():
     yield "docs/DECISIONS.md", r"One transcript has (\d+) deliberate", [errors]
     yield "docs/ASSURANCE.md", r"It tries ([\d,]+) datagrams, each", [many]
     yield "docs/DECISIONS.md", r"in each of ([\d,]+) TOIs", [many]
+    yield "docs/ASSURANCE.md", r"sessions of (\d+) MiB decoded", [large * have // need]
+    yield "ci/README.md", r"sessions of (\d+) MiB in (\d+) MiB", [large * have // need, held]
     for name, size in sizes:
         yield "docs/EMBEDDING.md", rf"`{name}` (\d+)", [int(size)]
 
