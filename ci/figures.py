@@ -215,15 +215,29 @@ def wrong_texts():
         yield f"docs/FORMATS.md: {it}: {'not listed' if it in printed else 'printed by no command'}"
 
 
+def options_in(text):
+    """The options of one command alone."""
+    return set(re.findall(r"--[a-z-]+", text)) - {"--help", "--quiet", "--no-clobber"}
+
+
 def wrong_commands():
-    """The commands that README or docs/FORMATS.md lacks, or that there aren't."""
-    there = {it.stem for it in ROOT.glob("samples/help/*.txt")} - {"alcrs", "version"}
+    """The commands that README or docs/FORMATS.md lacks or has with other options, or that there
+    aren't.
+    """
+    there = {
+        it.stem: options_in(" ".join(re.findall(r"^ +(?:-\w, )?(--\S+)", text_of(it), re.M)))
+        for it in ROOT.glob("samples/help/*.txt") if it.stem not in ("alcrs", "version")
+    }
     for name, pattern in [
-        ("README.md", r"^- `alcrs (\w+) "),
-        ("docs/FORMATS.md", r"^### `alcrs (\w+) "),
+        ("README.md", r"^- `alcrs (\w+) ([^`]*)`"),
+        ("docs/FORMATS.md", r"^### `alcrs (\w+) ([^`]*)`"),
     ]:
-        for it in sorted(there ^ set(re.findall(pattern, text_of(name), re.M))):
+        told = {it: options_in(rest) for it, rest in re.findall(pattern, text_of(name), re.M)}
+        for it in sorted(there.keys() ^ told.keys()):
             yield f"{name}: alcrs {it}: {'not listed' if it in there else 'no command'}"
+        for it in sorted(there.keys() & told.keys()):
+            if there[it] != told[it]:
+                yield f"{name}: alcrs {it}: {' '.join(sorted(there[it] ^ told[it]))}"
 
 
 def wrong_calls():
