@@ -484,9 +484,9 @@ class Checker:
         """Passes a datagram on, and returns the first reason against it or against one before it,
         or None. Such a reason is the verdict, whatever follows.
 
-        Raises NoSession for a datagram of more than 65,507 bytes, which isn't counted. Raises
-        MemoryError, as does each later feed and verdict then, or ValueError where the checker is
-        closed.
+        Raises NoSession for a datagram of more than 65,507 bytes, which isn't counted, unless the
+        object and its certificate gave a no already. Raises MemoryError, as does each later feed
+        and verdict then, or ValueError where the checker is closed.
         """
         if self._reason is not None:
             return self._reason

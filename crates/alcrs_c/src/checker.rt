@@ -11,7 +11,7 @@ ghost use Rattle.cert.specs.declared.certificate.CertFault.{CertFault as CertFau
 ghost use Rattle.cert.specs.declared.verdict.Reason.{Reason as ReasonValue};
 ghost use Rattle.cert.specs.declared.verdict.Report.{Report as ReportValue};
 ghost use Rattle.alcrs_c.specs.Asked.{identity_of};
-ghost use Rattle.alcrs_c.specs.CheckerHandles.{IsHandle, IsOpen, IsOpenFor};
+ghost use Rattle.alcrs_c.specs.CheckerHandles.{IsHandle, IsOpen, IsOpenFor, IsOver, Lacks};
 ghost use Rattle.alcrs_c.specs.Fed.{IsNoAtOnce, IsYes};
 ghost use Rattle.alcrs_c.specs.Ready.{IsReady};
 ghost use Rattle.alcrs_c.specs.Unready.{IsUnready};
@@ -168,8 +168,8 @@ pub extern "C" fn alcrs_checker_open(
 ///   reason.
 /// - `NO_SESSION`: the datagram is longer than any of a session, and wasn't fed. `fault` tells
 ///   that.
-/// - `NO_MEMORY`: memory is wanting, and the datagram wasn't fed. From then on no feed and no
-///   verdict answers anything else.
+/// - `NO_MEMORY`: memory is wanting, and the datagram wasn't fed. From then on each verdict answers
+///   this, and each feed of a datagram that isn't too long.
 /// - `NOT_OPEN`: the handle isn't open.
 ///
 /// `fault` changes at `NO` and `NO_SESSION` alone.
@@ -193,7 +193,17 @@ pub extern "C" fn alcrs_checker_feed(
         × (fault.new ≡ told_reason r)) }
     ensures session { result ≡ no_session → (most_bytes < length datagram.now)
         × (fault.new ≡ told_frame TooLong) }
-    ensures short { IsOneOf (ok ∷ no ∷ []) result → length datagram.now ≤ most_bytes }
+    ensures short { IsOneOf (ok ∷ no ∷ no_memory ∷ []) result
+        → length datagram.now ≤ most_bytes }
+    ensures same { result ≡ no_session → handle.new.held.value ≡ handle.old.held.value }
+    // A reason and want of memory last.
+    ensures over { result ≡ no → (r : ReasonValue) × IsOver handle.new r
+        × (fault.new ≡ told_reason r) }
+    ensures lacks { result ≡ no_memory → Lacks handle.new }
+    ensures after { (r : ReasonValue) → IsOver handle.old r → length datagram.now ≤ most_bytes
+        → (result ≡ no) × (fault.new ≡ told_reason r) × IsOver handle.new r }
+    ensures lacking { Lacks handle.old → length datagram.now ≤ most_bytes
+        → (result ≡ no_memory) × Lacks handle.new }
     ensures stays { (who : IdentityValue) (object : List ℕ) (z : CertificateValue)
         (ds : List (List ℕ)) → IsOpen handle.old who object z ds → result ≢ ok → result ≢ no
         → IsOpen handle.new who object z ds }
@@ -246,6 +256,11 @@ pub extern "C" fn alcrs_checker_verdict(
     ensures stays { (who : IdentityValue) (object : List ℕ) (z : CertificateValue)
         (ds : List (List ℕ)) → IsOpen handle.old who object z ds
         → IsOpen handle.new who object z ds }
+    ensures same { handle.old.is_open ≡ true
+        → handle.new.held.value ≡ handle.old.held.value }
+    ensures after { (r : ReasonValue) → IsOver handle.old r
+        → (result ≡ no) × (fault.new ≡ told_reason r) }
+    ensures lacking { Lacks handle.old → result ≡ no_memory }
     ensures yes { (who : IdentityValue) (object : List ℕ) (z : CertificateValue)
         (ds : List (List ℕ)) → IsOpen handle.old who object z ds → result ≡ ok
         → (r : ReportValue) × IsYes who ds object z r

@@ -2,7 +2,7 @@
 //!
 //! - `status`: what a call returns;
 //! - `told`: the structs that C reads, and the numbers of faults and reasons;
-//! - `input`: identities, certificates and sessions of what C passes; `frames`: a session's
+//! - `input`: identities and certificates of what C passes; `frames`: a session's
 //!   datagrams without a copy;
 //! - `check`, `decode`, `twin`, `making`: the calls from bytes to bytes;
 //! - `receiver`: a receiver behind a handle; `checker`: a check behind a handle that is fed

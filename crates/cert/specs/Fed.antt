@@ -36,7 +36,11 @@ pub record IsFed (checker : Checker) (who : Identity) (object : List ℕ) (z : C
   pub each : AreDatagrams datagrams
   pub stands : StandsAt checker.ended checker.walk who object z datagrams
 
--- some were
+-- why the check has ended, if it has
+abbrev pub ended_of : Checker → Option NoReport
+ended_of checker = checker.ended
+
+-- some datagrams were fed to it
 pub record WasFed (checker : Checker) : Type 0 where
   pub who : Identity
   pub object : List ℕ
@@ -44,7 +48,7 @@ pub record WasFed (checker : Checker) : Type 0 where
   pub datagrams : List (List ℕ)
   pub fed : IsFed checker who object z datagrams
 
--- so that their verdict is that this block is the least that has too few symbols
+-- datagrams were fed to it whose verdict is that this block is the least with too few symbols
 pub record IsFedShort (checker : Checker) (b : ℕ) : Type 0 where
   pub who : Identity
   pub object : List ℕ

@@ -1,5 +1,6 @@
 -- What a check tells that is fed datagrams, one at a time.
-use Rattle.std.specs.Prelude.{◌≡◌, ◌<◌, ℕ, List, ◌++◌, length, Option, Some, None, ⊤}
+use Rattle.std.specs.Prelude.{◌≡◌, ◌<◌, ◌≤◌, ℕ, List, ◌++◌, length, Option, Some, None, Result, Ok}
+use Rattle.std.specs.Prelude.{Err}
 use Rattle.session.specs.Frames.{AreDatagrams, most_bytes}
 use Rattle.session.specs.declared.frame.FrameFault.TheVariants.{TooLong}
 use Rattle.alc.specs.Reading.{Reading}
@@ -11,6 +12,9 @@ use Rattle.cert.specs.declared.from_reader.CheckFault.{CheckFault}
 use Rattle.cert.specs.declared.from_reader.CheckFault.TheVariants.{Frame, NoMemory}
 use Rattle.cert.specs.declared.verdict.Reason.{Reason}
 use Rattle.cert.specs.declared.verdict.Verdict.TheVariants.{No}
+use Rattle.cert.specs.declared.walk.NoReport.{NoReport}
+use Rattle.cert.specs.declared.walk.NoReport.TheVariants.{Reason as ByReason}
+use Rattle.cert.specs.declared.walk.NoReport.TheVariants.{NoMemory as NoReportMemory}
 
 -- the verdict on these datagrams is no for this reason, whatever others follow
 abbrev pub IsNoToAll : Identity → List (List ℕ) → List ℕ → Certificate → Reason → Type 0
@@ -24,7 +28,7 @@ pub record HasNoReason (who : Identity) (datagrams : List (List ℕ)) (z : Certi
   pub read : ReadAll datagrams readings
   pub none : first_reason who z readings ≡ None
 
--- what a reason tells that came with the last of these datagrams, or that none came
+-- what a reason tells that came with one of these datagrams, or that none came
 abbrev pub IsReasonSoFar : Identity → List (List ℕ) → List ℕ → Certificate → Option Reason → Type 0
 IsReasonSoFar who datagrams object z None = HasNoReason who datagrams z
 IsReasonSoFar who datagrams object z (Some reason) = IsNoToAll who datagrams object z reason
@@ -33,4 +37,10 @@ IsReasonSoFar who datagrams object z (Some reason) = IsNoToAll who datagrams obj
 abbrev pub IsUnfed : List ℕ → CheckFault → Type 0
 IsUnfed datagram (Frame TooLong) = most_bytes < length datagram
 IsUnfed datagram (Frame _) = ⊥
-IsUnfed datagram NoMemory = ⊤
+IsUnfed datagram NoMemory = length datagram ≤ most_bytes
+
+-- what a feed tells where the check has ended before for a reason or want of memory
+abbrev pub IsToldAgain : NoReport → Result (Option Reason) CheckFault → Type 0
+IsToldAgain (ByReason reason) (Ok told) = told ≡ Some reason
+IsToldAgain NoReportMemory (Err fault) = fault ≡ NoMemory
+IsToldAgain _ _ = ⊥

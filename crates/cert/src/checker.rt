@@ -1,17 +1,21 @@
 //! The check of datagrams that are fed to it one at a time.
-ghost use Rattle.std.specs.Prelude.{◌≡◌, ◌≤◌, ◌++◌, ◌∷◌, [], ℕ, List, length, IfOk, IfErr};
+ghost use Rattle.std.specs.Prelude.{◌≡◌, ◌≤◌, ◌++◌, ◌∷◌, [], ℕ, List, length, IfOk, IfErr, OnOk};
+ghost use Rattle.std.specs.Prelude.{IsErr, IsOkAnd, Some, None, true};
+ghost use Rattle.std.specs.Option.{option_map};
 ghost use Rattle.std.specs.Cow.{cow_slice_items};
 ghost use Rattle.session.specs.Frames.{most_bytes};
 ghost use Rattle.reception.specs.Headline.{DecodesWhereEnough, TwinWhereShort, TellsElse};
 ghost use Rattle.reception.specs.declared.scope.Identity.{Identity as IdentityValue};
-ghost use Rattle.cert.specs.Certificate.{Certificate as CertificateValue};
+ghost use Rattle.cert.specs.Certificate.{Certificate as CertificateValue, is_for};
 ghost use Rattle.cert.specs.NotBegun.{IsNotBegun};
-ghost use Rattle.cert.specs.Fed.{IsFed, WasFed, IsFedShort};
-ghost use Rattle.cert.specs.Feeding.{IsNoToAll, IsReasonSoFar, IsUnfed};
+ghost use Rattle.cert.specs.Fed.{IsFed, WasFed, IsFedShort, ended_of};
+ghost use Rattle.cert.specs.Feeding.{IsNoToAll, IsReasonSoFar, IsUnfed, IsToldAgain};
 ghost use Rattle.cert.specs.Twins.{IsShortIn, IsTwinOfSession};
 ghost use Rattle.cert.specs.Report.{IsReport, OnYes};
 ghost use Rattle.cert.specs.declared.verdict.Reason.{Reason as ReasonValue};
-ghost use Rattle.cert.specs.Verdict.{IsVerdict};
+ghost use Rattle.cert.specs.Verdict.{GivesObject, IsVerdict};
+ghost use Rattle.cert.specs.declared.walk.NoReport.{NoReport as NoReportValue};
+ghost use Rattle.reception.specs.Symbols.{IsObject};
 
 use crate::from_reader::CheckFault;
 use crate::verdict::{Reason, Verdict};
@@ -34,7 +38,8 @@ pub struct Checker<'a> {
 
 impl<'a> Checker<'a> {
     /// A check that was fed nothing yet. A reason against the certificate's name or the object is
-    /// told at once: it is the verdict whatever datagrams come.
+    /// told at once: it is the verdict whatever datagrams come. `NoMemory` tells that there is none
+    /// for the check.
     pub fn new(
         alloc: Global,
         object: CowSlice<'a, u8, Global>,
@@ -43,6 +48,11 @@ impl<'a> Checker<'a> {
     ) -> Result<Checker<'a>, NoReport>
         ensures fed { IfOk result (λ checker.
             IsFed checker identity (cow_slice_items object.entry) certificate.entry []) }
+        ensures going { IfOk result (λ checker. ended_of checker ≡ None) }
+        // Nothing is against the name or the object.
+        ensures given { OnOk result ((is_for identity certificate.entry.name ≡ true)
+            × IsObject certificate.entry.fti (cow_slice_items object.entry)
+            × GivesObject (cow_slice_items object.entry) certificate.entry) }
         ensures against { IfErr result
             (IsNotBegun identity (cow_slice_items object.entry) certificate.entry) }
         ensures no { IfErr result (λ e. (r : ReasonValue) → e ≡ NoReport.Reason r
@@ -56,8 +66,8 @@ impl<'a> Checker<'a> {
 
     /// One datagram more. `Some` has the first reason against a datagram that was fed, this one or
     /// an earlier one, which is the verdict whatever follows. `TooLong` tells that no session has
-    /// so long a datagram, and it doesn't count. Where memory lacks, the check is over: from then
-    /// on it answers only that.
+    /// so long a datagram; it doesn't count, and is told before all else. Where memory lacks, the
+    /// check is over: from then on it answers that to each datagram that isn't too long.
     pub fn feed(&mut self, datagram: &[u8]) -> Result<Option<Reason>, CheckFault>
         requires { WasFed self.old }
         ensures fed { (who : IdentityValue) (object : List ℕ) (z : CertificateValue)
@@ -71,6 +81,16 @@ impl<'a> Checker<'a> {
         ensures stays { (who : IdentityValue) (object : List ℕ) (z : CertificateValue)
             (ds : List (List ℕ)) → IsFed self.old who object z ds
             → IfErr result (λ _. IsFed self.new who object z ds) }
+        ensures same { IfErr result (λ e. e ≡ CheckFault.Frame FrameFault.TooLong
+            → self.new ≡ self.old) }
+        // Whether the check has ended then, and why.
+        ensures ended { IfOk result (λ o. ended_of self.new ≡ option_map NoReport.Reason o) }
+        ensures lacks { IfErr result (λ e. e ≡ CheckFault.NoMemory
+            → ended_of self.new ≡ Some NoReport.NoMemory) }
+        // Where it has ended before, it tells that again.
+        ensures again { (why : NoReportValue) → ended_of self.old ≡ Some why
+            → length datagram.now ≤ most_bytes
+            → IsToldAgain why result × (self.new ≡ self.old) }
     {
         if datagram.len() > MOST_BYTES {
             return Err(CheckFault::Frame(FrameFault::TooLong));
@@ -115,6 +135,10 @@ impl<'a> Checker<'a> {
         ensures report { (who : IdentityValue) (object : List ℕ) (z : CertificateValue)
             (ds : List (List ℕ)) → IsFed self.now who object z ds
             → IfOk result (λ v. OnYes v (IsReport who ds z.fti)) }
+        // Where the check has ended, that is told.
+        ensures ended { (r : ReasonValue) → ended_of self.now ≡ Some (NoReport.Reason r)
+            → IsOkAnd result (λ v. v ≡ Verdict.No r) }
+        ensures lacks { ended_of self.now ≡ Some NoReport.NoMemory → IsErr result }
     {
         if let Some(why) = self.ended {
             return match why {

@@ -15,7 +15,7 @@ use std::alloc::Global;
 use std::borrow::CowSlice;
 use thiserror::Error;
 
-/// Why datagrams weren't checked as they were read.
+/// Why datagrams weren't checked as they were read, or fed.
 #[derive(Debug, Clone, Copy, PartialEq, Eq, Error)]
 pub enum CheckFault {
     /// The next datagram wasn't read: `CutLength`, `CutDatagram`, `TooLong`, `Io` or `NoMemory`.

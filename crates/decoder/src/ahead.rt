@@ -5,8 +5,8 @@ ghost use Rattle.streams.specs.Offsets.{StandsAt, EndsBy};
 
 use streams::{Failed, ReadAt, fill_at};
 
-// How many bytes are read ahead: more than a frame has.
-const AHEAD: usize = 1 << 16;
+// How many bytes are read ahead. More cost small blocks more than they spare.
+const AHEAD: usize = 1 << 14;
 
 // How many bytes stand between two datagrams: the length of the second.
 const LENGTH_SIZE: u64 = 2;
@@ -20,7 +20,7 @@ pub(crate) struct Ahead<'a, F: ReadAt> {
     bytes: [u8; AHEAD],
     offset: u64,
     size: usize,
-    // Behind the datagram that was asked for last.
+    // Behind the datagram that was asked for last; at first behind all, so that none follows.
     next: u64,
     ghost within: { size ≤ length bytes },
     ghost held: { StandsAt (F.content file.now) offset (take size bytes) } by { Prim.hlevel props },
@@ -36,7 +36,7 @@ impl<'a, F: ReadAt> Ahead<'a, F> {
             bytes: [0; AHEAD],
             offset: 0,
             size: 0,
-            next: 0,
+            next: u64::MAX,
         }
     }
 
@@ -91,7 +91,7 @@ impl<'a, F: ReadAt> Ahead<'a, F> {
         if self.give(offset, buf) {
             return Ok(buf.len());
         }
-        if follows {
+        if follows && buf.len() <= AHEAD / 2 {
             self.load(offset)?;
             if self.give(offset, buf) {
                 return Ok(buf.len());

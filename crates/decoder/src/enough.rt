@@ -11,14 +11,16 @@ use crate::arrivals::{Arrival, seen_of};
 use crate::place::Place;
 use std::alloc::{AllocError, Global};
 
-/// The least number below which there are as many different ESIs as are needed, where there are as
-/// many below `n`.
+/// A number below which there are as many different ESIs as are needed, and no more, where there
+/// are as many below `n`.
 pub(crate) fn least_enough(came: &[Arrival<Place>], need: usize, n: usize) -> usize
     requires { n ≤ 255 }
     ensures most { result ≤ n }
     ensures enough { (held : PlaceValue → List ℕ)
         → need ≤ length (filter (λ j. is_some (arrived_at held came.now j)) (below n))
         → need ≤ length (filter (λ j. is_some (arrived_at held came.now j)) (below result)) }
+    ensures least { (held : PlaceValue → List ℕ)
+        → length (filter (λ j. is_some (arrived_at held came.now j)) (below result)) ≤ need }
 {
     let seen = seen_of(came);
     let mut count = 0;

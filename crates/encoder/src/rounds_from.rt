@@ -34,15 +34,17 @@ use partition::{Fti, Order};
 use std::alloc::Global;
 use streams::{Failed, Read, WriteAt, write_all_at};
 
-// How many bytes a group takes: as many as the caches hold, where its runs are long enough then;
-// a 64th of a large object, whose runs go to a disk; never more than 32 MiB.
-const LEAST_BYTES: usize = 5 << 18;
+// How many bytes a group takes: as many as the caches hold.
+const LEAST_GROUP_BYTES: usize = 5 << 18;
 
-const MOST_BYTES: usize = 1 << 25;
+// How many it takes at most.
+const MOST_GROUP_BYTES: usize = 1 << 25;
 
-const LONG_RUN: usize = 16;
+// Of how many blocks the frames of a round are a run that is written fast.
+const LONG_RUN_BLOCKS: usize = 16;
 
-const GROUPS: u64 = 64;
+// How many groups a large object has: its runs go to a disk, and shorter ones are slow there.
+const LARGE_OBJECT_GROUPS: u64 = 64;
 
 // The bytes of a datagram's length before it.
 const LENGTH_SIZE: usize = 2;
@@ -353,18 +355,18 @@ fn write_object<R: Read, W: WriteAt>(
     Ok(count)
 }
 
-// How many blocks make a group: as many as there are and its bytes hold, their encoding symbols and
-// a frame of each, and one at least.
+// How many blocks make a group: as many as its bytes hold, their encoding symbols and a frame of
+// each, and no more than there are. No block takes more than a group does at most.
 fn blocks_at_once(fti: &Fti) -> usize
     ensures some { 0 < result }
     ensures few { result ≤ 2 ^ 20 }
 {
     let size = usize::from(fti.symbol_length());
     let block = fti.n(0) * size + LENGTH_SIZE + HEADER_SIZE + size;
-    let of_object = (fti.transfer_length() / GROUPS).min(MOST_BYTES as u64) as usize;
-    let bytes = (LONG_RUN * block)
-        .max(of_object)
-        .clamp(LEAST_BYTES, MOST_BYTES);
+    let part = fti.transfer_length() / LARGE_OBJECT_GROUPS;
+    let bytes = (LONG_RUN_BLOCKS * block)
+        .max(part.min(MOST_GROUP_BYTES as u64) as usize)
+        .clamp(LEAST_GROUP_BYTES, MOST_GROUP_BYTES);
     (bytes / block).min(fti.block_count() as usize).max(1)
 }
 
@@ -375,8 +377,8 @@ fn blocks_at_once(fti: &Fti) -> usize
 ///
 /// Memory is asked for two generator matrices at most, for the bytes of the greatest block, for the
 /// encoding symbols of a group, and for one frame of each of its blocks. A group takes a 64th of
-/// the object, or as much as 16 blocks where that is more, within 1.25 and 32 MiB, or is one block.
-/// It is all there before the first byte is written.
+/// the object, or as much as 16 blocks where that is more, within 1.25 and 32 MiB, and no more
+/// blocks than there are. It is all there before the first byte is written.
 ///
 /// `Object` tells that the object has another length than the FTI's, or that the reader has failed,
 /// which a sound one never does; `Write` comes only where the writer has failed. What stands in the

@@ -1,5 +1,5 @@
 use Rattle.std.specs.Prelude.{is_some, filter}
-use Rattle.std.proofs.Common.{◌≡◌, ◌∙◌, ◌+◌, ℕ, List, sym, ap, arith, add-one, refl}
+use Rattle.std.proofs.Common.{◌≡◌, ◌∙◌, ◌+◌, ℕ, List, length, sym, ap, arith, add-one, refl}
 use Rattle.lists.specs.Below.{below}
 use Rattle.decoder.specs.Arrivals.{seen_at, arrived_at}
 use Rattle.decoder.specs.declared.place.Place.{Place}
@@ -9,7 +9,7 @@ use Rattle.decoder.proofs.enough.least_enough.Goals.{then-seen-esi, else-seen-es
 
 pub loop-esi-init : goal.loop-esi-init
 unfolding below
-loop-esi-init c = record { few = omega arith; counts = λ held. refl }
+loop-esi-init c = record { few = omega arith; most = omega arith; counts = λ held. refl }
 
 pub loop-esi-preserved : goal.loop-esi-preserved
 loop-esi-preserved c =
@@ -18,11 +18,13 @@ loop-esi-preserved c =
     elim c.if-seen-esi.branch [
       | then-seen-esi w ↦ record {
         few = omega arith;
+        most = omega (arith, w.count-is, c.if-count-need.false, c.loop-esi.invariant.most);
         counts = λ held. rw add-one (w.count-is ∙ ap (λ (x : ℕ). x + 1) (c.loop-esi.invariant.counts held)
             ∙ sym (one_more_held (λ (j : ℕ). is_some (arrived_at held c.args.came.now j)) c.loop-esi.esi (is held ∙ w.if-seen-esi.true)));
       }
       | else-seen-esi w ↦ record {
         few = omega arith;
+        most = omega (arith, w.count-is, c.loop-esi.invariant.most);
         counts = λ held. rw add-one (w.count-is ∙ c.loop-esi.invariant.counts held
             ∙ sym (none_more_held (λ (j : ℕ). is_some (arrived_at held c.args.came.now j)) c.loop-esi.esi (is held ∙ w.if-seen-esi.false)));
       }
@@ -30,3 +32,12 @@ loop-esi-preserved c =
 
 pub returns-then-count-need-clause-enough : goal.returns-then-count-need-clause-enough
 returns-then-count-need-clause-enough c = λ held h. omega (arith, c.if-count-need.true, c.loop-esi.invariant.counts held)
+
+pub returns-then-count-need-clause-least : goal.returns-then-count-need-clause-least
+returns-then-count-need-clause-least c = λ held. omega (arith, c.if-count-need.true, c.loop-esi.invariant.counts held)
+
+pub returns-clause-least : goal.returns-clause-least
+returns-clause-least c = λ held.
+    let end : c.loop-esi.esi ≡ c.args.n = omega (arith, c.loop-esi-test.false, c.loop-esi.auto.esi-end) in
+    let counts = c.loop-esi.invariant.counts held ∙ ap (λ (m : ℕ). length (filter (λ (j : ℕ). is_some (arrived_at held c.args.came.now j)) (below m))) end in
+    omega (arith, counts, c.loop-esi.invariant.most)

@@ -8,5 +8,6 @@ use Rattle.decoder.proofs.enough.least_enough.Given as goal
 abbrev pub invariant-loop-esi : goal.invariant-loop-esi
 invariant-loop-esi l = record {
   few : l.count ≤ l.esi;
+  most : l.count ≤ l.need;
   counts : (held : Place → List ℕ) → l.count ≡ length (filter (λ j. is_some (arrived_at held l.came j)) (below l.esi));
 }
