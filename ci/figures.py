@@ -87,10 +87,11 @@ def constants():
     yield "docs/FORMATS.md", r"longer than (\d+) letters", [
         constant("crates/picture/src/canvas.rt", r"^const NAME_LETTERS: usize = (\d+);")
     ]
-    shift = r"^const MOST_BYTES: usize = 1 << (\d+);"
-    group = 2 ** constant("crates/encoder/src/rounds_from.rt", shift) >> 20
+    most = r"^const MOST_GROUP_BYTES: usize = 1 << (\d+);"
+    group = 2 ** constant("crates/encoder/src/rounds_from.rt", most) >> 20
     yield "README.md", r"up to (\d+) MiB of encoding symbols", [group]
     yield "docs/OPERATING.md", r"within 1\.25 and (\d+) MiB", [group]
+    shift = r"^const MOST_BYTES: usize = 1 << (\d+);"
     batch = 2 ** constant("crates/encoder/src/rounds.rt", shift) >> 20
     for name in ("docs/OPERATING.md", "docs/EMBEDDING.md"):
         yield name, r"up to (\d+) MiB of repair symbols", [batch]
