@@ -16,7 +16,7 @@ from ctypes import POINTER, byref, c_bool, c_char_p, c_size_t, c_void_p
 from ctypes import c_uint8, c_uint16, c_uint32, c_uint64
 from dataclasses import dataclass
 from enum import IntEnum
-from typing import Callable, List, Optional, Tuple, Union
+from typing import Callable, List, Optional, Tuple, TypeVar, Union
 
 __all__ = [
     "AlcrsError", "Checker", "Early", "Empty", "Missing", "No", "NoCertificate", "NoneShort",
@@ -404,7 +404,30 @@ def twin(session: bytes, an_object: bytes, certificate: bytes, tsi: int, toi: in
     )
 
 
-class Receiver:
+_Kept = TypeVar("_Kept", bound="_Closing")
+
+
+class _Closing:
+    """What has a handle, which a with statement closes, or else the end of its life."""
+
+    def __init__(self) -> None:
+        self._handle = _Handle()
+
+    def close(self) -> None:
+        raise NotImplementedError
+
+    def __enter__(self: _Kept) -> _Kept:
+        return self
+
+    def __exit__(self, *_: object) -> None:
+        self.close()
+
+    def __del__(self) -> None:
+        if hasattr(self, "_handle"):
+            self.close()
+
+
+class Receiver(_Closing):
     """A receiver of the datagrams of one object, one at a time. It belongs to one thread; a with
     statement closes it.
 
@@ -415,7 +438,7 @@ class Receiver:
     """
 
     def __init__(self, tsi: int, toi: int) -> None:
-        self._handle = _Handle()
+        super().__init__()
         status = _library.alcrs_receiver_open(byref(self._handle), *_name(tsi, toi))
         if status != Status.OK:
             raise _error(status, _Fault())
@@ -444,18 +467,8 @@ class Receiver:
         """Frees what was kept. A receiver that is closed stays so."""
         _library.alcrs_receiver_close(byref(self._handle))
 
-    def __enter__(self) -> "Receiver":
-        return self
 
-    def __exit__(self, *_: object) -> None:
-        self.close()
-
-    def __del__(self) -> None:
-        if hasattr(self, "_handle"):
-            self.close()
-
-
-class Checker:
+class Checker(_Closing):
     """A check of the datagrams of one object, one at a time: its verdict is that of check on a
     session of the datagrams that came. It belongs to one thread; a with statement closes it.
 
@@ -468,7 +481,7 @@ class Checker:
         """Where the object and its certificate alone give a no, whatever datagrams come, that is
         what feed and verdict return. Raises NoCertificate or MemoryError.
         """
-        self._handle = _Handle()
+        super().__init__()
         self._reason: Optional[No] = None
         fault = _Fault()
         status = _library.alcrs_checker_open(
@@ -512,13 +525,3 @@ class Checker:
         """Frees what was kept. A checker that is closed stays so."""
         self._reason = None
         _library.alcrs_checker_close(byref(self._handle))
-
-    def __enter__(self) -> "Checker":
-        return self
-
-    def __exit__(self, *_: object) -> None:
-        self.close()
-
-    def __del__(self) -> None:
-        if hasattr(self, "_handle"):
-            self.close()

@@ -1,12 +1,11 @@
 -- Handles of checkers.
-use Rattle.std.specs.Prelude.{◌≡◌, ℕ, Bool, true, false, List, [], Some, None, ⊤}
+use Rattle.std.specs.Prelude.{◌≡◌, ℕ, Bool, true, false, List, Some, ⊤}
 use Rattle.reception.specs.declared.scope.Identity.{Identity}
-use Rattle.reception.specs.Symbols.{IsObject}
-use Rattle.cert.specs.Certificate.{Certificate, IsCertificate, certificate_text, is_for}
+use Rattle.cert.specs.Certificate.{Certificate}
 use Rattle.cert.specs.Fed.{IsFed, WasFed, ended_of}
-use Rattle.cert.specs.Verdict.{GivesObject}
 use Rattle.cert.specs.declared.verdict.Reason.{Reason}
 use Rattle.cert.specs.declared.walk.NoReport.TheVariants.{Reason as ByReason, NoMemory}
+use Rattle.alcrs_c.specs.Ready.{IsReady}
 use Rattle.alcrs_c.specs.declared.checker.AlcrsChecker.{AlcrsChecker}
 
 -- what is behind the flag: a checker that was made or fed, or anything
@@ -34,15 +33,9 @@ IsOver h reason = (h.is_open ≡ true) × (ended_of h.held.value ≡ Some (ByRea
 abbrev pub Lacks : AlcrsChecker → Type 0
 Lacks h = (h.is_open ≡ true) × (ended_of h.held.value ≡ Some NoMemory)
 
--- The certificate's bytes are a certificate's, and the handle is open for it, with no datagram fed.
--- The certificate has no other identity's name, and gives the object.
+-- the handle is open with a checker that is ready
 pub record IsOpenFor (h : AlcrsChecker) (who : Identity) (object certificate : List ℕ)
     : Type 0 where
-  pub z : Certificate
-  pub is : IsCertificate z
-  pub text : certificate ≡ certificate_text z
-  pub opens : IsOpen h who object z []
-  pub going : ended_of h.held.value ≡ None
-  pub name : is_for who z.name ≡ true
-  pub form : IsObject z.fti object
-  pub gives : GivesObject object z
+  pub opened : h.is_open ≡ true
+  pub full : h.held.full ≡ true
+  pub ready : IsReady who object certificate h.held.value
