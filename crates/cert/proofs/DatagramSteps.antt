@@ -32,7 +32,8 @@ use Rattle.cert.specs.declared.verdict.Reason.TheVariants.{OtherCertificate, Obj
 use Rattle.cert.specs.declared.walk.NoReport.{NoReport}
 use Rattle.cert.specs.declared.walk.NoReport.TheVariants.{Reason as ByReason, NoMemory}
 use Rattle.cert.specs.Certificate.{Certificate}
-use Rattle.cert.specs.DatagramWalk.{AreWalked, IsAtLast, IsNotKept, IsNotPassed}
+use Rattle.cert.specs.DatagramWalk.{IsNotKept}
+use Rattle.cert.specs.Tallying.{AreTallied, IsAtLast, IsUnpassed, Says, Tallied, judge_by}
 use Rattle.cert.specs.Scan.{AreGroupsOf, IsPut, with_carrier}
 use Rattle.cert.specs.Verdict.{uncertified, reception_to, reason_at, first_reason}
 use Rattle.cert.proofs.Bridge.{group_more}
@@ -95,21 +96,23 @@ one_more xs x s is =
     let one = ap (λ (ss : List Symbol). length ss) is in
     omega (arith, all, parts, last, one)
 
-module _ (who : Identity) (z : Certificate) (scope : Scope) (count taken : ℕ) (groups : List Group) (carriers : List ℕ) (ds : List (List ℕ))
-    (are : AreWalked who z scope count taken groups carriers ds) where
-  -- the identity is that which is asked for
-  same_who : scope.identity ≡ who
-  same_who = sym (ap (λ (s : Scope). s.identity) are.holds) ∙ identity_stays (with_fti who z.fti) (counted who (readings_of ds))
+module _ (says : Says) (f : Fti) (t : Tallied) (ds : List (List ℕ)) (are : AreTallied says f t ds) where
+  abbrev who : Identity
+  who = t.scope.identity
 
-  -- the certificate's FTI holds
-  pub fti_holds : scope.fti ≡ Some z.fti
-  fti_holds = sym (ap (λ (s : Scope). s.fti) are.holds) ∙ ap (λ (s : Scope). s.fti) (stays who z.fti (counted who (readings_of ds)))
+  -- the FTI holds
+  pub fti_holds : t.scope.fti ≡ Some f
+  fti_holds = sym (ap (λ (s : Scope). s.fti) are.holds) ∙ ap (λ (s : Scope). s.fti) (stays who f (counted who (readings_of ds)))
 
-  module _ (d : List ℕ) (new : Scope) (answer : Result Look PlaceFault) (at : IsLook d scope new answer) where
-    one_longer : length (ds ++ d ∷ []) ≡ count + 1
+  -- the tally with one datagram more
+  abbrev one_tallied : ℕ → List Group → List ℕ → Tallied
+  one_tallied many after with = record { scope = t.scope; count = t.count + 1; taken = many; groups = after; carriers = with }
+
+  module _ (d : List ℕ) (answer : Result Look PlaceFault) (at : IsLook d t.scope t.scope answer) where
+    one_longer : length (ds ++ d ∷ []) ≡ t.count + 1
     one_longer = let l = length-append ds (d ∷ []) in let m = are.many in omega (arith, l, m)
 
-    at_last : (w : Wrong ℕ) → IsAtLast (ds ++ d ∷ []) (reason_at count w)
+    at_last : (w : Wrong ℕ) → IsAtLast (ds ++ d ∷ []) (reason_at t.count w)
     at_last (Faulty (fault.NoPacket r)) = one_longer
     at_last (Faulty fault.OtherFti) = one_longer
     at_last (Faulty fault.SymbolLength) = one_longer
@@ -117,100 +120,99 @@ module _ (who : Identity) (z : Certificate) (scope : Scope) (count taken : ℕ) 
     at_last (Judged c) = one_longer
 
     -- something is wrong with the next datagram
-    pub refuses : (w : Wrong ℕ) → wrong_by (uncertified z) (came_before who (ds ++ d ∷ []) (length ds)) (looked answer) ≡ Some w
-        → IsNotPassed who (ds ++ d ∷ []) z (ByReason (reason_at count w))
+    pub refuses : (w : Wrong ℕ) → wrong_by (judge_by says) (came_before who (ds ++ d ∷ []) (length ds)) (looked answer) ≡ Some w
+        → IsUnpassed says f who (ds ++ d ∷ []) (ByReason (reason_at t.count w))
     refuses w is = (
       ap (λ (found : Found ℕ). option_map (λ x. reason_at x.0 x.1) found)
-          (wrong_now (uncertified z) (with_fti who z.fti) z.fti ds scope fti_holds are.clean are.holds d new answer at w is ∙ ap (λ (n : ℕ). Some (n, w)) are.many),
+          (wrong_now (judge_by says) (with_fti who f) f ds t.scope fti_holds are.clean are.holds d t.scope answer at w is ∙ ap (λ (n : ℕ). Some (n, w)) are.many),
       at_last w,
     )
 
     -- the readings, and the next behind them
     one_reading : readings_of (ds ++ d ∷ []) ≡ readings_of ds ++ at.reading ∷ []
-    one_reading = readings_more (uncertified z) (with_fti who z.fti) z.fti ds scope fti_holds are.clean are.holds d new answer at
+    one_reading = readings_more (judge_by says) (with_fti who f) f ds t.scope fti_holds are.clean are.holds d t.scope answer at
 
-    place : length (readings_of ds) ≡ count
+    place : length (readings_of ds) ≡ t.count
     place = length-map ds read_of ∙ are.many
 
     -- the readings that count, and the next where it does
-    counted_is : counted who (readings_of (ds ++ d ∷ [])) ≡ counted who (readings_of ds) ++ placed_at who count at.reading
+    counted_is : counted who (readings_of (ds ++ d ∷ [])) ≡ counted who (readings_of ds) ++ placed_at who t.count at.reading
     counted_is =
         ap (λ (rs : List Reading). counted who rs) one_reading
         ∙ counted_one_more who (readings_of ds) at.reading
         ∙ ap (λ (n : ℕ). counted who (readings_of ds) ++ placed_at who n at.reading) place
 
     -- nothing is wrong with it
-    next : (after : List Group) (with : List ℕ) (many : ℕ) → wrong_by (uncertified z) (came_before who (ds ++ d ∷ []) (length ds)) (looked answer) ≡ None
-        → length (symbols (counted who (readings_of (ds ++ d ∷ [])))) ≡ many → AreGroupsOf z.fti (counted who (readings_of (ds ++ d ∷ []))) after
-        → with ≡ places_from (is_carrier who) 0 (readings_of (ds ++ d ∷ [])) → AreWalked new.identity z new (count + 1) many after with (ds ++ d ∷ [])
+    next : (after : List Group) (with : List ℕ) (many : ℕ) → wrong_by (judge_by says) (came_before who (ds ++ d ∷ []) (length ds)) (looked answer) ≡ None
+        → length (symbols (counted who (readings_of (ds ++ d ∷ [])))) ≡ many → AreGroupsOf f (counted who (readings_of (ds ++ d ∷ []))) after
+        → with ≡ places_from (is_carrier who) 0 (readings_of (ds ++ d ∷ [])) → AreTallied says f (one_tallied many after with) (ds ++ d ∷ [])
     next after with many none is groups placed =
-        let w = clean_now (uncertified z) (with_fti who z.fti) z.fti ds scope fti_holds are.clean are.holds d new answer at none in
-        subst (λ (i : Identity). AreWalked i z new (count + 1) many after with (ds ++ d ∷ [])) (sym (same_identity d scope new answer at ∙ same_who))
-        (record { clean = w.0; holds = w.1; many = one_longer; counts = is; grouped = groups; placed = placed })
+        let w = clean_now (judge_by says) (with_fti who f) f ds t.scope fti_holds are.clean are.holds d t.scope answer at none in
+        record { clean = w.0; holds = w.1; many = one_longer; counts = is; grouped = groups; placed = placed }
 
   -- a packet of another identity is passed over
-  pub passes_over : (d : List ℕ) (new : Scope) → IsLook d scope new (Ok look_at.Other) → AreWalked new.identity z new (count + 1) taken groups carriers (ds ++ d ∷ [])
-  passes_over d new at =
-      let other : counts who at.reading ≡ false = subst (λ (i : Identity). counts i at.reading ≡ false) same_who (passed_counts d scope new at) in
+  pub passes_over : (d : List ℕ) → IsLook d t.scope t.scope (Ok look_at.Other) → AreTallied says f (one_tallied t.taken t.groups t.carriers) (ds ++ d ∷ [])
+  passes_over d at =
+      let other : counts who at.reading ≡ false = passed_counts d t.scope t.scope at in
       let same : counted who (readings_of (ds ++ d ∷ [])) ≡ counted who (readings_of ds) =
-      counted_is d new (Ok look_at.Other) at
-      ∙ ap (λ (v : Bool). counted who (readings_of ds) ++ cond v (record { place = count; reading = at.reading } ∷ []) []) other
+      counted_is d (Ok look_at.Other) at
+      ∙ ap (λ (v : Bool). counted who (readings_of ds) ++ cond v (record { place = t.count; reading = at.reading } ∷ []) []) other
       ∙ append-nil (counted who (readings_of ds)) in
-      next d new (Ok look_at.Other) at groups carriers taken refl
+      next d (Ok look_at.Other) at t.groups t.carriers t.taken refl
       (ap (λ (xs : List Placed). length (symbols xs)) same ∙ are.counts)
-      (subst (λ (xs : List Placed). AreGroupsOf z.fti xs groups) (sym same) are.grouped)
+      (subst (λ (xs : List Placed). AreGroupsOf f xs t.groups) (sym same) are.grouped)
       (are.placed
-      ∙ sym (ap (λ (rs : List Reading). places_from (is_carrier who) 0 rs) (one_reading d new (Ok look_at.Other) at) ∙ places_passed who (readings_of ds) at.reading other))
+      ∙ sym (ap (λ (rs : List Reading). places_from (is_carrier who) 0 rs) (one_reading d (Ok look_at.Other) at) ∙ places_passed who (readings_of ds) at.reading other))
 
   -- none comes before the FTI is known
-  pub not_early : (d : List ℕ) (new : Scope) → IsLook d scope new (Ok look_at.Early) → ⊥
-  not_early d new at = never_early d scope new at z.fti fti_holds
+  pub not_early : (d : List ℕ) → IsLook d t.scope t.scope (Ok look_at.Early) → ⊥
+  not_early d at = never_early d t.scope t.scope at f fti_holds
 
-  module _ (d : List ℕ) (new : Scope) (p : ReadPacket) (at : IsLook d scope new (Ok (look_at.InRange p))) where
-    pub packet_in_range : in_range (packet_of p) z.fti ≡ true
-    packet_in_range = (faultless_look d scope new p at z.fti (fti_after d scope new (Ok (look_at.InRange p)) at z.fti fti_holds)).range
+  module _ (d : List ℕ) (p : ReadPacket) (at : IsLook d t.scope t.scope (Ok (look_at.InRange p))) where
+    pub packet_in_range : in_range (packet_of p) f ≡ true
+    packet_in_range = (faultless_look d t.scope t.scope p at f (fti_after d t.scope t.scope (Ok (look_at.InRange p)) at f fti_holds)).range
 
-    pub symbol_long : length p.symbol.now ≡ z.fti.symbol_length
-    symbol_long = length_look d scope new p at z.fti (fti_after d scope new (Ok (look_at.InRange p)) at z.fti fti_holds)
+    pub symbol_long : length p.symbol.now ≡ f.symbol_length
+    symbol_long = length_look d t.scope t.scope p at f (fti_after d t.scope t.scope (Ok (look_at.InRange p)) at f fti_holds)
 
-    pub block_there : (packet_of p).block < length groups
+    pub block_there : (packet_of p).block < length t.groups
     block_there =
-        let l = ltb-true (packet_of p).block (block_count z.fti) (both _ _ packet_in_range).0 in
+        let l = ltb-true (packet_of p).block (block_count f) (both _ _ packet_in_range).0 in
         let g = are.grouped.count in
         omega (arith, l, g)
 
     mine : counts who at.reading ≡ true
-    mine = subst (λ (i : Identity). counts i at.reading ≡ true) same_who (packet_counts d scope new p at)
+    mine = packet_counts d t.scope t.scope p at
 
     -- its place is a carrier's where it carries an FTI
-    carriers_more : places_from (is_carrier who) 0 (readings_of (ds ++ d ∷ [])) ≡ with_carrier carriers count (packet_of p).fti
+    carriers_more : places_from (is_carrier who) 0 (readings_of (ds ++ d ∷ [])) ≡ with_carrier t.carriers t.count (packet_of p).fti
     carriers_more =
-        let is : at.reading ≡ Ok (packet_of p) = is_packet d scope new p at in
-        ap (λ (rs : List Reading). places_from (is_carrier who) 0 rs) (one_reading d new (Ok (look_at.InRange p)) at)
+        let is : at.reading ≡ Ok (packet_of p) = is_packet d t.scope t.scope p at in
+        ap (λ (rs : List Reading). places_from (is_carrier who) 0 rs) (one_reading d (Ok (look_at.InRange p)) at)
         ∙ ap (λ (r : Reading). places_from (is_carrier who) 0 (readings_of ds ++ r ∷ [])) is
         ∙ places_with who (readings_of ds) (packet_of p) (subst (λ (r : Reading). counts who r ≡ true) is mine)
-        ∙ ap (λ (n : ℕ). with_carrier (places_from (is_carrier who) 0 (readings_of ds)) n (packet_of p).fti) (place d new (Ok (look_at.InRange p)) at)
-        ∙ ap (λ (ps : List ℕ). with_carrier ps count (packet_of p).fti) (sym are.placed)
+        ∙ ap (λ (n : ℕ). with_carrier (places_from (is_carrier who) 0 (readings_of ds)) n (packet_of p).fti) (place d (Ok (look_at.InRange p)) at)
+        ∙ ap (λ (ps : List ℕ). with_carrier ps t.count (packet_of p).fti) (sym are.placed)
 
     -- the next datagram has no reason against it
-    pub passes : (after : List Group) (with : List ℕ) → uncertified z [] (symbol_of (packet_of p)) ≡ None → IsPut groups count (symbol_of (packet_of p)) after
-        → with ≡ with_carrier carriers count (packet_of p).fti → AreWalked new.identity z new (count + 1) (taken + 1) after with (ds ++ d ∷ [])
+    pub passes : (after : List Group) (with : List ℕ) → says (symbol_of (packet_of p)) ≡ None → IsPut t.groups t.count (symbol_of (packet_of p)) after
+        → with ≡ with_carrier t.carriers t.count (packet_of p).fti → AreTallied says f (one_tallied (t.taken + 1) after with) (ds ++ d ∷ [])
     passes after with says put placed =
-        let x : Placed = record { place = count; reading = at.reading } in
-        let is : symbols_in at.reading ≡ symbol_of (packet_of p) ∷ [] = ap symbols_in (is_packet d scope new p at) in
+        let x : Placed = record { place = t.count; reading = at.reading } in
+        let is : symbols_in at.reading ≡ symbol_of (packet_of p) ∷ [] = ap symbols_in (is_packet d t.scope t.scope p at) in
         let more : counted who (readings_of (ds ++ d ∷ [])) ≡ counted who (readings_of ds) ++ x ∷ [] =
-        counted_is d new (Ok (look_at.InRange p)) at ∙ ap (λ (v : Bool). counted who (readings_of ds) ++ cond v (x ∷ []) []) mine in
-        next d new (Ok (look_at.InRange p)) at after with (taken + 1) (ap (λ (o : Option ℕ). judged o) says)
+        counted_is d (Ok (look_at.InRange p)) at ∙ ap (λ (v : Bool). counted who (readings_of ds) ++ cond v (x ∷ []) []) mine in
+        next d (Ok (look_at.InRange p)) at after with (t.taken + 1) (ap (λ (o : Option ℕ). judged o) says)
         (ap (λ (xs : List Placed). length (symbols xs)) more ∙ one_more (counted who (readings_of ds)) x (symbol_of (packet_of p)) is ∙ ap (λ (n : ℕ). n + 1) are.counts)
-        (subst (λ (xs : List Placed). AreGroupsOf z.fti xs after) (sym more)
-        (group_more z.fti (counted who (readings_of ds)) count (symbol_of (packet_of p)) at.reading is groups after are.grouped put))
+        (subst (λ (xs : List Placed). AreGroupsOf f xs after) (sym more)
+        (group_more f (counted who (readings_of ds)) t.count (symbol_of (packet_of p)) at.reading is t.groups after are.grouped put))
         (placed ∙ sym carriers_more)
 
     -- it isn't, since its symbol isn't the certified one
-    pub refuses_symbol : (e : NoReport) → IsNotKept z count (packet_of p) e → IsNotPassed who (ds ++ d ∷ []) z e
+    pub refuses_symbol : (e : NoReport) → IsNotKept says t.count (packet_of p) e → IsUnpassed says f who (ds ++ d ∷ []) e
     refuses_symbol NoMemory h = tt
     refuses_symbol (ByReason (NotCertified i c)) h =
-        rw h.0 (refuses d new (Ok (look_at.InRange p)) at (Judged c) (ap (λ (o : Option ℕ). judged o) h.1))
+        rw h.0 (refuses d (Ok (look_at.InRange p)) at (Judged c) (ap (λ (o : Option ℕ). judged o) h.1))
     refuses_symbol (ByReason OtherCertificate) h = absurd h
     refuses_symbol (ByReason ObjectLength) h = absurd h
     refuses_symbol (ByReason (NotObject b c i)) h = absurd h

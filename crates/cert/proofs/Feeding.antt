@@ -51,7 +51,7 @@ module _ (who : Identity) (object : List ℕ) (z : Certificate) where
 
     -- the datagram has a reason
     pub now_no : (walk : Walk) → IsWalkOver walk who object z ds → AreDatagrams ds → (r : Reason)
-        → IsNotPassed walk.scope.identity (ds ++ d ∷ []) walk.symbols (ByReason r) → IsNoToAll who (ds ++ d ∷ []) object z r
+        → IsNotPassed walk.tally.scope.identity (ds ++ d ∷ []) walk.symbols (ByReason r) → IsNoToAll who (ds ++ d ∷ []) object z r
     now_no walk over each r h =
         let name = rw (over.identity, over.certificate) at walk.name in
         let form = rw (over.certificate, over.object_is) at walk.form in
@@ -64,14 +64,14 @@ module _ (who : Identity) (object : List ℕ) (z : Certificate) where
 
   module _ (ds : List (List ℕ)) (walk : Walk) (over : IsWalkOver walk who object z ds) (each : AreDatagrams ds) where
     -- all is well
-    pub judged_yes : (report : Report) → AreEnoughCertified walk.scope.identity ds walk.symbols → VerdictOn who (readings_of ds) object z (Yes report)
+    pub judged_yes : (report : Report) → AreEnoughCertified walk.tally.scope.identity ds walk.symbols → VerdictOn who (readings_of ds) object z (Yes report)
     judged_yes report enough =
         let name = rw (over.identity, over.certificate) at walk.name in
         let form = rw (over.certificate, over.object_is) at walk.form in
         let gives = rw (over.certificate, over.object_is) at walk.gives in
         yes_all who ds object z report name form gives (rw (over.identity, over.certificate) at enough)
 
-    pub is_yes : (report : Report) → AreEnoughCertified walk.scope.identity ds walk.symbols → IsVerdict who ds object z (Yes report)
+    pub is_yes : (report : Report) → AreEnoughCertified walk.tally.scope.identity ds walk.symbols → IsVerdict who ds object z (Yes report)
     is_yes report enough = record { readings = readings_of ds; read = read_all ds each; judged = judged_yes report enough }
 
     -- none of them has a reason against it
@@ -81,7 +81,7 @@ module _ (who : Identity) (object : List ℕ) (z : Certificate) where
         record { readings = readings_of ds; read = read_all ds each; none = no_reason _ clean }
 
     -- they don't suffice
-    pub is_short : (r : Reason) → IsNoReport walk.scope.identity ds walk.symbols (ByReason r) → IsVerdict who ds object z (No r)
+    pub is_short : (r : Reason) → IsNoReport walk.tally.scope.identity ds walk.symbols (ByReason r) → IsVerdict who ds object z (No r)
     is_short r h =
         let name = rw (over.identity, over.certificate) at walk.name in
         let form = rw (over.certificate, over.object_is) at walk.form in

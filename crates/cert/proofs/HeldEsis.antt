@@ -2,10 +2,8 @@
 use Rattle.std.proofs.Common.{◌≡◌, ◌<◌, ◌++◌, Bool, true, false, cond, ℕ, List, [], ◌∷◌, get_or, length, map, refl, sym, ap, ◌∙◌, arith}
 use Rattle.std.specs.Prelude.{◌==◌}
 use Rattle.std.proofs.lemmas.List.{map-append, length-map}
-use Rattle.losses.specs.Groups.{group_of, groups_of}
-use Rattle.losses.specs.declared.groups.Group.{Group as GroupOf}
+use Rattle.losses.specs.Groups.{Group, group_at}
 use Rattle.losses.specs.declared.groups.Member.{Member}
-use Rattle.losses.proofs.GroupFigures.{members_seen}
 use Rattle.partition.specs.Fti.{Fti, block_count}
 use Rattle.reception.specs.Symbols.{Symbol}
 use Rattle.reception.specs.Reception.{Placed, symbols, symbols_in}
@@ -29,10 +27,6 @@ esis_of_placed b (x ∷ xs) =
     ∙ ap (λ (js : List ℕ). esis_of b (symbols_in x.reading) ++ js) (esis_of_placed b xs)
     ∙ sym (esis_more b (symbols_in x.reading) (symbols xs))
 
-pub held_esis : (f : Fti) (xs : List Placed) (gs : List GroupOf) (b : ℕ) (g : GroupOf) → AreGroupsOf f xs (groups_of gs) → b < block_count f → g ≡ get_or gs b g
-    → map (λ (q : Member). q.esi) g.members.items ≡ esis_of b (symbols xs)
-held_esis f xs gs b g are within is =
-    let within_groups : b < length gs = omega (arith, within, are.count, length-map gs group_of) in
-    ap (λ (x : GroupOf). map (λ (q : Member). q.esi) x.members.items) is
-    ∙ ap (map (λ (q : Member). q.esi)) (sym (members_seen gs b g within_groups) ∙ are.members b within)
-    ∙ esis_of_placed b xs
+pub held_esis : (f : Fti) (xs : List Placed) (groups : List Group) (b : ℕ) → AreGroupsOf f xs groups → b < block_count f
+    → map (λ (q : Member). q.esi) (group_at groups b).members ≡ esis_of b (symbols xs)
+held_esis f xs groups b are within = ap (map (λ (q : Member). q.esi)) (are.members b within) ∙ esis_of_placed b xs

@@ -16,6 +16,7 @@ pub mod GivenName
 pub mod ConvertedBegun
 pub mod Scanning
 pub mod Judging
+pub mod Knowing
 pub mod Bridge
 pub mod Vectors
 pub mod CheckVectors

@@ -15,7 +15,7 @@ use Rattle.cert.specs.declared.walk.Walk.{Walk}
 -- the walk is one over these datagrams, for this identity, object and certificate
 pub record IsWalkOver (walk : Walk) (who : Identity) (object : List ℕ) (z : Certificate)
     (datagrams : List (List ℕ)) : Type 0 where
-  pub identity : walk.scope.identity ≡ who
+  pub identity : walk.tally.scope.identity ≡ who
   pub certificate : walk.symbols ≡ z
   pub object_is : cow_slice_items walk.object ≡ object
   pub walked : HasWalked walk datagrams

@@ -16,6 +16,7 @@ pub mod CertifiedSymbol
 pub mod TwinBytes
 pub mod NotGiven
 pub mod NotBegun
+pub mod Tallying
 pub mod DatagramWalk
 pub mod FromReader
 pub mod Endings

@@ -46,6 +46,7 @@ mod repair_symbols;
 mod runs;
 mod source;
 mod surveying;
+mod tally;
 mod twins;
 mod verdict;
 mod view;
@@ -63,6 +64,7 @@ pub use laws::{
 };
 pub use losses::Run;
 pub use surveying::survey_from;
+pub use tally::Tally;
 pub use twins::{session_twin, twin};
 pub use verdict::{Reason, Report, Survey, Verdict};
 pub use view::CertificateView;

@@ -7,7 +7,7 @@ use Rattle.cert.proofs.from_reader.walk_from.Given as goal
 
 abbrev pub invariant-loop-walk : goal.invariant-loop-walk
 invariant-loop-walk g l = record {
-  identity : l.walk.scope.identity ≡ l.fn.identity;
+  identity : l.walk.tally.scope.identity ≡ l.fn.identity;
   certificate : l.walk.symbols ≡ l.fn.certificate;
   object : cow_slice_items l.walk.object ≡ l.object;
   read :

@@ -6,7 +6,7 @@ use Rattle.losses.specs.declared.groups.Group.{Group as GroupOf}
 use Rattle.losses.proofs.GroupFigures.{seen}
 use Rattle.cert.specs.Scan.{line_in}
 use Rattle.cert.proofs.Bridge.{map_below_more}
-use Rattle.cert.proofs.walk.block_lines.Goals as goal
+use Rattle.cert.proofs.tally.block_lines.Goals as goal
 
 pub loop-block-init : goal.loop-block-init
 unfolding below

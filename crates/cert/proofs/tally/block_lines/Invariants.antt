@@ -2,7 +2,7 @@ use Rattle.std.proofs.Common.{◌≡◌, ◌<◌, ◌≤◌, ℕ, map}
 use Rattle.lists.specs.Below.{below}
 use Rattle.losses.specs.Groups.{groups_of, group_at}
 use Rattle.cert.specs.Scan.{line_in, different_in}
-use Rattle.cert.proofs.walk.block_lines.Given as goal
+use Rattle.cert.proofs.tally.block_lines.Given as goal
 
 abbrev pub invariant-loop-block : goal.invariant-loop-block
 invariant-loop-block l = record {

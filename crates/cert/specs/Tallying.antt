@@ -1,0 +1,94 @@
+-- What is known of datagrams that were looked at one by one, whatever is asked of their symbols.
+use Rattle.std.specs.Prelude.{◌≡◌, ℕ, ◌+◌, List, [], length, Option, None, Some, IfSome, option_map, ⊤}
+use Rattle.losses.specs.Groups.{Group, groups_of}
+use Rattle.losses.specs.Losses.{places_from}
+use Rattle.alc.specs.Reading.{Reading}
+use Rattle.partition.specs.Fti.{Fti}
+use Rattle.reception.specs.Symbols.{Symbol}
+use Rattle.reception.specs.Reception.{Judge, counted, symbols, is_carrier, with_fti, reception_with}
+use Rattle.reception.specs.declared.scope.Identity.{Identity}
+use Rattle.reception.specs.declared.scope.Scope.{Scope}
+use Rattle.reception.specs.Walks.{readings_of}
+use Rattle.cert.specs.declared.tally.Tally.{Tally}
+use Rattle.cert.specs.declared.walk.NoReport.{NoReport}
+use Rattle.cert.specs.declared.walk.NoReport.TheVariants.{Reason as ByReason, NoMemory}
+use Rattle.cert.specs.declared.verdict.Reason.{Reason}
+use Rattle.cert.specs.declared.verdict.Reason.TheVariants.{Packet as NoPacket, OtherFti}
+use Rattle.cert.specs.declared.verdict.Reason.TheVariants.{SymbolLength, Range, Symbol as NoSymbol}
+use Rattle.cert.specs.Certificate.{Certificate, IsCertificate}
+use Rattle.cert.specs.Scan.{AreGroupsOf}
+use Rattle.cert.specs.Verdict.{reason_at, uncertified}
+
+-- what is said of a symbol in range: the column in which it is wrong, if it is
+abbrev pub Says : Type 0
+Says = Symbol → Option ℕ
+
+-- nothing is asked of symbols
+abbrev pub nothing : Says
+nothing symbol = None
+
+-- they are compared with those that the certificate gives
+abbrev pub by_certificate : Certificate → Says
+by_certificate z symbol = uncertified z [] symbol
+
+abbrev pub judge_by : Says → Judge ℕ
+judge_by says earlier symbol = says symbol
+
+-- the values of a tally
+pub record Tallied : Type 0 where
+  pub scope : Scope
+  pub count : ℕ
+  pub taken : ℕ
+  pub groups : List Group
+  pub carriers : List ℕ
+
+abbrev pub tallied_of : Tally → Tallied
+tallied_of tally = record {
+  scope = tally.scope;
+  count = tally.count;
+  taken = tally.taken;
+  groups = groups_of tally.groups.items;
+  carriers = tally.carriers.items;
+}
+
+-- these datagrams came, of which none has a reason against it where this FTI holds and this is said
+-- of symbols: how many they are, and how many packets of the identity; the places and ESIs of these
+-- by block; and the places of the carriers
+pub record AreTallied (says : Says) (f : Fti) (t : Tallied) (datagrams : List (List ℕ)) : Type 0 where
+  pub clean : (reception_with (judge_by says) (with_fti t.scope.identity f)
+      (readings_of datagrams)).wrong ≡ None
+  pub holds : (reception_with (judge_by says) (with_fti t.scope.identity f)
+      (readings_of datagrams)).scope ≡ t.scope
+  pub many : length datagrams ≡ t.count
+  pub counts : length (symbols (counted t.scope.identity (readings_of datagrams))) ≡ t.taken
+  pub grouped : AreGroupsOf f (counted t.scope.identity (readings_of datagrams)) t.groups
+  pub placed : t.carriers ≡ places_from (is_carrier t.scope.identity) 0 (readings_of datagrams)
+
+-- it is the tally of these datagrams, all of them as the certificate has them
+pub record IsTallyOf (z : Certificate) (tally : Tally) (datagrams : List (List ℕ)) : Type 0 where
+  pub valid : IsCertificate z
+  pub tallied : AreTallied (by_certificate z) z.fti (tallied_of tally) datagrams
+
+-- the reason at the least place that has one, and there the first
+abbrev pub first_reason_by : Says → Fti → Identity → List Reading → Option Reason
+first_reason_by says f who rs =
+    option_map (λ x. reason_at x.0 x.1) (reception_with (judge_by says) (with_fti who f) rs).wrong
+
+-- the place that a reason tells
+abbrev pub place_of : Reason → Option ℕ
+place_of (NoPacket i fault) = Some i
+place_of (OtherFti i) = Some i
+place_of (SymbolLength i) = Some i
+place_of (Range i) = Some i
+place_of (NoSymbol i c) = Some i
+place_of _ = None
+
+-- a reason at the place of the last of these datagrams
+abbrev pub IsAtLast : List (List ℕ) → Reason → Type 0
+IsAtLast datagrams reason = IfSome (place_of reason) (λ i. length datagrams ≡ i + 1)
+
+-- why the last of these datagrams isn't passed: it has the first reason at a place
+abbrev pub IsUnpassed : Says → Fti → Identity → List (List ℕ) → NoReport → Type 0
+IsUnpassed says f who datagrams (ByReason r) =
+    (first_reason_by says f who (readings_of datagrams) ≡ Some r) × IsAtLast datagrams r
+IsUnpassed says f who datagrams NoMemory = ⊤
