@@ -33,9 +33,8 @@ pub mod JustEnough
 pub mod SoundObject
 pub mod SymbolBytes
 pub mod Amount
-pub mod Places
-pub mod OneFrame
-pub mod Framed
+pub mod ReadAgain
+pub mod FileFaults
 pub mod FirstCarrier
 pub mod Indexed
 pub mod FromFile

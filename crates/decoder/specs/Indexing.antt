@@ -1,6 +1,6 @@
 -- What a pass over a session file's frames tells.
 use Rattle.std.specs.Prelude.{◌≡◌, ℕ, Bool, List, Option, Result, Err, ⊤, IfSome, IsNone, IsOk}
-use Rattle.session.specs.Frames.{IsFramed, AreDatagrams}
+use Rattle.session.specs.Extents.{AreFrames}
 use Rattle.partition.specs.Fti.{Fti}
 use Rattle.reception.specs.declared.scope.Identity.{Identity}
 use Rattle.reception.specs.declared.scope.Look.{Look}
@@ -16,11 +16,6 @@ use Rattle.decoder.specs.Refusals.{IsRefusal}
 use Rattle.decoder.specs.declared.indexing.Unindexed.{Unindexed}
 use Rattle.decoder.specs.declared.indexing.Unindexed.TheVariants.{Frame, Fault, Again}
 use Rattle.decoder.specs.declared.received.Refusal.TheVariants as refusal
-
--- all bytes of the file are frames of datagrams
-abbrev pub AreFrames : Option (List ℕ) → Type 0
-AreFrames content = IfSome content
-    (λ x. (datagrams : List (List ℕ)) × IsFramed datagrams x × AreDatagrams datagrams)
 
 -- what a look at a datagram says, where no FTI is known: the FTI that comes to be known, and the
 -- fault

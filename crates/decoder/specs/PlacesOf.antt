@@ -14,7 +14,7 @@ use Rattle.decoder.specs.Sources.{AreInRange}
 use Rattle.decoder.specs.Unsolvable.{AreSound}
 use Rattle.decoder.specs.declared.file_source.Indexed.{Indexed}
 use Rattle.decoder.specs.declared.file_gathering.FileSymbols.{FileSymbols}
-use Rattle.decoder.specs.declared.place.Place.{Place}
+use Rattle.session.specs.declared.extent.Extent.{Extent}
 
 -- what came of these datagrams of the file stands at its places
 pub record AreIndexedOf (who : Identity) (datagrams : List (List ℕ)) (x : List ℕ)
@@ -26,8 +26,8 @@ pub record AreIndexedOf (who : Identity) (datagrams : List (List ℕ)) (x : List
 -- whatever the file's bytes are, each block has a code, and as many places as it needs
 pub record AreEnoughPlaces (s : FileSymbols) : Type 0 where
   pub codes : EachBlockHas (IsCodeOf s.indexed.fti) s.indexed.fti s.codes
-  pub range : (held : Place → List ℕ) → AreInRange s.indexed.fti (came_at held s.indexed.symbols)
-  pub enough : (held : Place → List ℕ) (b : ℕ) → b < block_count s.indexed.fti
+  pub range : (held : Extent → List ℕ) → AreInRange s.indexed.fti (came_at held s.indexed.symbols)
+  pub enough : (held : Extent → List ℕ) (b : ℕ) → b < block_count s.indexed.fti
       → IsEnoughAt s.indexed.fti b (came_at held s.indexed.symbols b)
 
 -- at the places stand the symbols that these datagrams of the file have of an object, and

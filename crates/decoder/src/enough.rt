@@ -5,21 +5,21 @@ ghost use Rattle.reception.specs.declared.scope.Scope.{Scope as ScopeValue};
 ghost use Rattle.decoder.specs.Arrivals.{arrived_at};
 ghost use Rattle.decoder.specs.Enough.{at_below};
 ghost use Rattle.decoder.specs.InFile.{AreOfBlock};
-ghost use Rattle.decoder.specs.declared.place.Place.{Place as PlaceValue};
+ghost use Rattle.session.specs.declared.extent.Extent.{Extent as ExtentValue};
 
 use crate::arrivals::{Arrival, seen_of};
-use crate::place::Place;
+use session::Extent;
 use std::alloc::{AllocError, Global};
 
 /// A number below which there are as many different ESIs as are needed, and no more, where there
 /// are as many below `n`.
-pub(crate) fn least_enough(came: &[Arrival<Place>], need: usize, n: usize) -> usize
+pub(crate) fn least_enough(came: &[Arrival<Extent>], need: usize, n: usize) -> usize
     requires { n ≤ 255 }
     ensures most { result ≤ n }
-    ensures enough { (held : PlaceValue → List ℕ)
+    ensures enough { (held : ExtentValue → List ℕ)
         → need ≤ length (filter (λ j. is_some (arrived_at held came.now j)) (below n))
         → need ≤ length (filter (λ j. is_some (arrived_at held came.now j)) (below result)) }
-    ensures least { (held : PlaceValue → List ℕ)
+    ensures least { (held : ExtentValue → List ℕ)
         → length (filter (λ j. is_some (arrived_at held came.now j)) (below result)) ≤ need }
 {
     let seen = seen_of(came);
@@ -38,10 +38,10 @@ pub(crate) fn least_enough(came: &[Arrival<Place>], need: usize, n: usize) -> us
 /// The symbols whose ESIs are below a number.
 pub(crate) fn places_below(
     alloc: Global,
-    came: &[Arrival<Place>],
+    came: &[Arrival<Extent>],
     limit: usize,
-) -> Result<Vec<Arrival<Place>>, AllocError>
-    ensures at { IfOk result (λ v. (held : PlaceValue → List ℕ) (j : ℕ)
+) -> Result<Vec<Arrival<Extent>>, AllocError>
+    ensures at { IfOk result (λ v. (held : ExtentValue → List ℕ) (j : ℕ)
         → arrived_at held v.items j ≡ at_below limit (arrived_at held came.now) j) }
     ensures places { (x : List ℕ) (scope : ScopeValue) (b : ℕ) → AreOfBlock x scope b came.now
         → IfOk result (λ v. AreOfBlock x scope b v.items) }

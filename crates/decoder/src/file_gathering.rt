@@ -13,7 +13,7 @@ ghost use Rattle.decoder.specs.Receiving.{IsWrittenOf};
 ghost use Rattle.decoder.specs.Received.{came_at};
 ghost use Rattle.decoder.specs.Sources.{AreInRange};
 ghost use Rattle.decoder.specs.declared.answer.DecodeFault.{DecodeFault as DecodeFaultValue};
-ghost use Rattle.decoder.specs.declared.place.Place.{Place as PlaceValue};
+ghost use Rattle.session.specs.declared.extent.Extent.{Extent as ExtentValue};
 
 use crate::answer::Answer;
 use crate::file_source::{FileSource, Indexed};
@@ -115,7 +115,7 @@ fn gather_places<F: ReadAt>(
     file: &F,
     indexed: Indexed,
 ) -> Result<GatheredFile, FileFault>
-    requires range { (held : PlaceValue → List ℕ)
+    requires range { (held : ExtentValue → List ℕ)
         → AreInRange indexed.fti (came_at held indexed.symbols) }
     requires told { (x : List ℕ) → F.content file.now ≡ Some x → (ds : List (List ℕ))
         × IsFramed ds x × AreIndexedOf indexed.identity ds x indexed }

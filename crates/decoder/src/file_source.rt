@@ -14,8 +14,8 @@ use crate::arrivals::symbols_below;
 use crate::blocks::block_rows;
 use crate::counting::have;
 use crate::enough::{least_enough, places_below};
-use crate::place::{Place, read_block_again};
 use crate::recovery::Recovery;
+use crate::rereading::read_block_again;
 use crate::rows::Rows;
 use crate::source::{Source, Unread};
 use crate::symbols::Symbols;
@@ -23,6 +23,7 @@ use crate::unsolvable::blocks_of;
 use block_code::BlockCodes;
 use partition::Fti;
 use reception::{Identity, Scope};
+use session::Extent;
 use std::alloc::{AllocError, Global};
 use streams::ReadAt;
 
@@ -31,7 +32,7 @@ use streams::ReadAt;
 pub(crate) struct Indexed {
     pub(crate) identity: Identity,
     pub(crate) fti: Fti,
-    pub(crate) symbols: Symbols<Place>,
+    pub(crate) symbols: Symbols<Extent>,
 }
 
 /// A file, and the places in it.

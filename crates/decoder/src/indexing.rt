@@ -11,24 +11,25 @@ ghost use Rattle.reception.specs.Symbols.{Symbol};
 ghost use Rattle.reception.specs.Reception.{symbol_of, with_fti};
 ghost use Rattle.reception.specs.Answer.{clashes};
 ghost use Rattle.reception.specs.Walks.{scope_in};
-ghost use Rattle.session.specs.Frames.{most_bytes, IsFramed, IsSessionFault};
+ghost use Rattle.session.specs.Extents.{AreFrames};
+ghost use Rattle.session.specs.Frames.{IsFramed, IsSessionFault};
 ghost use Rattle.decoder.specs.InFile.{held_in, AreSymbolsIn, IsSymbolIn, AreOfBlock};
-ghost use Rattle.decoder.specs.Indexing.{AreFrames, IsAlone, IsUnindexed, IsFaultAmong};
+ghost use Rattle.decoder.specs.Indexing.{IsAlone, IsUnindexed, IsFaultAmong};
 ghost use Rattle.decoder.specs.Received.{AreReceived, IsIndex, IsNothing, came_at, list_of};
 ghost use Rattle.decoder.specs.Sources.{AreInRange, IsUnreadOf};
-ghost use Rattle.decoder.specs.declared.place.Place.{Place as PlaceValue};
+ghost use Rattle.session.specs.declared.extent.Extent.{Extent as ExtentValue};
 ghost use Rattle.partition.specs.Fti.{Fti as FtiValue, block_count, encoding_count};
 
 use crate::answer::DecodeFault;
-use crate::place::{Place, read_alone};
 use crate::received::fault_at;
+use crate::rereading::read_alone;
 use crate::source::Unread;
 use crate::symbols::Symbols;
 use alc::Packet;
 use lists::are_bytes;
 use partition::Fti;
 use reception::{Identity, Look, Scope};
-use session::{FrameFault, Read, read_next};
+use session::{Extent, FrameFault, Position, Read, read_next};
 use std::alloc::{AllocError, Global};
 use streams::{Cursor, ReadAt};
 
@@ -81,41 +82,6 @@ impl From<Unread> for Unkept {
 
     fn from(unread: Unread) -> Self {
         Unkept::Again(unread)
-    }
-}
-
-// How far a pass over frames has come: how many bytes, and how many datagrams.
-#[derive(Clone, Copy)]
-struct Position {
-    offset: u64,
-    place: usize,
-}
-
-impl Position {
-    // Where the next datagram stands, and how far the pass has come behind it. There is no more
-    // memory than these numbers can count, and a file isn't longer either.
-    fn pass(self, length: usize) -> Result<(Place, Position), FrameFault>
-        requires { length ≤ most_bytes }
-        ensures offset { IfOk result (λ r. r.0.offset ≡ self.offset + 2) }
-        ensures length { IfOk result (λ r. r.0.length ≡ length) }
-        ensures behind { IfOk result (λ r. r.1.offset ≡ self.offset + 2 + length) }
-        ensures more { IfOk result (λ r. r.1.place ≡ self.place + 1) }
-        ensures fault { IfErr result (λ e. e ≡ FrameFault.NoMemory) }
-    {
-        let Some(begin) = self.offset.checked_add(2) else {
-            return Err(FrameFault::NoMemory);
-        };
-        let Some(offset) = begin.checked_add(length as u64) else {
-            return Err(FrameFault::NoMemory);
-        };
-        let Some(place) = self.place.checked_add(1) else {
-            return Err(FrameFault::NoMemory);
-        };
-        let here = Place {
-            offset: begin,
-            length: length as u16,
-        };
-        Ok((here, Position { offset, place }))
     }
 }
 
@@ -212,8 +178,8 @@ pub(crate) fn find_fti<F: ReadAt>(
 }
 
 // Where the packet at a block and an ESI stands, if one came.
-fn place_of(symbols: &Symbols<Place>, block: u32, esi: u8) -> Option<Place>
-    ensures at { (held : PlaceValue → List ℕ)
+fn place_of(symbols: &Symbols<Extent>, block: u32, esi: u8) -> Option<Extent>
+    ensures at { (held : ExtentValue → List ℕ)
         → option_map held result ≡ came_at held symbols.now block esi }
     ensures listed { IfSome result (λ p.
         Contains (list_of symbols.now block) (record { esi = esi; symbol = p })) }
@@ -232,16 +198,16 @@ fn keep<F: ReadAt>(
     alloc: Global,
     file: &F,
     scope: &Scope,
-    symbols: &mut Symbols<Place>,
+    symbols: &mut Symbols<Extent>,
     packet: &Packet<'_>,
-    place: Place,
+    extent: Extent,
 ) -> Result<(), Unkept>
     requires { (f : FtiValue) × (scope.now.fti ≡ Some f) }
     ensures here { (x : List ℕ) → F.content file.now ≡ Some x → AreSymbolsIn x scope.now symbols.old
-        → packet.now.symbol.now ≡ held_in x place → OnOk result
+        → packet.now.symbol.now ≡ held_in x extent → OnOk result
         (came_at (held_in x) symbols.new packet.now.sbn packet.now.esi
         ≡ Some packet.now.symbol.now) }
-    ensures elsewhere { OnOk result ((held : PlaceValue → List ℕ) (b j : ℕ)
+    ensures elsewhere { OnOk result ((held : ExtentValue → List ℕ) (b j : ℕ)
         → (packet.now.sbn == b && packet.now.esi == j) ≡ false
         → came_at held symbols.new b j ≡ came_at held symbols.old b j) }
     ensures none { (x : List ℕ) → F.content file.now ≡ Some x → AreSymbolsIn x scope.now symbols.old
@@ -253,10 +219,10 @@ fn keep<F: ReadAt>(
         → IsIndex earlier (came_at (held_in x) symbols.old)
         → clashes earlier (symbol_of (packet_of packet.now)) ≡ true) }
     ensures placed { (x : List ℕ) → AreSymbolsIn x scope.now symbols.old
-        → IsSymbolIn x scope.now packet.now.sbn packet.now.esi place
+        → IsSymbolIn x scope.now packet.now.sbn packet.now.esi extent
         → OnOk result (AreSymbolsIn x scope.now symbols.new) }
     ensures range { (f : FtiValue) → packet.now.sbn < block_count f
-        → packet.now.esi < encoding_count f packet.now.sbn → (held : PlaceValue → List ℕ)
+        → packet.now.esi < encoding_count f packet.now.sbn → (held : ExtentValue → List ℕ)
         → AreInRange f (came_at held symbols.old)
         → OnOk result (AreInRange f (came_at held symbols.new)) }
     ensures again { (x : List ℕ) → F.content file.now ≡ Some x
@@ -265,7 +231,7 @@ fn keep<F: ReadAt>(
     ensures io { IfErr result (λ e. e ≡ Unkept.Again Unread.Io → F.reliable file.now ≡ false) }
 {
     let Some(earlier) = place_of(symbols, packet.sbn, packet.esi) else {
-        symbols.put(alloc, packet.sbn, packet.esi, place)?;
+        symbols.put(alloc, packet.sbn, packet.esi, extent)?;
         return Ok(());
     };
     let symbol = read_alone(alloc, file, scope, packet.sbn, packet.esi, earlier)?;
@@ -283,7 +249,7 @@ fn index_frames<R: Read, F: ReadAt>(
     file: &F,
     identity: Identity,
     fti: Fti,
-) -> Result<Symbols<Place>, Unindexed>
+) -> Result<Symbols<Extent>, Unindexed>
     requires bytes { R.remaining reader.old ≡ F.content file.now }
     requires sound { R.sound reader.old ≡ F.reliable file.now }
     ensures received { (x : List ℕ) (ds : List (List ℕ)) → F.content file.now ≡ Some x
@@ -291,7 +257,7 @@ fn index_frames<R: Read, F: ReadAt>(
         AreReceived identity ds fti (came_at (held_in x) s)) }
     ensures placed { (x : List ℕ) → F.content file.now ≡ Some x
         → IfOk result (AreSymbolsIn x (with_fti identity fti)) }
-    ensures range { IfOk result (λ s. (held : PlaceValue → List ℕ)
+    ensures range { IfOk result (λ s. (held : ExtentValue → List ℕ)
         → AreInRange fti (came_at held s)) }
     ensures fault { (x : List ℕ) (ds : List (List ℕ)) → F.content file.now ≡ Some x
         → IsFramed ds x → scope_in identity ds ≡ with_fti identity fti
@@ -300,10 +266,7 @@ fn index_frames<R: Read, F: ReadAt>(
     ensures unindexed { IfErr result (IsUnindexed (F.content file.now) (F.reliable file.now)) }
 {
     let mut symbols = Symbols::new(alloc);
-    let mut position = Position {
-        offset: 0,
-        place: 0,
-    };
+    let mut position = Position::new();
     loop {
         let Some(datagram) = read_next(alloc, reader)? else {
             return Ok(symbols);
@@ -340,13 +303,13 @@ pub(crate) fn index<F: ReadAt>(
     file: &F,
     identity: Identity,
     fti: Fti,
-) -> Result<Symbols<Place>, Unindexed>
+) -> Result<Symbols<Extent>, Unindexed>
     ensures received { (x : List ℕ) (ds : List (List ℕ)) → F.content file.now ≡ Some x
         → IsFramed ds x → scope_in identity ds ≡ with_fti identity fti → IfOk result (λ s.
         AreReceived identity ds fti (came_at (held_in x) s)) }
     ensures placed { (x : List ℕ) → F.content file.now ≡ Some x
         → IfOk result (AreSymbolsIn x (with_fti identity fti)) }
-    ensures range { IfOk result (λ s. (held : PlaceValue → List ℕ)
+    ensures range { IfOk result (λ s. (held : ExtentValue → List ℕ)
         → AreInRange fti (came_at held s)) }
     ensures fault { (x : List ℕ) (ds : List (List ℕ)) → F.content file.now ≡ Some x
         → IsFramed ds x → scope_in identity ds ≡ with_fti identity fti

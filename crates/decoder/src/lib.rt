@@ -12,8 +12,8 @@
 //!   those of no object;
 //! - `gathering`: the same for an object that is written block by block, so that it is never held;
 //!   `file_gathering`: the same of a session file, of which only places are held. `indexing` finds
-//!   them, `source` says what symbols are had of, `file_source` has those of a file, by `place` and
-//!   `ahead`, and by `enough` no more of them than a block needs;
+//!   them, `source` says what symbols are had of, and `file_source` has those of a file, which
+//!   `rereading` reads again, and by `enough` no more of them than a block needs;
 //! - `decoding`: the public call, and `selecting`: the same for a selection of a session's
 //!   datagrams, with what a check's yes promises of it;
 //! - `receiver`: the same for one datagram at a time: `feeding` takes one more, and `taking` gives
@@ -30,7 +30,6 @@
 //!   source symbols give.
 #![tactic(auto)]
 
-mod ahead;
 mod answer;
 mod arrivals;
 mod block;
@@ -47,12 +46,12 @@ mod giving;
 mod indexing;
 mod padding;
 mod pending_block;
-mod place;
 mod putting;
 mod received;
 mod receiver;
 mod recovering;
 mod recovery;
+mod rereading;
 mod rows;
 mod selecting;
 mod solved_block;

@@ -96,6 +96,13 @@ given_front (Some xs) from to n b e f p =
     sym (take-append-drop n (drop from xs)) ∙ ap (λ (l : List ℕ). l ++ drop n (drop from xs)) (ap (λ (k : ℕ). take k (drop from xs)) f ∙ sym p)
     ∙ ap (λ (l : List ℕ). b ++ l) (drop-drop n from xs ∙ ap (λ (k : ℕ). drop k xs) (sym e))
 
+-- a cursor at the start gives all bytes
+pub cursor_start : (content here : Option (List ℕ)) (next end at : ℕ) → here ≡ content → next ≡ 0 → (x : List ℕ) → content ≡ Some x
+    → option_map (λ xs. drop (next - (end - at)) xs) here ≡ Some x
+cursor_start content here next end at same zero x told =
+    let none : next - (end - at) ≡ 0 = omega (arith, zero) in
+    rw (same, told, none) refl
+
 -- nothing is left behind the end
 pub at_the_end : (content : Option (List ℕ)) (from to : ℕ) → from ≤ to → EndsBy content from → IsAtEnd (option_map (λ xs. drop to xs) content)
 at_the_end None from to le p = tt

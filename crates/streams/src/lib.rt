@@ -6,9 +6,10 @@
 //! - `filling` and `whole`: the loops over them: a buffer filled, all bytes written, a reader read
 //!   to its end;
 //! - `offsets`: what is read and written at any offset, and the loops over that; `cursor`: a reader
-//!   of what is read at offsets.
+//!   of what is read at offsets; `ahead`: a reader of a file's datagrams at their offsets.
 #![tactic(auto)]
 
+mod ahead;
 mod cursor;
 mod device;
 mod filling;
@@ -17,6 +18,7 @@ mod memory;
 mod offsets;
 mod whole;
 
+pub use ahead::Ahead;
 pub use cursor::Cursor;
 pub use device::Device;
 pub use filling::{fill, write_all};

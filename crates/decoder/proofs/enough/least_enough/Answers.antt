@@ -2,7 +2,7 @@ use Rattle.std.specs.Prelude.{is_some, filter}
 use Rattle.std.proofs.Common.{◌≡◌, ◌∙◌, ◌+◌, ℕ, List, length, sym, ap, arith, add-one, refl}
 use Rattle.lists.specs.Below.{below}
 use Rattle.decoder.specs.Arrivals.{seen_at, arrived_at}
-use Rattle.decoder.specs.declared.place.Place.{Place}
+use Rattle.session.specs.declared.extent.Extent.{Extent}
 use Rattle.decoder.proofs.Counts.{one_more_held, none_more_held}
 use Rattle.decoder.proofs.enough.least_enough.Goals as goal
 use Rattle.decoder.proofs.enough.least_enough.Goals.{then-seen-esi, else-seen-esi}
@@ -13,7 +13,7 @@ loop-esi-init c = record { few = omega arith; most = omega arith; counts = λ he
 
 pub loop-esi-preserved : goal.loop-esi-preserved
 loop-esi-preserved c =
-    let is : (held : Place → List ℕ) → is_some (arrived_at held c.args.came.now c.loop-esi.esi) ≡ seen_at c.seen_of-seen.result c.loop-esi.esi =
+    let is : (held : Extent → List ℕ) → is_some (arrived_at held c.args.came.now c.loop-esi.esi) ≡ seen_at c.seen_of-seen.result c.loop-esi.esi =
     λ held. sym (c.seen_of-seen.ensures held c.loop-esi.esi (omega arith)) in
     elim c.if-seen-esi.branch [
       | then-seen-esi w ↦ record {

@@ -2,12 +2,12 @@ use Rattle.std.proofs.Common.{◌≡◌, ◌≤◌, ℕ, List, length}
 use Rattle.std.specs.Prelude.{filter, is_some}
 use Rattle.lists.specs.Below.{below}
 use Rattle.decoder.specs.Arrivals.{arrived_at}
-use Rattle.decoder.specs.declared.place.Place.{Place}
+use Rattle.session.specs.declared.extent.Extent.{Extent}
 use Rattle.decoder.proofs.enough.least_enough.Given as goal
 
 abbrev pub invariant-loop-esi : goal.invariant-loop-esi
 invariant-loop-esi l = record {
   few : l.count ≤ l.esi;
   most : l.count ≤ l.need;
-  counts : (held : Place → List ℕ) → l.count ≡ length (filter (λ j. is_some (arrived_at held l.came j)) (below l.esi));
+  counts : (held : Extent → List ℕ) → l.count ≡ length (filter (λ j. is_some (arrived_at held l.came j)) (below l.esi));
 }

@@ -5,7 +5,7 @@ use Rattle.decoder.specs.Arrivals.{arrived_at}
 use Rattle.decoder.specs.Enough.{at_below}
 use Rattle.decoder.specs.InFile.{IsSymbolIn}
 use Rattle.decoder.specs.declared.arrivals.Arrival.{Arrival}
-use Rattle.decoder.specs.declared.place.Place.{Place}
+use Rattle.session.specs.declared.extent.Extent.{Extent}
 use Rattle.decoder.proofs.BelowEsi.{none_below, chosen_more, chosen_past}
 use Rattle.decoder.proofs.enough.places_below.Goals as goal
 use Rattle.decoder.proofs.enough.places_below.Goals.{then-from-limit+in_ok-push, else-from-limit}
@@ -13,7 +13,7 @@ use Rattle.decoder.proofs.enough.places_below.Goals.{then-from-limit+in_ok-push,
 pub loop-arrival-init : goal.loop-arrival-init
 loop-arrival-init c =
     record {
-      at = λ held j. ap (λ (l : List (Arrival Place)). arrived_at held l j) c.in_ok-chosen.ensures.items ∙ sym (none_below c.args.limit j);
+      at = λ held j. ap (λ (l : List (Arrival Extent)). arrived_at held l j) c.in_ok-chosen.ensures.items ∙ sym (none_below c.args.limit j);
       places = λ x scope b all. rw c.in_ok-chosen.ensures.items (λ k d lt. absurd (omega arith));
     }
 
@@ -21,8 +21,8 @@ pub loop-arrival-preserved : goal.loop-arrival-preserved
 loop-arrival-preserved c =
     let i = c.loop-arrival.arrival-index in
     let came = c.args.came.now in
-    let d : Arrival Place = record { esi = 0; symbol = record { offset = 0; length = 0 } } in
-    let a : Arrival Place = get_or c.args.came.now c.loop-arrival.arrival-index d in
+    let d : Arrival Extent = record { esi = 0; symbol = record { offset = 0; length = 0 } } in
+    let a : Arrival Extent = get_or c.args.came.now c.loop-arrival.arrival-index d in
     let is = get_or_default came i d a c.loop-arrival-test.true in
     let known = c.loop-arrival.invariant.at in
     elim c.if-from-limit.branch [

@@ -1,5 +1,5 @@
 use Rattle.std.proofs.Common.{ap}
-use Rattle.decoder.proofs.Framed.{cursor_start}
+use Rattle.streams.proofs.AtOffsets.{cursor_start}
 use Rattle.decoder.proofs.indexing.find_fti.Goals as goal
 
 pub returns-clause-some : goal.returns-clause-some

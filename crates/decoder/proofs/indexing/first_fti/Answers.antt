@@ -1,6 +1,6 @@
 use Rattle.std.proofs.Common.{◌≡◌, ◌∙◌, ◌+◌, length, refl, sym, subst, arith}
 use Rattle.decoder.proofs.FirstCarrier.{FirstSoFar, none_yet, carrier, heard_still, first_next, no_carrier, nothing_said}
-use Rattle.decoder.proofs.Framed.{at_start, read_more, is_next, all_read, read_frames}
+use Rattle.session.proofs.Passing.{at_start, read_more, is_next, all_read, read_frames}
 use Rattle.decoder.proofs.indexing.first_fti.Goals as goal
 
 pub loop-datagram-init : goal.loop-datagram-init

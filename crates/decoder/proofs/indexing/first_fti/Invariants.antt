@@ -4,7 +4,7 @@ use Rattle.reception.specs.Reception.{asked}
 use Rattle.reception.specs.Walks.{scope_in}
 use Rattle.reception.proofs.Heard.{Heard}
 use Rattle.decoder.proofs.FirstCarrier.{FirstSoFar}
-use Rattle.decoder.proofs.Framed.{Behind}
+use Rattle.session.proofs.Passing.{Behind}
 use Rattle.decoder.proofs.indexing.first_fti.Given as goal
 
 abbrev pub invariant-loop-datagram : goal.invariant-loop-datagram

@@ -10,16 +10,19 @@ use Rattle.decoder.specs.FileFaults.{IsNotAgain}
 use Rattle.decoder.specs.declared.indexing.Unkept.TheVariants as unkept
 use Rattle.decoder.specs.declared.source.Unread.{Unread}
 use Rattle.decoder.specs.Received.{came_at}
-use Rattle.decoder.proofs.Framed.{Behind, at_start, read_more, is_next, stands, all_read, read_frames, rest_frames, frame_fault_is, not_again}
+use Rattle.session.proofs.Passing.{Behind, at_start, read_more, is_next, stands, all_read, read_frames, rest_frames}
+use Rattle.decoder.proofs.FileFaults.{frame_fault_is, not_again}
 use Rattle.decoder.proofs.Indexed.{scan_starts, scan_ends, scan_passes, scan_stops, scan_clashes, scan_keeps, none_in_range, has_both}
-use Rattle.decoder.proofs.Places.{same_scope, symbol_moves}
+use Rattle.decoder.proofs.ReadAgain.{same_scope, symbol_moves}
 use Rattle.decoder.proofs.indexing.index_frames.Goals as goal
 
 pub loop-symbols-init : goal.loop-symbols-init
 loop-symbols-init g c = record {
-  behind = rw c.requires.bytes (at_start (g.F.ReadAt.content c.args.file.now));
+  behind = rw (c.requires.bytes, c.new-position.ensures.offset, c.new-position.ensures.place) (at_start (g.F.ReadAt.content c.args.file.now));
   stays = refl;
-  scanned = λ x ds told framed known. scan_starts c.args.identity c.args.fti ds known (came_at (held_in x) c.new-symbols.result) (c.new-symbols.ensures.none (held_in x));
+  scanned = λ x ds told framed known.
+      rw c.new-position.ensures.place
+      (scan_starts c.args.identity c.args.fti ds known (came_at (held_in x) c.new-symbols.result) (c.new-symbols.ensures.none (held_in x)));
   placed = λ x told b k d l. absurd (let e = ap length (c.new-symbols.ensures.empty b) in omega (arith, e, l));
   range = λ held. none_in_range c.args.fti (came_at held c.new-symbols.result) (c.new-symbols.ensures.none held);
 }

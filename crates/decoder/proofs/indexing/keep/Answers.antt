@@ -13,7 +13,7 @@ returns-in_default-clause-none g c = λ x told placed earlier index.
 
 pub returns-in_default-clause-placed : goal.returns-in_default-clause-placed
 returns-in_default-clause-placed g c = λ x placed here.
-    more_placed x c.args.scope.now c.args.symbols.now c.put.new.self c.args.packet.now.sbn (record { esi = c.args.packet.now.esi; symbol = c.args.place }) placed here
+    more_placed x c.args.scope.now c.args.symbols.now c.put.new.self c.args.packet.now.sbn (record { esi = c.args.packet.now.esi; symbol = c.args.extent }) placed here
     c.in_ok-put.ensures.more c.in_ok-put.ensures.others
 
 pub returns-then-ne-clause-clash : goal.returns-then-ne-clause-clash

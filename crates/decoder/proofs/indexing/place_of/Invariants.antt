@@ -3,11 +3,11 @@ use Rattle.std.specs.List.{Contains}
 use Rattle.std.proofs.Common.{◌≡◌, ℕ, List, take}
 use Rattle.decoder.specs.Arrivals.{arrived_at}
 use Rattle.decoder.specs.Received.{list_of}
-use Rattle.decoder.specs.declared.place.Place.{Place}
+use Rattle.session.specs.declared.extent.Extent.{Extent}
 use Rattle.decoder.proofs.indexing.place_of.Given as goal
 
 abbrev pub invariant-loop-arrival : goal.invariant-loop-arrival
 invariant-loop-arrival l = record {
-  at : (held : Place → List ℕ) → option_map held l.found ≡ arrived_at held (take l.arrival-index (list_of l.symbols l.block)) l.esi;
+  at : (held : Extent → List ℕ) → option_map held l.found ≡ arrived_at held (take l.arrival-index (list_of l.symbols l.block)) l.esi;
   listed : IfSome l.found (λ p. Contains (list_of l.symbols l.block) (record { esi = l.esi; symbol = p }));
 }

@@ -1,7 +1,7 @@
 use Rattle.std.proofs.Common.{◌∷◌, [], ◌++◌, ◌∙◌}
 use Rattle.session.proofs.Copies.{consumes_more}
 use Rattle.session.proofs.Sessions.{short_push, datagrams_push}
-use Rattle.decoder.proofs.Framed.{frames_end}
+use Rattle.session.proofs.Passing.{frames_end}
 use Rattle.decoder.proofs.indexing.read_rest.Goals as goal
 
 pub loop-datagram-preserved : goal.loop-datagram-preserved

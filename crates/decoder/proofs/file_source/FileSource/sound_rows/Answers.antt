@@ -14,13 +14,13 @@ use Rattle.decoder.specs.Enough.{at_below}
 use Rattle.decoder.specs.InFile.{file_at, held_in, AreOfBlock}
 use Rattle.decoder.specs.Received.{came_at, list_of}
 use Rattle.decoder.specs.declared.arrivals.Arrival.{Arrival}
-use Rattle.decoder.specs.declared.place.Place.{Place}
+use Rattle.session.specs.declared.extent.Extent.{Extent}
 use Rattle.decoder.specs.declared.rows.Rows.{Rows}
 use Rattle.decoder.proofs.Arrived.{arrived_or}
 use Rattle.decoder.proofs.BelowEsi.{least_is, enough_below, explained_below, within_below, rows_all}
 use Rattle.decoder.proofs.BlockRows.{are_arrivals, rows_at, explained_at}
 use Rattle.decoder.proofs.FromFile.{again_length, again_enough, came_list, told_is, if_some}
-use Rattle.decoder.proofs.Places.{unread_of}
+use Rattle.decoder.proofs.ReadAgain.{unread_of}
 use Rattle.decoder.proofs.file_source.FileSource.sound_rows.Goals as goal
 
 pub read_block_again-requires : goal.read_block_again-requires
@@ -59,10 +59,10 @@ block_rows-requires-clause-enough g c =
     are_arrivals f b (λ (n : ℕ). arrived_at (λ (v : Vec ℕ). v.items) c.in_ok-again.again.items) c.n-2.result _ c.deref-3.result.now c.n-2.ensures.value c.in_ok-arrivals.ensures.len
     (λ j lj. c.in_ok-arrivals.ensures.at j lj ∙ ap (λ (l : List (Arrival (Vec ℕ))). arrived_at (λ (v : Vec ℕ). v.items) l j) c.deref-2.ensures.value) c.deref-3.ensures.value in
     let limit = c.least_enough-limit.result in
-    let here : (held : Place → List ℕ) (j : ℕ) → arrived_at held c.unwrap_or-arrived.result.now j ≡ came_at held c.args.self.now.indexed.now.symbols c.args.b j =
+    let here : (held : Extent → List ℕ) (j : ℕ) → arrived_at held c.unwrap_or-arrived.result.now j ≡ came_at held c.args.self.now.indexed.now.symbols c.args.b j =
     λ held j. arrived_or held ix.symbols b c.of_block.result _ c.unwrap_or-arrived.result c.unwrap_or-arrived.ensures refl c.of_block.ensures.none c.of_block.ensures.some j in
-    let chosen : (held : Place → List ℕ) (j : ℕ) → arrived_at held c.deref.result.now j ≡ at_below c.least_enough-limit.result (came_at held c.args.self.now.indexed.now.symbols c.args.b) j =
-    λ held j. ap (λ (l : List (Arrival Place)). arrived_at held l j) c.deref.ensures.value ∙ c.in_ok-chosen.ensures.at held j
+    let chosen : (held : Extent → List ℕ) (j : ℕ) → arrived_at held c.deref.result.now j ≡ at_below c.least_enough-limit.result (came_at held c.args.self.now.indexed.now.symbols c.args.b) j =
+    λ held j. ap (λ (l : List (Arrival Extent)). arrived_at held l j) c.deref.ensures.value ∙ c.in_ok-chosen.ensures.at held j
     ∙ ap (λ (o : Option (List ℕ)). if nat_lt j c.least_enough-limit.result then o else None) (here held j) in
     let le : c.least_enough-limit.result ≤ encoding_count f c.args.b = omega (arith, c.least_enough-limit.ensures.most, c.n.ensures.value) in
     let few : encoding_count f c.args.b ≤ 255 = omega (arith, c.n.ensures.value, c.n.ensures.most) in
@@ -85,10 +85,10 @@ returns-clause-rows g c = λ told.
     are_arrivals f b (λ (n : ℕ). arrived_at (λ (v : Vec ℕ). v.items) c.in_ok-again.again.items) c.n-2.result _ c.deref-3.result.now c.n-2.ensures.value c.in_ok-arrivals.ensures.len
     (λ j lj. c.in_ok-arrivals.ensures.at j lj ∙ ap (λ (l : List (Arrival (Vec ℕ))). arrived_at (λ (v : Vec ℕ). v.items) l j) c.deref-2.ensures.value) c.deref-3.ensures.value in
     let limit = c.least_enough-limit.result in
-    let here : (held : Place → List ℕ) (j : ℕ) → arrived_at held c.unwrap_or-arrived.result.now j ≡ came_at held c.args.self.now.indexed.now.symbols c.args.b j =
+    let here : (held : Extent → List ℕ) (j : ℕ) → arrived_at held c.unwrap_or-arrived.result.now j ≡ came_at held c.args.self.now.indexed.now.symbols c.args.b j =
     λ held j. arrived_or held ix.symbols b c.of_block.result _ c.unwrap_or-arrived.result c.unwrap_or-arrived.ensures refl c.of_block.ensures.none c.of_block.ensures.some j in
-    let chosen : (held : Place → List ℕ) (j : ℕ) → arrived_at held c.deref.result.now j ≡ at_below c.least_enough-limit.result (came_at held c.args.self.now.indexed.now.symbols c.args.b) j =
-    λ held j. ap (λ (l : List (Arrival Place)). arrived_at held l j) c.deref.ensures.value ∙ c.in_ok-chosen.ensures.at held j
+    let chosen : (held : Extent → List ℕ) (j : ℕ) → arrived_at held c.deref.result.now j ≡ at_below c.least_enough-limit.result (came_at held c.args.self.now.indexed.now.symbols c.args.b) j =
+    λ held j. ap (λ (l : List (Arrival Extent)). arrived_at held l j) c.deref.ensures.value ∙ c.in_ok-chosen.ensures.at held j
     ∙ ap (λ (o : Option (List ℕ)). if nat_lt j c.least_enough-limit.result then o else None) (here held j) in
     let le : c.least_enough-limit.result ≤ encoding_count f c.args.b = omega (arith, c.least_enough-limit.ensures.most, c.n.ensures.value) in
     let few : encoding_count f c.args.b ≤ 255 = omega (arith, c.n.ensures.value, c.n.ensures.most) in
@@ -121,10 +121,10 @@ returns-clause-none g c = λ told none explained.
     are_arrivals f b (λ (n : ℕ). arrived_at (λ (v : Vec ℕ). v.items) c.in_ok-again.again.items) c.n-2.result _ c.deref-3.result.now c.n-2.ensures.value c.in_ok-arrivals.ensures.len
     (λ j lj. c.in_ok-arrivals.ensures.at j lj ∙ ap (λ (l : List (Arrival (Vec ℕ))). arrived_at (λ (v : Vec ℕ). v.items) l j) c.deref-2.ensures.value) c.deref-3.ensures.value in
     let limit = c.least_enough-limit.result in
-    let here : (held : Place → List ℕ) (j : ℕ) → arrived_at held c.unwrap_or-arrived.result.now j ≡ came_at held c.args.self.now.indexed.now.symbols c.args.b j =
+    let here : (held : Extent → List ℕ) (j : ℕ) → arrived_at held c.unwrap_or-arrived.result.now j ≡ came_at held c.args.self.now.indexed.now.symbols c.args.b j =
     λ held j. arrived_or held ix.symbols b c.of_block.result _ c.unwrap_or-arrived.result c.unwrap_or-arrived.ensures refl c.of_block.ensures.none c.of_block.ensures.some j in
-    let chosen : (held : Place → List ℕ) (j : ℕ) → arrived_at held c.deref.result.now j ≡ at_below c.least_enough-limit.result (came_at held c.args.self.now.indexed.now.symbols c.args.b) j =
-    λ held j. ap (λ (l : List (Arrival Place)). arrived_at held l j) c.deref.ensures.value ∙ c.in_ok-chosen.ensures.at held j
+    let chosen : (held : Extent → List ℕ) (j : ℕ) → arrived_at held c.deref.result.now j ≡ at_below c.least_enough-limit.result (came_at held c.args.self.now.indexed.now.symbols c.args.b) j =
+    λ held j. ap (λ (l : List (Arrival Extent)). arrived_at held l j) c.deref.ensures.value ∙ c.in_ok-chosen.ensures.at held j
     ∙ ap (λ (o : Option (List ℕ)). if nat_lt j c.least_enough-limit.result then o else None) (here held j) in
     let x = told.0 in
     let list = came_list (list_of ix.symbols b) c.of_block.result _ c.unwrap_or-arrived.result c.unwrap_or-arrived.ensures refl c.of_block.ensures.empty c.of_block.ensures.list in

@@ -14,7 +14,7 @@ use Rattle.decoder.specs.declared.rows.Rows.{Rows}
 use Rattle.decoder.proofs.Arrived.{arrived_or}
 use Rattle.decoder.proofs.BlockRows.{are_arrivals, rows_at, unexplained_at}
 use Rattle.decoder.proofs.FromFile.{again_length, again_enough, came_list, told_is, if_some}
-use Rattle.decoder.proofs.Places.{unread_of}
+use Rattle.decoder.proofs.ReadAgain.{unread_of}
 use Rattle.decoder.proofs.file_source.FileSourceSource.rows.Goals as goal
 
 pub read_block_again-requires : goal.read_block_again-requires

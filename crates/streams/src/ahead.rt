@@ -3,7 +3,8 @@ ghost use Rattle.std.specs.Prelude.{◌≡◌, ◌<◌, ◌≤◌, ◌+◌, true
 ghost use Rattle.std.proofs.Props.{props};
 ghost use Rattle.streams.specs.Offsets.{StandsAt, EndsBy};
 
-use streams::{Failed, ReadAt, fill_at};
+use crate::io::Failed;
+use crate::offsets::{ReadAt, fill_at};
 
 // How many bytes are read ahead. More cost small blocks more than they spare.
 const AHEAD: usize = 1 << 14;
@@ -14,7 +15,7 @@ const LENGTH_SIZE: u64 = 2;
 /// A reader of a file's datagrams at their offsets. Where one stands just behind the last that was
 /// asked for, the next ones are read with it.
 #[derive(Drop)]
-pub(crate) struct Ahead<'a, F: ReadAt> {
+pub struct Ahead<'a, F: ReadAt> {
     file: &'a F,
     // The file's bytes from `offset` on, `size` of them.
     bytes: [u8; AHEAD],
@@ -28,7 +29,7 @@ pub(crate) struct Ahead<'a, F: ReadAt> {
 
 impl<'a, F: ReadAt> Ahead<'a, F> {
     /// Nothing is read yet.
-    pub(crate) fn new(file: &'a F) -> Ahead<'a, F>
+    pub fn new(file: &'a F) -> Ahead<'a, F>
         ensures { result.file.now ≡ file.now }
     {
         Ahead {
@@ -76,7 +77,7 @@ impl<'a, F: ReadAt> Ahead<'a, F> {
     }
 
     /// Fills `buf` with the bytes from an offset on, as `fill_at` does.
-    pub(crate) fn fill(&mut self, offset: u64, buf: &mut [u8]) -> Result<usize, Failed>
+    pub fn fill(&mut self, offset: u64, buf: &mut [u8]) -> Result<usize, Failed>
         ensures file { self.new.file.now ≡ self.old.file.now }
         ensures bound { IfOk result (λ n. n ≤ length buf.old) }
         ensures len { length buf.new ≡ length buf.old }

@@ -1,44 +1,38 @@
-//! Places of packets in a session file, and the symbols that are read there again.
+//! Symbols that are read again where their packets stand in a session file.
 ghost use Rattle.std.specs.Prelude.{◌≡◌, ◌≤◌, ◌+◌, ℕ, List, Some, length, is_some, IfOk, false};
 ghost use Rattle.std.specs.Prelude.{IfErr, IfSome, IsNone};
 ghost use Rattle.partition.specs.Fti.{Fti as FtiValue};
 ghost use Rattle.decoder.specs.Arrivals.{arrived_at};
 ghost use Rattle.decoder.specs.Blocks.{HaveLength};
-ghost use Rattle.decoder.specs.InFile.{datagram_in, symbol_in, held_in, IsSymbolOf, IsSymbolIn};
+ghost use Rattle.decoder.specs.InFile.{symbol_in, held_in, IsSymbolOf, IsSymbolIn};
 ghost use Rattle.decoder.specs.InFile.{AreOfBlock, StandsIn, BlockStandsIn};
 ghost use Rattle.decoder.specs.Sources.{IsUnreadOf};
-ghost use Rattle.decoder.specs.declared.place.Place.{Place as PlaceValue};
+ghost use Rattle.session.specs.Extents.{datagram_in};
+ghost use Rattle.session.specs.declared.extent.Extent.{Extent as ExtentValue};
 
-use crate::ahead::Ahead;
 use crate::arrivals::{Arrival, push};
 use crate::source::Unread;
 use reception::{Look, Scope};
+use session::Extent;
 use std::alloc::Global;
-use streams::ReadAt;
+use streams::{Ahead, ReadAt};
 
-/// Where a datagram stands in a file: how many bytes before it, and how many of its own.
-#[derive(Clone, Copy)]
-pub(crate) struct Place {
-    pub(crate) offset: u64,
-    pub(crate) length: u16,
-}
-
-// The bytes at a place.
+// The bytes at an extent.
 fn datagram_at<F: ReadAt>(
     alloc: Global,
     file: &mut Ahead<'_, F>,
-    place: Place,
+    extent: Extent,
 ) -> Result<Vec<u8>, Unread>
     ensures bytes { (x : List ℕ) → F.content file.old.file.now ≡ Some x
-        → place.offset + place.length ≤ length x
-        → IfOk result (λ v. v.items ≡ datagram_in x place) }
+        → extent.offset + extent.length ≤ length x
+        → IfOk result (λ v. v.items ≡ datagram_in x extent) }
     ensures changed { IfErr result (λ e. e ≡ Unread.Changed → (x : List ℕ)
-        → F.content file.old.file.now ≡ Some x → place.offset + place.length ≤ length x → ⊥) }
+        → F.content file.old.file.now ≡ Some x → extent.offset + extent.length ≤ length x → ⊥) }
     ensures io { IfErr result (λ e. e ≡ Unread.Io → F.reliable file.old.file.now ≡ false) }
     ensures file { file.new.file.now ≡ file.old.file.now }
 {
-    let mut datagram = Vec::from_elem(alloc, 0u8, usize::from(place.length))?;
-    let Ok(got) = file.fill(place.offset, datagram.as_mut_slice()) else {
+    let mut datagram = Vec::from_elem(alloc, 0u8, usize::from(extent.length))?;
+    let Ok(got) = file.fill(extent.offset, datagram.as_mut_slice()) else {
         return Err(Unread::Io);
     };
     if got < datagram.len() {
@@ -68,27 +62,27 @@ fn symbol_of<'a>(scope: &Scope, b: u32, esi: u8, datagram: &'a [u8]) -> Option<&
     Some(packet.symbol)
 }
 
-/// The symbol at a place, where a packet of the block and the ESI stood.
+/// The symbol at an extent, where a packet of the block and the ESI stood.
 pub(crate) fn read_again<F: ReadAt>(
     alloc: Global,
     file: &mut Ahead<'_, F>,
     scope: &Scope,
     b: u32,
     esi: u8,
-    place: Place,
+    extent: Extent,
 ) -> Result<Vec<u8>, Unread>
     requires { (f : FtiValue) × (scope.now.fti ≡ Some f) }
     ensures symbol { (x : List ℕ) → F.content file.old.file.now ≡ Some x
-        → IsSymbolIn x scope.now b esi place
-        → IfOk result (λ v. v.items ≡ held_in x place) }
+        → IsSymbolIn x scope.now b esi extent
+        → IfOk result (λ v. v.items ≡ held_in x extent) }
     ensures size { (f : FtiValue) → scope.now.fti ≡ Some f
         → IfOk result (λ v. length v.items ≡ f.symbol_length) }
     ensures fault { IfErr result (IsUnreadOf
-        (StandsIn (F.content file.old.file.now) scope.now b esi place)
+        (StandsIn (F.content file.old.file.now) scope.now b esi extent)
         (F.reliable file.old.file.now)) }
     ensures file { file.new.file.now ≡ file.old.file.now }
 {
-    let datagram = datagram_at(alloc, file, place)?;
+    let datagram = datagram_at(alloc, file, extent)?;
     let Some(symbol) = symbol_of(scope, b, esi, &datagram) else {
         return Err(Unread::Changed);
     };
@@ -97,38 +91,38 @@ pub(crate) fn read_again<F: ReadAt>(
     Ok(own)
 }
 
-/// The symbol at one place alone.
+/// The symbol at one extent alone.
 pub(crate) fn read_alone<F: ReadAt>(
     alloc: Global,
     file: &F,
     scope: &Scope,
     b: u32,
     esi: u8,
-    place: Place,
+    extent: Extent,
 ) -> Result<Vec<u8>, Unread>
     requires { (f : FtiValue) × (scope.now.fti ≡ Some f) }
     ensures symbol { (x : List ℕ) → F.content file.now ≡ Some x
-        → IsSymbolIn x scope.now b esi place
-        → IfOk result (λ v. v.items ≡ held_in x place) }
+        → IsSymbolIn x scope.now b esi extent
+        → IfOk result (λ v. v.items ≡ held_in x extent) }
     ensures size { (f : FtiValue) → scope.now.fti ≡ Some f
         → IfOk result (λ v. length v.items ≡ f.symbol_length) }
-    ensures fault { IfErr result (IsUnreadOf (StandsIn (F.content file.now) scope.now b esi place)
+    ensures fault { IfErr result (IsUnreadOf (StandsIn (F.content file.now) scope.now b esi extent)
         (F.reliable file.now)) }
 {
     let mut ahead = Ahead::new(file);
-    read_again(alloc, &mut ahead, scope, b, esi, place)
+    read_again(alloc, &mut ahead, scope, b, esi, extent)
 }
 
-/// The symbols at the places of a block.
+/// The symbols at the extents of a block.
 pub(crate) fn read_block_again<F: ReadAt>(
     alloc: Global,
     file: &F,
     scope: &Scope,
     b: u32,
-    came: &[Arrival<Place>],
+    came: &[Arrival<Extent>],
 ) -> Result<Vec<Arrival<Vec<u8>>>, Unread>
     requires { (f : FtiValue) × (scope.now.fti ≡ Some f) }
-    ensures some { (held : PlaceValue → List ℕ) → IfOk result (λ v. (j : ℕ)
+    ensures some { (held : ExtentValue → List ℕ) → IfOk result (λ v. (j : ℕ)
         → is_some (arrived_at (λ s. s.items) v.items j) ≡ is_some (arrived_at held came.now j)) }
     ensures size { (f : FtiValue) → scope.now.fti ≡ Some f → IfOk result (λ v.
         HaveLength f.symbol_length (arrived_at (λ s. s.items) v.items)) }

@@ -1,4 +1,4 @@
--- Symbols that are read again at their places in a file.
+-- Symbols that are read again where their packets stand in a file.
 use Rattle.std.specs.Prelude.{is_some, Ok, Err, Result, if◌then◌else◌}
 use Rattle.std.specs.Option.{option_or}
 use Rattle.std.proofs.Common.{◌≡◌, ℕ, ◌+◌, ◌<◌, ◌≤◌, Bool, true, false, List, [], ◌∷◌, ◌++◌, Option, Some, length, get_or, take, drop, refl, sym, ap, subst, ◌∙◌, inl, inr, arith}
@@ -23,8 +23,9 @@ use Rattle.reception.proofs.Walking.{is_packet}
 use Rattle.streams.specs.Offsets.{StandsAt, EndsBy}
 use Rattle.decoder.specs.Arrivals.{with_esi, arrived_at}
 use Rattle.decoder.specs.Blocks.{HaveLength}
-use Rattle.decoder.specs.InFile.{datagram_in, symbol_in, bytes_in, held_in, IsSymbolOf, IsSymbolIn}
-use Rattle.decoder.specs.declared.place.Place.{Place}
+use Rattle.decoder.specs.InFile.{symbol_in, bytes_in, held_in, IsSymbolOf, IsSymbolIn}
+use Rattle.session.specs.Extents.{datagram_in}
+use Rattle.session.specs.declared.extent.Extent.{Extent}
 use Rattle.decoder.specs.Sources.{IsUnreadOf}
 use Rattle.decoder.specs.declared.arrivals.Arrival.{Arrival}
 use Rattle.decoder.specs.declared.source.Unread.{Unread}
@@ -132,9 +133,9 @@ unread_of A B reliable unread.NoMemory f h = tt
 
 -- a packet that is handed over stands where its datagram does
 pub symbol_moves : (d : List ℕ) (scope new : Scope) (p : ReadPacket) → IsLook d scope new (Ok (look_at.InRange p)) → (f : Fti) → scope.fti ≡ Some f
-    → (x : List ℕ) (place : Place) → datagram_in x place ≡ d → place.offset + place.length ≤ length x
-    → (p.symbol.now ≡ held_in x place) × IsSymbolIn x scope p.sbn p.esi place
-symbol_moves d scope new p look f e x place is inside = (
+    → (x : List ℕ) (extent : Extent) → datagram_in x extent ≡ d → extent.offset + extent.length ≤ length x
+    → (p.symbol.now ≡ held_in x extent) × IsSymbolIn x scope p.sbn p.esi extent
+symbol_moves d scope new p look f e x extent is inside = (
   symbol_is d scope new p look ∙ ap symbol_in (sym is),
   record { inside = inside; symbol = subst (λ (y : List ℕ). IsSymbolOf scope p.sbn p.esi y) (sym is) (symbol_here d scope new p look f e) },
 )

@@ -1,29 +1,23 @@
--- Datagrams that are read frame by frame, of a file whose bytes are told.
-use Rattle.std.specs.Prelude.{IfSome, option_map, ◌-◌}
-use Rattle.std.proofs.Common.{◌≡◌, ℕ, suc, ◌<◌, ◌≤◌, ◌+◌, Bool, false, List, [], ◌∷◌, ◌++◌, Option, Some, None, length, get_or, take, drop, length-append, append_assoc, refl, sym, ap, subst, ◌∙◌, inl, inr, arith}
+-- A pass over the frames of a file whose bytes are told.
+use Rattle.std.proofs.Common.{◌≡◌, ℕ, suc, ◌<◌, ◌≤◌, ◌+◌, List, [], ◌∷◌, ◌++◌, Option, Some, None, length, get_or, take, drop, length-append, append_assoc, refl, sym, ap, subst, ◌∙◌, inl, inr, arith}
+use Rattle.std.specs.Prelude.{◌-◌}
 use Rattle.std.proofs.lemmas.Bool.{cases_lt}
 use Rattle.std.proofs.lemmas.Grind.{flat_map-append}
 use Rattle.std.proofs.Math.Seq.{take-append_seam, drop-append-add}
 use Rattle.std.proofs.lemmas.List.{append-nil, get_or_append_left, get_or-append_right}
 use Rattle.std.specs.Io.KnownBytes.{Consumes, IsAtEnd}
-use Rattle.session.specs.Frames.{frame, frames, most_bytes, AreShort, AreDatagrams, IsFramed, IsSessionFault}
+use Rattle.lists.specs.Bytes.{AreBytes}
+use Rattle.session.specs.Extents.{datagram_in, AreFrames}
+use Rattle.session.specs.Frames.{frame, frames, most_bytes, AreShort, AreDatagrams, IsFramed}
 use Rattle.session.specs.Joining.{IsWhole}
-use Rattle.session.specs.declared.frame.FrameFault.{FrameFault}
-use Rattle.session.specs.declared.frame.FrameFault.TheVariants as frame_fault
+use Rattle.session.specs.declared.extent.Extent.{Extent}
+use Rattle.session.proofs.OneFrame.{one_frame, length_frame, behind_length}
 use Rattle.session.proofs.OneSession.{only}
-use Rattle.decoder.proofs.OneFrame.{one_frame, length_frame, behind_length}
 use Rattle.session.proofs.Sessions.{frames_push, short_push, datagrams_push}
 use Rattle.session.proofs.WholeFrames.{whole_end}
-use Rattle.lists.specs.Bytes.{AreBytes}
-use Rattle.decoder.specs.Indexing.{AreFrames}
-use Rattle.decoder.specs.FileFaults.{IsFrameFault, IsNotAgain}
-use Rattle.decoder.specs.declared.source.Unread.{Unread}
-use Rattle.decoder.specs.declared.source.Unread.TheVariants as unread
-use Rattle.decoder.specs.InFile.{datagram_in}
-use Rattle.decoder.specs.declared.place.Place.{Place}
 
 -- the frame behind those of some datagrams is that of the next one
-next_at : (s ds : List (List ℕ)) (d rest : List ℕ) → AreShort s → AreShort ds → length d ≤ most_bytes → frames ds ≡ frames s ++ (frame d ++ rest)
+pub next_at : (s ds : List (List ℕ)) (d rest : List ℕ) → AreShort s → AreShort ds → length d ≤ most_bytes → frames ds ≡ frames s ++ (frame d ++ rest)
     → (length s < length ds) × (d ≡ get_or ds (length s) [])
 next_at [] [] d rest short_s short_ds short whole =
     let size = ap length whole in absurd (omega (arith, size, length-append (frame d) rest, length_frame d))
@@ -116,16 +110,16 @@ module _ (content left : Option (List ℕ)) (offset place : ℕ) (b : Behind con
           (omega (arith, h.0, b.count), h.1 ∙ ap (λ (n : ℕ). get_or ds n []) b.count)
 
       -- the datagram stands behind its length
-      pub stands : (p : Place) → p.offset ≡ offset + 2 → p.length ≡ length d → (datagram_in x p ≡ d) × (p.offset + p.length ≤ length x)
-      stands p begin len =
+      pub stands : (e : Extent) → e.offset ≡ offset + 2 → e.length ≡ length d → (datagram_in x e ≡ d) × (e.offset + e.length ≤ length x)
+      stands e begin len =
           let w = all_told x left new (frames b.read) (frame d) (subst (λ (o : Option (List ℕ)). Consumes o left (frames b.read)) told b.bytes) reads in
-          let at : p.offset ≡ length (frames b.read) + 2 = omega (arith, begin, b.size) in
-          let behind : drop p.offset x ≡ d ++ w.0 =
+          let at : e.offset ≡ length (frames b.read) + 2 = omega (arith, begin, b.size) in
+          let behind : drop e.offset x ≡ d ++ w.0 =
           ap (λ (n : ℕ). drop n x) at ∙ ap (drop (length (frames b.read) + 2)) w.1
           ∙ drop-append-add (frames b.read) (frame d ++ w.0) 2
           ∙ behind_length d w.0 in
-          let here : take p.length (drop p.offset x) ≡ d =
-          ap (take p.length) behind ∙ ap (λ (n : ℕ). take n (d ++ w.0)) len ∙ take-append_seam d w.0 in
+          let here : take e.length (drop e.offset x) ≡ d =
+          ap (take e.length) behind ∙ ap (λ (n : ℕ). take n (d ++ w.0)) len ∙ take-append_seam d w.0 in
           let size : length x ≡ length (frames b.read) + (length (frame d) + length w.0) =
           ap length w.1 ∙ omega (arith, length-append (frames b.read) (frame d ++ w.0), length-append (frame d) w.0) in
           (here, omega (arith, at, len, size, length_frame d))
@@ -150,31 +144,3 @@ module _ (content left : Option (List ℕ)) (offset place : ℕ) (b : Behind con
   -- what is left is frames, too
   pub rest_frames : AreFrames left → AreFrames content
   rest_frames whole = frames_behind content left b.read b.bytes b.short b.each whole
-
--- a fault of the frames, told of the file
-pub frame_fault_is : (content : Option (List ℕ)) (failed reliable : Bool) (e : FrameFault) → IsSessionFault e content failed → (e ≡ frame_fault.Io → reliable ≡ false)
-    → IsFrameFault content reliable e
-frame_fault_is content failed reliable frame_fault.CutLength h io = h
-frame_fault_is content failed reliable frame_fault.CutDatagram h io = h
-frame_fault_is content failed reliable frame_fault.TooLong h io = h
-frame_fault_is content failed reliable frame_fault.Io h io = io refl
-frame_fault_is content failed reliable frame_fault.NoMemory h io = tt
-frame_fault_is content failed reliable (frame_fault.NoSuchPlace p) h io = h
-
-told_or : (content : Option (List ℕ)) → ((x : List ℕ) → content ≡ Some x → ⊥) → IfSome content (λ x. ⊥)
-told_or None none = tt
-told_or (Some x) none = none x refl
-
--- a symbol isn't there again where reading has failed, or nothing is told of the file
-pub not_again : (content : Option (List ℕ)) (reliable : Bool) (u : Unread) → (u ≡ unread.Io → reliable ≡ false) → ((x : List ℕ) → content ≡ Some x → u ≡ unread.Changed → ⊥)
-    → IsNotAgain content reliable u
-not_again content reliable unread.Io io changed = io refl
-not_again content reliable unread.Changed io changed = told_or content (λ x told. changed x told refl)
-not_again content reliable unread.NoMemory io changed = tt
-
--- a cursor at the start gives all bytes
-pub cursor_start : (content here : Option (List ℕ)) (next end at : ℕ) → here ≡ content → next ≡ 0 → (x : List ℕ) → content ≡ Some x
-    → option_map (λ xs. drop (next - (end - at)) xs) here ≡ Some x
-cursor_start content here next end at same zero x told =
-    let none : next - (end - at) ≡ 0 = omega (arith, zero) in
-    rw (same, told, none) refl

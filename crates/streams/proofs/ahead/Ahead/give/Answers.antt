@@ -3,7 +3,7 @@ use Rattle.std.specs.Prelude.{Option}
 use Rattle.std.proofs.lemmas.List.{drop-take, take-take, length-take-le}
 use Rattle.streams.specs.Offsets.{StandsAt}
 use Rattle.streams.proofs.AtOffsets.{front_stands, rest_stands}
-use Rattle.decoder.proofs.ahead.Ahead.give.Goals as goal
+use Rattle.streams.proofs.ahead.Ahead.give.Goals as goal
 
 -- a part of what is held
 part_stands : (content : Option (List ℕ)) (buffer piece : List ℕ) (offset count at n : ℕ) → count ≤ length buffer → at + n ≤ count → piece ≡ take n (drop at buffer)

@@ -6,9 +6,9 @@ use Rattle.std.proofs.lemmas.Result.{err_from_is_err_and}
 use Rattle.decoder.specs.Arrivals.{arrived_at}
 use Rattle.decoder.specs.InFile.{held_in, BlockStandsIn}
 use Rattle.decoder.specs.declared.arrivals.Arrival.{Arrival}
-use Rattle.decoder.specs.declared.place.Place.{Place}
-use Rattle.decoder.proofs.Places.{same_more, some_more, lengths_more, unread_of}
-use Rattle.decoder.proofs.place.read_block_again.Goals as goal
+use Rattle.session.specs.declared.extent.Extent.{Extent}
+use Rattle.decoder.proofs.ReadAgain.{same_more, some_more, lengths_more, unread_of}
+use Rattle.decoder.proofs.rereading.read_block_again.Goals as goal
 
 pub returns-in_err-symbol-clause-fault : goal.returns-in_err-symbol-clause-fault
 returns-in_err-symbol-clause-fault g c =
@@ -22,7 +22,7 @@ loop-arrival-preserved g c =
     let i = c.loop-arrival.arrival-index in
     let came = c.args.came.now in
     let again = c.loop-arrival.again.items in
-    let b : Arrival Place = get_or c.args.came.now c.loop-arrival.arrival-index (record { esi = 0; symbol = record { offset = 0; length = 0 } }) in
+    let b : Arrival Extent = get_or c.args.came.now c.loop-arrival.arrival-index (record { esi = 0; symbol = record { offset = 0; length = 0 } }) in
     let a : Arrival (Vec ℕ) = record { esi = (get_or c.args.came.now c.loop-arrival.arrival-index (record { esi = 0; symbol = record { offset = 0; length = 0 } })).esi; symbol = c.in_ok-symbol.symbol } in
     let is = get_or_default came i (record { esi = 0; symbol = record { offset = 0; length = 0 } }) b c.loop-arrival-test.true in
     rw c.in_ok-push.ensures.pushed (record {
@@ -37,9 +37,9 @@ loop-arrival-preserved g c =
 pub returns-clause-some : goal.returns-clause-some
 returns-clause-some g c = λ held j.
     c.loop-arrival.invariant.some held j
-    ∙ ap (λ (l : List (Arrival Place)). is_some (arrived_at held l j)) (take_all c.loop-arrival.arrival-index c.args.came.now (omega (arith, c.loop-arrival-test.false)))
+    ∙ ap (λ (l : List (Arrival Extent)). is_some (arrived_at held l j)) (take_all c.loop-arrival.arrival-index c.args.came.now (omega (arith, c.loop-arrival-test.false)))
 
 pub returns-clause-symbols : goal.returns-clause-symbols
 returns-clause-symbols g c = λ x told all.
     c.loop-arrival.invariant.symbols x told all
-    ∙ ap (λ (l : List (Arrival Place)). arrived_at (held_in x) l) (take_all c.loop-arrival.arrival-index c.args.came.now (omega (arith, c.loop-arrival-test.false)))
+    ∙ ap (λ (l : List (Arrival Extent)). arrived_at (held_in x) l) (take_all c.loop-arrival.arrival-index c.args.came.now (omega (arith, c.loop-arrival-test.false)))

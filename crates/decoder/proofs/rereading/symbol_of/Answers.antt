@@ -1,8 +1,8 @@
 use Rattle.std.proofs.Common.{◌≡◌, ◌∙◌, ap}
 use Rattle.alc.specs.declared.reading.Packet.{Packet}
-use Rattle.decoder.proofs.Places.{found_again, symbol_is, symbol_size}
-use Rattle.decoder.proofs.place.symbol_of.Goals as goal
-use Rattle.decoder.proofs.place.symbol_of.Goals.{then-packet-b-via-then-packet-b, then-packet-b-via-else-packet-b+then-packet-esi}
+use Rattle.decoder.proofs.ReadAgain.{found_again, symbol_is, symbol_size}
+use Rattle.decoder.proofs.rereading.symbol_of.Goals as goal
+use Rattle.decoder.proofs.rereading.symbol_of.Goals.{then-packet-b-via-then-packet-b, then-packet-b-via-else-packet-b+then-packet-esi}
 
 pub returns-in-Ok-Other-clause-none : goal.returns-in-Ok-Other-clause-none
 returns-in-Ok-Other-clause-none c = λ _ is.
