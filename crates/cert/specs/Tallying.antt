@@ -1,11 +1,15 @@
 -- What is known of datagrams that were looked at one by one, whatever is asked of their symbols.
-use Rattle.std.specs.Prelude.{◌≡◌, ℕ, ◌+◌, List, [], length, Option, None, Some, IfSome, option_map, ⊤}
+use Rattle.std.specs.Prelude.{◌≡◌, ℕ, ◌+◌, List, [], length, Option, None, Some, Ok, IfSome, option_map, ⊤}
+use Rattle.std.specs.Prelude.{slice_index_or}
 use Rattle.losses.specs.Groups.{Group, groups_of}
 use Rattle.losses.specs.Losses.{places_from}
+use Rattle.alc.specs.Packet.{Packet}
 use Rattle.alc.specs.Reading.{Reading}
+use Rattle.alc.specs.Computed.{read_of}
 use Rattle.partition.specs.Fti.{Fti}
 use Rattle.reception.specs.Symbols.{Symbol}
-use Rattle.reception.specs.Reception.{Judge, counted, symbols, is_carrier, with_fti, reception_with}
+use Rattle.reception.specs.Reception.{Judge, InRange, counted, is_carrier, look, reception_with}
+use Rattle.reception.specs.Reception.{symbol_of, symbols, with_fti}
 use Rattle.reception.specs.declared.scope.Identity.{Identity}
 use Rattle.reception.specs.declared.scope.Scope.{Scope}
 use Rattle.reception.specs.Walks.{readings_of}
@@ -92,3 +96,18 @@ abbrev pub IsUnpassed : Says → Fti → Identity → List (List ℕ) → NoRepo
 IsUnpassed says f who datagrams (ByReason r) =
     (first_reason_by says f who (readings_of datagrams) ≡ Some r) × IsAtLast datagrams r
 IsUnpassed says f who datagrams NoMemory = ⊤
+
+-- what the datagram at a place reads as
+abbrev pub reading_at : List (List ℕ) → ℕ → Reading
+reading_at datagrams i = read_of (slice_index_or datagrams i [])
+
+-- nothing is said against the symbol of a reading, if it has one in range
+abbrev pub SaysNothing : Says → Scope → Reading → Type 0
+SaysNothing says scope r = (p : Packet) → look scope r ≡ Ok (InRange p) → says (symbol_of p) ≡ None
+
+-- a packet in range of this block and this ESI
+pub record IsPacketOf (scope : Scope) (b j : ℕ) (r : Reading) : Type 0 where
+  pub packet : Packet
+  pub look : look scope r ≡ Ok (InRange packet)
+  pub block : packet.block ≡ b
+  pub esi : packet.esi ≡ j
