@@ -6,6 +6,7 @@ ghost use Rattle.host.specs.Files.{files_of, AddsFile};
 ghost use Rattle.host.specs.Worlds.{memory_world};
 
 use crate::host::{FileFault, Host};
+use lists::are_bytes;
 use session::{Failed, Read, Sink, write_all};
 use std::alloc::{AllocError, Global};
 use streams::{ReadAt, copy_at};
@@ -45,7 +46,9 @@ impl ReadAt for MemoryInput {
     ghost reliable = { λ _. true };
 
     fn read_at(&self, offset: u64, buf: &mut [u8]) -> Result<usize, Failed> {
-        Ok(copy_at(self.bytes.as_slice(), offset, self.most, buf))
+        let bytes = self.bytes.as_slice();
+        are_bytes(bytes);
+        Ok(copy_at(bytes, offset, self.most, buf))
     }
 }
 

@@ -6,6 +6,7 @@ ghost use Rattle.streams.specs.Offsets.{StandsAt};
 
 use crate::io::{Failed, Read, Write};
 use crate::offsets::{ReadAt, WriteAt};
+use lists::are_bytes;
 use std::alloc::{AllocError, Global};
 
 /// A reader of bytes in memory, which gives `most` at a time at most. It never fails.
@@ -192,6 +193,7 @@ impl ReadAt for MemoryFile<'_> {
     ghost reliable = { λ _. true };
 
     fn read_at(&self, offset: u64, buf: &mut [u8]) -> Result<usize, Failed> {
+        are_bytes(self.bytes);
         Ok(copy_at(self.bytes, offset, self.most, buf))
     }
 }

@@ -1,6 +1,7 @@
 //! Bytes that are read and written at any offset.
 ghost use Rattle.std.specs.Prelude.{◌≡◌, ◌<◌, ◌≤◌, ◌+◌, ◌^◌, ℕ, List, Option, Bool, true, false};
-ghost use Rattle.std.specs.Prelude.{length, take, IfOk, OnOk, OnErr};
+ghost use Rattle.std.specs.Prelude.{length, take, IfOk, IfSome, OnOk, OnErr, IsTrue, ◌↔◌};
+ghost use Rattle.lists.specs.Bytes.{AreBytes};
 ghost use Rattle.streams.specs.Offsets.{StandsAt, EndsBy, HasRoomAt, Overwrites, OverwritesSome};
 ghost use Rattle.streams.specs.Offsets.{Resizes};
 
@@ -23,6 +24,7 @@ pub trait ReadAt {
         ensures end { IfOk result (λ n.
             n ≡ 0 → 0 < length buf.old → EndsBy (content self.now) offset) }
         ensures within { IfOk result (λ n. 0 < n → offset + n < 2 ^ 64) }
+        ensures each { IfSome (content self.now) AreBytes }
         ensures unsound { OnErr result (reliable self.now ≡ false) };
 }
 
@@ -58,6 +60,7 @@ pub fn fill_at<F: ReadAt>(file: &F, offset: u64, buf: &mut [u8]) -> Result<usize
     ensures bytes { IfOk result (λ n. StandsAt (F.content file.now) offset (take n buf.new)) }
     ensures end { IfOk result (λ n.
         n < length buf.old → EndsBy (F.content file.now) (offset + n)) }
+    ensures each { 0 < length buf.old → IfSome (F.content file.now) AreBytes }
     ensures unsound { OnErr result (F.reliable file.now ≡ false) }
 {
     let mut at = 0;
@@ -69,6 +72,22 @@ pub fn fill_at<F: ReadAt>(file: &F, offset: u64, buf: &mut [u8]) -> Result<usize
         at += n;
     }
     Ok(at)
+}
+
+/// Whether a file has so many bytes, which are fewer than 2^63. `Failed` never comes from a reliable
+/// file.
+pub fn has_length<F: ReadAt>(file: &F, len: u64) -> Result<bool, Failed>
+    requires { len < 2 ^ 63 }
+    ensures told { IfOk result (λ has. IfSome (F.content file.now) (λ x.
+        IsTrue has ↔ (length x ≡ len))) }
+    ensures each { IfSome (F.content file.now) AreBytes }
+    ensures unsound { OnErr result (F.reliable file.now ≡ false) }
+{
+    let mut last = [0u8; 2];
+    if len == 0 {
+        return Ok(file.read_at(0, &mut last)? == 0);
+    }
+    Ok(fill_at(file, len - 1, &mut last)? == 1)
 }
 
 /// Writes all of `bytes` over those from an offset on, in as many pieces as the sink takes.

@@ -5,6 +5,7 @@ ghost use Rattle.std.specs.Prelude.{◌≤◌};
 use crate::ONE;
 use crate::receiver_tests::{ORDERS, disturbed, is_same, object_of, sent};
 use coder::{Answer, DecodeFault, FileFault, GatheredFile, decode, gather_file};
+use lists::are_bytes;
 use partition::Fti;
 use rand_pcg::Pcg32;
 use session::{FrameFault, MOST_BYTES, Sink, write_one};
@@ -24,6 +25,7 @@ impl ReadAt for Bytes<'_> {
     ghost reliable = { λ _. true };
 
     fn read_at(&self, offset: u64, buf: &mut [u8]) -> Result<usize, Failed> {
+        are_bytes(self.0);
         Ok(copy_at(self.0, offset, 100, buf))
     }
 }

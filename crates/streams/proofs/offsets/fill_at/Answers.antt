@@ -14,4 +14,5 @@ loop-at-preserved g c =
       fits = omega (arith, c.in_ok-n.ensures.within);
       bytes = rw (take_filled c.loop-at.at c.in_ok-n.n (length c.loop-at.buf - c.loop-at.at) c.loop-at.buf c.read_at.new.buf c.loop-at.invariant.within (omega (arith, room, bound)))
           (joined _ c.args.offset (take c.loop-at.at c.loop-at.buf) (take c.in_ok-n.n c.read_at.new.buf) c.loop-at.at (sym (length-take-le c.loop-at.at c.loop-at.buf c.loop-at.invariant.within)) c.loop-at.invariant.bytes c.in_ok-n.ensures.bytes);
+      each = λ some. c.in_ok-n.ensures.each;
     }
