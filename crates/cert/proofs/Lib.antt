@@ -6,6 +6,7 @@ pub mod Whole
 pub mod Texts
 pub mod Flat
 pub mod TextPlaces
+pub mod NamedTexts
 pub mod OneText
 pub mod RowsOfText
 pub mod TextsWithoutFault

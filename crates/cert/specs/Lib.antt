@@ -5,6 +5,7 @@ pub mod RepairSymbols
 pub mod Differences
 pub mod Verdict
 pub mod Columns
+pub mod InFile
 pub mod Scan
 pub mod Report
 pub mod Surveying

@@ -6,7 +6,8 @@
 //! block. `verdict` has what a check answers, `specs/Verdict` which answer is right, `specs/Report`
 //! what a yes tells.
 //!
-//! `view` has a certificate whose coefficients may be borrowed.
+//! `view` has a certificate whose coefficients may be borrowed, `in_file` one with a name that stays in
+//! its file.
 //!
 //! A check asks for one identity's packets and is a walk over datagrams, one step each (`walk`).
 //! [`check`] goes over a session (`checking`), [`check_from`] over what a reader gives
@@ -15,7 +16,8 @@
 //! `specs/Surveying`). The certificate's FTI is known from the start, so a
 //! packet is judged whether a carrier came before it or not; that none came is told in the end.
 //!
-//! The walk puts three parts together: `certified_symbols` makes each symbol that the certificate
+//! What came is counted and grouped by a `tally`, whatever is asked of the symbols
+//! (`specs/Tallying`). The walk puts three parts together: `certified_symbols` makes each symbol that the certificate
 //! gives, `source` compares them with the object and `datagrams` with a datagram, whose place it
 //! puts into its block's group for `losses`, and that of a carrier behind the other carriers.
 //! `block_symbols` makes many symbols of a block at once, `repair_symbols` keeps those that
@@ -41,6 +43,7 @@ mod datagrams;
 mod differing;
 mod from_reader;
 mod head;
+mod in_file;
 mod laws;
 mod repair_symbols;
 mod runs;
@@ -58,6 +61,7 @@ pub use checking::check;
 pub use converting::{ConvertFault, convert};
 pub use from_reader::{CheckFault, check_from, check_view_from};
 pub use head::write_head;
+pub use in_file::NamedCertificate;
 pub use laws::{
     first_column, first_reason, one_verdict, own_name_changes_nothing, reason_order,
     texts_without_fault,
