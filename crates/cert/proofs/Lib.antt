@@ -36,3 +36,4 @@ pub mod Named
 pub mod DatagramSteps
 pub mod FromReader
 pub mod Feeding
+pub mod Judged
