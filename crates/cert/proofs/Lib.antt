@@ -37,3 +37,4 @@ pub mod DatagramSteps
 pub mod FromReader
 pub mod Feeding
 pub mod Judged
+pub mod Members
