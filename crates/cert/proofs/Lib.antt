@@ -37,3 +37,5 @@ pub mod Named
 pub mod DatagramSteps
 pub mod FromReader
 pub mod Feeding
+pub mod Judged
+pub mod Members
