@@ -23,9 +23,9 @@ use Rattle.reception.specs.Symbols.{Symbol}
 use Rattle.reception.specs.Reception.{Judge, Wrong, Faulty, Judged, Placed, counts, placed_at, counted, symbols, symbols_in, symbol_of, is_carrier, with_fti, wrong_by, reception_with}
 use Rattle.reception.specs.Step.{looked, IsLook}
 use Rattle.reception.specs.Walks.{readings_of, Timely, judged, in_range, Found}
-use Rattle.reception.proofs.Walk.{counted_one_more, symbols_more, identity_stays}
+use Rattle.reception.proofs.Walk.{counted_one_more, symbols_more}
 use Rattle.reception.proofs.Stepping.{stays, stays_wrong}
-use Rattle.reception.proofs.Walking.{Walked, last, came_before, stops, goes_on, ends, one_behind, is_packet, same_identity, packet_counts, passed_counts}
+use Rattle.reception.proofs.Walking.{Walked, last, came_before, stops, goes_on, ends, one_behind, is_packet, packet_counts, passed_counts}
 use Rattle.reception.proofs.Looks.{fti_after, never_early, may_pass, faultless_look, length_look}
 use Rattle.cert.specs.declared.verdict.Reason.{Reason}
 use Rattle.cert.specs.declared.verdict.Reason.TheVariants.{OtherCertificate, ObjectLength, NotObject, Empty, Packet as NoPacket, OtherFti, SymbolLength, Range, Symbol as NotCertified, Thin, NoCarrier}

@@ -4,7 +4,6 @@ use Rattle.std.proofs.lemmas.List.{append_assoc, append-nil}
 use Rattle.session.specs.Frames.{IsDatagram, AreDatagrams}
 use Rattle.session.proofs.Sessions.{datagrams_push}
 use Rattle.reception.specs.declared.scope.Identity.{Identity}
-use Rattle.reception.specs.Symbols.{IsObject}
 use Rattle.reception.specs.Walks.{readings_of}
 use Rattle.cert.specs.declared.verdict.Reason.{Reason}
 use Rattle.cert.specs.declared.verdict.Reason.TheVariants.{OtherCertificate, ObjectLength, NotObject, Empty, Packet as NoPacket, OtherFti, SymbolLength, Range, Symbol, Thin, NoCarrier}
@@ -12,14 +11,14 @@ use Rattle.cert.specs.declared.verdict.Report.{Report}
 use Rattle.cert.specs.declared.verdict.Verdict.TheVariants.{Yes, No}
 use Rattle.cert.specs.declared.walk.NoReport.TheVariants.{Reason as ByReason}
 use Rattle.cert.specs.declared.walk.Walk.{Walk}
-use Rattle.cert.specs.Certificate.{Certificate, is_for}
+use Rattle.cert.specs.Certificate.{Certificate}
 use Rattle.cert.specs.NotBegun.{IsNotBegun}
 use Rattle.cert.specs.DatagramWalk.{IsNotPassed}
 use Rattle.cert.specs.Feeding.{HasNoReason, IsNoToAll}
 use Rattle.cert.specs.Fed.{IsWalkOver, IsFed}
 use Rattle.cert.specs.declared.checker.Checker.{Checker}
 use Rattle.cert.specs.Scan.{AreEnoughCertified, IsNoReport}
-use Rattle.cert.specs.Verdict.{GivesObject, IsVerdict, VerdictOn}
+use Rattle.cert.specs.Verdict.{IsVerdict, VerdictOn}
 use Rattle.cert.proofs.Judging.{no_reason, read_all, yes_all}
 use Rattle.cert.proofs.FromReader.{datagrams_append, no_datagrams, what_follows, report_no}
 

@@ -1,7 +1,7 @@
 -- The ESIs of a block that came, as its group has them.
-use Rattle.std.proofs.Common.{◌≡◌, ◌<◌, ◌++◌, Bool, true, false, cond, ℕ, List, [], ◌∷◌, get_or, length, map, refl, sym, ap, ◌∙◌, arith}
+use Rattle.std.proofs.Common.{◌≡◌, ◌<◌, ◌++◌, true, false, cond, ℕ, List, [], ◌∷◌, map, refl, sym, ap, ◌∙◌}
 use Rattle.std.specs.Prelude.{◌==◌}
-use Rattle.std.proofs.lemmas.List.{map-append, length-map}
+use Rattle.std.proofs.lemmas.List.{map-append}
 use Rattle.losses.specs.Groups.{Group, group_at}
 use Rattle.losses.specs.declared.groups.Member.{Member}
 use Rattle.partition.specs.Fti.{Fti, block_count}

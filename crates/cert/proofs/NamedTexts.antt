@@ -1,5 +1,5 @@
 -- The text of a certificate with a name, of whose bytes the first were read.
-use Rattle.std.proofs.Common.{◌≡◌, ◌≢◌, ℕ, zero, suc, ◌+◌, ◌*◌, ◌<◌, ◌≤◌, List, [], ◌∷◌, ◌++◌, Bool, true, false, Option, Some, None, length, get_or, take, drop, length-append, length-drop, refl, sym, ap, inl, subst, ◌∙◌, arith}
+use Rattle.std.proofs.Common.{◌≡◌, ◌≢◌, ℕ, zero, suc, ◌+◌, ◌*◌, ◌<◌, ◌≤◌, List, [], ◌∷◌, ◌++◌, Bool, true, false, Option, Some, None, length, take, drop, length-append, length-drop, refl, sym, ap, inl, subst, ◌∙◌, arith}
 use Rattle.std.specs.Prelude.{IfSome, ◌↔◌, IsTrue}
 use Rattle.std.specs.Io.KnownBytes.{Consumes}
 use Rattle.std.proofs.lemmas.List.{get_or-drop, take_all}
@@ -11,7 +11,7 @@ use Rattle.partition.proofs.Laws.{block_end}
 use Rattle.partition.specs.Fti.{Fti, IsValidFti, block_count, source_count, start_of}
 use Rattle.partition.specs.FtiFault.{fti_fault}
 use Rattle.reception.specs.declared.scope.Identity.{Identity}
-use Rattle.cert.specs.Certificate.{Certificate, IsCertificate, IsIdentity, certificate_text, coefficient_count, head_text, text_fault}
+use Rattle.cert.specs.Certificate.{IsCertificate, IsIdentity, certificate_text, coefficient_count, head_text, text_fault}
 use Rattle.cert.specs.declared.certificate.CertFault.TheVariants.{Size}
 use Rattle.cert.specs.CoefficientRows.{AreRowsOf}
 use Rattle.cert.specs.InFile.{IsLost, IsNamed, named_in}
@@ -38,14 +38,15 @@ module _ (f : Fti) (who : Identity) (valid : IsValidFti f) (good : fti_fault f �
   named_text : (x rest : List ℕ) → x ≡ head_text (Some who) f ++ rest → length x ≡ 34 + coefficient_count f → AreBytes x
       → IsCertificate (named_in x f who) × (x ≡ certificate_text (named_in x f who))
   named_text x rest is long each =
-      let behind : drop 34 x ≡ rest = ap (λ (l : List ℕ). drop 34 l) is ∙ behind_head who f rest in
-      (record {
-        fti = valid;
-        name = λ w e. let same : who ≡ w = cc in subst IsIdentity same own;
-        count = length-drop 34 x ∙ omega (arith, long);
-        bytes = λ i. rw (get_or-drop 34 x i 0) (each (34 + i));
-      },
-      is ∙ ap (λ (l : List ℕ). head_text (Some who) f ++ l) (sym behind))
+      let behind : drop 34 x ≡ rest = ap (λ (l : List ℕ). drop 34 l) is ∙ behind_head who f rest in (
+        record {
+          fti = valid;
+          name = λ w e. let same : who ≡ w = cc in subst IsIdentity same own;
+          count = length-drop 34 x ∙ omega (arith, long);
+          bytes = λ i. rw (get_or-drop 34 x i 0) (each (34 + i));
+        },
+        is ∙ ap (λ (l : List ℕ). head_text (Some who) f ++ l) (sym behind),
+      )
 
   module _ (content here new : Option (List ℕ)) (starts : (x : List ℕ) → content ≡ Some x → here ≡ Some x) (read : Consumes here new (head_text (Some who) f)) where
     -- the bytes behind the head

@@ -1,5 +1,5 @@
 -- A text with a name, whose coefficients stand behind its head as a certificate holds them.
-use Rattle.std.proofs.Common.{◌≡◌, ◌≢◌, ℕ, ◌+◌, ◌-◌, ◌≤◌, List, ◌++◌, Option, Some, None, drop, take, length, length-append, refl, sym, ap, ◌∙◌, arith}
+use Rattle.std.proofs.Common.{◌≡◌, ◌≢◌, ℕ, ◌-◌, ◌≤◌, List, ◌++◌, Option, Some, None, drop, take, length, length-append, sym, ap, ◌∙◌, arith}
 use Rattle.std.proofs.lemmas.List.{take_all, length-drop}
 use Rattle.std.proofs.Math.Seq.{drop-append_seam}
 use Rattle.partition.specs.Fti.{Fti, IsValidFti}

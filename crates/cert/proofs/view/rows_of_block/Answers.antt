@@ -1,4 +1,4 @@
-use Rattle.std.proofs.Common.{◌≡◌, ◌*◌, ◌∙◌, sym, ap, take, drop, arith}
+use Rattle.std.proofs.Common.{◌*◌, ◌∙◌, sym, ap, take, drop, arith}
 use Rattle.std.proofs.Math.Nat.{mul-le-mul_right}
 use Rattle.gf256.proofs.RowPlaces.{rows_apart}
 use Rattle.partition.specs.Fti.{Fti, source_count, start_of}

@@ -1,4 +1,4 @@
-use Rattle.std.proofs.Common.{sym, subst}
+use Rattle.std.proofs.Common.{subst}
 use Rattle.std.specs.Cow.{cow_slice_items}
 use Rattle.cert.specs.NotBegun.{IsNotBegun}
 use Rattle.cert.proofs.DatagramSteps.{passed_on}

@@ -1,5 +1,4 @@
 use Rattle.std.proofs.Common.{◌∙◌, ap, Some}
-use Rattle.cert.specs.declared.walk.NoReport.TheVariants.{Reason as ByReason}
 use Rattle.reception.specs.Walks.{readings_of}
 use Rattle.cert.proofs.Judging.{read_all}
 use Rattle.cert.proofs.Promise.{decodes as decodes_all}

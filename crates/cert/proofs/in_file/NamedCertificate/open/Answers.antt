@@ -1,5 +1,4 @@
-use Rattle.std.proofs.Common.{◌≡◌, ◌≢◌, ◌∙◌, ◌+◌, ◌<◌, ◌*◌, ℕ, List, Option, Some, None, length, refl, sym, ap, subst, arith}
-use Rattle.std.specs.Prelude.{IfSome, ◌↔◌, IsTrue, true, false}
+use Rattle.std.proofs.Common.{◌≡◌, ◌+◌, ℕ, refl, ap, arith}
 use Rattle.streams.proofs.AtOffsets.{cursor_start}
 use Rattle.partition.proofs.Laws.{padded_below}
 use Rattle.cert.specs.Certificate.{coefficient_count}

@@ -1,4 +1,4 @@
-use Rattle.std.proofs.Common.{◌≡◌, ◌+◌, ◌-◌, ◌*◌, ◌<◌, ◌∙◌, length, ap, arith}
+use Rattle.std.proofs.Common.{◌≡◌, ◌+◌, ◌-◌, ◌*◌, ◌∙◌, length, ap, arith}
 use Rattle.partition.specs.Fti.{Fti, source_count}
 use Rattle.cert.specs.BlockSymbols.{AreSymbols}
 use Rattle.cert.proofs.GreatestBlock.{few_symbols, with_repair}

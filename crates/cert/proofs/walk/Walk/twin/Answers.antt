@@ -1,10 +1,9 @@
-use Rattle.std.proofs.Common.{◌≡◌, ◌∙◌, map, ap}
+use Rattle.std.proofs.Common.{◌≡◌, ◌∙◌}
 use Rattle.std.proofs.lemmas.Result.{IfOk-weaker}
 use Rattle.losses.specs.Groups.{groups_of}
 use Rattle.std.specs.Cow.{cow_slice_items}
 use Rattle.reception.specs.Reception.{counted, symbols}
 use Rattle.reception.specs.Walks.{readings_of}
-use Rattle.losses.specs.declared.groups.Member.{Member}
 use Rattle.cert.specs.Twins.{esis_of}
 use Rattle.cert.proofs.HeldEsis.{held_esis}
 use Rattle.cert.proofs.Short.{shortness, few_arrived, twin_of_session}
