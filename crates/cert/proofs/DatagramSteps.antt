@@ -26,6 +26,8 @@ use Rattle.reception.specs.Walks.{readings_of, Timely, judged, in_range, Found}
 use Rattle.reception.proofs.Walk.{counted_one_more, symbols_more}
 use Rattle.reception.proofs.Stepping.{stays, stays_wrong}
 use Rattle.reception.proofs.Walking.{Walked, last, came_before, stops, goes_on, ends, one_behind, is_packet, packet_counts, passed_counts}
+use Rattle.std.specs.List.{AllByRecursion}
+use Rattle.reception.proofs.Within.{IsFaultless, IsSoundReading, clean_sound}
 use Rattle.reception.proofs.Looks.{fti_after, never_early, may_pass, faultless_look, length_look}
 use Rattle.cert.specs.declared.verdict.Reason.{Reason}
 use Rattle.cert.specs.declared.verdict.Reason.TheVariants.{OtherCertificate, ObjectLength, NotObject, Empty, Packet as NoPacket, OtherFti, SymbolLength, Range, Symbol as NotCertified, Thin, NoCarrier}
@@ -103,6 +105,10 @@ module _ (says : Says) (f : Fti) (t : Tallied) (ds : List (List ℕ)) (are : Are
   -- the FTI holds
   pub fti_holds : t.scope.fti ≡ Some f
   fti_holds = sym (ap (λ (s : Scope). s.fti) are.holds) ∙ ap (λ (s : Scope). s.fti) (stays who f (counted who (readings_of ds)))
+
+  -- what counts is in range
+  pub all_sound : AllByRecursion (λ x. IsSoundReading (IsFaultless f) x.reading) (counted who (readings_of ds))
+  all_sound = clean_sound (judge_by says) (with_fti who f) (readings_of ds) f (record { clean = are.clean; some = ap (λ (s : Scope). s.fti) are.holds ∙ fti_holds })
 
   -- the tally with one datagram more
   abbrev one_tallied : ℕ → List Group → List ℕ → Tallied

@@ -19,8 +19,7 @@ use Rattle.reception.specs.declared.scope.Identity.{Identity}
 use Rattle.reception.specs.Symbols.{has_arrived}
 use Rattle.reception.specs.Reception.{ReadAll, is_of_identity, is_carrier, counted_from, counted, symbols, Suffices}
 use Rattle.reception.specs.Headline.{HasCarrier}
-use Rattle.cert.specs.Certificate.{Certificate}
-use Rattle.cert.specs.Verdict.{IsCertifiedReading}
+use Rattle.reception.proofs.Within.{IsFaultless, IsSoundReading}
 use Rattle.cert.specs.Report.{blocks_of}
 use Rattle.cert.specs.Scan.{members_of, AreGroupsOf, AreEnough}
 use Rattle.cert.proofs.Scanning.{in_range_small}
@@ -34,28 +33,28 @@ wider : (i n : ℕ) (qs : List Member) → AreMembersFrom (i + 1) n qs → AreMe
 wider i n [] g = tt
 wider i n (q ∷ qs) g = (let a = g.0 in omega (arith, a), g.1, g.2, g.3)
 
-members_above : (who : Identity) (z : Certificate) (valid : IsValidFti z.fti) (b i n : ℕ) (rs : List Reading)
-    → AllByRecursion (λ x. IsCertifiedReading z x.reading) (counted_from who i rs) → i + length rs ≡ n → AreMembersFrom i n (members_of b (counted_from who i rs))
-members_above who z valid b i n [] h e = tt
-members_above who z valid b i n (Err r ∷ rs) h e = absurd h.0
-members_above who z valid b i n (Ok p ∷ rs) h e =
-    (elim (is_of_identity who p) as (λ u. AllByRecursion (λ x. IsCertifiedReading z x.reading) (cond u (record { place = i; reading = Ok p } ∷ []) [] ++ counted_from who (i + 1) rs)
+members_above : (who : Identity) (f : Fti) (valid : IsValidFti f) (b i n : ℕ) (rs : List Reading)
+    → AllByRecursion (λ x. IsSoundReading (IsFaultless f) x.reading) (counted_from who i rs) → i + length rs ≡ n → AreMembersFrom i n (members_of b (counted_from who i rs))
+members_above who f valid b i n [] h e = tt
+members_above who f valid b i n (Err r ∷ rs) h e = absurd h.0
+members_above who f valid b i n (Ok p ∷ rs) h e =
+    (elim (is_of_identity who p) as (λ u. AllByRecursion (λ x. IsSoundReading (IsFaultless f) x.reading) (cond u (record { place = i; reading = Ok p } ∷ []) [] ++ counted_from who (i + 1) rs)
     → AreMembersFrom i n (members_of b (cond u (record { place = i; reading = Ok p } ∷ []) [] ++ counted_from who (i + 1) rs))) [
-      | false ↦ λ k. wider i n (members_of b (counted_from who (i + 1) rs)) (members_above who z valid b (i + 1) n rs k (omega (arith, e)))
+      | false ↦ λ k. wider i n (members_of b (counted_from who (i + 1) rs)) (members_above who f valid b (i + 1) n rs k (omega (arith, e)))
       | true ↦ λ k.
-          (let later = members_above who z valid b (i + 1) n rs k.1 (omega (arith, e)) in
+          (let later = members_above who f valid b (i + 1) n rs k.1 (omega (arith, e)) in
           elim (p.block == b) as (λ v. AreMembersFrom i n (cond v (record { place = i; esi = p.esi } ∷ []) [] ++ members_of b (counted_from who (i + 1) rs))) [
-            | true ↦ (omega arith, omega (arith, e), (let s = in_range_small z.fti p valid k.0.range in omega (arith, s)), later)
+            | true ↦ (omega arith, omega (arith, e), (let s = in_range_small f p valid k.0.range in omega (arith, s)), later)
             | false ↦ wider i n (members_of b (counted_from who (i + 1) rs)) later
           ])
     ]) h
 
-module _ (who : Identity) (z : Certificate) (valid : IsValidFti z.fti) (rs : List Reading) (packets : AllByRecursion (λ x. IsCertifiedReading z x.reading) (counted who rs))
-    (groups : List Group) (are : AreGroupsOf z.fti (counted who rs) groups) where
+module _ (who : Identity) (f : Fti) (valid : IsValidFti f) (rs : List Reading) (packets : AllByRecursion (λ x. IsSoundReading (IsFaultless f) x.reading) (counted who rs))
+    (groups : List Group) (are : AreGroupsOf f (counted who rs) groups) where
   members_in : (b : ℕ) → b < length groups → AreMembersFrom 0 (length rs) (group_at groups b).members
   members_in b hb =
       let c = are.count in
-      rw (are.members b (omega (arith, hb, c))) (members_above who z valid b 0 (length rs) rs packets (omega arith))
+      rw (are.members b (omega (arith, hb, c))) (members_above who f valid b 0 (length rs) rs packets (omega arith))
 
   -- the groups are as `figures_of` asks
   pub are_groups : AreEnough groups → AreGroups groups (length rs)
@@ -63,7 +62,7 @@ module _ (who : Identity) (z : Certificate) (valid : IsValidFti z.fti) (rs : Lis
     some = λ b hb.
         (let c = are.count in
         let n = are.need b (omega (arith, hb, c)) in
-        let s = some_source z.fti valid b in
+        let s = some_source f valid b in
         omega (arith, n, s));
     members = members_in;
     enough = λ b hb. (let d = different_is (group_at groups b).members in let e = enough b hb in omega (arith, d, e));
@@ -82,36 +81,36 @@ module _ (who : Identity) (z : Certificate) (valid : IsValidFti z.fti) (rs : Lis
       ∙ left (λ k. false) b j hb
       ∙ ap (λ (xs : List ℕ). list_any (is_at xs j) (group_at groups b).members) (nothing_lost 0 (places 0 (length rs)))
 
-  needed : (b : ℕ) → b < length groups → source_count z.fti b ≡ (group_at groups b).need
+  needed : (b : ℕ) → b < length groups → source_count f b ≡ (group_at groups b).need
   needed b hb = let c = are.count in sym (are.need b (omega (arith, hb, c)))
 
   -- of the groups and the carriers' places
   abbrev pub grouped : Blocks ℕ
   grouped = blocks_of_groups groups (places_from (is_carrier who) 0 rs)
 
-  pub margin_told : (m : ℕ) → IsMargin grouped (places 0 (length rs)) m → IsMargin (blocks_of who z.fti) rs m
+  pub margin_told : (m : ℕ) → IsMargin grouped (places 0 (length rs)) m → IsMargin (blocks_of who f) rs m
   margin_told =
-      margin_same grouped (blocks_of who z.fti) (places 0 (length rs)) rs (sym are.count) needed (sym (places_length 0 (length rs))) whole left
+      margin_same grouped (blocks_of who f) (places 0 (length rs)) rs (sym are.count) needed (sym (places_length 0 (length rs))) whole left
       (λ lost. sym (carriers_left (is_carrier who) rs lost)) (sym (carriers_same (is_carrier who) rs))
 
-  pub kill_told : (n : ℕ) (ps : List ℕ) → IsKill grouped (places 0 (length rs)) n ps → IsKill (blocks_of who z.fti) rs n ps
+  pub kill_told : (n : ℕ) (ps : List ℕ) → IsKill grouped (places 0 (length rs)) n ps → IsKill (blocks_of who f) rs n ps
   kill_told =
-      kill_same grouped (blocks_of who z.fti) (places 0 (length rs)) rs (sym are.count) needed (sym (places_length 0 (length rs))) whole left
+      kill_same grouped (blocks_of who f) (places 0 (length rs)) rs (sym are.count) needed (sym (places_length 0 (length rs))) whole left
       (λ lost. sym (carriers_left (is_carrier who) rs lost)) (sym (carriers_same (is_carrier who) rs))
 
-  pub burst_told : (m : ℕ) → IsBurst grouped (places 0 (length rs)) m → IsBurst (blocks_of who z.fti) rs m
+  pub burst_told : (m : ℕ) → IsBurst grouped (places 0 (length rs)) m → IsBurst (blocks_of who f) rs m
   burst_told =
-      burst_same grouped (blocks_of who z.fti) (places 0 (length rs)) rs (sym are.count) needed (sym (places_length 0 (length rs))) whole left
+      burst_same grouped (blocks_of who f) (places 0 (length rs)) rs (sym are.count) needed (sym (places_length 0 (length rs))) whole left
       (λ lost. sym (carriers_left (is_carrier who) rs lost)) (sym (carriers_same (is_carrier who) rs))
 
-  pub lacks_told : (lost : ℕ → Bool) (o : Option ℕ) → Lacks grouped (rest lost (places 0 (length rs))) o → Lacks (blocks_of who z.fti) (rest lost rs) o
+  pub lacks_told : (lost : ℕ → Bool) (o : Option ℕ) → Lacks grouped (rest lost (places 0 (length rs))) o → Lacks (blocks_of who f) (rest lost rs) o
   lacks_told =
-      lacks_same grouped (blocks_of who z.fti) (places 0 (length rs)) rs (sym are.count) needed (sym (places_length 0 (length rs))) whole left
+      lacks_same grouped (blocks_of who f) (places 0 (length rs)) rs (sym are.count) needed (sym (places_length 0 (length rs))) whole left
       (λ lost. sym (carriers_left (is_carrier who) rs lost)) (sym (carriers_same (is_carrier who) rs))
 
-  pub runs_told : (runs : List (Option Run)) → AreRuns grouped (places 0 (length rs)) runs → AreRuns (blocks_of who z.fti) rs runs
+  pub runs_told : (runs : List (Option Run)) → AreRuns grouped (places 0 (length rs)) runs → AreRuns (blocks_of who f) rs runs
   runs_told =
-      runs_same grouped (blocks_of who z.fti) (places 0 (length rs)) rs (sym are.count) needed (sym (places_length 0 (length rs))) whole left
+      runs_same grouped (blocks_of who f) (places 0 (length rs)) rs (sym are.count) needed (sym (places_length 0 (length rs))) whole left
       (λ lost. sym (carriers_left (is_carrier who) rs lost)) (sym (carriers_same (is_carrier who) rs))
 
 read_rest : (lost : ℕ → Bool) (i : ℕ) (ds : List (List ℕ)) (rs : List Reading) → ReadAll ds rs → ReadAll (rest_from i lost ds) (rest_from i lost rs)

@@ -6,7 +6,7 @@ use Rattle.losses.specs.Losses.{places_from}
 use Rattle.alc.specs.Packet.{Packet}
 use Rattle.alc.specs.Reading.{Reading}
 use Rattle.alc.specs.Computed.{read_of}
-use Rattle.partition.specs.Fti.{Fti}
+use Rattle.partition.specs.Fti.{Fti, IsValidFti}
 use Rattle.reception.specs.Symbols.{Symbol}
 use Rattle.reception.specs.Reception.{Judge, InRange, counted, is_carrier, look, reception_with}
 use Rattle.reception.specs.Reception.{symbol_of, symbols, with_fti}
@@ -19,7 +19,7 @@ use Rattle.cert.specs.declared.walk.NoReport.TheVariants.{Reason as ByReason, No
 use Rattle.cert.specs.declared.verdict.Reason.{Reason}
 use Rattle.cert.specs.declared.verdict.Reason.TheVariants.{Packet as NoPacket, OtherFti}
 use Rattle.cert.specs.declared.verdict.Reason.TheVariants.{SymbolLength, Range, Symbol as NoSymbol}
-use Rattle.cert.specs.Certificate.{Certificate, IsCertificate}
+use Rattle.cert.specs.Certificate.{Certificate}
 use Rattle.cert.specs.Scan.{AreGroupsOf}
 use Rattle.cert.specs.Verdict.{reason_at, uncertified}
 
@@ -68,10 +68,10 @@ pub record AreTallied (says : Says) (f : Fti) (t : Tallied) (datagrams : List (L
   pub grouped : AreGroupsOf f (counted t.scope.identity (readings_of datagrams)) t.groups
   pub placed : t.carriers ≡ places_from (is_carrier t.scope.identity) 0 (readings_of datagrams)
 
--- it is the tally of these datagrams, all of them as the certificate has them
-pub record IsTallyOf (z : Certificate) (tally : Tally) (datagrams : List (List ℕ)) : Type 0 where
-  pub valid : IsCertificate z
-  pub tallied : AreTallied (by_certificate z) z.fti (tallied_of tally) datagrams
+-- it is the tally of these datagrams
+pub record IsTally (says : Says) (f : Fti) (tally : Tally) (datagrams : List (List ℕ)) : Type 0 where
+  pub valid : IsValidFti f
+  pub tallied : AreTallied says f (tallied_of tally) datagrams
 
 -- the reason at the least place that has one, and there the first
 abbrev pub first_reason_by : Says → Fti → Identity → List Reading → Option Reason

@@ -10,7 +10,7 @@ fn byte_at(bytes: &[u8], place: usize) -> u8
 }
 
 /// The least place of a row at which it isn't these bytes, with zeros behind them.
-pub(crate) fn first_difference(row: &[u8], bytes: &[u8]) -> Option<usize>
+pub fn first_difference(row: &[u8], bytes: &[u8]) -> Option<usize>
     ensures none { IsNone result → AreSameBelow (length row.now) row.now bytes.now }
     ensures some { IfSome result (IsFirstDifference row.now bytes.now) }
 {

@@ -1,7 +1,7 @@
 //! The tally of datagrams that were looked at one by one: what came, but for the symbols' bytes.
 ghost use Rattle.std.specs.Prelude.{◌≡◌, ◌<◌, ◌≤◌, ◌+◌, ◌-◌, ◌^◌, [], None, Some, ℕ, List, length};
 ghost use Rattle.std.specs.Prelude.{map, true, is_some, IfOk, IfErr, OnOk};
-ghost use Rattle.std.specs.List.{sum_by};
+ghost use Rattle.std.specs.List.{list_any, sum_by};
 ghost use Rattle.lists.specs.Below.{below};
 ghost use Rattle.lists.specs.Selection.{rest, is_among};
 ghost use Rattle.losses.specs.Groups.{group_at, groups_of, InEachList};
@@ -10,7 +10,7 @@ ghost use Rattle.losses.specs.Runs.{Lacks};
 ghost use Rattle.session.specs.Frames.{AreDatagrams};
 ghost use Rattle.partition.specs.Fti.{Fti as FtiValue};
 ghost use Rattle.alc.specs.Views.{packet_of};
-ghost use Rattle.reception.specs.Reception.{symbol_of};
+ghost use Rattle.reception.specs.Reception.{is_carrier, symbol_of};
 ghost use Rattle.reception.specs.Step.{IsLook};
 ghost use Rattle.reception.specs.Walks.{readings_of};
 ghost use Rattle.cert.specs.Certificate.{Certificate as CertificateValue};
@@ -44,7 +44,7 @@ pub struct Tally {
 }
 
 impl Tally {
-    ghost use Rattle.cert.specs.Tallying.{AreTallied, IsTallyOf, Says, tallied_of};
+    ghost use Rattle.cert.specs.Tallying.{AreTallied, IsTally, Says, by_certificate, tallied_of};
 
     /// Before the first datagram.
     pub fn new(alloc: Global, identity: Identity, fti: Fti) -> Result<Tally, AllocError>
@@ -106,16 +106,16 @@ impl Tally {
 
     /// The report on the datagrams, or the reason for which they don't suffice.
     pub fn report(&self, alloc: Global) -> Result<Report, NoReport>
-        requires { (z : CertificateValue) × (datagrams : List (List ℕ))
-            × IsTallyOf z self.now datagrams }
-        ensures report { (z : CertificateValue) (datagrams : List (List ℕ))
-            → AreDatagrams datagrams → IsTallyOf z self.now datagrams
-            → IfOk result (IsReport self.now.scope.identity datagrams z.fti) }
+        requires { (says : Says) × (f : FtiValue) × (datagrams : List (List ℕ))
+            × IsTally says f self.now datagrams }
+        ensures report { (says : Says) (f : FtiValue) (datagrams : List (List ℕ))
+            → AreDatagrams datagrams → IsTally says f self.now datagrams
+            → IfOk result (IsReport self.now.scope.identity datagrams f) }
         ensures certified { (z : CertificateValue) (datagrams : List (List ℕ))
-            → IsTallyOf z self.now datagrams
+            → IsTally (by_certificate z) z.fti self.now datagrams
             → OnOk result (AreEnoughCertified self.now.scope.identity datagrams z) }
         ensures no_report { (z : CertificateValue) (datagrams : List (List ℕ))
-            → IsTallyOf z self.now datagrams
+            → IsTally (by_certificate z) z.fti self.now datagrams
             → IfErr result (IsNoReport self.now.scope.identity datagrams z) }
     {
         let (report, _) = self.report_and_kill_block(alloc)?;
@@ -125,19 +125,19 @@ impl Tally {
     /// The report on the datagrams and what a picture shows beside it, or the reason for which they
     /// don't suffice.
     pub fn survey(&self, alloc: Global) -> Result<(Report, Survey), NoReport>
-        requires { (z : CertificateValue) × (datagrams : List (List ℕ))
-            × IsTallyOf z self.now datagrams }
-        ensures report { (z : CertificateValue) (datagrams : List (List ℕ))
-            → AreDatagrams datagrams → IsTallyOf z self.now datagrams → IfOk result (λ r.
-            IsReport self.now.scope.identity datagrams z.fti r.0) }
-        ensures survey { (z : CertificateValue) (datagrams : List (List ℕ))
-            → AreDatagrams datagrams → IsTallyOf z self.now datagrams → IfOk result (λ r.
-            IsSurvey self.now.scope.identity datagrams z.fti r.0 r.1) }
+        requires { (says : Says) × (f : FtiValue) × (datagrams : List (List ℕ))
+            × IsTally says f self.now datagrams }
+        ensures report { (says : Says) (f : FtiValue) (datagrams : List (List ℕ))
+            → AreDatagrams datagrams → IsTally says f self.now datagrams → IfOk result (λ r.
+            IsReport self.now.scope.identity datagrams f r.0) }
+        ensures survey { (says : Says) (f : FtiValue) (datagrams : List (List ℕ))
+            → AreDatagrams datagrams → IsTally says f self.now datagrams → IfOk result (λ r.
+            IsSurvey self.now.scope.identity datagrams f r.0 r.1) }
         ensures certified { (z : CertificateValue) (datagrams : List (List ℕ))
-            → IsTallyOf z self.now datagrams
+            → IsTally (by_certificate z) z.fti self.now datagrams
             → OnOk result (AreEnoughCertified self.now.scope.identity datagrams z) }
         ensures no_report { (z : CertificateValue) (datagrams : List (List ℕ))
-            → IsTallyOf z self.now datagrams
+            → IsTally (by_certificate z) z.fti self.now datagrams
             → IfErr result (IsNoReport self.now.scope.identity datagrams z) }
     {
         let (report, kill_block) = self.report_and_kill_block(alloc)?;
@@ -163,24 +163,27 @@ impl Tally {
 
     // The report, and a block that its kill leaves short.
     fn report_and_kill_block(&self, alloc: Global) -> Result<(Report, Option<usize>), NoReport>
-        requires { (z : CertificateValue) × (datagrams : List (List ℕ))
-            × IsTallyOf z self.now datagrams }
-        ensures report { (z : CertificateValue) (datagrams : List (List ℕ))
-            → AreDatagrams datagrams → IsTallyOf z self.now datagrams → IfOk result (λ r.
-            IsReport self.now.scope.identity datagrams z.fti r.0) }
-        ensures kill_block { (z : CertificateValue) (datagrams : List (List ℕ))
-            → IsTallyOf z self.now datagrams
-            → IfOk result (λ r. Lacks (blocks_of self.now.scope.identity z.fti)
+        requires { (says : Says) × (f : FtiValue) × (datagrams : List (List ℕ))
+            × IsTally says f self.now datagrams }
+        ensures report { (says : Says) (f : FtiValue) (datagrams : List (List ℕ))
+            → AreDatagrams datagrams → IsTally says f self.now datagrams → IfOk result (λ r.
+            IsReport self.now.scope.identity datagrams f r.0) }
+        ensures kill_block { (says : Says) (f : FtiValue) (datagrams : List (List ℕ))
+            → IsTally says f self.now datagrams
+            → IfOk result (λ r. Lacks (blocks_of self.now.scope.identity f)
             (rest (is_among r.0.kill.items) (readings_of datagrams)) r.1) }
         ensures burst { IfOk result (λ r.
             InEachList (groups_of self.now.groups.items) self.now.carriers.items
             (λ blocks xs. IsBurst blocks xs r.0.burst)) }
         ensures enough { OnOk result (AreEnough (groups_of self.now.groups.items)) }
+        ensures carrier { (says : Says) (f : FtiValue) (datagrams : List (List ℕ))
+            → IsTally says f self.now datagrams → OnOk result
+            (list_any (is_carrier self.now.scope.identity) (readings_of datagrams) ≡ true) }
         ensures certified { (z : CertificateValue) (datagrams : List (List ℕ))
-            → IsTallyOf z self.now datagrams
+            → IsTally (by_certificate z) z.fti self.now datagrams
             → OnOk result (AreEnoughCertified self.now.scope.identity datagrams z) }
         ensures no_report { (z : CertificateValue) (datagrams : List (List ℕ))
-            → IsTallyOf z self.now datagrams
+            → IsTally (by_certificate z) z.fti self.now datagrams
             → IfErr result (IsNoReport self.now.scope.identity datagrams z) }
     {
         if self.taken == 0 {
