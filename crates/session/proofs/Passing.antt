@@ -76,6 +76,11 @@ pub at_start : (content : Option (List ℕ)) → Behind content content 0 0
 at_start None = record { read = []; bytes = tt; short = λ i. omega arith; each = no_datagram; size = refl; count = refl }
 at_start (Some x) = record { read = []; bytes = refl; short = λ i. omega arith; each = no_datagram; size = refl; count = refl }
 
+pub none_read : (content : Option (List ℕ)) → (at_start content).read ≡ []
+unfolding at_start
+none_read None = refl
+none_read (Some x) = refl
+
 consumed_both : (a b c : Option (List ℕ)) (xs ys : List ℕ) → Consumes a b xs → Consumes b c ys → Consumes a c (xs ++ ys)
 consumed_both None b c xs ys p q = tt
 consumed_both (Some a) None c xs ys p q = absurd p
@@ -100,6 +105,10 @@ module _ (content left : Option (List ℕ)) (offset place : ℕ) (b : Behind con
       size = ap length (frames_push b.read d) ∙ omega (arith, length-append (frames b.read) (frame d), length_frame d, b.size, is);
       count = omega (arith, length-append b.read (d ∷ []), b.count);
     }
+
+    pub one_read : (bytes : AreBytes d) (next : ℕ) (is : next ≡ offset + 2 + length d) → (read_more bytes next is).read ≡ b.read ++ d ∷ []
+    unfolding read_more
+    one_read bytes next is = refl
 
     module _ (x : List ℕ) (told : content ≡ Some x) where
       -- it is that of the datagram at the place

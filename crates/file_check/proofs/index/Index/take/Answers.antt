@@ -1,0 +1,27 @@
+use Rattle.std.proofs.Common.{arith, refl}
+use Rattle.losses.specs.Groups.{groups_of}
+use Rattle.losses.proofs.GroupFigures.{count_of}
+use Rattle.cert.specs.Tallying.{nothing, tallied_of}
+use Rattle.cert.proofs.DatagramSteps.{block_there, passes, passes_over}
+use Rattle.file_check.proofs.index.Index.take.Goals as goal
+
+pub put-requires : goal.put-requires
+put-requires c =
+    let l = block_there nothing c.requires.0 (tallied_of c.args.self.now.tally) c.requires.1 c.requires.2
+    c.args.datagram.now c.in-Ok-InRange.packet (rw (c.in-Ok-InRange.is, c.in-Ok-InRange.field-0-is) at c.look.ensures) in
+    omega (arith, l, count_of c.args.self.now.tally.groups.items)
+
+pub returns-in_ok-push-in-Ok-InRange-clause-taken : goal.returns-in_ok-push-in-Ok-InRange-clause-taken
+returns-in_ok-push-in-Ok-InRange-clause-taken c = λ f ds h none. (
+    let e = c.in_ok-put-in-Ok-InRange.ensures in
+    rw (e.scope, e.count, e.taken)
+    (passes nothing f (tallied_of c.args.self.now.tally) ds h
+    c.args.datagram.now c.in-Ok-InRange.packet (rw (c.in-Ok-InRange.is, c.in-Ok-InRange.field-0-is) at c.look.ensures)
+    (groups_of c.put.new.self.groups.items) c.put.new.self.carriers.items refl e.put e.carriers))
+
+pub returns-in_ok-push-in-Ok-Other-clause-taken : goal.returns-in_ok-push-in-Ok-Other-clause-taken
+returns-in_ok-push-in-Ok-Other-clause-taken c = λ f ds h none. (
+    let e = c.in_ok-pass_over-in-Ok-Other.ensures in
+    rw (e.scope, e.count, e.taken, e.groups, e.carriers)
+    (passes_over nothing f (tallied_of c.args.self.now.tally) ds h
+    c.args.datagram.now (rw (c.in-Ok-Other.is, c.in-Ok-Other.field-0-is) at c.look.ensures)))

@@ -1,0 +1,48 @@
+-- Where the datagrams of a session file stand.
+use Rattle.std.specs.Prelude.{◌≡◌, ◌⊎◌, ◌<◌, ◌≤◌, ◌+◌, ℕ, Bool, false, List, Option, Some, Err, length}
+use Rattle.std.specs.Prelude.{slice_index_or, []}
+use Rattle.std.specs.Io.KnownBytes.{Consumes, IsAtEnd}
+use Rattle.session.specs.Frames.{frame, frames, AreDatagrams, IsDatagram, IsReadFault}
+use Rattle.session.specs.Extents.{datagram_in}
+use Rattle.session.specs.declared.extent.Extent.{Extent}
+use Rattle.session.specs.declared.frame.FrameFault.TheVariants.{Io}
+use Rattle.partition.specs.Fti.{Fti}
+use Rattle.reception.specs.declared.scope.Identity.{Identity}
+use Rattle.reception.specs.declared.scope.Scope.{Scope}
+use Rattle.reception.specs.Step.{IsLook}
+use Rattle.cert.specs.Tallying.{AreTallied, nothing, tallied_of}
+use Rattle.file_check.specs.declared.index.Index.{Index}
+use Rattle.file_check.specs.declared.index.End.{End}
+use Rattle.file_check.specs.declared.index.End.TheVariants.{File, Fault, Frame}
+
+-- an extent that is no datagram's
+abbrev pub no_extent : Extent
+no_extent = record { offset = 0; length = 0 }
+
+-- each datagram stands at its extent in the file, where its bytes are told
+abbrev pub StandAt : Option (List ℕ) → List Extent → List (List ℕ) → Type 0
+StandAt content extents datagrams = (x : List ℕ) → content ≡ Some x → (i : ℕ) → i < length datagrams
+    → let e = slice_index_or extents i no_extent in
+    (datagram_in x e ≡ slice_index_or datagrams i []) × (e.offset + e.length ≤ length x)
+
+-- why no datagram follows these
+abbrev pub EndsBy : Scope → Option (List ℕ) → Bool → End → Type 0
+EndsBy scope left sound File = IsAtEnd left
+EndsBy scope left sound (Fault fault) = (d : List ℕ) × (new : Option (List ℕ)) × IsDatagram d
+    × Consumes left new (frame d) × IsLook d scope scope (Err fault)
+EndsBy scope left sound (Frame fault) = ((new : Option (List ℕ)) × (failed : Bool)
+    × IsReadFault fault left new failed) × (fault ≡ Io → sound ≡ false)
+
+-- The frames of some datagrams stand in front, none with a fault before its symbol is looked at;
+-- what came in them, and where each stands; and why no more of them follow.
+pub record IsIndexed (who : Identity) (f : Fti) (content : Option (List ℕ)) (sound : Bool)
+    (index : Index) (end : End) : Type 0 where
+  pub datagrams : List (List ℕ)
+  pub each : AreDatagrams datagrams
+  pub left : Option (List ℕ)
+  pub consumed : Consumes content left (frames datagrams)
+  pub identity : index.tally.scope.identity ≡ who
+  pub tallied : AreTallied nothing f (tallied_of index.tally) datagrams
+  pub many : length index.extents.items ≡ length datagrams
+  pub stand : StandAt content index.extents.items datagrams
+  pub ends : EndsBy index.tally.scope left sound end

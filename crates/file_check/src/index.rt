@@ -1,0 +1,115 @@
+//! Where the datagrams of a session file stand, and what came in them but for their symbols' bytes.
+ghost use Rattle.std.specs.Prelude.{◌≡◌, ◌++◌, ◌∷◌, [], None, Some, Err, ℕ, List, false, IfOk, IfSome};
+ghost use Rattle.partition.specs.Fti.{Fti as FtiValue};
+ghost use Rattle.reception.specs.Step.{IsLook};
+ghost use Rattle.cert.specs.Tallying.{AreTallied, nothing, tallied_of};
+ghost use Rattle.file_check.specs.Indexed.{IsIndexed};
+
+use cert::Tally;
+use lists::are_bytes;
+use partition::Fti;
+use reception::{Identity, Look, PlaceFault};
+use session::{Extent, FrameFault, Position, Read, read_next};
+use std::alloc::{AllocError, Global};
+use streams::{Cursor, ReadAt};
+
+/// The datagrams in front of a session file, as far as none has a fault before its symbol is looked
+/// at: what came in them, and where each stands.
+#[derive(Drop)]
+pub(crate) struct Index {
+    pub(crate) tally: Tally,
+    pub(crate) extents: Vec<Extent>,
+}
+
+/// Why no more datagrams stand in an index.
+#[derive(Clone, Copy)]
+pub(crate) enum End {
+    /// The file ends.
+    File,
+    /// The next one has this fault.
+    Fault(PlaceFault),
+    /// No frame follows, or it can't be read.
+    Frame(FrameFault),
+}
+
+impl Index {
+    // Takes the next datagram, which stands here, or tells its fault.
+    fn take(&mut self, datagram: &[u8], extent: Extent) -> Result<Option<PlaceFault>, AllocError>
+        requires { (f : FtiValue) × (ds : List (List ℕ))
+            × AreTallied nothing f (tallied_of self.old.tally) ds }
+        ensures scope { self.new.tally.scope ≡ self.old.tally.scope }
+        ensures taken { (f : FtiValue) (ds : List (List ℕ))
+            → AreTallied nothing f (tallied_of self.old.tally) ds → IfOk result (λ o. o ≡ None
+            → AreTallied nothing f (tallied_of self.new.tally) (ds ++ datagram.now ∷ [])) }
+        ensures extents { IfOk result (λ o. o ≡ None
+            → self.new.extents.items ≡ self.old.extents.items ++ extent ∷ []) }
+        ensures fault { IfOk result (λ o. IfSome o (λ e.
+            IsLook datagram.now self.old.tally.scope self.old.tally.scope (Err e))) }
+        ensures stays { IfOk result (λ o. IfSome o (λ _. self.new ≡ self.old)) }
+    {
+        match self.tally.look(datagram) {
+            Ok(Look::InRange(packet)) => {
+                self.tally.put(&packet)?;
+                self.extents.push(extent)?;
+                Ok(None)
+            }
+            Ok(Look::Other) => {
+                self.tally.pass_over()?;
+                self.extents.push(extent)?;
+                Ok(None)
+            }
+            Ok(Look::Early) => unreachable!(),
+            Err(fault) => Ok(Some(fault)),
+        }
+    }
+}
+
+// The index of the datagrams that a reader gives, which are those of a file.
+fn index_frames<R: Read>(
+    alloc: Global,
+    reader: &mut R,
+    identity: Identity,
+    fti: Fti,
+) -> Result<(Index, End), AllocError>
+    ensures { IfOk result (λ r. IsIndexed identity fti (R.remaining reader.old)
+        (R.sound reader.old) r.0 r.1) }
+{
+    let mut index = Index {
+        tally: Tally::new(alloc, identity, fti)?,
+        extents: Vec::new(alloc),
+    };
+    let mut position = Position::new();
+    loop {
+        let datagram = match read_next(alloc, reader) {
+            Ok(Some(datagram)) => datagram,
+            Ok(None) => return Ok((index, End::File)),
+            Err(FrameFault::NoMemory) => return Err(AllocError),
+            Err(fault) => return Ok((index, End::Frame(fault))),
+        };
+        let bytes = datagram.as_slice();
+        are_bytes(bytes);
+        let Ok((extent, next)) = position.pass(bytes.len()) else {
+            return Err(AllocError);
+        };
+        match index.take(bytes, extent)? {
+            None => position = next,
+            Some(fault) => return Ok((index, End::Fault(fault))),
+        }
+    }
+}
+
+/// The index of a session file, where the identity's FTI is known.
+pub(crate) fn index_session<F: ReadAt>(
+    alloc: Global,
+    session: &F,
+    identity: Identity,
+    fti: Fti,
+) -> Result<(Index, End), AllocError>
+    ensures told { (x : List ℕ) → F.content session.now ≡ Some x → IfOk result (λ r.
+        IsIndexed identity fti (Some x) (F.reliable session.now) r.0 r.1) }
+    ensures some { IfOk result (λ r. (content : _) × (sound : _)
+        × IsIndexed identity fti content sound r.0 r.1) }
+{
+    let mut frames = Cursor::new(session);
+    index_frames(alloc, &mut frames, identity, fti)
+}

@@ -1,0 +1,4 @@
+//! The check of a session file, an object and a certificate, none of which is held.
+#![tactic(auto)]
+
+mod index;
