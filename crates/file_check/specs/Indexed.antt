@@ -46,3 +46,10 @@ pub record IsIndexed (who : Identity) (f : Fti) (content : Option (List ℕ)) (s
   pub many : length index.extents.items ≡ length datagrams
   pub stand : StandAt content index.extents.items datagrams
   pub ends : EndsBy index.tally.scope left sound end
+
+-- the index is of these datagrams, which stand in the file's bytes
+pub record IsIndexOf (x : List ℕ) (f : Fti) (index : Index)
+    (datagrams : List (List ℕ)) : Type 0 where
+  pub tallied : AreTallied nothing f (tallied_of index.tally) datagrams
+  pub many : length index.extents.items ≡ length datagrams
+  pub stand : StandAt (Some x) index.extents.items datagrams

@@ -95,10 +95,13 @@ loop-datagram-preserved g c =
     let tallied = rw c.as_slice-bytes.ensures.value at (e.taken c.args.fti read.0.read read.1 c.in-None.is) in
     let extents = e.extents c.in-None.is in
     record {
-      read = rw (c.in-Ok.ensures.more, extents)
-          (more, rw is tallied, rw is (length-append c.loop-datagram.index.extents.items (c.in-Ok.extent ∷ []) ∙ ap (λ (n : ℕ). n + 1) read.2 ∙ sym (length-append read.0.read (d ∷ []))),
-          rw is (one_stands content c.loop-datagram.index.extents.items read.0.read c.in-Ok.extent d read.2 read.3
-          (λ x told. stands content left offset place read.0 new d some short x told c.in-Ok.extent c.in-Ok.ensures.offset (c.in-Ok.ensures.length ∙ size))));
+      read = rw (c.in-Ok.ensures.more, extents) (
+        more,
+        rw is tallied,
+        rw is (length-append c.loop-datagram.index.extents.items (c.in-Ok.extent ∷ []) ∙ ap (λ (n : ℕ). n + 1) read.2 ∙ sym (length-append read.0.read (d ∷ []))),
+        rw is (one_stands content c.loop-datagram.index.extents.items read.0.read c.in-Ok.extent d read.2 read.3
+            (λ x told. stands content left offset place read.0 new d some short x told c.in-Ok.extent c.in-Ok.ensures.offset (c.in-Ok.ensures.length ∙ size))),
+      );
       identity = ap (λ s. s.identity) e.scope ∙ c.loop-datagram.invariant.identity;
       stays = c.in-Ok-Some.ensures.stays ∙ c.loop-datagram.invariant.stays;
     }
