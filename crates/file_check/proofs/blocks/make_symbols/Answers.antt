@@ -1,4 +1,4 @@
-use Rattle.std.proofs.Common.{◌≡◌, ◌∙◌, ◌<◌, ap, sym, subst}
+use Rattle.std.proofs.Common.{◌∙◌, ◌<◌, ap, sym, subst}
 use Rattle.partition.specs.Fti.{Fti, block_count, source_count}
 use Rattle.cert.specs.BlockSymbols.{AreSymbols}
 use Rattle.cert.proofs.BlockSymbols.{values_are}
