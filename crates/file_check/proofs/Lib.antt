@@ -1,2 +1,4 @@
+pub mod Given
 pub mod Indexing
 pub mod Rereading
+pub mod SourceBytes
