@@ -39,7 +39,7 @@ pub(crate) fn first_wrong_column_of(
 }
 
 /// The reason that a fault at a place is.
-pub(crate) fn reason_of(place: usize, fault: PlaceFault) -> Reason
+pub fn reason_of(place: usize, fault: PlaceFault) -> Reason
     ensures { result ≡ reason_at place (Faulty fault) }
 {
     match fault {

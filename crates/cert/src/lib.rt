@@ -59,6 +59,7 @@ pub use certificate::{CertFault, Certificate, one_certificate};
 pub use checker::Checker;
 pub use checking::check;
 pub use converting::{ConvertFault, convert};
+pub use datagrams::reason_of;
 pub use differing::first_difference;
 pub use from_reader::{CheckFault, check_from, check_view_from};
 pub use head::write_head;

@@ -1,2 +1,4 @@
 pub mod Indexed
 pub mod Blocks
+pub mod Checked
+pub mod Compared

@@ -2,5 +2,6 @@
 #![tactic(auto)]
 
 mod blocks;
+mod checking;
 mod index;
 mod members;

@@ -1,0 +1,71 @@
+-- Why a check of files tells no report.
+use Rattle.std.specs.Prelude.{◌≡◌, ℕ, Bool, false, List, Option, Some, ⊤}
+use Rattle.std.specs.Io.KnownBytes.{Consumes, IsAtEnd}
+use Rattle.session.specs.Frames.{frames, AreDatagrams}
+use Rattle.session.specs.declared.frame.FrameFault.TheVariants.{Io}
+use Rattle.reception.specs.declared.scope.Identity.{Identity}
+use Rattle.cert.specs.Certificate.{Certificate}
+use Rattle.cert.specs.FromReader.{IsCheckedFrom, IsRefusedBehind}
+use Rattle.cert.specs.NotGiven.{IsFirstInBlock, IsNotGiven}
+use Rattle.cert.specs.Tallying.{IsTally, by_certificate}
+use Rattle.cert.specs.declared.tally.Tally.{Tally}
+use Rattle.cert.specs.declared.verdict.Reason.{Reason}
+use Rattle.cert.specs.declared.verdict.Reason.TheVariants.{NotObject}
+use Rattle.cert.specs.declared.verdict.Verdict.TheVariants.{No}
+use Rattle.file_check.specs.declared.checking.Stop.{Stop}
+use Rattle.file_check.specs.declared.checking.Stop.TheVariants as stop
+use Rattle.file_check.specs.declared.checking.FilesFault.{FilesFault}
+use Rattle.file_check.specs.declared.checking.FilesFault.TheVariants.{Frame, Session, Object}
+use Rattle.file_check.specs.declared.checking.FilesFault.TheVariants.{Certificate as NoCertificate, NoMemory}
+
+-- which of the files can fail
+pub record Reliable : Type 0 where
+  pub session : Bool
+  pub object : Bool
+  pub certificate : Bool
+
+-- a file has failed, where all tell their bytes
+abbrev pub IsFileFault : Reliable → FilesFault → Type 0
+IsFileFault reliable (Frame fault) = ⊥
+IsFileFault reliable Session = reliable.session ≡ false
+IsFileFault reliable Object = reliable.object ≡ false
+IsFileFault reliable NoCertificate = reliable.certificate ≡ false
+IsFileFault reliable NoMemory = ⊤
+
+-- why a block isn't compared to its end: the certificate doesn't give the object there, or a file
+-- has failed
+abbrev pub IsBlockStop : Reliable → List ℕ → Certificate → ℕ → Stop → Type 0
+IsBlockStop reliable object z block (stop.ByReason (NotObject b c i)) =
+    (b ≡ block) × IsFirstInBlock object z block c i
+IsBlockStop reliable object z block (stop.ByReason reason) = ⊥
+IsBlockStop reliable object z block (stop.ByFault fault) = IsFileFault reliable fault
+
+-- why not all blocks are: the first source point at which it doesn't, or a file has failed
+abbrev pub IsBlocksStop : Reliable → List ℕ → Certificate → Stop → Type 0
+IsBlocksStop reliable object z (stop.ByReason reason) = IsNotGiven object z reason
+IsBlocksStop reliable object z (stop.ByFault fault) = IsFileFault reliable fault
+
+-- why there is no report: the verdict is no, or no frame follows, or a file has failed
+abbrev pub IsFilesFault : Identity → Reliable → List ℕ → List ℕ → Certificate → FilesFault → Type 0
+IsFilesFault who reliable session object z (Frame fault) =
+    ((left : Option (List ℕ)) × (failed : Bool)
+    × IsRefusedBehind who fault (Some session) left failed object z)
+    × (fault ≡ Io → reliable.session ≡ false)
+IsFilesFault who reliable session object z fault = IsFileFault reliable fault
+
+abbrev pub IsStop : Identity → Reliable → List ℕ → List ℕ → Certificate → Stop → Type 0
+IsStop who reliable session object z (stop.ByReason reason) = (left : Option (List ℕ))
+    × IsCheckedFrom who (Some session) left object z (No reason)
+IsStop who reliable session object z (stop.ByFault fault) =
+    IsFilesFault who reliable session object z fault
+
+-- the tally of all datagrams of a session, each of them as the certificate has it
+pub record IsWholeTally (who : Identity) (session : List ℕ) (z : Certificate)
+    (tally : Tally) : Type 0 where
+  pub datagrams : List (List ℕ)
+  pub each : AreDatagrams datagrams
+  pub left : Option (List ℕ)
+  pub consumed : Consumes (Some session) left (frames datagrams)
+  pub end : IsAtEnd left
+  pub identity : tally.scope.identity ≡ who
+  pub tallied : IsTally (by_certificate z) z.fti tally datagrams

@@ -1,0 +1,328 @@
+//! The check of files: their datagrams' headers first, and then block by block the object and the
+//! symbols.
+ghost use Rattle.std.specs.Prelude.{◌≡◌, ◌<◌, ◌*◌, ℕ, List, Option, Some, true, length, OnOk};
+ghost use Rattle.std.specs.Prelude.{IfOk, IfErr};
+ghost use Rattle.partition.specs.Fti.{Fti as FtiValue, IsValidFti, block_count};
+ghost use Rattle.reception.specs.Symbols.{IsObject};
+ghost use Rattle.cert.specs.Certificate.{is_for};
+ghost use Rattle.cert.specs.FromReader.{IsCheckedFrom};
+ghost use Rattle.cert.specs.InFile.{named_in};
+ghost use Rattle.cert.specs.Surveying.{IsSurveyedFrom};
+ghost use Rattle.cert.specs.Tallying.{IsTally, nothing, tallied_of};
+ghost use Rattle.cert.specs.Verdict.{GivesObject};
+ghost use Rattle.file_check.specs.Checked.{IsBlockStop, IsBlocksStop, IsFilesFault, IsStop};
+ghost use Rattle.file_check.specs.Checked.{IsWholeTally};
+ghost use Rattle.file_check.specs.Compared.{AreCompared, IsCompared, WhereTold};
+ghost use Rattle.file_check.specs.Indexed.{IsIndexOf};
+
+use crate::blocks::{Wrong, first_not_given, make_symbols, read_source};
+use crate::index::{End, Index, index_session};
+use crate::members::{Made, ROOM, first_wrong};
+use cert::{NamedCertificate, NoReport, Reason, Survey, Tally, Verdict, reason_of};
+use partition::Fti;
+use reception::Identity;
+use session::FrameFault;
+use std::alloc::{AllocError, Global};
+use streams::{Ahead, ReadAt, has_length};
+
+/// What is checked: a session file, an object's, and a certificate with a name in a third.
+#[derive(Drop)]
+pub struct Files<'a, S: ReadAt, O: ReadAt, C: ReadAt> {
+    pub session: &'a S,
+    pub object: &'a O,
+    pub certificate: NamedCertificate<'a, C>,
+}
+
+/// Why files weren't checked.
+#[derive(Debug, Clone, Copy, PartialEq, Eq)]
+pub enum FilesFault {
+    /// The session's next frame wasn't read: `CutLength`, `CutDatagram`, `TooLong` or `Io`.
+    Frame(FrameFault),
+    /// The session's file has failed, or isn't as it was when it was read first.
+    Session,
+    /// The object's file has failed, or has changed.
+    Object,
+    /// The certificate's file has failed, or has changed.
+    Certificate,
+    /// There is no memory for the check.
+    NoMemory,
+}
+
+/// Why there is no tally of all datagrams.
+#[derive(Clone, Copy)]
+pub(crate) enum Stop {
+    /// The verdict is no, for this reason.
+    ByReason(Reason),
+    ByFault(FilesFault),
+}
+
+impl From<AllocError> for Stop {
+    ghost use Rattle.file_check.specs.declared.checking.Stop.TheVariants as stop;
+    ghost use Rattle.file_check.specs.declared.checking.FilesFault.TheVariants as fault;
+
+    ghost from_gives = { λ _ e. e ≡ stop.ByFault fault.NoMemory };
+
+    fn from(_: AllocError) -> Self {
+        Stop::ByFault(FilesFault::NoMemory)
+    }
+}
+
+impl From<FilesFault> for Stop {
+    ghost use Rattle.file_check.specs.declared.checking.Stop.TheVariants as stop;
+
+    ghost from_gives = { λ fault e. e ≡ stop.ByFault fault };
+
+    fn from(fault: FilesFault) -> Self {
+        Stop::ByFault(fault)
+    }
+}
+
+// Room for what is read and made of one block, and for one datagram.
+#[derive(Drop)]
+struct Buffers {
+    fti: Fti,
+    rows: Vec<u8>,
+    source: Vec<u8>,
+    symbols: Vec<u8>,
+    datagram: Vec<u8>,
+    ghost valid: { IsValidFti fti },
+    ghost rows_fit: { length rows.items ≡ fti.block_length * fti.symbol_length },
+    ghost source_fit: { length source.items ≡ fti.block_length * fti.symbol_length },
+    ghost symbols_fit: { length symbols.items ≡ fti.max_symbols * fti.symbol_length },
+    ghost datagram_fits: { length datagram.items ≡ 65536 },
+}
+
+impl Buffers {
+    fn new(alloc: Global, fti: Fti) -> Result<Buffers, AllocError>
+        ensures { IfOk result (λ buffers. buffers.fti ≡ fti) }
+    {
+        let width = usize::from(fti.symbol_length());
+        let source = usize::from(fti.block_length()) * width;
+        let all = usize::from(fti.max_symbols()) * width;
+        Ok(Buffers {
+            fti,
+            rows: Vec::from_elem(alloc, 0u8, source)?,
+            source: Vec::from_elem(alloc, 0u8, source)?,
+            symbols: Vec::from_elem(alloc, 0u8, all)?,
+            datagram: Vec::from_elem(alloc, 0u8, ROOM)?,
+        })
+    }
+}
+
+// Compares a block of the certificate with the object, and with the datagrams: the first wrong
+// symbol of this block and of those before it, of which it is known. The first reason of a block is
+// that its polynomials don't give the object.
+fn compare_block<S: ReadAt, O: ReadAt, C: ReadAt>(
+    files: &Files<'_, S, O, C>,
+    index: &Index,
+    session: &mut Ahead<'_, S>,
+    buffers: &mut Buffers,
+    block: u32,
+    before: Option<Wrong>,
+) -> Result<Option<Wrong>, Stop>
+    requires block { block < block_count files.now.certificate.fti }
+    requires groups { length index.now.tally.groups.items
+        ≡ block_count files.now.certificate.fti }
+    requires known { index.now.tally.scope.fti ≡ Some files.now.certificate.fti }
+    requires same { session.old.file.now ≡ files.now.session.now }
+    requires buffers { buffers.old.fti ≡ files.now.certificate.fti }
+    ensures compared { WhereTold (S.content files.now.session.now)
+        (O.content files.now.object.now) (C.content files.now.certificate.file.now)
+        (λ x o text. (ds : List (List ℕ))
+        → IsIndexOf x files.now.certificate.fti index.now ds
+        → length o ≡ files.now.certificate.fti.transfer_length → IfOk result (IsCompared
+        (named_in text files.now.certificate.fti files.now.certificate.name)
+        o (tallied_of index.now.tally) ds block before)) }
+    ensures stop { WhereTold (S.content files.now.session.now)
+        (O.content files.now.object.now) (C.content files.now.certificate.file.now)
+        (λ x o text. (ds : List (List ℕ))
+        → IsIndexOf x files.now.certificate.fti index.now ds
+        → length o ≡ files.now.certificate.fti.transfer_length → IfErr result (IsBlockStop
+        (record {
+          session = S.reliable files.now.session.now;
+          object = O.reliable files.now.object.now;
+          certificate = C.reliable files.now.certificate.file.now;
+        }) o (named_in text files.now.certificate.fti files.now.certificate.name) block)) }
+    ensures file { session.new.file.now ≡ session.old.file.now }
+    ensures buffers { buffers.new.fti ≡ buffers.old.fti }
+{
+    let fti = files.certificate.fti;
+    let width = usize::from(fti.symbol_length());
+    let (k, n) = (fti.k(block) * width, fti.n(block) * width);
+    let rows = &mut buffers.rows[..k];
+    let Ok(()) = files.certificate.read_rows(block, rows) else {
+        return Err(Stop::ByFault(FilesFault::Certificate));
+    };
+    let symbols = &mut buffers.symbols[..n];
+    make_symbols(&fti, block, rows, symbols);
+    let source = &mut buffers.source[..k];
+    let Ok(()) = read_source(files.object, &fti, block, source) else {
+        return Err(Stop::ByFault(FilesFault::Object));
+    };
+    if let Some((column, symbol)) = first_not_given(&fti, block, symbols, source) {
+        return Err(Stop::ByReason(Reason::NotObject {
+            block,
+            column,
+            symbol,
+        }));
+    }
+    let made = Made { block, symbols };
+    match first_wrong(session, index, made, &mut buffers.datagram, before) {
+        Ok(wrong) => Ok(wrong),
+        Err(_) => Err(Stop::ByFault(FilesFault::Session)),
+    }
+}
+
+// Compares all blocks of the certificate with the object, and with the datagrams: the first wrong
+// symbol, or the first source point that the polynomials don't give.
+fn compare_blocks<S: ReadAt, O: ReadAt, C: ReadAt>(
+    alloc: Global,
+    files: &Files<'_, S, O, C>,
+    index: &Index,
+) -> Result<Option<Wrong>, Stop>
+    requires groups { length index.now.tally.groups.items
+        ≡ block_count files.now.certificate.fti }
+    requires known { index.now.tally.scope.fti ≡ Some files.now.certificate.fti }
+    ensures compared { WhereTold (S.content files.now.session.now)
+        (O.content files.now.object.now) (C.content files.now.certificate.file.now)
+        (λ x o text. (ds : List (List ℕ))
+        → IsIndexOf x files.now.certificate.fti index.now ds
+        → length o ≡ files.now.certificate.fti.transfer_length → IfOk result (AreCompared
+        (named_in text files.now.certificate.fti files.now.certificate.name)
+        o (tallied_of index.now.tally) ds (block_count files.now.certificate.fti))) }
+    ensures stop { WhereTold (S.content files.now.session.now)
+        (O.content files.now.object.now) (C.content files.now.certificate.file.now)
+        (λ x o text. (ds : List (List ℕ))
+        → IsIndexOf x files.now.certificate.fti index.now ds
+        → length o ≡ files.now.certificate.fti.transfer_length → IfErr result (IsBlocksStop
+        (record {
+          session = S.reliable files.now.session.now;
+          object = O.reliable files.now.object.now;
+          certificate = C.reliable files.now.certificate.file.now;
+        }) o (named_in text files.now.certificate.fti files.now.certificate.name))) }
+{
+    let fti = files.certificate.fti;
+    let mut buffers = Buffers::new(alloc, fti)?;
+    let mut session = Ahead::new(files.session);
+    let mut wrong = None;
+    for block in 0..fti.block_count() {
+        wrong = compare_block(files, index, &mut session, &mut buffers, block, wrong)?;
+    }
+    Ok(wrong)
+}
+
+// The tally of all datagrams, where each of them is as the certificate has it and the certificate
+// gives the object.
+fn tally_files<S: ReadAt, O: ReadAt, C: ReadAt>(
+    alloc: Global,
+    files: &Files<'_, S, O, C>,
+    identity: Identity,
+) -> Result<Tally, Stop>
+    ensures tally { WhereTold (S.content files.now.session.now)
+        (O.content files.now.object.now) (C.content files.now.certificate.file.now)
+        (λ x o text. IfOk result (IsWholeTally identity x
+        (named_in text files.now.certificate.fti files.now.certificate.name))) }
+    ensures given { WhereTold (S.content files.now.session.now)
+        (O.content files.now.object.now) (C.content files.now.certificate.file.now)
+        (λ x o text. OnOk result
+        (is_for identity (Some files.now.certificate.name) ≡ true)
+        × OnOk result (IsObject files.now.certificate.fti o)
+        × OnOk result (GivesObject o (named_in text files.now.certificate.fti files.now.certificate.name))) }
+    ensures stop { WhereTold (S.content files.now.session.now)
+        (O.content files.now.object.now) (C.content files.now.certificate.file.now)
+        (λ x o text. IfErr result (IsStop identity
+        (record {
+          session = S.reliable files.now.session.now;
+          object = O.reliable files.now.object.now;
+          certificate = C.reliable files.now.certificate.file.now;
+        }) x o (named_in text files.now.certificate.fti files.now.certificate.name))) }
+    ensures some { IfOk result (λ tally. (f : FtiValue) × (ds : List (List ℕ))
+        × IsTally nothing f tally ds) }
+{
+    let fti = files.certificate.fti;
+    if files.certificate.name != identity {
+        return Err(Stop::ByReason(Reason::OtherCertificate));
+    }
+    match has_length(files.object, fti.transfer_length()) {
+        Ok(true) => {}
+        Ok(false) => return Err(Stop::ByReason(Reason::ObjectLength)),
+        Err(_) => return Err(Stop::ByFault(FilesFault::Object)),
+    }
+    let (index, end) = index_session(alloc, files.session, identity, fti)?;
+    if let Some(wrong) = compare_blocks(alloc, files, &index)? {
+        return Err(Stop::ByReason(Reason::Symbol(wrong.place, wrong.column)));
+    }
+    match end {
+        End::File => Ok(index.tally),
+        End::Fault(fault) => Err(Stop::ByReason(reason_of(index.tally.count, fault))),
+        End::Frame(fault) => Err(Stop::ByFault(FilesFault::Frame(fault))),
+    }
+}
+
+/// The check of an identity's packets in a session file, of an object and of a certificate, as
+/// [`cert::check_from`] does it, with the same verdict. Of the files no more is held than a block
+/// and 32 bytes for each datagram of the identity. The session's frames are gone over first, and its
+/// symbols are read again, block by block.
+pub fn check_files<S: ReadAt, O: ReadAt, C: ReadAt>(
+    alloc: Global,
+    files: &Files<'_, S, O, C>,
+    identity: Identity,
+) -> Result<Verdict, FilesFault>
+    ensures verdict { WhereTold (S.content files.now.session.now)
+        (O.content files.now.object.now) (C.content files.now.certificate.file.now)
+        (λ x o text. IfOk result (λ v. (left : Option (List ℕ))
+        × IsCheckedFrom identity (Some x) left o
+        (named_in text files.now.certificate.fti files.now.certificate.name) v)) }
+    ensures fault { WhereTold (S.content files.now.session.now)
+        (O.content files.now.object.now) (C.content files.now.certificate.file.now)
+        (λ x o text. IfErr result (IsFilesFault identity
+        (record {
+          session = S.reliable files.now.session.now;
+          object = O.reliable files.now.object.now;
+          certificate = C.reliable files.now.certificate.file.now;
+        }) x o (named_in text files.now.certificate.fti files.now.certificate.name))) }
+{
+    let tally = match tally_files(alloc, files, identity) {
+        Ok(tally) => tally,
+        Err(Stop::ByReason(reason)) => return Ok(Verdict::No(reason)),
+        Err(Stop::ByFault(fault)) => return Err(fault),
+    };
+    match tally.report(alloc) {
+        Ok(report) => Ok(Verdict::Yes(report)),
+        Err(NoReport::Reason(reason)) => Ok(Verdict::No(reason)),
+        Err(NoReport::NoMemory) => Err(FilesFault::NoMemory),
+    }
+}
+
+/// The check as [`check_files`] does it, and at a yes, and only there, what a picture shows beside
+/// the report.
+pub fn survey_files<S: ReadAt, O: ReadAt, C: ReadAt>(
+    alloc: Global,
+    files: &Files<'_, S, O, C>,
+    identity: Identity,
+) -> Result<(Verdict, Option<Survey>), FilesFault>
+    ensures verdict { WhereTold (S.content files.now.session.now)
+        (O.content files.now.object.now) (C.content files.now.certificate.file.now)
+        (λ x o text. IfOk result (λ r. (left : Option (List ℕ))
+        × IsSurveyedFrom identity (Some x) left o
+        (named_in text files.now.certificate.fti files.now.certificate.name) r.0 r.1)) }
+    ensures fault { WhereTold (S.content files.now.session.now)
+        (O.content files.now.object.now) (C.content files.now.certificate.file.now)
+        (λ x o text. IfErr result (IsFilesFault identity
+        (record {
+          session = S.reliable files.now.session.now;
+          object = O.reliable files.now.object.now;
+          certificate = C.reliable files.now.certificate.file.now;
+        }) x o (named_in text files.now.certificate.fti files.now.certificate.name))) }
+{
+    let tally = match tally_files(alloc, files, identity) {
+        Ok(tally) => tally,
+        Err(Stop::ByReason(reason)) => return Ok((Verdict::No(reason), None)),
+        Err(Stop::ByFault(fault)) => return Err(fault),
+    };
+    match tally.survey(alloc) {
+        Ok((report, survey)) => Ok((Verdict::Yes(report), Some(survey))),
+        Err(NoReport::Reason(reason)) => Ok((Verdict::No(reason), None)),
+        Err(NoReport::NoMemory) => Err(FilesFault::NoMemory),
+    }
+}
