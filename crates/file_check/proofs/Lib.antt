@@ -1,4 +1,5 @@
 pub mod Given
+pub mod GoneOver
 pub mod Indexing
 pub mod Rereading
 pub mod SourceBytes

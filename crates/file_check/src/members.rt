@@ -115,8 +115,8 @@ pub(crate) fn first_wrong<S: ReadAt>(
         → AreSymbols z made.entry.block 0 (encoding_count z.fti made.entry.block)
         made.entry.symbols.now → IfSome before (IsWrong z index.now.tally.scope ds)
         → IfOk result (λ w. IfSome w (IsWrong z index.now.tally.scope ds)) }
-    ensures earlier { (n : ℕ) → IfSome before (λ w. w.place < n)
-        → IfOk result (λ w. limit_of w n ≤ limit_of before n) }
+    ensures earlier { (x : List ℕ) (f : FtiValue) (ds : List (List ℕ)) → IsIndexOf x f index.now ds
+        → IfOk result (λ w. limit_of w (length ds) ≤ limit_of before (length ds)) }
     ensures lost { OnErr result ((x : List ℕ) (f : FtiValue) (ds : List (List ℕ))
         → S.content session.old.file.now ≡ Some x → IsIndexOf x f index.now ds
         → S.reliable session.old.file.now ≡ false) }
