@@ -2,7 +2,7 @@
 //! symbols.
 ghost use Rattle.std.specs.Prelude.{◌≡◌, ◌<◌, ◌*◌, ℕ, List, Option, Some, true, length, OnOk};
 ghost use Rattle.std.specs.Prelude.{IfOk, IfErr};
-ghost use Rattle.partition.specs.Fti.{Fti as FtiValue, IsValidFti, block_count};
+ghost use Rattle.partition.specs.Fti.{Fti as FtiValue, block_count, source_count, encoding_count};
 ghost use Rattle.reception.specs.Symbols.{IsObject};
 ghost use Rattle.cert.specs.Certificate.{is_for};
 ghost use Rattle.cert.specs.FromReader.{IsCheckedFrom};
@@ -77,35 +77,42 @@ impl From<FilesFault> for Stop {
     }
 }
 
-// Room for what is read and made of one block, and for one datagram.
+// What is read and made of one block, and a datagram. The memory is used again for each block.
 #[derive(Drop)]
 struct Buffers {
-    fti: Fti,
     rows: Vec<u8>,
     source: Vec<u8>,
     symbols: Vec<u8>,
     datagram: Vec<u8>,
-    ghost valid: { IsValidFti fti },
-    ghost rows_fit: { length rows.items ≡ fti.block_length * fti.symbol_length },
-    ghost source_fit: { length source.items ≡ fti.block_length * fti.symbol_length },
-    ghost symbols_fit: { length symbols.items ≡ fti.max_symbols * fti.symbol_length },
-    ghost datagram_fits: { length datagram.items ≡ 65536 },
 }
 
 impl Buffers {
-    fn new(alloc: Global, fti: Fti) -> Result<Buffers, AllocError>
-        ensures { IfOk result (λ buffers. buffers.fti ≡ fti) }
+    fn new(alloc: Global) -> Buffers {
+        Buffers {
+            rows: Vec::new(alloc),
+            source: Vec::new(alloc),
+            symbols: Vec::new(alloc),
+            datagram: Vec::new(alloc),
+        }
+    }
+
+    // Gives them room for this block.
+    fn resize(&mut self, fti: &Fti, block: u32) -> Result<(), AllocError>
+        requires { block < block_count fti.now }
+        ensures rows { OnOk result (length self.new.rows.items
+            ≡ source_count fti.now block * fti.now.symbol_length) }
+        ensures source { OnOk result (length self.new.source.items
+            ≡ source_count fti.now block * fti.now.symbol_length) }
+        ensures symbols { OnOk result (length self.new.symbols.items
+            ≡ encoding_count fti.now block * fti.now.symbol_length) }
+        ensures datagram { OnOk result (length self.new.datagram.items ≡ ROOM) }
     {
         let width = usize::from(fti.symbol_length());
-        let source = usize::from(fti.block_length()) * width;
-        let all = usize::from(fti.max_symbols()) * width;
-        Ok(Buffers {
-            fti,
-            rows: Vec::from_elem(alloc, 0u8, source)?,
-            source: Vec::from_elem(alloc, 0u8, source)?,
-            symbols: Vec::from_elem(alloc, 0u8, all)?,
-            datagram: Vec::from_elem(alloc, 0u8, ROOM)?,
-        })
+        let source = fti.k(block) * width;
+        self.rows.resize(source, 0)?;
+        self.source.resize(source, 0)?;
+        self.symbols.resize(fti.n(block) * width, 0)?;
+        self.datagram.resize(ROOM, 0)
     }
 }
 
@@ -125,7 +132,6 @@ fn compare_block<S: ReadAt, O: ReadAt, C: ReadAt>(
         ≡ block_count files.now.certificate.fti }
     requires known { index.now.tally.scope.fti ≡ Some files.now.certificate.fti }
     requires same { session.old.file.now ≡ files.now.session.now }
-    requires buffers { buffers.old.fti ≡ files.now.certificate.fti }
     ensures compared { WhereTold (S.content files.now.session.now)
         (O.content files.now.object.now) (C.content files.now.certificate.file.now)
         (λ x o text. (ds : List (List ℕ))
@@ -144,29 +150,32 @@ fn compare_block<S: ReadAt, O: ReadAt, C: ReadAt>(
           certificate = C.reliable files.now.certificate.file.now;
         }) o (named_in text files.now.certificate.fti files.now.certificate.name) block)) }
     ensures file { session.new.file.now ≡ session.old.file.now }
-    ensures buffers { buffers.new.fti ≡ buffers.old.fti }
 {
     let fti = files.certificate.fti;
-    let width = usize::from(fti.symbol_length());
-    let (k, n) = (fti.k(block) * width, fti.n(block) * width);
-    let rows = &mut buffers.rows[..k];
-    let Ok(()) = files.certificate.read_rows(block, rows) else {
+    buffers.resize(&fti, block)?;
+    let Ok(()) = files.certificate.read_rows(block, &mut buffers.rows) else {
         return Err(Stop::ByFault(FilesFault::Certificate));
     };
-    let symbols = &mut buffers.symbols[..n];
-    make_symbols(&fti, block, rows, symbols);
-    let source = &mut buffers.source[..k];
-    let Ok(()) = read_source(files.object, &fti, block, source) else {
+    make_symbols(&fti, block, &buffers.rows, &mut buffers.symbols);
+    let Ok(()) = read_source(files.object, &fti, block, &mut buffers.source) else {
         return Err(Stop::ByFault(FilesFault::Object));
     };
-    if let Some((column, symbol)) = first_not_given(&fti, block, symbols, source) {
+    if let Some((column, symbol)) = first_not_given(
+        &fti,
+        block,
+        &buffers.symbols,
+        &buffers.source,
+    ) {
         return Err(Stop::ByReason(Reason::NotObject {
             block,
             column,
             symbol,
         }));
     }
-    let made = Made { block, symbols };
+    let made = Made {
+        block,
+        symbols: &buffers.symbols,
+    };
     match first_wrong(session, index, made, &mut buffers.datagram, before) {
         Ok(wrong) => Ok(wrong),
         Err(_) => Err(Stop::ByFault(FilesFault::Session)),
@@ -202,7 +211,7 @@ fn compare_blocks<S: ReadAt, O: ReadAt, C: ReadAt>(
         }) o (named_in text files.now.certificate.fti files.now.certificate.name))) }
 {
     let fti = files.certificate.fti;
-    let mut buffers = Buffers::new(alloc, fti)?;
+    let mut buffers = Buffers::new(alloc);
     let mut session = Ahead::new(files.session);
     let mut wrong = None;
     for block in 0..fti.block_count() {
