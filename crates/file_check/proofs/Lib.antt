@@ -1,5 +1,6 @@
 pub mod Given
 pub mod GoneOver
 pub mod Indexing
+pub mod ManyBlocks
 pub mod Rereading
 pub mod SourceBytes

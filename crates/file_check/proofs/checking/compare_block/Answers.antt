@@ -1,0 +1,71 @@
+use Rattle.std.proofs.Common.{◌≡◌, ◌∙◌, ◌+◌, ◌*◌, ◌<◌, ◌≤◌, ℕ, List, ◌++◌, Option, Some, None, length, take, drop, refl, sym, ap, subst, arith}
+use Rattle.std.proofs.Math.Seq.{take-append_seam}
+use Rattle.std.proofs.Math.Nat.{mul-le-mul_right}
+use Rattle.partition.proofs.Laws.{source_encoding}
+use Rattle.partition.specs.Fti.{Fti, source_count, encoding_count}
+use Rattle.cert.specs.BlockSymbols.{AreSymbols}
+use Rattle.cert.specs.Certificate.{Certificate, IsCertificate}
+use Rattle.cert.specs.CoefficientRows.{AreRowsOf}
+use Rattle.cert.specs.InFile.{named_in}
+use Rattle.file_check.specs.Blocks.{AreSourceOf}
+use Rattle.file_check.specs.Indexed.{IsIndexOf}
+use Rattle.file_check.proofs.checking.compare_block.Goals as goal
+
+-- what was written into the whole of a vector
+kept : (n : ℕ) (a xs : List ℕ) → length a ≡ n → take n (a ++ drop (length a) xs) ≡ a
+kept n a xs e = ap (λ (m : ℕ). take m (a ++ drop (length a) xs)) (sym e) ∙ take-append_seam a (drop (length a) xs)
+
+pub first_not_given-requires-clause-symbols : goal.first_not_given-requires-clause-symbols
+first_not_given-requires-clause-symbols g c =
+    let f = c.args.files.now.certificate.fti in
+    let less = mul-le-mul_right f.symbol_length (source_encoding f c.args.files.now.certificate.valid c.args.block) in
+    let size = c.make_symbols.ensures.len in
+    let is_symbols : c.deref-2.result.now ≡ c.make_symbols.new.symbols =
+    c.deref-2.ensures.value ∙ kept c.resize.new.self.symbols.len c.make_symbols.new.symbols c.resize.new.self.symbols.items (c.make_symbols.ensures.len ∙ c.deref_mut-2.ensures.len) in
+    rw is_symbols (omega (arith, less, size, c.deref_mut-2.ensures.len, c.in_ok-resize.ensures.symbols, c.resize.new.self.symbols.ok.0))
+
+pub returns-in-Some-clause-stop : goal.returns-in-Some-clause-stop
+returns-in-Some-clause-stop g c = λ x o text told_x told_o told_t ds index long. (
+    let f = c.args.files.now.certificate.fti in
+    let z = named_in text f c.args.files.now.certificate.name in
+    let valid : IsCertificate z = (rw told_t at c.args.files.now.certificate.named).0 in
+    let rows = c.in-Ok.ensures.rows text told_t in
+    let is_rows : c.deref.result.now ≡ c.read_rows.new.rows =
+    c.deref.ensures.value ∙ kept c.resize.new.self.rows.len c.read_rows.new.rows c.resize.new.self.rows.items (c.read_rows.ensures.len ∙ c.deref_mut.ensures.len) in
+    let is_symbols : c.deref-2.result.now ≡ c.make_symbols.new.symbols =
+    c.deref-2.ensures.value ∙ kept c.resize.new.self.symbols.len c.make_symbols.new.symbols c.resize.new.self.symbols.items (c.make_symbols.ensures.len ∙ c.deref_mut-2.ensures.len) in
+    let is_source : c.deref-3.result.now ≡ c.read_source.new.bytes =
+    c.deref-3.ensures.value ∙ kept c.resize.new.self.source.len c.read_source.new.bytes c.resize.new.self.source.items (c.read_source.ensures.len ∙ c.deref_mut-3.ensures.len) in
+    let symbols = c.make_symbols.ensures.symbols z valid refl (rw is_rows rows) in
+    let source = c.in-Ok-read_source.ensures.source o told_o in
+    let first = c.first_not_given.ensures.some o z refl (rw is_source source) (rw is_symbols symbols) in
+    (refl, rw c.in-Some.is at first))
+
+pub returns-in-Ok-first_wrong-clause-compared : goal.returns-in-Ok-first_wrong-clause-compared
+returns-in-Ok-first_wrong-clause-compared g c = λ x o text told_x told_o told_t ds index long. (
+    let f = c.args.files.now.certificate.fti in
+    let z = named_in text f c.args.files.now.certificate.name in
+    let valid : IsCertificate z = (rw told_t at c.args.files.now.certificate.named).0 in
+    let rows = c.in-Ok.ensures.rows text told_t in
+    let is_rows : c.deref.result.now ≡ c.read_rows.new.rows =
+    c.deref.ensures.value ∙ kept c.resize.new.self.rows.len c.read_rows.new.rows c.resize.new.self.rows.items (c.read_rows.ensures.len ∙ c.deref_mut.ensures.len) in
+    let is_symbols : c.deref-2.result.now ≡ c.make_symbols.new.symbols =
+    c.deref-2.ensures.value ∙ kept c.resize.new.self.symbols.len c.make_symbols.new.symbols c.resize.new.self.symbols.items (c.make_symbols.ensures.len ∙ c.deref_mut-2.ensures.len) in
+    let is_source : c.deref-3.result.now ≡ c.read_source.new.bytes =
+    c.deref-3.ensures.value ∙ kept c.resize.new.self.source.len c.read_source.new.bytes c.resize.new.self.source.items (c.read_source.ensures.len ∙ c.deref_mut-3.ensures.len) in
+    let symbols = c.make_symbols.ensures.symbols z valid refl (rw is_rows rows) in
+    let source = c.in-Ok-read_source.ensures.source o told_o in
+    let is_again : c.deref-4.result.now ≡ c.make_symbols.new.symbols =
+    c.deref-4.ensures.value ∙ kept c.resize.new.self.symbols.len c.make_symbols.new.symbols c.resize.new.self.symbols.items (c.make_symbols.ensures.len ∙ c.deref_mut-2.ensures.len) in
+    let there = ap (λ s. g.S.ReadAt.content s) c.requires.same ∙ told_x in
+    let e = c.in-Ok-first_wrong.ensures in
+    record {
+      gives = c.first_not_given.ensures.none o z refl (rw is_source source) (rw is_symbols symbols) (rw c.in_default-first_not_given.is refl);
+      said = e.said x z ds there valid index (rw is_again symbols);
+      is = e.wrong x z ds there valid index (rw is_again symbols);
+      earlier = λ before. e.earlier x z.fti ds index;
+    })
+
+pub returns-in-Err-clause-stop : goal.returns-in-Err-clause-stop
+returns-in-Err-clause-stop g c = λ x o text told_x told_o told_t ds index long.
+    rw c.requires.same at (c.in-Err.ensures.lost x c.args.files.now.certificate.fti ds (ap (λ s. g.S.ReadAt.content s) c.requires.same ∙ told_x) index)
