@@ -3,3 +3,4 @@ pub mod GoneOver
 pub mod Indexing
 pub mod Rereading
 pub mod SourceBytes
+pub mod WholeTallies
