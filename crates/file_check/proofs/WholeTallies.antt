@@ -1,13 +1,13 @@
 -- What the index of a session and its comparison with a certificate say of the verdict.
-use Rattle.std.proofs.Common.{◌≡◌, ℕ, zero, suc, ◌+◌, ◌<◌, ◌≤◌, Bool, true, false, not, List, [], ◌∷◌, ◌++◌, Option, Some, None, Err, length, take, drop, refl, sym, ap, subst, ◌∙◌, append_assoc, arith}
-use Rattle.std.specs.Io.KnownBytes.{Consumes, IsAtEnd}
+use Rattle.std.proofs.Common.{◌≡◌, ℕ, zero, suc, ◌+◌, ◌<◌, Bool, true, false, not, List, [], ◌∷◌, ◌++◌, Option, Some, None, Err, length, take, drop, refl, sym, ap, subst, ◌∙◌, append_assoc, arith}
+use Rattle.std.specs.Io.KnownBytes.{Consumes}
 use Rattle.std.proofs.lemmas.Grind.{flat_map-append}
 use Rattle.std.proofs.lemmas.List.{length-take-le, take-append-drop}
 use Rattle.session.specs.Frames.{frame, frames, AreDatagrams}
 use Rattle.session.specs.declared.frame.FrameFault.{FrameFault}
 use Rattle.session.specs.declared.frame.FrameFault.TheVariants.{Io}
 use Rattle.session.proofs.Sessions.{datagrams_push}
-use Rattle.partition.specs.Fti.{Fti, IsValidFti, block_count}
+use Rattle.partition.specs.Fti.{IsValidFti, block_count}
 use Rattle.reception.specs.declared.scope.Identity.{Identity}
 use Rattle.reception.specs.declared.scope.PlaceFault.{PlaceFault}
 use Rattle.reception.specs.Reception.{Faulty}
@@ -17,8 +17,8 @@ use Rattle.cert.specs.Certificate.{Certificate, is_for}
 use Rattle.cert.specs.FromReader.{IsCheckedFrom, IsRefusedBehind}
 use Rattle.cert.specs.NotBegun.{IsAgainstObject}
 use Rattle.cert.specs.NotGiven.{IsNotGiven}
-use Rattle.cert.specs.Tallying.{AreTallied, IsTally, IsUnpassed, SaysNothing, Tallied, by_certificate, first_reason_by, nothing, reading_at, tallied_of}
-use Rattle.cert.specs.Verdict.{GivesObject, reason_at, reception_to}
+use Rattle.cert.specs.Tallying.{AreTallied, IsUnpassed, SaysNothing, Tallied, by_certificate, first_reason_by, reading_at, tallied_of}
+use Rattle.cert.specs.Verdict.{GivesObject, reason_at}
 use Rattle.cert.specs.declared.verdict.Reason.{Reason}
 use Rattle.cert.specs.declared.verdict.Reason.TheVariants.{OtherCertificate, ObjectLength, NotObject, Empty, Packet as NoPacket, OtherFti, SymbolLength, Range, Symbol, Thin, NoCarrier}
 use Rattle.cert.specs.declared.verdict.Verdict.TheVariants.{No}
@@ -55,7 +55,7 @@ front_consumed x None ds n h = absurd h
 front_consumed x (Some l) ds n h = (
   Some (frames (drop n ds) ++ l),
   h ∙ ap (λ (y : List ℕ). y ++ l) (sym (ap (λ (y : List (List ℕ)). frames y) (take-append-drop n ds)) ∙ flat_map-append frame (take n ds) (drop n ds))
-  ∙ append_assoc (frames (take n ds)) (frames (drop n ds)) l,
+      ∙ append_assoc (frames (take n ds)) (frames (drop n ds)) l,
 )
 
 -- ---- before any datagram
@@ -141,11 +141,10 @@ module _ (who : Identity) (x o : List ℕ) (z : Certificate) (sound : Bool) (ind
           let d = at.0 in
           let new = at.1 in
           let r : Reason = reason_at index.tally.count (Faulty fault) in
-          let no = refuses (by_certificate z) z.fti t ds tallied d (Err fault) at.4 (Faulty fault) refl in
-          (
+          let no = refuses (by_certificate z) z.fti t ds tallied d (Err fault) at.4 (Faulty fault) refl in (
             new,
             not_passed who z o name form (gives_object None are) (Some x) new false (ds ++ d ∷ []) (datagrams_push ds d is.each at.2) (consumes_one (Some x) is.left new ds d is.consumed at.3) (ByReason r)
-            (subst (λ (w : Identity). IsUnpassed (by_certificate z) z.fti w (ds ++ d ∷ []) (ByReason r)) is.identity no),
+                (subst (λ (w : Identity). IsUnpassed (by_certificate z) z.fti w (ds ++ d ∷ []) (ByReason r)) is.identity no),
           )
 
       -- the next frame wasn't read
@@ -168,9 +167,8 @@ module _ (who : Identity) (x o : List ℕ) (z : Certificate) (sound : Bool) (ind
         let w = are.is in
         let inside : p < length ds = w.place in
         let first = first_wrong (by_certificate z) z.fti t ds is.tallied p wrong.column w.packet inside (λ i l. said (Some wrong) are i l (omega (arith, l, inside))) w.look w.says in
-        let front = front_consumed x is.left ds (p + 1) is.consumed in
-        (
+        let front = front_consumed x is.left ds (p + 1) is.consumed in (
           front.0,
           not_passed who z o name form (gives_object (Some wrong) are) (Some x) front.0 false (take (p + 1) ds) (front_each (p + 1) ds is.each) front.1 (ByReason (Symbol p wrong.column))
-          (subst (λ (w : Identity). first_reason_by (by_certificate z) z.fti w (readings_of (take (p + 1) ds)) ≡ Some (Symbol p wrong.column)) is.identity first, length-take-le (p + 1) ds (omega (arith, inside))),
+              (subst (λ (w : Identity). first_reason_by (by_certificate z) z.fti w (readings_of (take (p + 1) ds)) ≡ Some (Symbol p wrong.column)) is.identity first, length-take-le (p + 1) ds (omega (arith, inside))),
         )

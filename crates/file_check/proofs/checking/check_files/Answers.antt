@@ -1,4 +1,4 @@
-use Rattle.std.proofs.Common.{◌≡◌, Some, false}
+use Rattle.std.proofs.Common.{Some, false}
 use Rattle.cert.specs.Certificate.{IsCertificate}
 use Rattle.cert.specs.InFile.{named_in}
 use Rattle.cert.specs.Tallying.{by_certificate}

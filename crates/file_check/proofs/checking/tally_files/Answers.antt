@@ -1,6 +1,5 @@
-use Rattle.std.proofs.Common.{◌≡◌, ◌∙◌, Bool, true, false, not, Some, None, length, refl, sym, ap, subst}
+use Rattle.std.proofs.Common.{◌≡◌, ◌∙◌, None, length, sym}
 use Rattle.reception.specs.Symbols.{IsObject}
-use Rattle.cert.specs.Certificate.{is_for}
 use Rattle.cert.specs.InFile.{named_in}
 use Rattle.cert.specs.Tallying.{nothing, tallied_of}
 use Rattle.cert.specs.declared.verdict.Reason.TheVariants.{OtherCertificate, ObjectLength}
