@@ -4,3 +4,4 @@ pub mod Indexing
 pub mod ManyBlocks
 pub mod Rereading
 pub mod SourceBytes
+pub mod WholeTallies

@@ -1,22 +1,29 @@
-use Rattle.std.proofs.Common.{rules, ◌≡◌, ◌<◌, ◌*◌, ℕ, List, Option, Some, true, length, OnOk, IfOk, IfErr, ◌+◌, ◌-◌, ◌≤◌, ◌/◌, ◌%◌, Bool, false, nat_eq, nat_lt, [], ◌∷◌, ◌++◌, slice_index_or, slice_set, bit_and, bit_or, Fits, w8, w32, w64, Bor, MutBor}
-use Rattle.partition.specs.Fti.{Fti as FtiValue}
-use Rattle.partition.specs.Fti.{IsValidFti, block_count}
-use Rattle.reception.specs.Symbols.{IsObject}
-use Rattle.cert.specs.Certificate.{is_for}
-use Rattle.cert.specs.FromReader.{IsCheckedFrom}
+use Rattle.std.proofs.Common.{Some, false}
+use Rattle.cert.specs.Certificate.{IsCertificate}
 use Rattle.cert.specs.InFile.{named_in}
-use Rattle.cert.specs.Surveying.{IsSurveyedFrom}
-use Rattle.cert.specs.Tallying.{IsTally, nothing, tallied_of}
-use Rattle.cert.specs.Verdict.{GivesObject}
-use Rattle.file_check.specs.Checked.{IsBlockStop, IsBlocksStop, IsFilesFault, IsStop, IsWholeTally}
-use Rattle.file_check.specs.Compared.{AreCompared, IsCompared, WhereTold}
-use Rattle.file_check.specs.Indexed.{IsIndexOf}
+use Rattle.cert.specs.Tallying.{by_certificate}
+use Rattle.cert.specs.declared.walk.NoReport.TheVariants.{Reason as ByReason}
+use Rattle.cert.proofs.FromReader.{no_report, yes_from}
 use Rattle.file_check.proofs.checking.check_files.Goals as goal
 
--- src/checking.rt:284:1
 pub returns-in-Ok-report-clause-verdict : goal.returns-in-Ok-report-clause-verdict
-returns-in-Ok-report-clause-verdict g c = ?
+returns-in-Ok-report-clause-verdict g c = λ x o text sx so st. (
+    let who = c.args.identity in
+    let z = named_in text c.args.files.now.certificate.fti c.args.files.now.certificate.name in
+    let w = c.in-Ok.ensures.tally x o text sx so st in
+    let given = c.in-Ok.ensures.given x o text sx so st in
+    let valid : IsCertificate z = (rw st at c.args.files.now.certificate.named).0 in
+    let enough = rw w.identity at (c.in-Ok-report.ensures.certified z w.datagrams w.tallied) in
+    let is = rw w.identity at (c.in-Ok-report.ensures.report (by_certificate z) z.fti w.datagrams w.each w.tallied) in
+    (w.left, yes_from who z o given.0 given.1 given.2 (Some x) w.left false w.datagrams w.each w.consumed c.in-Ok-report.report valid w.end enough is))
 
--- src/checking.rt:284:1
 pub returns-in-Err-Reason-clause-verdict : goal.returns-in-Err-Reason-clause-verdict
-returns-in-Err-Reason-clause-verdict g c = ?
+returns-in-Err-Reason-clause-verdict g c = λ x o text sx so st. (
+    let who = c.args.identity in
+    let z = named_in text c.args.files.now.certificate.fti c.args.files.now.certificate.name in
+    let w = c.in-Ok.ensures.tally x o text sx so st in
+    let given = c.in-Ok.ensures.given x o text sx so st in
+    let clean = rw w.identity at w.tallied.tallied.clean in
+    let e = c.in-Err-Reason.reason in
+    let no = rw (w.identity, c.in-Err-Reason.field-0-is) at (c.in-Err-Reason.ensures.no_report z w.datagrams w.tallied) in
+    (w.left, no_report who z o given.0 given.1 given.2 (Some x) w.left false w.datagrams w.each w.consumed clean (ByReason e) w.end no))

@@ -1,0 +1,174 @@
+-- What the index of a session and its comparison with a certificate say of the verdict.
+use Rattle.std.proofs.Common.{◌≡◌, ℕ, zero, suc, ◌+◌, ◌<◌, Bool, true, false, not, List, [], ◌∷◌, ◌++◌, Option, Some, None, Err, length, take, drop, refl, sym, ap, subst, ◌∙◌, append_assoc, arith}
+use Rattle.std.specs.Io.KnownBytes.{Consumes}
+use Rattle.std.proofs.lemmas.Grind.{flat_map-append}
+use Rattle.std.proofs.lemmas.List.{length-take-le, take-append-drop}
+use Rattle.session.specs.Frames.{frame, frames, AreDatagrams}
+use Rattle.session.specs.declared.frame.FrameFault.{FrameFault}
+use Rattle.session.specs.declared.frame.FrameFault.TheVariants.{Io}
+use Rattle.session.proofs.Sessions.{datagrams_push}
+use Rattle.partition.specs.Fti.{IsValidFti, block_count}
+use Rattle.reception.specs.declared.scope.Identity.{Identity}
+use Rattle.reception.specs.declared.scope.PlaceFault.{PlaceFault}
+use Rattle.reception.specs.Reception.{Faulty}
+use Rattle.reception.specs.Symbols.{IsObject}
+use Rattle.reception.specs.Walks.{readings_of}
+use Rattle.cert.specs.Certificate.{Certificate, is_for}
+use Rattle.cert.specs.FromReader.{IsCheckedFrom, IsRefusedBehind}
+use Rattle.cert.specs.NotBegun.{IsAgainstObject}
+use Rattle.cert.specs.NotGiven.{IsNotGiven}
+use Rattle.cert.specs.Tallying.{AreTallied, IsUnpassed, SaysNothing, Tallied, by_certificate, first_reason_by, reading_at, tallied_of}
+use Rattle.cert.specs.Verdict.{GivesObject, reason_at}
+use Rattle.cert.specs.declared.verdict.Reason.{Reason}
+use Rattle.cert.specs.declared.verdict.Reason.TheVariants.{OtherCertificate, ObjectLength, NotObject, Empty, Packet as NoPacket, OtherFti, SymbolLength, Range, Symbol, Thin, NoCarrier}
+use Rattle.cert.specs.declared.verdict.Verdict.TheVariants.{No}
+use Rattle.cert.specs.declared.walk.NoReport.TheVariants.{Reason as ByReason}
+use Rattle.cert.proofs.DatagramSteps.{refuses}
+use Rattle.cert.proofs.FromReader.{no_datagrams, consumes_one, not_begun, not_passed, not_read}
+use Rattle.cert.proofs.Judged.{all_passed, first_wrong}
+use Rattle.cert.proofs.Members.{said_by_blocks}
+use Rattle.file_check.specs.Blocks.{limit_of}
+use Rattle.file_check.specs.Checked.{Reliable, IsBlocksStop, IsFileFault, IsFilesFault, IsStop, IsWholeTally}
+use Rattle.file_check.specs.Compared.{AreCompared}
+use Rattle.file_check.specs.Indexed.{EndsBy, IsIndexed, IsIndexOf}
+use Rattle.file_check.specs.declared.blocks.Wrong.{Wrong}
+use Rattle.file_check.specs.declared.checking.Stop.{Stop}
+use Rattle.file_check.specs.declared.checking.Stop.TheVariants as stop
+use Rattle.file_check.specs.declared.checking.FilesFault.{FilesFault}
+use Rattle.file_check.specs.declared.checking.FilesFault.TheVariants.{Frame as NoFrame, Session, Object, Certificate as NoCertificate, NoMemory}
+use Rattle.file_check.specs.declared.index.Index.{Index}
+use Rattle.file_check.specs.declared.index.End.{End}
+use Rattle.file_check.specs.declared.index.End.TheVariants.{File, Fault, Frame}
+
+-- ---- the front of a session
+
+front_each : (n : ℕ) (ds : List (List ℕ)) → AreDatagrams ds → AreDatagrams (take n ds)
+front_each zero ds h i = no_datagrams i
+front_each (suc n) [] h i = no_datagrams i
+front_each (suc n) (d ∷ ds) h zero = h 0
+front_each (suc n) (d ∷ ds) h (suc i) = front_each n ds (λ j. h (suc j)) i
+
+-- what is left behind the first datagrams
+front_consumed : (x : List ℕ) (left : Option (List ℕ)) (ds : List (List ℕ)) (n : ℕ) → Consumes (Some x) left (frames ds)
+    → (new : Option (List ℕ)) × Consumes (Some x) new (frames (take n ds))
+front_consumed x None ds n h = absurd h
+front_consumed x (Some l) ds n h = (
+  Some (frames (drop n ds) ++ l),
+  h ∙ ap (λ (y : List ℕ). y ++ l) (sym (ap (λ (y : List (List ℕ)). frames y) (take-append-drop n ds)) ∙ flat_map-append frame (take n ds) (drop n ds))
+      ∙ append_assoc (frames (take n ds)) (frames (drop n ds)) l,
+)
+
+-- ---- before any datagram
+
+pub not_equal : (b : Bool) → not b ≡ true → b ≡ false
+not_equal true h = absurd (cc)
+not_equal false h = refl
+
+pub equal : (b : Bool) → not b ≡ false → b ≡ true
+equal true h = refl
+equal false h = absurd (cc)
+
+module _ (who : Identity) (x o : List ℕ) (z : Certificate) where
+  pub before : (r : Reason) → IsAgainstObject who r o z → (left : Option (List ℕ)) × IsCheckedFrom who (Some x) left o z (No r)
+  before r h = (Some x, not_begun who (Some x) false z o (ByReason r) h)
+
+  -- why not all blocks are compared
+  module _ (name : is_for who z.name ≡ true) (long : length o ≡ z.fti.transfer_length) (reliable : Reliable) where
+    by_reason : (r : Reason) → IsNotGiven o z r → (left : Option (List ℕ)) × IsCheckedFrom who (Some x) left o z (No r)
+    by_reason (NotObject b c i) h = before (NotObject b c i) (name, long, h)
+    by_reason OtherCertificate h = absurd h
+    by_reason ObjectLength h = absurd h
+    by_reason Empty h = absurd h
+    by_reason (NoPacket i e) h = absurd h
+    by_reason (OtherFti i) h = absurd h
+    by_reason (SymbolLength i) h = absurd h
+    by_reason (Range i) h = absurd h
+    by_reason (Symbol i c) h = absurd h
+    by_reason (Thin b have need) h = absurd h
+    by_reason NoCarrier h = absurd h
+
+    by_fault : (fault : FilesFault) → IsFileFault reliable fault → IsFilesFault who reliable x o z fault
+    by_fault (NoFrame e) h = absurd h
+    by_fault Session h = h
+    by_fault Object h = h
+    by_fault NoCertificate h = h
+    by_fault NoMemory h = h
+
+    pub stops : (e : Stop) → IsBlocksStop reliable o z e → IsStop who reliable x o z e
+    stops (stop.ByReason r) h = by_reason r h
+    stops (stop.ByFault fault) h = by_fault fault h
+
+-- ---- behind an index
+
+module _ (who : Identity) (x o : List ℕ) (z : Certificate) (sound : Bool) (index : Index) (end : End) (is : IsIndexed who z.fti (Some x) sound index end) where
+  abbrev ds : List (List ℕ)
+  ds = is.datagrams
+
+  abbrev t : Tallied
+  t = tallied_of index.tally
+
+  pub index_of : IsIndexOf x z.fti index is.datagrams
+  index_of = record { tallied = is.tallied; many = is.many; stand = is.stand }
+
+  module _ (wrong : Option Wrong) (are : AreCompared z o (tallied_of index.tally) is.datagrams (block_count z.fti) wrong) where
+    pub gives_object : GivesObject o z
+    gives_object b c i lb lc li = are.gives b lb c i lc li
+
+    said : (i : ℕ) → i < limit_of wrong (length ds) → i < length ds → SaysNothing (by_certificate z) t.scope (reading_at ds i)
+    said i = said_by_blocks z.fti t ds is.tallied (by_certificate z) (limit_of wrong (length ds)) (λ b lb k lk l. are.said b lb k lk l) i
+
+  module _ (are : AreCompared z o (tallied_of index.tally) is.datagrams (block_count z.fti) None) where
+    -- no symbol is wrong
+    pub tallied : AreTallied (by_certificate z) z.fti (tallied_of index.tally) is.datagrams
+    tallied = all_passed (by_certificate z) z.fti t ds is.tallied (λ i l. said None are i l l)
+
+    pub whole_tally : IsValidFti z.fti → EndsBy index.tally.scope is.left sound File → IsWholeTally who x z index.tally
+    whole_tally valid at = record {
+      datagrams = ds;
+      each = is.each;
+      left = is.left;
+      consumed = is.consumed;
+      end = at;
+      identity = is.identity;
+      tallied = record { valid = valid; tallied = tallied };
+    }
+
+    module _ (name : is_for who z.name ≡ true) (form : IsObject z.fti o) where
+      -- the next datagram has a fault
+      pub faulty : (fault : PlaceFault) → EndsBy index.tally.scope is.left sound (Fault fault)
+          → (left : Option (List ℕ)) × IsCheckedFrom who (Some x) left o z (No (reason_at index.tally.count (Faulty fault)))
+      faulty fault at =
+          let d = at.0 in
+          let new = at.1 in
+          let r : Reason = reason_at index.tally.count (Faulty fault) in
+          let no = refuses (by_certificate z) z.fti t ds tallied d (Err fault) at.4 (Faulty fault) refl in (
+            new,
+            not_passed who z o name form (gives_object None are) (Some x) new false (ds ++ d ∷ []) (datagrams_push ds d is.each at.2) (consumes_one (Some x) is.left new ds d is.consumed at.3) (ByReason r)
+                (subst (λ (w : Identity). IsUnpassed (by_certificate z) z.fti w (ds ++ d ∷ []) (ByReason r)) is.identity no),
+          )
+
+      -- the next frame wasn't read
+      pub refused : (fault : FrameFault) → EndsBy index.tally.scope is.left sound (Frame fault)
+          → ((left : Option (List ℕ)) × (failed : Bool) × IsRefusedBehind who fault (Some x) left failed o z) × (fault ≡ Io → sound ≡ false)
+      refused fault at = (
+        (
+          at.0.0,
+          at.0.1,
+          not_read who z o name form (gives_object None are) (Some x) is.left at.0.1 ds is.each is.consumed (rw is.identity at tallied.clean) at.0.0 fault at.0.2,
+        ),
+        at.1,
+      )
+
+  -- a symbol is wrong
+  module _ (wrong : Wrong) (are : AreCompared z o (tallied_of index.tally) is.datagrams (block_count z.fti) (Some wrong)) (name : is_for who z.name ≡ true) (form : IsObject z.fti o) where
+    pub wrong_symbol : (left : Option (List ℕ)) × IsCheckedFrom who (Some x) left o z (No (Symbol wrong.place wrong.column))
+    wrong_symbol =
+        let p : ℕ = wrong.place in
+        let w = are.is in
+        let inside : p < length ds = w.place in
+        let first = first_wrong (by_certificate z) z.fti t ds is.tallied p wrong.column w.packet inside (λ i l. said (Some wrong) are i l (omega (arith, l, inside))) w.look w.says in
+        let front = front_consumed x is.left ds (p + 1) is.consumed in (
+          front.0,
+          not_passed who z o name form (gives_object (Some wrong) are) (Some x) front.0 false (take (p + 1) ds) (front_each (p + 1) ds is.each) front.1 (ByReason (Symbol p wrong.column))
+              (subst (λ (w : Identity). first_reason_by (by_certificate z) z.fti w (readings_of (take (p + 1) ds)) ≡ Some (Symbol p wrong.column)) is.identity first, length-take-le (p + 1) ds (omega (arith, inside))),
+        )
