@@ -1,15 +1,13 @@
 -- Blocks that are compared one after the other.
-use Rattle.std.proofs.Common.{◌≡◌, ℕ, ◌+◌, ◌<◌, ◌≤◌, List, [], ◌∷◌, Option, Some, None, length, refl, sym, ap, subst, inl, inr, arith, below_more}
-use Rattle.std.specs.Prelude.{IfSome, ◌⊎◌}
+use Rattle.std.proofs.Common.{◌≡◌, ℕ, ◌+◌, ◌<◌, List, [], ◌∷◌, Option, None, length, sym, inl, inr, arith, below_more}
 use Rattle.losses.specs.Losses.{IsBefore}
 use Rattle.partition.specs.Fti.{block_count, source_count}
 use Rattle.cert.specs.Certificate.{Certificate}
-use Rattle.cert.specs.NotGiven.{IsFirstInBlock, IsNotGiven}
+use Rattle.cert.specs.NotGiven.{IsFirstInBlock}
 use Rattle.cert.specs.Tallying.{Tallied}
-use Rattle.cert.specs.Verdict.{GivesAt, GivesBlock, IsFirstNotGiven}
-use Rattle.cert.specs.declared.verdict.Reason.{Reason}
+use Rattle.cert.specs.Verdict.{GivesAt, IsFirstNotGiven}
 use Rattle.cert.specs.declared.verdict.Reason.TheVariants.{OtherCertificate, ObjectLength, NotObject, Empty, Packet as NoPacket, OtherFti, SymbolLength, Range, Symbol, Thin, NoCarrier}
-use Rattle.file_check.specs.Blocks.{AreSaid, IsWrong, limit_of}
+use Rattle.file_check.specs.Blocks.{AreSaid, limit_of}
 use Rattle.file_check.specs.Checked.{IsBlockStop, IsBlocksStop, Reliable}
 use Rattle.file_check.specs.Compared.{AreCompared, IsCompared}
 use Rattle.file_check.specs.declared.blocks.Wrong.{Wrong}

@@ -1,6 +1,6 @@
 -- A datagram that is read again where it stood, and its symbol beside the certified one.
-use Rattle.std.proofs.Common.{◌≡◌, ◌≢◌, ℕ, ◌+◌, ◌*◌, ◌<◌, ◌≤◌, Bool, true, List, [], Option, Some, None, Result, Ok, Err, length, take, drop, get_or, refl, sym, ap, subst, ◌∙◌, arith, ltb-true}
-use Rattle.std.specs.Prelude.{is_some, slice_index, IsNone, IfSome, ◌-◌}
+use Rattle.std.proofs.Common.{◌≡◌, ℕ, ◌+◌, ◌*◌, ◌<◌, ◌≤◌, true, List, [], Option, Some, None, Result, Ok, length, take, drop, refl, sym, ap, ◌∙◌, arith, ltb-true}
+use Rattle.std.specs.Prelude.{is_some, slice_index, IsNone, IfSome}
 use Rattle.std.proofs.lemmas.List.{take_all}
 use Rattle.std.proofs.lemmas.Simd.{get_or-chunk}
 use Rattle.gf256.proofs.RowPlaces.{row_ends}
@@ -11,11 +11,11 @@ use Rattle.alc.specs.Packet.{Packet}
 use Rattle.alc.specs.Reading.{Reading}
 use Rattle.alc.specs.Computed.{read_of}
 use Rattle.alc.proofs.Again.{exact}
-use Rattle.partition.specs.Fti.{Fti, block_count, encoding_count}
+use Rattle.partition.specs.Fti.{Fti, encoding_count}
 use Rattle.reception.specs.declared.scope.Scope.{Scope}
 use Rattle.reception.specs.declared.scope.PlaceFault.{PlaceFault}
 use Rattle.reception.specs.declared.scope.Look.{Look}
-use Rattle.reception.specs.Reception.{InRange, Seen, look, symbol_of}
+use Rattle.reception.specs.Reception.{look, symbol_of}
 use Rattle.reception.specs.declared.scope.Look.TheVariants as look_at
 use Rattle.alc.specs.declared.reading.Packet.{Packet as ReadPacket}
 use Rattle.lists.proofs.Lists.{both}
@@ -26,7 +26,7 @@ use Rattle.cert.specs.Certificate.{Certificate, certified_byte}
 use Rattle.cert.specs.CertifiedSymbol.{IsCertifiedSymbol}
 use Rattle.cert.specs.Columns.{IsFirstWrong}
 use Rattle.cert.specs.Differences.{AreSameBelow, IsFirstDifference}
-use Rattle.cert.specs.Tallying.{IsPacketOf, by_certificate}
+use Rattle.cert.specs.Tallying.{by_certificate}
 use Rattle.cert.proofs.Columns.{is_uncertified}
 use Rattle.cert.proofs.Knowing.{look_known}
 

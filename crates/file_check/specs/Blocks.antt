@@ -1,5 +1,5 @@
 -- One block of a check: the object's bytes there, and its symbols beside those of the datagrams.
-use Rattle.std.specs.Prelude.{◌≡◌, ◌<◌, ◌≤◌, ◌+◌, ◌*◌, ℕ, List, [], Option, Some, None, Ok, length}
+use Rattle.std.specs.Prelude.{◌≡◌, ◌<◌, ◌+◌, ◌*◌, ℕ, List, Option, Some, None, Ok, length}
 use Rattle.std.specs.Prelude.{slice_index, slice_index_or}
 use Rattle.losses.specs.declared.groups.Member.{Member}
 use Rattle.losses.specs.Groups.{group_at}

@@ -9,7 +9,6 @@ use Rattle.cert.specs.FromReader.{IsCheckedFrom, IsRefusedBehind}
 use Rattle.cert.specs.NotGiven.{IsFirstInBlock, IsNotGiven}
 use Rattle.cert.specs.Tallying.{IsTally, by_certificate}
 use Rattle.cert.specs.declared.tally.Tally.{Tally}
-use Rattle.cert.specs.declared.verdict.Reason.{Reason}
 use Rattle.cert.specs.declared.verdict.Reason.TheVariants.{NotObject}
 use Rattle.cert.specs.declared.verdict.Verdict.TheVariants.{No}
 use Rattle.file_check.specs.declared.checking.Stop.{Stop}

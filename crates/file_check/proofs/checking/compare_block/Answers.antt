@@ -1,14 +1,9 @@
-use Rattle.std.proofs.Common.{◌≡◌, ◌∙◌, ◌+◌, ◌*◌, ◌<◌, ◌≤◌, ℕ, List, ◌++◌, Option, Some, None, length, take, drop, refl, sym, ap, subst, arith}
+use Rattle.std.proofs.Common.{◌≡◌, ◌∙◌, ℕ, List, ◌++◌, length, take, drop, refl, sym, ap, arith}
 use Rattle.std.proofs.Math.Seq.{take-append_seam}
 use Rattle.std.proofs.Math.Nat.{mul-le-mul_right}
 use Rattle.partition.proofs.Laws.{source_encoding}
-use Rattle.partition.specs.Fti.{Fti, source_count, encoding_count}
-use Rattle.cert.specs.BlockSymbols.{AreSymbols}
-use Rattle.cert.specs.Certificate.{Certificate, IsCertificate}
-use Rattle.cert.specs.CoefficientRows.{AreRowsOf}
+use Rattle.cert.specs.Certificate.{IsCertificate}
 use Rattle.cert.specs.InFile.{named_in}
-use Rattle.file_check.specs.Blocks.{AreSourceOf}
-use Rattle.file_check.specs.Indexed.{IsIndexOf}
 use Rattle.file_check.proofs.checking.compare_block.Goals as goal
 
 -- what was written into the whole of a vector

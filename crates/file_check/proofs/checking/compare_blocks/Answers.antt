@@ -1,9 +1,8 @@
-use Rattle.std.proofs.Common.{◌≡◌, ◌∙◌, ℕ, List, length, refl, sym, ap, subst, arith}
+use Rattle.std.proofs.Common.{◌≡◌, ◌∙◌, ℕ, subst, arith}
 use Rattle.partition.specs.Fti.{block_count}
 use Rattle.cert.specs.InFile.{named_in}
 use Rattle.cert.specs.Tallying.{tallied_of}
 use Rattle.cert.proofs.DatagramSteps.{passed_on}
-use Rattle.file_check.specs.Checked.{IsBlocksStop}
 use Rattle.file_check.specs.Compared.{AreCompared}
 use Rattle.file_check.proofs.ManyBlocks.{none_yet, one_compared, stopped}
 use Rattle.file_check.proofs.checking.compare_blocks.Goals as goal

@@ -1,5 +1,4 @@
 use Rattle.std.proofs.Common.{◌≡◌, List, ℕ, length}
-use Rattle.partition.specs.Fti.{block_count}
 use Rattle.cert.specs.InFile.{named_in}
 use Rattle.cert.specs.Tallying.{tallied_of}
 use Rattle.file_check.specs.Compared.{AreCompared, WhereTold}

@@ -1,9 +1,7 @@
-use Rattle.std.proofs.Common.{◌≡◌, ◌∙◌, ◌+◌, ◌≤◌, ◌++◌, ◌∷◌, [], ℕ, List, Option, Some, None, length, length-append, refl, sym, ap, subst, arith}
-use Rattle.session.specs.Frames.{IsDatagram, frames}
+use Rattle.std.proofs.Common.{◌≡◌, ◌∙◌, ◌+◌, ◌∷◌, [], ℕ, List, length, length-append, refl, sym, ap}
+use Rattle.session.specs.Frames.{IsDatagram}
 use Rattle.session.proofs.Passing.{at_start, none_read, one_read, read_more, stands}
-use Rattle.cert.specs.Tallying.{AreTallied, Tallied, nothing, tallied_of}
-use Rattle.file_check.specs.Indexed.{StandAt}
-use Rattle.file_check.specs.declared.index.Index.{Index}
+use Rattle.cert.specs.Tallying.{nothing}
 use Rattle.file_check.proofs.Indexing.{none_stands, one_stands}
 use Rattle.file_check.proofs.index.index_frames.Goals as goal
 

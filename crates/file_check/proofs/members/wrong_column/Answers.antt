@@ -1,17 +1,12 @@
-use Rattle.std.proofs.Common.{rules, ◌≡◌, ◌≢◌, ◌∙◌, ◌+◌, ◌*◌, ◌<◌, ◌≤◌, ℕ, List, Ok, Err, Some, length, take, drop, refl, sym, ap, subst, arith, length-take-le, length-drop, ltb-true}
+use Rattle.std.proofs.Common.{rules, ◌≡◌, ◌∙◌, ◌+◌, ◌*◌, ◌<◌, ℕ, List, Ok, Err, length, take, drop, sym, ap, arith, length-take-le, length-drop}
 use Rattle.std.specs.Prelude.{◌-◌}
-use Rattle.gf256.proofs.RowPlaces.{row_ends}
-use Rattle.lists.proofs.Lists.{both}
 use Rattle.alc.specs.Packet.{Packet}
 use Rattle.alc.specs.Views.{packet_of}
-use Rattle.partition.specs.Fti.{Fti, block_count, encoding_count}
-use Rattle.reception.specs.Reception.{InRange, Other, look, symbol_of}
+use Rattle.partition.specs.Fti.{Fti, encoding_count}
+use Rattle.reception.specs.Reception.{InRange, Other, look}
 use Rattle.reception.specs.Step.{looked}
-use Rattle.reception.proofs.Looks.{fti_after, faultless_look, length_look}
 use Rattle.alc.specs.Computed.{read_of}
-use Rattle.session.specs.Extents.{datagram_in}
 use Rattle.cert.specs.CertifiedSymbol.{IsCertifiedSymbol}
-use Rattle.cert.specs.Tallying.{by_certificate}
 use Rattle.file_check.proofs.Rereading.{whole, seen, is_known, row_is, row_inside, said_by_row}
 use Rattle.file_check.proofs.members.wrong_column.Goals as goal
 
