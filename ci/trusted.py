@@ -5,8 +5,9 @@ promise.
 A public contract is one of a `pub fn`, of a method of a public trait or type, or of a public type's
 model. From the names that it cites the list goes through the definitions of `specs/` that these
 stand on, but not into a relation that these calls only hand on to one another, as what a receiver
-stands for. All other definitions of `specs/` are the vocabulary of private contracts and of proofs,
-and need no trust. They stand in files of their own.
+stands for; and not from what the decoder offers to the receiver alone. All other definitions of
+`specs/` are the vocabulary of such contracts, of private ones and of proofs, and need no trust.
+They stand in files of their own.
 
 docs/THEOREMS.md opens with a table of the promises, each with how many of the definitions have to
 be read to believe it, and ends with the list. Lines are those of definitions alone, without
@@ -38,9 +39,15 @@ WIDTH = 100
 
 # Relations that public calls only hand on to one another: what they say inside isn't needed to
 # trust the calls.
-HANDED_ON = {"Rattle.cert.specs.Fed", "Rattle.decoder.specs.Stands",
+HANDED_ON = {"Rattle.cert.specs.Fed", "Rattle.receiver.specs.Stands",
              "Rattle.decoder.specs.SymbolsOf", "Rattle.decoder.specs.PlacesOf",
              "Rattle.inventory.specs.Tells"}
+
+# What the decoder offers to the receiver alone, which stands on it: no promise to callers.
+INNER = {("decoder", call) for call in (
+    "push_arrival", "symbol_at", "seen_of", "symbols_below", "bytes", "block_rows", "gives",
+    "fault_at",
+)}
 
 
 # What the table tells: a short name, the promise, the clauses that say it (crate, function, labels;
@@ -53,11 +60,11 @@ PROMISES = [
     ], []),
     ("losses", "margin, kill and burst", [("cert", "check", ["report"])], ["headline"]),
     ("receiver", "a receiver of one datagram at a time", [
-        ("decoder", "new", []),
-        ("decoder", "feed", []),
-        ("decoder", "take", []),
-        ("decoder", "write_object", []),
-        ("decoder", "stored", []),
+        ("receiver", "new", []),
+        ("receiver", "feed", []),
+        ("receiver", "take", []),
+        ("receiver", "write_object", []),
+        ("receiver", "stored", []),
     ], ["headline"]),
     (
         "verdict",
@@ -268,7 +275,7 @@ def roots(wanted=lambda crate, function, label: True):
         texts = [
             text
             for function, label, text in contracts(path)
-            if wanted(path.parts[-3], function, label)
+            if wanted(path.parts[-3], function, label) and (path.parts[-3], function) not in INNER
         ]
         found |= cited("\n".join(texts), uses, aliases)
     return found
@@ -436,8 +443,9 @@ def listing(modules, wanted):
         HEADING,
         "",
         "The definitions that public contracts speak of, from the field up, in the order to read",
-        "them. The rest of `specs/` is the vocabulary of private contracts and of proofs.",
-        "`ci/trusted.py` makes this list, and the gate compares it.",
+        "them. The rest of `specs/` is the vocabulary of private contracts, of what the decoder",
+        "offers to the receiver alone, and of proofs. `ci/trusted.py` makes this list, and the",
+        "gate compares it.",
         "",
         f"{len(wanted)} of {everything} definitions, {lines_of(files, wanted)} lines.",
         "",

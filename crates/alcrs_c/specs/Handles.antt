@@ -1,8 +1,8 @@
 -- Handles of receivers.
 use Rattle.std.specs.Prelude.{◌≡◌, ℕ, Bool, true, false, List, ⊤}
 use Rattle.reception.specs.declared.scope.Identity.{Identity}
-use Rattle.decoder.specs.Stands.{Stands, IsFed}
-use Rattle.alcrs_c.specs.declared.receiver.AlcrsReceiver.{AlcrsReceiver}
+use Rattle.receiver.specs.Stands.{Stands, IsFed}
+use Rattle.alcrs_c.specs.declared.receivers.AlcrsReceiver.{AlcrsReceiver}
 
 -- what is behind the flag: a receiver that was made or fed, or anything
 abbrev pub IsBehind : Bool → AlcrsReceiver → Type 0

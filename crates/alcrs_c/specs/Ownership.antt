@@ -9,7 +9,7 @@ use Rattle.std_alloc.specs.Box.Ownership.{box_owns}
 use Rattle.std_heap.specs.declared.Global.{Global}
 use Rattle.std_heap.specs.contracts.GlobalAllocator.TheImpl.{ghosts}
 use Rattle.cert.specs.contracts.checker.Checker as checker
-use Rattle.decoder.specs.contracts.receiver.Receiver as receiver
+use Rattle.receiver.specs.contracts.receiver.Receiver as receiver
 
 -- the heap, of which there is one
 abbrev pub heap : Global

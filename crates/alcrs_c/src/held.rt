@@ -1,12 +1,12 @@
 //! A value's place in memory, and what it owns: a receiver's, and a checker's.
 ghost use Rattle.std.specs.Prelude.{◌≡◌, Bool, true, false};
 ghost use Rattle.cert.specs.declared.checker.Checker.{Checker as CheckerValue};
-ghost use Rattle.decoder.specs.declared.receiver.Receiver.{Receiver as ReceiverValue};
+ghost use Rattle.receiver.specs.declared.receiver.Receiver.{Receiver as ReceiverValue};
 ghost use Rattle.alcrs_c.specs.Ownership.{receiver_row, checker_row};
 
 use crate::apart::Apart;
 use cert::Checker;
-use decoder::Receiver;
+use receiver::Receiver;
 use std::alloc::Global;
 use std::marker::Model;
 

@@ -5,7 +5,7 @@
 //! - `input`: identities and certificates of what C passes; `frames`: a session's
 //!   datagrams without a copy;
 //! - `check`, `decode`, `twin`, `making`: the calls from bytes to bytes;
-//! - `receiver`: a receiver behind a handle; `checker`: a check behind a handle that is fed
+//! - `receivers`: a receiver behind a handle; `checker`: a check behind a handle that is fed
 //!   datagrams; `held`: what a handle owns; `apart`: a box as a pointer and its allocator.
 #![tactic(auto)]
 
@@ -17,12 +17,12 @@ mod frames;
 mod held;
 mod input;
 mod making;
-mod receiver;
+mod receivers;
 mod status;
 mod told;
 mod twin;
 
 pub use checker::AlcrsChecker;
 pub use held::{HeldChecker, HeldReceiver};
-pub use receiver::AlcrsReceiver;
+pub use receivers::AlcrsReceiver;
 pub use told::{AlcrsBlock, AlcrsFault, AlcrsReport};

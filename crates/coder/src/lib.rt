@@ -3,18 +3,18 @@
 //! - The crate `encoder` has [`encode`], [`encode_from`] and [`encode_rounds_from`], which make the
 //!   session of an object, and [`certify`], [`certify_to`] and [`certify_from`], which make its
 //!   certificate.
-//! - The crate `decoder` has [`decode`] and [`Receiver`], which give the object that datagrams
-//!   carry.
+//! - The crate `decoder` has [`decode`], which gives the object that datagrams carry, and the crate
+//!   `receiver` above it [`Receiver`], which is fed them one by one.
 //!
-//! Neither depends on the other. This crate has no code of its own.
+//! The encoder and these don't depend on one another. This crate has no code of its own.
 #![tactic(auto)]
 
 pub use decoder::{
-    Answer, DecodeFault, FeedFault, FileFault, FileSymbols, FileWriteFault, Gathered, GatheredFile,
-    ObjectSymbols, Progress, Receiver, Unread, WriteFault, decode, decode_selection, gather,
-    gather_file, one_answer,
+    Answer, DecodeFault, FileFault, FileSymbols, FileWriteFault, Gathered, GatheredFile,
+    ObjectSymbols, Unread, WriteFault, decode, decode_selection, gather, gather_file, one_answer,
 };
 pub use encoder::{
     CertifyFault, CertifyFromFault, ObjectFault, SendFault, SendFromFault, certify, certify_from,
     certify_to, encode, encode_from, encode_rounds_from, sent_checks_yes,
 };
+pub use receiver::{FeedFault, Progress, Receiver};

@@ -1,10 +1,11 @@
 -- What was put together of the blocks before one is a beginning of the object, if all that came is
 -- of one.
-use Rattle.std.proofs.Common.{◌≡◌, ℕ, ◌+◌, ◌-◌, ◌*◌, ◌<◌, ◌≤◌, List, ◌++◌, Option, Some, length, drop, get_or, length-append, arith, ap, ◌∙◌, sym, subst, inl, inr, suc}
+use Rattle.std.specs.Prelude.{Result, Ok, Err, OnErr}
+use Rattle.std.proofs.Common.{◌≡◌, ℕ, ◌+◌, ◌-◌, ◌*◌, ◌<◌, ◌≤◌, List, [], ◌++◌, Option, Some, None, length, drop, get_or, length-append, arith, ap, ◌∙◌, sym, subst, inl, inr, suc}
 use Rattle.std.proofs.lemmas.Bool.{cases_lt}
 use Rattle.std.proofs.Math.Nat.{mul-le-mul_right}
 use Rattle.std.proofs.Math.Seq.{take-length, get_or-append_right}
-use Rattle.std.proofs.lemmas.List.{get_or_append_left, get_or_past, get_or-drop, length-drop}
+use Rattle.std.proofs.lemmas.List.{append-nil, get_or_append_left, get_or_past, get_or-drop, length-drop}
 use Rattle.std.specs.Io.KnownBytes.{Appends}
 use Rattle.session.specs.Frames.{AppendsSome}
 use Rattle.session.proofs.Writes.{front_some}
@@ -16,6 +17,14 @@ use Rattle.decoder.specs.Received.{IsIndex}
 use Rattle.decoder.specs.Written.{BeginsObject}
 use Rattle.decoder.proofs.ObjectSoFar.{SoFar}
 use Rattle.decoder.proofs.Solving.{all_stand}
+
+pub appends_nothing : (o : Option (List ℕ)) → Appends o o []
+appends_nothing None = tt
+appends_nothing (Some xs) = sym (append-nil xs)
+
+pub on_err : {A E : Type 0} (P : Type 0) (r : Result A E) → P → OnErr r P
+on_err P (Ok a) h = tt
+on_err P (Err e) h = h
 
 module _ (f : Fti) (valid : IsValidFti f) (at : ℕ → ℕ → Option (List ℕ)) (b : ℕ) (front : List ℕ) (so_far : SoFar f at b front) (most : b ≤ block_count f) where
   few : length front ≤ f.transfer_length

@@ -1,5 +1,6 @@
--- What a decoder gathers of datagrams.
-use Rattle.std.specs.Prelude.{ℕ, List}
+-- What a decoder gathers of datagrams, and writes.
+use Rattle.std.specs.Prelude.{◌≡◌, ℕ, List, length, Option}
+use Rattle.std.specs.Io.KnownBytes.{Appends}
 use Rattle.reception.specs.declared.scope.Identity.{Identity}
 use Rattle.reception.specs.Answer as value
 use Rattle.reception.specs.Answer.{IsAnswer}
@@ -23,3 +24,9 @@ IsGathered who datagrams (gathered.Answer answer) =
 IsGathered who datagrams (gathered.Symbols symbols) =
     AreSymbolsOf who datagrams symbols × (object : List ℕ)
     × IsAnswer who datagrams (value.Object object)
+
+-- the object that these datagrams give was written; its length in bytes
+abbrev pub IsWrittenOf : Identity → List (List ℕ) → Option (List ℕ) → Option (List ℕ) → ℕ → Type 0
+IsWrittenOf who datagrams before after count =
+    (object : List ℕ) × IsAnswer who datagrams (value.Object object) × Appends before after object
+    × (count ≡ length object)

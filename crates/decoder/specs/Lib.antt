@@ -11,14 +11,7 @@ pub mod Promised
 pub mod Refusals
 pub mod Recoveries
 pub mod Arrivals
-pub mod Stored
-pub mod Holds
-pub mod Stands
-pub mod Receiving
-pub mod Fed
 pub mod Giving
-pub mod Putting
-pub mod Taking
 pub mod Differences
 pub mod SymbolsOf
 pub mod Gathering

@@ -41,7 +41,7 @@ fn are_padded(fti: &Fti, b: u32, rows: &Rows) -> bool
 
 /// A block's source symbols, if all that came of it are symbols of an object; `are_sound` says that
 /// this is known. `arrivals` has a place for each of its ESIs.
-pub(crate) fn block_rows(
+pub fn block_rows(
     alloc: Global,
     fti: &Fti,
     codes: &BlockCodes,

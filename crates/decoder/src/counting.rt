@@ -12,13 +12,13 @@ use crate::symbols::Symbols;
 
 /// A block that has fewer encoding symbols than it needs.
 #[derive(Clone, Copy)]
-pub(crate) struct Short {
+pub struct Short {
     /// Its source block number.
-    pub(crate) block: u32,
+    pub block: u32,
     /// How many different ESIs of it came.
-    pub(crate) have: usize,
+    pub have: usize,
     /// How many source symbols it has.
-    pub(crate) need: usize,
+    pub need: usize,
 }
 
 /// How many different ESIs below `n` came of a block.

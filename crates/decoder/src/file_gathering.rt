@@ -9,7 +9,7 @@ ghost use Rattle.decoder.specs.PlacesOf.{AreGatheredIn, ArePlacesOf};
 ghost use Rattle.decoder.specs.GatheringIn.{IsFileWriteFault, IsGatheredIn};
 ghost use Rattle.decoder.specs.PlacesOf.{AreIndexedOf};
 ghost use Rattle.decoder.specs.Indexing.{IsUnindexed};
-ghost use Rattle.decoder.specs.Receiving.{IsWrittenOf};
+ghost use Rattle.decoder.specs.Gathering.{IsWrittenOf};
 ghost use Rattle.decoder.specs.Received.{came_at};
 ghost use Rattle.decoder.specs.Sources.{AreInRange};
 ghost use Rattle.decoder.specs.declared.answer.DecodeFault.{DecodeFault as DecodeFaultValue};

@@ -10,9 +10,8 @@ ghost use Rattle.reception.specs.Answer.{Object, IsAnswer};
 ghost use Rattle.decoder.specs.Decoded.{AreWithin, IsEnoughAt, Stand};
 ghost use Rattle.decoder.specs.Unsolvable.{AreSound, SomeUnsound, HaveBytes};
 ghost use Rattle.decoder.specs.Received.{bytes_at};
-ghost use Rattle.decoder.specs.Receiving.{IsWrittenOf};
 ghost use Rattle.decoder.specs.SymbolsOf.{AreSymbolsOf, AreGathered};
-ghost use Rattle.decoder.specs.Gathering.{IsGathered};
+ghost use Rattle.decoder.specs.Gathering.{IsGathered, IsWrittenOf};
 ghost use Rattle.decoder.specs.Written.{Gathers, WritesObject, BeginsObject};
 
 use crate::answer::{Answer, DecodeFault};

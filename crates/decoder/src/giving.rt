@@ -39,7 +39,7 @@ fn residual(
 
 /// Whether a block's rows give this symbol at an ESI of the block: below k it is a row, else a sum
 /// of them.
-pub(crate) fn gives(
+pub fn gives(
     alloc: Global,
     fti: &Fti,
     codes: &BlockCodes,

@@ -15,19 +15,11 @@
 //!   them, `source` says what symbols are had of, and `file_source` has those of a file, which
 //!   `rereading` reads again, and by `enough` no more of them than a block needs;
 //! - `decoding`: the public call, and `selecting`: the same for a selection of a session's
-//!   datagrams, with what a check's yes promises of it;
-//! - `receiver`: the same for one datagram at a time: `feeding` takes one more, and `taking` gives
-//!   the answer, or writes the object block by block; `storing` tells how much it keeps. A receiver
-//!   stands for the list of the datagrams that it accepted (`specs/Stands`). It accepts none with
-//!   which `decode` would answer a fault to that list, and tells no fault but that answer. Of
-//!   packets that carry no FTI it accepts none before a carrier, as it couldn't tell what their
-//!   symbols are;
-//! - `store`: what it keeps of an object, and `stored`: of a block. That is, by `pending_block`,
-//!   copies of the symbols that came while these are too few, and by `solved_block` the source
-//!   symbols from then on, with which ESIs came: never more symbols than the block has source
-//!   symbols. `putting` puts a symbol where it goes, and walks neither over the blocks nor over
-//!   what came, but for its block's symbols when that is solved; `giving` compares one with what
-//!   source symbols give.
+//!   datagrams, with what a check's yes promises of it.
+//!
+//! A receiver of one datagram at a time is the crate `receiver`. For it the symbols that came of a
+//! block (`arrivals`), its source symbols (`block_rows`) and whether these give a symbol (`giving`)
+//! are public.
 #![tactic(auto)]
 
 mod answer;
@@ -38,37 +30,34 @@ mod counting;
 mod decoding;
 mod enough;
 mod erasure;
-mod feeding;
 mod file_gathering;
 mod file_source;
 mod gathering;
 mod giving;
 mod indexing;
 mod padding;
-mod pending_block;
-mod putting;
 mod received;
-mod receiver;
 mod recovering;
 mod recovery;
 mod rereading;
 mod rows;
 mod selecting;
-mod solved_block;
 mod source;
-mod store;
-mod stored;
-mod storing;
 mod symbols;
-mod taking;
 mod unsolvable;
 mod verdict;
 mod writing;
 
 pub use answer::{Answer, DecodeFault};
+pub use arrivals::{Arrival, SymbolBytes, push_arrival, seen_of, symbol_at, symbols_below};
+pub use blocks::block_rows;
+pub use counting::Short;
 pub use decoding::decode;
 pub use file_gathering::{FileFault, FileSymbols, FileWriteFault, GatheredFile, gather_file};
 pub use gathering::{Gathered, ObjectSymbols, WriteFault, gather};
-pub use receiver::{FeedFault, Progress, Receiver};
+pub use giving::gives;
+pub use received::fault_at;
+pub use recovery::Recovery;
+pub use rows::Rows;
 pub use selecting::{decode_selection, one_answer};
 pub use source::Unread;

@@ -49,7 +49,7 @@ pub(crate) struct Received<'a> {
 }
 
 /// The fault of the datagram at a place.
-pub(crate) fn fault_at(place: usize, fault: PlaceFault) -> DecodeFault
+pub fn fault_at(place: usize, fault: PlaceFault) -> DecodeFault
     ensures { fault_value result ≡ Fault place (Faulty fault) }
 {
     match fault {

@@ -17,7 +17,7 @@ use std::alloc::{AllocError, Global};
 /// What makes missing source symbols of those that came and of as many repair symbols, in blocks of
 /// `k` source symbols.
 #[derive(Drop)]
-pub(crate) struct Recovery {
+pub struct Recovery {
     k: usize,
     missing: Vec<u8>,
     repair: Vec<u8>,

@@ -10,7 +10,7 @@ ghost use Rattle.decoder.specs.Sources.{IsUnreadOf};
 ghost use Rattle.session.specs.Extents.{datagram_in};
 ghost use Rattle.session.specs.declared.extent.Extent.{Extent as ExtentValue};
 
-use crate::arrivals::{Arrival, push};
+use crate::arrivals::{Arrival, push_arrival};
 use crate::source::Unread;
 use reception::{Look, Scope};
 use session::Extent;
@@ -137,7 +137,7 @@ pub(crate) fn read_block_again<F: ReadAt>(
     for arrival in came {
         let esi = arrival.esi;
         let symbol = read_again(alloc, &mut ahead, scope, b, esi, arrival.symbol)?;
-        push(&mut again, Arrival { esi, symbol })?;
+        push_arrival(&mut again, Arrival { esi, symbol })?;
     }
     Ok(again)
 }

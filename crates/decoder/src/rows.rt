@@ -10,10 +10,10 @@ use std::alloc::{AllocError, Global};
 
 /// Rows of `size` bytes each, one behind the other.
 #[derive(Drop)]
-pub(crate) struct Rows {
-    pub(crate) bytes: Vec<u8>,
-    pub(crate) size: usize,
-    pub(crate) count: usize,
+pub struct Rows {
+    pub bytes: Vec<u8>,
+    pub size: usize,
+    pub count: usize,
     ghost whole: { length bytes.items ≡ count * size },
     ghost few: { count < 2 ^ 8 },
     ghost small: { size < 2 ^ 16 },

@@ -4,7 +4,7 @@ ghost use Rattle.std.specs.Prelude.{false, is_some, option_map, IsNone, IfSome, 
 ghost use Rattle.decoder.specs.Arrivals.{arrived_at};
 ghost use Rattle.decoder.specs.Received.{bytes_at, came_at, list_of};
 
-use crate::arrivals::{Arrival, push, symbol_at};
+use crate::arrivals::{Arrival, push_arrival, symbol_at};
 use std::alloc::{AllocError, Global};
 use std::collections::BTreeMap;
 
@@ -75,7 +75,7 @@ impl<S: Drop> Symbols<S> {
         let arrival = Arrival { esi, symbol };
         match self.blocks.get_mut(&block) {
             Some(arrivals) => {
-                push(arrivals, arrival)?;
+                push_arrival(arrivals, arrival)?;
                 Ok(())
             }
             None => {

@@ -2,7 +2,8 @@
 
 use crate::fault::ExampleFault;
 use crate::sending::IDENTITY;
-use decoder::{Answer, Progress, Receiver};
+use decoder::Answer;
+use receiver::{Progress, Receiver};
 use session::Session;
 
 /// Feeds the session's datagrams, and tells what the receiver makes of them.

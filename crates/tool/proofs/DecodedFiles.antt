@@ -8,7 +8,7 @@ use Rattle.session.specs.declared.frame.FrameFault.TheVariants as frame_fault
 use Rattle.reception.specs.Answer as value
 use Rattle.reception.specs.Answer.{IsAnswer}
 use Rattle.decoder.specs.Answers.{answer_value}
-use Rattle.decoder.specs.Gathering.{IsNoObject}
+use Rattle.decoder.specs.Gathering.{IsNoObject, IsWrittenOf}
 use Rattle.decoder.specs.FileFaults.{IsFrameFault, IsNotAgain}
 use Rattle.decoder.specs.declared.source.Unread.{Unread}
 use Rattle.decoder.specs.declared.source.Unread.TheVariants as unread
@@ -18,7 +18,6 @@ use Rattle.std.proofs.lemmas.List.{length-replicate}
 use Rattle.decoder.specs.PlacesOf.{ArePlacesOf}
 use Rattle.decoder.specs.GatheringIn.{IsFileFault}
 use Rattle.decoder.specs.ReadAgain.{fault_of}
-use Rattle.decoder.specs.Receiving.{IsWrittenOf}
 use Rattle.decoder.specs.declared.file_gathering.FileSymbols.{FileSymbols}
 use Rattle.tool.proofs.Stopping.{kept_whole}
 use Rattle.decoder.specs.declared.answer.Answer.{Answer}

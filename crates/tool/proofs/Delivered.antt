@@ -4,7 +4,7 @@ use Rattle.std.specs.Prelude.{codes}
 use Rattle.std.specs.Io.KnownBytes.{Appends}
 use Rattle.session.proofs.Writes.{then_appends}
 use Rattle.reception.specs.Answer as value
-use Rattle.decoder.specs.declared.receiver.Receiver.{Receiver}
+use Rattle.receiver.specs.declared.receiver.Receiver.{Receiver}
 use Rattle.request.specs.declared.requests.FollowRequest.{FollowRequest}
 use Rattle.request.specs.declared.requests.Request.TheVariants.{Follow}
 use Rattle.host.specs.World.{Files, World, IsFree, KeepsFiles, IsSilent, Replaces, one_more}

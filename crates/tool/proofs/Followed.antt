@@ -15,12 +15,12 @@ use Rattle.alc.specs.Reading.{Reading}
 use Rattle.reception.specs.Reception.{ReadAll}
 use Rattle.reception.specs.Answer.{IsAnswer, reception_of}
 use Rattle.decoder.specs.Answers.{answer_value}
-use Rattle.decoder.specs.Receiving.{with_datagram, LeaveNoneShort, HasNoFault, ComesEarly}
+use Rattle.receiver.specs.Receiving.{with_datagram, LeaveNoneShort, HasNoFault, ComesEarly}
 use Rattle.decoder.specs.declared.answer.Answer.{Answer}
 use Rattle.decoder.specs.declared.answer.Answer.TheVariants.{Empty, Fault as NoObject, Missing, Object}
-use Rattle.decoder.specs.declared.receiver.FeedFault.{FeedFault}
-use Rattle.decoder.specs.declared.receiver.FeedFault.TheVariants as feed
-use Rattle.decoder.specs.declared.receiver.Receiver.{Receiver}
+use Rattle.receiver.specs.declared.receiver.FeedFault.{FeedFault}
+use Rattle.receiver.specs.declared.receiver.FeedFault.TheVariants as feed
+use Rattle.receiver.specs.declared.receiver.Receiver.{Receiver}
 use Rattle.request.specs.declared.requests.FollowRequest.{FollowRequest}
 use Rattle.request.specs.declared.requests.Request.TheVariants.{Follow}
 use Rattle.host.specs.World.{IsFree, Files, World, KeepsFiles, MayFail, Replaces, one_more}

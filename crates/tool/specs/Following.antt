@@ -6,10 +6,10 @@ use Rattle.session.specs.Frames.{frames, AreShort}
 use Rattle.reception.specs.declared.scope.Identity.{Identity}
 use Rattle.reception.specs.Answer.{Answer, Object, IsAnswer}
 use Rattle.decoder.specs.Answers.{fault_value}
-use Rattle.decoder.specs.Receiving.{with_datagram, LeaveNoneShort, ComesEarly}
-use Rattle.decoder.specs.declared.receiver.FeedFault.{FeedFault}
-use Rattle.decoder.specs.declared.receiver.FeedFault.TheVariants.{Fault as NoObject, Full, Early}
-use Rattle.decoder.specs.declared.receiver.FeedFault.TheVariants.{NoMemory}
+use Rattle.receiver.specs.Receiving.{with_datagram, LeaveNoneShort, ComesEarly}
+use Rattle.receiver.specs.declared.receiver.FeedFault.{FeedFault}
+use Rattle.receiver.specs.declared.receiver.FeedFault.TheVariants.{Fault as NoObject, Full, Early}
+use Rattle.receiver.specs.declared.receiver.FeedFault.TheVariants.{NoMemory}
 use Rattle.tool.specs.Lines.{line_of, named, count_line, answer_text, refusal_words}
 
 -- Why a datagram isn't taken behind those that were: the decoder's answer to them and it is a

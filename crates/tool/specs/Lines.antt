@@ -17,9 +17,9 @@ use Rattle.reception.specs.Answer.{Object, Clash, Clashes}
 use Rattle.reception.specs.Reception.{Wrong, Faulty, Judged}
 use Rattle.reception.specs.declared.scope.PlaceFault.TheVariants as place_fault
 use Rattle.decoder.specs.Answers.{fault_value}
-use Rattle.decoder.specs.declared.receiver.FeedFault.{FeedFault}
-use Rattle.decoder.specs.declared.receiver.FeedFault.TheVariants.{Fault as NoObject, Full, Early}
-use Rattle.decoder.specs.declared.receiver.FeedFault.TheVariants.{NoMemory}
+use Rattle.receiver.specs.declared.receiver.FeedFault.{FeedFault}
+use Rattle.receiver.specs.declared.receiver.FeedFault.TheVariants.{Fault as NoObject, Full, Early}
+use Rattle.receiver.specs.declared.receiver.FeedFault.TheVariants.{NoMemory}
 use Rattle.host.specs.World.{World, KeepsFiles}
 use Rattle.tool.specs.Words.{fti_words, packet_words, frame_words, certificate_words, send_words}
 use Rattle.tool.specs.declared.fault.Fault.{Fault}

@@ -7,10 +7,10 @@ use Rattle.session.specs.declared.frame.FrameFault.TheVariants.{NoMemory as NoFr
 use Rattle.reception.specs.declared.scope.Identity.{Identity}
 use Rattle.reception.specs.Answer.{Object, IsAnswer}
 use Rattle.decoder.specs.Answers.{answer_value, IsNoFault}
-use Rattle.decoder.specs.Stands.{Stands}
-use Rattle.decoder.specs.Receiving.{LeaveNoneShort}
+use Rattle.receiver.specs.Stands.{Stands}
+use Rattle.receiver.specs.Receiving.{LeaveNoneShort}
 use Rattle.decoder.specs.declared.answer.Answer.{Answer}
-use Rattle.decoder.specs.declared.receiver.Receiver.{Receiver}
+use Rattle.receiver.specs.declared.receiver.Receiver.{Receiver}
 use Rattle.request.specs.declared.requests.FollowRequest.{FollowRequest}
 use Rattle.request.specs.declared.requests.Request.TheVariants.{Follow}
 use Rattle.host.specs.World.{World, one_more}

@@ -9,7 +9,7 @@ ghost use Rattle.tool.specs.Inputs.{ASession, IsUnread};
 ghost use Rattle.reception.specs.declared.scope.Identity.{Identity as IdentityValue};
 ghost use Rattle.request.specs.declared.requests.Request.TheVariants.{Decode};
 ghost use Rattle.decoder.specs.Answers.{answer_value, fault_value};
-ghost use Rattle.decoder.specs.Receiving.{IsWrittenOf};
+ghost use Rattle.decoder.specs.Gathering.{IsWrittenOf};
 ghost use Rattle.decoder.specs.SymbolsOf.{AreSymbolsOf, AreGathered};
 ghost use Rattle.tool.specs.Commands.{answer_status};
 ghost use Rattle.tool.specs.Doing.{HasMade, HasStopped};

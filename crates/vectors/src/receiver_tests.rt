@@ -1,7 +1,7 @@
 //! A receiver beside the decoder, at each datagram of sessions that lose, repeat and spoil some, in
 //! any order.
 ghost use Rattle.std.specs.Prelude.{◌≤◌};
-ghost use Rattle.decoder.specs.Stands.{IsFed};
+ghost use Rattle.receiver.specs.Stands.{IsFed};
 
 use crate::ONE;
 use crate::check_tests::FIRST_ALONE;

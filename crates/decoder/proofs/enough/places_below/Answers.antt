@@ -1,8 +1,7 @@
-use Rattle.std.proofs.Common.{◌≡◌, ◌∙◌, ℕ, List, sym, ap, arith, get_or}
-use Rattle.std.proofs.lemmas.List.{get_or_default, take_all}
+use Rattle.std.proofs.Common.{◌∙◌, List, sym, ap, arith, get_or}
+use Rattle.std.proofs.lemmas.List.{get_or_default}
 use Rattle.std.proofs.lemmas.List.Elements.{All-push}
 use Rattle.decoder.specs.Arrivals.{arrived_at}
-use Rattle.decoder.specs.Enough.{at_below}
 use Rattle.decoder.specs.InFile.{IsSymbolIn}
 use Rattle.decoder.specs.declared.arrivals.Arrival.{Arrival}
 use Rattle.session.specs.declared.extent.Extent.{Extent}

@@ -16,7 +16,7 @@ use Rattle.decoder.specs.declared.file_gathering.FileSymbols.{FileSymbols}
 use Rattle.decoder.proofs.Answering.{stand_of}
 use Rattle.decoder.proofs.FromFile.{told_is, told_if, enough_same, some_any, file_fault_of}
 use Rattle.decoder.proofs.GatheredSymbols.{answer_of}
-use Rattle.decoder.proofs.SymbolBytes.{have_bytes}
+use Rattle.decoder.proofs.BytesOfSymbols.{have_bytes}
 use Rattle.decoder.proofs.file_gathering.gather_places.Goals as goal
 
 pub verdict-requires-clause-range : goal.verdict-requires-clause-range

@@ -6,7 +6,7 @@ use Rattle.decoder.specs.Gathering.{IsGathered}
 use Rattle.decoder.specs.Written.{Gathers}
 use Rattle.decoder.proofs.Answering.{bytes_of, read_all, stand_of, if_ok}
 use Rattle.decoder.proofs.GatheredSymbols.{gathered_of}
-use Rattle.decoder.proofs.SymbolBytes.{have_bytes}
+use Rattle.decoder.proofs.BytesOfSymbols.{have_bytes}
 use Rattle.decoder.proofs.gathering.gather.Goals as goal
 
 pub gather_symbols-requires-clause-stand : goal.gather_symbols-requires-clause-stand

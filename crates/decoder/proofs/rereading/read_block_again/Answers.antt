@@ -25,7 +25,7 @@ loop-arrival-preserved g c =
     let b : Arrival Extent = get_or c.args.came.now c.loop-arrival.arrival-index (record { esi = 0; symbol = record { offset = 0; length = 0 } }) in
     let a : Arrival (Vec ℕ) = record { esi = (get_or c.args.came.now c.loop-arrival.arrival-index (record { esi = 0; symbol = record { offset = 0; length = 0 } })).esi; symbol = c.in_ok-symbol.symbol } in
     let is = get_or_default came i (record { esi = 0; symbol = record { offset = 0; length = 0 } }) b c.loop-arrival-test.true in
-    rw c.in_ok-push.ensures.pushed (record {
+    rw c.in_ok-push_arrival.ensures.pushed (record {
       file = c.in_ok-symbol.ensures.file ∙ c.loop-arrival.invariant.file;
       some = λ held j. some_more (λ v. v.items) held again came i a b c.loop-arrival-test.true is refl j (c.loop-arrival.invariant.some held j);
       size = λ f e. lengths_more (λ v. v.items) f.symbol_length again a (c.in_ok-symbol.ensures.size f e) (c.loop-arrival.invariant.size f e);

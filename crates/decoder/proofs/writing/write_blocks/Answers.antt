@@ -3,7 +3,7 @@ use Rattle.partition.specs.Fti.{IsValidFti, block_count}
 use Rattle.session.proofs.Writes.{then_appends, then_some}
 use Rattle.decoder.proofs.Beginnings.{begins, begins_whole}
 use Rattle.decoder.proofs.ObjectSoFar.{nothing_yet, one_more_block, object_answers}
-use Rattle.decoder.proofs.Taken.{appends_nothing, on_err}
+use Rattle.decoder.proofs.Beginnings.{appends_nothing, on_err}
 use Rattle.decoder.proofs.writing.write_blocks.Goals as goal
 
 pub loop-b-init : goal.loop-b-init

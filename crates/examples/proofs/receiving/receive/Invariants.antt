@@ -1,5 +1,5 @@
 use Rattle.std.proofs.Common.{ℕ, List}
-use Rattle.decoder.specs.Stands.{Stands}
+use Rattle.receiver.specs.Stands.{Stands}
 use Rattle.examples.proofs.receiving.receive.Given as goal
 
 -- the receiver stands for some list

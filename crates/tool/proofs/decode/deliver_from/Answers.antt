@@ -1,5 +1,5 @@
 use Rattle.std.proofs.Common.{◌∙◌, refl, sym, ap}
-use Rattle.decoder.specs.Receiving.{IsWrittenOf}
+use Rattle.decoder.specs.Gathering.{IsWrittenOf}
 use Rattle.request.specs.declared.requests.Request.TheVariants.{Decode}
 use Rattle.tool.specs.Doing.{text_of}
 use Rattle.reception.specs.Answer as value

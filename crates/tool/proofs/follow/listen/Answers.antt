@@ -1,5 +1,5 @@
 use Rattle.std.proofs.Common.{◌≡◌, ◌≢◌, ◌∙◌, ◌+◌, ◌-◌, ◌^◌, ◌++◌, [], Err, ap, arith, length, refl, subst, sym, rules}
-use Rattle.decoder.specs.Receiving.{with_datagram, LeaveNoneShort, ComesEarly}
+use Rattle.receiver.specs.Receiving.{with_datagram, LeaveNoneShort, ComesEarly}
 use Rattle.reception.specs.declared.scope.Identity.{Identity}
 use Rattle.tool.specs.Following.{refusal_line, IsHeard}
 use Rattle.tool.specs.Listening.{IsUnheard}

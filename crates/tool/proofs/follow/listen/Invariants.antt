@@ -1,6 +1,6 @@
 use Rattle.std.proofs.Common.{◌≡◌, ℕ, List}
-use Rattle.decoder.specs.Stands.{Stands}
-use Rattle.decoder.specs.Receiving.{LeaveNoneShort}
+use Rattle.receiver.specs.Stands.{Stands}
+use Rattle.receiver.specs.Receiving.{LeaveNoneShort}
 use Rattle.host.specs.World.{KeepsFiles}
 use Rattle.tool.specs.Following.{IsHeard}
 use Rattle.tool.specs.Listening.{AreSaid}

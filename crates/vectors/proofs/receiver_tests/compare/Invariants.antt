@@ -1,4 +1,4 @@
-use Rattle.decoder.specs.Stands.{IsFed}
+use Rattle.receiver.specs.Stands.{IsFed}
 use Rattle.vectors.proofs.receiver_tests.compare.Given as goal
 
 -- the receiver stands for some list

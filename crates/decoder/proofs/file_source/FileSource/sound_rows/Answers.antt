@@ -8,7 +8,6 @@ use Rattle.lists.specs.Below.{below}
 use Rattle.partition.specs.Fti.{source_count, encoding_count}
 use Rattle.decoder.specs.Arrivals.{arrived_at}
 use Rattle.decoder.specs.Blocks.{bytes_of_esi}
-use Rattle.decoder.specs.Columns.{ColumnExplained}
 use Rattle.decoder.specs.Decoded.{AreRows}
 use Rattle.decoder.specs.Enough.{at_below}
 use Rattle.decoder.specs.InFile.{file_at, held_in, AreOfBlock}

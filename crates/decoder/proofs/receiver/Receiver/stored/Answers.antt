@@ -1,9 +1,0 @@
-use Rattle.std.proofs.Common.{refl}
-use Rattle.decoder.proofs.Amount.{none_stored, stored_is}
-use Rattle.decoder.proofs.receiver.Receiver.stored.Goals as goal
-
-pub returns-in_default : goal.returns-in_default
-returns-in_default c = λ ds rs stands read. none_stored c.args.self.now ds rs stands read c.args.block 0 c.in_default.is refl
-
-pub returns : goal.returns
-returns c = λ ds rs stands read. stored_is c.args.self.now ds rs stands read c.args.block _ c.in-Some.store c.in-Some.is c.is_valid.ensures c.stored.ensures

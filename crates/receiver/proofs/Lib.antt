@@ -1,0 +1,5 @@
+mod Put
+mod Holding
+mod Taken
+mod Fed
+mod Amount
