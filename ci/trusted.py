@@ -49,6 +49,9 @@ INNER = {("decoder", call) for call in (
     "fault_at",
 )}
 
+# The files of what `cert` offers to `file_check` alone, in the same way.
+INNER_FILES = {("cert", file) for file in ("tally", "in_file", "datagrams", "differing")}
+
 
 # What the table tells: a short name, the promise, the clauses that say it (crate, function, labels;
 # none for all of them), and the promises that it is told beyond.
@@ -271,6 +274,8 @@ def roots(wanted=lambda crate, function, label: True):
     """The definitions that public clauses cite, of those that are wanted."""
     found = set()
     for path in sorted(CRATES.glob("*/src/*.rt")):
+        if (path.parts[-3], path.stem) in INNER_FILES:
+            continue
         uses, aliases = uses_of(path)
         texts = [
             text

@@ -14,7 +14,8 @@ use Rattle.reception.specs.declared.scope.Identity.{Identity}
 use Rattle.cert.specs.Certificate.{IsCertificate, IsIdentity, certificate_text, coefficient_count, head_text, text_fault}
 use Rattle.cert.specs.declared.certificate.CertFault.TheVariants.{Size}
 use Rattle.cert.specs.CoefficientRows.{AreRowsOf}
-use Rattle.cert.specs.InFile.{IsLost, IsNamed, named_in}
+use Rattle.cert.specs.InFile.{IsLost, IsNamed}
+use Rattle.cert.specs.Certificate.{named_in}
 use Rattle.cert.proofs.BlockSymbols.{rows_are}
 use Rattle.cert.proofs.Consuming.{size_behind}
 

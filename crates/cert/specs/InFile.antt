@@ -1,12 +1,8 @@
 -- A certificate with a name in a file.
-use Rattle.std.specs.Prelude.{◌≡◌, ◌⊎◌, ℕ, Bool, false, List, Option, Some, None, drop, IfSome}
+use Rattle.std.specs.Prelude.{◌≡◌, ◌⊎◌, ℕ, Bool, false, List, Option, None, IfSome}
 use Rattle.partition.specs.Fti.{Fti}
 use Rattle.reception.specs.declared.scope.Identity.{Identity}
-use Rattle.cert.specs.Certificate.{Certificate, IsCertificate, certificate_text}
-
--- the certificate whose text the bytes are, where it has this FTI and this name
-abbrev pub named_in : List ℕ → Fti → Identity → Certificate
-named_in text f who = record { fti = f; name = Some who; coefficients = drop 34 text }
+use Rattle.cert.specs.Certificate.{IsCertificate, certificate_text, named_in}
 
 -- the file's bytes, where they are told, are its text
 abbrev pub IsNamed : Option (List ℕ) → Fti → Identity → Type 0

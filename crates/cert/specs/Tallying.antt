@@ -1,6 +1,6 @@
 -- What is known of datagrams that were looked at one by one, whatever is asked of their symbols.
-use Rattle.std.specs.Prelude.{◌≡◌, ℕ, ◌+◌, List, [], length, Option, None, Some, Ok, IfSome, option_map, ⊤}
-use Rattle.std.specs.Prelude.{slice_index_or}
+use Rattle.std.specs.Prelude.{◌≡◌, ℕ, ◌+◌, List, [], length, Option, None, Some, Ok, IfSome, ⊤}
+use Rattle.std.specs.Prelude.{option_map, slice_index_or}
 use Rattle.losses.specs.Groups.{Group, groups_of}
 use Rattle.losses.specs.Losses.{places_from}
 use Rattle.alc.specs.Packet.{Packet}
@@ -58,7 +58,8 @@ tallied_of tally = record {
 -- these datagrams came, of which none has a reason against it where this FTI holds and this is said
 -- of symbols: how many they are, and how many packets of the identity; the places and ESIs of these
 -- by block; and the places of the carriers
-pub record AreTallied (says : Says) (f : Fti) (t : Tallied) (datagrams : List (List ℕ)) : Type 0 where
+pub record AreTallied (says : Says) (f : Fti) (t : Tallied)
+    (datagrams : List (List ℕ)) : Type 0 where
   pub clean : (reception_with (judge_by says) (with_fti t.scope.identity f)
       (readings_of datagrams)).wrong ≡ None
   pub holds : (reception_with (judge_by says) (with_fti t.scope.identity f)
@@ -69,7 +70,8 @@ pub record AreTallied (says : Says) (f : Fti) (t : Tallied) (datagrams : List (L
   pub placed : t.carriers ≡ places_from (is_carrier t.scope.identity) 0 (readings_of datagrams)
 
 -- it is the tally of these datagrams
-pub record IsTally (says : Says) (f : Fti) (tally : Tally) (datagrams : List (List ℕ)) : Type 0 where
+pub record IsTally (says : Says) (f : Fti) (tally : Tally)
+    (datagrams : List (List ℕ)) : Type 0 where
   pub valid : IsValidFti f
   pub tallied : AreTallied says f (tallied_of tally) datagrams
 

@@ -5,7 +5,8 @@ ghost use Rattle.std.proofs.Props.{props};
 ghost use Rattle.partition.specs.Fti.{IsValidFti, block_count, source_count};
 ghost use Rattle.cert.specs.Certificate.{IsCertFault};
 ghost use Rattle.cert.specs.CoefficientRows.{AreRowsOf};
-ghost use Rattle.cert.specs.InFile.{IsNamed, IsLost, named_in};
+ghost use Rattle.cert.specs.InFile.{IsNamed, IsLost};
+ghost use Rattle.cert.specs.Certificate.{named_in};
 
 use crate::certificate::{CertFault, coefficients_of};
 use crate::head::{LENGTH_OF_NAMED, read_head};

@@ -6,8 +6,8 @@
 //! block. `verdict` has what a check answers, `specs/Verdict` which answer is right, `specs/Report`
 //! what a yes tells.
 //!
-//! `view` has a certificate whose coefficients may be borrowed, `in_file` one with a name that stays in
-//! its file.
+//! `view` has a certificate whose coefficients may be borrowed, `in_file` one with a name that
+//! stays in its file.
 //!
 //! A check asks for one identity's packets and is a walk over datagrams, one step each (`walk`).
 //! [`check`] goes over a session (`checking`), [`check_from`] over what a reader gives
@@ -17,15 +17,15 @@
 //! packet is judged whether a carrier came before it or not; that none came is told in the end.
 //!
 //! What came is counted and grouped by a `tally`, whatever is asked of the symbols
-//! (`specs/Tallying`). The walk puts three parts together: `certified_symbols` makes each symbol that the certificate
-//! gives, `source` compares them with the object and `datagrams` with a datagram, whose place it
-//! puts into its block's group for `losses`, and that of a carrier behind the other carriers.
-//! `block_symbols` makes many symbols of a block at once, `repair_symbols` keeps those that
-//! datagrams are compared with, and `runs` tells how many pay where they aren't kept. `differing`
-//! finds the first byte in which two rows differ, which is how a column is told. `twins` makes the
-//! object that can't be told from the true one where a block is short (`specs/Twins`). `laws` says
-//! of the definitions which bytes are a certificate, that there is one verdict, and which reason
-//! and which column it has.
+//! (`specs/Tallying`). The walk puts three parts together: `certified_symbols` makes each symbol
+//! that the certificate gives, `source` compares them with the object and `datagrams` with a
+//! datagram, whose place it puts into its block's group for `losses`, and that of a carrier behind
+//! the other carriers. `block_symbols` makes many symbols of a block at once, `repair_symbols`
+//! keeps those that datagrams are compared with, and `runs` tells how many pay where they aren't
+//! kept. `differing` finds the first byte in which two rows differ, which is how a column is told.
+//! `twins` makes the object that can't be told from the true one where a block is short
+//! (`specs/Twins`). `laws` says of the definitions which bytes are a certificate, that there is one
+//! verdict, and which reason and which column it has.
 //!
 //! Nothing is solved here: a check evaluates polynomials and compares bytes. What a yes promises of
 //! every selection is `reception`'s `specs/Headline`; the theorems behind it stand in

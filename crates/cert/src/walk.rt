@@ -111,8 +111,8 @@ impl<'a> Walk<'a> {
         ensures passed { (datagrams : List (List ℕ)) → HasWalked self.old datagrams
             → OnOk result (HasWalked self.new (datagrams ++ datagram.now ∷ [])) }
         ensures no_report { (datagrams : List (List ℕ)) → HasWalked self.old datagrams
-            → IfErr result (IsNotPassed self.old.tally.scope.identity (datagrams ++ datagram.now ∷ [])
-            self.old.symbols) }
+            → IfErr result (IsNotPassed self.old.tally.scope.identity
+            (datagrams ++ datagram.now ∷ []) self.old.symbols) }
     {
         let place = self.tally.count;
         match self.tally.look(datagram) {
@@ -187,8 +187,8 @@ impl<'a> Walk<'a> {
         ensures { (datagrams : List (List ℕ)) → AreDatagrams datagrams
             → HasWalked self.now datagrams → IsShortIn self.now.tally.scope.identity datagrams
             (cow_slice_items self.now.object) self.now.symbols block
-            → IfOk result (λ other. IsTwinOfSession self.now.tally.scope.identity self.now.symbols.fti
-            block datagrams (cow_slice_items self.now.object) other.items) }
+            → IfOk result (λ other. IsTwinOfSession self.now.tally.scope.identity
+            self.now.symbols.fti block datagrams (cow_slice_items self.now.object) other.items) }
     {
         let arrived_esis = self.tally.esis(alloc, block)?;
         let fti = self.symbols.fti();

@@ -8,7 +8,8 @@ use Rattle.cert.specs.Tallying.{Tallied}
 use Rattle.cert.specs.Verdict.{GivesAt, IsFirstNotGiven}
 use Rattle.cert.specs.declared.verdict.Reason.TheVariants.{OtherCertificate, ObjectLength, NotObject, Empty, Packet as NoPacket, OtherFti, SymbolLength, Range, Symbol, Thin, NoCarrier}
 use Rattle.file_check.specs.Blocks.{AreSaid, limit_of}
-use Rattle.file_check.specs.Checked.{IsBlockStop, IsBlocksStop, Reliable}
+use Rattle.file_check.specs.Checked.{IsBlockStop, IsBlocksStop}
+use Rattle.file_check.specs.Files.{Reliable}
 use Rattle.file_check.specs.Compared.{AreCompared, IsCompared}
 use Rattle.file_check.specs.declared.blocks.Wrong.{Wrong}
 use Rattle.file_check.specs.declared.checking.Stop.{Stop}

@@ -28,7 +28,8 @@ use Rattle.cert.proofs.FromReader.{no_datagrams, consumes_one, not_begun, not_pa
 use Rattle.cert.proofs.Judged.{all_passed, first_wrong}
 use Rattle.cert.proofs.Members.{said_by_blocks}
 use Rattle.file_check.specs.Blocks.{limit_of}
-use Rattle.file_check.specs.Checked.{Reliable, IsBlocksStop, IsFileFault, IsFilesFault, IsStop, IsWholeTally}
+use Rattle.file_check.specs.Checked.{IsBlocksStop, IsStop, IsWholeTally}
+use Rattle.file_check.specs.Files.{Reliable, IsFileFault, IsFilesFault}
 use Rattle.file_check.specs.Compared.{AreCompared}
 use Rattle.file_check.specs.Indexed.{EndsBy, IsIndexed, IsIndexOf}
 use Rattle.file_check.specs.declared.blocks.Wrong.{Wrong}

@@ -1,11 +1,10 @@
 -- Why a check of files tells no report.
-use Rattle.std.specs.Prelude.{◌≡◌, ℕ, Bool, false, List, Option, Some, ⊤}
+use Rattle.std.specs.Prelude.{◌≡◌, ℕ, List, Option, Some}
 use Rattle.std.specs.Io.KnownBytes.{Consumes, IsAtEnd}
 use Rattle.session.specs.Frames.{frames, AreDatagrams}
-use Rattle.session.specs.declared.frame.FrameFault.TheVariants.{Io}
 use Rattle.reception.specs.declared.scope.Identity.{Identity}
 use Rattle.cert.specs.Certificate.{Certificate}
-use Rattle.cert.specs.FromReader.{IsCheckedFrom, IsRefusedBehind}
+use Rattle.cert.specs.FromReader.{IsCheckedFrom}
 use Rattle.cert.specs.NotGiven.{IsFirstInBlock, IsNotGiven}
 use Rattle.cert.specs.Tallying.{IsTally, by_certificate}
 use Rattle.cert.specs.declared.tally.Tally.{Tally}
@@ -13,23 +12,7 @@ use Rattle.cert.specs.declared.verdict.Reason.TheVariants.{NotObject}
 use Rattle.cert.specs.declared.verdict.Verdict.TheVariants.{No}
 use Rattle.file_check.specs.declared.checking.Stop.{Stop}
 use Rattle.file_check.specs.declared.checking.Stop.TheVariants as stop
-use Rattle.file_check.specs.declared.checking.FilesFault.{FilesFault}
-use Rattle.file_check.specs.declared.checking.FilesFault.TheVariants.{Frame, Session, Object}
-use Rattle.file_check.specs.declared.checking.FilesFault.TheVariants.{Certificate as NoCertificate, NoMemory}
-
--- which of the files can fail
-pub record Reliable : Type 0 where
-  pub session : Bool
-  pub object : Bool
-  pub certificate : Bool
-
--- a file has failed, where all tell their bytes
-abbrev pub IsFileFault : Reliable → FilesFault → Type 0
-IsFileFault reliable (Frame fault) = ⊥
-IsFileFault reliable Session = reliable.session ≡ false
-IsFileFault reliable Object = reliable.object ≡ false
-IsFileFault reliable NoCertificate = reliable.certificate ≡ false
-IsFileFault reliable NoMemory = ⊤
+use Rattle.file_check.specs.Files.{IsFileFault, IsFilesFault, Reliable}
 
 -- why a block isn't compared to its end: the certificate doesn't give the object there, or a file
 -- has failed
@@ -44,14 +27,7 @@ abbrev pub IsBlocksStop : Reliable → List ℕ → Certificate → Stop → Typ
 IsBlocksStop reliable object z (stop.ByReason reason) = IsNotGiven object z reason
 IsBlocksStop reliable object z (stop.ByFault fault) = IsFileFault reliable fault
 
--- why there is no report: the verdict is no, or no frame follows, or a file has failed
-abbrev pub IsFilesFault : Identity → Reliable → List ℕ → List ℕ → Certificate → FilesFault → Type 0
-IsFilesFault who reliable session object z (Frame fault) =
-    ((left : Option (List ℕ)) × (failed : Bool)
-    × IsRefusedBehind who fault (Some session) left failed object z)
-    × (fault ≡ Io → reliable.session ≡ false)
-IsFilesFault who reliable session object z fault = IsFileFault reliable fault
-
+-- why there is no report: the verdict is no, or there is none
 abbrev pub IsStop : Identity → Reliable → List ℕ → List ℕ → Certificate → Stop → Type 0
 IsStop who reliable session object z (stop.ByReason reason) = (left : Option (List ℕ))
     × IsCheckedFrom who (Some session) left object z (No reason)

@@ -6,13 +6,6 @@ use Rattle.cert.specs.Verdict.{GivesBlock}
 use Rattle.file_check.specs.Blocks.{AreSaid, IsWrong, limit_of}
 use Rattle.file_check.specs.declared.blocks.Wrong.{Wrong}
 
--- a fact of the bytes of three files
-abbrev pub WhereTold : Option (List ℕ) → Option (List ℕ) → Option (List ℕ)
-    → (List ℕ → List ℕ → List ℕ → Type 0) → Type 0
-WhereTold session object certificate Fact =
-    (x o text : List ℕ) → session ≡ Some x → object ≡ Some o → certificate ≡ Some text
-    → Fact x o text
-
 -- a block was compared: with the object, and with the datagrams' symbols, of which this is the
 -- first wrong one so far
 pub record IsCompared (z : Certificate) (o : List ℕ) (t : Tallied) (datagrams : List (List ℕ))

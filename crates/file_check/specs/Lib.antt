@@ -1,4 +1,5 @@
 pub mod Indexed
 pub mod Blocks
+pub mod Files
 pub mod Checked
 pub mod Compared

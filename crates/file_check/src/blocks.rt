@@ -1,5 +1,4 @@
-//! One block of a check: the object's bytes there beside the certificate's symbols, and these beside
-//! the datagrams' symbols.
+//! One block of a check: the object's bytes there beside the certificate's symbols.
 ghost use Rattle.std.specs.Prelude.{◌≡◌, ◌<◌, ◌≤◌, ◌+◌, ◌*◌, ◌⊎◌, ℕ, List, Some, Ok, None, false};
 ghost use Rattle.std.specs.Prelude.{length, IfOk, IfSome, IsNone, OnOk, OnErr};
 ghost use Rattle.partition.specs.Fti.{Fti as FtiValue, block_count, source_count, encoding_count};

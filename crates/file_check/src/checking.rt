@@ -6,13 +6,15 @@ ghost use Rattle.partition.specs.Fti.{Fti as FtiValue, block_count, source_count
 ghost use Rattle.reception.specs.Symbols.{IsObject};
 ghost use Rattle.cert.specs.Certificate.{is_for};
 ghost use Rattle.cert.specs.FromReader.{IsCheckedFrom};
-ghost use Rattle.cert.specs.InFile.{named_in};
+ghost use Rattle.cert.specs.Certificate.{named_in};
 ghost use Rattle.cert.specs.Surveying.{IsSurveyedFrom};
 ghost use Rattle.cert.specs.Tallying.{IsTally, nothing, tallied_of};
 ghost use Rattle.cert.specs.Verdict.{GivesObject};
-ghost use Rattle.file_check.specs.Checked.{IsBlockStop, IsBlocksStop, IsFilesFault, IsStop};
+ghost use Rattle.file_check.specs.Checked.{IsBlockStop, IsBlocksStop, IsStop};
+ghost use Rattle.file_check.specs.Files.{IsFilesFault};
 ghost use Rattle.file_check.specs.Checked.{IsWholeTally};
-ghost use Rattle.file_check.specs.Compared.{AreCompared, IsCompared, WhereTold};
+ghost use Rattle.file_check.specs.Compared.{AreCompared, IsCompared};
+ghost use Rattle.file_check.specs.Files.{WhereTold};
 ghost use Rattle.file_check.specs.Indexed.{IsIndexOf};
 
 use crate::blocks::{Wrong, first_not_given, make_symbols, read_source};
@@ -236,7 +238,8 @@ fn tally_files<S: ReadAt, O: ReadAt, C: ReadAt>(
         (λ x o text. OnOk result
         (is_for identity (Some files.now.certificate.name) ≡ true)
         × OnOk result (IsObject files.now.certificate.fti o)
-        × OnOk result (GivesObject o (named_in text files.now.certificate.fti files.now.certificate.name))) }
+        × OnOk result (GivesObject o
+        (named_in text files.now.certificate.fti files.now.certificate.name))) }
     ensures stop { WhereTold (S.content files.now.session.now)
         (O.content files.now.object.now) (C.content files.now.certificate.file.now)
         (λ x o text. IfErr result (IsStop identity
@@ -270,8 +273,8 @@ fn tally_files<S: ReadAt, O: ReadAt, C: ReadAt>(
 
 /// The check of an identity's packets in a session file, of an object and of a certificate, as
 /// [`cert::check_from`] does it, with the same verdict. Of the files no more is held than a block
-/// and 32 bytes for each datagram of the identity. The session's frames are gone over first, and its
-/// symbols are read again, block by block.
+/// and 32 bytes for each datagram. The session's frames are gone over first, and its symbols are
+/// read again, block by block.
 pub fn check_files<S: ReadAt, O: ReadAt, C: ReadAt>(
     alloc: Global,
     files: &Files<'_, S, O, C>,

@@ -1,5 +1,5 @@
 //! Where the datagrams of a session file stand, and what came in them but for their symbols' bytes.
-ghost use Rattle.std.specs.Prelude.{◌≡◌, ◌++◌, ◌∷◌, [], None, Some, Err, ℕ, List, false, IfOk, IfSome};
+ghost use Rattle.std.specs.Prelude.{◌≡◌, ◌++◌, ◌∷◌, [], None, Some, Err, ℕ, List, IfOk, IfSome};
 ghost use Rattle.partition.specs.Fti.{Fti as FtiValue};
 ghost use Rattle.reception.specs.Step.{IsLook};
 ghost use Rattle.cert.specs.Tallying.{AreTallied, nothing, tallied_of};

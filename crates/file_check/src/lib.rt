@@ -4,9 +4,9 @@
 //! certificate held. Here all three are files that are read at offsets (RFC 5052, section 9.1, has
 //! the blocks):
 //!
-//! - `index`: a pass over the session's frames, up to the first datagram that has a fault before its
-//!   symbol is looked at. Each datagram is counted by `cert::Tally`, and where it stands is kept
-//!   (`specs/Indexed`).
+//! - `index`: a pass over the session's frames, up to the first datagram that has a fault before
+//!   its symbol is looked at. Each datagram is counted by `cert::Tally`, and where it stands is
+//!   kept (`specs/Indexed`).
 //! - `blocks`: one block's rows of coefficients, the symbols that they give, and the object's bytes
 //!   beside them (`specs/Blocks`).
 //! - `members`: the symbols of a block's datagrams, read again where they stand.

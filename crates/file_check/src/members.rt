@@ -1,5 +1,6 @@
 //! A block's symbols in the datagrams of a session file, read again where they stand.
-ghost use Rattle.std.specs.Prelude.{◌≡◌, ◌<◌, ◌≤◌, ◌+◌, ◌*◌, ◌↔◌, IsTrue, ℕ, List, Some, Ok, false, length};
+ghost use Rattle.std.specs.Prelude.{◌≡◌, ◌<◌, ◌≤◌, ◌+◌, ◌*◌, ◌↔◌, IsTrue, ℕ, List, Some, Ok, false};
+ghost use Rattle.std.specs.Prelude.{length};
 ghost use Rattle.std.specs.Prelude.{IfOk, IfSome, OnErr};
 ghost use Rattle.partition.specs.Fti.{Fti as FtiValue, block_count, encoding_count};
 ghost use Rattle.session.specs.Extents.{datagram_in};
@@ -46,7 +47,8 @@ fn wrong_column<S: ReadAt>(
         × (length made.symbols.now ≡ encoding_count f made.block * f.symbol_length) }
     ensures says { (x : List ℕ) (z : CertificateValue) (p : PacketValue)
         → S.content session.old.file.now ≡ Some x → IsCertificate z → scope.now.fti ≡ Some z.fti
-        → AreSymbols z made.entry.block 0 (encoding_count z.fti made.entry.block) made.entry.symbols.now
+        → AreSymbols z made.entry.block 0 (encoding_count z.fti made.entry.block)
+        made.entry.symbols.now
         → extent.offset + extent.length ≤ length x
         → look scope.now (read_of (datagram_in x extent)) ≡ Ok (InRange p)
         → IfOk result (λ o. by_certificate z (symbol_of p) ≡ o) }

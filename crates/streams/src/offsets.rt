@@ -74,8 +74,8 @@ pub fn fill_at<F: ReadAt>(file: &F, offset: u64, buf: &mut [u8]) -> Result<usize
     Ok(at)
 }
 
-/// Whether a file has so many bytes, which are fewer than 2^63. `Failed` never comes from a reliable
-/// file.
+/// Whether a file has so many bytes, which are fewer than 2^63. `Failed` never comes from a
+/// reliable file.
 pub fn has_length<F: ReadAt>(file: &F, len: u64) -> Result<bool, Failed>
     requires { len < 2 ^ 63 }
     ensures told { IfOk result (λ has. IfSome (F.content file.now) (λ x.

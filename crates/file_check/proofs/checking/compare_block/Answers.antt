@@ -3,7 +3,7 @@ use Rattle.std.proofs.Math.Seq.{take-append_seam}
 use Rattle.std.proofs.Math.Nat.{mul-le-mul_right}
 use Rattle.partition.proofs.Laws.{source_encoding}
 use Rattle.cert.specs.Certificate.{IsCertificate}
-use Rattle.cert.specs.InFile.{named_in}
+use Rattle.cert.specs.Certificate.{named_in}
 use Rattle.file_check.proofs.checking.compare_block.Goals as goal
 
 -- what was written into the whole of a vector

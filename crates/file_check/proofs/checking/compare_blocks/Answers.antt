@@ -1,6 +1,6 @@
 use Rattle.std.proofs.Common.{◌≡◌, ◌∙◌, ℕ, subst, arith}
 use Rattle.partition.specs.Fti.{block_count}
-use Rattle.cert.specs.InFile.{named_in}
+use Rattle.cert.specs.Certificate.{named_in}
 use Rattle.cert.specs.Tallying.{tallied_of}
 use Rattle.cert.proofs.DatagramSteps.{passed_on}
 use Rattle.file_check.specs.Compared.{AreCompared}

@@ -1,7 +1,8 @@
 use Rattle.std.proofs.Common.{◌≡◌, List, ℕ, length}
-use Rattle.cert.specs.InFile.{named_in}
+use Rattle.cert.specs.Certificate.{named_in}
 use Rattle.cert.specs.Tallying.{tallied_of}
-use Rattle.file_check.specs.Compared.{AreCompared, WhereTold}
+use Rattle.file_check.specs.Compared.{AreCompared}
+use Rattle.file_check.specs.Files.{WhereTold}
 use Rattle.file_check.specs.Indexed.{IsIndexOf}
 use Rattle.file_check.proofs.checking.compare_blocks.Given as goal
 

@@ -1,6 +1,6 @@
 use Rattle.std.proofs.Common.{◌≡◌, ◌∙◌, None, length, sym}
 use Rattle.reception.specs.Symbols.{IsObject}
-use Rattle.cert.specs.InFile.{named_in}
+use Rattle.cert.specs.Certificate.{named_in}
 use Rattle.cert.specs.Tallying.{nothing, tallied_of}
 use Rattle.cert.specs.declared.verdict.Reason.TheVariants.{OtherCertificate, ObjectLength}
 use Rattle.cert.proofs.DatagramSteps.{fti_holds, passed_on}
