@@ -1,11 +1,11 @@
 //! A certificate with a name in a file, of which nothing is held but what stands in front.
 ghost use Rattle.std.specs.Prelude.{◌≡◌, ◌<◌, ◌+◌, ◌*◌, Some, false, true, length, IfOk, IfErr};
-ghost use Rattle.std.specs.Prelude.{IfSome, OnOk, OnErr, ℕ, List};
+ghost use Rattle.std.specs.Prelude.{IfSome, IsNone, OnOk, OnErr, ℕ, List};
 ghost use Rattle.std.proofs.Props.{props};
 ghost use Rattle.partition.specs.Fti.{IsValidFti, block_count, source_count};
 ghost use Rattle.cert.specs.Certificate.{IsCertFault};
 ghost use Rattle.cert.specs.CoefficientRows.{AreRowsOf};
-ghost use Rattle.cert.specs.InFile.{IsNamed, IsLost};
+ghost use Rattle.cert.specs.InFile.{IsLost, IsNamed, IsUnnamed};
 ghost use Rattle.cert.specs.Certificate.{named_in};
 
 use crate::certificate::{CertFault, coefficients_of};
@@ -30,6 +30,7 @@ impl<'a, C: ReadAt> NamedCertificate<'a, C> {
     /// column then. `Magic`, `Fti` and `Size` tell why the file has none, `Io` that it has failed.
     pub fn open(file: &'a C) -> Result<Option<NamedCertificate<'a, C>>, CertFault>
         ensures file { IfOk result (λ o. IfSome o (λ z. z.file.now ≡ file.now)) }
+        ensures unnamed { IfOk result (λ o. IsNone o → IsUnnamed (C.content file.now)) }
         ensures fault { IfErr result (λ e. IsCertFault e (C.content file.now) true) }
         ensures unsound { IfErr result (λ e.
             e ≡ CertFault.Io → C.reliable file.now ≡ false) }
