@@ -29,7 +29,7 @@ use Rattle.cert.proofs.Judged.{all_passed, first_wrong}
 use Rattle.cert.proofs.Members.{said_by_blocks}
 use Rattle.file_check.specs.Blocks.{limit_of}
 use Rattle.file_check.specs.Checked.{IsBlocksStop, IsStop, IsWholeTally}
-use Rattle.file_check.specs.Files.{Reliable, IsFileFault, IsFilesFault}
+use Rattle.file_check.specs.Files.{Reliable, IsFileFault, IsNoVerdict}
 use Rattle.file_check.specs.Compared.{AreCompared}
 use Rattle.file_check.specs.Indexed.{EndsBy, IsIndexed, IsIndexOf}
 use Rattle.file_check.specs.declared.blocks.Wrong.{Wrong}
@@ -88,11 +88,11 @@ module _ (who : Identity) (x o : List ℕ) (z : Certificate) where
     by_reason (Thin b have need) h = absurd h
     by_reason NoCarrier h = absurd h
 
-    by_fault : (fault : FilesFault) → IsFileFault reliable fault → IsFilesFault who reliable x o z fault
+    by_fault : (fault : FilesFault) → IsFileFault reliable fault → IsNoVerdict who reliable x o z fault
     by_fault (NoFrame e) h = absurd h
     by_fault Session h = h
     by_fault Object h = h
-    by_fault NoCertificate h = h
+    by_fault (NoCertificate e) h = h
     by_fault NoMemory h = h
 
     pub stops : (e : Stop) → IsBlocksStop reliable o z e → IsStop who reliable x o z e

@@ -1,5 +1,5 @@
 -- Why a check of files tells no report.
-use Rattle.std.specs.Prelude.{◌≡◌, ℕ, List, Option, Some}
+use Rattle.std.specs.Prelude.{◌≡◌, ℕ, Bool, List, Option, Some, ⊤}
 use Rattle.std.specs.Io.KnownBytes.{Consumes, IsAtEnd}
 use Rattle.session.specs.Frames.{frames, AreDatagrams}
 use Rattle.reception.specs.declared.scope.Identity.{Identity}
@@ -12,7 +12,7 @@ use Rattle.cert.specs.declared.verdict.Reason.TheVariants.{NotObject}
 use Rattle.cert.specs.declared.verdict.Verdict.TheVariants.{No}
 use Rattle.file_check.specs.declared.checking.Stop.{Stop}
 use Rattle.file_check.specs.declared.checking.Stop.TheVariants as stop
-use Rattle.file_check.specs.Files.{IsFileFault, IsFilesFault, Reliable}
+use Rattle.file_check.specs.Files.{IsCertificateFault, IsFileFault, IsNoVerdict, Reliable}
 
 -- why a block isn't compared to its end: the certificate doesn't give the object there, or a file
 -- has failed
@@ -32,7 +32,12 @@ abbrev pub IsStop : Identity → Reliable → List ℕ → List ℕ → Certific
 IsStop who reliable session object z (stop.ByReason reason) = (left : Option (List ℕ))
     × IsCheckedFrom who (Some session) left object z (No reason)
 IsStop who reliable session object z (stop.ByFault fault) =
-    IsFilesFault who reliable session object z fault
+    IsNoVerdict who reliable session object z fault
+
+-- what is told of the certificate's file where that is why
+abbrev pub IsCertificateStop : Option (List ℕ) → Bool → Stop → Type 0
+IsCertificateStop content reliable (stop.ByReason reason) = ⊤
+IsCertificateStop content reliable (stop.ByFault fault) = IsCertificateFault content reliable fault
 
 -- the tally of all datagrams of a session, each of them as the certificate has it
 pub record IsWholeTally (who : Identity) (session : List ℕ) (z : Certificate)

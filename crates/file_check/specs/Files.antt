@@ -1,9 +1,15 @@
 -- What a check of files tells, where the files' bytes are told.
-use Rattle.std.specs.Prelude.{◌≡◌, ℕ, Bool, false, List, Option, Some, ⊤}
+use Rattle.std.specs.Prelude.{◌≡◌, ℕ, Bool, true, false, List, Option, Some, ⊤}
 use Rattle.session.specs.declared.frame.FrameFault.TheVariants.{Io}
 use Rattle.reception.specs.declared.scope.Identity.{Identity}
-use Rattle.cert.specs.Certificate.{Certificate}
-use Rattle.cert.specs.FromReader.{IsRefusedBehind}
+use Rattle.cert.specs.Certificate.{Certificate, IsCertificate, IsCertFault, certificate_text}
+use Rattle.cert.specs.InFile.{IsLost}
+use Rattle.cert.specs.FromReader.{IsCheckedFrom, IsRefusedBehind}
+use Rattle.cert.specs.Surveying.{IsSurveyedFrom}
+use Rattle.cert.specs.declared.certificate.CertFault.{CertFault}
+use Rattle.cert.specs.declared.certificate.CertFault.TheVariants.{Io as CertificateIo}
+use Rattle.cert.specs.declared.verdict.Survey.{Survey}
+use Rattle.cert.specs.declared.verdict.Verdict.{Verdict}
 use Rattle.file_check.specs.declared.checking.FilesFault.{FilesFault}
 use Rattle.file_check.specs.declared.checking.FilesFault.TheVariants.{Frame, Session, Object}
 use Rattle.file_check.specs.declared.checking.FilesFault.TheVariants.{NoMemory}
@@ -27,13 +33,46 @@ abbrev pub IsFileFault : Reliable → FilesFault → Type 0
 IsFileFault reliable (Frame fault) = ⊥
 IsFileFault reliable Session = reliable.session ≡ false
 IsFileFault reliable Object = reliable.object ≡ false
-IsFileFault reliable NoCertificate = reliable.certificate ≡ false
+IsFileFault reliable (NoCertificate CertificateIo) = reliable.certificate ≡ false
+IsFileFault reliable (NoCertificate fault) = ⊥
 IsFileFault reliable NoMemory = ⊤
 
--- why there is no verdict: no frame follows, or a file has failed
-abbrev pub IsFilesFault : Identity → Reliable → List ℕ → List ℕ → Certificate → FilesFault → Type 0
-IsFilesFault who reliable session object z (Frame fault) =
+-- why there is no verdict by a certificate: no frame follows, or a file has failed
+abbrev pub IsNoVerdict : Identity → Reliable → List ℕ → List ℕ → Certificate → FilesFault → Type 0
+IsNoVerdict who reliable session object z (Frame fault) =
     ((left : Option (List ℕ)) × (failed : Bool)
     × IsRefusedBehind who fault (Some session) left failed object z)
     × (fault ≡ Io → reliable.session ≡ false)
-IsFilesFault who reliable session object z fault = IsFileFault reliable fault
+IsNoVerdict who reliable session object z fault = IsFileFault reliable fault
+
+-- why a file gives no certificate, or none any more
+abbrev pub IsNoCertificate : Option (List ℕ) → Bool → CertFault → Type 0
+IsNoCertificate content reliable fault =
+    IsCertFault fault content true × (fault ≡ CertificateIo → IsLost content reliable)
+
+-- ---- what is told of three files
+
+-- the bytes are a certificate's
+abbrev pub IsTextOf : List ℕ → Certificate → Type 0
+IsTextOf text z = IsCertificate z × (text ≡ certificate_text z)
+
+-- the verdict on a session's bytes, an object and a certificate's text
+abbrev pub IsVerdictIn : Identity → List ℕ → List ℕ → List ℕ → Verdict → Type 0
+IsVerdictIn who session object text verdict = (z : Certificate) × IsTextOf text z
+    × (left : Option (List ℕ)) × IsCheckedFrom who (Some session) left object z verdict
+
+-- the verdict, and at a yes the survey
+abbrev pub IsSurveyIn : Identity → List ℕ → List ℕ → List ℕ → Verdict → Option Survey → Type 0
+IsSurveyIn who session object text verdict survey = (z : Certificate) × IsTextOf text z
+    × (left : Option (List ℕ)) × IsSurveyedFrom who (Some session) left object z verdict survey
+
+-- the fault of a certificate's file
+abbrev pub IsCertificateFault : Option (List ℕ) → Bool → FilesFault → Type 0
+IsCertificateFault content reliable (NoCertificate fault) = IsNoCertificate content reliable fault
+IsCertificateFault content reliable fault = ⊤
+
+-- any other fault: the certificate is there then
+abbrev pub IsFilesFault : Identity → Reliable → List ℕ → List ℕ → List ℕ → FilesFault → Type 0
+IsFilesFault who reliable session object text (NoCertificate fault) = ⊤
+IsFilesFault who reliable session object text fault = (z : Certificate) × IsTextOf text z
+    × IsNoVerdict who reliable session object z fault

@@ -1,38 +1,38 @@
 //! The check of files: their datagrams' headers first, and then block by block the object and the
 //! symbols.
 ghost use Rattle.std.specs.Prelude.{◌≡◌, ◌<◌, ◌*◌, ℕ, List, Option, Some, true, length, OnOk};
-ghost use Rattle.std.specs.Prelude.{IfOk, IfErr};
+ghost use Rattle.std.specs.Prelude.{IfOk, IfErr, IfSome, IsNone};
 ghost use Rattle.partition.specs.Fti.{Fti as FtiValue, block_count, source_count, encoding_count};
 ghost use Rattle.reception.specs.Symbols.{IsObject};
-ghost use Rattle.cert.specs.Certificate.{is_for};
+ghost use Rattle.cert.specs.Certificate.{is_for, named_in};
 ghost use Rattle.cert.specs.FromReader.{IsCheckedFrom};
-ghost use Rattle.cert.specs.Certificate.{named_in};
+ghost use Rattle.cert.specs.InFile.{IsUnnamed};
 ghost use Rattle.cert.specs.Surveying.{IsSurveyedFrom};
 ghost use Rattle.cert.specs.Tallying.{IsTally, nothing, tallied_of};
 ghost use Rattle.cert.specs.Verdict.{GivesObject};
-ghost use Rattle.file_check.specs.Checked.{IsBlockStop, IsBlocksStop, IsStop};
-ghost use Rattle.file_check.specs.Files.{IsFilesFault};
+ghost use Rattle.file_check.specs.Checked.{IsBlockStop, IsBlocksStop, IsCertificateStop, IsStop};
+ghost use Rattle.file_check.specs.Files.{IsCertificateFault, IsFilesFault, IsNoCertificate, IsNoVerdict};
 ghost use Rattle.file_check.specs.Checked.{IsWholeTally};
 ghost use Rattle.file_check.specs.Compared.{AreCompared, IsCompared};
-ghost use Rattle.file_check.specs.Files.{WhereTold};
+ghost use Rattle.file_check.specs.Files.{IsSurveyIn, IsVerdictIn, WhereTold};
 ghost use Rattle.file_check.specs.Indexed.{IsIndexOf};
 
 use crate::blocks::{Wrong, first_not_given, make_symbols, read_source};
 use crate::index::{End, Index, index_session};
 use crate::members::{Made, ROOM, first_wrong};
-use cert::{NamedCertificate, NoReport, Reason, Survey, Tally, Verdict, reason_of};
+use cert::{CertFault, NamedCertificate, NoReport, Reason, Survey, Tally, Verdict, reason_of};
 use partition::Fti;
 use reception::Identity;
 use session::FrameFault;
 use std::alloc::{AllocError, Global};
 use streams::{Ahead, ReadAt, has_length};
 
-/// What is checked: a session file, an object's, and a certificate with a name in a third.
+/// What is checked: a session, an object and a certificate, each in a file that is read at offsets.
 #[derive(Drop)]
 pub struct Files<'a, S: ReadAt, O: ReadAt, C: ReadAt> {
     pub session: &'a S,
     pub object: &'a O,
-    pub certificate: NamedCertificate<'a, C>,
+    pub certificate: &'a C,
 }
 
 /// Why files weren't checked.
@@ -44,10 +44,18 @@ pub enum FilesFault {
     Session,
     /// The object's file has failed, or has changed.
     Object,
-    /// The certificate's file has failed, or has changed.
-    Certificate,
+    /// The certificate's file holds none, or has failed or changed, which is `Io`.
+    Certificate(CertFault),
     /// There is no memory for the check.
     NoMemory,
+}
+
+// What is checked where the certificate has a name.
+#[derive(Drop)]
+struct NamedFiles<'a, S: ReadAt, O: ReadAt, C: ReadAt> {
+    session: &'a S,
+    object: &'a O,
+    certificate: NamedCertificate<'a, C>,
 }
 
 /// Why there is no tally of all datagrams.
@@ -66,16 +74,6 @@ impl From<AllocError> for Stop {
 
     fn from(_: AllocError) -> Self {
         Stop::ByFault(FilesFault::NoMemory)
-    }
-}
-
-impl From<FilesFault> for Stop {
-    ghost use Rattle.file_check.specs.declared.checking.Stop.TheVariants as stop;
-
-    ghost from_gives = { λ fault e. e ≡ stop.ByFault fault };
-
-    fn from(fault: FilesFault) -> Self {
-        Stop::ByFault(fault)
     }
 }
 
@@ -122,7 +120,7 @@ impl Buffers {
 // symbol of this block and of those before it, of which it is known. The first reason of a block is
 // that its polynomials don't give the object.
 fn compare_block<S: ReadAt, O: ReadAt, C: ReadAt>(
-    files: &Files<'_, S, O, C>,
+    files: &NamedFiles<'_, S, O, C>,
     index: &Index,
     session: &mut Ahead<'_, S>,
     buffers: &mut Buffers,
@@ -151,12 +149,14 @@ fn compare_block<S: ReadAt, O: ReadAt, C: ReadAt>(
           object = O.reliable files.now.object.now;
           certificate = C.reliable files.now.certificate.file.now;
         }) o (named_in text files.now.certificate.fti files.now.certificate.name) block)) }
+    ensures lost { IfErr result (IsCertificateStop
+        (C.content files.now.certificate.file.now) (C.reliable files.now.certificate.file.now)) }
     ensures file { session.new.file.now ≡ session.old.file.now }
 {
     let fti = files.certificate.fti;
     buffers.resize(&fti, block)?;
     let Ok(()) = files.certificate.read_rows(block, &mut buffers.rows) else {
-        return Err(Stop::ByFault(FilesFault::Certificate));
+        return Err(Stop::ByFault(FilesFault::Certificate(CertFault::Io)));
     };
     make_symbols(&fti, block, &buffers.rows, &mut buffers.symbols);
     let Ok(()) = read_source(files.object, &fti, block, &mut buffers.source) else {
@@ -188,7 +188,7 @@ fn compare_block<S: ReadAt, O: ReadAt, C: ReadAt>(
 // symbol, or the first source point that the polynomials don't give.
 fn compare_blocks<S: ReadAt, O: ReadAt, C: ReadAt>(
     alloc: Global,
-    files: &Files<'_, S, O, C>,
+    files: &NamedFiles<'_, S, O, C>,
     index: &Index,
 ) -> Result<Option<Wrong>, Stop>
     requires groups { length index.now.tally.groups.items
@@ -211,6 +211,8 @@ fn compare_blocks<S: ReadAt, O: ReadAt, C: ReadAt>(
           object = O.reliable files.now.object.now;
           certificate = C.reliable files.now.certificate.file.now;
         }) o (named_in text files.now.certificate.fti files.now.certificate.name))) }
+    ensures lost { IfErr result (IsCertificateStop
+        (C.content files.now.certificate.file.now) (C.reliable files.now.certificate.file.now)) }
 {
     let fti = files.certificate.fti;
     let mut buffers = Buffers::new(alloc);
@@ -226,7 +228,7 @@ fn compare_blocks<S: ReadAt, O: ReadAt, C: ReadAt>(
 // gives the object.
 fn tally_files<S: ReadAt, O: ReadAt, C: ReadAt>(
     alloc: Global,
-    files: &Files<'_, S, O, C>,
+    files: &NamedFiles<'_, S, O, C>,
     identity: Identity,
 ) -> Result<Tally, Stop>
     ensures tally { WhereTold (S.content files.now.session.now)
@@ -248,6 +250,8 @@ fn tally_files<S: ReadAt, O: ReadAt, C: ReadAt>(
           object = O.reliable files.now.object.now;
           certificate = C.reliable files.now.certificate.file.now;
         }) x o (named_in text files.now.certificate.fti files.now.certificate.name))) }
+    ensures lost { IfErr result (IsCertificateStop
+        (C.content files.now.certificate.file.now) (C.reliable files.now.certificate.file.now)) }
     ensures some { IfOk result (λ tally. (f : FtiValue) × (ds : List (List ℕ))
         × IsTally nothing f tally ds) }
 {
@@ -271,13 +275,10 @@ fn tally_files<S: ReadAt, O: ReadAt, C: ReadAt>(
     }
 }
 
-/// The check of an identity's packets in a session file, of an object and of a certificate, as
-/// [`cert::check_from`] does it, with the same verdict. Of the files no more is held than a block
-/// and 32 bytes for each datagram. The session's frames are gone over first, and its symbols are
-/// read again, block by block.
-pub fn check_files<S: ReadAt, O: ReadAt, C: ReadAt>(
+// The check of files whose certificate has a name.
+fn check_named<S: ReadAt, O: ReadAt, C: ReadAt>(
     alloc: Global,
-    files: &Files<'_, S, O, C>,
+    files: &NamedFiles<'_, S, O, C>,
     identity: Identity,
 ) -> Result<Verdict, FilesFault>
     ensures verdict { WhereTold (S.content files.now.session.now)
@@ -287,12 +288,14 @@ pub fn check_files<S: ReadAt, O: ReadAt, C: ReadAt>(
         (named_in text files.now.certificate.fti files.now.certificate.name) v)) }
     ensures fault { WhereTold (S.content files.now.session.now)
         (O.content files.now.object.now) (C.content files.now.certificate.file.now)
-        (λ x o text. IfErr result (IsFilesFault identity
+        (λ x o text. IfErr result (IsNoVerdict identity
         (record {
           session = S.reliable files.now.session.now;
           object = O.reliable files.now.object.now;
           certificate = C.reliable files.now.certificate.file.now;
         }) x o (named_in text files.now.certificate.fti files.now.certificate.name))) }
+    ensures certificate { IfErr result (IsCertificateFault
+        (C.content files.now.certificate.file.now) (C.reliable files.now.certificate.file.now)) }
 {
     let tally = match tally_files(alloc, files, identity) {
         Ok(tally) => tally,
@@ -306,11 +309,10 @@ pub fn check_files<S: ReadAt, O: ReadAt, C: ReadAt>(
     }
 }
 
-/// The check as [`check_files`] does it, and at a yes, and only there, what a picture shows beside
-/// the report.
-pub fn survey_files<S: ReadAt, O: ReadAt, C: ReadAt>(
+// The check as [`check_named`] does it, and at a yes what a picture shows beside the report.
+fn survey_named<S: ReadAt, O: ReadAt, C: ReadAt>(
     alloc: Global,
-    files: &Files<'_, S, O, C>,
+    files: &NamedFiles<'_, S, O, C>,
     identity: Identity,
 ) -> Result<(Verdict, Option<Survey>), FilesFault>
     ensures verdict { WhereTold (S.content files.now.session.now)
@@ -320,12 +322,14 @@ pub fn survey_files<S: ReadAt, O: ReadAt, C: ReadAt>(
         (named_in text files.now.certificate.fti files.now.certificate.name) r.0 r.1)) }
     ensures fault { WhereTold (S.content files.now.session.now)
         (O.content files.now.object.now) (C.content files.now.certificate.file.now)
-        (λ x o text. IfErr result (IsFilesFault identity
+        (λ x o text. IfErr result (IsNoVerdict identity
         (record {
           session = S.reliable files.now.session.now;
           object = O.reliable files.now.object.now;
           certificate = C.reliable files.now.certificate.file.now;
         }) x o (named_in text files.now.certificate.fti files.now.certificate.name))) }
+    ensures certificate { IfErr result (IsCertificateFault
+        (C.content files.now.certificate.file.now) (C.reliable files.now.certificate.file.now)) }
 {
     let tally = match tally_files(alloc, files, identity) {
         Ok(tally) => tally,
@@ -336,5 +340,92 @@ pub fn survey_files<S: ReadAt, O: ReadAt, C: ReadAt>(
         Ok((report, survey)) => Ok((Verdict::Yes(report), Some(survey))),
         Err(NoReport::Reason(reason)) => Ok((Verdict::No(reason), None)),
         Err(NoReport::NoMemory) => Err(FilesFault::NoMemory),
+    }
+}
+
+// The files, where the certificate has a name.
+fn named<'a, S: ReadAt, O: ReadAt, C: ReadAt>(
+    files: &Files<'a, S, O, C>,
+) -> Result<Option<NamedFiles<'a, S, O, C>>, CertFault>
+    ensures session { IfOk result (λ r. IfSome r (λ named.
+        named.session.now ≡ files.now.session.now)) }
+    ensures object { IfOk result (λ r. IfSome r (λ named.
+        named.object.now ≡ files.now.object.now)) }
+    ensures certificate { IfOk result (λ r. IfSome r (λ named.
+        named.certificate.file.now ≡ files.now.certificate.now)) }
+    ensures unnamed { IfOk result (λ r. IsNone r → IsUnnamed (C.content files.now.certificate.now)) }
+    ensures fault { IfErr result (IsNoCertificate (C.content files.now.certificate.now)
+        (C.reliable files.now.certificate.now)) }
+{
+    match NamedCertificate::open(files.certificate) {
+        Ok(Some(certificate)) => Ok(Some(NamedFiles {
+            session: files.session,
+            object: files.object,
+            certificate,
+        })),
+        Ok(None) => Ok(None),
+        Err(fault) => Err(fault),
+    }
+}
+
+/// The check of an identity's packets in a session file, of an object and of a certificate, as
+/// [`cert::check_from`] does it, with the same verdict. `None` where the certificate has no name:
+/// its coefficients stand column by column then. Of the files no more is held than a block and 32
+/// bytes for each datagram. The session's frames are gone over first, and its symbols are read
+/// again, block by block.
+pub fn check_files<S: ReadAt, O: ReadAt, C: ReadAt>(
+    alloc: Global,
+    files: &Files<'_, S, O, C>,
+    identity: Identity,
+) -> Result<Option<Verdict>, FilesFault>
+    ensures verdict { WhereTold (S.content files.now.session.now)
+        (O.content files.now.object.now) (C.content files.now.certificate.now)
+        (λ x o text. IfOk result (λ r. IfSome r (IsVerdictIn identity x o text))) }
+    ensures unnamed { IfOk result (λ r. IsNone r → IsUnnamed (C.content files.now.certificate.now)) }
+    ensures certificate { IfErr result (IsCertificateFault (C.content files.now.certificate.now)
+        (C.reliable files.now.certificate.now)) }
+    ensures fault { WhereTold (S.content files.now.session.now)
+        (O.content files.now.object.now) (C.content files.now.certificate.now)
+        (λ x o text. IfErr result (IsFilesFault identity
+        (record {
+          session = S.reliable files.now.session.now;
+          object = O.reliable files.now.object.now;
+          certificate = C.reliable files.now.certificate.now;
+        }) x o text)) }
+{
+    match named(files) {
+        Ok(Some(named)) => Ok(Some(check_named(alloc, &named, identity)?)),
+        Ok(None) => Ok(None),
+        Err(fault) => Err(FilesFault::Certificate(fault)),
+    }
+}
+
+/// The check as [`check_files`] does it, and at a yes, and only there, what a picture shows beside
+/// the report.
+pub fn survey_files<S: ReadAt, O: ReadAt, C: ReadAt>(
+    alloc: Global,
+    files: &Files<'_, S, O, C>,
+    identity: Identity,
+) -> Result<Option<(Verdict, Option<Survey>)>, FilesFault>
+    ensures verdict { WhereTold (S.content files.now.session.now)
+        (O.content files.now.object.now) (C.content files.now.certificate.now)
+        (λ x o text. IfOk result (λ r. IfSome r (λ found.
+        IsSurveyIn identity x o text found.0 found.1))) }
+    ensures unnamed { IfOk result (λ r. IsNone r → IsUnnamed (C.content files.now.certificate.now)) }
+    ensures certificate { IfErr result (IsCertificateFault (C.content files.now.certificate.now)
+        (C.reliable files.now.certificate.now)) }
+    ensures fault { WhereTold (S.content files.now.session.now)
+        (O.content files.now.object.now) (C.content files.now.certificate.now)
+        (λ x o text. IfErr result (IsFilesFault identity
+        (record {
+          session = S.reliable files.now.session.now;
+          object = O.reliable files.now.object.now;
+          certificate = C.reliable files.now.certificate.now;
+        }) x o text)) }
+{
+    match named(files) {
+        Ok(Some(named)) => Ok(Some(survey_named(alloc, &named, identity)?)),
+        Ok(None) => Ok(None),
+        Err(fault) => Err(FilesFault::Certificate(fault)),
     }
 }
