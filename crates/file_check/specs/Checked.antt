@@ -1,12 +1,13 @@
 -- Why a check of files tells no report.
 use Rattle.std.specs.Prelude.{◌≡◌, ℕ, Bool, List, Option, Some, ⊤}
 use Rattle.std.specs.Io.KnownBytes.{Consumes, IsAtEnd}
+use Rattle.partition.specs.Fti.{Fti}
 use Rattle.session.specs.Frames.{frames, AreDatagrams}
 use Rattle.reception.specs.declared.scope.Identity.{Identity}
 use Rattle.cert.specs.Certificate.{Certificate}
 use Rattle.cert.specs.FromReader.{IsCheckedFrom}
 use Rattle.cert.specs.NotGiven.{IsFirstInBlock, IsNotGiven}
-use Rattle.cert.specs.Tallying.{IsTally, by_certificate}
+use Rattle.cert.specs.Tallying.{IsTally, by_certificate, nothing}
 use Rattle.cert.specs.declared.tally.Tally.{Tally}
 use Rattle.cert.specs.declared.verdict.Reason.TheVariants.{NotObject}
 use Rattle.cert.specs.declared.verdict.Verdict.TheVariants.{No}
@@ -49,3 +50,10 @@ pub record IsWholeTally (who : Identity) (session : List ℕ) (z : Certificate)
   pub end : IsAtEnd left
   pub identity : tally.scope.identity ≡ who
   pub tallied : IsTally (by_certificate z) z.fti tally datagrams
+
+-- the tally of some datagrams, whatever their symbols hold
+pub record IsSomeTally (who : Identity) (f : Fti) (tally : Tally) : Type 0 where
+  pub datagrams : List (List ℕ)
+  pub each : AreDatagrams datagrams
+  pub identity : tally.scope.identity ≡ who
+  pub tallied : IsTally nothing f tally datagrams

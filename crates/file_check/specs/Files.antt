@@ -1,13 +1,16 @@
 -- What a check of files tells, where the files' bytes are told.
 use Rattle.std.specs.Prelude.{◌≡◌, ℕ, Bool, true, false, List, Option, Some, ⊤}
+use Rattle.partition.specs.Fti.{Fti, IsValidFti}
 use Rattle.session.specs.declared.frame.FrameFault.TheVariants.{Io}
 use Rattle.reception.specs.declared.scope.Identity.{Identity}
 use Rattle.cert.specs.Certificate.{Certificate, IsCertificate, IsCertFault, certificate_text}
 use Rattle.cert.specs.InFile.{IsLost}
 use Rattle.cert.specs.FromReader.{IsCheckedFrom, IsRefusedBehind}
-use Rattle.cert.specs.Surveying.{IsSurveyedFrom}
+use Rattle.cert.specs.Report.{IsReport}
+use Rattle.cert.specs.Surveying.{IsSurvey, IsSurveyedFrom}
 use Rattle.cert.specs.declared.certificate.CertFault.{CertFault}
 use Rattle.cert.specs.declared.certificate.CertFault.TheVariants.{Io as CertificateIo}
+use Rattle.cert.specs.declared.verdict.Report.{Report}
 use Rattle.cert.specs.declared.verdict.Survey.{Survey}
 use Rattle.cert.specs.declared.verdict.Verdict.{Verdict}
 use Rattle.file_check.specs.declared.checking.FilesFault.{FilesFault}
@@ -65,6 +68,11 @@ IsVerdictIn who session object text verdict = (z : Certificate) × IsTextOf text
 abbrev pub IsSurveyIn : Identity → List ℕ → List ℕ → List ℕ → Verdict → Option Survey → Type 0
 IsSurveyIn who session object text verdict survey = (z : Certificate) × IsTextOf text z
     × (left : Option (List ℕ)) × IsSurveyedFrom who (Some session) left object z verdict survey
+
+-- report and survey are those of some datagrams, whatever the files tell
+abbrev pub IsSurveyOfSome : Identity → Report → Survey → Type 0
+IsSurveyOfSome who report survey = (datagrams : List (List ℕ)) × (f : Fti) × IsValidFti f
+    × IsReport who datagrams f report × IsSurvey who datagrams f report survey
 
 -- the fault of a certificate's file
 abbrev pub IsCertificateFault : Option (List ℕ) → Bool → FilesFault → Type 0

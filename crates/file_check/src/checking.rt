@@ -7,14 +7,14 @@ ghost use Rattle.reception.specs.Symbols.{IsObject};
 ghost use Rattle.cert.specs.Certificate.{is_for, named_in};
 ghost use Rattle.cert.specs.FromReader.{IsCheckedFrom};
 ghost use Rattle.cert.specs.InFile.{IsUnnamed};
-ghost use Rattle.cert.specs.Surveying.{IsSurveyedFrom};
-ghost use Rattle.cert.specs.Tallying.{IsTally, nothing, tallied_of};
+ghost use Rattle.cert.specs.Surveying.{IsSurveyedFrom, OnYesWith};
+ghost use Rattle.cert.specs.Tallying.{tallied_of};
 ghost use Rattle.cert.specs.Verdict.{GivesObject};
 ghost use Rattle.file_check.specs.Checked.{IsBlockStop, IsBlocksStop, IsCertificateStop, IsStop};
 ghost use Rattle.file_check.specs.Files.{IsCertificateFault, IsFilesFault, IsNoCertificate, IsNoVerdict};
-ghost use Rattle.file_check.specs.Checked.{IsWholeTally};
+ghost use Rattle.file_check.specs.Checked.{IsSomeTally, IsWholeTally};
 ghost use Rattle.file_check.specs.Compared.{AreCompared, IsCompared};
-ghost use Rattle.file_check.specs.Files.{IsSurveyIn, IsVerdictIn, WhereTold};
+ghost use Rattle.file_check.specs.Files.{IsSurveyIn, IsSurveyOfSome, IsVerdictIn, WhereTold};
 ghost use Rattle.file_check.specs.Indexed.{IsIndexOf};
 
 use crate::blocks::{Wrong, first_not_given, make_symbols, read_source};
@@ -252,8 +252,7 @@ fn tally_files<S: ReadAt, O: ReadAt, C: ReadAt>(
         }) x o (named_in text files.now.certificate.fti files.now.certificate.name))) }
     ensures lost { IfErr result (IsCertificateStop
         (C.content files.now.certificate.file.now) (C.reliable files.now.certificate.file.now)) }
-    ensures some { IfOk result (λ tally. (f : FtiValue) × (ds : List (List ℕ))
-        × IsTally nothing f tally ds) }
+    ensures some { IfOk result (IsSomeTally identity files.now.certificate.fti) }
 {
     let fti = files.certificate.fti;
     if files.certificate.name != identity {
@@ -328,6 +327,7 @@ fn survey_named<S: ReadAt, O: ReadAt, C: ReadAt>(
           object = O.reliable files.now.object.now;
           certificate = C.reliable files.now.certificate.file.now;
         }) x o (named_in text files.now.certificate.fti files.now.certificate.name))) }
+    ensures some { IfOk result (λ r. OnYesWith r.0 r.1 (IsSurveyOfSome identity)) }
     ensures certificate { IfErr result (IsCertificateFault
         (C.content files.now.certificate.file.now) (C.reliable files.now.certificate.file.now)) }
 {
@@ -411,6 +411,8 @@ pub fn survey_files<S: ReadAt, O: ReadAt, C: ReadAt>(
         (O.content files.now.object.now) (C.content files.now.certificate.now)
         (λ x o text. IfOk result (λ r. IfSome r (λ found.
         IsSurveyIn identity x o text found.0 found.1))) }
+    ensures some { IfOk result (λ r. IfSome r (λ found.
+        OnYesWith found.0 found.1 (IsSurveyOfSome identity))) }
     ensures unnamed { IfOk result (λ r. IsNone r → IsUnnamed (C.content files.now.certificate.now)) }
     ensures certificate { IfErr result (IsCertificateFault (C.content files.now.certificate.now)
         (C.reliable files.now.certificate.now)) }
