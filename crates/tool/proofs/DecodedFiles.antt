@@ -1,8 +1,8 @@
 -- A session file that was decoded where it stands, by its parts.
-use Rattle.std.proofs.Common.{◌≡◌, ◌⊎◌, ◌∙◌, ℕ, Bool, false, List, [], ◌∷◌, Option, Some, None, Result, Err, inl, inr, refl, sym, ap, subst, length, codes}
+use Rattle.std.proofs.Common.{◌≡◌, ◌∙◌, ℕ, Bool, List, [], ◌∷◌, Option, Some, None, Result, Err, inl, refl, sym, ap, subst, length, codes}
 use Rattle.std.specs.Prelude.{IfErr, IfSome}
 use Rattle.std.specs.Borrow.{Bor}
-use Rattle.session.specs.Frames.{IsFramed, StopsAt}
+use Rattle.session.specs.Frames.{StopsAt}
 use Rattle.session.specs.declared.frame.FrameFault.{FrameFault}
 use Rattle.session.specs.declared.frame.FrameFault.TheVariants as frame_fault
 use Rattle.reception.specs.Answer as value
@@ -23,10 +23,10 @@ use Rattle.tool.proofs.Stopping.{kept_whole}
 use Rattle.decoder.specs.declared.answer.Answer.{Answer}
 use Rattle.request.specs.declared.requests.DecodeRequest.{DecodeRequest}
 use Rattle.request.specs.declared.requests.Request.TheVariants.{Decode}
-use Rattle.host.specs.World.{Files, GivesFile, Holds, IsFree, MayFail, World, Replaces, one_more}
+use Rattle.host.specs.World.{Files, GivesFile, Holds, IsFree, World, Replaces, one_more}
 use Rattle.tool.specs.Inputs.{ASession, Opened, HasValue, IsUnread}
 use Rattle.tool.specs.Lines.{line_of, count_line, answer_text}
-use Rattle.tool.specs.Commands.{answer_status, object_of, IsAnswerIn}
+use Rattle.tool.specs.Commands.{answer_status, IsAnswerIn}
 use Rattle.tool.specs.Outcomes.{MayCreate, IsBecause}
 use Rattle.tool.specs.Doing.{text_of, HasMade}
 use Rattle.tool.specs.Decoding.{IsToldOf, IsWriteBrokenFrom}

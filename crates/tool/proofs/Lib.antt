@@ -10,6 +10,7 @@ mod Joins
 mod Conversions
 mod Decoded
 mod DecodedFiles
+mod CheckedFiles
 mod Dropped
 mod Followed
 mod Delivered

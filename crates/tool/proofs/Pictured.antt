@@ -1,5 +1,5 @@
 -- What came of a check, by what was told of it.
-use Rattle.std.proofs.Common.{◌≡◌, ℕ, Bool, true, false, List, [], ◌∷◌, Option, Some, None, Bor, option_map, length, ap, refl, sym, subst, arith}
+use Rattle.std.proofs.Common.{◌≡◌, inl, inr, ℕ, Bool, true, false, List, [], ◌∷◌, Option, Some, None, Result, Ok, Err, Bor, option_map, length, ap, refl, sym, subst, arith}
 use Rattle.std.proofs.lemmas.List.{length-map}
 use Rattle.lists.specs.Below.{below}
 use Rattle.lists.proofs.Below.{length_below}
@@ -19,13 +19,18 @@ use Rattle.request.specs.declared.requests.Request.TheVariants.{Check}
 use Rattle.tool.specs.declared.done.Done.{Done}
 use Rattle.tool.specs.declared.drawing.Drawn.{Drawn}
 use Rattle.request.specs.declared.requests.Output.{Output}
-use Rattle.host.specs.World.{World, IsFree, Replaces, one_more}
-use Rattle.tool.specs.Inputs.{Value, Opened, Bytes, Polynomials}
-use Rattle.tool.specs.Commands.{Outcome, Gives, IsDrawn, TellsVerdict, output_of}
+use Rattle.host.specs.World.{Files, World, IsFree, Replaces, one_more}
+use Rattle.tool.specs.Inputs.{Value, Opened, Bytes, HaveValues, Polynomials}
+use Rattle.tool.specs.Lines.{verdict_text}
+use Rattle.tool.specs.declared.check.Answered.{Answered}
+use Rattle.tool.specs.Commands.{Outcome, Gives, IsDrawn, TellsVerdict, inputs_of, output_of, status_of}
 use Rattle.tool.specs.Outcomes.{IsOutput, MayCreate}
 use Rattle.tool.specs.Doing.{text_of, HasMade}
 use Rattle.tool.specs.Drawing.{HasDrawn, IsSurveyed}
-use Rattle.tool.specs.Checks.{TellsRequest}
+use Rattle.file_check.specs.Files.{IsSurveyIn, IsVerdictIn}
+use Rattle.std.specs.Prelude.{IfOk}
+use Rattle.tool.specs.declared.fault.Fault.{Fault}
+use Rattle.tool.specs.Checks.{OfFiles, TellsCheck, TellsRequest}
 use Rattle.tool.specs.Summing.{CanBeSummed, IsTextOf}
 
 -- at a yes there is a survey
@@ -75,36 +80,53 @@ no_output : (old new : World) (name : Option Output) → new.files ≡ old.files
 no_output old new None files created = (files, created)
 no_output old new (Some name) files created = (files, created)
 
+-- the values that the files give, and what they give of a request
+abbrev values : (files : Option Files) (r : CheckRequest) (answered : Answered) → TellsRequest files r answered → List Value
+values files r answered (inl told) = Opened told.opened ∷ Bytes told.object ∷ Polynomials told.z ∷ []
+values files r answered (inr some) = Opened None ∷ Opened None ∷ Opened None ∷ []
+
+have_values : (files : Option Files) (r : CheckRequest) (answered : Answered) (told : TellsRequest files r answered) → HaveValues files (inputs_of (Check r)) (values files r answered told)
+have_values files r answered (inl told) = told.read
+have_values None r answered (inr (none, some)) = (tt, ((refl, refl), ((refl, refl), tt)))
+have_values (Some held) r answered (inr (none, some)) = absurd (cc)
+
+-- the verdict that is told
+abbrev verdict_of : (files : Option Files) (r : CheckRequest) (answered : Answered) → TellsRequest files r answered → Verdict
+verdict_of files r answered (inl told) = told.tells.verdict
+verdict_of files r answered (inr some) = some.1.verdict
+
+drawn_of : (files : Option Files) (r : CheckRequest) (answered : Answered) (told : TellsRequest files r answered) → HasDrawn r.picture (verdict_of files r answered told) answered.picture
+drawn_of files r answered (inl told) = told.tells.picture
+drawn_of files r answered (inr some) = some.1.picture
+
+given : (files : Option Files) (r : CheckRequest) (answered : Answered) (told : TellsRequest files r answered) (output : Option (List ℕ)) → IsDrawn r.picture (verdict_of files r answered told) output
+    → Gives (Check r) (values files r answered told) (record { text = text_of answered.done.told; status = answered.done.status; output = output })
+given files r answered (inl told) output is = (told.tells.verdict, told.left, told.tells.checked, told.tells.text, told.tells.status, is)
+given files r answered (inr some) output is = (some.1.verdict, some.1.text, some.1.status, is)
+
 module _ (old new : World) (r : CheckRequest) (done : Done) (drawn : Drawn) (tells : TellsRequest old.files r (record { done = done; picture = Some drawn })) where
+  abbrev answered : Answered
+  answered = record { done = done; picture = Some drawn }
+
   abbrev outcome : List ℕ → Outcome
   outcome bytes = record { text = text_of done.told; status = done.status; output = Some bytes }
 
-  abbrev values : List Value
-  values = Opened tells.opened ∷ Bytes tells.object ∷ Polynomials tells.z ∷ []
-
   pub named : output_of (Check r) ≡ Some (output_named r.no_clobber drawn.name)
-  named = (asked r.picture r.no_clobber tells.tells.verdict drawn tells.tells.picture).0
+  named = (asked r.picture r.no_clobber (verdict_of old.files r answered tells) drawn (drawn_of old.files r answered tells)).0
 
-  gives : (bytes : List ℕ) → Gives (Check r) values (outcome bytes)
-  gives bytes = (
-    tells.tells.verdict,
-    tells.left,
-    tells.tells.checked,
-    tells.tells.text,
-    tells.tells.status,
-    (asked r.picture r.no_clobber tells.tells.verdict drawn tells.tells.picture).1 bytes,
-  )
+  gives : (bytes : List ℕ) → Gives (Check r) (values old.files r answered tells) (outcome bytes)
+  gives bytes = given old.files r answered tells (Some bytes) ((asked r.picture r.no_clobber (verdict_of old.files r answered tells) drawn (drawn_of old.files r answered tells)).1 bytes)
 
   pub may_draw : MayCreate old.files (Check r)
-  may_draw = (values, outcome [], [], tells.read, gives [], refl)
+  may_draw = (values old.files r answered tells, outcome [], [], have_values old.files r answered tells, gives [], refl)
 
   pub pictured : (bytes : List ℕ) → Replaces old.files new.files drawn.name.now bytes → new.created ≡ one_more old.created → IsFree old.files drawn.name.now r.no_clobber → new.printed ≡ old.printed
       → HasMade old new (Check r) done
   pictured bytes replaced created free silent = record {
     outcome = outcome bytes;
     makes = record {
-      values = values;
-      read = tells.read;
+      values = values old.files r answered tells;
+      read = have_values old.files r answered tells;
       gives = gives bytes;
       made = subst (λ (n : Option Output). IsOutput old new n (Some bytes)) (sym named) (replaced, created, free);
     };
@@ -115,22 +137,74 @@ module _ (old new : World) (r : CheckRequest) (done : Done) (drawn : Drawn) (tel
 
 -- without a picture
 pub unpictured : (w : World) (r : CheckRequest) (done : Done) → TellsRequest w.files r (record { done = done; picture = None }) → HasMade w w (Check r) done
-unpictured w r done tells = record {
-  outcome = record { text = text_of done.told; status = done.status; output = None };
-  makes = record {
-    values = Opened tells.opened ∷ Bytes tells.object ∷ Polynomials tells.z ∷ [];
-    read = tells.read;
-    gives = (
-      tells.tells.verdict,
-      tells.left,
-      tells.tells.checked,
-      tells.tells.text,
-      tells.tells.status,
-      undrawn r.picture tells.tells.verdict tells.tells.picture,
-    );
-    made = no_output w w (output_of (Check r)) refl refl;
-  };
-  text = refl;
-  status = refl;
-  silent = refl;
-}
+unpictured w r done tells =
+    let answered : Answered = record { done = done; picture = None } in
+    record {
+      outcome = record { text = text_of done.told; status = done.status; output = None };
+      makes = record {
+        values = values w.files r answered tells;
+        read = have_values w.files r answered tells;
+        gives = given w.files r answered tells None (undrawn r.picture (verdict_of w.files r answered tells) (drawn_of w.files r answered tells));
+        made = no_output w w (output_of (Check r)) refl refl;
+      };
+      text = refl;
+      status = refl;
+      silent = refl;
+    }
+
+-- what is told of a verdict on files that stand where they are
+pub told_alone : (files : Option Files) (r : CheckRequest) (verdict : Verdict) (done : Done) → OfFiles files r (λ x o text. IsVerdictIn r.identity x o text verdict) → r.picture ≡ None → r.summary ≡ false
+    → text_of done.told ≡ verdict_text verdict → done.status ≡ status_of verdict → TellsRequest files r (record { done = done; picture = None })
+told_alone None r verdict done is plain short text status =
+    inr (refl, record { verdict = verdict; text = (rw short text); status = status; picture = (rw plain refl) })
+told_alone (Some held) r verdict done (session, object, certificate, at_session, at_object, at_certificate, (z, is_text, left, checked)) plain short text status =
+    inl (record {
+      opened = Some session;
+      left = left;
+      object = object;
+      z = z;
+      read = ((session, at_session, refl), ((object, at_object, refl), ((is_text.0, (certificate, at_certificate, is_text.1)), tt)));
+      tells = record { verdict = verdict; checked = checked; text = (rw short text); status = status; picture = (rw plain refl) };
+    })
+
+-- a survey is there, whatever is told of it
+surveyed_somehow : (verdict : Verdict) (survey : Option Survey) (P : Report → Survey → Type 0) → OnYesWith verdict survey P → OnYesWith verdict survey (λ report s. Unit {0})
+surveyed_somehow (Yes report) (Some survey) P h = tt
+surveyed_somehow (Yes report) None P h = h
+surveyed_somehow (No reason) (Some survey) P h = h
+surveyed_somehow (No reason) None P h = tt
+
+-- and of one with its survey
+pub told_surveyed : (files : Option Files) (r : CheckRequest) (verdict : Verdict) (survey : Option Survey) (answered : Answered) → OfFiles files r (λ x o text. IsSurveyIn r.identity x o text verdict survey)
+    → OnYesWith verdict survey CanBeSummed → IsTextOf r.summary verdict survey (text_of answered.done.told) → answered.done.status ≡ status_of verdict → HasDrawn r.picture verdict answered.picture
+    → TellsRequest files r answered
+told_surveyed None r verdict survey answered is some text status picture =
+    inr (refl, record { verdict = verdict; text = tells_verdict r.summary verdict survey _ (λ report s. Unit {0}) (surveyed_somehow verdict survey CanBeSummed some) text; status = status; picture = picture })
+told_surveyed (Some held) r verdict survey answered (session, object, certificate, at_session, at_object, at_certificate, (z, is_text, left, surveyed)) some text status picture =
+    inl (record {
+      opened = Some session;
+      left = left;
+      object = object;
+      z = z;
+      read = ((session, at_session, refl), ((object, at_object, refl), ((is_text.0, (certificate, at_certificate, is_text.1)), tt)));
+      tells = record {
+        verdict = verdict;
+        checked = surveyed.checked;
+        text = tells_verdict r.summary verdict survey _ _ surveyed.surveyed text;
+        status = status;
+        picture = picture;
+      };
+    })
+
+-- there is a survey where one can be summed up
+pub is_surveyed : (found : Verdict × Option Survey) → OnYesWith found.0 found.1 CanBeSummed → IsSurveyed found.0 found.1
+is_surveyed (Yes report, Some survey) h = tt
+is_surveyed (Yes report, None) h = absurd h
+is_surveyed (No reason, survey) h = tt
+
+-- what is told of what is held
+pub held_told : (files : Option Files) (r : CheckRequest) (opened left : Option (List ℕ)) (object : List ℕ) (z : Certificate)
+    → HaveValues files (inputs_of (Check r)) (Opened opened ∷ Bytes object ∷ Polynomials z ∷ []) → (result : Result Answered Fault) → IfOk result (TellsCheck r opened left object z)
+    → IfOk result (TellsRequest files r)
+held_told files r opened left object z read (Ok answered) h = inl (record { opened = opened; left = left; object = object; z = z; read = read; tells = h })
+held_told files r opened left object z read (Err fault) h = tt

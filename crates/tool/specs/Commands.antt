@@ -1,6 +1,6 @@
 -- What each command gives of what it reads.
 use Rattle.std.specs.Prelude.{◌≡◌, ◌⊎◌, ◌<◌, ℕ, Bool, true, false, List, []}
-use Rattle.std.specs.Prelude.{◌∷◌, ◌++◌, Option, Some, None, IsSome, IfSome, length, map}
+use Rattle.std.specs.Prelude.{◌∷◌, ◌++◌, Option, Some, None, IsSome, IfSome, length, map, ⊤}
 use Rattle.std.specs.Prelude.{option_map, codes, Ok, Err}
 use Rattle.std.specs.Borrow.{Bor}
 use Rattle.lists.specs.Selection.{rest}
@@ -221,6 +221,9 @@ Gives (Check r) (Opened opened ∷ Bytes object ∷ Polynomials z ∷ []) outcom
     × (checked : IsCheckedFrom r.identity opened left object z verdict)
     × TellsVerdict r.summary (IsSurvey r.identity checked.datagrams z.fti) verdict outcome.text
     × (outcome.status ≡ status_of verdict) × IsDrawn r.picture verdict outcome.output
+Gives (Check r) (Opened session ∷ Opened object ∷ Opened certificate ∷ []) outcome =
+    (verdict : Verdict) × TellsVerdict r.summary (λ report survey. ⊤) verdict outcome.text
+    × (outcome.status ≡ status_of verdict) × IsDrawn r.picture verdict outcome.output
 Gives (Twin r) (Datagrams datagrams ∷ Bytes object ∷ Polynomials z ∷ []) outcome =
     (verdict : Verdict) × IsVerdict r.identity datagrams object z verdict
     × GivesTwin r.identity verdict z.fti datagrams object outcome
@@ -270,16 +273,18 @@ IsUnhadPlace ranges (Places more ∷ Datagrams datagrams ∷ []) place =
 IsUnhadPlace ranges values place = ⊥
 
 -- Why nothing does, though the inputs are there, and what was printed before: a frame can't be read
--- behind others; an object's length makes no FTI, or its symbols are too long; a certificate is
+-- behind others, or a session isn't as it was; an object's length makes no FTI, or its symbols are too long; a certificate is
 -- another's; a session hasn't a place.
 abbrev pub Refuses : World → Request → List ℕ → Fault → Type 0
 Refuses world (Check r) text (Frame fault) =
-    (opened : Option (List ℕ)) × (object : List ℕ) × (z : Certificate) × (left : Option (List ℕ))
-    × (failed : Bool)
+    (world.files ≡ None)
+    ⊎ ((opened : Option (List ℕ)) × (object : List ℕ) × (z : Certificate)
+    × (left : Option (List ℕ)) × (failed : Bool)
     × HaveValues world.files (inputs_of (Check r))
     (Opened opened ∷ Bytes object ∷ Polynomials z ∷ [])
     × IsRefusedBehind r.identity fault opened left failed object z
-    × (fault ≡ FrameIo → MayFail world)
+    × (fault ≡ FrameIo → MayFail world))
+Refuses world (Check r) text (File session) = (session.now ≡ r.session.now) × MayFail world
 Refuses world (Show r) text (Frame fault) =
     (opened : Option (List ℕ)) × (left : Option (List ℕ)) × (readings : List Reading)
     × (new : Option (List ℕ)) × (failed : Bool)

@@ -38,7 +38,8 @@ name_of (ACertificate name) = name
 name_of (AStream name) = name
 name_of (APlaces name) = name
 
--- the file gives this value; a stream its bytes, from the first on, and so may a session
+-- the file gives this value; a stream its bytes, from the first on, and so may a session; and
+-- where no files are told, nothing is told of an object or a certificate that is opened
 abbrev pub HasValue : Option Files → Input → Value → Type 0
 HasValue files (AnObject name) (Bytes object) = Holds files name (λ bytes. bytes ≡ object)
 HasValue files (ASession name) (Datagrams datagrams) = Holds files name (IsFramed datagrams)
@@ -49,6 +50,8 @@ HasValue files (ACertificate name) (Polynomials z) =
     IsCertificate z × Holds files name (λ bytes. bytes ≡ certificate_text z)
 HasValue files (AStream name) (Opened remaining) =
     Holds files name (λ bytes. remaining ≡ Some bytes)
+HasValue files (AnObject name) (Opened content) = (files ≡ None) × (content ≡ None)
+HasValue files (ACertificate name) (Opened content) = (files ≡ None) × (content ≡ None)
 HasValue files (APlaces name) (Places ranges) =
     Holds files name (λ bytes. AreRanges (words_of bytes) ranges)
 HasValue files input value = ⊥

@@ -1,5 +1,5 @@
 //! The command `check`.
-ghost use Rattle.std.specs.Prelude.{◌≡◌, ◌≤◌, ◌++◌, decimal, IfOk, IfErr, OnOk};
+ghost use Rattle.std.specs.Prelude.{◌≡◌, ◌≤◌, ◌++◌, decimal, IfOk, IfErr, IfSome, OnOk};
 ghost use Rattle.cert.specs.Certificate.{IsCertificate};
 ghost use Rattle.cert.specs.FromReader.{IsCheckedFrom};
 ghost use Rattle.cert.specs.Surveying.{IsSurveyedFrom, OnYesWith};
@@ -7,7 +7,9 @@ ghost use Rattle.cert.specs.declared.verdict.Verdict.TheVariants.{No};
 ghost use Rattle.request.specs.declared.requests.Request.TheVariants.{Check};
 ghost use Rattle.tool.specs.Commands.{status_of as verdict_status};
 ghost use Rattle.tool.specs.Doing.{HasMade, HasStopped, text_of};
-ghost use Rattle.tool.specs.Checks.{IsNotChecked, TellsCheck, TellsRequest};
+ghost use Rattle.host.specs.World.{GivesFile};
+ghost use Rattle.file_check.specs.Files.{IsSurveyIn, IsVerdictIn};
+ghost use Rattle.tool.specs.Checks.{IsNotChecked, OfFiles, TellsCheck, TellsRequest, fault_of};
 ghost use Rattle.tool.specs.Summing.{CanBeSummed, IsTextOf};
 ghost use Rattle.tool.specs.Lines.{named, block_text, kill_text, losses_text, report_text};
 ghost use Rattle.tool.specs.Lines.{reason_text, verdict_text as text_of_verdict};
@@ -15,12 +17,13 @@ ghost use Rattle.tool.specs.Lines.{reason_text, verdict_text as text_of_verdict}
 use crate::done::{Done, Told};
 use crate::drawing::{Drawn, picture_of};
 use crate::fault::Fault;
-use crate::input::{open, read_certificate, read_object};
+use crate::input::{certificate_in, object_in, open, read_certificate};
 use crate::output::write_output;
 use crate::print::Text;
 use crate::summary::summary_lines;
 use crate::wording::put_packet_fault;
 use cert::{Certificate, CheckFault, Reason, Report, Survey, Verdict, check_from, survey_from};
+use file_check::{Files, FilesFault, check_files, survey_files};
 use host::Host;
 use reception::Identity;
 use request::{CheckRequest, Output};
@@ -61,7 +64,8 @@ pub(crate) fn check<'a, H: Host>(
     }
 }
 
-// What is told of the files of a request.
+// What is told of the files of a request. Where none of them is a pipe or a device, they are checked
+// where they stand.
 fn read_and_answer<'a, H: Host>(
     alloc: Global,
     host: &H,
@@ -71,10 +75,132 @@ fn read_and_answer<'a, H: Host>(
     ensures fault { IfErr result
         (HasStopped (H.world host.now) (H.world host.now) (Check request.now)) }
 {
-    let mut frames = open(host, request.session)?;
-    let object = read_object(alloc, host, request.object)?;
-    let certificate = read_certificate(alloc, host, request.certificate)?;
-    answer_of(alloc, &mut frames, object.as_slice(), &certificate, request)
+    let mut session = open(host, request.session)?;
+    let mut object = open(host, request.object)?;
+    let (Some(_), Some(length)) = (host.length_of(&session), host.length_of(&object)) else {
+        let bytes = object_in(alloc, host, request.object, &mut object)?;
+        let certificate = read_certificate(alloc, host, request.certificate)?;
+        return answer_of(alloc, &mut session, bytes.as_slice(), &certificate, request);
+    };
+    let mut certificate = open(host, request.certificate)?;
+    if host.length_of(&certificate).is_some() {
+        let files = Files {
+            session: &session,
+            object: &object,
+            certificate: &certificate,
+        };
+        if let Some(answered) = answer_files(alloc, host, request, &files, length)? {
+            return Ok(answered);
+        }
+    }
+    let bytes = object_in(alloc, host, request.object, &mut object)?;
+    let certificate = certificate_in(alloc, host, request.certificate, &mut certificate)?;
+    answer_of(alloc, &mut session, bytes.as_slice(), &certificate, request)
+}
+
+// What is told of files that stand where they are, of an object of so many bytes. `None` where the
+// certificate has no name.
+fn answer_files<'a, H: Host>(
+    alloc: Global,
+    host: &H,
+    request: &CheckRequest<'a>,
+    files: &Files<'_, H::Input, H::Input, H::Input>,
+    object_length: u64,
+) -> Result<Option<Answered<'a>>, Fault<'a>>
+    requires session { GivesFile (H.world host.now) request.now.session.now
+        (H.Input.content files.now.session.now) (H.Input.reliable files.now.session.now) }
+    requires object { GivesFile (H.world host.now) request.now.object.now
+        (H.Input.content files.now.object.now) (H.Input.reliable files.now.object.now) }
+    requires certificate { GivesFile (H.world host.now) request.now.certificate.now
+        (H.Input.content files.now.certificate.now)
+        (H.Input.reliable files.now.certificate.now) }
+    ensures ok { IfOk result (λ o. IfSome o
+        (TellsRequest (H.world host.now).files request.now)) }
+    ensures fault { IfErr result
+        (HasStopped (H.world host.now) (H.world host.now) (Check request.now)) }
+{
+    if request.picture.is_none() && !request.summary {
+        let Some(verdict) = verdict_in(alloc, host, request, files)? else {
+            return Ok(None);
+        };
+        let done = told_of(alloc, &verdict)?;
+        return Ok(Some(Answered {
+            done,
+            picture: None,
+        }));
+    }
+    let Some((verdict, survey)) = survey_in(alloc, host, request, files)? else {
+        return Ok(None);
+    };
+    let done = surveyed_told_of(alloc, request.summary, &verdict, &survey)?;
+    let picture = picture_of(alloc, request, object_length, &verdict, &survey)?;
+    Ok(Some(Answered { done, picture }))
+}
+
+// The verdict on the files.
+fn verdict_in<'a, H: Host>(
+    alloc: Global,
+    host: &H,
+    request: &CheckRequest<'a>,
+    files: &Files<'_, H::Input, H::Input, H::Input>,
+) -> Result<Option<Verdict>, Fault<'a>>
+    requires session { GivesFile (H.world host.now) request.now.session.now
+        (H.Input.content files.now.session.now) (H.Input.reliable files.now.session.now) }
+    requires object { GivesFile (H.world host.now) request.now.object.now
+        (H.Input.content files.now.object.now) (H.Input.reliable files.now.object.now) }
+    requires certificate { GivesFile (H.world host.now) request.now.certificate.now
+        (H.Input.content files.now.certificate.now)
+        (H.Input.reliable files.now.certificate.now) }
+    ensures verdict { IfOk result (λ o. IfSome o (λ v. OfFiles (H.world host.now).files request.now
+        (λ x o text. IsVerdictIn request.now.identity x o text v))) }
+    ensures fault { IfErr result
+        (HasStopped (H.world host.now) (H.world host.now) (Check request.now)) }
+{
+    match check_files(alloc, files, request.identity) {
+        Ok(verdict) => Ok(verdict),
+        Err(fault) => Err(files_fault(request, fault)),
+    }
+}
+
+// The verdict on the files, and at a yes the survey.
+fn survey_in<'a, H: Host>(
+    alloc: Global,
+    host: &H,
+    request: &CheckRequest<'a>,
+    files: &Files<'_, H::Input, H::Input, H::Input>,
+) -> Result<Option<(Verdict, Option<Survey>)>, Fault<'a>>
+    requires session { GivesFile (H.world host.now) request.now.session.now
+        (H.Input.content files.now.session.now) (H.Input.reliable files.now.session.now) }
+    requires object { GivesFile (H.world host.now) request.now.object.now
+        (H.Input.content files.now.object.now) (H.Input.reliable files.now.object.now) }
+    requires certificate { GivesFile (H.world host.now) request.now.certificate.now
+        (H.Input.content files.now.certificate.now)
+        (H.Input.reliable files.now.certificate.now) }
+    ensures survey { IfOk result (λ o. IfSome o (λ found.
+        OfFiles (H.world host.now).files request.now
+        (λ x o text. IsSurveyIn request.now.identity x o text found.0 found.1))) }
+    ensures summed { IfOk result (λ o. IfSome o (λ found.
+        OnYesWith found.0 found.1 CanBeSummed)) }
+    ensures fault { IfErr result
+        (HasStopped (H.world host.now) (H.world host.now) (Check request.now)) }
+{
+    match survey_files(alloc, files, request.identity) {
+        Ok(found) => Ok(found),
+        Err(fault) => Err(files_fault(request, fault)),
+    }
+}
+
+// A fault of files, as it is told.
+fn files_fault<'a>(request: &CheckRequest<'a>, fault: FilesFault) -> Fault<'a>
+    ensures { result ≡ fault_of request.now fault }
+{
+    match fault {
+        FilesFault::Frame(fault) => Fault::Frame(fault),
+        FilesFault::Session => Fault::File(request.session),
+        FilesFault::Object => Fault::File(request.object),
+        FilesFault::Certificate(fault) => Fault::Certificate(fault),
+        FilesFault::NoMemory => Fault::Memory,
+    }
 }
 
 // What is told of the frames that a reader has left.
@@ -101,7 +227,7 @@ fn answer_of<'a, R: Read>(
     }
     let (verdict, survey) = survey_of(alloc, frames, object, certificate, request.identity)?;
     let done = surveyed_told_of(alloc, request.summary, &verdict, &survey)?;
-    let picture = picture_of(alloc, request, object, &verdict, &survey)?;
+    let picture = picture_of(alloc, request, object.len() as u64, &verdict, &survey)?;
     Ok(Answered { done, picture })
 }
 

@@ -14,11 +14,12 @@ pub(crate) struct Drawn<'a> {
     pub(crate) text: String,
 }
 
-/// The picture of a verdict with its survey, where one is asked for and the answer is yes.
+/// The picture of a verdict with its survey, where one is asked for and the answer is yes. It tells
+/// the object's length in bytes.
 pub(crate) fn picture_of<'a>(
     alloc: Global,
     request: &CheckRequest<'a>,
-    object: &[u8],
+    object_length: u64,
     verdict: &Verdict,
     survey: &Option<Survey>,
 ) -> Result<Option<Drawn<'a>>, AllocError>
@@ -30,7 +31,7 @@ pub(crate) fn picture_of<'a>(
     };
     match (verdict, survey) {
         (Verdict::Yes(report), Some(survey)) => {
-            let text = sheet_text(alloc, request, object, report, survey)?;
+            let text = sheet_text(alloc, request, object_length, report, survey)?;
             Ok(Some(Drawn { name, text }))
         }
         (Verdict::Yes(_), None) => unreachable!(),
@@ -42,7 +43,7 @@ pub(crate) fn picture_of<'a>(
 fn sheet_text(
     alloc: Global,
     request: &CheckRequest<'_>,
-    object: &[u8],
+    object_length: u64,
     report: &Report,
     survey: &Survey,
 ) -> Result<String, AllocError> {
@@ -51,7 +52,7 @@ fn sheet_text(
         object: request.object,
         tsi: request.identity.tsi,
         toi: request.identity.toi,
-        object_length: object.len() as u64,
+        object_length,
         datagrams: survey.datagrams,
         blocks: report.blocks.as_slice(),
         carriers: survey.carriers.as_slice(),

@@ -98,7 +98,23 @@ pub(crate) fn read_certificate<'a, H: Host>(
     ensures fault { IfErr result (IsUnread (H.world host.now) (ACertificate name.now)) }
 {
     let mut input = open(host, name)?;
-    Ok(Certificate::read(alloc, &mut input)?)
+    certificate_in(alloc, host, name, &mut input)
+}
+
+/// The certificate that an input gives, which was opened under this name.
+pub(crate) fn certificate_in<'a, H: Host>(
+    alloc: Global,
+    host: &H,
+    name: &'a str,
+    input: &mut H::Input,
+) -> Result<Certificate, Fault<'a>>
+    requires { GivesFile (H.world host.now) name.now
+        (H.Input.remaining input.old) (H.Input.sound input.old) }
+    ensures ok { IfOk result (λ z.
+        HasValue (H.world host.now).files (ACertificate name.now) (Polynomials z)) }
+    ensures fault { IfErr result (IsUnread (H.world host.now) (ACertificate name.now)) }
+{
+    Ok(Certificate::read(alloc, input)?)
 }
 
 /// The bytes of a file.
@@ -112,7 +128,23 @@ pub(crate) fn read_object<'a, H: Host>(
     ensures fault { IfErr result (IsUnread (H.world host.now) (AnObject name.now)) }
 {
     let mut input = open(host, name)?;
-    read_rest(alloc, &mut input, name)
+    object_in(alloc, host, name, &mut input)
+}
+
+/// The bytes that an input gives, which was opened under this name.
+pub(crate) fn object_in<'a, H: Host>(
+    alloc: Global,
+    host: &H,
+    name: &'a str,
+    input: &mut H::Input,
+) -> Result<Vec<u8>, Fault<'a>>
+    requires { GivesFile (H.world host.now) name.now
+        (H.Input.remaining input.old) (H.Input.sound input.old) }
+    ensures ok { IfOk result (λ v.
+        HasValue (H.world host.now).files (AnObject name.now) (Bytes v.items)) }
+    ensures fault { IfErr result (IsUnread (H.world host.now) (AnObject name.now)) }
+{
+    read_rest(alloc, input, name)
 }
 
 /// The places in a file.

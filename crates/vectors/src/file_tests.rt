@@ -15,7 +15,7 @@ use streams::{Failed, ReadAt, copy_at};
 
 // A file of bytes in memory, of which some come at a time.
 #[derive(Drop)]
-struct Bytes<'a>(&'a [u8]);
+pub(crate) struct Bytes<'a>(pub(crate) &'a [u8]);
 
 impl ReadAt for Bytes<'_> {
     ghost use Rattle.std.specs.Prelude.{Some, true};
@@ -45,7 +45,7 @@ fn from_file<F: ReadAt>(alloc: Global, file: &F) -> Result<Answer, FileFault> {
 }
 
 // The datagrams as a session file.
-fn framed(alloc: Global, datagrams: &[Vec<u8>]) -> Result<Vec<u8>, Fail> {
+pub(crate) fn framed(alloc: Global, datagrams: &[Vec<u8>]) -> Result<Vec<u8>, Fail> {
     let mut sink = Sink::new(alloc);
     for datagram in datagrams {
         if datagram.len() <= MOST_BYTES {

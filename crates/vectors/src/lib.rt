@@ -7,6 +7,8 @@ mod certificate_tests;
 #[cfg(test)]
 mod check_tests;
 #[cfg(test)]
+mod checked_file_tests;
+#[cfg(test)]
 mod converting_tests;
 #[cfg(test)]
 mod decoding_tests;

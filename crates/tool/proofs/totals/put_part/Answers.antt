@@ -1,5 +1,4 @@
-use Rattle.std.proofs.Common.{◌≡◌, ◌∙◌, ◌++◌, ℕ, List, ap, append_assoc, subst}
-use Rattle.inventory.specs.declared.part.FtiCount.{FtiCount}
+use Rattle.std.proofs.Common.{◌∙◌, ◌++◌, ℕ, List, ap, append_assoc}
 use Rattle.tool.specs.Lines.{line_of}
 use Rattle.tool.specs.Totals.{packets_text, fti_lines, weakest_lines}
 use Rattle.tool.proofs.Gains.{gains_more}

@@ -1,0 +1,311 @@
+//! Checks of files that stand where they are beside checks of the same bytes as they are read:
+//! verdict, report and fault are those of `check_from`.
+ghost use Rattle.std.specs.Prelude.{◌≤◌};
+
+use crate::ONE;
+use crate::check_tests::{CERTIFICATE, FIRST_ALONE, NAMED_CERTIFICATE, OBJECT, SESSION};
+use crate::file_tests::{Bytes, framed};
+use crate::receiver_tests::{ORDERS, disturbed, object_of, sent};
+use cert::{CertFault, Certificate, CheckFault, Report, Verdict, check_from};
+use coder::certify_to;
+use file_check::{Files, FilesFault, check_files, survey_files};
+use partition::Fti;
+use rand_pcg::Pcg32;
+use reception::Identity;
+use session::{FrameFault, Pieces, Sink};
+use std::alloc::Global;
+use std::cell::Cell;
+use std::test::Fail;
+use streams::{Failed, ReadAt, copy_at};
+
+fn is_same_report(a: &Report, b: &Report) -> bool {
+    a.blocks.as_slice() == b.blocks.as_slice()
+        && a.carriers == b.carriers
+        && a.repeats == b.repeats
+        && a.margin == b.margin
+        && a.kill.as_slice() == b.kill.as_slice()
+        && a.burst == b.burst
+}
+
+fn is_same_verdict(a: &Verdict, b: &Verdict) -> bool {
+    match (a, b) {
+        (Verdict::Yes(a), Verdict::Yes(b)) => is_same_report(a, b),
+        (Verdict::No(a), Verdict::No(b)) => a == b,
+        _ => false,
+    }
+}
+
+// What is checked: the bytes of three files.
+#[derive(Clone, Copy)]
+struct Held<'a> {
+    session: &'a [u8],
+    object: &'a [u8],
+    certificate: &'a [u8],
+}
+
+// What a check of the bytes as they are read answers.
+fn read(alloc: Global, held: Held<'_>, identity: Identity) -> Result<Verdict, FilesFault> {
+    let certificate = match Certificate::read(alloc, &mut Pieces::new(held.certificate, 50)) {
+        Ok(certificate) => certificate,
+        Err(fault) => return Err(FilesFault::Certificate(fault)),
+    };
+    let mut frames = Pieces::new(held.session, 50);
+    match check_from(alloc, &mut frames, held.object, &certificate, identity) {
+        Ok(verdict) => Ok(verdict),
+        Err(CheckFault::Frame(fault)) => Err(FilesFault::Frame(fault)),
+        Err(CheckFault::NoMemory) => Err(FilesFault::NoMemory),
+    }
+}
+
+// What one of the files answers, with a survey at a yes and without.
+fn stood(
+    alloc: Global,
+    held: Held<'_>,
+    identity: Identity,
+) -> Result<Option<(Verdict, Verdict)>, FilesFault> {
+    let (session, object) = (Bytes(held.session), Bytes(held.object));
+    let certificate = Bytes(held.certificate);
+    let files = Files {
+        session: &session,
+        object: &object,
+        certificate: &certificate,
+    };
+    let Some(verdict) = check_files(alloc, &files, identity)? else {
+        return Ok(None);
+    };
+    match survey_files(alloc, &files, identity)? {
+        Some((surveyed, Some(_))) => match surveyed {
+            Verdict::Yes(_) => Ok(Some((verdict, surveyed))),
+            Verdict::No(_) => Ok(None),
+        },
+        Some((surveyed, None)) => match surveyed {
+            Verdict::Yes(_) => Ok(None),
+            Verdict::No(_) => Ok(Some((verdict, surveyed))),
+        },
+        None => Ok(None),
+    }
+}
+
+// Whether both answer the same.
+fn is_same(alloc: Global, held: Held<'_>, identity: Identity) -> bool {
+    match (read(alloc, held, identity), stood(alloc, held, identity)) {
+        (Ok(verdict), Ok(Some((there, surveyed)))) => {
+            is_same_verdict(&verdict, &there) && is_same_verdict(&verdict, &surveyed)
+        }
+        (Err(fault), Err(there)) => fault == there,
+        _ => false,
+    }
+}
+
+// The certificate of an object, with the name of its packets.
+fn certificate_of(alloc: Global, object: &[u8], fti: &Fti) -> Result<Vec<u8>, Fail> {
+    let mut sink = Sink::new(alloc);
+    certify_to(alloc, object, fti, ONE, &mut sink)?;
+    Ok(sink.into_bytes())
+}
+
+// Bytes with another one at a place.
+fn changed(alloc: Global, bytes: &[u8], place: usize) -> Result<Vec<u8>, Fail> {
+    let mut other = bytes.to_vec(alloc)?;
+    if let Some(byte) = other.as_mut_slice().get_mut(place) {
+        *byte ^= 1;
+    }
+    Ok(other)
+}
+
+// Whether a file with a byte changed, somewhere, is answered alike, whichever it is.
+fn same_where_changed(alloc: Global, held: Held<'_>, place: usize) -> Result<bool, Fail> {
+    let session = changed(alloc, held.session, place % held.session.len().max(1))?;
+    let object = changed(alloc, held.object, place % held.object.len().max(1))?;
+    let certificate = changed(alloc, held.certificate, place % held.certificate.len().max(1))?;
+    let of_session = Held {
+        session: session.as_slice(),
+        ..held
+    };
+    let of_object = Held {
+        object: object.as_slice(),
+        ..held
+    };
+    let of_certificate = Held {
+        certificate: certificate.as_slice(),
+        ..held
+    };
+    Ok(is_same(alloc, of_session, ONE)
+        && is_same(alloc, of_object, ONE)
+        && is_same(alloc, of_certificate, ONE))
+}
+
+// Whether sessions are answered alike that lose, repeat and spoil some datagrams, in any order.
+fn same_in_all(alloc: Global, length: usize, fti: &Fti, every: u32) -> Result<bool, Fail>
+    requires { 1 ≤ every }
+{
+    let mut random = Pcg32::new(length as u64, 5510);
+    let object = object_of(alloc, &mut random, length)?;
+    let session = sent(alloc, object.as_slice(), fti, every)?;
+    let certificate = certificate_of(alloc, object.as_slice(), fti)?;
+    for place in 0..ORDERS {
+        let datagrams = disturbed(alloc, &mut random, &session)?;
+        let bytes = framed(alloc, datagrams.as_slice())?;
+        let held = Held {
+            session: bytes.as_slice(),
+            object: object.as_slice(),
+            certificate: certificate.as_slice(),
+        };
+        if !is_same(alloc, held, ONE) || !same_where_changed(alloc, held, place)? {
+            return Ok(false);
+        }
+    }
+    Ok(true)
+}
+
+#[test]
+fn of_small_objects(rt: HostRuntime) -> Result<(), Fail> {
+    for (length, e, b, max_n, every) in [
+        (2, 1, 2, 3, 1),
+        (29, 8, 8, 12, 1),
+        (10, 1, 4, 6, 1),
+        (10, 1, 4, 6, 4),
+        (29, 8, 8, 12, 3),
+    ] {
+        let fti = Fti::new(length, e, b, max_n)?;
+        let same = same_in_all(rt.alloc(), length as usize, &fti, every)?;
+        assert!(rt; same, "{length} bytes, every {every}");
+    }
+    Ok(())
+}
+
+#[test]
+fn of_a_bulletin(rt: HostRuntime) -> Result<(), Fail> {
+    let fti = Fti::new(20000, 250, 32, 40)?;
+    assert!(rt; same_in_all(rt.alloc(), 20000, &fti, 1)?);
+    Ok(())
+}
+
+// The object of two bytes with its certificate's name, and a session.
+fn small(session: &[u8]) -> Held<'_> {
+    Held {
+        session,
+        object: &OBJECT,
+        certificate: &NAMED_CERTIFICATE,
+    }
+}
+
+// A session is read up to any byte of it, and there is an end, or a frame is cut off.
+#[test]
+fn of_cut_sessions(rt: HostRuntime) -> Result<(), Fail> {
+    for end in 0..SESSION.len() + 1 {
+        assert!(rt; is_same(rt.alloc(), small(&SESSION[..end]), ONE), "{end} bytes");
+    }
+    assert!(rt; is_same(rt.alloc(), small(&FIRST_ALONE), ONE));
+    Ok(())
+}
+
+// A certificate of another's packets, and files that are too short, too long or none.
+#[test]
+fn of_other_files(rt: HostRuntime) -> Result<(), Fail> {
+    let alloc = rt.alloc();
+    let held = small(&SESSION);
+    assert!(rt; is_same(alloc, held, Identity { tsi: 1, toi: 2 }));
+    assert!(rt; is_same(alloc, Held { object: &[1], ..held }, ONE));
+    assert!(rt; is_same(alloc, Held { object: &[1, 2, 3], ..held }, ONE));
+    for end in 0..NAMED_CERTIFICATE.len() {
+        let certificate = &NAMED_CERTIFICATE[..end];
+        assert!(rt; is_same(alloc, Held { certificate, ..held }, ONE), "{end} bytes");
+    }
+    Ok(())
+}
+
+// A certificate without a name stands column by column, and isn't checked where it stands.
+#[test]
+fn without_a_name(rt: HostRuntime) -> Result<(), Fail> {
+    let held = Held {
+        certificate: &CERTIFICATE,
+        ..small(&SESSION)
+    };
+    assert!(rt; matches!(stood(rt.alloc(), held, ONE), Ok(None)));
+    Ok(())
+}
+
+// A file that fails, or has other bytes, from some call on.
+#[derive(Drop)]
+struct Changing<'a> {
+    bytes: &'a [u8],
+    others: Option<&'a [u8]>,
+    calls: Cell<usize>,
+}
+
+impl ReadAt for Changing<'_> {
+    ghost use Rattle.std.specs.Prelude.{None, false};
+
+    ghost content = { λ _. None };
+
+    ghost reliable = { λ _. false };
+
+    fn read_at(&self, offset: u64, buf: &mut [u8]) -> Result<usize, Failed> {
+        let calls = self.calls.get();
+        if calls > 0 {
+            self.calls.set(calls - 1);
+            return Ok(copy_at(self.bytes, offset, 100, buf));
+        }
+        match self.others {
+            Some(others) => Ok(copy_at(others, offset, 100, buf)),
+            None => Err(Failed),
+        }
+    }
+}
+
+// What is told where the session changes behind so many calls.
+fn told_of_changing(alloc: Global, others: Option<&[u8]>, calls: usize) -> Option<FilesFault> {
+    let session = Changing {
+        bytes: &SESSION,
+        others,
+        calls: Cell::new(calls),
+    };
+    let (object, certificate) = (Bytes(&OBJECT), Bytes(&NAMED_CERTIFICATE));
+    let files = Files {
+        session: &session,
+        object: &object,
+        certificate: &certificate,
+    };
+    match check_files(alloc, &files, ONE) {
+        Ok(_) => None,
+        Err(fault) => Some(fault),
+    }
+}
+
+// A session that fails is told by its frames while they are gone over, and by its file then.
+#[test]
+fn of_failing_sessions(rt: HostRuntime) -> Result<(), Fail> {
+    let alloc = rt.alloc();
+    let at_once = told_of_changing(alloc, None, 0);
+    assert!(rt; at_once == Some(FilesFault::Frame(FrameFault::Io)));
+    let later = told_of_changing(alloc, None, 3);
+    assert!(rt; later == Some(FilesFault::Session));
+    let shorter = told_of_changing(alloc, Some(&SESSION[..20]), 3);
+    assert!(rt; shorter == Some(FilesFault::Session));
+    let other = told_of_changing(alloc, Some(&FIRST_ALONE), 3);
+    assert!(rt; other == Some(FilesFault::Session));
+    Ok(())
+}
+
+// The certificate's file fails at once, or once it was opened.
+#[test]
+fn of_failing_certificates(rt: HostRuntime) -> Result<(), Fail> {
+    for calls in 0..4usize {
+        let (session, object) = (Bytes(&SESSION), Bytes(&OBJECT));
+        let certificate = Changing {
+            bytes: &NAMED_CERTIFICATE,
+            others: None,
+            calls: Cell::new(calls),
+        };
+        let files = Files {
+            session: &session,
+            object: &object,
+            certificate: &certificate,
+        };
+        let told = check_files(rt.alloc(), &files, ONE);
+        let is_fault = matches!(told, Err(FilesFault::Certificate(CertFault::Io)));
+        assert!(rt; is_fault || calls == 3, "{calls} calls");
+    }
+    Ok(())
+}
