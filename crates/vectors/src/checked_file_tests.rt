@@ -117,7 +117,11 @@ fn changed(alloc: Global, bytes: &[u8], place: usize) -> Result<Vec<u8>, Fail> {
 fn same_where_changed(alloc: Global, held: Held<'_>, place: usize) -> Result<bool, Fail> {
     let session = changed(alloc, held.session, place % held.session.len().max(1))?;
     let object = changed(alloc, held.object, place % held.object.len().max(1))?;
-    let certificate = changed(alloc, held.certificate, place % held.certificate.len().max(1))?;
+    let certificate = changed(
+        alloc,
+        held.certificate,
+        place % held.certificate.len().max(1),
+    )?;
     let of_session = Held {
         session: session.as_slice(),
         ..held
@@ -130,9 +134,11 @@ fn same_where_changed(alloc: Global, held: Held<'_>, place: usize) -> Result<boo
         certificate: certificate.as_slice(),
         ..held
     };
-    Ok(is_same(alloc, of_session, ONE)
-        && is_same(alloc, of_object, ONE)
-        && is_same(alloc, of_certificate, ONE))
+    Ok(
+        is_same(alloc, of_session, ONE)
+            && is_same(alloc, of_object, ONE)
+            && is_same(alloc, of_certificate, ONE),
+    )
 }
 
 // Whether sessions are answered alike that lose, repeat and spoil some datagrams, in any order.
@@ -194,7 +200,10 @@ fn small(session: &[u8]) -> Held<'_> {
 #[test]
 fn of_cut_sessions(rt: HostRuntime) -> Result<(), Fail> {
     for end in 0..SESSION.len() + 1 {
-        assert!(rt; is_same(rt.alloc(), small(&SESSION[..end]), ONE), "{end} bytes");
+        assert!(rt;
+            is_same(rt.alloc(), small(&SESSION[..end]), ONE),
+            "{end} bytes"
+        );
     }
     assert!(rt; is_same(rt.alloc(), small(&FIRST_ALONE), ONE));
     Ok(())
@@ -206,11 +215,39 @@ fn of_other_files(rt: HostRuntime) -> Result<(), Fail> {
     let alloc = rt.alloc();
     let held = small(&SESSION);
     assert!(rt; is_same(alloc, held, Identity { tsi: 1, toi: 2 }));
-    assert!(rt; is_same(alloc, Held { object: &[1], ..held }, ONE));
-    assert!(rt; is_same(alloc, Held { object: &[1, 2, 3], ..held }, ONE));
+    assert!(rt;
+        is_same(
+            alloc,
+            Held {
+                object: &[1],
+                ..held
+            },
+            ONE
+        )
+    );
+    assert!(rt;
+        is_same(
+            alloc,
+            Held {
+                object: &[1, 2, 3],
+                ..held
+            },
+            ONE
+        )
+    );
     for end in 0..NAMED_CERTIFICATE.len() {
         let certificate = &NAMED_CERTIFICATE[..end];
-        assert!(rt; is_same(alloc, Held { certificate, ..held }, ONE), "{end} bytes");
+        assert!(rt;
+            is_same(
+                alloc,
+                Held {
+                    certificate,
+                    ..held
+                },
+                ONE
+            ),
+            "{end} bytes"
+        );
     }
     Ok(())
 }
