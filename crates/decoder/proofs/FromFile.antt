@@ -15,7 +15,7 @@ use Rattle.session.specs.Frames.{IsFramed, AreDatagrams}
 use Rattle.reception.specs.declared.scope.Identity.{Identity}
 use Rattle.reception.specs.Answer.{IsAnswer}
 use Rattle.decoder.specs.Answers.{answer_value}
-use Rattle.decoder.specs.GatheringIn.{IsFileFault, IsGatheredIn}
+use Rattle.decoder.specs.GatheringIn.{IsFileFault, IsGatheredIn, IsIndexedIn}
 use Rattle.decoder.specs.ReadAgain.{fault_of}
 use Rattle.decoder.specs.Indexing.{IsUnindexed, IsFaultAmong}
 use Rattle.decoder.specs.Sources.{IsUnreadOf}
@@ -119,8 +119,8 @@ fault_gathered who content reliable fault e is why among = (
       (w.0, w.1, record { readings = readings_of w.0; read = readings w.0 w.2; answers = refused })),
 )
 
-pub told_gathered : (who : Identity) (content : Option (List ℕ)) (reliable : Bool) (fault : Unindexed) (r : Result GatheredFile FileFault)
+pub told_indexed : (who : Identity) (content : Option (List ℕ)) (reliable : Bool) (fault : Unindexed) (r : Result GatheredFile FileFault)
     → IfOk r (λ g. (e : DecodeFault) × (fault ≡ unindexed.Fault e) × (g ≡ gathered.Answer (answer.Fault e))) → IsUnindexed content reliable fault
-    → ((x : List ℕ) (ds : List (List ℕ)) → content ≡ Some x → IsFramed ds x → IsFaultAmong who ds fault) → IfOk r (IsGatheredIn who content)
-told_gathered who content reliable fault (Ok g) h why among = subst (IsGatheredIn who content) (sym h.2) (fault_gathered who content reliable fault h.0 h.1 why among)
-told_gathered who content reliable fault (Err e) h why among = tt
+    → ((x : List ℕ) (ds : List (List ℕ)) → content ≡ Some x → IsFramed ds x → IsFaultAmong who ds fault) → IfOk r (IsIndexedIn who content)
+told_indexed who content reliable fault (Ok g) h why among = subst (IsIndexedIn who content) (sym h.2) (fault_gathered who content reliable fault h.0 h.1 why among)
+told_indexed who content reliable fault (Err e) h why among = tt

@@ -34,3 +34,4 @@ pub mod FirstCarrier
 pub mod Indexed
 pub mod FromFile
 pub mod BelowEsi
+mod Placed

@@ -11,7 +11,7 @@ use Rattle.reception.specs.Within.{IsWithin}
 use Rattle.decoder.specs.Columns.{ColumnExplained}
 use Rattle.decoder.specs.Decoded.{AreWithin, AreRows, IsEnoughAt, Stand}
 use Rattle.decoder.specs.Received.{IsIndex}
-use Rattle.decoder.specs.Unsolvable.{IsSound, IsUnsound, SomeUnsound}
+use Rattle.decoder.specs.Unsolvable.{AreSound, IsSound, IsUnsound, SomeUnsound}
 use Rattle.decoder.proofs.Counts.{held_is, none_more_held}
 use Rattle.decoder.proofs.Listing.{Stands}
 use Rattle.decoder.proofs.Solving.{solvable_from, solvable_gives}
@@ -98,7 +98,7 @@ module _ (f : Fti) (valid : IsValidFti f) (arrivals : List Symbol) (at : ℕ →
   enough_of_full : (b : ℕ) → b < block_count f → is_full f arrivals b ≡ true → IsEnoughAt f b (at b)
   enough_of_full b hb full = let l = leb-true (source_count f b) (arrived_count arrivals b) full in omega (arith, l, held_at_esis b hb)
 
-  full_of_enough : (b : ℕ) → b < block_count f → IsEnoughAt f b (at b) → is_full f arrivals b ≡ true
+  pub full_of_enough : (b : ℕ) → b < block_count f → IsEnoughAt f b (at b) → is_full f arrivals b ≡ true
   full_of_enough b hb enough = le-leb (source_count f b) (arrived_count arrivals b) (omega (arith, enough, held_at_esis b hb))
 
   -- something came of a full block
@@ -146,3 +146,7 @@ none_unsound f valid at s some solvable =
     let (b, unsound) = some in
     unsound.unexplained (solvable_gives f s.arrivals at s.index b
     (solvable b unsound.in_range (full_of_enough f valid s.arrivals at s.index s.within b unsound.in_range unsound.enough)))
+
+-- where each block is sound, none is unsound
+pub sound_not_unsound : (f : Fti) (at : ℕ → ℕ → Option (List ℕ)) → AreSound f at → SomeUnsound f at → ⊥
+sound_not_unsound f at sound (b, unsound) = unsound.unexplained (sound b unsound.in_range unsound.enough)

@@ -6,7 +6,9 @@ use Rattle.block_code.specs.CodesOf.{IsCodeOf}
 use Rattle.session.specs.Frames.{IsFramed}
 use Rattle.reception.specs.declared.scope.Identity.{Identity}
 use Rattle.reception.specs.Reception.{ReadAll, with_fti}
+use Rattle.reception.specs.Answer.{reception_of}
 use Rattle.reception.specs.Readings.{readings_of}
+use Rattle.reception.specs.Symbols.{AllFull}
 use Rattle.decoder.specs.Decoded.{IsEnoughAt}
 use Rattle.decoder.specs.InFile.{held_in, AreSymbolsIn}
 use Rattle.decoder.specs.Received.{AreReceived, came_at}
@@ -37,6 +39,21 @@ pub record ArePlacesOf (who : Identity) (datagrams : List (List ℕ)) (x : List 
   pub framed : IsFramed datagrams x
   pub indexed : AreIndexedOf who datagrams x s.indexed
   pub sound : AreSound s.indexed.fti (came_at (held_in x) s.indexed.symbols)
+
+-- at the places stand the symbols that these datagrams of the file have, enough of each block,
+-- whatever they are of
+pub record ArePlacedOf (who : Identity) (datagrams : List (List ℕ)) (x : List ℕ)
+    (s : FileSymbols) : Type 0 where
+  pub framed : IsFramed datagrams x
+  pub indexed : AreIndexedOf who datagrams x s.indexed
+  pub full : AllFull s.indexed.fti (reception_of who (readings_of datagrams)).symbols
+
+-- of some datagrams of the file, where its bytes are told
+abbrev pub ArePlacedIn : Option (List ℕ) → FileSymbols → Type 0
+ArePlacedIn content s =
+    AreEnoughPlaces s
+    × IfSome content (λ x. (datagrams : List (List ℕ))
+    × ArePlacedOf s.indexed.identity datagrams x s)
 
 -- of some datagrams of the file, where its bytes are told
 abbrev pub AreGatheredIn : Option (List ℕ) → FileSymbols → Type 0

@@ -1,15 +1,16 @@
 //! Decoding a session file into a writer: neither the session nor the object is held.
 ghost use Rattle.std.specs.Prelude.{◌≡◌, ◌<◌, ℕ, List, Some, true, length, IfOk, IfErr, OnErr};
-ghost use Rattle.std.specs.Prelude.{Bool, Option};
+ghost use Rattle.std.specs.Prelude.{Bool, Option, IfSome, IsNone};
 ghost use Rattle.session.specs.Frames.{AppendsSome, IsFramed};
 ghost use Rattle.reception.specs.declared.scope.Identity.{Identity as IdentityValue};
 ghost use Rattle.reception.specs.Answer.{Object, IsAnswer};
 ghost use Rattle.decoder.specs.GatheringIn.{IsFileFault};
-ghost use Rattle.decoder.specs.PlacesOf.{AreGatheredIn, ArePlacesOf};
-ghost use Rattle.decoder.specs.GatheringIn.{IsFileWriteFault, IsGatheredIn};
+ghost use Rattle.decoder.specs.PlacesOf.{AreGatheredIn, ArePlacedIn, ArePlacedOf, ArePlacesOf};
+ghost use Rattle.decoder.specs.Answers.{answer_value};
+ghost use Rattle.decoder.specs.GatheringIn.{IsFileWriteFault, IsGatheredIn, IsIndexedIn};
 ghost use Rattle.decoder.specs.PlacesOf.{AreIndexedOf};
 ghost use Rattle.decoder.specs.Indexing.{IsUnindexed};
-ghost use Rattle.decoder.specs.Gathering.{IsWrittenOf};
+ghost use Rattle.decoder.specs.Gathering.{IsNoObject, IsWrittenOf};
 ghost use Rattle.decoder.specs.Received.{came_at};
 ghost use Rattle.decoder.specs.Sources.{AreInRange};
 ghost use Rattle.decoder.specs.declared.answer.DecodeFault.{DecodeFault as DecodeFaultValue};
@@ -19,7 +20,7 @@ use crate::answer::Answer;
 use crate::file_source::{FileSource, Indexed};
 use crate::indexing::{Unindexed, find_fti, index};
 use crate::source::Unread;
-use crate::verdict::verdict;
+use crate::verdict::{first_of_no_object, short_verdict, unsound_answer};
 use crate::writing::{Unwritten, write_blocks};
 use block_code::{BlockCodes, Kind};
 use reception::Identity;
@@ -109,8 +110,8 @@ fn told_of(fault: Unindexed) -> Result<GatheredFile, FileFault>
     }
 }
 
-// What the symbols at the places give.
-fn gather_places<F: ReadAt>(
+// What the symbols at the places give, as far as their number tells.
+fn count_places<F: ReadAt>(
     alloc: Global,
     file: &F,
     indexed: Indexed,
@@ -119,7 +120,7 @@ fn gather_places<F: ReadAt>(
         → AreInRange indexed.fti (came_at held indexed.symbols) }
     requires told { (x : List ℕ) → F.content file.now ≡ Some x → (ds : List (List ℕ))
         × IsFramed ds x × AreIndexedOf indexed.identity ds x indexed }
-    ensures gathered { IfOk result (IsGatheredIn indexed.identity (F.content file.now)) }
+    ensures indexed { IfOk result (IsIndexedIn indexed.identity (F.content file.now)) }
     ensures fault { IfErr result (IsFileFault (F.content file.now) (F.reliable file.now)) }
 {
     indexed.fti.is_valid();
@@ -128,9 +129,41 @@ fn gather_places<F: ReadAt>(
         file,
         indexed: &indexed,
     };
-    match verdict(alloc, &source, &codes)? {
+    match short_verdict(alloc, &source, &codes)? {
         Some(answer) => Ok(GatheredFile::Answer(answer)),
         None => Ok(GatheredFile::Symbols(FileSymbols { indexed, codes })),
+    }
+}
+
+/// What the datagrams of a session file say of the object that was sent under an identity, as far
+/// as their headers tell: where no block is short, the places of their symbols, of which it isn't
+/// known yet whether they are of an object. 24 bytes are held for each symbol.
+///
+/// `Frame` tells why the file is no session, before any fault at a place. A file that is not the
+/// same each time it is read may give `Changed`.
+pub fn index_file<F: ReadAt>(
+    alloc: Global,
+    file: &F,
+    identity: Identity,
+) -> Result<GatheredFile, FileFault>
+    ensures indexed { IfOk result (IsIndexedIn identity (F.content file.now)) }
+    ensures fault { IfErr result (IsFileFault (F.content file.now) (F.reliable file.now)) }
+{
+    let fti = match find_fti(alloc, file, identity) {
+        Ok(Some(fti)) => fti,
+        Ok(None) => return Ok(GatheredFile::Answer(Answer::Empty)),
+        Err(fault) => return told_of(fault),
+    };
+    match index(alloc, file, identity, fti) {
+        Ok(symbols) => {
+            let indexed = Indexed {
+                identity,
+                fti,
+                symbols,
+            };
+            count_places(alloc, file, indexed)
+        }
+        Err(fault) => told_of(fault),
     }
 }
 
@@ -148,25 +181,94 @@ pub fn gather_file<F: ReadAt>(
     ensures gathered { IfOk result (IsGatheredIn identity (F.content file.now)) }
     ensures fault { IfErr result (IsFileFault (F.content file.now) (F.reliable file.now)) }
 {
-    let fti = match find_fti(alloc, file, identity) {
-        Ok(Some(fti)) => fti,
-        Ok(None) => return Ok(GatheredFile::Answer(Answer::Empty)),
-        Err(fault) => return told_of(fault),
+    let symbols = match index_file(alloc, file, identity)? {
+        GatheredFile::Answer(answer) => return Ok(GatheredFile::Answer(answer)),
+        GatheredFile::Symbols(symbols) => symbols,
     };
-    match index(alloc, file, identity, fti) {
-        Ok(symbols) => {
-            let indexed = Indexed {
-                identity,
-                fti,
-                symbols,
-            };
-            gather_places(alloc, file, indexed)
-        }
-        Err(fault) => told_of(fault),
+    match symbols.refutation(alloc, file)? {
+        Some(answer) => Ok(GatheredFile::Answer(answer)),
+        None => Ok(GatheredFile::Symbols(symbols)),
     }
 }
 
 impl FileSymbols {
+    /// The object's length in bytes.
+    pub fn transfer_length(&self) -> u64
+        ensures { result ≡ self.now.indexed.fti.transfer_length }
+    {
+        self.indexed.fti.transfer_length()
+    }
+
+    /// The answer to the file's datagrams, where their symbols, enough of each block, are of no
+    /// object; `None` where they are.
+    pub fn refutation<F: ReadAt>(
+        &self,
+        alloc: Global,
+        file: &F,
+    ) -> Result<Option<Answer>, FileFault>
+        requires { ArePlacedIn (F.content file.now) self.now }
+        ensures answer { (ds : List (List ℕ)) (x : List ℕ)
+            → F.content file.now ≡ Some x → ArePlacedOf self.now.indexed.identity ds x self.now
+            → IfOk result (λ o. IfSome o (λ a.
+            IsAnswer self.now.indexed.identity ds (answer_value a))) }
+        ensures object { (ds : List (List ℕ)) (x : List ℕ)
+            → F.content file.now ≡ Some x → ArePlacedOf self.now.indexed.identity ds x self.now
+            → IfOk result (λ o. IsNone o
+            → ArePlacesOf self.now.indexed.identity ds x self.now × (object : List ℕ)
+            × IsAnswer self.now.indexed.identity ds (Object object)) }
+        ensures none { IfOk result (λ o. IfSome o IsNoObject) }
+        ensures fault { IfErr result (IsFileFault (F.content file.now) (F.reliable file.now)) }
+    {
+        let source = FileSource {
+            file,
+            indexed: &self.indexed,
+        };
+        Ok(first_of_no_object(alloc, &source, &self.codes)?)
+    }
+
+    /// Writes the object block by block, as long as the symbols of a block, all of which are looked
+    /// at, are of one. `None` where all was written; else the answer to the file's datagrams.
+    ///
+    /// `Io` comes only where the writer has failed, and never where it has room for the object.
+    pub fn write_checked<F: ReadAt, W: Write>(
+        &self,
+        alloc: Global,
+        file: &F,
+        writer: &mut W,
+    ) -> Result<Option<Answer>, FileWriteFault>
+        requires { ArePlacedIn (F.content file.now) self.now }
+        ensures written { (ds : List (List ℕ)) (x : List ℕ)
+            → F.content file.now ≡ Some x → ArePlacedOf self.now.indexed.identity ds x self.now
+            → IfOk result (λ o. IsNone o
+            → IsWrittenOf self.now.indexed.identity ds (W.contents writer.old)
+            (W.contents writer.new) self.now.indexed.fti.transfer_length) }
+        ensures answer { (ds : List (List ℕ)) (x : List ℕ)
+            → F.content file.now ≡ Some x → ArePlacedOf self.now.indexed.identity ds x self.now
+            → IfOk result (λ o. IfSome o (λ a.
+            IsAnswer self.now.indexed.identity ds (answer_value a))) }
+        ensures none { IfOk result (λ o. IfSome o IsNoObject) }
+        ensures fault { IfErr result
+            (λ e. e ≡ FileWriteFault.Io → W.failed writer.new ≡ true) }
+        ensures full { IfErr result (λ e. e ≡ FileWriteFault.Io
+            → W.room writer.old < self.now.indexed.fti.transfer_length) }
+        ensures unread { IfErr result
+            (IsFileWriteFault (F.content file.now) (F.reliable file.now)) }
+    {
+        let source = FileSource {
+            file,
+            indexed: &self.indexed,
+        };
+        match write_blocks(alloc, &source, &self.codes, false, writer) {
+            Ok(true) => Ok(None),
+            Ok(false) => match unsound_answer(alloc, &source, &self.codes) {
+                Ok(answer) => Ok(Some(answer)),
+                Err(unread) => Err(FileWriteFault::Unread(unread)),
+            },
+            Err(Unwritten::Writer) => Err(FileWriteFault::Io),
+            Err(Unwritten::Unread(unread)) => Err(FileWriteFault::Unread(unread)),
+        }
+    }
+
     /// Writes the object, and answers its length in bytes. One block of it is held at a time, whose
     /// symbols are read from the file again.
     ///
@@ -201,8 +303,9 @@ impl FileSymbols {
             file,
             indexed: &self.indexed,
         };
-        match write_blocks(alloc, &source, &self.codes, writer) {
-            Ok(()) => Ok(self.indexed.fti.transfer_length()),
+        match write_blocks(alloc, &source, &self.codes, true, writer) {
+            Ok(true) => Ok(self.indexed.fti.transfer_length()),
+            Ok(false) => Err(FileWriteFault::Unread(Unread::Changed)),
             Err(Unwritten::Writer) => Err(FileWriteFault::Io),
             Err(Unwritten::Unread(unread)) => Err(FileWriteFault::Unread(unread)),
         }

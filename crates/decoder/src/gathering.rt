@@ -121,10 +121,11 @@ impl ObjectSymbols<'_> {
             → AreSymbolsOf who ds self.now → IsAnswer who ds (Object object)
             → IfErr result (λ e. e ≡ WriteFault.Io → W.room writer.old < length object) }
     {
-        match write_blocks(alloc, &self.received, &self.codes, writer) {
-            Ok(()) => Ok(self.received.fti.transfer_length()),
+        match write_blocks(alloc, &self.received, &self.codes, true, writer) {
+            Ok(true) => Ok(self.received.fti.transfer_length()),
             Err(Unwritten::Writer) => Err(WriteFault::Io),
-            // Symbols that are held are given.
+            // Symbols that are held are given, and are those of an object.
+            Ok(false) => Err(WriteFault::NoMemory),
             Err(Unwritten::Unread(_)) => Err(WriteFault::NoMemory),
         }
     }

@@ -53,7 +53,9 @@ pub use arrivals::{Arrival, SymbolBytes, push_arrival, seen_of, symbol_at, symbo
 pub use blocks::block_rows;
 pub use counting::Short;
 pub use decoding::decode;
-pub use file_gathering::{FileFault, FileSymbols, FileWriteFault, GatheredFile, gather_file};
+pub use file_gathering::{
+    FileFault, FileSymbols, FileWriteFault, GatheredFile, gather_file, index_file,
+};
 pub use gathering::{Gathered, ObjectSymbols, WriteFault, gather};
 pub use giving::gives;
 pub use received::fault_at;

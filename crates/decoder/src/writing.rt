@@ -1,11 +1,11 @@
 //! An object that is written block by block, so that it is never held.
-ghost use Rattle.std.specs.Prelude.{◌≡◌, ◌<◌, ℕ, true, IfErr, OnOk, OnErr};
+ghost use Rattle.std.specs.Prelude.{◌≡◌, ◌<◌, ℕ, true, false, IfErr, IfOk, OnErr};
 ghost use Rattle.partition.specs.Fti.{block_count};
 ghost use Rattle.block_code.specs.Codes.{EachBlockHas};
 ghost use Rattle.block_code.specs.CodesOf.{IsCodeOf};
 ghost use Rattle.decoder.specs.Decoded.{AreWithin, IsEnoughAt};
 ghost use Rattle.decoder.specs.Sources.{IsUnwrittenOf};
-ghost use Rattle.decoder.specs.Unsolvable.{AreSound};
+ghost use Rattle.decoder.specs.Unsolvable.{AreSound, SomeUnsound};
 ghost use Rattle.decoder.specs.Written.{WritesObject, BeginsObject};
 
 use crate::source::{Source, Unread};
@@ -33,21 +33,26 @@ impl From<Unread> for Unwritten {
     }
 }
 
-/// Solves the blocks one by one, and writes each before the next.
+/// Solves the blocks one by one, and writes each before the next, as long as they are of an object.
+/// Answers whether all are. `are_sound` says that this is known.
 pub(crate) fn write_blocks<S: Source, W: Write>(
     alloc: Global,
     source: &S,
     codes: &BlockCodes,
+    are_sound: bool,
     writer: &mut W,
-) -> Result<(), Unwritten>
+) -> Result<bool, Unwritten>
     requires codes { EachBlockHas (IsCodeOf (S.known source.now)) (S.known source.now) codes.now }
     requires within { S.Told source.now → AreWithin (S.known source.now) (S.at source.now) }
     requires enough { (b : ℕ) → b < block_count (S.known source.now)
         → IsEnoughAt (S.known source.now) b (S.at source.now b) }
-    requires sound { S.Told source.now → AreSound (S.known source.now) (S.at source.now) }
-    ensures ok { S.Told source.now
-        → OnOk result (WritesObject (S.known source.now) (S.at source.now)
+    requires sound { are_sound ≡ true → S.Told source.now
+        → AreSound (S.known source.now) (S.at source.now) }
+    ensures whole { S.Told source.now → IfOk result (λ v. v ≡ true
+        → WritesObject (S.known source.now) (S.at source.now)
         (W.contents writer.old) (W.contents writer.new)) }
+    ensures other { S.Told source.now → IfOk result (λ v. v ≡ false
+        → SomeUnsound (S.known source.now) (S.at source.now)) }
     ensures front { S.Told source.now
         → OnErr result (BeginsObject (S.known source.now) (S.at source.now)
         (W.contents writer.old) (W.contents writer.new)) }
@@ -60,8 +65,8 @@ pub(crate) fn write_blocks<S: Source, W: Write>(
     let mut left = fti.transfer_length();
     let mut kept = None;
     for b in 0..fti.block_count() {
-        let Some(rows) = source.rows(alloc, codes, b, true, &mut kept)? else {
-            return Err(Unwritten::Unread(Unread::Changed));
+        let Some(rows) = source.rows(alloc, codes, b, are_sound, &mut kept)? else {
+            return Ok(false);
         };
         let used = left.min(rows.bytes.len() as u64);
         let Ok(()) = write_all(writer, &rows.bytes[..used as usize]) else {
@@ -69,5 +74,5 @@ pub(crate) fn write_blocks<S: Source, W: Write>(
         };
         left -= used;
     }
-    Ok(())
+    Ok(true)
 }

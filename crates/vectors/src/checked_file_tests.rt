@@ -267,7 +267,8 @@ fn without_a_name(rt: HostRuntime) -> Result<(), Fail> {
 #[derive(Drop)]
 struct Changing<'a> {
     bytes: &'a [u8],
-    others: Option<&'a [u8]>,
+    others: &'a [u8],
+    fails: bool,
     calls: Cell<usize>,
 }
 
@@ -284,10 +285,10 @@ impl ReadAt for Changing<'_> {
             self.calls.set(calls - 1);
             return Ok(copy_at(self.bytes, offset, 100, buf));
         }
-        match self.others {
-            Some(others) => Ok(copy_at(others, offset, 100, buf)),
-            None => Err(Failed),
+        if self.fails {
+            return Err(Failed);
         }
+        Ok(copy_at(self.others, offset, 100, buf))
     }
 }
 
@@ -295,7 +296,8 @@ impl ReadAt for Changing<'_> {
 fn told_of_changing(alloc: Global, others: Option<&[u8]>, calls: usize) -> Option<FilesFault> {
     let session = Changing {
         bytes: &SESSION,
-        others,
+        others: others.unwrap_or(&[]),
+        fails: others.is_none(),
         calls: Cell::new(calls),
     };
     let (object, certificate) = (Bytes(&OBJECT), Bytes(&NAMED_CERTIFICATE));
@@ -332,7 +334,8 @@ fn of_failing_certificates(rt: HostRuntime) -> Result<(), Fail> {
         let (session, object) = (Bytes(&SESSION), Bytes(&OBJECT));
         let certificate = Changing {
             bytes: &NAMED_CERTIFICATE,
-            others: None,
+            others: &[],
+            fails: true,
             calls: Cell::new(calls),
         };
         let files = Files {

@@ -30,10 +30,10 @@ rows-requires-clause-enough g c =
     c.requires.enough c.loop-b.b (omega (arith, many, c.loop-b-test.true))
 
 pub rows-requires-clause-sound : goal.rows-requires-clause-sound
-rows-requires-clause-sound g c = λ _ told.
+rows-requires-clause-sound g c = λ sound told.
     let many = rw c.fti-fti.ensures at c.block_count-b-end.ensures.value in
     let hb : c.loop-b.b < block_count (g.S.Source.known c.args.source.now) = omega (arith, many, c.loop-b-test.true) in
-    c.requires.sound told c.loop-b.b hb (c.requires.enough c.loop-b.b hb)
+    c.requires.sound sound told c.loop-b.b hb (c.requires.enough c.loop-b.b hb)
 
 pub returns-in_err-rows-clause-front : goal.returns-in_err-rows-clause-front
 returns-in_err-rows-clause-front g c = λ told.
@@ -41,19 +41,6 @@ returns-in_err-rows-clause-front g c = λ told.
     let many = rw c.fti-fti.ensures at c.block_count-b-end.ensures.value in
     on_err _ _ (begins_whole (g.S.Source.known c.args.source.now) (subst IsValidFti c.fti-fti.ensures c.transfer_length-left.ensures.valid) (g.S.Source.at c.args.source.now) c.loop-b.b i.object (i.so_far told)
     (omega (arith, many)) _ _ i.written)
-
-pub returns-in_default-clause-front : goal.returns-in_default-clause-front
-returns-in_default-clause-front g c = λ told.
-    let i = c.loop-b.invariant in
-    let many = rw c.fti-fti.ensures at c.block_count-b-end.ensures.value in
-    begins_whole (g.S.Source.known c.args.source.now) (subst IsValidFti c.fti-fti.ensures c.transfer_length-left.ensures.valid) (g.S.Source.at c.args.source.now) c.loop-b.b i.object (i.so_far told)
-    (omega (arith, many)) _ _ i.written
-
-pub returns-in_default-clause-unread : goal.returns-in_default-clause-unread
-returns-in_default-clause-unread g c = λ told.
-    let many = rw c.fti-fti.ensures at c.block_count-b-end.ensures.value in
-    let hb : c.loop-b.b < block_count (g.S.Source.known c.args.source.now) = omega (arith, many, c.loop-b-test.true) in
-    c.in_ok-rows.ensures.none told (rw c.in_default.is refl) (c.requires.sound told c.loop-b.b hb (c.requires.enough c.loop-b.b hb))
 
 pub returns-in_default-write_all-clause-front : goal.returns-in_default-write_all-clause-front
 returns-in_default-write_all-clause-front g c = λ told.
@@ -95,8 +82,8 @@ loop-b-preserved g c =
       kept = c.rows.ensures.keeps;
     }
 
-pub returns-clause-ok : goal.returns-clause-ok
-returns-clause-ok g c = λ told.
+pub returns-clause-whole : goal.returns-clause-whole
+returns-clause-whole g c = λ told _.
     let i = c.loop-b.invariant in
     let many = rw c.fti-fti.ensures at c.block_count-b-end.ensures.value in
     let valid = subst IsValidFti c.fti-fti.ensures c.transfer_length-left.ensures.valid in

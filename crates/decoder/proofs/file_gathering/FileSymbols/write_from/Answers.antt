@@ -4,10 +4,11 @@ use Rattle.reception.specs.Answer as value
 use Rattle.decoder.specs.Decoded.{AreWithin, Answers}
 use Rattle.decoder.specs.InFile.{held_in}
 use Rattle.decoder.specs.Received.{came_at}
-use Rattle.decoder.specs.Unsolvable.{AreSound}
+use Rattle.decoder.specs.Unsolvable.{AreSound, SomeUnsound}
 use Rattle.decoder.specs.Written.{BeginsObject}
 use Rattle.decoder.proofs.Answering.{are_within, stand_of}
-use Rattle.decoder.proofs.FromFile.{told_is}
+use Rattle.decoder.proofs.FromFile.{told_if, told_is}
+use Rattle.decoder.proofs.Unsound.{sound_not_unsound}
 use Rattle.decoder.proofs.GatheredSymbols.{answer_of, begun_of, object_length}
 use Rattle.decoder.proofs.file_gathering.FileSymbols.write_from.Goals as goal
 
@@ -24,19 +25,19 @@ pub write_blocks-requires-clause-enough : goal.write_blocks-requires-clause-enou
 write_blocks-requires-clause-enough g c = c.requires.0.enough (held_in (unwrap_or (g.F.ReadAt.content c.args.file.now) []))
 
 pub write_blocks-requires-clause-sound : goal.write_blocks-requires-clause-sound
-write_blocks-requires-clause-sound g c = λ told.
+write_blocks-requires-clause-sound g c = λ _ told.
     let content = g.F.ReadAt.content c.args.file.now in
     let s = c.args.self.now.indexed.symbols in
     let f = c.args.self.now.indexed.fti in
     let w = rw told.1 at c.requires.1 in
     subst (λ (y : List ℕ). AreSound c.args.self.now.indexed.fti (came_at (held_in y) c.args.self.now.indexed.symbols)) (sym (told_is content told.0 told.1)) w.2.sound
 
-pub returns-in-Ok-clause-written : goal.returns-in-Ok-clause-written
-returns-in-Ok-clause-written g c = λ who ds x told are.
+pub returns-in-Ok-true-clause-written : goal.returns-in-Ok-true-clause-written
+returns-in-Ok-true-clause-written g c = λ who ds x told are.
     let content = g.F.ReadAt.content c.args.file.now in
     let s = c.args.self.now.indexed.symbols in
     let f = c.args.self.now.indexed.fti in
-    let o = c.in-Ok.ensures.ok (x, told, are.indexed.placed) in
+    let o = c.in-Ok-true.ensures.whole (x, told, are.indexed.placed) c.in-Ok-true.field-0-test in
     let answers =
     subst (λ (y : List ℕ). Answers c.args.self.now.indexed.fti (came_at (held_in y) c.args.self.now.indexed.symbols) (value.Object o.object)) (told_is content x told) o.answers in (
       o.object,
@@ -73,3 +74,20 @@ returns-in-Err-Writer-clause-room g c = λ who ds x object told are answer io.
     let s = c.args.self.now.indexed.symbols in
     let f = c.args.self.now.indexed.fti in
     omega (arith, c.in-Err-Writer.ensures.full c.in-Err-Writer.field-0-is, object_length who ds f (came_at (held_in x) s) are.indexed.read are.indexed.received object answer)
+
+pub returns-in-Ok-false-clause-front : goal.returns-in-Ok-false-clause-front
+returns-in-Ok-false-clause-front g c = λ who ds x object told are answer.
+    let f = c.args.self.now.indexed.fti in
+    let s = c.args.self.now.indexed.symbols in
+    let other = subst (λ (y : List ℕ). SomeUnsound c.args.self.now.indexed.fti (came_at (held_in y) c.args.self.now.indexed.symbols)) (told_is (g.F.ReadAt.content c.args.file.now) x told)
+    (c.in-Ok-false.ensures.other (x, told, are.indexed.placed) c.in-Ok-false.field-0-test) in
+    absurd (sound_not_unsound f (came_at (held_in x) s) are.sound other)
+
+pub returns-in-Ok-false-clause-unread : goal.returns-in-Ok-false-clause-unread
+returns-in-Ok-false-clause-unread g c =
+    let content = g.F.ReadAt.content c.args.file.now in
+    told_if content (λ (x : List ℕ). ⊥) (λ x told.
+    let are = (rw told at c.requires.1).2 in
+    let other = subst (λ (y : List ℕ). SomeUnsound c.args.self.now.indexed.fti (came_at (held_in y) c.args.self.now.indexed.symbols)) (told_is (g.F.ReadAt.content c.args.file.now) x told)
+    (c.in-Ok-false.ensures.other (x, told, are.indexed.placed) c.in-Ok-false.field-0-test) in
+    sound_not_unsound c.args.self.now.indexed.fti (came_at (held_in x) c.args.self.now.indexed.symbols) are.sound other)

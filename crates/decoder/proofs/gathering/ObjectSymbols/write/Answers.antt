@@ -3,6 +3,7 @@ use Rattle.reception.specs.Answer.{Object}
 use Rattle.decoder.specs.Received.{bytes_at}
 use Rattle.decoder.proofs.Answering.{are_within, stand_of}
 use Rattle.decoder.proofs.GatheredSymbols.{answer_of, begun_of, object_length}
+use Rattle.decoder.proofs.Unsound.{sound_not_unsound}
 use Rattle.decoder.proofs.gathering.ObjectSymbols.write.Goals as goal
 
 pub write_blocks-requires-clause-within : goal.write_blocks-requires-clause-within
@@ -11,10 +12,10 @@ write_blocks-requires-clause-within g c = λ told.
     let of = c.requires.2 in
     are_within r.fti (bytes_at r.symbols) (stand_of c.requires.0 c.requires.1 r.fti (bytes_at r.symbols) of.received)
 
-pub returns-in-Ok-clause-written : goal.returns-in-Ok-clause-written
-returns-in-Ok-clause-written g c = λ who ds are.
+pub returns-in-Ok-true-clause-written : goal.returns-in-Ok-true-clause-written
+returns-in-Ok-true-clause-written g c = λ who ds are.
     let r = c.args.self.now.received in
-    let w = c.in-Ok.ensures.ok tt in
+    let w = c.in-Ok-true.ensures.whole tt c.in-Ok-true.field-0-test in
     (w.object, answer_of who ds r.fti (bytes_at r.symbols) are.read are.received (Object w.object) w.answers, w.gained, c.transfer_length.ensures.value ∙ sym w.count)
 
 pub returns-in-Err-Writer-clause-front : goal.returns-in-Err-Writer-clause-front
@@ -31,3 +32,8 @@ pub returns-in-Err-Unread-clause-front : goal.returns-in-Err-Unread-clause-front
 returns-in-Err-Unread-clause-front g c = λ who ds object are answer.
     let r = c.args.self.now.received in
     begun_of who ds r.fti (bytes_at r.symbols) are.read are.received _ _ (c.in-Err-Unread.ensures.front tt) object answer
+
+pub returns-in-Ok-false-clause-front : goal.returns-in-Ok-false-clause-front
+returns-in-Ok-false-clause-front g c = λ who ds object are answer.
+    let r = c.args.self.now.received in
+    absurd (sound_not_unsound r.fti (bytes_at r.symbols) are.enough.sound (c.in-Ok-false.ensures.other tt c.in-Ok-false.field-0-test))

@@ -2,28 +2,29 @@ use Rattle.std.specs.Option.{unwrap_or}
 use Rattle.std.proofs.Common.{ℕ, List, [], refl, sym, subst}
 use Rattle.std.proofs.lemmas.Result.{err_from_is_err_and}
 use Rattle.session.specs.Frames.{IsFramed}
-use Rattle.reception.specs.Answer as value
 use Rattle.reception.specs.Answer.{IsAnswer}
-use Rattle.reception.specs.Reception.{with_fti}
-use Rattle.reception.specs.declared.scope.Identity.{Identity}
+use Rattle.reception.specs.Reception.{asked, counted, symbols, with_fti}
+use Rattle.reception.specs.Walks.{readings_of}
+use Rattle.reception.specs.Answer.{clash}
+use Rattle.reception.proofs.Within.{within}
 use Rattle.decoder.specs.Answers.{answer_value}
 use Rattle.decoder.specs.Decoded.{Answers, Stand}
-use Rattle.decoder.specs.PlacesOf.{ArePlacesOf}
+use Rattle.decoder.specs.PlacesOf.{ArePlacedOf}
 use Rattle.decoder.specs.InFile.{held_in, AllStandIn}
 use Rattle.decoder.specs.Received.{came_at}
-use Rattle.decoder.specs.Unsolvable.{AreSound, HaveBytes}
-use Rattle.decoder.specs.declared.file_gathering.FileSymbols.{FileSymbols}
+use Rattle.decoder.specs.Unsolvable.{HaveBytes}
 use Rattle.decoder.proofs.Answering.{stand_of}
 use Rattle.decoder.proofs.FromFile.{told_is, told_if, enough_same, some_any, file_fault_of}
 use Rattle.decoder.proofs.GatheredSymbols.{answer_of}
 use Rattle.decoder.proofs.BytesOfSymbols.{have_bytes}
-use Rattle.decoder.proofs.file_gathering.gather_places.Goals as goal
+use Rattle.decoder.proofs.Unsound.{full_of_enough}
+use Rattle.decoder.proofs.file_gathering.count_places.Goals as goal
 
-pub verdict-requires-clause-range : goal.verdict-requires-clause-range
-verdict-requires-clause-range g c = c.requires.range (held_in (unwrap_or (g.F.ReadAt.content c.args.file.now) []))
+pub short_verdict-requires-clause-range : goal.short_verdict-requires-clause-range
+short_verdict-requires-clause-range g c = c.requires.range (held_in (unwrap_or (g.F.ReadAt.content c.args.file.now) []))
 
-pub verdict-requires-clause-stand : goal.verdict-requires-clause-stand
-verdict-requires-clause-stand g c = λ told.
+pub short_verdict-requires-clause-stand : goal.short_verdict-requires-clause-stand
+short_verdict-requires-clause-stand g c = λ told.
     let content = g.F.ReadAt.content c.args.file.now in
     let s = c.args.indexed.symbols in
     let f = c.args.indexed.fti in
@@ -32,8 +33,8 @@ verdict-requires-clause-stand g c = λ told.
     subst (λ (y : List ℕ). Stand c.args.indexed.fti (came_at (held_in y) c.args.indexed.symbols)) (sym (told_is content told.0 told.1))
     (stand_of who w.0 f (came_at (held_in told.0) s) w.2.received)
 
-pub verdict-requires-clause-bytes : goal.verdict-requires-clause-bytes
-verdict-requires-clause-bytes g c = λ told.
+pub short_verdict-requires-clause-bytes : goal.short_verdict-requires-clause-bytes
+short_verdict-requires-clause-bytes g c = λ told.
     let content = g.F.ReadAt.content c.args.file.now in
     let s = c.args.indexed.symbols in
     let f = c.args.indexed.fti in
@@ -53,8 +54,8 @@ returns-in_err-answer-clause-fault g c =
     (file_fault_of content (g.F.ReadAt.reliable c.args.file.now) (AllStandIn (g.F.ReadAt.content c.args.file.now) (with_fti c.args.indexed.identity c.args.indexed.fti) c.args.indexed.symbols) c.in_err-answer.field-0.0
     c.in_err-answer.ensures.fault (λ x told. (x, told, (c.requires.told x told).2.placed)))
 
-pub returns-in-Some-clause-gathered : goal.returns-in-Some-clause-gathered
-returns-in-Some-clause-gathered g c =
+pub returns-in-Some-clause-indexed : goal.returns-in-Some-clause-indexed
+returns-in-Some-clause-indexed g c =
     let content = g.F.ReadAt.content c.args.file.now in
     let s = c.args.indexed.symbols in
     let f = c.args.indexed.fti in
@@ -68,35 +69,28 @@ returns-in-Some-clause-gathered g c =
           (w.0, w.1, answer_of who w.0 f (came_at (held_in x) s) w.2.read w.2.received (answer_value c.in-Some.answer) answers)),
     )
 
-pub returns-in-None-clause-gathered : goal.returns-in-None-clause-gathered
-returns-in-None-clause-gathered g c =
+pub returns-in-None-clause-indexed : goal.returns-in-None-clause-indexed
+returns-in-None-clause-indexed g c =
     let content = g.F.ReadAt.content c.args.file.now in
     let s = c.args.indexed.symbols in
     let f = c.args.indexed.fti in
     let who = c.args.indexed.identity in
-    let made : FileSymbols = record { indexed = c.args.indexed; codes = c.in_ok-codes.codes } in
     let enough = (rw c.in-None.is at c.in_ok-answer.ensures.enough) refl in (
+      refl,
       (
         record {
           codes = c.in_ok-codes.ensures;
           range = c.requires.range;
           enough = λ held b hb. enough_same f b _ _ (λ j lj. some_any (held_in (unwrap_or content [])) held s b j) (enough b hb);
         },
-        told_if content (λ (x : List ℕ). (who : Identity) × (ds : List (List ℕ)) × ArePlacesOf who ds x (record { indexed = c.args.indexed; codes = c.in_ok-codes.codes })) (λ x told.
-            let w = c.requires.told x told in
-            let v = rw c.in-None.is at (c.in_ok-answer.ensures.told (x, told, w.2.placed)) in
-            let sound = subst (λ (y : List ℕ). AreSound c.args.indexed.fti (came_at (held_in y) c.args.indexed.symbols)) (told_is content x told) v.0 in
-            (who, w.0, record { framed = w.1; indexed = w.2; sound = sound })),
+        told_if content (λ (x : List ℕ). (ds : List (List ℕ)) × ArePlacedOf c.args.indexed.identity ds x (record { indexed = c.args.indexed; codes = c.in_ok-codes.codes })) (λ x told.
+            let w = c.requires.told x told in (
+              w.0,
+              record {
+                framed = w.1;
+                indexed = w.2;
+                full = λ b hb. full_of_enough f c.is_valid.ensures (symbols (counted who (readings_of w.0))) (came_at (held_in x) s) w.2.received.index (within clash (asked who) (readings_of w.0) f w.2.received.clean) b hb (enough_same f b _ _ (λ j lj. some_any (held_in (unwrap_or content [])) (held_in x) s b j) (enough b hb));
+              },
+            )),
       ),
-      told_if content (λ (x : List ℕ). (ds : List (List ℕ)) × ArePlacesOf c.args.indexed.identity ds x (record { indexed = c.args.indexed; codes = c.in_ok-codes.codes })
-          × (object : List ℕ) × IsAnswer c.args.indexed.identity ds (value.Object object)) (λ x told.
-          let w = c.requires.told x told in
-          let v = rw c.in-None.is at (c.in_ok-answer.ensures.told (x, told, w.2.placed)) in
-          let sound = subst (λ (y : List ℕ). AreSound c.args.indexed.fti (came_at (held_in y) c.args.indexed.symbols)) (told_is content x told) v.0 in
-          let answers = subst (λ (y : List ℕ). Answers c.args.indexed.fti (came_at (held_in y) c.args.indexed.symbols) (value.Object v.1)) (told_is content x told) v.2 in (
-            w.0,
-            record { framed = w.1; indexed = w.2; sound = sound },
-            v.1,
-            answer_of who w.0 f (came_at (held_in x) s) w.2.read w.2.received (value.Object v.1) answers,
-          )),
     )

@@ -3,11 +3,11 @@ use Rattle.session.specs.Frames.{IsFramed, AreDatagrams}
 use Rattle.reception.specs.Answer as value
 use Rattle.reception.specs.Answer.{IsAnswer}
 use Rattle.reception.specs.Walks.{readings_of}
-use Rattle.decoder.proofs.FromFile.{told_if, if_told, readings, told_gathered}
-use Rattle.decoder.proofs.file_gathering.gather_file.Goals as goal
+use Rattle.decoder.proofs.FromFile.{told_if, if_told, readings, told_indexed}
+use Rattle.decoder.proofs.file_gathering.index_file.Goals as goal
 
-pub returns-in-Ok-None-clause-gathered : goal.returns-in-Ok-None-clause-gathered
-returns-in-Ok-None-clause-gathered g c =
+pub returns-in-Ok-None-clause-indexed : goal.returns-in-Ok-None-clause-indexed
+returns-in-Ok-None-clause-indexed g c =
     let content = g.F.ReadAt.content c.args.file.now in
     let reliable = g.F.ReadAt.reliable c.args.file.now in
     let who = c.args.identity in (
@@ -25,18 +25,18 @@ returns-in-Ok-None-clause-gathered g c =
           )),
     )
 
-pub returns-in-Err-clause-gathered : goal.returns-in-Err-clause-gathered
-returns-in-Err-clause-gathered g c =
+pub returns-in-Err-clause-indexed : goal.returns-in-Err-clause-indexed
+returns-in-Err-clause-indexed g c =
     let content = g.F.ReadAt.content c.args.file.now in
     let reliable = g.F.ReadAt.reliable c.args.file.now in
     let who = c.args.identity in
-    told_gathered who content reliable c.in-Err.fault c.told_of.result c.told_of.ensures.answer c.in-Err.ensures.unindexed (λ x ds told framed. c.in-Err.ensures.fault x ds told framed)
+    told_indexed who content reliable c.in-Err.fault c.told_of.result c.told_of.ensures.answer c.in-Err.ensures.unindexed (λ x ds told framed. c.in-Err.ensures.fault x ds told framed)
 
 pub returns-in-Err-clause-fault : goal.returns-in-Err-clause-fault
 returns-in-Err-clause-fault g c = c.told_of.ensures.fault (g.F.ReadAt.content c.args.file.now) (g.F.ReadAt.reliable c.args.file.now) c.in-Err.ensures.unindexed
 
-pub gather_places-requires-clause-told : goal.gather_places-requires-clause-told
-gather_places-requires-clause-told g c = λ x told.
+pub count_places-requires-clause-told : goal.count_places-requires-clause-told
+count_places-requires-clause-told g c = λ x told.
     let content = g.F.ReadAt.content c.args.file.now in
     let reliable = g.F.ReadAt.reliable c.args.file.now in
     let who = c.args.identity in
@@ -44,12 +44,12 @@ gather_places-requires-clause-told g c = λ x told.
     let known = rw c.in-Ok-Some.field-0-is at (c.in-Ok-Some.ensures.some x w.0 told w.1) in
     (w.0, w.1, record { read = readings w.0 w.2; received = c.in-Ok.ensures.received x w.0 told w.1 known; placed = c.in-Ok.ensures.placed x told })
 
-pub returns-in-Err-index-clause-gathered : goal.returns-in-Err-index-clause-gathered
-returns-in-Err-index-clause-gathered g c =
+pub returns-in-Err-index-clause-indexed : goal.returns-in-Err-index-clause-indexed
+returns-in-Err-index-clause-indexed g c =
     let content = g.F.ReadAt.content c.args.file.now in
     let reliable = g.F.ReadAt.reliable c.args.file.now in
     let who = c.args.identity in
-    told_gathered who content reliable c.in-Err-index.fault c.told_of-in-Err-index.result c.told_of-in-Err-index.ensures.answer c.in-Err-index.ensures.unindexed (λ x ds told framed.
+    told_indexed who content reliable c.in-Err-index.fault c.told_of-in-Err-index.result c.told_of-in-Err-index.ensures.answer c.in-Err-index.ensures.unindexed (λ x ds told framed.
     let known = rw c.in-Ok-Some.field-0-is at (c.in-Ok-Some.ensures.some x ds told framed) in
     c.in-Err-index.ensures.fault x ds told framed known)
 
