@@ -1,5 +1,5 @@
 -- A session that was decoded, by its parts.
-use Rattle.std.proofs.Common.{◌≡◌, ◌∙◌, ℕ, List, [], ◌∷◌, Some, None, Result, Err, refl, sym, ap, subst, length, codes}
+use Rattle.std.proofs.Common.{◌≡◌, ◌∙◌, ℕ, List, [], ◌∷◌, Option, Some, None, Result, Err, inl, refl, sym, ap, subst, length, codes}
 use Rattle.std.specs.Prelude.{IfErr}
 use Rattle.reception.specs.Answer as value
 use Rattle.reception.specs.Answer.{IsAnswer}
@@ -10,11 +10,12 @@ use Rattle.decoder.specs.declared.answer.Answer.TheVariants.{Empty, Fault, Missi
 use Rattle.decoder.specs.declared.answer.DecodeFault.TheVariants.{Packet, OtherFti, SymbolLength, Range, Clash, NotCode}
 use Rattle.request.specs.declared.requests.DecodeRequest.{DecodeRequest}
 use Rattle.request.specs.declared.requests.Request.TheVariants.{Decode}
-use Rattle.host.specs.World.{IsFree, World, Replaces, one_more}
+use Rattle.host.specs.World.{Files, IsFree, World, Replaces, one_more}
 use Rattle.tool.specs.Inputs.{ASession, Datagrams, HasValue}
 use Rattle.tool.specs.Lines.{line_of, count_line, answer_text}
 use Rattle.tool.specs.Commands.{answer_status, object_of}
-use Rattle.tool.specs.Outcomes.{MayCreate, IsBecause}
+use Rattle.tool.specs.Outcomes.{MayCreate, IsBecause, LeaveNothingOut}
+use Rattle.reception.specs.declared.scope.Identity.{Identity}
 use Rattle.tool.specs.Doing.{text_of, HasMade}
 use Rattle.tool.specs.Decoding.{IsToldOf, IsWriteBroken}
 use Rattle.tool.specs.declared.done.Done.{Done}
@@ -44,7 +45,7 @@ module _ (old new : World) (r : DecodeRequest) (ds : List (List ℕ)) (held : Ha
       values = Datagrams ds ∷ [];
       read = (held, tt);
       gives = (answer_value answer, is, (refl, refl, sym (no_bytes answer none)));
-      made = (files, created);
+      made = (files, inl created);
     };
     text = sym told.0;
     status = sym told.1;
@@ -67,10 +68,17 @@ module _ (old new : World) (r : DecodeRequest) (ds : List (List ℕ)) (held : Ha
     silent = silent;
   }
 
+-- datagrams that give an object leave nothing out
+pub object_of_all : (who : Identity) (ds : List (List ℕ)) (object : List ℕ) → IsAnswer who ds (value.Object object) → LeaveNothingOut who ds
+object_of_all who ds object is = (is.readings, is.read, is.answers.0, is.answers.1, is.answers.3)
+
+may_create : (files : Option Files) (r : DecodeRequest) (ds : List (List ℕ)) → HasValue files (ASession r.session.now) (Datagrams ds) → LeaveNothingOut r.identity ds → MayCreate files (Decode r)
+may_create None r ds held all = tt
+may_create (Some files) r ds held all = (held.0, held.1, (ds, held.2, all))
+
 pub may_write : (old : World) (r : DecodeRequest) (ds : List (List ℕ)) → HasValue old.files (ASession r.session.now) (Datagrams ds) → (object : List ℕ)
     → IsAnswer r.identity ds (value.Object object) → MayCreate old.files (Decode r)
-may_write old r ds held object is =
-    (Datagrams ds ∷ [], record { text = line_of (answer_text (value.Object object)); status = 0; output = Some object }, object, (held, tt), (value.Object object, is, (refl, refl, refl)), refl)
+may_write old r ds held object is = may_create old.files r ds held (object_of_all r.identity ds object is)
 
 -- why the object isn't written
 for_fault : (old new : World) (r : DecodeRequest) (f : told.Fault) → IsWriteBroken (unwritten.Fault f) → IsBecause old new (Decode r) [] f

@@ -1,5 +1,5 @@
 -- A session file that was decoded where it stands, by its parts.
-use Rattle.std.proofs.Common.{◌≡◌, ◌∙◌, ℕ, Bool, List, [], ◌∷◌, Option, Some, None, Result, Err, inl, refl, sym, ap, subst, length, codes}
+use Rattle.std.proofs.Common.{◌≡◌, ◌⊎◌, ◌∙◌, ℕ, Bool, false, List, [], ◌∷◌, Option, Some, None, Result, Err, inl, inr, refl, sym, ap, subst, length, codes}
 use Rattle.std.specs.Prelude.{IfErr, IfSome}
 use Rattle.std.specs.Borrow.{Bor}
 use Rattle.session.specs.Frames.{StopsAt}
@@ -15,20 +15,22 @@ use Rattle.decoder.specs.declared.source.Unread.TheVariants as unread
 use Rattle.reception.specs.declared.scope.Identity.{Identity}
 use Rattle.std.specs.Prelude.{replicate}
 use Rattle.std.proofs.lemmas.List.{length-replicate}
-use Rattle.decoder.specs.PlacesOf.{ArePlacesOf}
-use Rattle.decoder.specs.GatheringIn.{IsFileFault}
+use Rattle.decoder.specs.PlacesOf.{ArePlacedOf}
+use Rattle.decoder.specs.GatheringIn.{IsFileFault, IsIndexedIn}
+use Rattle.decoder.specs.declared.file_gathering.GatheredFile.TheVariants as gathered
+use Rattle.reception.specs.Readings.{readings_of}
 use Rattle.decoder.specs.ReadAgain.{fault_of}
 use Rattle.decoder.specs.declared.file_gathering.FileSymbols.{FileSymbols}
 use Rattle.tool.proofs.Stopping.{kept_whole}
 use Rattle.decoder.specs.declared.answer.Answer.{Answer}
 use Rattle.request.specs.declared.requests.DecodeRequest.{DecodeRequest}
 use Rattle.request.specs.declared.requests.Request.TheVariants.{Decode}
-use Rattle.host.specs.World.{Files, GivesFile, Holds, IsFree, World, Replaces, one_more}
+use Rattle.host.specs.World.{Files, GivesFile, Holds, IsFree, IsSilent, KeepsFiles, MayFail, Replaces, World, one_more}
 use Rattle.tool.specs.Inputs.{ASession, Opened, HasValue, IsUnread}
 use Rattle.tool.specs.Lines.{line_of, count_line, answer_text}
 use Rattle.tool.specs.Commands.{answer_status, IsAnswerIn}
 use Rattle.tool.specs.Outcomes.{MayCreate, IsBecause}
-use Rattle.tool.specs.Doing.{text_of, HasMade}
+use Rattle.tool.specs.Doing.{HasMade, HasStopped, text_of}
 use Rattle.tool.specs.Decoding.{IsToldOf, IsWriteBrokenFrom}
 use Rattle.tool.specs.declared.done.Done.{Done}
 use Rattle.tool.specs.declared.fault.Fault as told
@@ -67,8 +69,8 @@ module _ (w : World) (name : Bor (List ℕ)) (content : Option (List ℕ)) (reli
   frame_unread (frame_fault.NoSuchPlace p) h = h
 
 module _ (old new : World) (r : DecodeRequest) (content : Option (List ℕ)) (held : HasValue old.files (ASession r.session.now) (Opened content)) (silent : new.printed ≡ old.printed) where
-  pub none_decoded_in : (answer : Answer) → IsAnswerIn r.identity content (answer_value answer) → IsNoObject answer → new.files ≡ old.files → new.created ≡ old.created
-      → (done : Done) → IsToldOf (answer_value answer) done → HasMade old new (Decode r) done
+  pub none_decoded_in : (answer : Answer) → IsAnswerIn r.identity content (answer_value answer) → IsNoObject answer → new.files ≡ old.files
+      → (new.created ≡ old.created) ⊎ ((new.created ≡ one_more old.created) × MayCreate old.files (Decode r)) → (done : Done) → IsToldOf (answer_value answer) done → HasMade old new (Decode r) done
   none_decoded_in answer is none files created done told = record {
     outcome = record { text = line_of (answer_text (answer_value answer)); status = answer_status (answer_value answer); output = None };
     makes = record {
@@ -98,46 +100,59 @@ module _ (old new : World) (r : DecodeRequest) (content : Option (List ℕ)) (he
     silent = silent;
   }
 
-pub may_write_in : (old : World) (r : DecodeRequest) (content : Option (List ℕ)) → HasValue old.files (ASession r.session.now) (Opened content) → (object : List ℕ)
-    → IsAnswerIn r.identity content (value.Object object) → MayCreate old.files (Decode r)
-may_write_in old r content held object is =
-    (Opened content ∷ [], record { text = line_of (answer_text (value.Object object)); status = 0; output = Some object }, object, (held, tt), (value.Object object, is, (refl, refl, refl)), refl)
+-- what places tell of the session's file
+abbrev pub Placed : Identity → Option (List ℕ) → FileSymbols → Type 0
+Placed who content s = IfSome content (λ x. (ds : List (List ℕ)) × ArePlacedOf who ds x s)
 
--- some object is the answer, where nothing is told
-pub some_object : (content : Option (List ℕ)) (P : List ℕ → List ℕ → Type 0) → IfSome content (λ x. (object : List ℕ) × P x object) → (object : List ℕ) × IfSome content (λ x. P x object)
-some_object None P h = ([], tt)
-some_object (Some x) P h = (h.0, h.1)
+pub placed_of : (who : Identity) (content : Option (List ℕ)) (s : FileSymbols) → IsIndexedIn who content (gathered.Symbols s) → Placed who content s
+placed_of who content s h = subst (λ (w : Identity). Placed w content s) h.0 h.1.1
+
+-- the output was created and given up
+pub given_up : (old mid new : World) (r : DecodeRequest) → MayCreate old.files (Decode r) → mid.files ≡ old.files → IsSilent old mid → mid.created ≡ one_more old.created → KeepsFiles mid new
+    → IsSilent mid new → HasStopped old new (Decode r) told_as.Memory
+given_up old mid new r may files silent created keeps silent_then = record {
+  stopped = record { because = tt; before = refl; files = keeps.files ∙ files; created = inr (keeps.created ∙ created, may) };
+  silent = silent_then.printed ∙ silent.printed;
+}
+
+-- an output may be created of them
+pub may_write_in : (files : Option Files) (r : DecodeRequest) (content : Option (List ℕ)) (s : FileSymbols) → Holds files r.session.now (λ bytes. content ≡ Some bytes) → Placed r.identity content s
+    → MayCreate files (Decode r)
+may_write_in None r content s given placed = tt
+may_write_in (Some held) r content s given placed =
+    let w = rw given.2 at placed in
+    (given.0, given.1, (w.0, w.1.framed, (readings_of w.0, w.1.indexed.read, s.indexed.fti, w.1.indexed.received.clean, w.1.full)))
 
 -- why the object isn't written
 pub because_unread : (old new : World) (r : DecodeRequest) (w : Result ℕ Unwritten) → IfErr w (IsWriteBrokenFrom old r.session.now) → (f : told.Fault) → w ≡ Err (unwritten.Fault f) → IsBecause old new (Decode r) [] f
 because_unread old new r w why f is = by_unread old new (Decode r) [] f (inl (subst (λ (x : Result ℕ Unwritten). IfErr x (IsWriteBrokenFrom old r.session.now)) is why))
 
--- the object that the file's datagrams give; any, where nothing is told of them
-pub gathered_object : (who : Identity) (content : Option (List ℕ)) (s : FileSymbols) → IfSome content (λ x. (ds : List (List ℕ)) × ArePlacesOf who ds x s × (object : List ℕ) × IsAnswer who ds (value.Object object))
-    → (object : List ℕ) × IsAnswerIn who content (value.Object object)
-gathered_object who None s h = ([], tt)
-gathered_object who (Some x) s h = (h.2, (h.0, h.1.framed, h.3))
-
-nothing_held : (files : Option Files) (name : List ℕ) → HasValue files (ASession name) (Opened None) → files ≡ None
+nothing_held : (files : Option Files) (name : List ℕ) → Holds files name (λ bytes. None ≡ Some bytes) → files ≡ None
 nothing_held None name h = refl
-nothing_held (Some held) name h = absurd (let e = h.2.0 in cc)
+nothing_held (Some held) name h = absurd (let e = h.2 in cc)
 
 -- what was written is the object
 pub delivered_from : (old new : World) (mid : Option Files) (r : DecodeRequest) (content : Option (List ℕ)) (s : FileSymbols) (blank contents : Option (List ℕ)) (count : ℕ)
-    → HasValue old.files (ASession r.session.now) (Opened content) → new.printed ≡ old.printed
-    → IfSome content (λ x. (ds : List (List ℕ)) × ArePlacesOf r.identity ds x s × (object : List ℕ) × IsAnswer r.identity ds (value.Object object))
-    → ((ds : List (List ℕ)) (x : List ℕ) → content ≡ Some x → ArePlacesOf r.identity ds x s → IsWrittenOf r.identity ds blank contents count)
+    → Holds old.files r.session.now (λ bytes. content ≡ Some bytes) → new.printed ≡ old.printed → Placed r.identity content s
+    → ((ds : List (List ℕ)) (x : List ℕ) → content ≡ Some x → ArePlacedOf r.identity ds x s → IsWrittenOf r.identity ds blank contents count)
     → IfSome old.files (λ held. blank ≡ Some []) → mid ≡ old.files → IfSome contents (Replaces mid new.files r.output.name.now)
     → new.created ≡ one_more old.created → IsFree old.files r.output.name.now r.output.no_clobber
     → (done : Done) → count_line (codes "object") count (codes " bytes") ≡ text_of done.told → 0 ≡ done.status → HasMade old new (Decode r) done
-delivered_from old new mid r None s blank contents count held silent gathered written empty same kept created free done text status =
-    let none = nothing_held old.files r.session.now held in
-    object_decoded_in old new r None held silent (replicate count 0) count tt (sym (length-replicate count 0))
+delivered_from old new mid r None s blank contents count given silent placed written empty same kept created free done text status =
+    let none = nothing_held old.files r.session.now given in
+    object_decoded_in old new r None (session_held old.files r.session.now None r.identity (value.Object (replicate count 0)) given tt) silent (replicate count 0) count tt (sym (length-replicate count 0))
     (subst (λ (f : Option Files). Replaces f new.files r.output.name.now (replicate count 0)) (sym none) tt) created free done text status
-delivered_from old new mid r (Some x) s blank contents count held silent gathered written empty same kept created free done text status =
-    let w = written gathered.0 x refl gathered.1 in
-    object_decoded_in old new r (Some x) held silent w.0 count (gathered.0, gathered.1.framed, w.1) w.3
+delivered_from old new mid r (Some x) s blank contents count given silent placed written empty same kept created free done text status =
+    let w = written placed.0 x refl placed.1 in
+    let is : IsAnswerIn r.identity (Some x) (value.Object w.0) = (placed.0, placed.1.framed, w.1) in
+    object_decoded_in old new r (Some x) (session_held old.files r.session.now (Some x) r.identity (value.Object w.0) given is) silent w.0 count is w.3
     (kept_whole old.files mid new.files r.output.name.now w.0 blank contents empty w.2 same kept) created free done text status
+
+-- the symbols turned out to be of no object
+pub refuted_in : (who : Identity) (content : Option (List ℕ)) (s : FileSymbols) (answer : Answer) → Placed who content s
+    → ((ds : List (List ℕ)) (x : List ℕ) → content ≡ Some x → ArePlacedOf who ds x s → IsAnswer who ds (answer_value answer)) → IsAnswerIn who content (answer_value answer)
+refuted_in who None s answer placed is = tt
+refuted_in who (Some x) s answer placed is = (placed.0, placed.1.framed, is placed.0 x refl placed.1)
 
 -- why a symbol isn't there again, as a fault of the file
 pub again_fault : (content : Option (List ℕ)) (reliable : Bool) (u : Unread) → IsNotAgain content reliable u → IsFileFault content reliable (fault_of u)

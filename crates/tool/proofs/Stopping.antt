@@ -1,5 +1,5 @@
 -- Why a request wasn't done, by its parts.
-use Rattle.std.proofs.Common.{◌≡◌, ◌⊎◌, ◌∙◌, ℕ, List, [], Option, Some, None, Result, Ok, Err, inl, inr, refl, sym, ap, subst}
+use Rattle.std.proofs.Common.{◌≡◌, ◌⊎◌, ◌∙◌, ℕ, true, List, [], Option, Some, None, Result, Ok, Err, inl, inr, refl, sym, ap, subst}
 use Rattle.std.specs.Prelude.{IfSome, IfErr, IsErrAnd}
 use Rattle.std.specs.Io.KnownBytes.{Appends}
 use Rattle.std.proofs.KnownBytes.{Appends-nil}
@@ -7,9 +7,10 @@ use Rattle.request.specs.declared.requests.Output.{Output}
 use Rattle.request.specs.declared.requests.Request.{Request}
 use Rattle.request.specs.declared.requests.Request.TheVariants.{Check, Twin, Show, Encode, Certify, Convert, Decode, Follow, Drop, Salvage, Join}
 use Rattle.host.specs.World.{Files, World, IsToStay, MayFail, KeepsFiles, IsSilent, Replaces, one_more}
-use Rattle.tool.specs.Commands.{output_of, Refuses}
-use Rattle.tool.specs.Outcomes.{IsUnmade, IsUnhad, IsBecause, BeginsText, MayCreate}
-use Rattle.tool.specs.Doing.{HasStopped, IsUncreated, IsUncommitted, IsUndone, IsUnkept}
+use Rattle.tool.specs.Commands.{Outcome, output_of, Refuses}
+use Rattle.tool.specs.Outcomes.{IsDone, IsMade, IsOutput, IsUnmade, IsUnhad, IsUnprinted, IsBecause, BeginsText, Makes, MayCreate}
+use Rattle.tool.specs.Doing.{text_of, HasMade, HasStopped, IsUncreated, IsUncommitted, IsUndone, IsUnkept}
+use Rattle.tool.specs.declared.done.Done.{Done}
 use Rattle.tool.specs.declared.fault.Fault.{Fault}
 use Rattle.tool.specs.declared.fault.Fault.TheVariants.{Open, File, Memory, Frame, Certificate, Fti, Send, NoPlace}
 use Rattle.tool.specs.declared.fault.Stop.TheVariants.{ByFault}
@@ -166,3 +167,53 @@ unmade_before old mid new r files (NoPlace n) (may, is, created) = (may_fail_bef
 -- nothing was printed, and the fault is to be told
 pub undone : (old new : World) (r : Request) (fault : Fault) → HasStopped old new r fault → IsUndone old new r (ByFault fault)
 undone old new r fault h = ([], subst (λ (o : Option (List ℕ)). Appends old.printed o []) (sym h.silent) (Appends-nil old.printed), h.stopped)
+
+-- ---- what was made stays so while only lines are printed
+
+output_then : (old mid new : World) (name : Option Output) (o : Option (List ℕ)) → new.files ≡ mid.files → new.created ≡ mid.created → IsOutput old mid name o → IsOutput old new name o
+output_then old mid new None (Some bytes) files created h = absurd h
+output_then old mid new None None files created h = (files ∙ h.0, created ∙ h.1)
+output_then old mid new (Some output) None files created h = (files ∙ h.0, created ∙ h.1)
+output_then old mid new (Some output) (Some bytes) files created h = (subst (λ (f : Option Files). Replaces old.files f output.name.now bytes) (sym files) h.0, created ∙ h.1, h.2)
+
+pub made_then : (old mid new : World) (r : Request) (o : Option (List ℕ)) → new.files ≡ mid.files → new.created ≡ mid.created → IsMade old mid r o → IsMade old new r o
+made_then old mid new (Decode r) None files created h = (
+  files ∙ h.0,
+  elim h.1 [
+    | inl same ↦ inl (created ∙ same)
+    | inr more ↦ inr (created ∙ more.0, more.1)
+  ],
+)
+made_then old mid new (Decode r) (Some bytes) files created h = output_then old mid new (output_of (Decode r)) (Some bytes) files created h
+made_then old mid new (Check r) o files created h = output_then old mid new (output_of (Check r)) o files created h
+made_then old mid new (Twin r) o files created h = output_then old mid new (output_of (Twin r)) o files created h
+made_then old mid new (Show r) o files created h = output_then old mid new (output_of (Show r)) o files created h
+made_then old mid new (Encode r) o files created h = output_then old mid new (output_of (Encode r)) o files created h
+made_then old mid new (Certify r) o files created h = output_then old mid new (output_of (Certify r)) o files created h
+made_then old mid new (Convert r) o files created h = output_then old mid new (output_of (Convert r)) o files created h
+made_then old mid new (Follow r) o files created h = output_then old mid new (output_of (Follow r)) o files created h
+made_then old mid new (Drop r) o files created h = output_then old mid new (output_of (Drop r)) o files created h
+made_then old mid new (Salvage r) o files created h = output_then old mid new (output_of (Salvage r)) o files created h
+made_then old mid new (Join r) o files created h = output_then old mid new (output_of (Join r)) o files created h
+
+makes_then : (old mid new : World) (r : Request) (outcome : Outcome) → KeepsFiles mid new → Makes old mid r outcome → Makes old new r outcome
+makes_then old mid new r outcome keeps makes = record {
+  values = makes.values;
+  read = makes.read;
+  gives = makes.gives;
+  made = made_then old mid new r outcome.output keeps.files keeps.created makes.made;
+}
+
+pub done_then : (old mid new : World) (r : Request) (d : Done) → HasMade old mid r d → KeepsFiles mid new → Appends mid.printed new.printed (text_of d.told) → IsDone old new r d.status
+done_then old mid new r d made keeps printed = record {
+  outcome = made.outcome;
+  makes = makes_then old mid new r made.outcome keeps made.makes;
+  printed = subst (λ (p : Option (List ℕ)). Appends p new.printed made.outcome.text) made.silent (subst (λ (t : List ℕ). Appends mid.printed new.printed t) (sym made.text) printed);
+  is_status = sym made.status;
+}
+
+pub unprinted_then : (old mid new : World) (r : Request) (d : Done) → HasMade old mid r d → KeepsFiles mid new → new.failed ≡ true → IsUnprinted old new r
+unprinted_then old mid new r d made keeps failed = record {
+  failed = failed;
+  done = inr (inl (made.outcome, makes_then old mid new r made.outcome keeps made.makes));
+}

@@ -1,7 +1,13 @@
 -- What a command does.
 use Rattle.std.specs.Prelude.{◌≡◌, ◌⊎◌, ℕ, true, List, [], Option, Some, None, ⊤}
 use Rattle.std.specs.Io.KnownBytes.{Appends}
+use Rattle.partition.specs.Fti.{Fti}
+use Rattle.session.specs.Frames.{IsFramed}
 use Rattle.alc.specs.Reading.{Reading}
+use Rattle.reception.specs.declared.scope.Identity.{Identity}
+use Rattle.reception.specs.Answer.{reception_of}
+use Rattle.reception.specs.Reception.{IsClean, ReadAll}
+use Rattle.reception.specs.Symbols.{AllFull}
 use Rattle.receiver.specs.Receiving.{LeaveNoneShort}
 use Rattle.request.specs.declared.requests.Output.{Output}
 use Rattle.request.specs.declared.requests.Request.{Request}
@@ -26,12 +32,48 @@ IsOutput old new (Some output) (Some bytes) =
 IsOutput old new None (Some bytes) = ⊥
 IsOutput old new name None = (new.files ≡ old.files) × (new.created ≡ old.created)
 
+-- no datagram has a fault, a carrier came, and no block is short
+abbrev pub LeaveNothingOut : Identity → List (List ℕ) → Type 0
+LeaveNothingOut who datagrams = (readings : List Reading) × ReadAll datagrams readings × (f : Fti)
+    × IsClean (reception_of who readings) f × AllFull f (reception_of who readings).symbols
+
+-- Whether an output may be created before a fault: of an object, once datagrams leave nothing out;
+-- of a picture, where the answer is yes; of a session without some places, once it is there and the
+-- file of places is read; else once all inputs are there.
+abbrev pub GivesOutput : Option Files → Request → Type 0
+GivesOutput files r =
+    (values : List Value) × (outcome : Outcome) × (bytes : List ℕ)
+    × HaveValues files (inputs_of r) values × Gives r values outcome × (outcome.output ≡ Some bytes)
+
+abbrev pub MayCreate : Option Files → Request → Type 0
+MayCreate files (Check r) = GivesOutput files (Check r)
+MayCreate files (Show r) = ⊥
+MayCreate files (Twin r) = GivesOutput files (Twin r)
+MayCreate files (Decode r) = Holds files r.session.now
+    (λ bytes. (datagrams : List (List ℕ)) × IsFramed datagrams bytes
+    × LeaveNothingOut r.identity datagrams)
+MayCreate files (Follow r) =
+    (opened : Option (List ℕ)) × HasValue files (AStream r.session.now) (Opened opened)
+    × (left : Option (List ℕ)) × (read : ℕ) × (taken : List (List ℕ)) × (lines : List ℕ)
+    × IsHeard r.identity opened left read taken lines × LeaveNoneShort r.identity taken
+MayCreate files (Drop r) = Holds files r.session.now (λ bytes. ⊤)
+    × ((values : List Value) × HaveValues files (place_inputs r.places_file) values)
+MayCreate files r = AreThere files (inputs_of r)
+
+-- What was made of an output's bytes. An object is written while its symbols are looked at: where
+-- they turn out to be of none, its output was created, and is given up.
+abbrev pub IsMade : World → World → Request → Option (List ℕ) → Type 0
+IsMade old new (Decode r) None = (new.files ≡ old.files)
+    × ((new.created ≡ old.created)
+    ⊎ ((new.created ≡ one_more old.created) × MayCreate old.files (Decode r)))
+IsMade old new r output = IsOutput old new (output_of r) output
+
 -- What the inputs give was done, but for what is printed.
 pub record Makes (old new : World) (r : Request) (outcome : Outcome) : Type 0 where
   pub values : List Value
   pub read : HaveValues old.files (inputs_of r) values
   pub gives : Gives r values outcome
-  pub made : IsOutput old new (output_of r) outcome.output
+  pub made : IsMade old new r outcome.output
 
 -- The request was done: its output is there, and its lines were printed; the status.
 pub record IsDone (old new : World) (r : Request) (status : ℕ) : Type 0 where
@@ -56,27 +98,6 @@ IsUnhad world (Drop r) fault =
     × IsFirstUnread world (inputs_of (Drop r)) fault)
 IsUnhad world (Show r) fault = IsUnopened world r.session.now fault
 IsUnhad world r fault = IsFirstUnread world (inputs_of r) fault
-
--- Whether an output may be created before a fault: of an object that datagrams give, once they do;
--- of a picture, where the answer is yes; of a session without some places, once it is there and the
--- file of places is read; else once all inputs are there.
-abbrev pub GivesOutput : Option Files → Request → Type 0
-GivesOutput files r =
-    (values : List Value) × (outcome : Outcome) × (bytes : List ℕ)
-    × HaveValues files (inputs_of r) values × Gives r values outcome × (outcome.output ≡ Some bytes)
-
-abbrev pub MayCreate : Option Files → Request → Type 0
-MayCreate files (Check r) = GivesOutput files (Check r)
-MayCreate files (Show r) = ⊥
-MayCreate files (Twin r) = GivesOutput files (Twin r)
-MayCreate files (Decode r) = GivesOutput files (Decode r)
-MayCreate files (Follow r) =
-    (opened : Option (List ℕ)) × HasValue files (AStream r.session.now) (Opened opened)
-    × (left : Option (List ℕ)) × (read : ℕ) × (taken : List (List ℕ)) × (lines : List ℕ)
-    × IsHeard r.identity opened left read taken lines × LeaveNoneShort r.identity taken
-MayCreate files (Drop r) = Holds files r.session.now (λ bytes. ⊤)
-    × ((values : List Value) × HaveValues files (place_inputs r.places_file) values)
-MayCreate files r = AreThere files (inputs_of r)
 
 -- The output isn't created, where it may be: a file is there that is to stay, or the host may fail.
 -- Or it was, and writing it has failed, where the host may fail.

@@ -1,15 +1,16 @@
 //! The command `decode`.
 ghost use Rattle.std.specs.Prelude.{◌≡◌, ◌≤◌, ◌++◌, ℕ, Bool, List, Option, Some, true, IfOk};
-ghost use Rattle.std.specs.Prelude.{IfErr, OnOk};
+ghost use Rattle.std.specs.Prelude.{IfErr, IfSome, IsNone, OnOk};
 ghost use Rattle.host.specs.World.{World, GivesFile};
-ghost use Rattle.decoder.specs.GatheringIn.{IsGatheredIn, IsFileFault};
-ghost use Rattle.decoder.specs.PlacesOf.{AreGatheredIn, ArePlacesOf};
+ghost use Rattle.decoder.specs.GatheringIn.{IsIndexedIn, IsFileFault};
+ghost use Rattle.decoder.specs.PlacesOf.{ArePlacedIn, ArePlacedOf};
 ghost use Rattle.decoder.specs.declared.file_gathering.GatheredFile.TheVariants.{Symbols};
 ghost use Rattle.tool.specs.Inputs.{ASession, IsUnread};
 ghost use Rattle.reception.specs.declared.scope.Identity.{Identity as IdentityValue};
 ghost use Rattle.request.specs.declared.requests.Request.TheVariants.{Decode};
 ghost use Rattle.decoder.specs.Answers.{answer_value, fault_value};
-ghost use Rattle.decoder.specs.Gathering.{IsWrittenOf};
+ghost use Rattle.decoder.specs.Gathering.{IsNoObject, IsWrittenOf};
+ghost use Rattle.reception.specs.Answer.{IsAnswer};
 ghost use Rattle.decoder.specs.SymbolsOf.{AreSymbolsOf, AreGathered};
 ghost use Rattle.tool.specs.Commands.{answer_status};
 ghost use Rattle.tool.specs.Doing.{HasMade, HasStopped};
@@ -24,20 +25,17 @@ use crate::print::Text;
 use crate::wording::put_packet_fault;
 use decoder::{
     Answer, DecodeFault, FileFault, FileSymbols, FileWriteFault, Gathered, GatheredFile,
-    ObjectSymbols, WriteFault, gather, gather_file,
+    ObjectSymbols, WriteFault, gather, index_file,
 };
 use host::Host;
 use request::DecodeRequest;
 use session::Write;
 use std::alloc::{AllocError, Global};
-use streams::ReadAt;
-
-// A session of up to so many bytes, 256 MiB, is held. To read each symbol again, where it stands,
-// takes longer: up to 1.6 times as long where nothing was lost.
-const MOST_HELD: u64 = 1 << 28;
+use streams::{ReadAt, WriteAt};
 
 /// Writes the object that the identity's packets in the session give. The output is created only
-/// where there is an object, which is written block by block.
+/// where no block is short, and the object is written block by block. A pipe or a device is held,
+/// a file isn't.
 pub(crate) fn decode<'a, H: Host>(
     alloc: Global,
     host: &mut H,
@@ -50,8 +48,8 @@ pub(crate) fn decode<'a, H: Host>(
 {
     let mut input = open(host, request.session)?;
     match host.length_of(&input) {
-        Some(length) if length > MOST_HELD => decode_file(alloc, host, request, &input),
-        _ => decode_stream(alloc, host, request, &mut input),
+        Some(_) => decode_file(alloc, host, request, &input),
+        None => decode_stream(alloc, host, request, &mut input),
     }
 }
 
@@ -91,7 +89,7 @@ fn decode_file<'a, H: Host>(
     ensures fault { IfErr result
         (HasStopped (H.world host.old) (H.world host.new) (Decode request.now)) }
 {
-    match gather_file(alloc, input, request.identity) {
+    match index_file(alloc, input, request.identity) {
         Ok(GatheredFile::Answer(answer)) => Ok(told_of(alloc, &answer)?),
         Ok(GatheredFile::Symbols(symbols)) => deliver_from(alloc, host, request, input, &symbols),
         Err(fault) => Err(file_fault(request.session, fault)),
@@ -111,7 +109,8 @@ fn file_fault<'a>(session: &'a str, fault: FileFault) -> Fault<'a>
     }
 }
 
-// Writes the object whose symbols stand in a file.
+// Writes the object whose symbols stand in a file. Where they turn out to be of none, the output is
+// given up.
 fn deliver_from<'a, H: Host>(
     alloc: Global,
     host: &mut H,
@@ -121,7 +120,7 @@ fn deliver_from<'a, H: Host>(
 ) -> Result<Done, Fault<'a>>
     requires file { GivesFile (H.world host.old) request.now.session.now
         (H.Input.content input.now) (H.Input.reliable input.now) }
-    requires symbols { IsGatheredIn request.now.identity (H.Input.content input.now)
+    requires symbols { IsIndexedIn request.now.identity (H.Input.content input.now)
         (Symbols symbols.now) }
     ensures ok { IfOk result
         (HasMade (H.world host.old) (H.world host.new) (Decode request.now)) }
@@ -129,30 +128,57 @@ fn deliver_from<'a, H: Host>(
         (HasStopped (H.world host.old) (H.world host.new) (Decode request.now)) }
 {
     let mut file = create(host, &request.output)?;
-    let written = write_object_from(alloc, request.session, input, symbols, &mut file);
-    let failure = Fault::File(request.output.name);
-    let length = commit(host, request.output.name, file, written, failure)?;
-    Ok(Done::counted("object", length, " bytes"))
+    let name = request.output.name;
+    let failure = Fault::File(name);
+    match write_object_from(alloc, request.session, input, symbols, &mut file) {
+        Ok(None) => {
+            let length = commit(host, name, file, Ok(symbols.transfer_length()), failure)?;
+            Ok(Done::counted("object", length, " bytes"))
+        }
+        Ok(Some(answer)) => {
+            host.give_up(file);
+            Ok(told_of(alloc, &answer)?)
+        }
+        Err(unwritten) => match commit(host, name, file, Err(unwritten), failure) {
+            Ok(_) => unreachable!(),
+            Err(fault) => Err(fault),
+        },
+    }
 }
 
-// Answers the object's length in bytes.
-fn write_object_from<'a, F: ReadAt, W: Write>(
+// Writes the object, as long as the symbols are of one; else answers what the session's datagrams
+// give. What is written straight stays written, so all symbols are looked at before.
+fn write_object_from<'a, F: ReadAt, W: WriteAt>(
     alloc: Global,
     session: &'a str,
     input: &F,
     symbols: &FileSymbols,
     writer: &mut W,
-) -> Result<u64, Unwritten<'a>>
-    requires { AreGatheredIn (F.content input.now) symbols.now }
-    ensures written { (who : IdentityValue) (ds : List (List ℕ)) (x : List ℕ)
-        → F.content input.now ≡ Some x → ArePlacesOf who ds x symbols.now
-        → IfOk result (IsWrittenOf who ds (W.contents writer.old) (W.contents writer.new)) }
+) -> Result<Option<Answer>, Unwritten<'a>>
+    requires { ArePlacedIn (F.content input.now) symbols.now }
+    ensures written { (ds : List (List ℕ)) (x : List ℕ) → F.content input.now ≡ Some x
+        → ArePlacedOf symbols.now.indexed.identity ds x symbols.now
+        → IfOk result (λ o. IsNone o → IsWrittenOf
+        symbols.now.indexed.identity ds (W.contents writer.old) (W.contents writer.new)
+        symbols.now.indexed.fti.transfer_length) }
+    ensures answer { (ds : List (List ℕ)) (x : List ℕ) → F.content input.now ≡ Some x
+        → ArePlacedOf symbols.now.indexed.identity ds x symbols.now
+        → IfOk result (λ o. IfSome o (λ a.
+        IsAnswer symbols.now.indexed.identity ds (answer_value a))) }
+    ensures none { IfOk result (λ o. IfSome o IsNoObject) }
     ensures fault { (world : World) → GivesFile world session.now (F.content input.now)
         (F.reliable input.now) → IfErr result (IsWriteBrokenFrom world session.now) }
     ensures writing { IfErr result (λ e. e ≡ Unwritten.Writing → W.failed writer.new ≡ true) }
 {
-    match symbols.write_from(alloc, input, writer) {
-        Ok(length) => Ok(length),
+    if !writer.is_seekable() {
+        match symbols.refutation(alloc, input) {
+            Ok(None) => {}
+            Ok(Some(answer)) => return Ok(Some(answer)),
+            Err(fault) => return Err(Unwritten::Fault(file_fault(session, fault))),
+        }
+    }
+    match symbols.write_checked(alloc, input, writer) {
+        Ok(refuted) => Ok(refuted),
         Err(FileWriteFault::Io) => Err(Unwritten::Writing),
         Err(FileWriteFault::Unread(unread)) => {
             Err(Unwritten::Fault(file_fault(session, FileFault::from(unread))))
