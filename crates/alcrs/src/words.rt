@@ -7,6 +7,11 @@ use std::env::{Env, FillError};
 // More bytes than a word has: Linux passes 131,071 at most.
 const MOST_BYTES: usize = 131072;
 
+// Room for as many bytes is taken and given back once. The C library then keeps what is given back
+// later, up to twice as much, so that what one block takes needn't be had from the system again for
+// the next (mallopt(3), M_MMAP_THRESHOLD).
+const KEPT_BYTES: usize = 1 << 22;
+
 /// Why there are no words.
 #[derive(Debug, Clone, Copy, PartialEq, Eq)]
 pub(crate) enum WordFault {
@@ -28,7 +33,8 @@ impl From<AllocError> for WordFault {
 /// The program's words, its name first.
 pub(crate) fn read_words<R: Env>(rt: &R, alloc: Global) -> Result<Vec<String>, WordFault> {
     let mut words = Vec::new(alloc);
-    let mut buffer = Vec::from_elem(alloc, 0u8, MOST_BYTES)?;
+    let mut buffer = Vec::with_capacity(alloc, KEPT_BYTES)?;
+    buffer.resize(MOST_BYTES, 0u8)?;
     for place in 0..usize::MAX {
         let length = match rt.arg(place, buffer.as_mut_slice()) {
             Ok(length) => length,

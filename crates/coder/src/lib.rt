@@ -11,7 +11,8 @@
 
 pub use decoder::{
     Answer, DecodeFault, FileFault, FileSymbols, FileWriteFault, Gathered, GatheredFile,
-    ObjectSymbols, Unread, WriteFault, decode, decode_selection, gather, gather_file, one_answer,
+    ObjectSymbols, Unread, WriteFault, decode, decode_selection, gather, gather_file, index_file,
+    one_answer,
 };
 pub use encoder::{
     CertifyFault, CertifyFromFault, ObjectFault, SendFault, SendFromFault, certify, certify_from,

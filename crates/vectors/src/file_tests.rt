@@ -4,7 +4,7 @@ ghost use Rattle.std.specs.Prelude.{◌≤◌};
 
 use crate::ONE;
 use crate::receiver_tests::{ORDERS, disturbed, is_same, object_of, sent};
-use coder::{Answer, DecodeFault, FileFault, GatheredFile, decode, gather_file};
+use coder::{Answer, DecodeFault, FileFault, GatheredFile, decode, gather_file, index_file};
 use lists::are_bytes;
 use partition::Fti;
 use rand_pcg::Pcg32;
@@ -44,6 +44,21 @@ fn from_file<F: ReadAt>(alloc: Global, file: &F) -> Result<Answer, FileFault> {
     }
 }
 
+// What a file gives, with the object that is written from it while its symbols are looked at.
+fn from_file_at_once<F: ReadAt>(alloc: Global, file: &F) -> Result<Answer, FileFault> {
+    match index_file(alloc, file, ONE)? {
+        GatheredFile::Answer(answer) => Ok(answer),
+        GatheredFile::Symbols(symbols) => {
+            let mut sink = Sink::new(alloc);
+            match symbols.write_checked(alloc, file, &mut sink) {
+                Ok(None) => Ok(Answer::Object(sink.into_bytes())),
+                Ok(Some(answer)) => Ok(answer),
+                Err(_) => Err(FileFault::Changed),
+            }
+        }
+    }
+}
+
 // The datagrams as a session file.
 pub(crate) fn framed(alloc: Global, datagrams: &[Vec<u8>]) -> Result<Vec<u8>, Fail> {
     let mut sink = Sink::new(alloc);
@@ -71,9 +86,11 @@ fn same_from_file(alloc: Global, datagrams: &[Vec<u8>]) -> Result<bool, Fail> {
     let held = decode(alloc, slices.as_slice(), ONE)?;
     let bytes = framed(alloc, datagrams)?;
     let file = Bytes(bytes.as_slice());
-    match from_file(alloc, &file) {
-        Ok(answer) => Ok(is_same_answer(&answer, &held)),
-        Err(_) => Ok(false),
+    match (from_file(alloc, &file), from_file_at_once(alloc, &file)) {
+        (Ok(answer), Ok(at_once)) => {
+            Ok(is_same_answer(&answer, &held) && is_same_answer(&at_once, &held))
+        }
+        _ => Ok(false),
     }
 }
 
