@@ -239,15 +239,23 @@ impl<'a, R: Files> Case<'a, R> {
         }
     }
 
-    // Whether the line blames the session's file, which is read twice where it is decoded.
+    // Whether the line blames the session's file, which is read twice where it is checked or
+    // decoded.
     fn has_changed(&self) -> bool {
         match self.request {
+            Request::Check(request) => {
+                self.blames(request.session) && request.picture != Some(request.session)
+            }
             Request::Decode(request) => {
-                self.line.trim_end().strip_prefix("fault file ") == Some(request.session)
-                    && request.session != request.output.name
+                self.blames(request.session) && request.session != request.output.name
             }
             _ => false,
         }
+    }
+
+    // Whether the line says that the file of this name failed.
+    fn blames(&self, name: &str) -> bool {
+        self.line.trim_end().strip_prefix("fault file ") == Some(name)
     }
 
     // Whether standard input was to be read a second time.
