@@ -1,4 +1,5 @@
-//! Decoding a session file into a writer: neither the session nor the object is held.
+//! Decoding a session file into a writer: neither the session nor the object is held. The object is
+//! written once its symbols were looked at (`gather_file`), or meanwhile (`index_file`).
 ghost use Rattle.std.specs.Prelude.{◌≡◌, ◌<◌, ℕ, List, Some, true, length, IfOk, IfErr, OnErr};
 ghost use Rattle.std.specs.Prelude.{Bool, Option, IfSome, IsNone};
 ghost use Rattle.session.specs.Frames.{AppendsSome, IsFramed};
@@ -29,7 +30,7 @@ use std::alloc::{AllocError, Global};
 use streams::ReadAt;
 use thiserror::Error;
 
-/// The places of the symbols of an object in a session file.
+/// The places of symbols in a session file, enough of each block of an object.
 #[derive(Drop)]
 pub struct FileSymbols {
     pub(crate) indexed: Indexed,
@@ -41,7 +42,7 @@ pub struct FileSymbols {
 pub enum GatheredFile {
     /// No object.
     Answer(Answer),
-    /// The places of the symbols of an object.
+    /// The places of symbols, enough of each block.
     Symbols(FileSymbols),
 }
 
@@ -169,7 +170,7 @@ pub fn index_file<F: ReadAt>(
 
 /// What the datagrams of a session file say of the object that was sent under an identity, as
 /// `gather` tells, of which only places in the file are held: 24 bytes for each symbol, and the
-/// symbols of one block at a time.
+/// symbols of one block at a time. The symbols whose places it answers are those of an object.
 ///
 /// `Frame` tells why the file is no session, before any fault at a place. A file that is not the
 /// same each time it is read may give `Changed`.

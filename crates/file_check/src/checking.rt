@@ -11,7 +11,8 @@ ghost use Rattle.cert.specs.Surveying.{IsSurveyedFrom, OnYesWith};
 ghost use Rattle.cert.specs.Tallying.{tallied_of};
 ghost use Rattle.cert.specs.Verdict.{GivesObject};
 ghost use Rattle.file_check.specs.Checked.{IsBlockStop, IsBlocksStop, IsCertificateStop, IsStop};
-ghost use Rattle.file_check.specs.Files.{IsCertificateFault, IsFilesFault, IsNoCertificate, IsNoVerdict};
+ghost use Rattle.file_check.specs.Files.{IsCertificateFault, IsFilesFault, IsNoCertificate};
+ghost use Rattle.file_check.specs.Files.{IsNoVerdict};
 ghost use Rattle.file_check.specs.Checked.{IsSomeTally, IsWholeTally};
 ghost use Rattle.file_check.specs.Compared.{AreCompared, IsCompared};
 ghost use Rattle.file_check.specs.Files.{IsSurveyIn, IsSurveyOfSome, IsVerdictIn, WhereTold};
@@ -353,7 +354,8 @@ fn named<'a, S: ReadAt, O: ReadAt, C: ReadAt>(
         named.object.now ≡ files.now.object.now)) }
     ensures certificate { IfOk result (λ r. IfSome r (λ named.
         named.certificate.file.now ≡ files.now.certificate.now)) }
-    ensures unnamed { IfOk result (λ r. IsNone r → IsUnnamed (C.content files.now.certificate.now)) }
+    ensures unnamed { IfOk result (λ r. IsNone r
+        → IsUnnamed (C.content files.now.certificate.now)) }
     ensures fault { IfErr result (IsNoCertificate (C.content files.now.certificate.now)
         (C.reliable files.now.certificate.now)) }
 {
@@ -381,7 +383,8 @@ pub fn check_files<S: ReadAt, O: ReadAt, C: ReadAt>(
     ensures verdict { WhereTold (S.content files.now.session.now)
         (O.content files.now.object.now) (C.content files.now.certificate.now)
         (λ x o text. IfOk result (λ r. IfSome r (IsVerdictIn identity x o text))) }
-    ensures unnamed { IfOk result (λ r. IsNone r → IsUnnamed (C.content files.now.certificate.now)) }
+    ensures unnamed { IfOk result (λ r. IsNone r
+        → IsUnnamed (C.content files.now.certificate.now)) }
     ensures certificate { IfErr result (IsCertificateFault (C.content files.now.certificate.now)
         (C.reliable files.now.certificate.now)) }
     ensures fault { WhereTold (S.content files.now.session.now)
@@ -413,7 +416,8 @@ pub fn survey_files<S: ReadAt, O: ReadAt, C: ReadAt>(
         IsSurveyIn identity x o text found.0 found.1))) }
     ensures some { IfOk result (λ r. IfSome r (λ found.
         OnYesWith found.0 found.1 (IsSurveyOfSome identity))) }
-    ensures unnamed { IfOk result (λ r. IsNone r → IsUnnamed (C.content files.now.certificate.now)) }
+    ensures unnamed { IfOk result (λ r. IsNone r
+        → IsUnnamed (C.content files.now.certificate.now)) }
     ensures certificate { IfErr result (IsCertificateFault (C.content files.now.certificate.now)
         (C.reliable files.now.certificate.now)) }
     ensures fault { WhereTold (S.content files.now.session.now)

@@ -273,8 +273,8 @@ IsUnhadPlace ranges (Places more ∷ Datagrams datagrams ∷ []) place =
 IsUnhadPlace ranges values place = ⊥
 
 -- Why nothing does, though the inputs are there, and what was printed before: a frame can't be read
--- behind others, or a session isn't as it was; an object's length makes no FTI, or its symbols are too long; a certificate is
--- another's; a session hasn't a place.
+-- behind others, or a session isn't as it was; an object's length makes no FTI, or its symbols are
+-- too long; a certificate is another's; a session hasn't a place.
 abbrev pub Refuses : World → Request → List ℕ → Fault → Type 0
 Refuses world (Check r) text (Frame fault) =
     (world.files ≡ None)

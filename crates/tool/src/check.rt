@@ -64,8 +64,8 @@ pub(crate) fn check<'a, H: Host>(
     }
 }
 
-// What is told of the files of a request. Where none of them is a pipe or a device, they are checked
-// where they stand.
+// What is told of the files of a request. Where none of them is a pipe or a device, and the
+// certificate has a name, they are checked where they stand.
 fn read_and_answer<'a, H: Host>(
     alloc: Global,
     host: &H,
