@@ -65,10 +65,6 @@ def symbols_of(name):
 
 def constants():
     """Limits of the program that documents have, too."""
-    held = 2 ** constant("crates/tool/src/decode.rt", r"^const MOST_HELD: u64 = 1 << (\d+);") >> 20
-    yield "README.md", r"`decode` holds a session of up to (\d+) MiB", [held]
-    for name in ("docs/OPERATING.md", "docs/FORMATS.md", "docs/DECISIONS.md"):
-        yield name, r"(?i:session) above (\d+) MiB", [held]
     symbol = constant("crates/request/src/requests.rt", r"MOST_SYMBOL_BYTES: u16 = ([\d_]+);")
     yield "README.md", r"of an encoding symbol in bytes, 1 to ([\d,]+)", [symbol]
     yield "docs/FORMATS.md", r"`--symbol` is E in bytes, 1 to ([\d,]+)", [symbol]

@@ -286,6 +286,15 @@ def roots(wanted=lambda crate, function, label: True):
     return found
 
 
+def inner_roots():
+    """The definitions that the inner files cite."""
+    found = set()
+    for crate, file in sorted(INNER_FILES):
+        path = CRATES / crate / "src" / f"{file}.rt"
+        found |= cited(path.read_text(), *uses_of(path))
+    return found
+
+
 def closure(modules, start=None):
     """All definitions that the roots stand on, as (module, name)."""
     todo, done = list(roots() if start is None else start), set()
@@ -419,10 +428,17 @@ def crate_order():
 
 
 def mixed(modules, wanted):
-    """The files that have definitions of both kinds."""
+    """The files that have definitions of both kinds. Those that only the inner files speak of may
+    stand beside either.
+    """
     files = {module.path: module for module in modules.values()}
+    offered = closure(modules, inner_roots()) - wanted
     for path in sorted(files):
-        kinds = {(path, name) in wanted for name in files[path].definitions}
+        kinds = {
+            (path, name) in wanted
+            for name in files[path].definitions
+            if (path, name) not in offered
+        }
         if len(kinds) > 1:
             yield f"{path.parts[-3]}/specs/{path.stem}"
 
