@@ -1,4 +1,7 @@
 //! What a command printed last, kept for the sentence on its cause.
+ghost use Rattle.std.specs.Prelude.{◌≡◌, ◌≢◌, ◌<◌, ◌↔◌, IsTrue};
+ghost use Rattle.std.specs.List.{All};
+
 use causes::repeats_in;
 
 /// The most bytes of a line that are kept. The words that tell a fault are shorter.
@@ -53,32 +56,43 @@ impl LastLine {
     }
 
     /// The first line of it, as far as it is ASCII.
-    pub fn text(&self) -> &str {
+    pub fn text(&self) -> &str
+        ensures { All (λ byte. (byte < 128) × (byte ≢ 10)) result.now }
+    {
         let front = self.front.get(..self.length).unwrap_or(&[]);
-        let line = front.get(..line_length(front)).unwrap_or(&[]);
-        std::str::from_utf8(line).unwrap_or("")
+        std::str::from_utf8(line_of(front)).unwrap_or("")
     }
 
-    pub fn contradictions(&self) -> u64 {
+    /// How many lines told that a datagram contradicts those before it.
+    pub fn contradictions(&self) -> u64
+        ensures { result ≡ self.now.contradictions }
+    {
         self.contradictions
     }
 
-    pub fn repeats(&self) -> u64 {
+    /// How many repeats the lines of a yes tell.
+    pub fn repeats(&self) -> u64
+        ensures { result ≡ self.now.repeats }
+    {
         self.repeats
     }
 }
 
-// How many bytes of a line stand in front.
-fn line_length(front: &[u8]) -> usize {
-    for place in 0..front.len() {
-        if !is_of_line(front[place]) {
-            return place;
+// The bytes of a line that stand in front.
+fn line_of(front: &[u8]) -> &[u8]
+    ensures { All (λ byte. (byte < 128) × (byte ≢ 10)) result.now }
+{
+    for length in 0..front.len() {
+        if !is_of_line(front[length]) {
+            return &front[..length];
         }
     }
-    front.len()
+    front
 }
 
-fn is_of_line(byte: u8) -> bool {
+fn is_of_line(byte: u8) -> bool
+    ensures { IsTrue result ↔ ((byte < 128) × (byte ≢ 10)) }
+{
     byte != b'\n' && byte < 128
 }
 
