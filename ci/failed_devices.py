@@ -212,8 +212,11 @@ class Call:
             return [written] if moves else ["fault open out"]
         if not moves:
             return [f"fault open {self.file}"]
-        inputs = INPUTS[words[0]]
-        return [inputs[words[1:].index(self.file)].format(self.file)]
+        place = words[1:].index(self.file)
+        told = [INPUTS[words[0]][place].format(self.file)]
+        # A symbol that `check` reads again, where it stands.
+        is_again = words[0] == "check" and place == 0 and self.name.startswith("pread")
+        return told + [OBJECT.format(self.file)] * is_again
 
 
 def tries_of(words, calls):
@@ -223,6 +226,12 @@ def tries_of(words, calls):
     if words[:1] != ["follow"]:
         return 0
     return next((place for place, call in enumerate(calls) if call.file == words[1]), 0)
+
+
+def is_read_behind(words, call, whole):
+    """Whether a call may read frames behind the reason of a no."""
+    is_frame = words[:1] == ["check"] and call.name.startswith("pread") and call.file == words[1]
+    return is_frame and whole[1].startswith(b"no ")
 
 
 def is_told(words, call, whole, ran):
@@ -302,6 +311,9 @@ def main():
                 # Behind its last line the program looks at files again for the cause: that changes
                 # no answer.
                 if place > printed and ran == whole:
+                    continue
+                # Behind the reason of a no `check` still goes over frames: that changes no answer.
+                if ran == whole and is_read_behind(words, call, whole):
                     continue
                 if not is_told(words, call, whole, ran) and not (error == "EINTR" and ran == whole):
                     bad.append(
