@@ -229,7 +229,8 @@ impl<'a, R: Files> Case<'a, R> {
         }
         if self.has_changed() {
             return self.say(
-                "{S} was changed while it was read: read it again once nothing writes to it",
+                "{S} was changed while it was read, or can't be read again: try once more when \
+                nothing writes to it",
                 &[],
             );
         }
