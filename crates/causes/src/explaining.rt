@@ -235,8 +235,31 @@ impl<'a, R: Files> Case<'a, R> {
             );
         }
         match output_of(self.request) {
-            Some(output) => Ok(Some(unwritten(self.rt, self.alloc, output)?)),
-            None => self.say("reading {S} failed half way", &[]),
+            Some(output) if !self.is_of_input() => {
+                Ok(Some(unwritten(self.rt, self.alloc, output)?))
+            }
+            _ => self.say(self.broken_off(), &[]),
+        }
+    }
+
+    // Whether the line tells of an input, in commands that tell of their output in other words.
+    fn is_of_input(&self) -> bool {
+        match self.request {
+            Request::Check(_) | Request::Twin(_) | Request::Decode(_) | Request::Follow(_) => {
+                self.word(1) == "S4" || self.word(1) == "Z4"
+            }
+            _ => false,
+        }
+    }
+
+    // Which input wasn't read to its end, by the line.
+    fn broken_off(&self) -> &'static str {
+        if self.word(1) == "Z4" {
+            return "reading {C} failed half way";
+        }
+        match object_of(self.request) {
+            Some(object) if self.blames(object) => "reading {O} failed half way",
+            _ => "reading {S} failed half way",
         }
     }
 

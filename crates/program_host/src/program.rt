@@ -208,7 +208,9 @@ impl<R: Files<File = File> + Clock + Eprint, O: std::io::Write + Drop> ProgramHo
 
     /// Whether a file of this name can't be created, as far as a try tells, which leaves nothing. A
     /// pipe or a device isn't tried, as that could take something from it.
-    pub fn refuses(&mut self, output: &Output<'_>) -> bool {
+    pub fn refuses(&mut self, output: &Output<'_>) -> bool
+        ensures { self.new.out.failed ≡ self.old.out.failed }
+    {
         if !output.no_clobber && is_straight(self.rt, output.name) {
             return false;
         }
