@@ -1,6 +1,6 @@
 //! What is asked of one datagram, and where its symbol and its place go.
 ghost use Rattle.reception.specs.Walks.{in_range};
-ghost use Rattle.std.specs.Prelude.{◌≡◌, ◌<◌, true, [], length, IfOk, OnOk};
+ghost use Rattle.std.specs.Prelude.{◌≡◌, ◌<◌, ◌++◌, ◌∷◌, true, [], length, IfOk, OnOk};
 ghost use Rattle.alc.specs.Views.{packet_of};
 ghost use Rattle.reception.specs.Reception.{Faulty, symbol_of};
 ghost use Rattle.cert.specs.Verdict.{GivesObject, uncertified, reason_at};
@@ -63,6 +63,18 @@ pub(crate) fn empty_groups(alloc: Global, fti: &Fti) -> Result<Vec<Group>, Alloc
     Ok(groups)
 }
 
+// Puts a member behind the others. Where there is no room for one more, makes room for it and for a
+// quarter of those that are there: twice as much would be more than all else that is held of them.
+fn push_member(members: &mut Vec<Member>, member: Member) -> Result<(), AllocError>
+    ensures { OnOk result (members.new.items ≡ members.old.items ++ member ∷ []) }
+{
+    if members.len() == members.capacity() {
+        members.reserve_exact(members.len() / 4 + 1)?;
+    }
+    members.push(member)?;
+    Ok(())
+}
+
 /// Puts the symbol of the packet at a place into its block's group.
 pub(crate) fn put(groups: &mut [Group], place: usize, packet: &Packet<'_>) -> Result<(), AllocError>
     requires { packet.now.sbn < length groups.old }
@@ -71,9 +83,10 @@ pub(crate) fn put(groups: &mut [Group], place: usize, packet: &Packet<'_>) -> Re
         (groups_of groups.new)) }
 {
     let esi = packet.esi;
-    groups[packet.sbn as usize]
-        .members
-        .push(Member { place, esi })?;
+    push_member(
+        &mut groups[packet.sbn as usize].members,
+        Member { place, esi },
+    )?;
     Ok(())
 }
 

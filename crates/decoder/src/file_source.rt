@@ -1,5 +1,5 @@
 //! What came of an object in a session file, of which only the places are held.
-ghost use Rattle.std.specs.Prelude.{◌<◌, ℕ, IfOk, IfErr, IfSome, IsNone};
+ghost use Rattle.std.specs.Prelude.{◌≡◌, ◌<◌, ℕ, IfOk, IfErr, IfSome, IsNone};
 ghost use Rattle.partition.specs.Fti.{block_count};
 ghost use Rattle.block_code.specs.Codes.{EachBlockHas};
 ghost use Rattle.block_code.specs.CodesOf.{IsCodeOf};
@@ -25,7 +25,7 @@ use partition::Fti;
 use reception::{Identity, Scope};
 use session::Extent;
 use std::alloc::{AllocError, Global};
-use streams::ReadAt;
+use streams::{Lanes, ReadAt};
 
 /// The places of an identity's packets, and the FTI of the first carrier.
 #[derive(Drop)]
@@ -35,6 +35,13 @@ pub(crate) struct Indexed {
     pub(crate) symbols: Symbols<Extent>,
 }
 
+/// What symbols are read with, and what is kept of a solution.
+#[derive(Drop)]
+pub(crate) struct FileWorkspace<'a, F: ReadAt> {
+    pub(crate) lanes: Lanes<'a, F>,
+    pub(crate) kept: Option<Recovery>,
+}
+
 /// A file, and the places in it.
 #[derive(Drop)]
 pub(crate) struct FileSource<'a, F: ReadAt> {
@@ -42,7 +49,7 @@ pub(crate) struct FileSource<'a, F: ReadAt> {
     pub(crate) indexed: &'a Indexed,
 }
 
-impl<F: ReadAt> FileSource<'_, F> {
+impl<'a, F: ReadAt> FileSource<'a, F> {
     // The source symbols of a block whose symbols are all known to be those of an object. As many
     // are read as it needs, those with the least ESIs. Where they aren't of an object, the file
     // isn't what it was.
@@ -51,7 +58,7 @@ impl<F: ReadAt> FileSource<'_, F> {
         alloc: Global,
         codes: &BlockCodes,
         b: u32,
-        kept: &mut Option<Recovery>,
+        workspace: &mut FileWorkspace<'a, F>,
     ) -> Result<Option<Rows>, Unread>
         requires number { b < block_count self.now.indexed.now.fti }
         requires codes { EachBlockHas (IsCodeOf self.now.indexed.now.fti)
@@ -69,7 +76,8 @@ impl<F: ReadAt> FileSource<'_, F> {
             → (c : ℕ) → c < self.now.indexed.now.fti.symbol_length
             → ColumnExplained self.now.indexed.now.fti b
             (file_at (F.content self.now.file.now) self.now.indexed.now.symbols b) c }
-        requires kept { IsKeptOf codes.now kept.old }
+        requires file { workspace.old.lanes.file.now ≡ self.now.file.now }
+        requires kept { IsKeptOf codes.now workspace.old.kept }
         ensures rows { AllStandIn (F.content self.now.file.now)
             (with_fti self.now.indexed.now.identity self.now.indexed.now.fti)
             self.now.indexed.now.symbols
@@ -81,7 +89,8 @@ impl<F: ReadAt> FileSource<'_, F> {
             self.now.indexed.now.symbols
             → IfOk result (λ o. IsNone o → IsUnexplained self.now.indexed.now.fti b
             (file_at (F.content self.now.file.now) self.now.indexed.now.symbols b)) }
-        ensures keeps { IsKeptOf codes.now kept.new }
+        ensures file { workspace.new.lanes.file.now ≡ self.now.file.now }
+        ensures keeps { IsKeptOf codes.now workspace.new.kept }
         ensures fault { IfErr result (IsUnreadOf
             (AllStandIn (F.content self.now.file.now)
             (with_fti self.now.indexed.now.identity self.now.indexed.now.fti)
@@ -93,13 +102,15 @@ impl<F: ReadAt> FileSource<'_, F> {
         let arrived = self.indexed.symbols.of_block(b).unwrap_or(&[]);
         let limit = least_enough(arrived, fti.k(b), fti.n(b));
         let chosen = places_below(alloc, arrived, limit)?;
-        let again = read_block_again(alloc, self.file, &scope, b, &chosen)?;
+        let again = read_block_again(alloc, &mut workspace.lanes, &scope, b, &chosen)?;
         let arrivals = symbols_below(alloc, &again, fti.n(b))?;
-        Ok(block_rows(alloc, fti, codes, b, &arrivals, false, kept)?)
+        Ok(block_rows(alloc, fti, codes, b, &arrivals, false, &mut workspace.kept)?)
     }
 }
 
-impl<F: ReadAt> Source for FileSource<'_, F> {
+impl<'a, F: ReadAt> Source for FileSource<'a, F> {
+    type Workspace = FileWorkspace<'a, F>;
+
     ghost known = { λ source. source.indexed.now.fti };
 
     ghost at = { λ source. file_at (F.content source.file.now) source.indexed.now.symbols };
@@ -108,6 +119,9 @@ impl<F: ReadAt> Source for FileSource<'_, F> {
         (with_fti source.indexed.now.identity source.indexed.now.fti) source.indexed.now.symbols };
 
     ghost reliable = { λ source. F.reliable source.file.now };
+
+    ghost Fits = { λ source codes workspace. (workspace.lanes.file.now ≡ source.file.now)
+        × IsKeptOf codes workspace.kept };
 
     fn fti(&self) -> Fti {
         self.indexed.fti
@@ -121,6 +135,15 @@ impl<F: ReadAt> Source for FileSource<'_, F> {
         blocks_of(alloc, &self.indexed.symbols)
     }
 
+    fn workspace(&self, alloc: Global) -> Result<FileWorkspace<'a, F>, AllocError> {
+        let fti = &self.indexed.fti;
+        fti.is_valid();
+        match Lanes::new(alloc, self.file, fti.n(0)) {
+            Ok(lanes) => Ok(FileWorkspace { lanes, kept: None }),
+            Err(_) => Err(AllocError),
+        }
+    }
+
     // All symbols are looked at, unless they are known to be sound.
     fn rows(
         &self,
@@ -128,16 +151,16 @@ impl<F: ReadAt> Source for FileSource<'_, F> {
         codes: &BlockCodes,
         b: u32,
         are_sound: bool,
-        kept: &mut Option<Recovery>,
+        workspace: &mut FileWorkspace<'a, F>,
     ) -> Result<Option<Rows>, Unread> {
         if are_sound {
-            return self.sound_rows(alloc, codes, b, kept);
+            return self.sound_rows(alloc, codes, b, workspace);
         }
         let fti = &self.indexed.fti;
         let scope = Scope::with_fti(self.indexed.identity, *fti);
         let came = self.indexed.symbols.of_block(b).unwrap_or(&[]);
-        let again = read_block_again(alloc, self.file, &scope, b, came)?;
+        let again = read_block_again(alloc, &mut workspace.lanes, &scope, b, came)?;
         let arrivals = symbols_below(alloc, &again, fti.n(b))?;
-        Ok(block_rows(alloc, fti, codes, b, &arrivals, false, kept)?)
+        Ok(block_rows(alloc, fti, codes, b, &arrivals, false, &mut workspace.kept)?)
     }
 }

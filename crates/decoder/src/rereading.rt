@@ -15,24 +15,25 @@ use crate::source::Unread;
 use reception::{Look, Scope};
 use session::Extent;
 use std::alloc::Global;
-use streams::{Ahead, ReadAt};
+use streams::{Lanes, ReadAt};
 
-// The bytes at an extent.
+// The bytes at an extent, by an ESI's lane.
 fn datagram_at<F: ReadAt>(
     alloc: Global,
-    file: &mut Ahead<'_, F>,
+    lanes: &mut Lanes<'_, F>,
+    esi: u8,
     extent: Extent,
 ) -> Result<Vec<u8>, Unread>
-    ensures bytes { (x : List ℕ) → F.content file.old.file.now ≡ Some x
+    ensures bytes { (x : List ℕ) → F.content lanes.old.file.now ≡ Some x
         → extent.offset + extent.length ≤ length x
         → IfOk result (λ v. v.items ≡ datagram_in x extent) }
     ensures changed { IfErr result (λ e. e ≡ Unread.Changed → (x : List ℕ)
-        → F.content file.old.file.now ≡ Some x → extent.offset + extent.length ≤ length x → ⊥) }
-    ensures io { IfErr result (λ e. e ≡ Unread.Io → F.reliable file.old.file.now ≡ false) }
-    ensures file { file.new.file.now ≡ file.old.file.now }
+        → F.content lanes.old.file.now ≡ Some x → extent.offset + extent.length ≤ length x → ⊥) }
+    ensures io { IfErr result (λ e. e ≡ Unread.Io → F.reliable lanes.old.file.now ≡ false) }
+    ensures file { lanes.new.file.now ≡ lanes.old.file.now }
 {
     let mut datagram = Vec::from_elem(alloc, 0u8, usize::from(extent.length))?;
-    let Ok(got) = file.fill(extent.offset, datagram.as_mut_slice()) else {
+    let Ok(got) = lanes.fill(usize::from(esi), extent.offset, datagram.as_mut_slice()) else {
         return Err(Unread::Io);
     };
     if got < datagram.len() {
@@ -65,24 +66,24 @@ fn symbol_of<'a>(scope: &Scope, b: u32, esi: u8, datagram: &'a [u8]) -> Option<&
 /// The symbol at an extent, where a packet of the block and the ESI stood.
 pub(crate) fn read_again<F: ReadAt>(
     alloc: Global,
-    file: &mut Ahead<'_, F>,
+    lanes: &mut Lanes<'_, F>,
     scope: &Scope,
     b: u32,
     esi: u8,
     extent: Extent,
 ) -> Result<Vec<u8>, Unread>
     requires { (f : FtiValue) × (scope.now.fti ≡ Some f) }
-    ensures symbol { (x : List ℕ) → F.content file.old.file.now ≡ Some x
+    ensures symbol { (x : List ℕ) → F.content lanes.old.file.now ≡ Some x
         → IsSymbolIn x scope.now b esi extent
         → IfOk result (λ v. v.items ≡ held_in x extent) }
     ensures size { (f : FtiValue) → scope.now.fti ≡ Some f
         → IfOk result (λ v. length v.items ≡ f.symbol_length) }
     ensures fault { IfErr result (IsUnreadOf
-        (StandsIn (F.content file.old.file.now) scope.now b esi extent)
-        (F.reliable file.old.file.now)) }
-    ensures file { file.new.file.now ≡ file.old.file.now }
+        (StandsIn (F.content lanes.old.file.now) scope.now b esi extent)
+        (F.reliable lanes.old.file.now)) }
+    ensures file { lanes.new.file.now ≡ lanes.old.file.now }
 {
-    let datagram = datagram_at(alloc, file, extent)?;
+    let datagram = datagram_at(alloc, lanes, esi, extent)?;
     let Some(symbol) = symbol_of(scope, b, esi, &datagram) else {
         return Err(Unread::Changed);
     };
@@ -109,14 +110,16 @@ pub(crate) fn read_alone<F: ReadAt>(
     ensures fault { IfErr result (IsUnreadOf (StandsIn (F.content file.now) scope.now b esi extent)
         (F.reliable file.now)) }
 {
-    let mut ahead = Ahead::new(file);
-    read_again(alloc, &mut ahead, scope, b, esi, extent)
+    let Ok(mut lanes) = Lanes::new(alloc, file, 0) else {
+        return Err(Unread::NoMemory);
+    };
+    read_again(alloc, &mut lanes, scope, b, esi, extent)
 }
 
 /// The symbols at the extents of a block.
 pub(crate) fn read_block_again<F: ReadAt>(
     alloc: Global,
-    file: &F,
+    lanes: &mut Lanes<'_, F>,
     scope: &Scope,
     b: u32,
     came: &[Arrival<Extent>],
@@ -126,17 +129,18 @@ pub(crate) fn read_block_again<F: ReadAt>(
         → is_some (arrived_at (λ s. s.items) v.items j) ≡ is_some (arrived_at held came.now j)) }
     ensures size { (f : FtiValue) → scope.now.fti ≡ Some f → IfOk result (λ v.
         HaveLength f.symbol_length (arrived_at (λ s. s.items) v.items)) }
-    ensures symbols { (x : List ℕ) → F.content file.now ≡ Some x
+    ensures symbols { (x : List ℕ) → F.content lanes.old.file.now ≡ Some x
         → AreOfBlock x scope.now b came.now → IfOk result (λ v.
         arrived_at (λ s. s.items) v.items ≡ arrived_at (held_in x) came.now) }
     ensures fault { IfErr result (IsUnreadOf
-        (BlockStandsIn (F.content file.now) scope.now b came.now) (F.reliable file.now)) }
+        (BlockStandsIn (F.content lanes.old.file.now) scope.now b came.now)
+        (F.reliable lanes.old.file.now)) }
+    ensures file { lanes.new.file.now ≡ lanes.old.file.now }
 {
     let mut again = Vec::with_capacity(alloc, came.len())?;
-    let mut ahead = Ahead::new(file);
     for arrival in came {
         let esi = arrival.esi;
-        let symbol = read_again(alloc, &mut ahead, scope, b, esi, arrival.symbol)?;
+        let symbol = read_again(alloc, lanes, scope, b, esi, arrival.symbol)?;
         push_arrival(&mut again, Arrival { esi, symbol })?;
     }
     Ok(again)

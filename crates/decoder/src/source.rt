@@ -5,6 +5,7 @@ ghost use Rattle.lists.specs.Below.{below};
 ghost use Rattle.partition.specs.Fti.{Fti as FtiValue, block_count};
 ghost use Rattle.block_code.specs.Codes.{EachBlockHas};
 ghost use Rattle.block_code.specs.CodesOf.{IsCodeOf};
+ghost use Rattle.block_code.specs.declared.codes.BlockCodes.{BlockCodes as BlockCodesValue};
 ghost use Rattle.decoder.specs.Columns.{ColumnExplained};
 ghost use Rattle.decoder.specs.Decoded.{AreWithin, IsEnoughAt, AreRows, IsUnexplained};
 ghost use Rattle.decoder.specs.Received.{bytes_at};
@@ -50,6 +51,10 @@ impl From<AllocError> for Unread {
 /// What came of an object. Which ESIs came of a block is known; their symbols are given where they
 /// can be had again.
 pub(crate) trait Source {
+    /// What is used again from block to block: what symbols are read with, and what is kept of a
+    /// solution.
+    type Workspace: Drop;
+
     /// The object's FTI.
     ghost known: { Self → FtiValue };
 
@@ -61,6 +66,9 @@ pub(crate) trait Source {
 
     /// Whether reading can't fail.
     ghost reliable: { Self → Bool };
+
+    /// That a workspace is for this source and these codes.
+    ghost Fits: { Self → BlockCodesValue → Self.Workspace → Type 0 };
 
     /// The object's FTI.
     fn fti(&self) -> Fti
@@ -78,6 +86,11 @@ pub(crate) trait Source {
         ensures some { IfOk result (λ v. (i : ℕ) → i < length v.items
             → (j : ℕ) × (is_some (at self.now (slice_index v.items i) j) ≡ true)) };
 
+    /// A workspace in which nothing was read or solved yet.
+    fn workspace(&self, alloc: Global) -> Result<Self::Workspace, AllocError>
+        ensures { IfOk result (λ workspace. (codes : BlockCodesValue)
+            → Fits self.now codes workspace) };
+
     /// The source symbols of a block, if all that came of it are symbols of an object; `are_sound`
     /// says that this is known.
     fn rows(
@@ -86,7 +99,7 @@ pub(crate) trait Source {
         codes: &BlockCodes,
         b: u32,
         are_sound: bool,
-        kept: &mut Option<Recovery>,
+        workspace: &mut Self::Workspace,
     ) -> Result<Option<Rows>, Unread>
         requires number { b < block_count (known self.now) }
         requires codes { EachBlockHas (IsCodeOf (known self.now)) (known self.now) codes.now }
@@ -95,16 +108,18 @@ pub(crate) trait Source {
         requires sound { are_sound ≡ true → Told self.now
             → (c : ℕ) → c < (known self.now).symbol_length
             → ColumnExplained (known self.now) b (at self.now b) c }
-        requires kept { IsKeptOf codes.now kept.old }
+        requires fits { Fits self.now codes.now workspace.old }
         ensures rows { Told self.now → IfOk result (λ o. IfSome o (λ rows.
             AreRows (known self.now) b (at self.now b) rows.bytes.items)) }
         ensures none { Told self.now → IfOk result (λ o. IsNone o
             → IsUnexplained (known self.now) b (at self.now b)) }
-        ensures keeps { IsKeptOf codes.now kept.new }
+        ensures fits { Fits self.now codes.now workspace.new }
         ensures fault { IfErr result (IsUnreadOf (Told self.now) (reliable self.now)) };
 }
 
 impl Source for Received<'_> {
+    type Workspace = Option<Recovery>;
+
     ghost known = { λ received. received.fti };
 
     ghost at = { λ received. bytes_at received.symbols };
@@ -112,6 +127,8 @@ impl Source for Received<'_> {
     ghost Told = { λ _. ⊤ };
 
     ghost reliable = { λ _. true };
+
+    ghost Fits = { λ _ codes kept. IsKeptOf codes kept };
 
     fn fti(&self) -> Fti {
         self.fti
@@ -125,14 +142,18 @@ impl Source for Received<'_> {
         blocks_of(alloc, &self.symbols)
     }
 
+    fn workspace(&self, _alloc: Global) -> Result<Option<Recovery>, AllocError> {
+        Ok(None)
+    }
+
     fn rows(
         &self,
         alloc: Global,
         codes: &BlockCodes,
         b: u32,
         are_sound: bool,
-        kept: &mut Option<Recovery>,
+        workspace: &mut Option<Recovery>,
     ) -> Result<Option<Rows>, Unread> {
-        Ok(received_rows(alloc, self, codes, b, are_sound, kept)?)
+        Ok(received_rows(alloc, self, codes, b, are_sound, workspace)?)
     }
 }

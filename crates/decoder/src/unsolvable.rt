@@ -69,7 +69,7 @@ pub(crate) fn first_unsolvable<S: Source>(
     fti.is_valid();
     let blocks = source.blocks(alloc)?;
     let mut least = None;
-    let mut kept = None;
+    let mut workspace = source.workspace(alloc)?;
     for b in &blocks {
         if !is_before(*b, least) {
             continue;
@@ -77,7 +77,10 @@ pub(crate) fn first_unsolvable<S: Source>(
         if source.count(*b, fti.n(*b)) < fti.k(*b) {
             continue;
         }
-        if source.rows(alloc, codes, *b, false, &mut kept)?.is_none() {
+        if source
+            .rows(alloc, codes, *b, false, &mut workspace)?
+            .is_none()
+        {
             least = Some(*b);
         }
     }

@@ -35,12 +35,15 @@ fn has_unsolvable<S: Source>(alloc: Global, source: &S, codes: &BlockCodes) -> R
     let fti = source.fti();
     fti.is_valid();
     let last = fti.block_count() - 1;
-    let mut kept = None;
+    let mut workspace = source.workspace(alloc)?;
     for b in 0..fti.block_count() {
         if b < last && source.count(b, fti.n(b)) == fti.k(b) {
             continue;
         }
-        if source.rows(alloc, codes, b, false, &mut kept)?.is_none() {
+        if source
+            .rows(alloc, codes, b, false, &mut workspace)?
+            .is_none()
+        {
             return Ok(true);
         }
     }

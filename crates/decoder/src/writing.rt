@@ -11,7 +11,7 @@ ghost use Rattle.decoder.specs.Written.{WritesObject, BeginsObject};
 use crate::source::{Source, Unread};
 use block_code::BlockCodes;
 use session::{Write, write_all};
-use std::alloc::Global;
+use std::alloc::{AllocError, Global};
 
 /// Why the blocks weren't written.
 #[derive(Clone, Copy)]
@@ -30,6 +30,18 @@ impl From<Unread> for Unwritten {
 
     fn from(unread: Unread) -> Self {
         Unwritten::Unread(unread)
+    }
+}
+
+impl From<AllocError> for Unwritten {
+    ghost use Rattle.std.specs.Prelude.{◌≡◌};
+    ghost use Rattle.decoder.specs.declared.source.Unread.TheVariants.{NoMemory};
+    ghost use Rattle.decoder.specs.declared.writing.Unwritten.TheVariants as unwritten;
+
+    ghost from_gives = { λ _ fault. fault ≡ unwritten.Unread NoMemory };
+
+    fn from(_: AllocError) -> Self {
+        Unwritten::Unread(Unread::NoMemory)
     }
 }
 
@@ -63,9 +75,9 @@ pub(crate) fn write_blocks<S: Source, W: Write>(
 {
     let fti = source.fti();
     let mut left = fti.transfer_length();
-    let mut kept = None;
+    let mut workspace = source.workspace(alloc)?;
     for b in 0..fti.block_count() {
-        let Some(rows) = source.rows(alloc, codes, b, are_sound, &mut kept)? else {
+        let Some(rows) = source.rows(alloc, codes, b, are_sound, &mut workspace)? else {
             return Ok(false);
         };
         let used = left.min(rows.bytes.len() as u64);

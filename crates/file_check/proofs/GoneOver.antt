@@ -19,7 +19,8 @@ use Rattle.cert.specs.Tallying.{IsPacketOf, SaysNothing, Tallied, by_certificate
 use Rattle.cert.proofs.DatagramSteps.{fti_holds}
 use Rattle.cert.proofs.Members.{member_is}
 use Rattle.file_check.specs.Blocks.{IsWrong, limit_of, member_at}
-use Rattle.file_check.specs.Indexed.{IsIndexOf, no_extent}
+use Rattle.file_check.specs.Indexed.{IsIndexOf, extents_of}
+use Rattle.file_check.specs.Standing.{no_extent}
 use Rattle.file_check.specs.declared.index.Index.{Index}
 use Rattle.file_check.specs.declared.blocks.Wrong.{Wrong}
 
@@ -69,7 +70,7 @@ module _ (content : Option (List ℕ)) (index : Index) (b : ℕ) (symbols : List
     member_there x g ds of k l = member_is g t ds of.tallied b (subst (λ (h : Fti). b < block_count h) (same_fti x g ds of) within) k l
 
     -- the extent at a member's place is that of its datagram
-    module _ (k : ℕ) (l : k < length (group_at t.groups b).members) (e : Extent) (is : get_or index.extents.items (member_at t b k).place no_extent ≡ e) where
+    module _ (k : ℕ) (l : k < length (group_at t.groups b).members) (e : Extent) (is : get_or (extents_of index.extents) (member_at t b k).place no_extent ≡ e) where
       pub extent_read : (x : List ℕ) (g : Fti) (ds : List (List ℕ)) → IsIndexOf x g index ds → read_of (datagram_in x e) ≡ reading_at ds (member_at t b k).place
       extent_read x g ds of =
           ap (λ (y : Extent). read_of (datagram_in x y)) (sym is)

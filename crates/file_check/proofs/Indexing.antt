@@ -5,7 +5,8 @@ use Rattle.std.proofs.lemmas.Bool.{cases_lt}
 use Rattle.std.proofs.lemmas.List.{get_or_append_left}
 use Rattle.session.specs.Extents.{datagram_in}
 use Rattle.session.specs.declared.extent.Extent.{Extent}
-use Rattle.file_check.specs.Indexed.{StandAt, no_extent}
+use Rattle.file_check.specs.Indexed.{StandAt}
+use Rattle.file_check.specs.Standing.{no_extent}
 
 pub none_stands : (content : Option (List ℕ)) → StandAt content [] []
 none_stands content = λ x told i l. absurd (omega (arith, l))

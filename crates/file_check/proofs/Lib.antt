@@ -1,3 +1,4 @@
+pub mod Standing
 pub mod Given
 pub mod GoneOver
 pub mod Indexing

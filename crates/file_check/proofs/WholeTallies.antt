@@ -3,9 +3,10 @@ use Rattle.std.proofs.Common.{◌≡◌, ℕ, zero, suc, ◌+◌, ◌<◌, Bool,
 use Rattle.std.specs.Io.KnownBytes.{Consumes}
 use Rattle.std.proofs.lemmas.Grind.{flat_map-append}
 use Rattle.std.proofs.lemmas.List.{length-take-le, take-append-drop}
-use Rattle.session.specs.Frames.{frame, frames, AreDatagrams}
+use Rattle.session.specs.Frames.{frame, frames, AreDatagrams, IsReadFault}
 use Rattle.session.specs.declared.frame.FrameFault.{FrameFault}
-use Rattle.session.specs.declared.frame.FrameFault.TheVariants.{Io}
+use Rattle.session.specs.declared.frame.FrameFault.TheVariants.{Io, NoSuchPlace, TooLong, CutLength, CutDatagram}
+use Rattle.session.specs.declared.frame.FrameFault.TheVariants.{NoMemory as NoFrameMemory}
 use Rattle.session.proofs.Sessions.{datagrams_push}
 use Rattle.partition.specs.Fti.{IsValidFti, block_count}
 use Rattle.reception.specs.declared.scope.Identity.{Identity}
@@ -58,6 +59,15 @@ front_consumed x (Some l) ds n h = (
   h ∙ ap (λ (y : List ℕ). y ++ l) (sym (ap (λ (y : List (List ℕ)). frames y) (take-append-drop n ds)) ∙ flat_map-append frame (take n ds) (drop n ds))
       ∙ append_assoc (frames (take n ds)) (frames (drop n ds)) l,
 )
+
+-- a fault of reading, of a reader of which nothing is told
+pub untold_fault : (fault : FrameFault) (left new : Option (List ℕ)) (failed : Bool) → IsReadFault fault left new failed → IsReadFault fault None None failed
+untold_fault TooLong left new failed h = (tt, (h.1.0, h.1.1, tt))
+untold_fault Io left new failed h = h
+untold_fault NoFrameMemory left new failed h = (h.0, h.1, tt)
+untold_fault (NoSuchPlace p) left new failed h = absurd h
+untold_fault CutLength left new failed h = (tt, tt)
+untold_fault CutDatagram left new failed h = (tt, tt)
 
 -- ---- before any datagram
 

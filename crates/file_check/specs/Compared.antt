@@ -1,5 +1,5 @@
 -- What comes of comparing blocks, where the files' bytes are told.
-use Rattle.std.specs.Prelude.{◌≡◌, ◌<◌, ◌≤◌, ℕ, List, Option, Some, IfSome, length}
+use Rattle.std.specs.Prelude.{◌<◌, ◌≤◌, ℕ, List, Option, IfSome, length}
 use Rattle.cert.specs.Certificate.{Certificate}
 use Rattle.cert.specs.Tallying.{Tallied}
 use Rattle.cert.specs.Verdict.{GivesBlock}

@@ -1,16 +1,16 @@
 -- What a check of files tells, where the files' bytes are told.
-use Rattle.std.specs.Prelude.{◌≡◌, ℕ, Bool, true, false, List, Option, Some, ⊤}
+use Rattle.std.specs.Prelude.{◌≡◌, ℕ, Bool, true, false, List, Option, Some, None, ⊤}
 use Rattle.partition.specs.Fti.{Fti, IsValidFti}
+use Rattle.session.specs.Frames.{IsReadFault}
 use Rattle.session.specs.declared.frame.FrameFault.TheVariants.{Io}
 use Rattle.reception.specs.declared.scope.Identity.{Identity}
 use Rattle.cert.specs.Certificate.{Certificate, IsCertificate, IsCertFault, certificate_text}
 use Rattle.cert.specs.InFile.{IsLost}
 use Rattle.cert.specs.FromReader.{IsCheckedFrom, IsRefusedBehind}
-use Rattle.cert.specs.Report.{IsReport}
-use Rattle.cert.specs.Surveying.{IsSurvey, IsSurveyedFrom}
+use Rattle.cert.specs.Report.{IsReport, OnYes}
+use Rattle.cert.specs.Surveying.{IsSurvey, IsSurveyedFrom, OnYesWith}
 use Rattle.cert.specs.declared.certificate.CertFault.{CertFault}
 use Rattle.cert.specs.declared.certificate.CertFault.TheVariants.{Io as CertificateIo}
-use Rattle.cert.specs.declared.verdict.Report.{Report}
 use Rattle.cert.specs.declared.verdict.Survey.{Survey}
 use Rattle.cert.specs.declared.verdict.Verdict.{Verdict}
 use Rattle.file_check.specs.declared.checking.FilesFault.{FilesFault}
@@ -69,10 +69,26 @@ abbrev pub IsSurveyIn : Identity → List ℕ → List ℕ → List ℕ → Verd
 IsSurveyIn who session object text verdict survey = (z : Certificate) × IsTextOf text z
     × (left : Option (List ℕ)) × IsSurveyedFrom who (Some session) left object z verdict survey
 
--- report and survey are those of some datagrams, whatever the files tell
-abbrev pub IsSurveyOfSome : Identity → Report → Survey → Type 0
-IsSurveyOfSome who report survey = (datagrams : List (List ℕ)) × (f : Fti) × IsValidFti f
-    × IsReport who datagrams f report × IsSurvey who datagrams f report survey
+-- ---- what is told of files whose bytes aren't told
+
+-- at a yes the report on some datagrams
+abbrev pub IsVerdictOnSome : Identity → Verdict → Type 0
+IsVerdictOnSome who verdict = (datagrams : List (List ℕ)) × (f : Fti) × IsValidFti f
+    × OnYes verdict (IsReport who datagrams f)
+
+-- and their survey
+abbrev pub IsSurveyOnSome : Identity → Verdict → Option Survey → Type 0
+IsSurveyOnSome who verdict survey = (datagrams : List (List ℕ)) × (f : Fti) × IsValidFti f
+    × OnYes verdict (IsReport who datagrams f)
+    × OnYesWith verdict survey (IsSurvey who datagrams f)
+
+-- a fault of the session's frames is one of reading
+abbrev pub IsFrameFault : Bool → FilesFault → Type 0
+IsFrameFault reliable (Frame fault) =
+    ((failed : Bool) × IsReadFault fault None None failed) × (fault ≡ Io → reliable ≡ false)
+IsFrameFault reliable fault = ⊤
+
+-- ---- why there is none
 
 -- the fault of a certificate's file
 abbrev pub IsCertificateFault : Option (List ℕ) → Bool → FilesFault → Type 0

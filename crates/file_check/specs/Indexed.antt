@@ -11,13 +11,18 @@ use Rattle.reception.specs.declared.scope.Identity.{Identity}
 use Rattle.reception.specs.declared.scope.Scope.{Scope}
 use Rattle.reception.specs.Step.{IsLook}
 use Rattle.cert.specs.Tallying.{AreTallied, nothing, tallied_of}
+use Rattle.file_check.specs.Standing.{end_from, extents_from, no_extent}
+use Rattle.file_check.specs.declared.extents.Extents.{Extents}
 use Rattle.file_check.specs.declared.index.Index.{Index}
 use Rattle.file_check.specs.declared.index.End.{End}
 use Rattle.file_check.specs.declared.index.End.TheVariants.{File, Fault, Frame}
 
--- an extent that is no datagram's
-abbrev pub no_extent : Extent
-no_extent = record { offset = 0; length = 0 }
+abbrev pub extents_of : Extents → List Extent
+extents_of extents = extents_from 0 extents.ends.items
+
+-- where the last datagram ends
+abbrev pub end_of : Extents → ℕ
+end_of extents = end_from 0 extents.ends.items
 
 -- each datagram stands at its extent in the file, where its bytes are told
 abbrev pub StandAt : Option (List ℕ) → List Extent → List (List ℕ) → Type 0
@@ -43,13 +48,13 @@ pub record IsIndexed (who : Identity) (f : Fti) (content : Option (List ℕ)) (s
   pub consumed : Consumes content left (frames datagrams)
   pub identity : index.tally.scope.identity ≡ who
   pub tallied : AreTallied nothing f (tallied_of index.tally) datagrams
-  pub many : length index.extents.items ≡ length datagrams
-  pub stand : StandAt content index.extents.items datagrams
+  pub many : length (extents_of index.extents) ≡ length datagrams
+  pub stand : StandAt content (extents_of index.extents) datagrams
   pub ends : EndsBy index.tally.scope left sound end
 
 -- the index is of these datagrams, which stand in the file's bytes
 pub record IsIndexOf (x : List ℕ) (f : Fti) (index : Index)
     (datagrams : List (List ℕ)) : Type 0 where
   pub tallied : AreTallied nothing f (tallied_of index.tally) datagrams
-  pub many : length index.extents.items ≡ length datagrams
-  pub stand : StandAt (Some x) index.extents.items datagrams
+  pub many : length (extents_of index.extents) ≡ length datagrams
+  pub stand : StandAt (Some x) (extents_of index.extents) datagrams

@@ -1,3 +1,4 @@
+pub mod Standing
 pub mod Indexed
 pub mod Blocks
 pub mod Files

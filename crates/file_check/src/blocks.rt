@@ -20,7 +20,7 @@ use evaluation::evaluate;
 use partition::Fti;
 use reception::{Look, Scope};
 use session::{Extent, Failed};
-use streams::{Ahead, ReadAt, fill_at};
+use streams::{ReadAt, fill_at};
 
 /// A symbol that isn't the certified one: the place of its datagram, and the least such column.
 #[derive(Clone, Copy)]

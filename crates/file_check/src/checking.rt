@@ -7,15 +7,17 @@ ghost use Rattle.reception.specs.Symbols.{IsObject};
 ghost use Rattle.cert.specs.Certificate.{is_for, named_in};
 ghost use Rattle.cert.specs.FromReader.{IsCheckedFrom};
 ghost use Rattle.cert.specs.InFile.{IsUnnamed};
-ghost use Rattle.cert.specs.Surveying.{IsSurveyedFrom, OnYesWith};
+ghost use Rattle.cert.specs.Surveying.{IsSurveyedFrom};
 ghost use Rattle.cert.specs.Tallying.{tallied_of};
 ghost use Rattle.cert.specs.Verdict.{GivesObject};
-ghost use Rattle.file_check.specs.Checked.{IsBlockStop, IsBlocksStop, IsCertificateStop, IsStop};
-ghost use Rattle.file_check.specs.Files.{IsCertificateFault, IsFilesFault, IsNoCertificate};
-ghost use Rattle.file_check.specs.Files.{IsNoVerdict};
+ghost use Rattle.file_check.specs.Checked.{IsBlockStop, IsBlocksStop, IsCertificateStop};
+ghost use Rattle.file_check.specs.Checked.{IsFrameStop, IsStop};
+ghost use Rattle.file_check.specs.Files.{IsCertificateFault, IsFilesFault, IsFrameFault};
+ghost use Rattle.file_check.specs.Files.{IsNoCertificate, IsNoVerdict};
 ghost use Rattle.file_check.specs.Checked.{IsSomeTally, IsWholeTally};
 ghost use Rattle.file_check.specs.Compared.{AreCompared, IsCompared};
-ghost use Rattle.file_check.specs.Files.{IsSurveyIn, IsSurveyOfSome, IsVerdictIn, WhereTold};
+ghost use Rattle.file_check.specs.Files.{IsSurveyIn, IsSurveyOnSome, IsVerdictIn};
+ghost use Rattle.file_check.specs.Files.{IsVerdictOnSome, WhereTold};
 ghost use Rattle.file_check.specs.Indexed.{IsIndexOf};
 
 use crate::blocks::{Wrong, first_not_given, make_symbols, read_source};
@@ -26,7 +28,7 @@ use partition::Fti;
 use reception::Identity;
 use session::FrameFault;
 use std::alloc::{AllocError, Global};
-use streams::{Ahead, ReadAt, has_length};
+use streams::{Lanes, ReadAt, has_length};
 
 /// What is checked: a session, an object and a certificate, each in a file that is read at offsets.
 #[derive(Drop)]
@@ -123,7 +125,7 @@ impl Buffers {
 fn compare_block<S: ReadAt, O: ReadAt, C: ReadAt>(
     files: &NamedFiles<'_, S, O, C>,
     index: &Index,
-    session: &mut Ahead<'_, S>,
+    session: &mut Lanes<'_, S>,
     buffers: &mut Buffers,
     block: u32,
     before: Option<Wrong>,
@@ -152,6 +154,7 @@ fn compare_block<S: ReadAt, O: ReadAt, C: ReadAt>(
         }) o (named_in text files.now.certificate.fti files.now.certificate.name) block)) }
     ensures lost { IfErr result (IsCertificateStop
         (C.content files.now.certificate.file.now) (C.reliable files.now.certificate.file.now)) }
+    ensures frame { IfErr result (IsFrameStop (S.reliable files.now.session.now)) }
     ensures file { session.new.file.now ≡ session.old.file.now }
 {
     let fti = files.certificate.fti;
@@ -214,10 +217,13 @@ fn compare_blocks<S: ReadAt, O: ReadAt, C: ReadAt>(
         }) o (named_in text files.now.certificate.fti files.now.certificate.name))) }
     ensures lost { IfErr result (IsCertificateStop
         (C.content files.now.certificate.file.now) (C.reliable files.now.certificate.file.now)) }
+    ensures frame { IfErr result (IsFrameStop (S.reliable files.now.session.now)) }
 {
     let fti = files.certificate.fti;
     let mut buffers = Buffers::new(alloc);
-    let mut session = Ahead::new(files.session);
+    let Ok(mut session) = Lanes::new(alloc, files.session, fti.n(0)) else {
+        return Err(Stop::ByFault(FilesFault::NoMemory));
+    };
     let mut wrong = None;
     for block in 0..fti.block_count() {
         wrong = compare_block(files, index, &mut session, &mut buffers, block, wrong)?;
@@ -253,6 +259,7 @@ fn tally_files<S: ReadAt, O: ReadAt, C: ReadAt>(
         }) x o (named_in text files.now.certificate.fti files.now.certificate.name))) }
     ensures lost { IfErr result (IsCertificateStop
         (C.content files.now.certificate.file.now) (C.reliable files.now.certificate.file.now)) }
+    ensures frame { IfErr result (IsFrameStop (S.reliable files.now.session.now)) }
     ensures some { IfOk result (IsSomeTally identity files.now.certificate.fti) }
 {
     let fti = files.certificate.fti;
@@ -294,8 +301,10 @@ fn check_named<S: ReadAt, O: ReadAt, C: ReadAt>(
           object = O.reliable files.now.object.now;
           certificate = C.reliable files.now.certificate.file.now;
         }) x o (named_in text files.now.certificate.fti files.now.certificate.name))) }
+    ensures some { IfOk result (IsVerdictOnSome identity) }
     ensures certificate { IfErr result (IsCertificateFault
         (C.content files.now.certificate.file.now) (C.reliable files.now.certificate.file.now)) }
+    ensures frame { IfErr result (IsFrameFault (S.reliable files.now.session.now)) }
 {
     let tally = match tally_files(alloc, files, identity) {
         Ok(tally) => tally,
@@ -328,9 +337,10 @@ fn survey_named<S: ReadAt, O: ReadAt, C: ReadAt>(
           object = O.reliable files.now.object.now;
           certificate = C.reliable files.now.certificate.file.now;
         }) x o (named_in text files.now.certificate.fti files.now.certificate.name))) }
-    ensures some { IfOk result (λ r. OnYesWith r.0 r.1 (IsSurveyOfSome identity)) }
+    ensures some { IfOk result (λ r. IsSurveyOnSome identity r.0 r.1) }
     ensures certificate { IfErr result (IsCertificateFault
         (C.content files.now.certificate.file.now) (C.reliable files.now.certificate.file.now)) }
+    ensures frame { IfErr result (IsFrameFault (S.reliable files.now.session.now)) }
 {
     let tally = match tally_files(alloc, files, identity) {
         Ok(tally) => tally,
@@ -372,7 +382,7 @@ fn named<'a, S: ReadAt, O: ReadAt, C: ReadAt>(
 
 /// The check of an identity's packets in a session file, of an object and of a certificate, as
 /// [`cert::check_from`] does it, with the same verdict. `None` where the certificate has no name:
-/// its coefficients stand column by column then. Of the files no more is held than a block and 32
+/// its coefficients stand column by column then. Of the files no more is held than a block and 24
 /// bytes for each datagram. The session's frames are gone over first, and its symbols are read
 /// again, block by block.
 pub fn check_files<S: ReadAt, O: ReadAt, C: ReadAt>(
@@ -383,10 +393,12 @@ pub fn check_files<S: ReadAt, O: ReadAt, C: ReadAt>(
     ensures verdict { WhereTold (S.content files.now.session.now)
         (O.content files.now.object.now) (C.content files.now.certificate.now)
         (λ x o text. IfOk result (λ r. IfSome r (IsVerdictIn identity x o text))) }
+    ensures some { IfOk result (λ r. IfSome r (IsVerdictOnSome identity)) }
     ensures unnamed { IfOk result (λ r. IsNone r
         → IsUnnamed (C.content files.now.certificate.now)) }
     ensures certificate { IfErr result (IsCertificateFault (C.content files.now.certificate.now)
         (C.reliable files.now.certificate.now)) }
+    ensures frame { IfErr result (IsFrameFault (S.reliable files.now.session.now)) }
     ensures fault { WhereTold (S.content files.now.session.now)
         (O.content files.now.object.now) (C.content files.now.certificate.now)
         (λ x o text. IfErr result (IsFilesFault identity
@@ -415,11 +427,12 @@ pub fn survey_files<S: ReadAt, O: ReadAt, C: ReadAt>(
         (λ x o text. IfOk result (λ r. IfSome r (λ found.
         IsSurveyIn identity x o text found.0 found.1))) }
     ensures some { IfOk result (λ r. IfSome r (λ found.
-        OnYesWith found.0 found.1 (IsSurveyOfSome identity))) }
+        IsSurveyOnSome identity found.0 found.1)) }
     ensures unnamed { IfOk result (λ r. IsNone r
         → IsUnnamed (C.content files.now.certificate.now)) }
     ensures certificate { IfErr result (IsCertificateFault (C.content files.now.certificate.now)
         (C.reliable files.now.certificate.now)) }
+    ensures frame { IfErr result (IsFrameFault (S.reliable files.now.session.now)) }
     ensures fault { WhereTold (S.content files.now.session.now)
         (O.content files.now.object.now) (C.content files.now.certificate.now)
         (λ x o text. IfErr result (IsFilesFault identity

@@ -1,10 +1,12 @@
 //! Where the datagrams of a session file stand, and what came in them but for their symbols' bytes.
-ghost use Rattle.std.specs.Prelude.{◌≡◌, ◌++◌, ◌∷◌, [], None, Some, Err, ℕ, List, IfOk, IfSome};
+ghost use Rattle.std.specs.Prelude.{◌≡◌, ◌<◌, ◌+◌, ◌^◌, ◌++◌, ◌∷◌, [], None, Some, Err, ℕ, List};
+ghost use Rattle.std.specs.Prelude.{IfOk, IfSome};
 ghost use Rattle.partition.specs.Fti.{Fti as FtiValue};
 ghost use Rattle.reception.specs.Step.{IsLook};
 ghost use Rattle.cert.specs.Tallying.{AreTallied, nothing, tallied_of};
-ghost use Rattle.file_check.specs.Indexed.{IsIndexed};
+ghost use Rattle.file_check.specs.Indexed.{IsIndexed, end_of, extents_of};
 
+use crate::extents::Extents;
 use cert::Tally;
 use lists::are_bytes;
 use partition::Fti;
@@ -18,7 +20,7 @@ use streams::{Cursor, ReadAt};
 #[derive(Drop)]
 pub(crate) struct Index {
     pub(crate) tally: Tally,
-    pub(crate) extents: Vec<Extent>,
+    pub(crate) extents: Extents,
 }
 
 /// Why no more datagrams stand in an index.
@@ -35,14 +37,18 @@ pub(crate) enum End {
 impl Index {
     // Takes the next datagram, which stands here, or tells its fault.
     fn take(&mut self, datagram: &[u8], extent: Extent) -> Result<Option<PlaceFault>, AllocError>
-        requires { (f : FtiValue) × (ds : List (List ℕ))
+        requires tallied { (f : FtiValue) × (ds : List (List ℕ))
             × AreTallied nothing f (tallied_of self.old.tally) ds }
+        requires begin { extent.offset ≡ end_of self.old.extents + 2 }
+        requires fits { extent.offset + extent.length < 2 ^ 64 }
         ensures scope { self.new.tally.scope ≡ self.old.tally.scope }
         ensures taken { (f : FtiValue) (ds : List (List ℕ))
             → AreTallied nothing f (tallied_of self.old.tally) ds → IfOk result (λ o. o ≡ None
             → AreTallied nothing f (tallied_of self.new.tally) (ds ++ datagram.now ∷ [])) }
         ensures extents { IfOk result (λ o. o ≡ None
-            → self.new.extents.items ≡ self.old.extents.items ++ extent ∷ []) }
+            → extents_of self.new.extents ≡ extents_of self.old.extents ++ extent ∷ []) }
+        ensures end { IfOk result (λ o. o ≡ None
+            → end_of self.new.extents ≡ extent.offset + extent.length) }
         ensures fault { IfOk result (λ o. IfSome o (λ e.
             IsLook datagram.now self.old.tally.scope self.old.tally.scope (Err e))) }
         ensures stays { IfOk result (λ o. IfSome o (λ _. self.new ≡ self.old)) }
@@ -76,7 +82,7 @@ fn index_frames<R: Read>(
 {
     let mut index = Index {
         tally: Tally::new(alloc, identity, fti)?,
-        extents: Vec::new(alloc),
+        extents: Extents::new(alloc),
     };
     let mut position = Position::new();
     loop {
@@ -107,8 +113,8 @@ pub(crate) fn index_session<F: ReadAt>(
 ) -> Result<(Index, End), AllocError>
     ensures told { (x : List ℕ) → F.content session.now ≡ Some x → IfOk result (λ r.
         IsIndexed identity fti (Some x) (F.reliable session.now) r.0 r.1) }
-    ensures some { IfOk result (λ r. (content : _) × (sound : _)
-        × IsIndexed identity fti content sound r.0 r.1) }
+    ensures some { IfOk result (λ r. (content : _)
+        × IsIndexed identity fti content (F.reliable session.now) r.0 r.1) }
 {
     let mut frames = Cursor::new(session);
     index_frames(alloc, &mut frames, identity, fti)

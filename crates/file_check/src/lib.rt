@@ -6,7 +6,7 @@
 //!
 //! - `index`: a pass over the session's frames, up to the first datagram that has a fault before
 //!   its symbol is looked at. Each datagram is counted by `cert::Tally`, and where it stands is
-//!   kept (`specs/Indexed`).
+//!   kept (`specs/Indexed`), in 8 bytes (`extents`, `specs/Standing`).
 //! - `blocks`: one block's rows of coefficients, the symbols that they give, and the object's bytes
 //!   beside them (`specs/Blocks`).
 //! - `members`: the symbols of a block's datagrams, read again where they stand.
@@ -19,6 +19,7 @@
 
 mod blocks;
 mod checking;
+mod extents;
 mod index;
 mod members;
 

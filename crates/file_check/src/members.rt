@@ -19,7 +19,7 @@ use crate::index::Index;
 use cert::first_difference;
 use reception::{Look, Scope};
 use session::{Extent, Failed};
-use streams::{Ahead, ReadAt};
+use streams::{Lanes, ReadAt};
 
 /// Room for the bytes of any datagram.
 pub(crate) const ROOM: usize = 1 << 16;
@@ -35,7 +35,7 @@ pub(crate) struct Made<'a> {
 // The least column in which the symbol of the datagram at an extent isn't the certified one.
 // `Failed` tells that the file has failed, or that no packet of the block and the ESI stands there.
 fn wrong_column<S: ReadAt>(
-    session: &mut Ahead<'_, S>,
+    session: &mut Lanes<'_, S>,
     scope: &Scope,
     extent: Extent,
     esi: u8,
@@ -60,7 +60,7 @@ fn wrong_column<S: ReadAt>(
     ensures len { length datagram.new ≡ ROOM }
 {
     let bytes = &mut datagram[..usize::from(extent.length)];
-    if session.fill(extent.offset, bytes)? < bytes.len() {
+    if session.fill(usize::from(esi), extent.offset, bytes)? < bytes.len() {
         return Err(Failed);
     }
     let mut known = *scope;
@@ -94,7 +94,7 @@ fn is_behind(wrong: Option<Wrong>, place: usize) -> bool
 /// The first wrong symbol, by its datagram's place, of this block and of those before it, of which
 /// it is known. `Failed` tells that the file has failed, or has changed.
 pub(crate) fn first_wrong<S: ReadAt>(
-    session: &mut Ahead<'_, S>,
+    session: &mut Lanes<'_, S>,
     index: &Index,
     made: Made<'_>,
     datagram: &mut [u8],
@@ -130,11 +130,11 @@ pub(crate) fn first_wrong<S: ReadAt>(
         if is_behind(first, member.place) {
             continue;
         }
-        let Some(extent) = index.extents.as_slice().get(member.place) else {
+        let Some(extent) = index.extents.get(member.place) else {
             return Err(Failed);
         };
         let scope = &index.tally.scope;
-        match wrong_column(session, scope, *extent, member.esi, made, datagram)? {
+        match wrong_column(session, scope, extent, member.esi, made, datagram)? {
             Some(column) => {
                 first = Some(Wrong {
                     place: member.place,

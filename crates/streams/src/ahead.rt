@@ -1,13 +1,15 @@
 //! Bytes of a file at offsets, read ahead where they follow one another.
 ghost use Rattle.std.specs.Prelude.{◌≡◌, ◌<◌, ◌≤◌, ◌+◌, true, false, length, take, IfOk, OnErr};
+ghost use Rattle.std.specs.List.{All};
 ghost use Rattle.std.proofs.Props.{props};
 ghost use Rattle.streams.specs.Offsets.{StandsAt, EndsBy};
 
 use crate::io::Failed;
 use crate::offsets::{ReadAt, fill_at};
+use std::alloc::{AllocError, Global};
 
 // How many bytes are read ahead. More cost small blocks more than they spare.
-const AHEAD: usize = 1 << 14;
+const AHEAD: usize = 1 << 13;
 
 // How many bytes stand between two datagrams: the length of the second.
 const LENGTH_SIZE: u64 = 2;
@@ -15,7 +17,7 @@ const LENGTH_SIZE: u64 = 2;
 /// A reader of a file's datagrams at their offsets. Where one stands just behind the last that was
 /// asked for, the next ones are read with it.
 #[derive(Drop)]
-pub struct Ahead<'a, F: ReadAt> {
+pub(crate) struct Ahead<'a, F: ReadAt> {
     file: &'a F,
     // The file's bytes from `offset` on, `size` of them.
     bytes: [u8; AHEAD],
@@ -29,7 +31,7 @@ pub struct Ahead<'a, F: ReadAt> {
 
 impl<'a, F: ReadAt> Ahead<'a, F> {
     /// Nothing is read yet.
-    pub fn new(file: &'a F) -> Ahead<'a, F>
+    pub(crate) fn new(file: &'a F) -> Ahead<'a, F>
         ensures { result.file.now ≡ file.now }
     {
         Ahead {
@@ -39,6 +41,11 @@ impl<'a, F: ReadAt> Ahead<'a, F> {
             size: 0,
             next: u64::MAX,
         }
+    }
+
+    // Whether a datagram at this offset stands just behind the last that was asked for.
+    fn is_next(&self, offset: u64) -> bool {
+        offset.checked_sub(self.next) == Some(LENGTH_SIZE)
     }
 
     // Gives bytes that were read, where all of them stand there.
@@ -77,7 +84,7 @@ impl<'a, F: ReadAt> Ahead<'a, F> {
     }
 
     /// Fills `buf` with the bytes from an offset on, as `fill_at` does.
-    pub fn fill(&mut self, offset: u64, buf: &mut [u8]) -> Result<usize, Failed>
+    pub(crate) fn fill(&mut self, offset: u64, buf: &mut [u8]) -> Result<usize, Failed>
         ensures file { self.new.file.now ≡ self.old.file.now }
         ensures bound { IfOk result (λ n. n ≤ length buf.old) }
         ensures len { length buf.new ≡ length buf.old }
@@ -87,7 +94,7 @@ impl<'a, F: ReadAt> Ahead<'a, F> {
             → EndsBy (F.content self.old.file.now) (offset + n)) }
         ensures unsound { OnErr result (F.reliable self.old.file.now ≡ false) }
     {
-        let follows = offset.checked_sub(self.next) == Some(LENGTH_SIZE);
+        let follows = self.is_next(offset);
         self.next = offset.saturating_add(buf.len() as u64);
         if self.give(offset, buf) {
             return Ok(buf.len());
@@ -99,5 +106,63 @@ impl<'a, F: ReadAt> Ahead<'a, F> {
             }
         }
         fill_at(self.file, offset, buf)
+    }
+}
+
+/// Readers of a file's datagrams that follow one another in several places in turn, as those of
+/// each ESI do where a session was sent in rounds. Each place has a lane, which reads ahead.
+#[derive(Drop)]
+pub struct Lanes<'a, F: ReadAt> {
+    file: &'a F,
+    lanes: Vec<Ahead<'a, F>>,
+    // The lane that was asked last.
+    last: usize,
+    ghost same: { All (λ lane. lane.file.now ≡ file.now) lanes.items },
+}
+
+impl<'a, F: ReadAt> Lanes<'a, F> {
+    /// So many lanes, of which nothing is read yet. 8 KiB are held for each.
+    pub fn new(alloc: Global, file: &'a F, count: usize) -> Result<Lanes<'a, F>, AllocError>
+        ensures { IfOk result (λ lanes. lanes.file.now ≡ file.now) }
+    {
+        let mut lanes = Vec::with_capacity(alloc, count)?;
+        for _ in 0..count {
+            lanes.push(Ahead::new(file))?;
+        }
+        Ok(Lanes {
+            file,
+            lanes,
+            last: 0,
+        })
+    }
+
+    // Whether a datagram at this offset stands just behind the last that was asked for.
+    fn is_next(&self, offset: u64) -> bool {
+        match self.lanes.as_slice().get(self.last) {
+            Some(lane) => lane.is_next(offset),
+            None => false,
+        }
+    }
+
+    /// Fills `buf` with the bytes from an offset on, as `fill_at` does: by the lane that was asked
+    /// last, where they follow what it gave, else by this lane. There are none but those that were
+    /// made; what has none is read by itself.
+    pub fn fill(&mut self, lane: usize, offset: u64, buf: &mut [u8]) -> Result<usize, Failed>
+        ensures file { self.new.file.now ≡ self.old.file.now }
+        ensures bound { IfOk result (λ n. n ≤ length buf.old) }
+        ensures len { length buf.new ≡ length buf.old }
+        ensures bytes { IfOk result (λ n.
+            StandsAt (F.content self.old.file.now) offset (take n buf.new)) }
+        ensures end { IfOk result (λ n. n < length buf.old
+            → EndsBy (F.content self.old.file.now) (offset + n)) }
+        ensures unsound { OnErr result (F.reliable self.old.file.now ≡ false) }
+    {
+        if !self.is_next(offset) {
+            self.last = lane;
+        }
+        if self.last >= self.lanes.len() {
+            return fill_at(self.file, offset, buf);
+        }
+        self.lanes[self.last].fill(offset, buf)
     }
 }

@@ -6,7 +6,7 @@
 //! - `filling` and `whole`: the loops over them: a buffer filled, all bytes written, a reader read
 //!   to its end;
 //! - `offsets`: what is read and written at any offset, and the loops over that; `cursor`: a reader
-//!   of what is read at offsets; `ahead`: a reader of a file's datagrams at their offsets.
+//!   of what is read at offsets; `ahead`: readers of a file's datagrams at their offsets.
 #![tactic(auto)]
 
 mod ahead;
@@ -18,7 +18,7 @@ mod memory;
 mod offsets;
 mod whole;
 
-pub use ahead::Ahead;
+pub use ahead::Lanes;
 pub use cursor::Cursor;
 pub use device::Device;
 pub use filling::{fill, write_all};

@@ -20,7 +20,7 @@ use Rattle.partition.proofs.Laws.{some_block}
 use Rattle.reception.specs.Symbols.{arrived_count}
 use Rattle.reception.specs.Reception.{counted, symbols}
 use Rattle.reception.specs.declared.scope.Identity.{Identity}
-use Rattle.file_check.specs.Files.{IsCertificateFault, IsFilesFault, IsNoCertificate, IsSurveyIn, IsSurveyOfSome, IsVerdictIn, Reliable, WhereTold}
+use Rattle.file_check.specs.Files.{IsCertificateFault, IsFilesFault, IsNoCertificate, IsFrameFault, IsSurveyIn, IsSurveyOnSome, IsVerdictIn, Reliable, WhereTold}
 use Rattle.file_check.specs.declared.checking.FilesFault.{FilesFault}
 use Rattle.file_check.specs.declared.checking.FilesFault.TheVariants as files_fault
 use Rattle.request.specs.declared.requests.CheckRequest.{CheckRequest}
@@ -84,24 +84,25 @@ module _ (w : World) (r : CheckRequest) (session object text : Option (List ℕ)
     where_told : (Fact : List ℕ → List ℕ → List ℕ → Type 0) → WhereTold session object text Fact → Fact session_held.0 object_held.0 text_held.0
     where_told Fact h = h session_held.0 object_held.0 text_held.0 session_held.2 object_held.2 text_held.2
 
-  because_frame : (e : FrameFault) → (w.files ≡ None) ⊎ ((held : Files) × (w.files ≡ Some held)) → WhereTold session object text (λ x y z. IsFilesFault r.identity reliable x y z (files_fault.Frame e))
+  because_frame : (e : FrameFault) → IsFrameFault s (files_fault.Frame e) → (w.files ≡ None) ⊎ ((held : Files) × (w.files ≡ Some held)) → WhereTold session object text (λ x y z. IsFilesFault r.identity reliable x y z (files_fault.Frame e))
       → Refuses w (Check r) [] (told_as.Frame e)
-  because_frame e (inl none) h = inl none
-  because_frame e (inr (held, told)) h =
+  because_frame e frame (inl none) h = (λ io. gives_session.fails (frame.1 io), inl (none, frame.0.0, frame.0.1))
+  because_frame e frame (inr (held, told)) h =
       let fact = where_told held told (λ x y z. IsFilesFault r.identity reliable x y z (files_fault.Frame e)) h in
       let x = session_held held told in
       let y = object_held held told in
-      let z = text_held held told in
-      inr (
-        Some x.0,
-        y.0,
-        fact.0,
-        fact.2.0.0,
-        fact.2.0.1,
-        subst (λ (files : Option Files). HaveValues files (inputs_of (Check r)) (Opened (Some x.0) ∷ Bytes y.0 ∷ Polynomials fact.0 ∷ [])) (sym told)
-            ((x.0, x.1, refl), ((y.0, y.1, refl), ((fact.1.0, (z.0, z.1, fact.1.1)), tt))),
-        fact.2.0.2,
+      let z = text_held held told in (
         λ io. gives_session.fails (fact.2.1 io),
+        inr (
+          Some x.0,
+          y.0,
+          fact.0,
+          fact.2.0.0,
+          fact.2.0.1,
+          subst (λ (files : Option Files). HaveValues files (inputs_of (Check r)) (Opened (Some x.0) ∷ Bytes y.0 ∷ Polynomials fact.0 ∷ [])) (sym told)
+              ((x.0, x.1, refl), ((y.0, y.1, refl), ((fact.1.0, (z.0, z.1, fact.1.1)), tt))),
+          fact.2.0.2,
+        ),
       )
 
   because_session : (w.files ≡ None) ⊎ ((held : Files) × (w.files ≡ Some held)) → WhereTold session object text (λ x y z. IsFilesFault r.identity reliable x y z files_fault.Session) → MayFail w
@@ -112,19 +113,19 @@ module _ (w : World) (r : CheckRequest) (session object text : Option (List ℕ)
   because_object (inl none) h = inl none
   because_object (inr (held, told)) h = gives_object.fails (where_told held told (λ x y z. IsFilesFault r.identity reliable x y z files_fault.Object) h).2
 
-  because_files : (fault : FilesFault) → IsCertificateFault text t fault → WhereTold session object text (λ x y z. IsFilesFault r.identity reliable x y z fault) → IsBecause w w (Check r) [] (fault_of r fault)
-  because_files (files_fault.Frame e) certificate h = by_refused w w (Check r) [] (told_as.Frame e) (because_frame e (told_or_not w.files) h)
-  because_files files_fault.Session certificate h = by_refused w w (Check r) [] (told_as.File r.session) (refl, because_session (told_or_not w.files) h)
-  because_files files_fault.Object certificate h =
+  because_files : (fault : FilesFault) → IsCertificateFault text t fault → IsFrameFault s fault → WhereTold session object text (λ x y z. IsFilesFault r.identity reliable x y z fault) → IsBecause w w (Check r) [] (fault_of r fault)
+  because_files (files_fault.Frame e) certificate frame h = by_refused w w (Check r) [] (told_as.Frame e) (because_frame e frame (told_or_not w.files) h)
+  because_files files_fault.Session certificate frame h = by_refused w w (Check r) [] (told_as.File r.session) (refl, because_session (told_or_not w.files) h)
+  because_files files_fault.Object certificate frame h =
       by_unread w w (Check r) [] (told_as.File r.object) (inr (Opened session, gives_session.bytes, inl (refl, because_object (told_or_not w.files) h)))
-  because_files (files_fault.Certificate e) certificate h =
+  because_files (files_fault.Certificate e) certificate frame h =
       let value = an_object w.files r.object.now object gives_object.bytes in
       by_unread w w (Check r) [] (told_as.Certificate e)
       (inr (Opened session, gives_session.bytes, inr (value.0, value.1, inl (no_certificate w r.certificate text t gives_text e certificate))))
-  because_files files_fault.NoMemory certificate h = tt
+  because_files files_fault.NoMemory certificate frame h = tt
 
-  pub unchecked : (fault : FilesFault) → IsCertificateFault text t fault → WhereTold session object text (λ x y z. IsFilesFault r.identity reliable x y z fault) → HasStopped w w (Check r) (fault_of r fault)
-  unchecked fault certificate h = stopped w (Check r) (fault_of r fault) (because_files fault certificate h)
+  pub unchecked : (fault : FilesFault) → IsCertificateFault text t fault → IsFrameFault s fault → WhereTold session object text (λ x y z. IsFilesFault r.identity reliable x y z fault) → HasStopped w w (Check r) (fault_of r fault)
+  unchecked fault certificate frame h = stopped w (Check r) (fault_of r fault) (because_files fault certificate frame h)
 
   of_files : (Fact : List ℕ → List ℕ → List ℕ → Type 0) → (files : Option Files) → files ≡ w.files → WhereTold session object text Fact → OfFiles files r Fact
   of_files Fact None is h = tt
@@ -147,16 +148,16 @@ module _ (w : World) (r : CheckRequest) (session object text : Option (List ℕ)
   survey_of_files (Some found) h = is_of_files (λ x y z. IsSurveyIn r.identity x y z found.0 found.1) h
 
 -- a survey of some datagrams can be summed up
-pub some_summed : (who : Identity) (found : Verdict × Option Survey) → OnYesWith found.0 found.1 (IsSurveyOfSome who) → OnYesWith found.0 found.1 CanBeSummed
+pub some_summed : (who : Identity) (found : Verdict × Option Survey) → IsSurveyOnSome who found.0 found.1 → OnYesWith found.0 found.1 CanBeSummed
 some_summed who (Yes report, Some survey) (ds, f, valid, is, surveyed) =
     let many = ap (λ (bs : List (ℕ × ℕ)). length bs) is.blocks in
     let each = length-map {B = ℕ × ℕ} (below (block_count f)) (λ b. (source_count f b, arrived_count (symbols (counted who is.readings)) b)) in
     record { some = omega (arith, many, each, length_below (block_count f), some_block f valid); burst = surveyed.burst }
-some_summed who (Yes report, None) h = absurd h
-some_summed who (No reason, Some survey) h = absurd h
+some_summed who (Yes report, None) (ds, f, valid, is, none) = absurd none
+some_summed who (No reason, Some survey) (ds, f, valid, is, none) = absurd none
 some_summed who (No reason, None) h = tt
 
-pub all_summed : (who : Identity) (o : Option (Verdict × Option Survey)) → IfSome o (λ found. OnYesWith found.0 found.1 (IsSurveyOfSome who)) → IfSome o (λ found. OnYesWith found.0 found.1 CanBeSummed)
+pub all_summed : (who : Identity) (o : Option (Verdict × Option Survey)) → IfSome o (λ found. IsSurveyOnSome who found.0 found.1) → IfSome o (λ found. OnYesWith found.0 found.1 CanBeSummed)
 all_summed who None h = tt
 all_summed who (Some found) h = some_summed who found h
 
@@ -200,7 +201,7 @@ unchecked_frames w r sound opened object z have fails (told_as.Open n) h = absur
 unchecked_frames w r sound opened object z have fails (told_as.File n) h = absurd h
 unchecked_frames w r sound opened object z have fails told_as.Memory h = stopped w (Check r) told_as.Memory tt
 unchecked_frames w r sound opened object z have fails (told_as.Frame e) h =
-    stopped w (Check r) (told_as.Frame e) (by_refused w w (Check r) [] (told_as.Frame e) (inr (opened, object, z, h.0, h.1, have, h.2, λ io. fails (h.3 io))))
+    stopped w (Check r) (told_as.Frame e) (by_refused w w (Check r) [] (told_as.Frame e) (λ io. fails (h.3 io), inr (opened, object, z, h.0, h.1, have, h.2)))
 unchecked_frames w r sound opened object z have fails (told_as.Certificate e) h = absurd h
 unchecked_frames w r sound opened object z have fails (told_as.Fti e) h = absurd h
 unchecked_frames w r sound opened object z have fails (told_as.Send e) h = absurd h

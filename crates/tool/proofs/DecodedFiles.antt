@@ -70,7 +70,7 @@ module _ (w : World) (name : Bor (List ℕ)) (content : Option (List ℕ)) (reli
 
 module _ (old new : World) (r : DecodeRequest) (content : Option (List ℕ)) (held : HasValue old.files (ASession r.session.now) (Opened content)) (silent : new.printed ≡ old.printed) where
   pub none_decoded_in : (answer : Answer) → IsAnswerIn r.identity content (answer_value answer) → IsNoObject answer → new.files ≡ old.files
-      → (new.created ≡ old.created) ⊎ ((new.created ≡ one_more old.created) × MayCreate old.files (Decode r)) → (done : Done) → IsToldOf (answer_value answer) done → HasMade old new (Decode r) done
+      → (new.created ≡ old.created) ⊎ ((new.created ≡ one_more old.created) × MayCreate old.files (Decode r) × IsFree old.files r.output.name.now r.output.no_clobber) → (done : Done) → IsToldOf (answer_value answer) done → HasMade old new (Decode r) done
   none_decoded_in answer is none files created done told = record {
     outcome = record { text = line_of (answer_text (answer_value answer)); status = answer_status (answer_value answer); output = None };
     makes = record {

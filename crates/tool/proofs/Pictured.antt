@@ -27,7 +27,7 @@ use Rattle.tool.specs.Commands.{Outcome, Gives, IsDrawn, TellsVerdict, inputs_of
 use Rattle.tool.specs.Outcomes.{IsOutput, MayCreate}
 use Rattle.tool.specs.Doing.{text_of, HasMade}
 use Rattle.tool.specs.Drawing.{HasDrawn, IsSurveyed}
-use Rattle.file_check.specs.Files.{IsSurveyIn, IsVerdictIn}
+use Rattle.file_check.specs.Files.{IsSurveyIn, IsSurveyOnSome, IsVerdictIn, IsVerdictOnSome}
 use Rattle.std.specs.Prelude.{IfOk}
 use Rattle.tool.specs.declared.fault.Fault.{Fault}
 use Rattle.tool.specs.Checks.{OfFiles, TellsCheck, TellsRequest}
@@ -102,7 +102,7 @@ drawn_of files r answered (inr some) = some.1.picture
 given : (files : Option Files) (r : CheckRequest) (answered : Answered) (told : TellsRequest files r answered) (output : Option (List ℕ)) → IsDrawn r.picture (verdict_of files r answered told) output
     → Gives (Check r) (values files r answered told) (record { text = text_of answered.done.told; status = answered.done.status; output = output })
 given files r answered (inl told) output is = (told.tells.verdict, told.left, told.tells.checked, told.tells.text, told.tells.status, is)
-given files r answered (inr some) output is = (some.1.verdict, some.1.text, some.1.status, is)
+given files r answered (inr (none, some)) output is = (some.verdict, some.datagrams, some.fti, some.valid, some.report, some.text, some.status, is)
 
 module _ (old new : World) (r : CheckRequest) (done : Done) (drawn : Drawn) (tells : TellsRequest old.files r (record { done = done; picture = Some drawn })) where
   abbrev answered : Answered
@@ -153,11 +153,11 @@ unpictured w r done tells =
     }
 
 -- what is told of a verdict on files that stand where they are
-pub told_alone : (files : Option Files) (r : CheckRequest) (verdict : Verdict) (done : Done) → OfFiles files r (λ x o text. IsVerdictIn r.identity x o text verdict) → r.picture ≡ None → r.summary ≡ false
+pub told_alone : (files : Option Files) (r : CheckRequest) (verdict : Verdict) (done : Done) → OfFiles files r (λ x o text. IsVerdictIn r.identity x o text verdict) → IsVerdictOnSome r.identity verdict → r.picture ≡ None → r.summary ≡ false
     → text_of done.told ≡ verdict_text verdict → done.status ≡ status_of verdict → TellsRequest files r (record { done = done; picture = None })
-told_alone None r verdict done is plain short text status =
-    inr (refl, record { verdict = verdict; text = (rw short text); status = status; picture = (rw plain refl) })
-told_alone (Some held) r verdict done (session, object, certificate, at_session, at_object, at_certificate, (z, is_text, left, checked)) plain short text status =
+told_alone None r verdict done is (datagrams, f, valid, report) plain short text status =
+    inr (refl, record { verdict = verdict; datagrams = datagrams; fti = f; valid = valid; report = report; text = (rw short text); status = status; picture = (rw plain refl) })
+told_alone (Some held) r verdict done (session, object, certificate, at_session, at_object, at_certificate, (z, is_text, left, checked)) some plain short text status =
     inl (record {
       opened = Some session;
       left = left;
@@ -167,19 +167,24 @@ told_alone (Some held) r verdict done (session, object, certificate, at_session,
       tells = record { verdict = verdict; checked = checked; text = (rw short text); status = status; picture = (rw plain refl) };
     })
 
--- a survey is there, whatever is told of it
-surveyed_somehow : (verdict : Verdict) (survey : Option Survey) (P : Report → Survey → Type 0) → OnYesWith verdict survey P → OnYesWith verdict survey (λ report s. Unit {0})
-surveyed_somehow (Yes report) (Some survey) P h = tt
-surveyed_somehow (Yes report) None P h = h
-surveyed_somehow (No reason) (Some survey) P h = h
-surveyed_somehow (No reason) None P h = tt
-
 -- and of one with its survey
 pub told_surveyed : (files : Option Files) (r : CheckRequest) (verdict : Verdict) (survey : Option Survey) (answered : Answered) → OfFiles files r (λ x o text. IsSurveyIn r.identity x o text verdict survey)
-    → OnYesWith verdict survey CanBeSummed → IsTextOf r.summary verdict survey (text_of answered.done.told) → answered.done.status ≡ status_of verdict → HasDrawn r.picture verdict answered.picture
+    → IsSurveyOnSome r.identity verdict survey → IsTextOf r.summary verdict survey (text_of answered.done.told) → answered.done.status ≡ status_of verdict → HasDrawn r.picture verdict answered.picture
     → TellsRequest files r answered
-told_surveyed None r verdict survey answered is some text status picture =
-    inr (refl, record { verdict = verdict; text = tells_verdict r.summary verdict survey _ (λ report s. Unit {0}) (surveyed_somehow verdict survey CanBeSummed some) text; status = status; picture = picture })
+told_surveyed None r verdict survey answered is (datagrams, f, valid, report, surveyed) text status picture =
+    inr (
+      refl,
+      record {
+        verdict = verdict;
+        datagrams = datagrams;
+        fti = f;
+        valid = valid;
+        report = report;
+        text = tells_verdict r.summary verdict survey _ _ surveyed text;
+        status = status;
+        picture = picture;
+      },
+    )
 told_surveyed (Some held) r verdict survey answered (session, object, certificate, at_session, at_object, at_certificate, (z, is_text, left, surveyed)) some text status picture =
     inl (record {
       opened = Some session;

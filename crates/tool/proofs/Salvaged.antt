@@ -21,6 +21,7 @@ use Rattle.tool.specs.declared.fault.Fault.TheVariants.{Open, File, Memory, Fram
 use Rattle.tool.specs.declared.output.Unwritten.{Unwritten}
 use Rattle.tool.specs.declared.output.Unwritten.TheVariants as unwritten
 use Rattle.tool.proofs.Followed.{nothing_consumed}
+use Rattle.tool.proofs.Joins.{is_there}
 use Rattle.tool.proofs.Stopping.{by_refused}
 
 -- before the first
@@ -107,8 +108,8 @@ module _ (a mid b m : Option (List ℕ)) (n : ℕ) (h : HasCopied a mid b m n) w
 
 -- ---- why not
 
-module _ (old new : World) (r : SalvageRequest) (name : List ℕ) (opened : Option (List ℕ)) (sound failed : Bool)
-    (input : GivesFile old name opened sound) where
+module _ (old new : World) (r : SalvageRequest) (opened : Option (List ℕ)) (sound failed : Bool)
+    (input : GivesFile old r.session.now opened sound) where
   because : (f : Fault) → IsUncopied sound failed (unwritten.Fault f)
       → IsBecause old new (Salvage r) [] f
   because (Open n) why = absurd why
@@ -116,7 +117,8 @@ module _ (old new : World) (r : SalvageRequest) (name : List ℕ) (opened : Opti
   because Memory why = tt
   because (Frame e) why =
       subst (λ (x : FrameFault). IsBecause old new (Salvage r) [] (Frame x)) (sym why.0)
-      (by_refused old new (Salvage r) [] (Frame Io) (input.fails why.1))
+      (by_refused old new (Salvage r) [] (Frame Io)
+      ((is_there old.files r.session.now opened input.bytes, tt), input.fails why.1))
   because (Certificate e) why = absurd why
   because (Fti e) why = absurd why
   because (Send e) why = absurd why

@@ -181,7 +181,7 @@ made_then old mid new (Decode r) None files created h = (
   files ∙ h.0,
   elim h.1 [
     | inl same ↦ inl (created ∙ same)
-    | inr more ↦ inr (created ∙ more.0, more.1)
+    | inr more ↦ inr (created ∙ more.0, more.1, more.2)
   ],
 )
 made_then old mid new (Decode r) (Some bytes) files created h = output_then old mid new (output_of (Decode r)) (Some bytes) files created h

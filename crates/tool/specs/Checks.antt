@@ -1,10 +1,12 @@
 -- What is told of frames that are checked, and why they aren't.
 use Rattle.std.specs.Prelude.{◌≡◌, ◌⊎◌, ℕ, Bool, false, List, [], ◌∷◌, Option, Some, None, ⊤}
 use Rattle.std.specs.Prelude.{IfSome}
+use Rattle.partition.specs.Fti.{Fti, IsValidFti}
 use Rattle.session.specs.declared.frame.FrameFault.TheVariants.{Io as FrameIo}
 use Rattle.reception.specs.declared.scope.Identity.{Identity}
 use Rattle.cert.specs.Certificate.{Certificate as CertificateValue}
 use Rattle.cert.specs.FromReader.{IsCheckedFrom, IsRefusedBehind}
+use Rattle.cert.specs.Report.{IsReport, OnYes}
 use Rattle.cert.specs.Surveying.{IsSurvey}
 use Rattle.cert.specs.declared.verdict.Verdict.{Verdict}
 use Rattle.file_check.specs.declared.checking.FilesFault.{FilesFault}
@@ -52,14 +54,19 @@ pub record TellsHeld (files : Option Files) (r : CheckRequest) (answered : Answe
       (Opened opened ∷ Bytes object ∷ Polynomials z ∷ [])
   pub tells : TellsCheck r opened left object z answered
 
--- those of some verdict
+-- those of a verdict on some datagrams
 pub record TellsSome (r : CheckRequest) (answered : Answered) : Type 0 where
   pub verdict : Verdict
-  pub text : TellsVerdict r.summary (λ report survey. ⊤) verdict (text_of answered.done.told)
+  pub datagrams : List (List ℕ)
+  pub fti : Fti
+  pub valid : IsValidFti fti
+  pub report : OnYes verdict (IsReport r.identity datagrams fti)
+  pub text : TellsVerdict r.summary (IsSurvey r.identity datagrams fti) verdict
+      (text_of answered.done.told)
   pub status : answered.done.status ≡ status_of verdict
   pub picture : HasDrawn r.picture verdict answered.picture
 
--- what is told of a request: where its files tell nothing, of some verdict
+-- what is told of a request; of files whose bytes aren't told, of some datagrams
 abbrev pub TellsRequest : Option Files → CheckRequest → Answered → Type 0
 TellsRequest files r answered =
     TellsHeld files r answered ⊎ ((files ≡ None) × TellsSome r answered)

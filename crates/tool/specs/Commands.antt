@@ -20,6 +20,7 @@ use Rattle.reception.specs.Answer.{IsAnswer}
 use Rattle.cert.specs.Certificate.{Certificate, IsCertificate, is_for, named_as, certificate_text}
 use Rattle.cert.specs.Converting.{IsOfOther}
 use Rattle.cert.specs.FromReader.{IsCheckedFrom, IsRefusedBehind}
+use Rattle.cert.specs.Report.{IsReport, OnYes}
 use Rattle.cert.specs.Surveying.{IsSurvey}
 use Rattle.cert.specs.Twins.{IsTwinOfSession}
 use Rattle.cert.specs.Verdict.{IsVerdict, GivesObject}
@@ -42,7 +43,8 @@ use Rattle.request.specs.declared.requests.Request.TheVariants.{Convert, Decode,
 use Rattle.request.specs.declared.requests.Request.TheVariants.{Salvage, Join}
 use Rattle.host.specs.World.{World, Holds, MayFail}
 use Rattle.tool.specs.Inputs.{Input, AnObject, ASession, ACertificate, AStream, APlaces, Value}
-use Rattle.tool.specs.Inputs.{Bytes, Datagrams, Polynomials, Opened, Places, HasValue, HaveValues}
+use Rattle.tool.specs.Inputs.{Bytes, Datagrams, Polynomials, Opened, Places}
+use Rattle.tool.specs.Inputs.{AreThere, HasValue, HaveValues}
 use Rattle.tool.specs.Lines.{line_of, count_line, short_text, numbered, verdict_text, answer_text}
 use Rattle.tool.specs.Lines.{reading_text}
 use Rattle.tool.specs.Summary.{IsSummary}
@@ -222,7 +224,9 @@ Gives (Check r) (Opened opened ∷ Bytes object ∷ Polynomials z ∷ []) outcom
     × TellsVerdict r.summary (IsSurvey r.identity checked.datagrams z.fti) verdict outcome.text
     × (outcome.status ≡ status_of verdict) × IsDrawn r.picture verdict outcome.output
 Gives (Check r) (Opened session ∷ Opened object ∷ Opened certificate ∷ []) outcome =
-    (verdict : Verdict) × TellsVerdict r.summary (λ report survey. ⊤) verdict outcome.text
+    (verdict : Verdict) × (datagrams : List (List ℕ)) × (f : Fti) × IsValidFti f
+    × OnYes verdict (IsReport r.identity datagrams f)
+    × TellsVerdict r.summary (IsSurvey r.identity datagrams f) verdict outcome.text
     × (outcome.status ≡ status_of verdict) × IsDrawn r.picture verdict outcome.output
 Gives (Twin r) (Datagrams datagrams ∷ Bytes object ∷ Polynomials z ∷ []) outcome =
     (verdict : Verdict) × IsVerdict r.identity datagrams object z verdict
@@ -276,14 +280,13 @@ IsUnhadPlace ranges values place = ⊥
 -- behind others, or a session isn't as it was; an object's length makes no FTI, or its symbols are
 -- too long; a certificate is another's; a session hasn't a place.
 abbrev pub Refuses : World → Request → List ℕ → Fault → Type 0
-Refuses world (Check r) text (Frame fault) =
-    (world.files ≡ None)
+Refuses world (Check r) text (Frame fault) = (fault ≡ FrameIo → MayFail world)
+    × (((world.files ≡ None) × (failed : Bool) × IsReadFault fault None None failed)
     ⊎ ((opened : Option (List ℕ)) × (object : List ℕ) × (z : Certificate)
     × (left : Option (List ℕ)) × (failed : Bool)
     × HaveValues world.files (inputs_of (Check r))
     (Opened opened ∷ Bytes object ∷ Polynomials z ∷ [])
-    × IsRefusedBehind r.identity fault opened left failed object z
-    × (fault ≡ FrameIo → MayFail world))
+    × IsRefusedBehind r.identity fault opened left failed object z))
 Refuses world (Check r) text (File session) = (session.now ≡ r.session.now) × MayFail world
 Refuses world (Show r) text (Frame fault) =
     (opened : Option (List ℕ)) × (left : Option (List ℕ)) × (readings : List Reading)
@@ -300,7 +303,8 @@ Refuses world (Follow r) text (Frame fault) =
 Refuses world (Encode r) text (NoFti fault) =
     (object : List ℕ) × HasValue world.files (AnObject r.object.now) (Bytes object)
     × (fti_fault (sized r.sending.sizes (length object)) ≡ Some fault)
-Refuses world (Encode r) text (Send SymbolTooLong) = most_symbol_bytes < r.sending.sizes.symbol
+Refuses world (Encode r) text (Send SymbolTooLong) =
+    AreThere world.files (inputs_of (Encode r)) × (most_symbol_bytes < r.sending.sizes.symbol)
 Refuses world (Certify r) text (NoFti fault) =
     (object : List ℕ) × HasValue world.files (AnObject r.object.now) (Bytes object)
     × (fti_fault (sized r.sizes (length object)) ≡ Some fault)
@@ -309,5 +313,6 @@ Refuses world (Convert r) text (NoCertificate OtherIdentity) =
 Refuses world (Drop r) text (Frame (NoSuchPlace place)) =
     (values : List Value) × HaveValues world.files (inputs_of (Drop r)) values
     × IsUnhadPlace r.places.items values place
-Refuses world (Salvage r) text (Frame FrameIo) = MayFail world
+Refuses world (Salvage r) text (Frame FrameIo) =
+    AreThere world.files (inputs_of (Salvage r)) × MayFail world
 Refuses world r text fault = ⊥

@@ -37,14 +37,15 @@ abbrev pub LeaveNothingOut : Identity → List (List ℕ) → Type 0
 LeaveNothingOut who datagrams = (readings : List Reading) × ReadAll datagrams readings × (f : Fti)
     × IsClean (reception_of who readings) f × AllFull f (reception_of who readings).symbols
 
--- Whether an output may be created before a fault: of an object, once datagrams leave nothing out;
--- of a picture, where the answer is yes; of a session without some places, once it is there and the
--- file of places is read; else once all inputs are there.
+-- the inputs give an output
 abbrev pub GivesOutput : Option Files → Request → Type 0
 GivesOutput files r =
     (values : List Value) × (outcome : Outcome) × (bytes : List ℕ)
     × HaveValues files (inputs_of r) values × Gives r values outcome × (outcome.output ≡ Some bytes)
 
+-- Whether an output may be created before a fault: of an object, once datagrams leave nothing out;
+-- of a picture, where the answer is yes; of a session without some places, once it is there and the
+-- file of places is read; else once all inputs are there.
 abbrev pub MayCreate : Option Files → Request → Type 0
 MayCreate files (Check r) = GivesOutput files (Check r)
 MayCreate files (Show r) = ⊥
@@ -65,7 +66,8 @@ MayCreate files r = AreThere files (inputs_of r)
 abbrev pub IsMade : World → World → Request → Option (List ℕ) → Type 0
 IsMade old new (Decode r) None = (new.files ≡ old.files)
     × ((new.created ≡ old.created)
-    ⊎ ((new.created ≡ one_more old.created) × MayCreate old.files (Decode r)))
+    ⊎ ((new.created ≡ one_more old.created) × MayCreate old.files (Decode r)
+    × IsFree old.files r.output.name.now r.output.no_clobber))
 IsMade old new r output = IsOutput old new (output_of r) output
 
 -- What the inputs give was done, but for what is printed.

@@ -8,7 +8,8 @@ ghost use Rattle.request.specs.declared.requests.Request.TheVariants.{Check};
 ghost use Rattle.tool.specs.Commands.{status_of as verdict_status};
 ghost use Rattle.tool.specs.Doing.{HasMade, HasStopped, text_of};
 ghost use Rattle.host.specs.World.{GivesFile};
-ghost use Rattle.file_check.specs.Files.{IsSurveyIn, IsVerdictIn};
+ghost use Rattle.file_check.specs.Files.{IsSurveyIn, IsSurveyOnSome, IsVerdictIn};
+ghost use Rattle.file_check.specs.Files.{IsVerdictOnSome};
 ghost use Rattle.tool.specs.Checks.{IsNotChecked, OfFiles, TellsCheck, TellsRequest, fault_of};
 ghost use Rattle.tool.specs.Summing.{CanBeSummed, IsTextOf};
 ghost use Rattle.tool.specs.Lines.{named, block_text, kill_text, losses_text, report_text};
@@ -153,6 +154,7 @@ fn verdict_in<'a, H: Host>(
         (H.Input.reliable files.now.certificate.now) }
     ensures verdict { IfOk result (λ o. IfSome o (λ v. OfFiles (H.world host.now).files request.now
         (λ x o text. IsVerdictIn request.now.identity x o text v))) }
+    ensures some { IfOk result (λ o. IfSome o (IsVerdictOnSome request.now.identity)) }
     ensures fault { IfErr result
         (HasStopped (H.world host.now) (H.world host.now) (Check request.now)) }
 {
@@ -179,6 +181,8 @@ fn survey_in<'a, H: Host>(
     ensures survey { IfOk result (λ o. IfSome o (λ found.
         OfFiles (H.world host.now).files request.now
         (λ x o text. IsSurveyIn request.now.identity x o text found.0 found.1))) }
+    ensures some { IfOk result (λ o. IfSome o (λ found.
+        IsSurveyOnSome request.now.identity found.0 found.1)) }
     ensures summed { IfOk result (λ o. IfSome o (λ found.
         OnYesWith found.0 found.1 CanBeSummed)) }
     ensures fault { IfErr result

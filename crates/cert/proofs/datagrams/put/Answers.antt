@@ -6,4 +6,4 @@ use Rattle.cert.proofs.datagrams.put.Goals as goal
 
 pub returns : goal.returns
 returns c =
-    put_is c.args.groups.now c.args.place (symbol_of (packet_of c.args.packet.now)) c.index-groups-packet.result _ c.requires refl c.in_ok-push.ensures.items
+    put_is c.args.groups.now c.args.place (symbol_of (packet_of c.args.packet.now)) c.index-groups-packet.result _ c.requires refl (c.in_ok-push_member.ensures)

@@ -34,14 +34,14 @@ rows-requires-clause-enough g c =
     (let need = rw c.fti-fti.ensures at c.k.ensures.value in omega (arith, c.if-count-k.false, need))
 
 pub loop-b-init : goal.loop-b-init
-loop-b-init g c = record { least = λ told. record { unsound = tt; sound = λ i l. absurd (omega (arith, l)) }; kept = tt }
+loop-b-init g c = record { least = λ told. record { unsound = tt; sound = λ i l. absurd (omega (arith, l)) }; fits = c.in_ok-workspace.ensures c.args.codes.now }
 
 pub loop-b-preserved-then-not-is_before : goal.loop-b-preserved-then-not-is_before
 loop-b-preserved-then-not-is_before g c = record {
   least = λ told.
       least_stays (g.S.Source.known c.args.source.now) (g.S.Source.at c.args.source.now) c.deref-b-items.result.now c.loop-b.b-index c.loop-b.least (c.loop-b.invariant.least told)
       (λ before. let no = rw c.if-not-is_before.true at (c.is_before.ensures.1 before) in absurd (cc));
-  kept = c.loop-b.invariant.kept;
+  fits = c.loop-b.invariant.fits;
 }
 
 pub loop-b-preserved-then-count-k : goal.loop-b-preserved-then-count-k
@@ -53,7 +53,7 @@ loop-b-preserved-then-count-k g c = record {
       least_stays f at c.deref-b-items.result.now c.loop-b.b-index c.loop-b.least (c.loop-b.invariant.least told)
       (λ before. sound_short f at b c.n.result c.count.result (rw c.fti-fti.ensures at c.n.ensures.value) c.count.ensures
       (let need = rw c.fti-fti.ensures at c.k.ensures.value in omega (arith, c.if-count-k.true, need)));
-  kept = c.loop-b.invariant.kept;
+  fits = c.loop-b.invariant.fits;
 }
 
 pub loop-b-preserved : goal.loop-b-preserved
@@ -78,7 +78,7 @@ loop-b-preserved g c = record {
             (least_stays f at c.deref-b-items.result.now c.loop-b.b-index c.loop-b.least (c.loop-b.invariant.least told)
             (λ before enough. some_explain (λ v. v.bytes.items) f b (at b) c.in_ok-rows.field-0 (c.in_ok-rows.ensures.rows told) (c.is_none.ensures ∙ ap not w.if-is_none.false)))
       ];
-  kept = c.rows.ensures.keeps;
+  fits = c.rows.ensures.fits;
 }
 
 pub returns-clause-none : goal.returns-clause-none

@@ -16,7 +16,7 @@ loop-b-preserved-then-count-k g c =
           (just_enough f (subst IsValidFti c.fti-fti.ensures c.is_valid.ensures) at (c.requires.within told) (c.requires.bytes told) c.loop-b.b c.n.result c.count.result next
           (rw c.fti-fti.ensures at c.n.ensures.value) c.count.ensures
           (c.if-count-k.true ∙ (rw c.fti-fti.ensures at c.k.ensures.value)));
-      kept = c.loop-b.invariant.kept;
+      fits = c.loop-b.invariant.fits;
     }
 
 pub loop-b-preserved : goal.loop-b-preserved
@@ -26,5 +26,5 @@ loop-b-preserved g c =
     record {
       sound = λ told. below_more (IsSound f at) _ (c.loop-b.invariant.sound told)
           (λ enough. some_explain (λ v. v.bytes.items) f c.loop-b.b (at c.loop-b.b) c.in_ok-rows.field-0 (c.in_ok-rows.ensures.rows told) c.if-is_none.ensures);
-      kept = c.rows.ensures.keeps;
+      fits = c.rows.ensures.fits;
     }

@@ -1,5 +1,6 @@
 use Rattle.std.proofs.Common.{◌≡◌, ◌≤◌, ◌<◌, ◌-◌, ◌+◌, ◌++◌, ◌∙◌, ℕ, List, [], length, take, length-append, length-take-le, ap, sym, subst, refl, arith}
 use Rattle.partition.specs.Fti.{IsValidFti, block_count}
+use Rattle.partition.proofs.Laws.{some_block}
 use Rattle.session.proofs.Writes.{then_appends, then_some}
 use Rattle.decoder.proofs.Beginnings.{begins, begins_whole}
 use Rattle.decoder.proofs.ObjectSoFar.{nothing_yet, one_more_block, object_answers}
@@ -16,8 +17,16 @@ loop-b-init g c =
       written = appends_nothing _;
       left = omega (arith, all);
       room = omega arith;
-      kept = tt;
+      fits = c.in_ok-workspace.ensures c.args.codes.now;
     }
+
+pub returns-in_err-workspace-clause-front : goal.returns-in_err-workspace-clause-front
+returns-in_err-workspace-clause-front g c = λ told.
+    let f = g.S.Source.known c.args.source.now in
+    let at = g.S.Source.at c.args.source.now in
+    let valid = subst IsValidFti c.fti-fti.ensures c.transfer_length-left.ensures.valid in
+    let some = some_block f valid in
+    on_err _ _ (begins_whole f valid at 0 [] (nothing_yet f at some) (omega (arith, some)) _ _ (appends_nothing _))
 
 pub rows-requires-clause-number : goal.rows-requires-clause-number
 rows-requires-clause-number g c =
@@ -79,7 +88,7 @@ loop-b-preserved g c =
       written = then_appends _ _ _ i.object front i.written c.in-Ok.ensures.ok;
       left = omega (arith, i.left, all, count, c.min-used.ensures);
       room = omega (arith, i.room, all, c.in-Ok.ensures.fills);
-      kept = c.rows.ensures.keeps;
+      fits = c.rows.ensures.fits;
     }
 
 pub returns-clause-whole : goal.returns-clause-whole

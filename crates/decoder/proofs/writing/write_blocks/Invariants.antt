@@ -1,6 +1,5 @@
 use Rattle.std.proofs.Common.{◌≡◌, ◌≤◌, ◌+◌, ℕ, List, length}
 use Rattle.std.specs.Io.KnownBytes.{Appends}
-use Rattle.decoder.specs.Recoveries.{IsKeptOf}
 use Rattle.decoder.proofs.ObjectSoFar.{SoFar}
 use Rattle.decoder.proofs.writing.write_blocks.Given as goal
 
@@ -11,5 +10,5 @@ invariant-loop-b g l = record {
   written : Appends (g.W.Write.contents l.initial.writer) (g.W.Write.contents l.writer) object;
   left : length object + l.left ≡ (g.S.Source.known l.source).transfer_length;
   room : g.W.Write.room l.initial.writer ≤ g.W.Write.room l.writer + length object;
-  kept : IsKeptOf l.codes l.kept;
+  fits : g.S.Source.Fits l.source l.codes l.workspace;
 }

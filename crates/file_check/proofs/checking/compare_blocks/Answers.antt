@@ -1,5 +1,6 @@
 use Rattle.std.proofs.Common.{◌≡◌, ◌∙◌, ℕ, subst, arith}
 use Rattle.partition.specs.Fti.{block_count}
+use Rattle.partition.proofs.Laws.{some_block}
 use Rattle.cert.specs.Certificate.{named_in}
 use Rattle.cert.specs.Tallying.{tallied_of}
 use Rattle.cert.proofs.DatagramSteps.{passed_on}
@@ -9,9 +10,12 @@ use Rattle.file_check.proofs.checking.compare_blocks.Goals as goal
 
 pub loop-block-init : goal.loop-block-init
 loop-block-init g c = record {
-  same = c.new-session.ensures;
+  same = c.in-Ok.ensures;
   compared = λ x o text told_x told_o told_t ds index long. none_yet (named_in text c.args.files.now.certificate.fti c.args.files.now.certificate.name) o (tallied_of c.args.index.now.tally) ds;
 }
+
+pub n-requires : goal.n-requires
+n-requires g c = some_block c.args.files.now.certificate.fti c.args.files.now.certificate.valid
 
 pub compare_block-requires-clause-same : goal.compare_block-requires-clause-same
 compare_block-requires-clause-same g c = c.loop-block.invariant.same

@@ -1,7 +1,7 @@
-use Rattle.std.proofs.Common.{Some, false}
+use Rattle.std.proofs.Common.{[], Some, false}
 use Rattle.cert.specs.Certificate.{IsCertificate}
 use Rattle.cert.specs.Certificate.{named_in}
-use Rattle.cert.specs.Tallying.{by_certificate}
+use Rattle.cert.specs.Tallying.{by_certificate, nothing}
 use Rattle.cert.specs.declared.walk.NoReport.TheVariants.{Reason as ByReason}
 use Rattle.cert.proofs.FromReader.{no_report, survey_yes}
 use Rattle.file_check.proofs.checking.survey_named.Goals as goal
@@ -28,3 +28,14 @@ returns-in-Err-Reason-clause-verdict g c = λ x o text sx so st. (
     let e = c.in-Err-Reason.reason in
     let no = rw (w.identity, c.in-Err-Reason.field-0-is) at (c.in-Err-Reason.ensures.no_report z w.datagrams w.tallied) in
     (w.left, record { checked = no_report who z o given.0 given.1 given.2 (Some x) w.left false w.datagrams w.each w.consumed clean (ByReason e) w.end no; surveyed = tt }))
+
+pub returns-in-Ok-survey-clause-some : goal.returns-in-Ok-survey-clause-some
+returns-in-Ok-survey-clause-some g c =
+    let f = c.args.files.now.certificate.fti in
+    let s = c.in-Ok.ensures.some in
+    let report = rw s.identity at (c.in-Ok-survey.ensures.report nothing f s.datagrams s.each s.tallied) in
+    let surveyed = rw s.identity at (c.in-Ok-survey.ensures.survey nothing f s.datagrams s.each s.tallied) in
+    (s.datagrams, f, c.args.files.now.certificate.valid, report, surveyed)
+
+pub returns-in-Err-ByReason-clause-some : goal.returns-in-Err-ByReason-clause-some
+returns-in-Err-ByReason-clause-some g c = ([], c.args.files.now.certificate.fti, c.args.files.now.certificate.valid, tt, tt)

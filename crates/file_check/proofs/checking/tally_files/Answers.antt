@@ -4,7 +4,7 @@ use Rattle.cert.specs.Certificate.{named_in}
 use Rattle.cert.specs.Tallying.{nothing, tallied_of}
 use Rattle.cert.specs.declared.verdict.Reason.TheVariants.{OtherCertificate, ObjectLength}
 use Rattle.cert.proofs.DatagramSteps.{fti_holds, passed_on}
-use Rattle.file_check.proofs.WholeTallies.{before, equal, faulty, gives_object, index_of, not_equal, refused, stops, whole_tally, wrong_symbol}
+use Rattle.file_check.proofs.WholeTallies.{before, equal, faulty, gives_object, index_of, not_equal, refused, stops, untold_fault, whole_tally, wrong_symbol}
 use Rattle.file_check.proofs.checking.tally_files.Goals as goal
 
 pub returns-then-ne-clause-stop : goal.returns-then-ne-clause-stop
@@ -20,7 +20,7 @@ returns-in-Ok-false-clause-stop g c = λ x o text sx so st. (
 pub compare_blocks-requires-clause-known : goal.compare_blocks-requires-clause-known
 compare_blocks-requires-clause-known g c =
     let some = c.in_ok-index.ensures.some in
-    fti_holds nothing c.args.files.now.certificate.fti (tallied_of c.in_ok-index.index.tally) some.2.datagrams some.2.tallied
+    fti_holds nothing c.args.files.now.certificate.fti (tallied_of c.in_ok-index.index.tally) some.1.datagrams some.1.tallied
 
 pub returns-in_err-wrong-clause-stop : goal.returns-in_err-wrong-clause-stop
 returns-in_err-wrong-clause-stop g c = λ x o text sx so st. (
@@ -107,3 +107,8 @@ returns-in-Frame-clause-stop g c = λ x o text sx so st. (
     let index = index_of who x o z sound c.in_ok-index.index c.in_ok-index.end is in
     let are = rw c.in_default.is at (c.in_ok-wrong.ensures.compared x o text sx so st is.datagrams index long) in
     refused who x o z sound c.in_ok-index.index c.in_ok-index.end is are (equal _ (sym c.ne.ensures ∙ c.if-ne.false)) form c.in-Frame.fault (rw c.in-Frame.is at is.ends))
+
+pub returns-in-Frame-clause-frame : goal.returns-in-Frame-clause-frame
+returns-in-Frame-clause-frame g c =
+    let ends = rw c.in-Frame.is at c.in_ok-index.ensures.some.1.ends in
+    ((ends.0.1, untold_fault c.in-Frame.fault _ ends.0.0 ends.0.1 ends.0.2), ends.1)

@@ -1,7 +1,8 @@
-use Rattle.std.proofs.Common.{◌≡◌, ◌∙◌, ◌+◌, ◌∷◌, [], ℕ, List, length, length-append, refl, sym, ap}
+use Rattle.std.proofs.Common.{rules, arith, ◌≡◌, ◌<◌, ◌∙◌, ◌+◌, ◌∷◌, [], ℕ, List, length, length-append, refl, sym, ap}
 use Rattle.session.specs.Frames.{IsDatagram}
 use Rattle.session.proofs.Passing.{at_start, none_read, one_read, read_more, stands}
 use Rattle.cert.specs.Tallying.{nothing}
+use Rattle.file_check.specs.Indexed.{extents_of}
 use Rattle.file_check.proofs.Indexing.{none_stands, one_stands}
 use Rattle.file_check.proofs.index.index_frames.Goals as goal
 
@@ -9,8 +10,9 @@ pub loop-datagram-init : goal.loop-datagram-init
 loop-datagram-init g c =
     let content = g.R.Read.remaining c.args.reader.now in
     record {
-      read = rw (c.new-position.ensures.offset, c.new-position.ensures.place, c.new-2.ensures.items)
+      read = rw (c.new-position.ensures.offset, c.new-position.ensures.place, c.new-2.ensures.none)
           (at_start content, rw (none_read content) (c.in_ok-new.ensures.none nothing), rw (none_read content) refl, rw (none_read content) (none_stands content));
+      end = c.new-2.ensures.end ∙ sym c.new-position.ensures.offset;
       identity = c.in_ok-new.ensures.identity;
       stays = refl;
     }
@@ -48,8 +50,19 @@ returns-in-Err g c =
       );
     }
 
-pub take-requires : goal.take-requires
-take-requires g c = let read = c.loop-datagram.invariant.read in (c.args.fti, read.0.read, read.1)
+pub take-requires-clause-tallied : goal.take-requires-clause-tallied
+take-requires-clause-tallied g c = let read = c.loop-datagram.invariant.read in (c.args.fti, read.0.read, read.1)
+
+pub take-requires-clause-begin : goal.take-requires-clause-begin
+take-requires-clause-begin g c = c.in-Ok.ensures.offset ∙ ap (λ (n : ℕ). n + 2) (sym c.loop-datagram.invariant.end)
+
+pub take-requires-clause-fits : goal.take-requires-clause-fits
+take-requires-clause-fits g c =
+    let fits : c.in-Ok.next.offset < 18446744073709551616 = search rules in
+    let begin = c.in-Ok.ensures.offset in
+    let long = c.in-Ok.ensures.length in
+    let behind = c.in-Ok.ensures.behind in
+    omega (arith, fits, begin, long, behind)
 
 pub returns-in-Some : goal.returns-in-Some
 returns-in-Some g c =
@@ -96,10 +109,16 @@ loop-datagram-preserved g c =
       read = rw (c.in-Ok.ensures.more, extents) (
         more,
         rw is tallied,
-        rw is (length-append c.loop-datagram.index.extents.items (c.in-Ok.extent ∷ []) ∙ ap (λ (n : ℕ). n + 1) read.2 ∙ sym (length-append read.0.read (d ∷ []))),
-        rw is (one_stands content c.loop-datagram.index.extents.items read.0.read c.in-Ok.extent d read.2 read.3
+        rw is (length-append (extents_of c.loop-datagram.index.extents) (c.in-Ok.extent ∷ []) ∙ ap (λ (n : ℕ). n + 1) read.2 ∙ sym (length-append read.0.read (d ∷ []))),
+        rw is (one_stands content (extents_of c.loop-datagram.index.extents) read.0.read c.in-Ok.extent d read.2 read.3
             (λ x told. stands content left offset place read.0 new d some short x told c.in-Ok.extent c.in-Ok.ensures.offset (c.in-Ok.ensures.length ∙ size))),
       );
+      end =
+          (let end = e.end c.in-None.is in
+          let begin = c.in-Ok.ensures.offset in
+          let long = c.in-Ok.ensures.length in
+          let there = c.in-Ok.ensures.behind in
+          omega (arith, end, begin, long, there));
       identity = ap (λ s. s.identity) e.scope ∙ c.loop-datagram.invariant.identity;
       stays = c.in-Ok-Some.ensures.stays ∙ c.loop-datagram.invariant.stays;
     }

@@ -3,7 +3,8 @@ use Rattle.losses.specs.declared.groups.Member.{Member}
 use Rattle.cert.specs.Tallying.{IsPacketOf, tallied_of}
 use Rattle.cert.proofs.Flat.{on_err}
 use Rattle.file_check.specs.Blocks.{member_at}
-use Rattle.file_check.specs.Indexed.{no_extent}
+use Rattle.file_check.specs.Indexed.{extents_of}
+use Rattle.file_check.specs.Standing.{no_extent}
 use Rattle.file_check.proofs.GoneOver.{none_gone, member_seen, member_there, extent_read, extent_inside, judged_there, one_behind, one_right, one_wrong}
 use Rattle.file_check.proofs.members.first_wrong.Goals.{in-Some-2, in-None}
 use Rattle.file_check.proofs.members.first_wrong.Goals as goal
@@ -43,7 +44,7 @@ returns-in_default-clause-lost g c = λ x f ds told of. (
     let l = seen.0 in
     let m = seen.1 in
     let there = (member_there content index b symbols known.0 known.1 known.2 x f ds of k l).0 in
-    let past = rw (m, c.as_slice.ensures.value) at c.in_default.ensures.lookup.3 in
+    let past = rw m at (c.in_default.ensures.none refl) in
     absurd (omega (arith, there, past, of.many)))
 
 pub returns-in_err-column-clause-lost : goal.returns-in_err-column-clause-lost
@@ -57,8 +58,8 @@ returns-in_err-column-clause-lost g c =
     let seen = member_seen content index b symbols c.index.result.now c.deref-member-items.result.now c.requires.block c.index.ensures c.deref-member-items.ensures.value k c.loop-member-test.true in
     let l = seen.0 in
     let m = seen.1 in
-    let e = c.in-Some.extent.now in
-    let is : get_or index.extents.items (member_at (tallied_of index.tally) b k).place no_extent ≡ e = sym (rw (m, c.as_slice.ensures.value) at (c.in-Some.ensures.lookup.4 (omega arith) no_extent)) in
+    let e = c.in-Some.extent in
+    let is : get_or (extents_of index.extents) (member_at (tallied_of index.tally) b k).place no_extent ≡ e = sym (rw m at c.in-Some.ensures.some) in
     let same = c.loop-member.invariant.file in
     let lost = rw (same, m) at c.in_err-column.ensures.lost in
     on_err c.from_residual.result (λ x f ds told of.
@@ -77,8 +78,8 @@ loop-member-preserved g c =
     let seen = member_seen content index b symbols c.index.result.now c.deref-member-items.result.now c.requires.block c.index.ensures c.deref-member-items.ensures.value k c.loop-member-test.true in
     let l = seen.0 in
     let m = seen.1 in
-    let e = c.in-Some.extent.now in
-    let is : get_or index.extents.items (member_at (tallied_of index.tally) b k).place no_extent ≡ e = sym (rw (m, c.as_slice.ensures.value) at (c.in-Some.ensures.lookup.4 (omega arith) no_extent)) in
+    let e = c.in-Some.extent in
+    let is : get_or (extents_of index.extents) (member_at (tallied_of index.tally) b k).place no_extent ≡ e = sym (rw m at c.in-Some.ensures.some) in
     let same = c.loop-member.invariant.file in
     let judged = judged_there content index b symbols known.0 known.1 known.2 k l e is c.in_ok-column.field-0 (rw same at c.in_ok-column.ensures.says) in
     record {

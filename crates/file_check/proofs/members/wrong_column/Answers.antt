@@ -63,7 +63,7 @@ overflow_mul-from g c =
     let fits : length c.args.made.symbols.now < 18446744073709551616 = search rules in
     let room = c.requires.known.3 in
     let ends = rw (c.if-packet-made.false, c.if-packet-esi.false) at w.1 in
-    rw (c.from-2.ensures, w.0) (omega (arith, ends, room, fits))
+    rw (c.from-3.ensures, w.0) (omega (arith, ends, room, fits))
 
 pub overflow_add-from : goal.overflow_add-from
 overflow_add-from g c =
@@ -72,7 +72,7 @@ overflow_add-from g c =
     let fits : length c.args.made.symbols.now < 18446744073709551616 = search rules in
     let room = c.requires.known.3 in
     let ends = rw (c.if-packet-made.false, c.if-packet-esi.false) at w.1 in
-    rw (c.from-2.ensures, w.0) (omega (arith, ends, room, fits))
+    rw (c.from-3.ensures, w.0) (omega (arith, ends, room, fits))
 
 pub slice_bounds-first_difference-end : goal.slice_bounds-first_difference-end
 slice_bounds-first_difference-end g c =
@@ -80,7 +80,7 @@ slice_bounds-first_difference-end g c =
     let w = row_inside c.args.scope.now c.fill.new.buf c.look.new.self c.in-Ok-InRange.packet f c.requires.known.1 (rw (c.in-Ok-InRange.is, c.in-Ok-InRange.field-0-is) at c.look.ensures) in
     let room = c.requires.known.3 in
     let ends = rw (c.if-packet-made.false, c.if-packet-esi.false) at w.1 in
-    rw (c.from-2.ensures, w.0) (omega (arith, ends, room))
+    rw (c.from-3.ensures, w.0) (omega (arith, ends, room))
 
 pub returns-clause-says : goal.returns-clause-says
 returns-clause-says g c = λ x z p told valid known are inside there. (
@@ -95,7 +95,7 @@ returns-clause-says g c = λ x z p told valid known are inside there. (
     let same : p ≡ packet_of q = cc in
     let w = row_inside c.args.scope.now c.fill.new.buf c.look.new.self q z.fti known at in
     let width = length q.symbol.now in
-    let esi : c.from-2.result ≡ q.esi = c.from-2.ensures ∙ sym c.if-packet-esi.false in
+    let esi : c.from-3.result ≡ q.esi = c.from-3.ensures ∙ sym c.if-packet-esi.false in
     let row : IsCertifiedSymbol z q.sbn q.esi (take width (drop (q.esi * width) c.args.made.symbols.now)) =
     row_is z q.sbn q.esi (encoding_count z.fti q.sbn) width c.args.made.symbols.now (rw c.if-packet-made.false are) w.0 w.2 in
     let f_is : c.requires.known.0 ≡ z.fti = cc in
@@ -103,7 +103,7 @@ returns-clause-says g c = λ x z p told valid known are inside there. (
     c.requires.known.3 ∙ ap (λ (f : Fti). encoding_count f c.args.made.block * f.symbol_length) f_is in
     let ends = rw c.if-packet-made.false at w.1 in
     let at_row : q.esi * width ≡ q.esi * z.fti.symbol_length = ap (λ (n : ℕ). q.esi * n) w.0 in
-    let cut : c.from-2.result * width + width - c.from-2.result * width ≡ width = omega arith in
+    let cut : c.from-3.result * width + width - c.from-3.result * width ≡ width = omega arith in
     let left : length (drop (q.esi * width) c.args.made.symbols.now) ≡ length c.args.made.symbols.now - q.esi * width = length-drop (q.esi * width) c.args.made.symbols.now in
     let long : length (take width (drop (q.esi * width) c.args.made.symbols.now)) ≡ z.fti.symbol_length =
     length-take-le width (drop (q.esi * width) c.args.made.symbols.now) (omega (arith, left, room, ends, at_row, w.0)) ∙ w.0 in

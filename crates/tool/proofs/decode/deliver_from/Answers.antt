@@ -54,7 +54,7 @@ returns-in_ok-told_of-in-Ok-Some-clause-ok g c =
     (λ are. rw c.in-Ok-Some.field-0-is at (c.in-Ok-Some.ensures.answer ds x told are))) in
     none_decoded_in old new r content (session_held old.files r.session.now content r.identity (answer_value answer) given.bytes is)
     (c.give_up.ensures.silent.printed ∙ c.create.ensures.silent.printed) answer is (rw c.in-Ok-Some.field-0-is at c.in-Ok-Some.ensures.none)
-    (c.give_up.ensures.files.files ∙ c.create.ensures.files) (inr (c.give_up.ensures.files.created ∙ c.in_ok-file.ensures.created, may))
+    (c.give_up.ensures.files.files ∙ c.create.ensures.files) (inr (c.give_up.ensures.files.created ∙ c.in_ok-file.ensures.created, may, c.in_ok-file.ensures.free))
     c.in_ok-told_of-in-Ok-Some.field-0 c.in_ok-told_of-in-Ok-Some.ensures
 
 pub returns-in_ok-length-in-Ok-None-clause-ok : goal.returns-in_ok-length-in-Ok-None-clause-ok

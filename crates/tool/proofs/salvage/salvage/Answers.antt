@@ -26,7 +26,7 @@ returns-in_err-count-clause-fault g c =
     (is_there old.files r.session.now opened input.bytes, tt) c.in_err-count.ensures.files
     c.commit.ensures.silent c.commit.ensures.created
     (Frame Io) (λ may more. (may, refl, more)) c.copy_front-status.result.written fault
-    (because_uncopied old new r r.session.now opened (g.H.Input.Read.sound c.in_ok-input.input) _ input
+    (because_uncopied old new r opened (g.H.Input.Read.sound c.in_ok-input.input) _ input
     c.copy_front-status.result.written c.copy_front-status.ensures.fault)
     c.in_err-count.ensures.fault)
 

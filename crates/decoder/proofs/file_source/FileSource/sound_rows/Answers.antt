@@ -31,7 +31,7 @@ returns-in_err-again-clause-fault g c =
     let p = err_from_is_err_and c.from_residual-in_err-again.result c.from_residual-in_err-again.ensures.1 in
     let list = came_list (list_of ix.symbols c.args.b) c.of_block.result _ c.unwrap_or-arrived.result c.unwrap_or-arrived.ensures refl c.of_block.ensures.empty c.of_block.ensures.list in
     rw (p.1, p.2)
-    (unread_of _ _ _ _ (λ told. (told.0, told.1, rw c.deref.ensures.value (c.in_ok-chosen.ensures.places told.0 c.with_fti-scope.result c.args.b (rw (list, c.with_fti-scope.ensures) (told.2 c.args.b))))) c.in_err-again.ensures.fault)
+    (unread_of _ _ _ _ (λ told. (told.0, told.1, rw c.deref.ensures.value (c.in_ok-chosen.ensures.places told.0 c.with_fti-scope.result c.args.b (rw (list, c.with_fti-scope.ensures) (told.2 c.args.b))))) (rw c.requires.file at c.in_err-again.ensures.fault))
 
 pub block_rows-requires-clause-symbols : goal.block_rows-requires-clause-symbols
 block_rows-requires-clause-symbols g c =
@@ -100,7 +100,7 @@ returns-clause-rows g c = λ told.
     let placed : AreOfBlock told.0 c.with_fti-scope.result c.args.b c.deref.result.now =
     rw c.deref.ensures.value (c.in_ok-chosen.ensures.places told.0 c.with_fti-scope.result c.args.b (rw (list, c.with_fti-scope.ensures) (told.2 b))) in
     let same : (j : ℕ) → j < length c.deref-3.result.now → bytes_of_esi c.deref-3.result.now j ≡ at_below c.least_enough-limit.result (at c.args.b) j =
-    λ j lj. a.same j lj ∙ ap (λ (h : ℕ → Option (List ℕ)). h j) (c.in_ok-again.ensures.symbols x told.1 placed) ∙ chosen (held_in x) j
+    λ j lj. a.same j lj ∙ ap (λ (h : ℕ → Option (List ℕ)). h j) ((rw c.requires.file at c.in_ok-again.ensures.symbols) x told.1 placed) ∙ chosen (held_in x) j
     ∙ sym (ap (λ (y : List ℕ). at_below limit (came_at (held_in y) ix.symbols b) j) (told_is content x told.1)) in
     let within = within_below f at (c.requires.within told) limit in
     if_some (λ (rows : Rows). AreRows f b (bytes_of_esi c.deref-3.result.now) rows.bytes.items) (λ (rows : Rows). AreRows f b (at b) rows.bytes.items) _
@@ -130,7 +130,7 @@ returns-clause-none g c = λ told none explained.
     let placed : AreOfBlock told.0 c.with_fti-scope.result c.args.b c.deref.result.now =
     rw c.deref.ensures.value (c.in_ok-chosen.ensures.places told.0 c.with_fti-scope.result c.args.b (rw (list, c.with_fti-scope.ensures) (told.2 b))) in
     let same : (j : ℕ) → j < length c.deref-3.result.now → bytes_of_esi c.deref-3.result.now j ≡ at_below c.least_enough-limit.result (at c.args.b) j =
-    λ j lj. a.same j lj ∙ ap (λ (h : ℕ → Option (List ℕ)). h j) (c.in_ok-again.ensures.symbols x told.1 placed) ∙ chosen (held_in x) j
+    λ j lj. a.same j lj ∙ ap (λ (h : ℕ → Option (List ℕ)). h j) ((rw c.requires.file at c.in_ok-again.ensures.symbols) x told.1 placed) ∙ chosen (held_in x) j
     ∙ sym (ap (λ (y : List ℕ). at_below limit (came_at (held_in y) ix.symbols b) j) (told_is content x told.1)) in
     let within = within_below f at (c.requires.within told) limit in
     c.in_ok-block_rows.ensures.none none

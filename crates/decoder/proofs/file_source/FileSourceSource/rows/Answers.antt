@@ -30,7 +30,7 @@ returns-in_err-again-clause-fault g c =
     let p = err_from_is_err_and c.from_residual.result c.from_residual.ensures.1 in
     let list = came_list (list_of ix.symbols b) c.of_block.result _ c.unwrap_or-came.result c.unwrap_or-came.ensures refl c.of_block.ensures.empty c.of_block.ensures.list in
     rw (p.1, p.2)
-    (unread_of _ _ _ _ (λ told. (told.0, told.1, rw (list, c.with_fti-scope.ensures) (told.2 b))) c.in_err-again.ensures.fault)
+    (unread_of _ _ _ _ (λ told. (told.0, told.1, rw (list, c.with_fti-scope.ensures) (told.2 b))) (rw c.requires.fits.0 at c.in_err-again.ensures.fault))
 
 pub block_rows-requires-clause-count : goal.block_rows-requires-clause-count
 block_rows-requires-clause-count g c =
@@ -91,7 +91,7 @@ returns-clause-rows g c = λ told.
     let placed : AreOfBlock told.0 c.with_fti-scope.result c.args.b c.unwrap_or-came.result.now =
     rw (list, c.with_fti-scope.ensures) (told.2 b) in
     let same : (j : ℕ) → j < length c.deref-2.result.now → bytes_of_esi c.deref-2.result.now j ≡ file_at (g.F.ReadAt.content c.args.self.now.file.now) c.args.self.now.indexed.now.symbols c.args.b j =
-    λ j lj. a.same j lj ∙ ap (λ (h : ℕ → Option (List ℕ)). h j) (c.in_ok-again.ensures.symbols x told.1 placed)
+    λ j lj. a.same j lj ∙ ap (λ (h : ℕ → Option (List ℕ)). h j) ((rw c.requires.fits.0 at c.in_ok-again.ensures.symbols) x told.1 placed)
     ∙ arrived_or (held_in x) ix.symbols b c.of_block.result _ c.unwrap_or-came.result c.unwrap_or-came.ensures refl c.of_block.ensures.none c.of_block.ensures.some j
     ∙ sym (ap (λ (y : List ℕ). came_at (held_in y) ix.symbols b j) (told_is content x told.1)) in
     if_some (λ (rows : Rows). AreRows c.args.self.now.indexed.now.fti c.args.b (bytes_of_esi c.deref-2.result.now) rows.bytes.items)
@@ -114,7 +114,7 @@ returns-clause-none g c = λ told none.
     let placed : AreOfBlock told.0 c.with_fti-scope.result c.args.b c.unwrap_or-came.result.now =
     rw (list, c.with_fti-scope.ensures) (told.2 b) in
     let same : (j : ℕ) → j < length c.deref-2.result.now → bytes_of_esi c.deref-2.result.now j ≡ file_at (g.F.ReadAt.content c.args.self.now.file.now) c.args.self.now.indexed.now.symbols c.args.b j =
-    λ j lj. a.same j lj ∙ ap (λ (h : ℕ → Option (List ℕ)). h j) (c.in_ok-again.ensures.symbols x told.1 placed)
+    λ j lj. a.same j lj ∙ ap (λ (h : ℕ → Option (List ℕ)). h j) ((rw c.requires.fits.0 at c.in_ok-again.ensures.symbols) x told.1 placed)
     ∙ arrived_or (held_in x) ix.symbols b c.of_block.result _ c.unwrap_or-came.result c.unwrap_or-came.ensures refl c.of_block.ensures.none c.of_block.ensures.some j
     ∙ sym (ap (λ (y : List ℕ). came_at (held_in y) ix.symbols b j) (told_is content x told.1)) in
     unexplained_at f b at (c.requires.within told) c.deref-2.result.now a.len same (c.in_ok-block_rows.ensures.none none)

@@ -2,12 +2,13 @@ use Rattle.std.proofs.Common.{arith, refl}
 use Rattle.losses.specs.Groups.{groups_of}
 use Rattle.losses.proofs.GroupFigures.{count_of}
 use Rattle.cert.specs.Tallying.{nothing, tallied_of}
-use Rattle.cert.proofs.DatagramSteps.{block_there, passes, passes_over}
+use Rattle.reception.proofs.Looks.{never_early}
+use Rattle.cert.proofs.DatagramSteps.{block_there, fti_holds, passes, passes_over}
 use Rattle.file_check.proofs.index.Index.take.Goals as goal
 
 pub put-requires : goal.put-requires
 put-requires c =
-    let l = block_there nothing c.requires.0 (tallied_of c.args.self.now.tally) c.requires.1 c.requires.2
+    let l = block_there nothing c.requires.tallied.0 (tallied_of c.args.self.now.tally) c.requires.tallied.1 c.requires.tallied.2
     c.args.datagram.now c.in-Ok-InRange.packet (rw (c.in-Ok-InRange.is, c.in-Ok-InRange.field-0-is) at c.look.ensures) in
     omega (arith, l, count_of c.args.self.now.tally.groups.items)
 
@@ -25,3 +26,9 @@ returns-in_ok-push-in-Ok-Other-clause-taken c = λ f ds h none. (
     rw (e.scope, e.count, e.taken, e.groups, e.carriers)
     (passes_over nothing f (tallied_of c.args.self.now.tally) ds h
     c.args.datagram.now (rw (c.in-Ok-Other.is, c.in-Ok-Other.field-0-is) at c.look.ensures)))
+
+pub unreachable-requires : goal.unreachable-requires
+unreachable-requires c =
+    let t = c.requires.tallied in
+    let scope = c.args.self.now.tally.scope in
+    never_early c.args.datagram.now scope scope (rw (c.in-Ok-Early.is, c.in-Ok-Early.field-0-is) at c.look.ensures) t.0 (fti_holds nothing t.0 (tallied_of c.args.self.now.tally) t.1 t.2)
