@@ -55,6 +55,8 @@ impl Extents {
     pub(crate) fn get(&self, place: usize) -> Option<Extent>
         ensures some { IfSome result (λ extent.
             extent ≡ slice_index_or (extents_from 0 self.now.ends.items) place no_extent) }
+        ensures inside { IfSome result (λ _.
+            place < length (extents_from 0 self.now.ends.items)) }
         ensures none { IsNone result
             → length (extents_from 0 self.now.ends.items) ≤ place }
     {

@@ -44,7 +44,7 @@ pub record TellsCheck (r : CheckRequest) (old new : Option (List ℕ)) (object :
   pub status : answered.done.status ≡ status_of verdict
   pub picture : HasDrawn r.picture verdict answered.picture
 
--- those of what the files of a request hold
+-- the lines, the status and the picture of the verdict on what the files of a request hold
 pub record TellsHeld (files : Option Files) (r : CheckRequest) (answered : Answered) : Type 0 where
   pub opened : Option (List ℕ)
   pub left : Option (List ℕ)
@@ -54,7 +54,7 @@ pub record TellsHeld (files : Option Files) (r : CheckRequest) (answered : Answe
       (Opened opened ∷ Bytes object ∷ Polynomials z ∷ [])
   pub tells : TellsCheck r opened left object z answered
 
--- those of a verdict on some datagrams
+-- and of a verdict on some datagrams, of which no more is said
 pub record TellsSome (r : CheckRequest) (answered : Answered) : Type 0 where
   pub verdict : Verdict
   pub datagrams : List (List ℕ)

@@ -33,9 +33,10 @@ use session::Write;
 use std::alloc::{AllocError, Global};
 use streams::{ReadAt, WriteAt};
 
-/// Writes the object that the identity's packets in the session give. The output is created only
-/// where no block is short, and the object is written block by block. A pipe or a device is held,
-/// a file isn't.
+/// Writes the object that the identity's packets in the session give, block by block. A pipe or a
+/// device is held, and all is looked at before the output is created. A file isn't held: the output
+/// is created where no datagram has a fault and no block is short, and given up where the symbols
+/// turn out to be of no object.
 pub(crate) fn decode<'a, H: Host>(
     alloc: Global,
     host: &mut H,

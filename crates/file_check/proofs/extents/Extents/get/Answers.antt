@@ -13,3 +13,8 @@ returns-clause-some c =
     let inside : c.args.place < length c.args.self.now.ends.items = search rules in
     let end = rw c.as_slice.ensures.value at (c.in_ok-end.ensures.lookup.4 (omega arith) 0) in
     rw (c.begin_of-offset.ensures, end) (sym (extent_is 0 ends c.args.place inside))
+
+pub returns-clause-inside : goal.returns-clause-inside
+returns-clause-inside c =
+    let inside : c.args.place < length c.args.self.now.ends.items = search rules in
+    omega (arith, inside, many 0 c.args.self.now.ends.items)
