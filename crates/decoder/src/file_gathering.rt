@@ -111,7 +111,7 @@ fn told_of(fault: Unindexed) -> Result<GatheredFile, FileFault>
     }
 }
 
-// What the symbols at the places give, as far as their number tells.
+// The answer that the symbols at the places give, where a block is short; else the places.
 fn count_places<F: ReadAt>(
     alloc: Global,
     file: &F,
@@ -136,9 +136,9 @@ fn count_places<F: ReadAt>(
     }
 }
 
-/// What the datagrams of a session file say of the object that was sent under an identity, as far
-/// as their headers tell: where no block is short, the places of their symbols, of which it isn't
-/// known yet whether they are of an object. 24 bytes are held for each symbol.
+/// What the datagrams of a session file say of the object that was sent under an identity. Where no
+/// block is short, that is the places of their symbols, of which it isn't known yet whether they
+/// are of an object; else the answer. 24 bytes are held for each symbol.
 ///
 /// `Frame` tells why the file is no session, before any fault at a place. A file that is not the
 /// same each time it is read may give `Changed`.

@@ -97,7 +97,7 @@ pub(crate) fn first_of_no_object<S: Source>(
     Ok(Some(unsound_answer(alloc, source, codes)?))
 }
 
-/// The answer to what came, where a block is short.
+/// The answer to what came, where a block is short, and `None` where none is.
 pub(crate) fn short_verdict<S: Source>(
     alloc: Global,
     source: &S,

@@ -13,7 +13,7 @@ use Rattle.cert.specs.declared.verdict.Reason.TheVariants.{NotObject}
 use Rattle.cert.specs.declared.verdict.Verdict.TheVariants.{No}
 use Rattle.file_check.specs.declared.checking.Stop.{Stop}
 use Rattle.file_check.specs.declared.checking.Stop.TheVariants as stop
-use Rattle.file_check.specs.Files.{IsCertificateFault, IsFileFault, IsFrameFault, IsNoVerdict}
+use Rattle.file_check.specs.Files.{IsCertificateFault, IsFileFault, IsFaultOfFrames, IsNoVerdict}
 use Rattle.file_check.specs.Files.{Reliable}
 
 -- why a block isn't compared to its end: the certificate doesn't give the object there, or a file
@@ -44,7 +44,7 @@ IsCertificateStop content reliable (stop.ByFault fault) = IsCertificateFault con
 -- a fault of the session's frames is one of reading
 abbrev pub IsFrameStop : Bool → Stop → Type 0
 IsFrameStop reliable (stop.ByReason reason) = ⊤
-IsFrameStop reliable (stop.ByFault fault) = IsFrameFault reliable fault
+IsFrameStop reliable (stop.ByFault fault) = IsFaultOfFrames reliable fault
 
 -- the tally of all datagrams of a session, each of them as the certificate has it
 pub record IsWholeTally (who : Identity) (session : List ℕ) (z : Certificate)

@@ -83,10 +83,10 @@ IsSurveyOnSome who verdict survey = (datagrams : List (List ℕ)) × (f : Fti) �
     × OnYesWith verdict survey (IsSurvey who datagrams f)
 
 -- a fault of the session's frames is one of reading
-abbrev pub IsFrameFault : Bool → FilesFault → Type 0
-IsFrameFault reliable (Frame fault) =
+abbrev pub IsFaultOfFrames : Bool → FilesFault → Type 0
+IsFaultOfFrames reliable (Frame fault) =
     ((failed : Bool) × IsReadFault fault None None failed) × (fault ≡ Io → reliable ≡ false)
-IsFrameFault reliable fault = ⊤
+IsFaultOfFrames reliable fault = ⊤
 
 -- ---- why there is none
 

@@ -12,7 +12,7 @@ ghost use Rattle.cert.specs.Tallying.{tallied_of};
 ghost use Rattle.cert.specs.Verdict.{GivesObject};
 ghost use Rattle.file_check.specs.Checked.{IsBlockStop, IsBlocksStop, IsCertificateStop};
 ghost use Rattle.file_check.specs.Checked.{IsFrameStop, IsStop};
-ghost use Rattle.file_check.specs.Files.{IsCertificateFault, IsFilesFault, IsFrameFault};
+ghost use Rattle.file_check.specs.Files.{IsCertificateFault, IsFilesFault, IsFaultOfFrames};
 ghost use Rattle.file_check.specs.Files.{IsNoCertificate, IsNoVerdict};
 ghost use Rattle.file_check.specs.Checked.{IsSomeTally, IsWholeTally};
 ghost use Rattle.file_check.specs.Compared.{AreCompared, IsCompared};
@@ -304,7 +304,7 @@ fn check_named<S: ReadAt, O: ReadAt, C: ReadAt>(
     ensures some { IfOk result (IsVerdictOnSome identity) }
     ensures certificate { IfErr result (IsCertificateFault
         (C.content files.now.certificate.file.now) (C.reliable files.now.certificate.file.now)) }
-    ensures frame { IfErr result (IsFrameFault (S.reliable files.now.session.now)) }
+    ensures frame { IfErr result (IsFaultOfFrames (S.reliable files.now.session.now)) }
 {
     let tally = match tally_files(alloc, files, identity) {
         Ok(tally) => tally,
@@ -340,7 +340,7 @@ fn survey_named<S: ReadAt, O: ReadAt, C: ReadAt>(
     ensures some { IfOk result (λ r. IsSurveyOnSome identity r.0 r.1) }
     ensures certificate { IfErr result (IsCertificateFault
         (C.content files.now.certificate.file.now) (C.reliable files.now.certificate.file.now)) }
-    ensures frame { IfErr result (IsFrameFault (S.reliable files.now.session.now)) }
+    ensures frame { IfErr result (IsFaultOfFrames (S.reliable files.now.session.now)) }
 {
     let tally = match tally_files(alloc, files, identity) {
         Ok(tally) => tally,
@@ -398,7 +398,7 @@ pub fn check_files<S: ReadAt, O: ReadAt, C: ReadAt>(
         → IsUnnamed (C.content files.now.certificate.now)) }
     ensures certificate { IfErr result (IsCertificateFault (C.content files.now.certificate.now)
         (C.reliable files.now.certificate.now)) }
-    ensures frame { IfErr result (IsFrameFault (S.reliable files.now.session.now)) }
+    ensures frame { IfErr result (IsFaultOfFrames (S.reliable files.now.session.now)) }
     ensures fault { WhereTold (S.content files.now.session.now)
         (O.content files.now.object.now) (C.content files.now.certificate.now)
         (λ x o text. IfErr result (IsFilesFault identity
@@ -432,7 +432,7 @@ pub fn survey_files<S: ReadAt, O: ReadAt, C: ReadAt>(
         → IsUnnamed (C.content files.now.certificate.now)) }
     ensures certificate { IfErr result (IsCertificateFault (C.content files.now.certificate.now)
         (C.reliable files.now.certificate.now)) }
-    ensures frame { IfErr result (IsFrameFault (S.reliable files.now.session.now)) }
+    ensures frame { IfErr result (IsFaultOfFrames (S.reliable files.now.session.now)) }
     ensures fault { WhereTold (S.content files.now.session.now)
         (O.content files.now.object.now) (C.content files.now.certificate.now)
         (λ x o text. IfErr result (IsFilesFault identity

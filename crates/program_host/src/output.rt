@@ -105,4 +105,15 @@ impl WriteAt for HostOutput {
             }
         }
     }
+
+    fn read_back(&mut self, offset: u64, buf: &mut [u8]) -> Result<usize, Failed> {
+        self.flush()?;
+        match self.device.get_ref().get_ref().read_at(buf, offset) {
+            Ok(n) => Ok(n),
+            Err(_) => {
+                self.failed = true;
+                Err(Failed)
+            }
+        }
+    }
 }

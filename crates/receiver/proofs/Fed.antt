@@ -1,5 +1,5 @@
 -- A receiver that stands for a list of datagrams, and one datagram more.
-use Rattle.std.specs.Prelude.{if◌then◌else◌, not, filter, option_map, is_some, IsSome, Result, Ok, Err}
+use Rattle.std.specs.Prelude.{if◌then◌else◌, not, filter, option_map, is_some, IfSome, IsSome, Result, Ok, Err}
 use Rattle.std.specs.List.{AllByRecursion}
 use Rattle.std.proofs.Common.{◌≡◌, ◌≢◌, ℕ, zero, suc, ◌+◌, ◌<◌, ◌≤◌, Bool, true, false, List, [], ◌∷◌, ◌++◌, Option, Some, None, length, take, get_or, refl, sym, ap, subst, ◌∙◌, inl, inr, arith, length-append, ltb-true, leb-true}
 use Rattle.std.proofs.lemmas.Bool.{cases_Bool, cases_eq, le-leb, eq-eqb}
@@ -41,17 +41,17 @@ use Rattle.reception.proofs.Within.{within}
 use Rattle.decoder.specs.Columns.{ColumnExplained}
 use Rattle.decoder.specs.Decoded.{IsEnoughAt}
 use Rattle.decoder.specs.Arrivals.{with_symbol}
-use Rattle.receiver.specs.Holds.{kept_of, is_solved, solved_count}
-use Rattle.receiver.specs.Putting.{MayStand, IsClash, IsNoCode, IsPutFault}
+use Rattle.receiver.specs.Holds.{Holds, HoldsIn, kept_of, is_solved, solved_count}
+use Rattle.receiver.specs.Putting.{MayStand, IsClash, IsNoCode, IsPutFault, UnlessFailed}
 use Rattle.receiver.specs.declared.stored.PutFault.{PutFault}
 use Rattle.receiver.specs.declared.stored.PutFault.TheVariants as put_fault
 use Rattle.decoder.specs.Received.{IsIndex, AreReceived}
 use Rattle.receiver.specs.Stored.{IsStored}
-use Rattle.receiver.specs.Stands.{Stands, Keeps}
+use Rattle.receiver.specs.Stands.{StandsWith, Keeps, IsSoundIn}
 use Rattle.receiver.specs.Fed.{HoldsFor, put_refusal}
-use Rattle.receiver.specs.Receiving.{LeaveNoneShort, IsFaultOf, with_datagram, ComesEarly}
+use Rattle.receiver.specs.Receiving.{LeaveNoneShort, IfRefused, IsUnfedOf, with_datagram, ComesEarly}
 use Rattle.receiver.specs.declared.stored.Stored.TheVariants as stored
-use Rattle.receiver.specs.declared.receiver.Receiver.{Receiver}
+use Rattle.receiver.specs.declared.receiving.Receiving.{Receiving}
 use Rattle.receiver.specs.declared.store.Store.{Store}
 use Rattle.receiver.specs.declared.stored.Stored.{Stored}
 use Rattle.decoder.proofs.Counts.{held_is, one_more_held, none_more_held}
@@ -59,6 +59,8 @@ use Rattle.receiver.proofs.Holding.{with_own, with_apart}
 use Rattle.decoder.proofs.Index.{pointwise_same, clash_none, clash_some}
 use Rattle.decoder.proofs.Receiving.{Scanned, empty_index, clashed, no_clash as unclashed_judge, receives, received}
 use Rattle.decoder.proofs.Solving.{solvable_from, solvable_gives}
+use Rattle.receiver.proofs.Pending.{pending_count}
+use Rattle.receiver.proofs.Told.{one_told}
 use Rattle.receiver.proofs.Taken.{full_explained, nothing_count, no_fti, keeps, all_within, arrived_is, none_short, here_full, full_solvable}
 use Rattle.decoder.proofs.Those.{few_pass}
 use Rattle.std.specs.Str.{bytes_eq as same}
@@ -80,46 +82,53 @@ read_more : (ds : List (List ℕ)) (d : List ℕ) → ReadAll ds (readings_of ds
 read_more [] d read bytes = (reads d bytes (read_of d) refl, tt)
 read_more (x ∷ xs) d read bytes = (read.0, read_more xs d read.1 bytes)
 
+abbrev Told : Type 0
+Told = Fti → Option (ℕ → List ℕ)
+
 -- no symbol came before the FTI was known
-timely_kept : (o : Option Store) (g : Option Fti) (arrivals : List Symbol) → Keeps o g arrivals → Timely g arrivals
-timely_kept None None arrivals h = h
-timely_kept (Some s) (Some g) arrivals h = tt
-timely_kept None (Some g) arrivals h = absurd h
-timely_kept (Some s) None arrivals h = absurd h
+timely_kept : (told : Told) (o : Option Store) (g : Option Fti) (arrivals : List Symbol) → Keeps o told g arrivals → Timely g arrivals
+timely_kept told None None arrivals h = h.0
+timely_kept told (Some s) (Some g) arrivals h = tt
+timely_kept told None (Some g) arrivals h = absurd h
+timely_kept told (Some s) None arrivals h = absurd h
 
 -- what a store holds that has this FTI, where the symbols came
-held_by : (f : Fti) (o : Option Store) (g : Option Fti) (arrivals : List Symbol) → Keeps o g arrivals → ((h : Fti) → g ≡ Some h → h ≡ f)
-    → (at : ℕ → ℕ → Option (List ℕ)) × IsIndex arrivals at × HoldsFor f o at
-held_by f None None arrivals h is =
+held_by : (f : Fti) (told : Told) (o : Option Store) (g : Option Fti) (arrivals : List Symbol) → Keeps o told g arrivals → ((h : Fti) → g ≡ Some h → h ≡ f)
+    → (at : ℕ → ℕ → Option (List ℕ)) × IsIndex arrivals at × HoldsFor f told o at
+held_by f told None None arrivals h is =
     let at : ℕ → ℕ → Option (List ℕ) = λ b j. None in
-    (at, subst (λ (ss : List Symbol). IsIndex ss at) (sym h) (empty_index at (λ b j. refl)), λ b j. refl)
-held_by f (Some s) (Some g) arrivals h is = (h.1.at, h.1.index, (h.0 ∙ is g refl, h.1.holds))
-held_by f None (Some g) arrivals h is = absurd h
-held_by f (Some s) None arrivals h is = absurd h
+    (at, subst (λ (ss : List Symbol). IsIndex ss at) (sym h.0) (empty_index at (λ b j. refl)), (λ b j. refl, h.1 f))
+held_by f told (Some s) (Some g) arrivals h is =
+    (h.1.at, h.1.index, (h.0 ∙ is g refl, subst (λ (k : Fti). HoldsIn s (told k) h.1.at) (is g refl) h.1.holds))
+held_by f told None (Some g) arrivals h is = absurd h
+held_by f told (Some s) None arrivals h is = absurd h
 
--- a store that holds what the one before held keeps the same
-keeps_still : (f : Fti) (at : ℕ → ℕ → Option (List ℕ)) (o n : Option Store) (g : Option Fti) (arrivals : List Symbol) → Keeps o g arrivals → ((h : Fti) → g ≡ Some h → h ≡ f)
-    → HoldsFor f n at → IsIndex arrivals at → is_some n ≡ is_some o → Keeps n g arrivals
-keeps_still f at None None g arrivals h is holds index kind = h
-keeps_still f at (Some s) (Some t) (Some g) arrivals h is holds index kind = (holds.0 ∙ sym (is g refl), record { at = at; index = index; holds = holds.1 })
-keeps_still f at (Some s) (Some t) None arrivals h is holds index kind = absurd h
-keeps_still f at None (Some t) g arrivals h is holds index kind = absurd (cc)
-keeps_still f at (Some s) None g arrivals h is holds index kind = absurd (cc)
+module _ (f : Fti) (told : Told) (at : ℕ → ℕ → Option (List ℕ)) where
+  -- a store that holds what the one before held keeps the same, by the bytes that are told now
+  keeps_still : ((g h : Fti) → is_some (told g) ≡ is_some (told h)) → (before : Told) (o n : Option Store) (g : Option Fti) (arrivals : List Symbol)
+      → Keeps o before g arrivals → ((h : Fti) → g ≡ Some h → h ≡ f) → HoldsFor f told n at → IsIndex arrivals at → is_some n ≡ is_some o → Keeps n told g arrivals
+  keeps_still all before None None None arrivals h is holds index kind = (h.0, λ g. all g f ∙ holds.1)
+  keeps_still all before None None (Some g) arrivals h is holds index kind = absurd h
+  keeps_still all before (Some s) (Some t) (Some g) arrivals h is holds index kind =
+      (holds.0 ∙ sym (is g refl), record { at = at; index = index; holds = subst (λ (k : Fti). HoldsIn t (told k) at) (sym (is g refl)) holds.1 })
+  keeps_still all before (Some s) (Some t) None arrivals h is holds index kind = absurd h
+  keeps_still all before None (Some t) g arrivals h is holds index kind = absurd (cc)
+  keeps_still all before (Some s) None g arrivals h is holds index kind = absurd (cc)
 
-keeps_now : (f : Fti) (at : ℕ → ℕ → Option (List ℕ)) (n : Option Store) (arrivals : List Symbol) → HoldsFor f n at → IsSome n → IsIndex arrivals at → Keeps n (Some f) arrivals
-keeps_now f at None arrivals holds some index = absurd (cc)
-keeps_now f at (Some s) arrivals holds some index = (holds.0, record { at = at; index = index; holds = holds.1 })
+  keeps_now : (n : Option Store) (arrivals : List Symbol) → HoldsFor f told n at → IsSome n → IsIndex arrivals at → Keeps n told (Some f) arrivals
+  keeps_now None arrivals holds some index = absurd (cc)
+  keeps_now (Some s) arrivals holds some index = (holds.0, record { at = at; index = index; holds = holds.1 })
 
 -- what is kept of a block, if there is a store
 abbrev entry : Option Store → ℕ → Option Stored
 entry None b = None
 entry (Some s) b = kept_of s b
 
-entries : (f : Fti) (o : Option Store) (at : ℕ → ℕ → Option (List ℕ)) → HoldsFor f o at → (b : ℕ) → IsStored f b (entry o b) (at b)
-entries f None at h b = h b
-entries f (Some s) at h b = subst (λ (g : Fti). IsStored g b (kept_of s b) (at b)) h.0 (h.1.blocks b)
+entries : (f : Fti) (told : Told) (o : Option Store) (at : ℕ → ℕ → Option (List ℕ)) → HoldsFor f told o at → (x : ℕ → List ℕ) × ((b : ℕ) → IsStored f b (x b) (entry o b) (at b))
+entries f told None at h = (λ b. [], h.0)
+entries f told (Some s) at h = (h.1.0, λ b. subst (λ (g : Fti). IsStored g b (h.1.0 b) (kept_of s b) (at b)) h.0 (h.1.2.blocks b))
 
-module _ (f : Fti) (valid : IsValidFti f) (o : Option Store) (at : ℕ → ℕ → Option (List ℕ)) (holds : HoldsFor f o at) (b j : ℕ) (y : List ℕ) (hb : b < block_count f)
+module _ (f : Fti) (valid : IsValidFti f) (told : Told) (o : Option Store) (at : ℕ → ℕ → Option (List ℕ)) (holds : HoldsFor f told o at) (b j : ℕ) (y : List ℕ) (hb : b < block_count f)
     (none : IsNoCode f b (at b) j y) (arrivals : List Symbol) (index : IsIndex arrivals (with_symbol at b j y)) (all_within : AllByRecursion (IsWithin f) arrivals) where
   abbrev put : ℕ → ℕ → Option (List ℕ)
   put = with_symbol at b j y
@@ -142,13 +151,32 @@ module _ (f : Fti) (valid : IsValidFti f) (o : Option Store) (at : ℕ → ℕ �
       let ha : a < block_count f = omega (arith, la, hb) in
       let same : put a ≡ at a = with_apart at b j y a (λ e. omega (arith, e, la)) in
       let enough : IsEnoughAt f a (put a) = omega (arith, leb-true (source_count f a) (arrived_count arrivals a) full, arrived a ha) in
-      let own : IsStored f a (entry o a) (put a) = subst (λ (g : ℕ → Option (List ℕ)). IsStored f a (entry o a) g) (sym same) (entries f o at holds a) in
-      solvable_from f arrivals put index a (full_explained f a (entry o a) (put a) (block_counts f valid a ha).0 own enough)
+      let w = entries f told o at holds in
+      let own : IsStored f a (w.0 a) (entry o a) (put a) = subst (λ (g : ℕ → Option (List ℕ)). IsStored f a (w.0 a) (entry o a) g) (sym same) (w.1 a) in
+      solvable_from f arrivals put index a (full_explained f a (w.0 a) (entry o a) (put a) (block_counts f valid a ha).0 own enough)
 
   first_unsolvable : IsFirstUnsolvable f arrivals b
   first_unsolvable = record { in_range = hb; full = full_here; unsolvable = unsolvable_here; least = solvable_before }
 
-module _ (r : Receiver) (ds : List (List ℕ)) (stands : Stands r ds) (d : List ℕ) (bytes : AreBytes d) (old new : Scope) (is : old ≡ (reception_of r.identity (readings_of ds)).scope) where
+-- a packet whose symbol is looked at is in range
+module _ (d : List ℕ) (old new : Scope) (p : ReadPacket) (look : IsLook d old new (Ok (look_at.InRange p))) (f : Fti) (known : new.fti ≡ Some f) where
+  range : in_range (packet_of p) f ≡ true
+  range = (faultless_look d old new p look f known).range
+
+  pub in_block : p.sbn < block_count f
+  in_block = ltb-true _ _ (both _ _ range).0
+
+  pub in_esis : p.esi < encoding_count f p.sbn
+  in_esis = ltb-true _ _ (both _ _ range).1
+
+  -- the FTI that was known is the one that is
+  pub fti_was : (h : Fti) → old.fti ≡ Some h → h ≡ f
+  fti_was h e =
+      let now = fti_after d old new (Ok (look_at.InRange p)) look h e in
+      let k = known in
+      cc
+
+module _ (r : Receiving) (told : Told) (ds : List (List ℕ)) (stands : StandsWith r told ds) (d : List ℕ) (bytes : AreBytes d) (old new : Scope) (is : old ≡ (reception_of r.identity (readings_of ds)).scope) where
   abbrev all : List (List ℕ)
   all = with_datagram ds d
 
@@ -162,7 +190,7 @@ module _ (r : Receiver) (ds : List (List ℕ)) (stands : Stands r ds) (d : List 
   walked =
       let c = reception_of r.identity (readings_of ds) in
       subst (λ (s : Scope). Walked clash (asked r.identity) all (length ds) s) (sym is)
-      (one_behind clash (asked r.identity) ds d stands.clean (timely_kept r.store c.scope.fti c.symbols stands.symbols))
+      (one_behind clash (asked r.identity) ds d stands.clean (timely_kept told r.store c.scope.fti c.symbols stands.symbols))
 
   came : came_before r.identity all (length ds) ≡ (reception_of r.identity (readings_of ds)).symbols
   came = ap (λ (rs : List Reading). symbols (counted r.identity rs)) (front_of ds d)
@@ -244,30 +272,19 @@ module _ (r : Receiver) (ds : List (List ℕ)) (stands : Stands r ds) (d : List 
         ∙ symbols_passed clash (asked r.identity) all (length ds) old walked d new (Ok look_at.Other) inside here look (passed_counts d old new look) ∙ came
 
     -- raises the count alone
-    pub passed_over : Stands (record { identity = r.identity; store = r.store; accepted = r.accepted + 1 }) all
+    pub passed_over : StandsWith (record { identity = r.identity; store = r.store; accepted = r.accepted + 1 }) told all
     passed_over = record {
+      sound = stands.sound;
       read = read;
       clean = (ends clash (asked r.identity) all (length ds + 1) new on over).0;
       count = (let n = stands.count in let l = length-append ds (d ∷ []) in omega (arith, n, l));
-      symbols = subst (λ (s : Scope). Keeps r.store s.fti (reception_of r.identity (readings_of all)).symbols) (sym same_scope)
-          (subst (λ (ss : List Symbol). Keeps r.store (reception_of r.identity (readings_of ds)).scope.fti ss) (sym same_symbols) stands.symbols);
+      symbols = subst (λ (s : Scope). Keeps r.store told s.fti (reception_of r.identity (readings_of all)).symbols) (sym same_scope)
+          (subst (λ (ss : List Symbol). Keeps r.store told (reception_of r.identity (readings_of ds)).scope.fti ss) (sym same_symbols) stands.symbols);
     }
 
   module _ (p : ReadPacket) (look : IsLook d old new (Ok (look_at.InRange p))) (f : Fti) (known : new.fti ≡ Some f) where
-    range : in_range (packet_of p) f ≡ true
-    range = (faultless_look d old new p look f known).range
-
-    pub in_block : p.sbn < block_count f
-    in_block = ltb-true _ _ (both _ _ range).0
-
-    pub in_esis : p.esi < encoding_count f p.sbn
-    in_esis = ltb-true _ _ (both _ _ range).1
-
     old_fti : (h : Fti) → (reception_of r.identity (readings_of ds)).scope.fti ≡ Some h → h ≡ f
-    old_fti h e =
-        let now = fti_after d old new (Ok (look_at.InRange p)) look h (ap (λ (s : Scope). s.fti) is ∙ e) in
-        let k = known in
-        cc
+    old_fti h e = fti_was d old new p look f known h (ap (λ (s : Scope). s.fti) is ∙ e)
 
     -- a packet whose symbol is looked at has no fault before that
     pub none_before : (i : ℕ) (e : PlaceFault) → IsAnswer r.identity all (Fault i (Faulty e)) → ⊥
@@ -287,9 +304,9 @@ module _ (r : Receiver) (ds : List (List ℕ)) (stands : Stands r ds) (d : List 
         ]
 
     -- what the store holds, if there is one
-    pub held : (at : ℕ → ℕ → Option (List ℕ)) × IsIndex (reception_of r.identity (readings_of ds)).symbols at × HoldsFor f r.store at
+    pub held : (at : ℕ → ℕ → Option (List ℕ)) × IsIndex (reception_of r.identity (readings_of ds)).symbols at × HoldsFor f told r.store at
     held =
-        held_by f r.store (reception_of r.identity (readings_of ds)).scope.fti (reception_of r.identity (readings_of ds)).symbols stands.symbols
+        held_by f told r.store (reception_of r.identity (readings_of ds)).scope.fti (reception_of r.identity (readings_of ds)).symbols stands.symbols
         old_fti
 
     module _ (at : ℕ → ℕ → Option (List ℕ)) (index : IsIndex (reception_of r.identity (readings_of ds)).symbols at) where
@@ -335,44 +352,55 @@ module _ (r : Receiver) (ds : List (List ℕ)) (stands : Stands r ds) (d : List 
             record { clean = h.0; index = h.1 }
 
         -- the receiver stands for the datagram too
-        pub accepted : (store : Option Store) → HoldsFor f store (with_symbol at p.sbn p.esi p.symbol.now) → IsSome store
-            → Stands (record { identity = r.identity; store = store; accepted = r.accepted + 1 }) all
-        accepted store holds some = record {
+        pub accepted : (now : Told) (store : Option Store) → IsSoundIn store → HoldsFor f now store (with_symbol at p.sbn p.esi p.symbol.now) → IsSome store
+            → StandsWith (record { identity = r.identity; store = store; accepted = r.accepted + 1 }) now all
+        accepted now store sound holds some = record {
+          sound = sound;
           read = read;
           clean = got.clean.clean;
           count = (let n = stands.count in let l = length-append ds (d ∷ []) in omega (arith, n, l));
-          symbols = subst (λ (g : Option Fti). Keeps store g (reception_of r.identity (readings_of all)).symbols) (sym got.clean.some)
-              (keeps_now f (with_symbol at p.sbn p.esi p.symbol.now) store (reception_of r.identity (readings_of all)).symbols holds some got.index);
+          symbols = subst (λ (g : Option Fti). Keeps store now g (reception_of r.identity (readings_of all)).symbols) (sym got.clean.some)
+              (keeps_now f now (with_symbol at p.sbn p.esi p.symbol.now) store (reception_of r.identity (readings_of all)).symbols holds some got.index);
         }
 
         -- with the symbol its block is no object's
-        pub no_code_told : IsValidFti f → HoldsFor f r.store at → IsNoCode f p.sbn (at p.sbn) p.esi p.symbol.now → IsAnswer r.identity all (NotCode p.sbn)
+        pub no_code_told : IsValidFti f → HoldsFor f told r.store at → IsNoCode f p.sbn (at p.sbn) p.esi p.symbol.now → IsAnswer r.identity all (NotCode p.sbn)
         no_code_told valid holds none = record {
           readings = readings_of all;
           read = read;
           answers = (
             f,
             got.clean,
-            first_unsolvable f valid r.store at holds p.sbn p.esi p.symbol.now in_block none (reception_of r.identity (readings_of all)).symbols got.index
+            first_unsolvable f valid told r.store at holds p.sbn p.esi p.symbol.now (in_block d old new p look f known) none (reception_of r.identity (readings_of all)).symbols got.index
                 (within clash (asked r.identity) (readings_of all) f got.clean),
           );
         }
 
       -- why the symbol isn't put is the answer
-      pub refusal_told : IsValidFti f → HoldsFor f r.store at → (v : PutFault) → IsPutFault f p.sbn (at p.sbn) p.esi p.symbol.now v
-          → IsFaultOf r.identity all (put_refusal r.accepted p.sbn v)
+      pub refusal_told : IsValidFti f → HoldsFor f told r.store at → (v : PutFault) → UnlessFailed v (IsPutFault f p.sbn (at p.sbn) p.esi p.symbol.now v)
+          → IsUnfedOf r.identity all (put_refusal r.accepted p.sbn v)
       refusal_told valid holds put_fault.Clash h = clash_told h
       refusal_told valid holds put_fault.NotCode h = no_code_told (inl h.free) valid holds h
       refusal_told valid holds put_fault.NoMemory h = tt
+      refusal_told valid holds put_fault.Failed h = tt
 
       -- the receiver stands for those before, where the store holds what it held
-      pub refused : (store : Option Store) → HoldsFor f store at → is_some store ≡ is_some r.store → Stands (record { identity = r.identity; store = store; accepted = r.accepted }) ds
-      refused store holds kind = record {
+      pub refused : (now : Told) → ((g h : Fti) → is_some (now g) ≡ is_some (now h)) → (store : Option Store) → IsSoundIn store → HoldsFor f now store at → is_some store ≡ is_some r.store
+          → StandsWith (record { identity = r.identity; store = store; accepted = r.accepted }) now ds
+      refused now all_told store sound holds kind = record {
+        sound = sound;
         read = stands.read;
         clean = stands.clean;
         count = stands.count;
-        symbols = keeps_still f at r.store store (reception_of r.identity (readings_of ds)).scope.fti (reception_of r.identity (readings_of ds)).symbols stands.symbols old_fti holds index kind;
+        symbols = keeps_still f now at all_told told r.store store (reception_of r.identity (readings_of ds)).scope.fti (reception_of r.identity (readings_of ds)).symbols stands.symbols old_fti holds index kind;
       }
+
+-- a symbol isn't put, and so the datagram isn't accepted
+pub if_refused : (So : Type 0) (place b : ℕ) (v : PutFault) → UnlessFailed v So → IfRefused So (put_refusal place b v)
+if_refused So place b put_fault.Clash h = h
+if_refused So place b put_fault.NotCode h = h
+if_refused So place b put_fault.NoMemory h = h
+if_refused So place b put_fault.Failed h = tt
 
 -- ---- whether each block is solved
 
@@ -387,54 +415,54 @@ all_pass t (suc n) all j lj = elim (cases_Bool (t n)) [
 ]
 
 -- a block that isn't solved has too few symbols
-unsolved_short : (f : Fti) (b : ℕ) (o : Option Stored) (at : ℕ → Option (List ℕ)) → 1 ≤ source_count f b → IsStored f b o at → is_solved o ≡ false → IsEnoughAt f b at → ⊥
-unsolved_short f b None at some h unsolved enough = omega (arith, some, enough, nothing_count f b at h)
-unsolved_short f b (Some (stored.Pending p)) at some h unsolved enough = omega (arith, enough, h.once, p.few, h.need)
-unsolved_short f b (Some (stored.Solved s)) at some h unsolved enough = absurd (cc)
+unsolved_short : (f : Fti) (b : ℕ) (x : List ℕ) (o : Option Stored) (at : ℕ → Option (List ℕ)) → 1 ≤ source_count f b → IsStored f b x o at → is_solved o ≡ false → IsEnoughAt f b at → ⊥
+unsolved_short f b x None at some h unsolved enough = omega (arith, some, enough, nothing_count f b x at h)
+unsolved_short f b x (Some (stored.Pending p)) at some h unsolved enough = omega (arith, enough, pending_count f b x p at h, p.few, h.of.need)
+unsolved_short f b x (Some (stored.Solved s)) at some h unsolved enough = absurd (cc)
 
-module _ (r : Receiver) (ds : List (List ℕ)) (stands : Stands r ds) (store : Store) (is : r.store ≡ Some store) (valid : IsValidFti store.fti) where
+module _ (r : Receiving) (told : Told) (ds : List (List ℕ)) (stands : StandsWith r told ds) (store : Store) (is : r.store ≡ Some store) (valid : IsValidFti store.fti) where
   counted_solved : store.solved ≡ solved_count store
-  counted_solved = (keeps r ds stands store is).1.holds.solved
+  counted_solved = (subst IsSoundIn is stands.sound).solved
 
   -- where as many blocks are solved as there are, none is short
   pub all_solved : store.solved ≡ block_count store.fti → LeaveNoneShort r.identity ds
-  all_solved all = none_short r ds stands store is valid (all_pass (λ b. is_solved (kept_of store b)) (block_count store.fti) (sym counted_solved ∙ all))
+  all_solved all = none_short r told ds stands store is valid (all_pass (λ b. is_solved (kept_of store b)) (block_count store.fti) (sym counted_solved ∙ all))
 
   -- else one is
   pub some_unsolved : store.solved ≢ block_count store.fti → LeaveNoneShort r.identity ds → ⊥
   some_unsolved other none =
-      let k = keeps r ds stands store is in
+      let k = keeps r told ds stands store is in
       let n = block_count store.fti in
       let counted_is = counted_solved in
       let most = few_pass (λ b. is_solved (kept_of store b)) (block_count store.fti) in
       let w = one_missing (λ b. is_solved (kept_of store b)) n n (omega arith) (omega (arith, other, counted_is, most)) in
-      let known = (here_full r ds stands none).0 in
+      let known = (here_full r told ds stands none).0 in
       let there = k.0 in
       let same_fti : none.fti ≡ store.fti = cc in
       let full : is_full store.fti (reception_of r.identity (readings_of ds)).symbols w.0 ≡ true =
-      subst (λ (f : Fti). (b : ℕ) → b < block_count f → is_full f (reception_of r.identity (readings_of ds)).symbols b ≡ true) same_fti (here_full r ds stands none).1 w.0 w.1 in
-      let arrived_at = arrived_is store valid k.1.at k.1.holds (reception_of r.identity (readings_of ds)).symbols k.1.index (all_within r ds stands store is) w.0 w.1 in
-      unsolved_short store.fti w.0 (kept_of store w.0) (k.1.at w.0) (block_counts store.fti valid w.0 w.1).0 (k.1.holds.blocks w.0) w.2
+      subst (λ (f : Fti). (b : ℕ) → b < block_count f → is_full f (reception_of r.identity (readings_of ds)).symbols b ≡ true) same_fti (here_full r told ds stands none).1 w.0 w.1 in
+      let arrived_at = arrived_is store valid k.1.holds.0 k.1.at k.1.holds.2 (reception_of r.identity (readings_of ds)).symbols k.1.index (all_within r told ds stands store is) w.0 w.1 in
+      unsolved_short store.fti w.0 (k.1.holds.0 w.0) (kept_of store w.0) (k.1.at w.0) (block_counts store.fti valid w.0 w.1).0 (k.1.holds.2.blocks w.0) w.2
       (omega (arith, leb-true (source_count store.fti w.0) (arrived_count (reception_of r.identity (readings_of ds)).symbols w.0) full, arrived_at))
 
 -- the answer to them is no fault
-module _ (r : Receiver) (ds : List (List ℕ)) (stands : Stands r ds) (store : Store) (is : r.store ≡ Some store) (valid : IsValidFti store.fti) where
+module _ (r : Receiving) (told : Told) (ds : List (List ℕ)) (stands : StandsWith r told ds) (store : Store) (is : r.store ≡ Some store) (valid : IsValidFti store.fti) where
   answers_here : (v : Answer) → IsAnswer r.identity ds v → AnswerTo (reception_of r.identity (readings_of ds)) v
   answers_here v answer = subst (λ (rs : List Reading). AnswerTo (reception_of r.identity rs) v) (same_readings ds answer.readings (readings_of ds) answer.read stands.read) answer.answers
 
   no_place : (i : ℕ) (w : Wrong Clash) → IsAnswer r.identity ds (Fault i w) → ⊥
-  no_place i w answer = let told = answers_here (Fault i w) answer in let clean = stands.clean in absurd (cc)
+  no_place i w answer = let given = answers_here (Fault i w) answer in let clean = stands.clean in absurd (cc)
 
   no_code : (b : ℕ) → IsAnswer r.identity ds (NotCode b) → ⊥
   no_code b answer =
-      let told = answers_here (NotCode b) answer in
-      let k = keeps r ds stands store is in
-      let some = told.1.some in
+      let given = answers_here (NotCode b) answer in
+      let k = keeps r told ds stands store is in
+      let some = given.1.some in
       let there = k.0 in
-      let same_fti : told.0 ≡ store.fti = cc in
-      let first = subst (λ (f : Fti). IsFirstUnsolvable f (reception_of r.identity (readings_of ds)).symbols b) same_fti told.2 in
+      let same_fti : given.0 ≡ store.fti = cc in
+      let first = subst (λ (f : Fti). IsFirstUnsolvable f (reception_of r.identity (readings_of ds)).symbols b) same_fti given.2 in
       first.unsolvable
-      (full_solvable store valid k.1.at k.1.holds (reception_of r.identity (readings_of ds)).symbols k.1.index (all_within r ds stands store is) b first.in_range first.full)
+      (full_solvable store valid k.1.holds.0 k.1.at k.1.holds.2 (reception_of r.identity (readings_of ds)).symbols k.1.index (all_within r told ds stands store is) b first.in_range first.full)
 
   pub no_fault : (e : DecodeFault) → IsAnswer r.identity ds (fault_value e) → ⊥
   no_fault (fault.Packet i e) answer = no_place i (Faulty (place_fault.NoPacket e)) answer
@@ -445,14 +473,14 @@ module _ (r : Receiver) (ds : List (List ℕ)) (stands : Stands r ds) (store : S
   no_fault (fault.NotCode b) answer = no_code b answer
 
 -- where there is no store no carrier came, and that is no fault
-pub no_fault_none : (r : Receiver) (ds : List (List ℕ)) → Stands r ds → r.store ≡ None → (e : DecodeFault) → IsAnswer r.identity ds (fault_value e) → ⊥
-no_fault_none r ds stands is e answer = by e answer
+pub no_fault_none : (r : Receiving) (told : Told) (ds : List (List ℕ)) → StandsWith r told ds → r.store ≡ None → (e : DecodeFault) → IsAnswer r.identity ds (fault_value e) → ⊥
+no_fault_none r told ds stands is e answer = by e answer
   where
     here : (v : Answer) → IsAnswer r.identity ds v → AnswerTo (reception_of r.identity (readings_of ds)) v
     here v given = subst (λ (rs : List Reading). AnswerTo (reception_of r.identity rs) v) (same_readings ds given.readings (readings_of ds) given.read stands.read) given.answers
 
     place : (i : ℕ) (w : Wrong Clash) → IsAnswer r.identity ds (Fault i w) → ⊥
-    place i w given = let told = here (Fault i w) given in let clean = stands.clean in absurd (cc)
+    place i w given = let says = here (Fault i w) given in let clean = stands.clean in absurd (cc)
 
     by : (f : DecodeFault) → IsAnswer r.identity ds (fault_value f) → ⊥
     by (fault.Packet i x) given = place i (Faulty (place_fault.NoPacket x)) given
@@ -461,23 +489,35 @@ no_fault_none r ds stands is e answer = by e answer
     by (fault.Range i) given = place i (Faulty place_fault.Range) given
     by (fault.Clash i) given = place i (Judged Clashes) given
     by (fault.NotCode b) given =
-        let told = here (NotCode b) given in
-        let some = told.1.some in
-        let none = no_fti r ds stands is in
+        let says = here (NotCode b) given in
+        let some = says.1.some in
+        let none = no_fti r told ds stands is in
         absurd (cc)
 
 -- the scope that a receiver has is that of its datagrams
-kept_fti : (o : Option Store) (g : Option Fti) (arrivals : List Symbol) → Keeps o g arrivals → option_map (λ s. s.fti) o ≡ g
-kept_fti None None arrivals h = refl
-kept_fti (Some s) (Some g) arrivals h = ap Some h.0
-kept_fti None (Some g) arrivals h = absurd h
-kept_fti (Some s) None arrivals h = absurd h
+kept_fti : (told : Told) (o : Option Store) (g : Option Fti) (arrivals : List Symbol) → Keeps o told g arrivals → option_map (λ s. s.fti) o ≡ g
+kept_fti told None None arrivals h = refl
+kept_fti told (Some s) (Some g) arrivals h = ap Some h.0
+kept_fti told None (Some g) arrivals h = absurd h
+kept_fti told (Some s) None arrivals h = absurd h
 
-pub scope_stands : (r : Receiver) (ds : List (List ℕ)) (f : Option Fti) → Stands r ds → option_map (λ s. s.fti) r.store ≡ f
+pub scope_stands : (r : Receiving) (told : Told) (ds : List (List ℕ)) (f : Option Fti) → StandsWith r told ds → option_map (λ s. s.fti) r.store ≡ f
     → ◌≡◌ {A = Scope} (record { identity = r.identity; fti = f }) (reception_of r.identity (readings_of ds)).scope
-scope_stands r ds f stands is =
+scope_stands r told ds f stands is =
     let s = (reception_of r.identity (readings_of ds)).scope in
     let who : s.identity ≡ r.identity = identity_stays (asked r.identity) (counted r.identity (readings_of ds)) in
     ap (λ (g : Option Fti). record { identity = r.identity; fti = g })
-    (sym is ∙ kept_fti r.store s.fti (reception_of r.identity (readings_of ds)).symbols stands.symbols)
+    (sym is ∙ kept_fti told r.store s.fti (reception_of r.identity (readings_of ds)).symbols stands.symbols)
     ∙ ap (λ (w : Identity). record { identity = w; fti = (reception_of r.identity (readings_of ds)).scope.fti }) (sym who)
+
+-- the store that there is has the FTI
+pub store_fti : (o : Option Store) (f : Fti) → ((h : Fti) → option_map (λ s. s.fti) o ≡ Some h → h ≡ f) → IfSome o (λ s. s.fti ≡ f)
+store_fti None f h = tt
+store_fti (Some s) f h = h s.fti refl
+
+-- and it holds what stands, by the bytes that are told
+pub store_holds : (f : Fti) (told : Told) (o : Option Store) (at : ℕ → ℕ → Option (List ℕ)) (x : ℕ → List ℕ) → told f ≡ Some x → HoldsFor f told o at
+    → IfSome o (λ s. (at : ℕ → ℕ → Option (List ℕ)) × Holds s x at)
+store_holds f told None at x known h = tt
+store_holds f told (Some s) at x known h =
+    (at, subst (λ (y : ℕ → List ℕ). Holds s y at) (one_told (told f) h.1.0 x h.1.1 known) h.1.2)

@@ -1,23 +1,29 @@
 -- A symbol put to what is kept of an object.
-use Rattle.std.specs.Prelude.{filter, ◌==◌, ◌&&◌, Result, Ok, Err}
-use Rattle.std.proofs.Common.{◌≡◌, ◌≢◌, ℕ, ◌+◌, ◌<◌, ◌≤◌, true, false, List, Option, Some, length, refl, sym, ap, subst, ◌∙◌, inl, inr, arith}
-use Rattle.std.specs.Result.{OnOk, OnErr}
-use Rattle.std.specs.Option.{ForSome}
-use Rattle.std.specs.BTreeMap.{BTreeMap, get, Updates, IsUnchanged}
-use Rattle.std.specs.Ordering.{nat_cmp}
+use Rattle.std.specs.Prelude.{filter, is_some, ◌==◌, ◌&&◌, Result, Ok, Err}
+use Rattle.std.proofs.Common.{◌≡◌, ◌≢◌, ℕ, ◌+◌, ◌<◌, ◌≤◌, true, false, List, Option, Some, None, length, refl, sym, ap, subst, ◌∙◌, inl, inr, arith}
 use Rattle.std.proofs.Math.Path.{fun_ext}
 use Rattle.std.proofs.lemmas.Bool.{cases_Bool, cases_eq, and_parts, eqb-true, eq-eqb, ne_eqb}
 use Rattle.lists.specs.Below.{below}
-use Rattle.partition.specs.Fti.{Fti, block_count, source_count, encoding_count}
+use Rattle.partition.specs.Fti.{Fti, block_count, encoding_count}
 use Rattle.decoder.specs.Decoded.{AreWithin}
-use Rattle.receiver.specs.Holds.{Holds, HoldsBlocks, kept_of, is_solved, solved_count}
 use Rattle.decoder.specs.Arrivals.{with_esi, with_symbol}
-use Rattle.receiver.specs.Stored.{IsStored, needed}
-use Rattle.receiver.specs.declared.stored.Stored.{Stored}
-use Rattle.receiver.specs.declared.store.Store.{Store}
-use Rattle.decoder.proofs.Index.{number_eq}
 use Rattle.decoder.proofs.Kept.{count_more, count_same}
 use Rattle.decoder.proofs.Those.{few_pass}
+use Rattle.receiver.specs.Bytes.{Becomes}
+use Rattle.receiver.specs.Holds.{Holds, HoldsIn, IsSound, kept_of, is_solved, solved_count}
+use Rattle.alc.specs.declared.reading.Packet.{Packet}
+use Rattle.receiver.specs.Fed.{HoldsFor, FedOutcome}
+use Rattle.receiver.specs.Putting.{MayStand, IsPutFault, Outcome, StoreOutcome}
+use Rattle.receiver.specs.Stored.{IsStored}
+use Rattle.receiver.specs.declared.stored.PutFault.{PutFault}
+use Rattle.receiver.specs.declared.stored.Stored.{Stored}
+use Rattle.receiver.specs.declared.store.Store.{Store}
+use Rattle.receiver.proofs.Told.{unless}
+
+-- what comes of a symbol is so of what follows
+pub outcome_then : {A : Type 0} (r : Result A PutFault) (P Q : A → Type 0) (N M : PutFault → Type 0) → ((a : A) → P a → Q a) → ((e : PutFault) → N e → M e) → Outcome r P N → Outcome r Q M
+outcome_then (Ok a) P Q N M f n h = (f a h.0, tt)
+outcome_then (Err e) P Q N M f n h = (tt, unless e (N e) (M e) (n e) h.1)
 
 -- the symbol more is one of its block
 pub with_own : (at : ℕ → ℕ → Option (List ℕ)) (b j : ℕ) (y : List ℕ) → with_symbol at b j y b ≡ with_esi (at b) j y
@@ -26,46 +32,28 @@ with_own at b j y = fun_ext (λ i. rw (eq-eqb b b refl) refl)
 pub with_apart : (at : ℕ → ℕ → Option (List ℕ)) (b j : ℕ) (y : List ℕ) (a : ℕ) → b ≢ a → with_symbol at b j y a ≡ at a
 with_apart at b j y a ne = fun_ext (λ i. rw (ne_eqb b a ne) refl)
 
-module _ (f : Fti) (at : ℕ → ℕ → Option (List ℕ)) (b : ℕ) (old new : ℕ → Option Stored) (held : (a : ℕ) → IsStored f a (old a) (at a))
-    (others : (a : ℕ) → b ≢ a → new a ≡ old a) (stored : Stored) (here : new b ≡ Some stored) where
+module _ (f : Fti) (at : ℕ → ℕ → Option (List ℕ)) (b : ℕ) (old new : ℕ → Option Stored) (x y : ℕ → List ℕ) (held : (a : ℕ) → IsStored f a (x a) (old a) (at a))
+    (others : (a : ℕ) → b ≢ a → new a ≡ old a) (bytes : (a : ℕ) → b ≢ a → y a ≡ x a) where
+  block_apart : (a : ℕ) → b ≢ a → IsStored f a (y a) (new a) (at a)
+  block_apart a ne =
+      subst (λ (l : List ℕ). IsStored f a l (new a) (at a)) (sym (bytes a ne))
+      (subst (λ (o : Option Stored). IsStored f a (x a) o (at a)) (sym (others a ne)) (held a))
+
   -- each block is kept, where one has a symbol more
-  pub blocks_more : (j : ℕ) (y : List ℕ) → IsStored f b (Some stored) (with_esi (at b) j y) → (a : ℕ) → IsStored f a (new a) (with_symbol at b j y a)
-  blocks_more j y now a = elim (cases_eq b a) [
+  blocks_more : (j : ℕ) (s : List ℕ) → IsStored f b (y b) (new b) (with_esi (at b) j s) → (a : ℕ) → IsStored f a (y a) (new a) (with_symbol at b j s a)
+  blocks_more j s now a = elim (cases_eq b a) [
     | inl e ↦
-        (subst (λ (x : ℕ). IsStored f x (new x) (with_symbol at b j y x)) e
-        (subst (λ (o : Option Stored). IsStored f b o (with_symbol at b j y b)) (sym here)
-        (subst (λ (g : ℕ → Option (List ℕ)). IsStored f b (Some stored) g) (sym (with_own at b j y)) now)))
-    | inr ne ↦
-        (subst (λ (g : ℕ → Option (List ℕ)). IsStored f a (new a) g) (sym (with_apart at b j y a ne))
-        (subst (λ (o : Option Stored). IsStored f a o (at a)) (sym (others a ne)) (held a)))
+        (subst (λ (k : ℕ). IsStored f k (y k) (new k) (with_symbol at b j s k)) e
+        (subst (λ (g : ℕ → Option (List ℕ)). IsStored f b (y b) (new b) g) (sym (with_own at b j s)) now))
+    | inr ne ↦ subst (λ (g : ℕ → Option (List ℕ)). IsStored f a (y a) (new a) g) (sym (with_apart at b j s a ne)) (block_apart a ne)
   ]
 
   -- or none has
-  pub blocks_same : IsStored f b (Some stored) (at b) → (a : ℕ) → IsStored f a (new a) (at a)
+  blocks_same : IsStored f b (y b) (new b) (at b) → (a : ℕ) → IsStored f a (y a) (new a) (at a)
   blocks_same now a = elim (cases_eq b a) [
-    | inl e ↦
-        (subst (λ (x : ℕ). IsStored f x (new x) (at x)) e
-        (subst (λ (o : Option Stored). IsStored f b o (at b)) (sym here) now))
-    | inr ne ↦ subst (λ (o : Option Stored). IsStored f a o (at a)) (sym (others a ne)) (held a)
+    | inl e ↦ subst (λ (k : ℕ). IsStored f k (y k) (new k) (at k)) e now
+    | inr ne ↦ block_apart a ne
   ]
-
--- each block needs as many symbols as it has source symbols, where one is put
-pub needs_more : (f : Fti) (b : ℕ) (old new : ℕ → Option Stored) → ((a : ℕ) → ForSome (old a) (λ s. needed s ≡ source_count f a)) → ((a : ℕ) → b ≢ a → new a ≡ old a)
-    → (stored : Stored) → new b ≡ Some stored → needed stored ≡ source_count f b → (a : ℕ) → ForSome (new a) (λ s. needed s ≡ source_count f a)
-needs_more f b old new held others stored here need a s some = elim (cases_eq b a) [
-  | inl e ↦
-      (let own : Some stored ≡ Some s = sym here ∙ ap new e ∙ some in
-      let same : stored ≡ s = cc in
-      subst (λ (x : ℕ). needed s ≡ source_count f x) e (subst (λ (x : Stored). needed x ≡ source_count f b) same need))
-  | inr ne ↦ held a s (sym (others a ne) ∙ some)
-]
-
--- and where it may be that it isn't put
-pub needs_inserted : {A E : Type 0} (f : Fti) (b : ℕ) (old new : BTreeMap ℕ Stored) (r : Result A E) (stored : Stored) → OnOk r (Updates nat_cmp old new b (Some stored)) → OnErr r (IsUnchanged old new)
-    → ((a : ℕ) → ForSome (get nat_cmp old a) (λ s. needed s ≡ source_count f a)) → needed stored ≡ source_count f b → (a : ℕ) → ForSome (get nat_cmp new a) (λ s. needed s ≡ source_count f a)
-needs_inserted f b old new (Ok x) stored updates err held need =
-    needs_more f b (get nat_cmp old) (get nat_cmp new) held (λ a ne. updates.2 a (sym (number_eq b a) ∙ ne_eqb b a ne)) stored updates.1 need
-needs_inserted f b old new (Err e) stored updates err held need = λ a s some. held a s (rw err at some)
 
 module _ (f : Fti) (at : ℕ → ℕ → Option (List ℕ)) (b j : ℕ) (y : List ℕ) where
   some_with : (P : ℕ → ℕ → List ℕ → Type 0) → P b j y → ((a i : ℕ) (z : List ℕ) → at a i ≡ Some z → P a i z) → (a i : ℕ) (z : List ℕ) → with_symbol at b j y a i ≡ Some z → P a i z
@@ -79,59 +67,92 @@ module _ (f : Fti) (at : ℕ → ℕ → Option (List ℕ)) (b j : ℕ) (y : Lis
   ]
 
   -- a symbol more that the FTI has
-  pub within_more : AreWithin f at → b < block_count f → j < encoding_count f b → length y ≡ f.symbol_length → AreWithin f (with_symbol at b j y)
+  within_more : AreWithin f at → b < block_count f → j < encoding_count f b → length y ≡ f.symbol_length → AreWithin f (with_symbol at b j y)
   within_more within hb hj len = record {
     block = some_with (λ a i z. a < block_count f) hb within.block;
     esi = some_with (λ a i z. i < encoding_count f a) hj within.esi;
     count = some_with (λ a i z. length z ≡ f.symbol_length) len within.count;
   }
 
+-- ---- a store, where one block changes
+
+module _ (old new : Store) (fti : new.fti ≡ old.fti) (b : ℕ) (others : (a : ℕ) → b ≢ a → kept_of new a ≡ kept_of old a)
+    (x : ℕ → List ℕ) (told : Option (ℕ → List ℕ)) (at : ℕ → ℕ → Option (List ℕ)) (held : Holds old x at) where
+  -- it holds one symbol more
+  pub holds_more : (j : ℕ) (s : List ℕ) → b < block_count old.fti → j < encoding_count old.fti b → length s ≡ old.fti.symbol_length
+      → Becomes x told b (λ y. IsStored old.fti b y (kept_of new b) (with_esi (at b) j s)) → HoldsIn new told (with_symbol at b j s)
+  holds_more j s hb hj len now = (
+    now.bytes,
+    now.told,
+    record {
+      within = subst (λ (f : Fti). AreWithin f (with_symbol at b j s)) (sym fti) (within_more old.fti at b j s held.within hb hj len);
+      blocks = λ a. subst (λ (f : Fti). IsStored f a (now.bytes a) (kept_of new a) (with_symbol at b j s a)) (sym fti)
+          (blocks_more old.fti at b (kept_of old) (kept_of new) x now.bytes held.blocks others now.others j s now.has a);
+    },
+  )
+
+  -- or none more
+  pub holds_same : Becomes x told b (λ y. IsStored old.fti b y (kept_of new b) (at b)) → HoldsIn new told at
+  holds_same now = (
+    now.bytes,
+    now.told,
+    record {
+      within = subst (λ (f : Fti). AreWithin f at) (sym fti) held.within;
+      blocks = λ a. subst (λ (f : Fti). IsStored f a (now.bytes a) (kept_of new a) (at a)) (sym fti)
+          (blocks_same old.fti at b (kept_of old) (kept_of new) x now.bytes held.blocks others now.others now.has a);
+    },
+  )
+
 -- ---- how many blocks are solved
 
 few_solved : (store : Store) → solved_count store ≤ block_count store.fti
 few_solved store = few_pass (λ b. is_solved (kept_of store b)) (block_count store.fti)
 
-pub counts_few : (store : Store) (at : ℕ → ℕ → Option (List ℕ)) → Holds store at → store.solved ≤ block_count store.fti
-counts_few store at held = let e = held.solved in let l = few_solved store in omega (arith, e, l)
+pub counts_few : (store : Store) → IsSound store → store.solved ≤ block_count store.fti
+counts_few store sound = let e = sound.solved in let l = few_solved store in omega (arith, e, l)
 
-module _ (old new : Store) (at : ℕ → ℕ → Option (List ℕ)) (held : Holds old at) (fti : new.fti ≡ old.fti) (b : ℕ)
-    (others : (a : ℕ) → b ≢ a → kept_of new a ≡ kept_of old a) where
+module _ (old new : Store) (sound : IsSound old) (fti : new.fti ≡ old.fti) (b : ℕ) (others : (a : ℕ) → b ≢ a → kept_of new a ≡ kept_of old a) where
   now_count : solved_count new ≡ length (filter (λ a. is_solved (kept_of new a)) (below (block_count old.fti)))
   now_count = ap (λ (f : Fti). length (filter (λ a. is_solved (kept_of new a)) (below (block_count f)))) fti
 
-  count_stays : is_solved (kept_of new b) ≡ is_solved (kept_of old b) → solved_count new ≡ solved_count old
-  count_stays here =
-      now_count ∙ count_same (λ a. is_solved (kept_of new a)) (λ a. is_solved (kept_of old a)) (block_count old.fti)
-      (λ a la. elim (cases_eq b a) [
-        | inl e ↦ subst (λ (x : ℕ). is_solved (kept_of new x) ≡ is_solved (kept_of old x)) e here
-        | inr ne ↦ ap is_solved (others a ne)
-      ])
-
   -- no block more
-  pub holds_same : (after : ℕ → ℕ → Option (List ℕ)) → HoldsBlocks new after → new.solved ≡ old.solved → is_solved (kept_of new b) ≡ is_solved (kept_of old b) → Holds new after
-  holds_same after blocks count here = record {
-    codes = blocks.codes;
-    recovery = blocks.recovery;
-    solved = count ∙ held.solved ∙ sym (count_stays here);
-    within = blocks.within;
-    blocks = blocks.blocks;
-  }
+  pub count_stays : new.solved ≡ old.solved → is_solved (kept_of new b) ≡ is_solved (kept_of old b) → new.solved ≡ solved_count new
+  count_stays count here =
+      count ∙ sound.solved ∙ sym (now_count ∙ count_same (λ a. is_solved (kept_of new a)) (λ a. is_solved (kept_of old a)) (block_count old.fti)
+      (λ a la. elim (cases_eq b a) [
+        | inl e ↦ subst (λ (k : ℕ). is_solved (kept_of new k) ≡ is_solved (kept_of old k)) e here
+        | inr ne ↦ ap is_solved (others a ne)
+      ]))
 
   -- one block more
   pub one_more_solved : b < block_count old.fti → (is_solved (kept_of old b) ≡ false) × (is_solved (kept_of new b) ≡ true) → solved_count new ≡ old.solved + 1
   one_more_solved hb solves =
       now_count ∙ count_more (λ a. is_solved (kept_of old a)) (λ a. is_solved (kept_of new a)) (block_count old.fti) b hb solves.0 solves.1 (λ a ne. ap is_solved (others a ne))
-      ∙ ap (λ (n : ℕ). n + 1) (sym held.solved)
+      ∙ ap (λ (n : ℕ). n + 1) (sym sound.solved)
 
--- what is so of a result is so of what follows
-pub on_ok : {A E : Type 0} (P Q : Type 0) (r : Result A E) → (P → Q) → OnOk r P → OnOk r Q
-on_ok P Q (Ok a) f h = f h
-on_ok P Q (Err e) f h = h
+-- ---- a store that there is, or a new one
 
-pub on_err : {A E : Type 0} (P Q : Type 0) (r : Result A E) → (P → Q) → OnErr r P → OnErr r Q
-on_err P Q (Ok a) f h = h
-on_err P Q (Err e) f h = f h
+told_some : (told : Option (ℕ → List ℕ)) → is_some told ≡ true → (x : ℕ → List ℕ) × (told ≡ Some x)
+told_some None some = absurd (cc)
+told_some (Some x) some = (x, refl)
 
-pub err_of : {A E : Type 0} (P : Type 0) (r : Result A E) → P → OnErr r P
-err_of P (Ok a) h = tt
-err_of P (Err e) h = h
+nothing : (at : ℕ → ℕ → Option (List ℕ)) → ((b j : ℕ) → at b j ≡ None) → (λ b j. None) ≡ at
+nothing at none = fun_ext (λ b. fun_ext (λ j. sym (none b j)))
+
+module _ (f : Fti) (told now : Fti → Option (ℕ → List ℕ)) (old new : Store) (fti : old.fti ≡ f) (same : new.fti ≡ old.fti) (p : Packet) {A : Type 0} (r : Result A PutFault)
+    (put : (at : ℕ → ℕ → Option (List ℕ)) → HoldsIn old (told old.fti) at → StoreOutcome old.fti (now old.fti) at p r new) (at : ℕ → ℕ → Option (List ℕ)) where
+  pub fed_some : HoldsIn old (told f) at → FedOutcome f now at p r (Some new)
+  fed_some =
+      subst (λ (g : Fti). HoldsIn old (told g) at → FedOutcome g now at p r (Some new)) fti
+      (λ hold. outcome_then r _ _ _ _ (λ a h. (h.0, (same, h.1))) (λ e h. (h.0, (same, h.1))) (put at hold))
+
+  -- a new one holds nothing
+  pub fed_none : ((x : ℕ → List ℕ) → Holds old x (λ b j. None)) → HoldsFor f told None at
+      → Outcome r (λ a. MayStand (at p.sbn) p.esi p.symbol.now × HoldsFor f now (Some new) (with_symbol at p.sbn p.esi p.symbol.now))
+      (λ e. IsPutFault f p.sbn (at p.sbn) p.esi p.symbol.now e × HoldsFor f now None at)
+  fed_none none h =
+      let w = told_some (told f) h.1 in
+      let hold : HoldsIn old (told f) at = subst (λ (g : ℕ → ℕ → Option (List ℕ)). HoldsIn old (told f) g) (nothing at h.0) (w.0, w.1, none w.0) in
+      outcome_then r (λ a. MayStand (at p.sbn) p.esi p.symbol.now × HoldsFor f now (Some new) (with_symbol at p.sbn p.esi p.symbol.now)) _
+      (λ e. IsPutFault f p.sbn (at p.sbn) p.esi p.symbol.now e × HoldsFor f now (Some new) at) _
+      (λ a o. o) (λ e o. (o.0, (h.0, ap is_some o.1.1.1))) (fed_some hold)

@@ -1,5 +1,12 @@
-mod Put
-mod Holding
-mod Taken
-mod Fed
+pub mod Pending
+pub mod Taken
 mod Amount
+mod Held
+mod Among
+mod Told
+mod Solving
+mod Seen
+mod Holding
+mod Fed
+mod Padding
+mod BlocksInFile

@@ -9,7 +9,7 @@ use Rattle.block_code.specs.Codes.{EachBlockHas}
 use Rattle.block_code.specs.CodesOf.{IsCodeOf}
 use Rattle.decoder.specs.Decoded.{AreWithin}
 use Rattle.decoder.specs.Recoveries.{IsKeptOf}
-use Rattle.receiver.specs.Stored.{IsStored}
+use Rattle.receiver.specs.Stored.{IsOf, IsStored}
 use Rattle.receiver.specs.declared.stored.PutFault.{PutFault}
 use Rattle.receiver.specs.declared.stored.Stored.{Stored}
 use Rattle.receiver.specs.declared.stored.Stored.TheVariants as stored
@@ -30,22 +30,26 @@ abbrev pub solved_count : Store → ℕ
 solved_count store =
     length (filter (λ b. is_solved (kept_of store b)) (below (block_count store.fti)))
 
--- the codes are the FTI's, the solved blocks are counted, and each block is kept for the symbols
--- that stand at it
-pub record Holds (store : Store) (at : ℕ → ℕ → Option (List ℕ)) : Type 0 where
+-- the codes are the FTI's, and what is kept of each block is of that block; how many are solved
+-- isn't said
+pub record HasParts (store : Store) : Type 0 where
   pub codes : EachBlockHas (IsCodeOf store.fti) store.fti store.codes
-  pub recovery : IsKeptOf store.codes store.kept
-  pub solved : store.solved ≡ solved_count store
-  pub within : AreWithin store.fti at
-  pub blocks : (b : ℕ) → IsStored store.fti b (kept_of store b) (at b)
+  pub recovery : IsKeptOf store.codes store.scratch.recovery
+  pub each : (b : ℕ) → IsOf store.fti b (kept_of store b)
 
--- the codes are the FTI's, and each block is kept for the symbols that stand at it; how many are
--- solved isn't said
-pub record HoldsBlocks (store : Store) (at : ℕ → ℕ → Option (List ℕ)) : Type 0 where
-  pub codes : EachBlockHas (IsCodeOf store.fti) store.fti store.codes
-  pub recovery : IsKeptOf store.codes store.kept
+-- and the solved blocks are counted
+pub record IsSound (store : Store) : Type 0 where
+  pub parts : HasParts store
+  pub solved : store.solved ≡ solved_count store
+
+-- with these bytes each block is kept for the symbols that stand at it
+pub record Holds (store : Store) (bytes : ℕ → List ℕ) (at : ℕ → ℕ → Option (List ℕ)) : Type 0 where
   pub within : AreWithin store.fti at
-  pub blocks : (b : ℕ) → IsStored store.fti b (kept_of store b) (at b)
+  pub blocks : (b : ℕ) → IsStored store.fti b (bytes b) (kept_of store b) (at b)
+
+-- the bytes are told, and with them it is
+abbrev pub HoldsIn : Store → Option (ℕ → List ℕ) → (ℕ → ℕ → Option (List ℕ)) → Type 0
+HoldsIn store told at = (bytes : ℕ → List ℕ) × (told ≡ Some bytes) × Holds store bytes at
 
 -- whether a block is solved now, and wasn't
 abbrev pub Solves : Result Bool PutFault → Option Stored → Option Stored → Type 0

@@ -1,3 +1,5 @@
+pub mod Bytes
+pub mod Held
 pub mod Stored
 pub mod Holds
 pub mod Stands
@@ -5,3 +7,5 @@ pub mod Receiving
 pub mod Fed
 pub mod Putting
 pub mod Taking
+pub mod Parts
+pub mod InFile

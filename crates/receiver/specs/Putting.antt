@@ -1,25 +1,28 @@
 -- What becomes of a symbol that is put to those that stand at a block's ESIs.
-use Rattle.std.specs.Prelude.{◌≡◌, ◌≢◌, ◌<◌, ◌⊎◌, ℕ, List, length, Option, Some, None}
+use Rattle.std.specs.Prelude.{◌≡◌, ◌≢◌, ◌<◌, ◌⊎◌, ℕ, List, length, Option, Some, None, ⊤}
+use Rattle.std.specs.Prelude.{Result, IfOk, IfErr}
 use Rattle.partition.specs.Fti.{Fti, block_count, encoding_count}
 use Rattle.alc.specs.declared.reading.Packet.{Packet}
 use Rattle.block_code.specs.Codes.{EachBlockHas}
 use Rattle.block_code.specs.CodesOf.{IsCodeOf}
 use Rattle.block_code.specs.declared.codes.BlockCodes.{BlockCodes}
 use Rattle.decoder.specs.Decoded.{IsEnoughAt, IsUnexplained}
-use Rattle.decoder.specs.Arrivals.{with_esi}
+use Rattle.decoder.specs.Arrivals.{with_esi, with_symbol}
 use Rattle.decoder.specs.Recoveries.{IsKeptOf}
-use Rattle.decoder.specs.declared.recovery.Recovery.{Recovery}
+use Rattle.receiver.specs.Bytes.{Becomes}
+use Rattle.receiver.specs.Holds.{HoldsIn}
+use Rattle.receiver.specs.declared.scratch.Scratch.{Scratch}
+use Rattle.receiver.specs.declared.store.Store.{Store}
 use Rattle.receiver.specs.declared.stored.PutFault.{PutFault}
-use Rattle.receiver.specs.declared.stored.PutFault.TheVariants.{Clash, NotCode, NoMemory}
+use Rattle.receiver.specs.declared.stored.PutFault.TheVariants.{Clash, NotCode, NoMemory, Failed}
 
--- the FTI has the packet, the codes are the FTI's, and what is kept is of one of them
-pub record MayPut (f : Fti) (codes : BlockCodes) (p : Packet)
-    (kept : Option Recovery) : Type 0 where
+-- the FTI has the packet, the codes are the FTI's, and what recovered a block is of one of them
+pub record MayPut (f : Fti) (codes : BlockCodes) (p : Packet) (scratch : Scratch) : Type 0 where
   pub number : p.sbn < block_count f
   pub esi : p.esi < encoding_count f p.sbn
   pub symbol : length p.symbol.now ≡ f.symbol_length
   pub codes_are : EachBlockHas (IsCodeOf f) f codes
-  pub recovery : IsKeptOf codes kept
+  pub recovery : IsKeptOf codes scratch.recovery
 
 -- the ESI is free, or has this symbol
 abbrev pub MayStand : (ℕ → Option (List ℕ)) → ℕ → List ℕ → Type 0
@@ -41,4 +44,32 @@ pub record IsNoCode (f : Fti) (b : ℕ) (at : ℕ → Option (List ℕ)) (j : �
 abbrev pub IsPutFault : Fti → ℕ → (ℕ → Option (List ℕ)) → ℕ → List ℕ → PutFault → Type 0
 IsPutFault f b at j y Clash = IsClash at j y
 IsPutFault f b at j y NotCode = IsNoCode f b at j y
-IsPutFault f b at j y NoMemory = Unit {0}
+IsPutFault f b at j y NoMemory = ⊤
+IsPutFault f b at j y Failed = ⊤
+
+-- so, unless reading or writing has failed
+abbrev pub UnlessFailed : PutFault → Type 0 → Type 0
+UnlessFailed Failed So = ⊤
+UnlessFailed fault So = So
+
+-- What comes of a symbol that is put: this is so where it was, and that where it wasn't, by why.
+-- Nothing is told where reading or writing has failed.
+abbrev pub Outcome : {A : Type 0} → Result A PutFault → (A → Type 0) → (PutFault → Type 0) → Type 0
+Outcome result Put Not = IfOk result Put × IfErr result (λ fault. UnlessFailed fault (Not fault))
+
+-- a block's stored part and its bytes, where these were told before: they are for these symbols
+-- with one more, which may stand there, or why not, and they are for those before
+abbrev pub BlockOutcome : {A : Type 0} → Fti → ℕ → (ℕ → List ℕ) → Option (ℕ → List ℕ)
+    → (ℕ → Option (List ℕ)) → ℕ → List ℕ → Result A PutFault
+    → (A → List ℕ → (ℕ → Option (List ℕ)) → Type 0) → (List ℕ → Type 0) → Type 0
+BlockOutcome f b old new at j y result Is Was = Outcome result
+    (λ a. MayStand at j y × Becomes old new b (λ x. Is a x (with_esi at j y)))
+    (λ fault. IsPutFault f b at j y fault × Becomes old new b Was)
+
+-- the same of what is kept of an object, where the bytes of its blocks are told
+abbrev pub StoreOutcome : {A : Type 0} → Fti → Option (ℕ → List ℕ) → (ℕ → ℕ → Option (List ℕ))
+    → Packet → Result A PutFault → Store → Type 0
+StoreOutcome f told at p result store = Outcome result
+    (λ a. MayStand (at p.sbn) p.esi p.symbol.now
+    × HoldsIn store told (with_symbol at p.sbn p.esi p.symbol.now))
+    (λ fault. IsPutFault f p.sbn (at p.sbn) p.esi p.symbol.now fault × HoldsIn store told at)

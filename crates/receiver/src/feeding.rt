@@ -1,17 +1,19 @@
 //! Feeding a receiver with one datagram.
-ghost use Rattle.std.specs.Prelude.{◌≡◌, ◌≢◌, ◌<◌, ◌+◌, ◌↔◌, ℕ, List, Option, length, is_some};
+ghost use Rattle.std.specs.Prelude.{◌≡◌, ◌≢◌, ◌<◌, ◌+◌, ◌↔◌, ℕ, List, Option, Some, Err, false};
+ghost use Rattle.std.specs.Prelude.{length, is_some, option_map};
 ghost use Rattle.std.specs.Prelude.{IfOk, IfSome, IsSome, IfErr, OnOk, OnErr};
-ghost use Rattle.partition.specs.Fti.{block_count, encoding_count};
+ghost use Rattle.partition.specs.Fti.{Fti as FtiValue, block_count, encoding_count};
 ghost use Rattle.reception.specs.Answer.{reception_of};
 ghost use Rattle.reception.specs.Walks.{readings_of};
-ghost use Rattle.decoder.specs.Arrivals.{with_symbol};
-ghost use Rattle.receiver.specs.Putting.{MayStand, IsPutFault};
-ghost use Rattle.receiver.specs.Stands.{Stands, IsFed};
+ghost use Rattle.receiver.specs.Holds.{Holds};
+ghost use Rattle.receiver.specs.Stands.{Stands, StandsWith, IsFed, IsSoundIn};
 ghost use Rattle.receiver.specs.Receiving.{with_datagram, Tells, IsFaultOf, HasNoFault};
-ghost use Rattle.receiver.specs.Receiving.{HasNoFaultBefore, ComesEarly};
-ghost use Rattle.receiver.specs.Fed.{HoldsFor, put_refusal};
+ghost use Rattle.receiver.specs.Receiving.{HasNoFaultBefore, ComesEarly, IfRefused, IsUnfedOf};
+ghost use Rattle.receiver.specs.Fed.{HoldsFor, FedOutcome, put_refusal};
 
+use crate::block_bytes::BlockBytes;
 use crate::receiver::{FeedFault, Progress, Receiver};
+use crate::receiving::{Receiving, Unfed};
 use crate::store::Store;
 use crate::stored::PutFault;
 use alc::Packet;
@@ -21,58 +23,62 @@ use partition::Fti;
 use reception::{Look, Scope};
 use std::alloc::Global;
 
-// Why the datagram is refused whose symbol isn't put.
-fn refusal(place: usize, b: u32, fault: PutFault) -> FeedFault
+// Why the datagram isn't accepted whose symbol isn't put.
+fn refusal(place: usize, b: u32, fault: PutFault) -> Unfed
     ensures value { result ≡ put_refusal place b fault }
-    ensures other { result ≢ FeedFault.Full }
-    ensures late { result ≢ FeedFault.Early }
+    ensures other { result ≢ Unfed.Refused FeedFault.Full }
+    ensures late { result ≢ Unfed.Refused FeedFault.Early }
+    ensures failed { result ≡ Unfed.Failed → fault ≡ PutFault.Failed }
 {
     match fault {
-        PutFault::Clash => FeedFault::Fault(DecodeFault::Clash(place)),
-        PutFault::NotCode => FeedFault::Fault(DecodeFault::NotCode(b)),
-        PutFault::NoMemory => FeedFault::NoMemory,
+        PutFault::Clash => Unfed::Refused(FeedFault::Fault(DecodeFault::Clash(place))),
+        PutFault::NotCode => Unfed::Refused(FeedFault::Fault(DecodeFault::NotCode(b))),
+        PutFault::NoMemory => Unfed::Refused(FeedFault::NoMemory),
+        PutFault::Failed => Unfed::Failed,
     }
 }
 
 // Puts the packet's symbol, into a new store where there is none.
-fn put(
+fn put<B: BlockBytes>(
     alloc: Global,
     fti: Fti,
     store: &mut Option<Store>,
     packet: &Packet<'_>,
+    bytes: &mut B,
 ) -> Result<(), PutFault>
+    requires sound { IsSoundIn store.old }
     requires number { packet.now.sbn < block_count fti }
     requires esi { packet.now.esi < encoding_count fti packet.now.sbn }
     requires symbol { length packet.now.symbol.now ≡ fti.symbol_length }
-    requires held { (at : ℕ → ℕ → Option (List ℕ)) × HoldsFor fti store.old at }
-    ensures put { (at : ℕ → ℕ → Option (List ℕ)) → HoldsFor fti store.old at
-        → OnOk result (HoldsFor fti store.new
-        (with_symbol at packet.now.sbn packet.now.esi packet.now.symbol.now)) }
-    ensures may { (at : ℕ → ℕ → Option (List ℕ)) → HoldsFor fti store.old at
-        → OnOk result (MayStand (at packet.now.sbn) packet.now.esi packet.now.symbol.now) }
-    ensures fault { (at : ℕ → ℕ → Option (List ℕ)) → HoldsFor fti store.old at
-        → IfErr result (IsPutFault fti packet.now.sbn (at packet.now.sbn)
-        packet.now.esi packet.now.symbol.now) }
-    ensures stays { (at : ℕ → ℕ → Option (List ℕ)) → HoldsFor fti store.old at
-        → OnErr result (HoldsFor fti store.new at) }
+    requires fti { IfSome store.old (λ s. s.fti ≡ fti) }
+    requires there { (x : ℕ → List ℕ) → B.kept bytes.old fti ≡ Some x
+        → IfSome store.old (λ s. (at : ℕ → ℕ → Option (List ℕ)) × Holds s x at) }
+    ensures sound { IsSoundIn store.new }
+    ensures outcome { (at : ℕ → ℕ → Option (List ℕ))
+        → HoldsFor fti (B.kept bytes.old) store.old at
+        → FedOutcome fti (B.kept bytes.new) at packet.now result store.new }
     ensures some { OnOk result (IsSome store.new) }
     ensures none { OnErr result (is_some store.new ≡ is_some store.old) }
+    ensures reliable { B.reliable bytes.new ≡ B.reliable bytes.old }
+    ensures fails { result ≡ Err PutFault.Failed → B.reliable bytes.old ≡ false }
 {
     if let Some(store) = store {
-        return store.put(alloc, packet);
+        return store.put(alloc, packet, bytes);
     }
     let Ok(mut new) = Store::new(alloc, fti) else {
         return Err(PutFault::NoMemory);
     };
-    new.put(alloc, packet)?;
+    new.put(alloc, packet, bytes)?;
     *store = Some(new);
     Ok(())
 }
 
-impl Receiver {
+impl Receiving {
     // Whose packets it receives and with which FTI, as far as that is known.
     fn scope(&self) -> Scope
-        ensures { (ds : List (List ℕ)) → Stands self.now ds
+        ensures fti { result.fti ≡ option_map (λ s. s.fti) self.now.store }
+        ensures scope { (told : FtiValue → Option (ℕ → List ℕ)) (ds : List (List ℕ))
+            → StandsWith self.now told ds
             → result ≡ (reception_of self.now.identity (readings_of ds)).scope }
     {
         let fti = match &self.store {
@@ -87,10 +93,10 @@ impl Receiver {
 
     // Whether every block has as many symbols as it needs. None is looked at.
     fn progress(&self) -> Progress
-        ensures tells { (ds : List (List ℕ)) → Stands self.now ds
-            → Tells result self.now.identity ds }
-        ensures sound { (ds : List (List ℕ)) → Stands self.now ds
-            → HasNoFault self.now.identity ds }
+        ensures tells { (told : FtiValue → Option (ℕ → List ℕ)) (ds : List (List ℕ))
+            → StandsWith self.now told ds → Tells result self.now.identity ds }
+        ensures sound { (told : FtiValue → Option (ℕ → List ℕ)) (ds : List (List ℕ))
+            → StandsWith self.now told ds → HasNoFault self.now.identity ds }
     {
         let Some(store) = &self.store else {
             return Progress::More;
@@ -110,15 +116,74 @@ impl Receiver {
           store = self.old.store;
           accepted = self.old.accepted + 1;
         } }
-        ensures progress { (ds : List (List ℕ)) → Stands self.new ds
-            → Tells result self.new.identity ds }
-        ensures sound { (ds : List (List ℕ)) → Stands self.new ds
-            → HasNoFault self.new.identity ds }
+        ensures progress { (told : FtiValue → Option (ℕ → List ℕ)) (ds : List (List ℕ))
+            → StandsWith self.new told ds → Tells result self.new.identity ds }
+        ensures sound { (told : FtiValue → Option (ℕ → List ℕ)) (ds : List (List ℕ))
+            → StandsWith self.new told ds → HasNoFault self.new.identity ds }
     {
         self.accepted += 1;
         self.progress()
     }
 
+    /// Takes one datagram, as `Receiver::feed`, and keeps its symbol among these bytes, which are
+    /// those of the datagrams before. `Failed` says that reading or writing these has failed.
+    pub fn feed<B: BlockBytes>(
+        &mut self,
+        alloc: Global,
+        bytes: &mut B,
+        datagram: &[u8],
+    ) -> Result<Progress, Unfed>
+        requires sound { IsSoundIn self.old.store }
+        requires fed { (f : FtiValue) (x : ℕ → List ℕ) → B.kept bytes.old f ≡ Some x
+            → (ds : List (List ℕ)) × StandsWith self.old (B.kept bytes.old) ds }
+        ensures identity { self.new.identity ≡ self.old.identity }
+        ensures sound { IsSoundIn self.new.store }
+        ensures accepted { (ds : List (List ℕ)) → StandsWith self.old (B.kept bytes.old) ds
+            → OnOk result (StandsWith self.new (B.kept bytes.new)
+            (with_datagram ds datagram.now)) }
+        ensures refused { (ds : List (List ℕ)) → StandsWith self.old (B.kept bytes.old) ds
+            → IfErr result (IfRefused (StandsWith self.new (B.kept bytes.new) ds)) }
+        ensures progress { (ds : List (List ℕ)) → StandsWith self.old (B.kept bytes.old) ds
+            → IfOk result (λ p. Tells p self.old.identity (with_datagram ds datagram.now)) }
+        ensures fault { (ds : List (List ℕ)) → StandsWith self.old (B.kept bytes.old) ds
+            → IfErr result (IsUnfedOf self.old.identity (with_datagram ds datagram.now)) }
+        ensures memory { (ds : List (List ℕ)) → StandsWith self.old (B.kept bytes.old) ds
+            → result ≡ Err (Unfed.Refused FeedFault.NoMemory)
+            → HasNoFaultBefore self.old.identity (with_datagram ds datagram.now) }
+        ensures sound_answer { (ds : List (List ℕ)) → StandsWith self.old (B.kept bytes.old) ds
+            → OnOk result (HasNoFault self.old.identity (with_datagram ds datagram.now)) }
+        ensures full { (ds : List (List ℕ)) → StandsWith self.old (B.kept bytes.old) ds
+            → (result ≡ Err (Unfed.Refused FeedFault.Full)) ↔ (length ds ≡ usize.MAX) }
+        ensures early { (ds : List (List ℕ)) → StandsWith self.old (B.kept bytes.old) ds
+            → (result ≡ Err (Unfed.Refused FeedFault.Early))
+            ↔ ((length ds ≢ usize.MAX) × ComesEarly self.old.identity ds datagram.now) }
+        ensures reliable { B.reliable bytes.new ≡ B.reliable bytes.old }
+        ensures fails { result ≡ Err Unfed.Failed → B.reliable bytes.old ≡ false }
+    {
+        if self.accepted == usize::MAX {
+            return Err(Unfed::Refused(FeedFault::Full));
+        }
+        are_bytes(datagram);
+        let mut scope = self.scope();
+        let packet = match scope.look(datagram) {
+            Ok(Look::InRange(packet)) => packet,
+            Ok(Look::Other) => return Ok(self.accept()),
+            Ok(Look::Early) => return Err(Unfed::Refused(FeedFault::Early)),
+            Err(fault) => {
+                let fault = fault_at(self.accepted, fault);
+                return Err(Unfed::Refused(FeedFault::Fault(fault)));
+            }
+        };
+        let fti = scope.fti.unwrap();
+        fti.is_valid();
+        if let Err(fault) = put(alloc, fti, &mut self.store, &packet, bytes) {
+            return Err(refusal(self.accepted, packet.sbn, fault));
+        }
+        Ok(self.accept())
+    }
+}
+
+impl Receiver {
     /// Takes one datagram, of any bytes. The receiver stands for the datagrams that it accepted: at
     /// `Ok` it stands for one more, and `decode` would answer no fault to them. At an error it
     /// stands for those before. Want of memory is never told in place of a fault that is seen
@@ -128,42 +193,31 @@ impl Receiver {
     pub fn feed(&mut self, alloc: Global, datagram: &[u8]) -> Result<Progress, FeedFault>
         // It is new, or was fed.
         requires { IsFed self.old }
-        ensures identity { self.new.identity ≡ self.old.identity }
+        ensures identity { self.new.receiving.identity ≡ self.old.receiving.identity }
         ensures accepted { (ds : List (List ℕ)) → Stands self.old ds
             → OnOk result (Stands self.new (with_datagram ds datagram.now)) }
         ensures refused { (ds : List (List ℕ)) → Stands self.old ds
             → OnErr result (Stands self.new ds) }
         ensures progress { (ds : List (List ℕ)) → Stands self.old ds
-            → IfOk result (λ p. Tells p self.old.identity (with_datagram ds datagram.now)) }
+            → IfOk result
+            (λ p. Tells p self.old.receiving.identity (with_datagram ds datagram.now)) }
         ensures fault { (ds : List (List ℕ)) → Stands self.old ds
-            → IfErr result (IsFaultOf self.old.identity (with_datagram ds datagram.now)) }
+            → IfErr result (IsFaultOf self.old.receiving.identity (with_datagram ds datagram.now)) }
         ensures memory { (ds : List (List ℕ)) → Stands self.old ds
             → result ≡ Err FeedFault.NoMemory
-            → HasNoFaultBefore self.old.identity (with_datagram ds datagram.now) }
+            → HasNoFaultBefore self.old.receiving.identity (with_datagram ds datagram.now) }
         ensures sound { (ds : List (List ℕ)) → Stands self.old ds
-            → OnOk result (HasNoFault self.old.identity (with_datagram ds datagram.now)) }
+            → OnOk result (HasNoFault self.old.receiving.identity (with_datagram ds datagram.now)) }
         ensures full { (ds : List (List ℕ)) → Stands self.old ds
             → (result ≡ Err FeedFault.Full) ↔ (length ds ≡ usize.MAX) }
         ensures early { (ds : List (List ℕ)) → Stands self.old ds
             → (result ≡ Err FeedFault.Early)
-            ↔ ((length ds ≢ usize.MAX) × ComesEarly self.old.identity ds datagram.now) }
+            ↔ ((length ds ≢ usize.MAX) × ComesEarly self.old.receiving.identity ds datagram.now) }
     {
-        if self.accepted == usize::MAX {
-            return Err(FeedFault::Full);
+        match self.receiving.feed(alloc, &mut self.blocks, datagram) {
+            Ok(progress) => Ok(progress),
+            Err(Unfed::Refused(fault)) => Err(fault),
+            Err(Unfed::Failed) => unreachable!(),
         }
-        are_bytes(datagram);
-        let mut scope = self.scope();
-        let packet = match scope.look(datagram) {
-            Ok(Look::InRange(packet)) => packet,
-            Ok(Look::Other) => return Ok(self.accept()),
-            Ok(Look::Early) => return Err(FeedFault::Early),
-            Err(fault) => return Err(FeedFault::Fault(fault_at(self.accepted, fault))),
-        };
-        let fti = scope.fti.unwrap();
-        fti.is_valid();
-        if let Err(fault) = put(alloc, fti, &mut self.store, &packet) {
-            return Err(refusal(self.accepted, packet.sbn, fault));
-        }
-        Ok(self.accept())
     }
 }

@@ -5,24 +5,38 @@
 //!   (`specs/Stands`). It accepts none with which `decode` would answer a fault to that list, and
 //!   tells no fault but that answer. Of packets that carry no FTI it accepts none before a carrier,
 //!   as it couldn't tell what their symbols are;
+//! - `receiving`: the same but for the bytes of symbols, which are kept wherever the caller says.
+//!   `block_bytes` is what is asked of such a place: bytes that are put one behind the other, by
+//!   block, and read again. `held_blocks` is one in memory, which a `Receiver` has, and
+//!   `file_blocks` one in an output that is written at offsets;
 //! - `feeding` takes one datagram more, and `taking` gives the answer, or writes the object block
 //!   by block; `storing` tells how much is kept;
-//! - `store`: what it keeps of an object, and `stored`: of a block. That is, by `pending_block`,
-//!   copies of the symbols that came while these are too few, and by `solved_block` the source
-//!   symbols from then on, with which ESIs came: never more symbols than the block has source
-//!   symbols. `putting` puts a symbol where it goes, and walks neither over the blocks nor over
-//!   what came, but for its block's symbols when that is solved. One that comes later is compared
-//!   with what the source symbols give.
+//! - `store`: what it keeps of an object beside bytes, and `stored`: of a block. While too few
+//!   symbols of a block came, its bytes are these, one behind the other, and their ESIs are kept
+//!   (`pending_block`). From then on its bytes are its source symbols, and which ESIs came is kept
+//!   (`solved_block`). So a block has no more bytes than its source symbols. `putting` puts a
+//!   symbol where it goes, and walks neither over the blocks nor over what came, but for its
+//!   block's symbols when that is solved. One that comes later is compared with what the source
+//!   symbols give. `scratch` is used again from block to block.
 #![tactic(auto)]
 
+mod block_bytes;
 mod feeding;
+mod file_blocks;
+mod held_blocks;
 mod pending_block;
 mod putting;
 mod receiver;
+mod receiving;
+mod scratch;
 mod solved_block;
 mod store;
 mod stored;
 mod storing;
 mod taking;
 
+pub use block_bytes::{BlockBytes, BytesFault};
+pub use file_blocks::FileBlocks;
+pub use held_blocks::HeldBlocks;
 pub use receiver::{FeedFault, Progress, Receiver};
+pub use receiving::{Receiving, Unfed};

@@ -1,8 +1,6 @@
 //! A receiver of one datagram at a time.
-ghost use Rattle.std.specs.Prelude.{◌≡◌, []};
-ghost use Rattle.receiver.specs.Stands.{Stands};
-
-use crate::store::Store;
+use crate::held_blocks::HeldBlocks;
+use crate::receiving::Receiving;
 use decoder::DecodeFault;
 use reception::Identity;
 use thiserror::Error;
@@ -40,22 +38,22 @@ pub enum FeedFault {
 /// no datagram.
 #[derive(Drop)]
 pub struct Receiver {
-    pub(crate) identity: Identity,
-    /// Where no carrier came yet there is none, and no FTI.
-    pub(crate) store: Option<Store>,
-    pub(crate) accepted: usize,
+    pub(crate) receiving: Receiving,
+    pub(crate) blocks: HeldBlocks,
 }
 
 impl Receiver {
+    ghost use Rattle.std.specs.Prelude.{◌≡◌, []};
+    ghost use Rattle.receiver.specs.Stands.{Stands};
+
     /// A receiver of this identity's packets, to which nothing came.
     pub fn new(identity: Identity) -> Receiver
         ensures stands { Stands result [] }
-        ensures identity { result.identity ≡ identity }
+        ensures identity { result.receiving.identity ≡ identity }
     {
         Receiver {
-            identity,
-            store: None,
-            accepted: 0,
+            receiving: Receiving::new(identity),
+            blocks: HeldBlocks::new(),
         }
     }
 }

@@ -1,14 +1,11 @@
 //! A block that has as many symbols as it needs.
-ghost use Rattle.std.specs.Prelude.{◌≡◌, ◌<◌, ◌≤◌, ℕ, List, Option, length, OnOk, IfErr, OnErr};
-ghost use Rattle.partition.specs.Fti.{block_count, source_count, encoding_count};
-ghost use Rattle.block_code.specs.Codes.{EachBlockHas};
-ghost use Rattle.block_code.specs.CodesOf.{IsCodeOf};
+ghost use Rattle.std.specs.Prelude.{◌≡◌, ℕ, List, Option, Some, Err, false};
 ghost use Rattle.decoder.specs.Blocks.{HaveLength};
-ghost use Rattle.decoder.specs.Arrivals.{with_esi};
-ghost use Rattle.receiver.specs.Putting.{MayStand, IsPutFault};
-ghost use Rattle.decoder.specs.Rows.{HasSizes};
-ghost use Rattle.receiver.specs.Stored.{IsSolved};
+ghost use Rattle.receiver.specs.Putting.{MayPut, BlockOutcome};
+ghost use Rattle.receiver.specs.Stored.{IsSolvedOf, IsSolved};
 
+use crate::block_bytes::BlockBytes;
+use crate::scratch::Scratch;
 use crate::stored::{PutFault, Solved};
 use alc::Packet;
 use block_code::BlockCodes;
@@ -18,55 +15,51 @@ use std::alloc::Global;
 
 impl Solved {
     /// Puts the packet's symbol: it is compared with the one that the source symbols give.
-    pub(crate) fn put(
+    pub(crate) fn put<B: BlockBytes>(
         &mut self,
         alloc: Global,
         fti: &Fti,
         codes: &BlockCodes,
         packet: &Packet<'_>,
+        scratch: &mut Scratch,
+        bytes: &mut B,
     ) -> Result<(), PutFault>
-        requires number { packet.now.sbn < block_count fti.now }
-        requires esi { packet.now.esi < encoding_count fti.now packet.now.sbn }
-        requires symbol { length packet.now.symbol.now ≡ fti.now.symbol_length }
-        requires codes { EachBlockHas (IsCodeOf fti.now) fti.now codes.now }
-        requires sizes { HasSizes (source_count fti.now packet.now.sbn) fti.now.symbol_length
-            self.old.rows }
-        requires esis { length self.old.seen.items ≡ encoding_count fti.now packet.now.sbn }
-        ensures put { (at : ℕ → Option (List ℕ))
-            → IsSolved fti.now packet.now.sbn self.old at
-            → OnOk result (IsSolved fti.now packet.now.sbn self.new
-            (with_esi at packet.now.esi packet.now.symbol.now)) }
-        ensures may { (at : ℕ → Option (List ℕ))
-            → IsSolved fti.now packet.now.sbn self.old at
+        requires given { MayPut fti.now codes.now packet.now scratch.old }
+        requires of { IsSolvedOf fti.now packet.now.sbn self.old }
+        requires there { (x : ℕ → List ℕ) → B.kept bytes.old fti.now ≡ Some x
+            → (at : ℕ → Option (List ℕ))
+            × IsSolved fti.now packet.now.sbn (x packet.now.sbn) self.old at }
+        ensures keeps { MayPut fti.now codes.now packet.now scratch.new }
+        ensures of { IsSolvedOf fti.now packet.now.sbn self.new }
+        ensures outcome { (x : ℕ → List ℕ) (at : ℕ → Option (List ℕ))
+            → B.kept bytes.old fti.now ≡ Some x
+            → IsSolved fti.now packet.now.sbn (x packet.now.sbn) self.old at
             → HaveLength fti.now.symbol_length at
-            → OnOk result (MayStand at packet.now.esi packet.now.symbol.now) }
-        ensures fault { (at : ℕ → Option (List ℕ))
-            → IsSolved fti.now packet.now.sbn self.old at
-            → IfErr result (IsPutFault fti.now packet.now.sbn at
-            packet.now.esi packet.now.symbol.now) }
-        ensures stays { (at : ℕ → Option (List ℕ))
-            → IsSolved fti.now packet.now.sbn self.old at
-            → OnErr result (IsSolved fti.now packet.now.sbn self.new at) }
-        ensures count { self.new.rows.count ≡ self.old.rows.count }
+            → BlockOutcome fti.now packet.now.sbn x (B.kept bytes.new fti.now) at packet.now.esi
+            packet.now.symbol.now result (λ _ y. IsSolved fti.now packet.now.sbn y self.new)
+            (λ y. IsSolved fti.now packet.now.sbn y self.new at) }
+        ensures reliable { B.reliable bytes.new ≡ B.reliable bytes.old }
+        ensures fails { result ≡ Err PutFault.Failed → B.reliable bytes.old ≡ false }
     {
         fti.is_valid();
-        let esi = usize::from(packet.esi);
-        let Ok(given) = gives(
-            alloc,
-            fti,
-            codes,
-            packet.sbn,
-            &self.rows,
-            packet.esi,
-            packet.symbol,
-        ) else {
+        let size = usize::from(fti.symbol_length());
+        let Ok(mut rows) = scratch.room(alloc, self.need, size) else {
             return Err(PutFault::NoMemory);
         };
+        let Ok(()) = bytes.read(fti, packet.sbn, 0, &mut rows.bytes) else {
+            return Err(PutFault::Failed);
+        };
+        let esi = packet.esi;
+        let Ok(given) = gives(alloc, fti, codes, packet.sbn, &rows, esi, packet.symbol) else {
+            return Err(PutFault::NoMemory);
+        };
+        scratch.rows = Some(rows);
+        let place = usize::from(esi);
         if given {
-            self.seen[esi] = true;
+            self.seen[place] = true;
             return Ok(());
         }
-        if self.seen[esi] {
+        if self.seen[place] {
             Err(PutFault::Clash)
         } else {
             Err(PutFault::NotCode)

@@ -2,29 +2,29 @@
 ghost use Rattle.std.specs.Prelude.{◌<◌, ◌≤◌, length};
 ghost use Rattle.decoder.specs.Arrivals.{seen_count};
 
-use decoder::{Arrival, Rows};
-
-/// The symbols that came of a block that has fewer than it needs.
+/// Which symbols came of a block that has fewer than it needs. The block's bytes are these symbols.
 #[derive(Drop)]
 pub(crate) struct Pending {
-    /// In the order in which they came.
-    pub(crate) symbols: Vec<Arrival<Vec<u8>>>,
+    /// Their ESIs, in the order in which they came.
+    pub(crate) esis: Vec<u8>,
     /// How many source symbols the block has.
     pub(crate) need: usize,
-    ghost few: { length symbols.items < need },
+    ghost few: { length esis.items < need },
 }
 
-/// The source symbols of a block of which as many symbols came as it needs, or more.
+/// Which symbols came of a block that has as many as it needs, or more. The block's bytes are its
+/// source symbols.
 #[derive(Drop)]
 pub(crate) struct Solved {
-    pub(crate) rows: Rows,
+    /// How many source symbols the block has.
+    pub(crate) need: usize,
     /// At each ESI that the block has, whether its symbol came.
     pub(crate) seen: Vec<bool>,
-    ghost enough: { rows.count ≤ seen_count seen.items },
+    ghost enough: { need ≤ seen_count seen.items },
 }
 
-/// What is kept of a block of which something came: as many symbols as came, and no more than it
-/// has source symbols.
+/// What is kept of a block of which something came, beside its bytes. These are as many symbols as
+/// came, and no more than it has source symbols.
 #[derive(Drop)]
 pub(crate) enum Stored {
     Pending(Pending),
@@ -39,4 +39,6 @@ pub(crate) enum PutFault {
     /// The block has enough symbols with it, and they aren't those of any object.
     NotCode,
     NoMemory,
+    /// Reading or writing a block's bytes has failed.
+    Failed,
 }

@@ -16,15 +16,16 @@ use crate::stored::Stored;
 impl Store {
     // How many symbols of a block are kept.
     fn stored(&self, block: u32) -> usize
-        ensures { (at : ℕ → ℕ → Option (List ℕ)) → Holds self.now at
+        ensures { (bytes : ℕ → List ℕ) (at : ℕ → ℕ → Option (List ℕ))
+            → Holds self.now bytes at
             → result ≡ min (source_count self.now.fti block)
             (length (filter (λ j. is_some (at block j))
             (below (encoding_count self.now.fti block)))) }
     {
         match self.blocks.get(&block) {
             None => 0,
-            Some(Stored::Pending(pending)) => pending.symbols.len(),
-            Some(Stored::Solved(solved)) => solved.rows.count,
+            Some(Stored::Pending(pending)) => pending.esis.len(),
+            Some(Stored::Solved(solved)) => solved.need,
         }
     }
 }
@@ -34,9 +35,9 @@ impl Receiver {
     /// the block has source symbols. None where no FTI is known.
     pub fn stored(&self, block: u32) -> usize
         ensures { (ds : List (List ℕ)) (rs : List Reading) → Stands self.now ds → ReadAll ds rs
-            → result ≡ stored_count (reception_of self.now.identity rs) block }
+            → result ≡ stored_count (reception_of self.now.receiving.identity rs) block }
     {
-        let Some(store) = &self.store else {
+        let Some(store) = &self.receiving.store else {
             return 0;
         };
         store.fti.is_valid();

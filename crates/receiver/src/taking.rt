@@ -9,15 +9,19 @@ ghost use Rattle.reception.specs.Answer.{Object, IsAnswer};
 ghost use Rattle.decoder.specs.Answers.{answer_value, IsNoFault};
 ghost use Rattle.decoder.specs.Decoded.{IsShort};
 ghost use Rattle.receiver.specs.Holds.{Holds, kept_of, is_solved};
+ghost use Rattle.receiver.specs.Held.{held_of};
 ghost use Rattle.receiver.specs.Stands.{Stands};
 ghost use Rattle.receiver.specs.Receiving.{LeaveNoneShort};
-ghost use Rattle.receiver.specs.Taking.{IsShortBlock, part_of, object_in, AllSolved};
+ghost use Rattle.receiver.specs.Taking.{IsShortBlock, AllSolved};
+ghost use Rattle.receiver.specs.Parts.{part_of, object_in};
 ghost use Rattle.decoder.specs.Gathering.{IsWrittenOf};
 
+use crate::held_blocks::HeldBlocks;
 use crate::receiver::Receiver;
 use crate::store::Store;
 use crate::stored::Stored;
 use decoder::{Answer, Short};
+use partition::Fti;
 use session::{Failed, Write, write_all};
 use std::alloc::{AllocError, Global};
 
@@ -25,7 +29,8 @@ impl Store {
     // How a block is short, if it is.
     fn short(&self, b: u32) -> Option<Short>
         requires { b < block_count self.now.fti }
-        ensures short { (at : ℕ → ℕ → Option (List ℕ)) → Holds self.now at
+        ensures short { (bytes : ℕ → List ℕ) (at : ℕ → ℕ → Option (List ℕ))
+            → Holds self.now bytes at
             → IfSome result (IsShortBlock self.now.fti b (at b)) }
         ensures none { IsNone result → is_solved (kept_of self.now b) ≡ true }
     {
@@ -37,7 +42,7 @@ impl Store {
             }),
             Some(Stored::Pending(pending)) => Some(Short {
                 block: b,
-                have: pending.symbols.len(),
+                have: pending.esis.len(),
                 need: pending.need,
             }),
             Some(Stored::Solved(_)) => None,
@@ -46,7 +51,8 @@ impl Store {
 
     // The first block that is short.
     fn first_short(&self) -> Option<Short>
-        ensures short { (at : ℕ → ℕ → Option (List ℕ)) → Holds self.now at
+        ensures short { (bytes : ℕ → List ℕ) (at : ℕ → ℕ → Option (List ℕ))
+            → Holds self.now bytes at
             → IfSome result (IsShort self.now.fti at) }
         ensures none { IsNone result → AllSolved self.now }
     {
@@ -58,48 +64,44 @@ impl Store {
         }
         None
     }
+}
 
-    // The object's bytes in a solved block.
-    fn part(&self, b: u32) -> &[u8]
-        requires number { b < block_count self.now.fti }
-        requires solved { is_solved (kept_of self.now b) ≡ true }
-        ensures { result.now ≡ part_of self.now b }
+impl HeldBlocks {
+    // The object's bytes in a block.
+    fn part(&self, fti: &Fti, b: u32) -> &[u8]
+        requires { b < block_count fti.now }
+        ensures { result.now ≡ part_of fti.now (held_of self.now) b }
     {
-        match self.blocks.get(&b) {
-            Some(Stored::Solved(solved)) => {
-                let size = u64::from(self.fti.symbol_length());
-                let left = self.fti.transfer_length() - self.fti.start(b) * size;
-                let used = left.min(solved.rows.bytes.len() as u64) as usize;
-                &solved.rows.bytes[..used]
-            }
-            _ => unreachable!(),
-        }
+        let size = u64::from(fti.symbol_length());
+        let left = fti.transfer_length() - fti.start(b) * size;
+        let bytes = self.block(b);
+        let used = left.min(fti.k(b) as u64 * size).min(bytes.len() as u64) as usize;
+        &bytes[..used]
     }
 
-    // The object, where each block is solved.
-    fn object(&self, alloc: Global) -> Result<Vec<u8>, AllocError>
-        requires { AllSolved self.now }
-        ensures { IfOk result (λ v. v.items ≡ object_in self.now) }
+    // The object.
+    fn object(&self, alloc: Global, fti: &Fti) -> Result<Vec<u8>, AllocError>
+        ensures { IfOk result (λ v. v.items ≡ object_in fti.now (held_of self.now)) }
     {
-        let mut object = Vec::with_capacity(alloc, self.fti.transfer_length() as usize)?;
-        for b in 0..self.fti.block_count() {
-            object.extend_from_slice(self.part(b))?;
+        let mut object = Vec::with_capacity(alloc, fti.transfer_length() as usize)?;
+        for b in 0..fti.block_count() {
+            object.extend_from_slice(self.part(fti, b))?;
         }
         Ok(object)
     }
 
-    // Writes the object, where each block is solved.
-    fn write<W: Write>(&self, writer: &mut W) -> Result<(), Failed>
-        requires { AllSolved self.now }
-        ensures ok { OnOk result
-            (Appends (W.contents writer.old) (W.contents writer.new) (object_in self.now)) }
-        ensures err { OnErr result
-            (AppendsSome (W.contents writer.old) (W.contents writer.new) (object_in self.now)) }
+    // Writes the object.
+    fn write_object<W: Write>(&self, fti: &Fti, writer: &mut W) -> Result<(), Failed>
+        ensures ok { OnOk result (Appends (W.contents writer.old) (W.contents writer.new)
+            (object_in fti.now (held_of self.now))) }
+        ensures err { OnErr result (AppendsSome (W.contents writer.old) (W.contents writer.new)
+            (object_in fti.now (held_of self.now))) }
         ensures fails { OnErr result (W.failed writer.new ≡ true) }
-        ensures full { OnErr result (W.room writer.old < length (object_in self.now)) }
+        ensures full { OnErr result
+            (W.room writer.old < length (object_in fti.now (held_of self.now))) }
     {
-        for b in 0..self.fti.block_count() {
-            write_all(writer, self.part(b))?;
+        for b in 0..fti.block_count() {
+            write_all(writer, self.part(fti, b))?;
         }
         Ok(())
     }
@@ -111,12 +113,12 @@ impl Receiver {
     /// further, and asked again.
     pub fn take(&self, alloc: Global) -> Result<Answer, AllocError>
         ensures answer { (ds : List (List ℕ)) → Stands self.now ds
-            → IfOk result (λ a. IsAnswer self.now.identity ds (answer_value a)) }
+            → IfOk result (λ a. IsAnswer self.now.receiving.identity ds (answer_value a)) }
         ensures no_fault { IfOk result IsNoFault }
         ensures memory { (ds : List (List ℕ)) → Stands self.now ds
-            → OnErr result (LeaveNoneShort self.now.identity ds) }
+            → OnErr result (LeaveNoneShort self.now.receiving.identity ds) }
     {
-        let Some(store) = &self.store else {
+        let Some(store) = &self.receiving.store else {
             return Ok(Answer::Empty);
         };
         store.fti.is_valid();
@@ -126,7 +128,7 @@ impl Receiver {
                 have: short.have,
                 need: short.need,
             }),
-            None => Ok(Answer::Object(store.object(alloc)?)),
+            None => Ok(Answer::Object(self.blocks.object(alloc, &store.fti)?)),
         }
     }
 
@@ -136,29 +138,29 @@ impl Receiver {
     /// has room for the object. It has a beginning of it then.
     pub fn write_object<W: Write>(&self, writer: &mut W) -> Result<Option<u64>, Failed>
         ensures written { (ds : List (List ℕ)) → Stands self.now ds
-            → IfOk result (λ o. IfSome o (IsWrittenOf self.now.identity ds (W.contents writer.old)
-            (W.contents writer.new))) }
+            → IfOk result (λ o. IfSome o (IsWrittenOf self.now.receiving.identity ds
+            (W.contents writer.old) (W.contents writer.new))) }
         ensures short { (ds : List (List ℕ)) → Stands self.now ds
-            → IfOk result (λ o. IsNone o → ¬ LeaveNoneShort self.now.identity ds) }
+            → IfOk result (λ o. IsNone o → ¬ LeaveNoneShort self.now.receiving.identity ds) }
         ensures late { (ds : List (List ℕ)) → Stands self.now ds
-            → OnErr result (LeaveNoneShort self.now.identity ds) }
+            → OnErr result (LeaveNoneShort self.now.receiving.identity ds) }
         ensures front { (ds : List (List ℕ)) (object : List ℕ) → Stands self.now ds
-            → IsAnswer self.now.identity ds (Object object)
+            → IsAnswer self.now.receiving.identity ds (Object object)
             → OnErr result (AppendsSome (W.contents writer.old) (W.contents writer.new) object) }
         ensures nothing { result ≡ Ok None → writer.new ≡ writer.old }
         ensures fails { OnErr result (W.failed writer.new ≡ true) }
         ensures full { (ds : List (List ℕ)) (object : List ℕ) → Stands self.now ds
-            → IsAnswer self.now.identity ds (Object object)
+            → IsAnswer self.now.receiving.identity ds (Object object)
             → OnErr result (W.room writer.old < length object) }
     {
-        let Some(store) = &self.store else {
+        let Some(store) = &self.receiving.store else {
             return Ok(None);
         };
         store.fti.is_valid();
         if store.first_short().is_some() {
             return Ok(None);
         }
-        store.write(writer)?;
+        self.blocks.write_object(&store.fti, writer)?;
         Ok(Some(store.fti.transfer_length()))
     }
 }

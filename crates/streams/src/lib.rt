@@ -24,5 +24,5 @@ pub use device::Device;
 pub use filling::{fill, write_all};
 pub use io::{Failed, Read, Write};
 pub use memory::{MemoryFile, Pieces, Sink, copy_at};
-pub use offsets::{ReadAt, WriteAt, fill_at, has_length, write_all_at};
+pub use offsets::{ReadAt, WriteAt, fill_at, has_length, read_all_back, write_all_at};
 pub use whole::{ReadFault, read_to_end};

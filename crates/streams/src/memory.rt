@@ -238,4 +238,12 @@ impl WriteAt for Sink {
         self.bytes[from..from + count].copy_from_slice(&bytes[..count]);
         Ok(count)
     }
+
+    /// Gives as many bytes as come and as it takes at a time.
+    fn read_back(&mut self, offset: u64, buf: &mut [u8]) -> Result<usize, Failed> {
+        if self.failed {
+            return Err(Failed);
+        }
+        Ok(copy_at(&self.bytes, offset, self.most, buf))
+    }
 }

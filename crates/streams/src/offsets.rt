@@ -1,6 +1,7 @@
 //! Bytes that are read and written at any offset.
-ghost use Rattle.std.specs.Prelude.{◌≡◌, ◌<◌, ◌≤◌, ◌+◌, ◌^◌, ℕ, List, Option, Bool, true, false};
-ghost use Rattle.std.specs.Prelude.{length, take, IfOk, IfSome, OnOk, OnErr, IsTrue, ◌↔◌};
+ghost use Rattle.std.specs.Prelude.{◌≡◌, ◌<◌, ◌≤◌, ◌+◌, ◌^◌, ◌⊎◌, ◌↔◌, ℕ, List, Option, Bool};
+ghost use Rattle.std.specs.Prelude.{true, false, None, length, take, IfOk, IfSome, OnOk, OnErr};
+ghost use Rattle.std.specs.Prelude.{IsTrue};
 ghost use Rattle.lists.specs.Bytes.{AreBytes};
 ghost use Rattle.streams.specs.Offsets.{StandsAt, EndsBy, HasRoomAt, Overwrites, OverwritesSome};
 ghost use Rattle.streams.specs.Offsets.{Resizes};
@@ -50,6 +51,18 @@ pub trait WriteAt: Write {
         ensures bytes { IfOk result (λ n. Overwrites (Self.contents self.old)
             (Self.contents self.new) offset (take n bytes.now)) }
         ensures stays { OnErr result (Self.contents self.new ≡ Self.contents self.old) }
+        ensures fails { OnErr result (Self.failed self.new ≡ true) };
+
+    /// Reads bytes that were written, from `offset` on, into the front of `buf`, and answers how
+    /// many. Zero for a `buf` that isn't empty says that none stands there. An error makes the sink
+    /// fail for good.
+    fn read_back(&mut self, offset: u64, buf: &mut [u8]) -> Result<usize, Failed>
+        ensures bound { IfOk result (λ n. n ≤ length buf.old) }
+        ensures bytes { IfOk result (λ n.
+            StandsAt (Self.contents self.old) offset (take n buf.new)) }
+        ensures end { IfOk result (λ n.
+            n ≡ 0 → 0 < length buf.old → EndsBy (Self.contents self.old) offset) }
+        ensures stays { Self.contents self.new ≡ Self.contents self.old }
         ensures fails { OnErr result (Self.failed self.new ≡ true) };
 }
 
@@ -104,6 +117,27 @@ pub fn write_all_at<W: WriteAt>(writer: &mut W, offset: u64, bytes: &[u8]) -> Re
     let mut at = 0;
     while at < bytes.len() {
         at += writer.write_at(offset + at as u64, &bytes[at..])?;
+    }
+    Ok(())
+}
+
+/// Fills `buf` with bytes that were written, from an offset on, in as many pieces as the sink
+/// gives. `Failed` comes only where the sink has failed, or what it has isn't told.
+pub fn read_all_back<W: WriteAt>(sink: &mut W, offset: u64, buf: &mut [u8]) -> Result<(), Failed>
+    requires within { HasRoomAt (W.contents sink.old) offset (length buf.old) }
+    requires fits { offset + length buf.old < 2 ^ 64 }
+    ensures bytes { OnOk result (StandsAt (W.contents sink.old) offset buf.new) }
+    ensures stays { W.contents sink.new ≡ W.contents sink.old }
+    ensures fails { OnErr result
+        ((W.failed sink.new ≡ true) ⊎ (W.contents sink.old ≡ None)) }
+{
+    let mut at = 0;
+    while at < buf.len() {
+        let n = sink.read_back(offset + at as u64, &mut buf[at..])?;
+        if n == 0 {
+            return Err(Failed);
+        }
+        at += n;
     }
     Ok(())
 }

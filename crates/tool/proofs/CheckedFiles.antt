@@ -20,7 +20,7 @@ use Rattle.partition.proofs.Laws.{some_block}
 use Rattle.reception.specs.Symbols.{arrived_count}
 use Rattle.reception.specs.Reception.{counted, symbols}
 use Rattle.reception.specs.declared.scope.Identity.{Identity}
-use Rattle.file_check.specs.Files.{IsCertificateFault, IsFilesFault, IsNoCertificate, IsFrameFault, IsSurveyIn, IsSurveyOnSome, IsVerdictIn, Reliable, WhereTold}
+use Rattle.file_check.specs.Files.{IsCertificateFault, IsFilesFault, IsNoCertificate, IsFaultOfFrames, IsSurveyIn, IsSurveyOnSome, IsVerdictIn, Reliable, WhereTold}
 use Rattle.file_check.specs.declared.checking.FilesFault.{FilesFault}
 use Rattle.file_check.specs.declared.checking.FilesFault.TheVariants as files_fault
 use Rattle.request.specs.declared.requests.CheckRequest.{CheckRequest}
@@ -84,7 +84,7 @@ module _ (w : World) (r : CheckRequest) (session object text : Option (List ℕ)
     where_told : (Fact : List ℕ → List ℕ → List ℕ → Type 0) → WhereTold session object text Fact → Fact session_held.0 object_held.0 text_held.0
     where_told Fact h = h session_held.0 object_held.0 text_held.0 session_held.2 object_held.2 text_held.2
 
-  because_frame : (e : FrameFault) → IsFrameFault s (files_fault.Frame e) → (w.files ≡ None) ⊎ ((held : Files) × (w.files ≡ Some held)) → WhereTold session object text (λ x y z. IsFilesFault r.identity reliable x y z (files_fault.Frame e))
+  because_frame : (e : FrameFault) → IsFaultOfFrames s (files_fault.Frame e) → (w.files ≡ None) ⊎ ((held : Files) × (w.files ≡ Some held)) → WhereTold session object text (λ x y z. IsFilesFault r.identity reliable x y z (files_fault.Frame e))
       → Refuses w (Check r) [] (told_as.Frame e)
   because_frame e frame (inl none) h = (λ io. gives_session.fails (frame.1 io), inl (none, frame.0.0, frame.0.1))
   because_frame e frame (inr (held, told)) h =
@@ -113,7 +113,7 @@ module _ (w : World) (r : CheckRequest) (session object text : Option (List ℕ)
   because_object (inl none) h = inl none
   because_object (inr (held, told)) h = gives_object.fails (where_told held told (λ x y z. IsFilesFault r.identity reliable x y z files_fault.Object) h).2
 
-  because_files : (fault : FilesFault) → IsCertificateFault text t fault → IsFrameFault s fault → WhereTold session object text (λ x y z. IsFilesFault r.identity reliable x y z fault) → IsBecause w w (Check r) [] (fault_of r fault)
+  because_files : (fault : FilesFault) → IsCertificateFault text t fault → IsFaultOfFrames s fault → WhereTold session object text (λ x y z. IsFilesFault r.identity reliable x y z fault) → IsBecause w w (Check r) [] (fault_of r fault)
   because_files (files_fault.Frame e) certificate frame h = by_refused w w (Check r) [] (told_as.Frame e) (because_frame e frame (told_or_not w.files) h)
   because_files files_fault.Session certificate frame h = by_refused w w (Check r) [] (told_as.File r.session) (refl, because_session (told_or_not w.files) h)
   because_files files_fault.Object certificate frame h =
@@ -124,7 +124,7 @@ module _ (w : World) (r : CheckRequest) (session object text : Option (List ℕ)
       (inr (Opened session, gives_session.bytes, inr (value.0, value.1, inl (no_certificate w r.certificate text t gives_text e certificate))))
   because_files files_fault.NoMemory certificate frame h = tt
 
-  pub unchecked : (fault : FilesFault) → IsCertificateFault text t fault → IsFrameFault s fault → WhereTold session object text (λ x y z. IsFilesFault r.identity reliable x y z fault) → HasStopped w w (Check r) (fault_of r fault)
+  pub unchecked : (fault : FilesFault) → IsCertificateFault text t fault → IsFaultOfFrames s fault → WhereTold session object text (λ x y z. IsFilesFault r.identity reliable x y z fault) → HasStopped w w (Check r) (fault_of r fault)
   unchecked fault certificate frame h = stopped w (Check r) (fault_of r fault) (because_files fault certificate frame h)
 
   of_files : (Fact : List ℕ → List ℕ → List ℕ → Type 0) → (files : Option Files) → files ≡ w.files → WhereTold session object text Fact → OfFiles files r Fact

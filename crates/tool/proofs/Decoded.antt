@@ -14,7 +14,7 @@ use Rattle.host.specs.World.{Files, IsFree, World, Replaces, one_more}
 use Rattle.tool.specs.Inputs.{ASession, Datagrams, HasValue}
 use Rattle.tool.specs.Lines.{line_of, count_line, answer_text}
 use Rattle.tool.specs.Commands.{answer_status, object_of}
-use Rattle.tool.specs.Outcomes.{MayCreate, IsBecause, LeaveNothingOut}
+use Rattle.tool.specs.Outcomes.{MayCreate, IsBecause, AreCleanAndFull}
 use Rattle.reception.specs.declared.scope.Identity.{Identity}
 use Rattle.tool.specs.Doing.{text_of, HasMade}
 use Rattle.tool.specs.Decoding.{IsToldOf, IsWriteBroken}
@@ -69,10 +69,10 @@ module _ (old new : World) (r : DecodeRequest) (ds : List (List ℕ)) (held : Ha
   }
 
 -- datagrams that give an object leave nothing out
-pub object_of_all : (who : Identity) (ds : List (List ℕ)) (object : List ℕ) → IsAnswer who ds (value.Object object) → LeaveNothingOut who ds
+pub object_of_all : (who : Identity) (ds : List (List ℕ)) (object : List ℕ) → IsAnswer who ds (value.Object object) → AreCleanAndFull who ds
 object_of_all who ds object is = (is.readings, is.read, is.answers.0, is.answers.1, is.answers.3)
 
-may_create : (files : Option Files) (r : DecodeRequest) (ds : List (List ℕ)) → HasValue files (ASession r.session.now) (Datagrams ds) → LeaveNothingOut r.identity ds → MayCreate files (Decode r)
+may_create : (files : Option Files) (r : DecodeRequest) (ds : List (List ℕ)) → HasValue files (ASession r.session.now) (Datagrams ds) → AreCleanAndFull r.identity ds → MayCreate files (Decode r)
 may_create None r ds held all = tt
 may_create (Some files) r ds held all = (held.0, held.1, (ds, held.2, all))
 

@@ -27,7 +27,7 @@ module _ (r : FollowRequest) (receiver : Receiver) (taken : List (List ℕ)) (re
   unsaid_still is = silent.failed ∙ subst (AreSaid old b (complete_line read)) is first
 
   -- the object was written, and tells so
-  pub made : (new : World) (n : ℕ) → IsWritten r receiver.identity taken b w n → KeepsFiles w new
+  pub made : (new : World) (n : ℕ) → IsWritten r receiver.receiving.identity taken b w n → KeepsFiles w new
       → (object : List ℕ) × IsObjectMade r (heard_of receiver taken read) old new object × (n ≡ length object)
   made new n (object, is, (replaced, created, free), long) files = (
     object,
@@ -42,7 +42,7 @@ module _ (r : FollowRequest) (receiver : Receiver) (taken : List (List ℕ)) (re
     long,
   )
 
-  pub delivered : (new : World) (n : ℕ) → said ≡ true → IsWritten r receiver.identity taken b w n → Appends w.printed new.printed (count_line (codes "object") n (codes " bytes"))
+  pub delivered : (new : World) (n : ℕ) → said ≡ true → IsWritten r receiver.receiving.identity taken b w n → Appends w.printed new.printed (count_line (codes "object") n (codes " bytes"))
       → KeepsFiles w new → IsDelivered r (heard_of receiver taken read) old new 0
   delivered new n is written printed files =
       let whole = made new n written files in (
@@ -54,7 +54,7 @@ module _ (r : FollowRequest) (receiver : Receiver) (taken : List (List ℕ)) (re
       )
 
   -- written, and that isn't told
-  pub undelivered_unsaid : (new : World) (n : ℕ) → new.failed ≡ true → IsWritten r receiver.identity taken b w n → KeepsFiles w new
+  pub undelivered_unsaid : (new : World) (n : ℕ) → new.failed ≡ true → IsWritten r receiver.receiving.identity taken b w n → KeepsFiles w new
       → IsUndelivered r (heard_of receiver taken read) old new Unprinted
   undelivered_unsaid new n failed written files = let whole = made new n written files in (failed, inl (whole.0, whole.1))
 

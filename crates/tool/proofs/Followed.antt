@@ -172,7 +172,7 @@ module _ (old : World) (r : FollowRequest) (opened : Option (List ℕ)) (held : 
     unheard Unprinted why fails = record { failed = why; done = inl (files.files, files.created) }
 
   -- ---- the object
-  module _ (mid : World) (files : KeepsFiles old mid) (receiver : Receiver) (same : receiver.identity ≡ r.identity) (read : ℕ) (said : Bool) (made : HasMadeUp receiver opened old mid read said) where
+  module _ (mid : World) (files : KeepsFiles old mid) (receiver : Receiver) (same : receiver.receiving.identity ≡ r.identity) (read : ℕ) (said : Bool) (made : HasMadeUp receiver opened old mid read said) where
     pub taken_are : List (List ℕ)
     taken_are = made.1
 
@@ -240,8 +240,8 @@ module _ (old : World) (r : FollowRequest) (opened : Option (List ℕ)) (held : 
         unwritten_so fault (inr unmade) = by_unmade old new (Follow r) (made.2 ++ complete_line read) fault (unmade_before old mid new (Follow r) files fault unmade)
 
   -- ---- what lacks
-  module _ (mid : World) (files : KeepsFiles old mid) (receiver : Receiver) (same : receiver.identity ≡ r.identity) (heard : HasHeardAll receiver opened old mid true) where
-    no_object : (object : List ℕ) → IsAnswer receiver.identity heard.2 (value.Object object) → ⊥
+  module _ (mid : World) (files : KeepsFiles old mid) (receiver : Receiver) (same : receiver.receiving.identity ≡ r.identity) (heard : HasHeardAll receiver opened old mid true) where
+    no_object : (object : List ℕ) → IsAnswer receiver.receiving.identity heard.2 (value.Object object) → ⊥
     no_object object h =
         let (f, clean, solvable, full, fits) = h.answers in
         heard.5 record { readings = h.readings; read = h.read; fti = f; known = clean.some; full = full }
@@ -249,7 +249,7 @@ module _ (old : World) (r : FollowRequest) (opened : Option (List ℕ)) (held : 
     heard_here : IsHeard r.identity opened heard.0 heard.1 heard.2 heard.3
     heard_here = subst (λ (who : Identity). IsHeard who opened heard.0 heard.1 heard.2 heard.3) same heard.6
 
-    lacks_so : (new : World) → KeepsFiles mid new → (answer : Answer) (status : ℕ) → IsAnswer receiver.identity heard.2 (answer_value answer) → object_of (answer_value answer) ≡ None
+    lacks_so : (new : World) → KeepsFiles mid new → (answer : Answer) (status : ℕ) → IsAnswer receiver.receiving.identity heard.2 (answer_value answer) → object_of (answer_value answer) ≡ None
         → Ends (answer_value answer) heard.0 → ends_text (answer_value answer) heard.1 ≡ line_of (answer_text (answer_value answer))
         → Appends mid.printed new.printed (line_of (answer_text (answer_value answer))) → status ≡ answer_status (answer_value answer) → IsDone old new (Follow r) status
     lacks_so new kept answer status is none ends text printed done = record {
@@ -274,7 +274,7 @@ module _ (old : World) (r : FollowRequest) (opened : Option (List ℕ)) (held : 
       is_status = done;
     }
 
-    pub is_lack : (new : World) → KeepsFiles mid new → (status : ℕ) → TellsAnswer receiver.identity heard.2 mid new status → IsDone old new (Follow r) status
+    pub is_lack : (new : World) → KeepsFiles mid new → (status : ℕ) → TellsAnswer receiver.receiving.identity heard.2 mid new status → IsDone old new (Follow r) status
     is_lack new kept status (Empty, is, sound, printed, done) = lacks_so new kept Empty status is refl heard.7 refl printed done
     is_lack new kept status (Missing b have need, is, sound, printed, done) = lacks_so new kept (Missing b have need) status is refl heard.7 refl printed done
     is_lack new kept status (Object object, is, sound, printed, done) = absurd (no_object object.items is)

@@ -39,8 +39,8 @@ stopped_by fault false = Unprinted
 abbrev pub HasMadeUp : Receiver → Option (List ℕ) → World → World → ℕ → Bool → Type 0
 HasMadeUp receiver opened old new read said =
     (left : Option (List ℕ)) × (taken : List (List ℕ)) × (lines : List ℕ) × Stands receiver taken
-    × LeaveNoneShort receiver.identity taken
-    × IsHeard receiver.identity opened left read taken lines
+    × LeaveNoneShort receiver.receiving.identity taken
+    × IsHeard receiver.receiving.identity opened left read taken lines
     × AreSaid old new lines said
 
 -- all datagrams were read, and leave some block short
@@ -48,8 +48,8 @@ abbrev pub HasHeardAll : Receiver → Option (List ℕ) → World → World → 
 HasHeardAll receiver opened old new said =
     (left : Option (List ℕ)) × (read : ℕ) × (taken : List (List ℕ)) × (lines : List ℕ)
     × Stands receiver taken
-    × (¬ LeaveNoneShort receiver.identity taken)
-    × IsHeard receiver.identity opened left read taken lines × IsAtEnd left
+    × (¬ LeaveNoneShort receiver.receiving.identity taken)
+    × IsHeard receiver.receiving.identity opened left read taken lines × IsAtEnd left
     × AreSaid old new lines said
 
 -- some datagrams were read, and their lines printed
@@ -100,7 +100,8 @@ pub record Heard : Type 0 where
   pub read : ℕ
 
 abbrev pub heard_of : Receiver → List (List ℕ) → ℕ → Heard
-heard_of receiver taken read = record { identity = receiver.identity; taken = taken; read = read }
+heard_of receiver taken read =
+    record { identity = receiver.receiving.identity; taken = taken; read = read }
 
 -- the object was written, but for what is printed last
 abbrev pub IsObjectMade : FollowRequest → Heard → World → World → List ℕ → Type 0

@@ -33,8 +33,8 @@ IsOutput old new None (Some bytes) = ⊥
 IsOutput old new name None = (new.files ≡ old.files) × (new.created ≡ old.created)
 
 -- no datagram has a fault, a carrier came, and no block is short
-abbrev pub LeaveNothingOut : Identity → List (List ℕ) → Type 0
-LeaveNothingOut who datagrams = (readings : List Reading) × ReadAll datagrams readings × (f : Fti)
+abbrev pub AreCleanAndFull : Identity → List (List ℕ) → Type 0
+AreCleanAndFull who datagrams = (readings : List Reading) × ReadAll datagrams readings × (f : Fti)
     × IsClean (reception_of who readings) f × AllFull f (reception_of who readings).symbols
 
 -- the inputs give an output
@@ -52,7 +52,7 @@ MayCreate files (Show r) = ⊥
 MayCreate files (Twin r) = GivesOutput files (Twin r)
 MayCreate files (Decode r) = Holds files r.session.now
     (λ bytes. (datagrams : List (List ℕ)) × IsFramed datagrams bytes
-    × LeaveNothingOut r.identity datagrams)
+    × AreCleanAndFull r.identity datagrams)
 MayCreate files (Follow r) =
     (opened : Option (List ℕ)) × HasValue files (AStream r.session.now) (Opened opened)
     × (left : Option (List ℕ)) × (read : ℕ) × (taken : List (List ℕ)) × (lines : List ℕ)

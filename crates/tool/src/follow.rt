@@ -84,13 +84,13 @@ fn listen<'a, R: Read, H: Host>(
     receiver: &mut Receiver,
 ) -> Result<Heard, Stop<'a>>
     requires { Stands receiver.old [] }
-    ensures identity { receiver.new.identity ≡ receiver.old.identity }
+    ensures identity { receiver.new.receiving.identity ≡ receiver.old.receiving.identity }
     ensures complete { IfOk result (λ heard. IfSome heard.complete (λ read.
         HasMadeUp receiver.new (R.remaining frames.old) (H.world host.old) (H.world host.new)
         read heard.said)) }
     ensures end { IfOk result (λ heard. IfNone heard.complete (HasHeardAll receiver.new
         (R.remaining frames.old) (H.world host.old) (H.world host.new) heard.said)) }
-    ensures fault { IfErr result (IsUnheard receiver.old.identity
+    ensures fault { IfErr result (IsUnheard receiver.old.receiving.identity
         (R.remaining frames.old) (H.world host.old) (H.world host.new)) }
     ensures unsound { IfErr result (λ stop.
         stop ≡ ByFault (Frame FrameFault.Io) → R.sound frames.old ≡ false) }
@@ -198,11 +198,11 @@ fn deliver<'a, H: Host>(
 ) -> Result<u8, Stop<'a>>
     requires { said ≡ false → (H.world host.old).failed ≡ true }
     ensures ok { (taken : List (List ℕ)) → Stands receiver.now taken
-        → LeaveNoneShort receiver.now.identity taken
+        → LeaveNoneShort receiver.now.receiving.identity taken
         → IfOk result (IsDelivered request.now (heard_of receiver.now taken count)
         (H.world host.old) (H.world host.new)) }
     ensures fault { (taken : List (List ℕ)) → Stands receiver.now taken
-        → LeaveNoneShort receiver.now.identity taken
+        → LeaveNoneShort receiver.now.receiving.identity taken
         → IfErr result (IsUndelivered request.now (heard_of receiver.now taken count)
         (H.world host.old) (H.world host.new)) }
     ensures said { OnOk result (said ≡ true) }
@@ -240,8 +240,8 @@ fn write_object<'a, H: Host>(
     receiver: &Receiver,
 ) -> Result<u64, Fault<'a>>
     ensures made { (taken : List (List ℕ)) → Stands receiver.now taken
-        → LeaveNoneShort receiver.now.identity taken
-        → IfOk result (IsWritten request.now receiver.now.identity taken
+        → LeaveNoneShort receiver.now.receiving.identity taken
+        → IfOk result (IsWritten request.now receiver.now.receiving.identity taken
         (H.world host.old) (H.world host.new)) }
     ensures fault { IfErr result (IsUnwritten (Follow request.now)
         (H.world host.old) (H.world host.new)) }
@@ -261,12 +261,12 @@ fn write_object<'a, H: Host>(
 // Answers the object's length in bytes.
 fn write_taken<'a, W: Write>(receiver: &Receiver, writer: &mut W) -> Result<u64, Unwritten<'a>>
     ensures written { (taken : List (List ℕ)) → Stands receiver.now taken
-        → LeaveNoneShort receiver.now.identity taken
-        → IfOk result (IsWrittenOf receiver.now.identity taken
+        → LeaveNoneShort receiver.now.receiving.identity taken
+        → IfOk result (IsWrittenOf receiver.now.receiving.identity taken
         (W.contents writer.old) (W.contents writer.new)) }
     ensures writing { IfErr result (λ e. e ≡ Unwritten.Writing) }
     ensures fails { (taken : List (List ℕ)) → Stands receiver.now taken
-        → LeaveNoneShort receiver.now.identity taken
+        → LeaveNoneShort receiver.now.receiving.identity taken
         → OnErr result (W.failed writer.new ≡ true) }
 {
     match receiver.write_object(writer) {
@@ -279,7 +279,7 @@ fn write_taken<'a, W: Write>(receiver: &Receiver, writer: &mut W) -> Result<u64,
 // Prints what lacks, and answers the status.
 fn tell_lack<'a, H: Host>(alloc: Global, host: &mut H, receiver: &Receiver) -> Result<u8, Stop<'a>>
     ensures ok { (taken : List (List ℕ)) → Stands receiver.now taken
-        → IfOk result (TellsAnswer receiver.now.identity taken
+        → IfOk result (TellsAnswer receiver.now.receiving.identity taken
         (H.world host.old) (H.world host.new)) }
     ensures fault { IfErr result (IsUnsaid (H.world host.old) (H.world host.new)) }
     ensures files { KeepsFiles (H.world host.old) (H.world host.new) }

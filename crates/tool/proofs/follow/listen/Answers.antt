@@ -13,9 +13,9 @@ pub loop-datagram-init : goal.loop-datagram-init
 loop-datagram-init g c =
     let opened = g.R.Read.remaining c.args.frames.now in
     let w = g.H.Host.world c.args.host.now in
-    let none = none_heard c.args.receiver.now.identity opened w.printed (nothing_consumed opened) in
+    let none = none_heard c.args.receiver.now.receiving.identity opened w.printed (nothing_consumed opened) in
     record {
-      heard = ([], [], c.requires, no_datagrams c.args.receiver.now.identity, none.0, none.1);
+      heard = ([], [], c.requires, no_datagrams c.args.receiver.now.receiving.identity, none.0, none.1);
       identity = refl;
       stays = refl;
       files = keeps_all w;
@@ -24,7 +24,7 @@ loop-datagram-init g c =
 pub returns-in-Err-clause-fault : goal.returns-in-Err-clause-fault
 returns-in-Err-clause-fault g c =
     let heard = c.loop-datagram.invariant.heard in
-    let who = c.args.receiver.now.identity in
+    let who = c.args.receiver.now.receiving.identity in
     let opened = g.R.Read.remaining c.args.frames.now in
     let old = g.H.Host.world c.args.host.now in
     let mid = g.H.Host.world c.loop-datagram.host in
@@ -39,7 +39,7 @@ returns-in-Ok-Complete-clause-complete g c =
     let one = rw c.in-Ok-Some.field-0-is at c.in-Ok-Some.ensures.some in
     let brief = rw c.in-Ok-Some.field-0-is at c.in-Ok-Some.ensures.short in
     let stands = rw c.as_slice.ensures.value at (c.in-Ok-Complete.ensures.accepted heard.0 heard.2) in
-    let who = c.args.receiver.now.identity in
+    let who = c.args.receiver.now.receiving.identity in
     let same = c.loop-datagram.invariant.identity in
     let identity = c.feed.ensures.identity ∙ same in
     let full = rw (c.in-Ok-Complete.field-0-is, c.as_slice.ensures.value, same) at (c.in-Ok-Complete.ensures.progress heard.0 heard.2) in
@@ -62,7 +62,7 @@ returns-in-Ok-Complete-clause-complete g c =
 pub returns-in-Err-tell_refusal : goal.returns-in-Err-tell_refusal
 returns-in-Err-tell_refusal g c =
     let heard = c.loop-datagram.invariant.heard in
-    let who = c.args.receiver.now.identity in
+    let who = c.args.receiver.now.receiving.identity in
     let opened = g.R.Read.remaining c.args.frames.now in
     let old = g.H.Host.world c.args.host.now in
     let mid = g.H.Host.world c.tell_refusal.new.host in
@@ -91,7 +91,7 @@ loop-datagram-preserved g c =
     let b = g.R.Read.remaining c.next_datagram.new.frames in
     let count = c.loop-datagram.count in
     let n = c.in-Some.read in
-    let who = c.args.receiver.now.identity in
+    let who = c.args.receiver.now.receiving.identity in
     let same = c.loop-datagram.invariant.identity in
     let stays = c.next_datagram.ensures.stays ∙ c.loop-datagram.invariant.stays in
     let old = g.H.Host.world c.args.host.now in

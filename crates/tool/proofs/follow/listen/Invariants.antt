@@ -9,10 +9,10 @@ use Rattle.tool.proofs.follow.listen.Given as goal
 abbrev pub invariant-loop-datagram : goal.invariant-loop-datagram
 invariant-loop-datagram g l = record {
   heard :
-      (taken : List (List ℕ)) × (lines : List ℕ) × Stands l.receiver taken × (¬ LeaveNoneShort l.initial.receiver.identity taken)
-      × IsHeard l.initial.receiver.identity (g.R.Read.remaining l.initial.frames) (g.R.Read.remaining l.frames) l.count taken lines
+      (taken : List (List ℕ)) × (lines : List ℕ) × Stands l.receiver taken × (¬ LeaveNoneShort l.initial.receiver.receiving.identity taken)
+      × IsHeard l.initial.receiver.receiving.identity (g.R.Read.remaining l.initial.frames) (g.R.Read.remaining l.frames) l.count taken lines
       × AreSaid (g.H.Host.world l.initial.host) (g.H.Host.world l.host) lines l.said;
-  identity : l.receiver.identity ≡ l.initial.receiver.identity;
+  identity : l.receiver.receiving.identity ≡ l.initial.receiver.receiving.identity;
   stays : g.R.Read.sound l.frames ≡ g.R.Read.sound l.initial.frames;
   files : KeepsFiles (g.H.Host.world l.initial.host) (g.H.Host.world l.host);
 }

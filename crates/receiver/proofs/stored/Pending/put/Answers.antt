@@ -1,28 +1,37 @@
-use Rattle.std.specs.Prelude.{option_map}
-use Rattle.std.proofs.Common.{◌≡◌, ◌∙◌, List, ℕ, Some, None, sym, ap}
-use Rattle.std.specs.Borrow.{Bor}
-use Rattle.std.specs.Global.{Vec}
-use Rattle.std.specs.Cmp.Lexicographic.{same_text}
-use Rattle.decoder.specs.Arrivals.{arrived_at}
-use Rattle.receiver.specs.Stored.{arrived_in}
-use Rattle.decoder.specs.declared.arrivals.Arrival.{Arrival}
-use Rattle.receiver.proofs.Put.{pending_same, pending_more}
+use Rattle.std.proofs.Common.{◌≡◌, ◌∙◌, Some, List, ℕ, Option, ap, rules, inr}
+use Rattle.partition.specs.Fti.{Fti}
+use Rattle.decoder.proofs.Kept.{with_same}
+use Rattle.receiver.specs.Bytes.{Becomes}
+use Rattle.receiver.specs.Putting.{IsPutFault, UnlessFailed}
+use Rattle.receiver.specs.Stored.{IsPending}
+use Rattle.receiver.proofs.Told.{becomes_same, unless}
 use Rattle.receiver.proofs.stored.Pending.put.Goals as goal
 
-pub returns-then-eq-clause-waits : goal.returns-then-eq-clause-waits
-returns-then-eq-clause-waits c = λ _.
-    let p = c.args.self.now in
+pub returns-in_err-compare-clause-outcome : goal.returns-in_err-compare-clause-outcome
+returns-in_err-compare-clause-outcome g c = λ x at told h.
+    let f = c.args.fti.now in
     let k = c.args.packet.now in
-    let stands : arrived_in c.args.self.now c.args.packet.now.esi ≡ Some c.args.packet.now.symbol.now =
-    ap (λ (l : List (Arrival (Vec ℕ))). arrived_at (λ v. v.items) l c.args.packet.now.esi) (sym c.deref.ensures.value) ∙ sym c.symbol_at.ensures ∙ ap (option_map (λ (s : Bor (List ℕ)). s.now)) c.in-Some.is
-    ∙ ap Some (same_text c.in-Some.symbol.now k.symbol.now (sym c.if-eq.true ∙ c.eq.ensures)) in
-    pending_same c.args.fti.now k.sbn p (arrived_in p) k.esi k.symbol.now stands c.requires.pending
+    let e = c.in_err-compare.field-0.0 in
+    let now = becomes_same x _ k.sbn (λ y. IsPending f k.sbn y c.args.self.now at) (ap (λ (t : Fti → Option (ℕ → List ℕ)). t f) c.in_err-compare.ensures.stays ∙ told) h in
+    let d : UnlessFailed c.in_err-compare.field-0.0 (IsPutFault f k.sbn at k.esi k.symbol.now c.in_err-compare.field-0.0
+    × Becomes x (g.B.BlockBytes.kept c.compare.new.bytes f) k.sbn (λ y. IsPending f k.sbn y c.args.self.now at)) =
+    unless c.in_err-compare.field-0.0 _ _ (λ fault. (fault, now)) (c.in_err-compare.ensures.outcome x at told h).1 in
+    (search rules, search rules)
 
-pub returns-then-len-self-clause-waits : goal.returns-then-len-self-clause-waits
-returns-then-len-self-clause-waits c = λ _.
-    let p = c.args.self.now in
+pub returns-in-Some-clause-outcome : goal.returns-in-Some-clause-outcome
+returns-in-Some-clause-outcome g c = λ x at told h.
+    let f = c.args.fti.now in
     let k = c.args.packet.now in
-    let free : arrived_in c.args.self.now c.args.packet.now.esi ≡ None =
-    ap (λ (l : List (Arrival (Vec ℕ))). arrived_at (λ v. v.items) l c.args.packet.now.esi) (sym c.deref.ensures.value) ∙ sym c.symbol_at.ensures ∙ ap (option_map (λ (s : Bor (List ℕ)). s.now)) c.in-None.is in
-    let w = c.in-Ok.ensures.kept in
-    pending_more c.args.fti.now k.sbn p c.keep.new.self (arrived_in p) k.esi k.symbol.now w.0 c.requires.given.esi free w.1 w.2 c.in-Ok.ensures.need w.3 c.requires.pending
+    let stands : at k.esi ≡ Some k.symbol.now = (c.in_ok-compare.ensures.outcome x at told h).0 in
+    let now = becomes_same x _ k.sbn (λ y. IsPending f k.sbn y c.args.self.now at) (ap (λ (t : Fti → Option (ℕ → List ℕ)). t f) c.in_ok-compare.ensures.stays ∙ told) h in
+    ((inr stands, rw (with_same at k.esi k.symbol.now stands) now), tt)
+
+pub returns-in_err-keep-clause-outcome : goal.returns-in_err-keep-clause-outcome
+returns-in_err-keep-clause-outcome g c = λ x at told h.
+    let d = (c.in_err-keep.ensures.outcome x at told h).1 in
+    (search rules, search rules)
+
+pub returns-in_err-solved-clause-outcome : goal.returns-in_err-solved-clause-outcome
+returns-in_err-solved-clause-outcome g c = λ x at told h.
+    let d = (c.in_err-solved.ensures.outcome x at told h).1 in
+    (search rules, search rules)

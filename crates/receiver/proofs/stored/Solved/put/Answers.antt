@@ -1,88 +1,94 @@
-use Rattle.std.specs.Prelude.{is_some, Option, IsTrue, Bool}
-use Rattle.std.proofs.Common.{◌≡◌, ◌∙◌, ◌<◌, ℕ, true, false, List, Some, None, length, refl, sym, ap, arith, inl, inr}
+use Rattle.std.specs.Prelude.{IsTrue, Bool, length}
+use Rattle.std.proofs.Common.{◌≡◌, ◌∙◌, ◌*◌, ◌<◌, ℕ, List, Option, true, false, refl, sym, ap, subst, arith, rules, vec_len}
 use Rattle.std.proofs.lemmas.List.{length-set, get_or_read}
+use Rattle.partition.specs.Fti.{Fti, source_count}
 use Rattle.partition.proofs.Laws.{counts}
-use Rattle.decoder.specs.Arrivals.{seen_at, with_esi}
-use Rattle.receiver.specs.Putting.{MayStand, IsClash}
-use Rattle.decoder.proofs.Kept.{with_here, with_other}
-use Rattle.receiver.proofs.Put.{seen_no_fewer, seen_with, enough_seen, enough_more}
-use Rattle.decoder.proofs.GivenSymbols.{gives_one, gives_arrived, rows_with, unexplained_with}
+use Rattle.decoder.specs.Arrivals.{seen_at}
+use Rattle.decoder.specs.Giving.{GivesSymbol}
+use Rattle.receiver.proofs.Seen.{seen_no_fewer, given_may, given_now, seen_clash, unseen_no_code}
+use Rattle.receiver.proofs.Told.{told_bytes, becomes_same, all_of}
 use Rattle.receiver.proofs.stored.Solved.put.Goals as goal
 
+pub room-requires-clause-few : goal.room-requires-clause-few
+room-requires-clause-few g c =
+    let few = counts c.args.fti.now c.is_valid.ensures c.args.packet.now.sbn c.requires.given.number in
+    omega (arith, few.1, c.requires.of.need)
+
 pub invariant_of-self : goal.invariant_of-self
-invariant_of-self c = record {
-  enough = seen_no_fewer c.args.self.now.seen.items c.from-esi.result c.args.self.now.rows.count (let e = c.from-esi.ensures in let l = c.requires.esis in let h = c.requires.esi in omega (arith, e, l, h)) c.args.self.now.enough;
+invariant_of-self g c = record {
+  enough = seen_no_fewer c.args.self.now.seen.items c.from-place.result c.args.self.now.need (omega (arith, c.from-place.ensures, c.requires.of.esis, c.requires.given.esi)) c.args.self.now.enough;
 }
-
-pub returns-then-given-clause-put : goal.returns-then-given-clause-put
-returns-then-given-clause-put c = λ at h.
-    let k = c.args.packet.now in
-    let seen = c.args.self.now.seen.items in
-    let f = c.args.fti.now in
-    let e = c.from-esi.ensures in
-    let few = counts f c.is_valid.ensures k.sbn c.requires.number in
-    let gives = c.in-Ok.ensures.0 (c.if-given.true) in
-    record {
-      sizes = h.sizes;
-      rows = rows_with f k.sbn at c.args.self.now.rows.bytes.items h.rows k.esi k.symbol.now (with_esi at k.esi k.symbol.now) (with_here at k.esi k.esi k.symbol.now refl)
-          (λ i ne. with_other at k.esi i k.symbol.now (λ x. ne (sym x))) few.1 gives;
-      esis = length-set seen c.from-esi.result true ∙ h.esis;
-      seen = λ j. seen_with at seen c.from-esi.result k.symbol.now (let l = c.requires.esis in let lj = c.requires.esi in omega (arith, e, l, lj)) h.seen j
-          ∙ ap (λ (x : ℕ). is_some (with_esi at x k.symbol.now j)) e;
-    }
-
-may_stand : (at : ℕ → Option (List ℕ)) (j : ℕ) (y : List ℕ) (o : Option (List ℕ)) → at j ≡ o → ((z : List ℕ) → at j ≡ Some z → z ≡ y) → MayStand at j y
-may_stand at j y None is one = inl is
-may_stand at j y (Some z) is one = inr (is ∙ ap Some (one z is))
-
-pub returns-then-given-clause-may : goal.returns-then-given-clause-may
-returns-then-given-clause-may c = λ at h lengths.
-    let k = c.args.packet.now in
-    let f = c.args.fti.now in
-    let few = counts f c.is_valid.ensures k.sbn c.requires.number in
-    let rows = c.args.self.now.rows.bytes.items in
-    let gives = c.in-Ok.ensures.0 (c.if-given.true) in
-    may_stand at k.esi k.symbol.now (at k.esi) refl
-    (λ z some. gives_one f k.sbn few.1 rows k.esi z k.symbol.now (lengths k.esi z some) c.requires.symbol (gives_arrived f k.sbn at rows h.rows k.esi z some) gives)
 
 not_given : (v : Bool) → v ≡ false → IsTrue v → ⊥
 not_given v is given = absurd (cc)
 
-clashes : (at : ℕ → Option (List ℕ)) (j : ℕ) (y : List ℕ) (o : Option (List ℕ)) → at j ≡ o → is_some o ≡ true → (at j ≡ Some y → ⊥) → IsClash at j y
-clashes at j y None is some other = absurd (cc)
-clashes at j y (Some z) is some other = record { other = z; stands = is; differs = λ e. other (is ∙ ap Some e) }
-
-pub returns-then-index-clause-fault : goal.returns-then-index-clause-fault
-returns-then-index-clause-fault c = λ at h.
-    let k = c.args.packet.now in
+pub returns-then-given-clause-outcome : goal.returns-then-given-clause-outcome
+returns-then-given-clause-outcome g c = λ x at told h lengths.
     let f = c.args.fti.now in
-    let e = c.from-esi.ensures in
-    let seen = c.args.self.now.seen.items in
-    let lj : c.from-esi.result < length seen = (let l = c.requires.esis in let lj = c.requires.esi in omega (arith, e, l, lj)) in
-    let read = get_or_read seen c.from-esi.result c.index.result.now lj c.index.ensures false in
-    let some : is_some (at k.esi) ≡ true = sym (h.seen k.esi) ∙ ap (seen_at seen) (sym e) ∙ sym read ∙ c.if-index.true in
-    clashes at k.esi k.symbol.now (at k.esi) refl some
-    (λ here. not_given c.in-Ok.given c.if-given.false (c.in-Ok.ensures.1 (gives_arrived f k.sbn at c.args.self.now.rows.bytes.items h.rows k.esi k.symbol.now here)))
-
-none_of : (o : Option (List ℕ)) → is_some o ≡ false → o ≡ None
-none_of None e = refl
-none_of (Some y) e = absurd (cc)
-
-pub returns-else-index-clause-fault : goal.returns-else-index-clause-fault
-returns-else-index-clause-fault c = λ at h.
     let k = c.args.packet.now in
+    let s = c.args.self.now in
+    let rows = c.read.new.into in
+    let few = counts f c.is_valid.ensures k.sbn c.requires.given.number in
+    let size : c.from-size.result ≡ f.symbol_length = c.from-size.ensures ∙ c.symbol_length.ensures.value in
+    let all : length c.in-Ok.rows.bytes.items ≡ source_count f k.sbn * f.symbol_length =
+    c.in-Ok.rows.whole ∙ ap (λ (n : ℕ). n * c.in-Ok.rows.size) (c.in-Ok.ensures.sizes.rows_are ∙ c.requires.of.need) ∙ ap (λ (n : ℕ). source_count f k.sbn * n) (c.in-Ok.ensures.sizes.bytes_are ∙ size) in
+    let same : length rows ≡ vec_len c.in-Ok.rows.bytes = c.in-Ok-read.ensures.len ∙ c.deref_mut.ensures.len in
+    let many : vec_len c.in-Ok.rows.bytes ≡ length c.in-Ok.rows.bytes.items = search rules in
+    let bytes = told_bytes _ x k.sbn 0 rows told c.in-Ok-read.ensures.bytes in
+    let gives : GivesSymbol f k.sbn rows k.esi k.symbol.now = subst (λ (l : List ℕ). GivesSymbol f k.sbn l k.esi k.symbol.now) (all_of rows _ _ same) (c.in-Ok-gives.ensures.0 c.if-given.true) in (
+      (
+        given_may f k.sbn (x k.sbn) s at h rows (same ∙ many ∙ all) bytes few.1 k.esi k.symbol.now lengths c.requires.given.symbol gives,
+        becomes_same x _ k.sbn _ (ap (λ (t : Fti → Option (ℕ → List ℕ)). t f) c.in-Ok-read.ensures.stays ∙ told)
+            (given_now f k.sbn (x k.sbn) s at h rows (same ∙ many ∙ all) bytes few.1 k.esi k.symbol.now _ c.from-place.result
+            (record { need = c.requires.of.need; esis = length-set s.seen.items c.from-place.result true ∙ c.requires.of.esis }) refl c.from-place.ensures c.requires.given.esi gives),
+      ),
+      tt,
+    )
+
+pub returns-then-index-clause-outcome : goal.returns-then-index-clause-outcome
+returns-then-index-clause-outcome g c = λ x at told h lengths.
     let f = c.args.fti.now in
-    let e = c.from-esi.ensures in
-    let seen = c.args.self.now.seen.items in
-    let rows = c.args.self.now.rows in
-    let few = counts f c.is_valid.ensures k.sbn c.requires.number in
-    let lj : c.from-esi.result < length seen = (let l = c.requires.esis in let lj = c.requires.esi in omega (arith, e, l, lj)) in
-    let read = get_or_read seen c.from-esi.result c.index.result.now lj c.index.ensures false in
-    let free : at k.esi ≡ None = none_of (at k.esi) (sym (h.seen k.esi) ∙ ap (seen_at seen) (sym e) ∙ sym read ∙ c.if-index.false) in
-    let enough = enough_seen f k.sbn at seen h.esis h.seen (let r = h.sizes.rows_are in let m = c.args.self.now.enough in omega (arith, r, m)) in
-    record {
-      free = free;
-      enough = enough_more f k.sbn at k.esi k.symbol.now c.requires.esi free enough;
-      unexplained = unexplained_with f k.sbn at rows.bytes.items h.rows k.esi k.symbol.now (with_esi at k.esi k.symbol.now) (with_here at k.esi k.esi k.symbol.now refl)
-          (λ i ne. with_other at k.esi i k.symbol.now (λ x. ne (sym x))) free few.2 enough (λ gives. not_given c.in-Ok.given c.if-given.false (c.in-Ok.ensures.1 gives));
-    }
+    let k = c.args.packet.now in
+    let s = c.args.self.now in
+    let rows = c.read.new.into in
+    let few = counts f c.is_valid.ensures k.sbn c.requires.given.number in
+    let size : c.from-size.result ≡ f.symbol_length = c.from-size.ensures ∙ c.symbol_length.ensures.value in
+    let all : length c.in-Ok.rows.bytes.items ≡ source_count f k.sbn * f.symbol_length =
+    c.in-Ok.rows.whole ∙ ap (λ (n : ℕ). n * c.in-Ok.rows.size) (c.in-Ok.ensures.sizes.rows_are ∙ c.requires.of.need) ∙ ap (λ (n : ℕ). source_count f k.sbn * n) (c.in-Ok.ensures.sizes.bytes_are ∙ size) in
+    let same : length rows ≡ vec_len c.in-Ok.rows.bytes = c.in-Ok-read.ensures.len ∙ c.deref_mut.ensures.len in
+    let many : vec_len c.in-Ok.rows.bytes ≡ length c.in-Ok.rows.bytes.items = search rules in
+    let bytes = told_bytes _ x k.sbn 0 rows told c.in-Ok-read.ensures.bytes in
+    let other : GivesSymbol f k.sbn rows k.esi k.symbol.now → ⊥ =
+    λ gives. not_given c.in-Ok-gives.given c.if-given.false (c.in-Ok-gives.ensures.1 (subst (λ (l : List ℕ). GivesSymbol f k.sbn l k.esi k.symbol.now) (sym (all_of rows _ _ same)) gives)) in
+    let place : c.from-place.result < length s.seen.items = omega (arith, c.from-place.ensures, c.requires.of.esis, c.requires.given.esi) in
+    let seen : seen_at s.seen.items k.esi ≡ true = ap (seen_at s.seen.items) (sym c.from-place.ensures) ∙ sym (get_or_read s.seen.items c.from-place.result c.index.result.now place c.index.ensures false) ∙ c.if-index.true in (
+      tt,
+      (
+        seen_clash f k.sbn (x k.sbn) s at h rows (same ∙ many ∙ all) bytes few.1 k.esi k.symbol.now seen other,
+        becomes_same x _ k.sbn _ (ap (λ (t : Fti → Option (ℕ → List ℕ)). t f) c.in-Ok-read.ensures.stays ∙ told) h,
+      ),
+    )
+
+pub returns-else-index-clause-outcome : goal.returns-else-index-clause-outcome
+returns-else-index-clause-outcome g c = λ x at told h lengths.
+    let f = c.args.fti.now in
+    let k = c.args.packet.now in
+    let s = c.args.self.now in
+    let rows = c.read.new.into in
+    let few = counts f c.is_valid.ensures k.sbn c.requires.given.number in
+    let size : c.from-size.result ≡ f.symbol_length = c.from-size.ensures ∙ c.symbol_length.ensures.value in
+    let all : length c.in-Ok.rows.bytes.items ≡ source_count f k.sbn * f.symbol_length =
+    c.in-Ok.rows.whole ∙ ap (λ (n : ℕ). n * c.in-Ok.rows.size) (c.in-Ok.ensures.sizes.rows_are ∙ c.requires.of.need) ∙ ap (λ (n : ℕ). source_count f k.sbn * n) (c.in-Ok.ensures.sizes.bytes_are ∙ size) in
+    let same : length rows ≡ vec_len c.in-Ok.rows.bytes = c.in-Ok-read.ensures.len ∙ c.deref_mut.ensures.len in
+    let many : vec_len c.in-Ok.rows.bytes ≡ length c.in-Ok.rows.bytes.items = search rules in
+    let bytes = told_bytes _ x k.sbn 0 rows told c.in-Ok-read.ensures.bytes in
+    let other : GivesSymbol f k.sbn rows k.esi k.symbol.now → ⊥ =
+    λ gives. not_given c.in-Ok-gives.given c.if-given.false (c.in-Ok-gives.ensures.1 (subst (λ (l : List ℕ). GivesSymbol f k.sbn l k.esi k.symbol.now) (sym (all_of rows _ _ same)) gives)) in
+    let place : c.from-place.result < length s.seen.items = omega (arith, c.from-place.ensures, c.requires.of.esis, c.requires.given.esi) in
+    let unseen : seen_at s.seen.items k.esi ≡ false = ap (seen_at s.seen.items) (sym c.from-place.ensures) ∙ sym (get_or_read s.seen.items c.from-place.result c.index.result.now place c.index.ensures false) ∙ c.if-index.false in (
+      tt,
+      (
+        unseen_no_code f k.sbn (x k.sbn) s at h rows (same ∙ many ∙ all) bytes few.1 k.esi k.symbol.now few.2 c.requires.given.esi s.enough unseen other,
+        becomes_same x _ k.sbn _ (ap (λ (t : Fti → Option (ℕ → List ℕ)). t f) c.in-Ok-read.ensures.stays ∙ told) h,
+      ),
+    )

@@ -1,0 +1,28 @@
+-- Bytes that are put to a block that is held in memory.
+use Rattle.std.specs.Prelude.{Option, Some, None, MatchOption}
+use Rattle.std.specs.BTreeMap.{BTreeMap, get}
+use Rattle.std.specs.Global.{Vec}
+use Rattle.std.specs.Ordering.{nat_cmp}
+use Rattle.std.proofs.Common.{◌≡◌, ◌≢◌, ◌∙◌, ◌+◌, ◌++◌, ℕ, List, length, take, ap, sym, refl}
+use Rattle.receiver.specs.Bytes.{Becomes}
+use Rattle.receiver.specs.Held.{bytes_or_none, bytes_in}
+
+-- where there was no map, the one that there is now is empty
+pub was_in : {P : Type 0} (old : Option (BTreeMap ℕ (Vec ℕ))) (now : BTreeMap ℕ (Vec ℕ)) → (P → (a : ℕ) → get nat_cmp now a ≡ None) → MatchOption old P (λ x. now ≡ x)
+    → (a : ℕ) → bytes_or_none (get nat_cmp now a) ≡ bytes_in old a
+was_in None now empty p a = ap bytes_or_none (empty p a)
+was_in (Some m) now empty e a = ap (λ (x : BTreeMap ℕ (Vec ℕ)). bytes_or_none (get nat_cmp x a)) e
+
+-- one block's bytes change
+pub put_in : (old : Option (BTreeMap ℕ (Vec ℕ))) (now new : BTreeMap ℕ (Vec ℕ)) (b from : ℕ) (bytes : List ℕ) (v w : Vec ℕ)
+    → ((a : ℕ) → bytes_or_none (get nat_cmp now a) ≡ bytes_in old a) → ((a : ℕ) → b ≢ a → get nat_cmp new a ≡ get nat_cmp now a)
+    → get nat_cmp now b ≡ Some v → get nat_cmp new b ≡ Some w → take (from + length bytes) w.items ≡ take from v.items ++ bytes
+    → Becomes (bytes_in old) (Some (bytes_in (Some new))) b (λ y. take (from + length bytes) y ≡ take from (bytes_in old b) ++ bytes)
+put_in old now new b from bytes v w before others was here put = record {
+  bytes = bytes_in (Some new);
+  told = refl;
+  others = λ a ne. ap bytes_or_none (others a ne) ∙ before a;
+  has =
+      ap (λ (o : Option (Vec ℕ)). take (from + length bytes) (bytes_or_none o)) here ∙ put
+      ∙ ap (λ (l : List ℕ). take from l ++ bytes) (sym (ap bytes_or_none was) ∙ before b);
+}

@@ -1,0 +1,63 @@
+use Rattle.std.proofs.Common.{◌≡◌, ◌∙◌, ◌*◌, ℕ, Some, length, take, drop, sym, ap, arith}
+use Rattle.std.specs.Cmp.Lexicographic.{same_text}
+use Rattle.partition.proofs.Laws.{counts}
+use Rattle.receiver.proofs.Told.{differ}
+use Rattle.receiver.specs.Stored.{symbol_in}
+use Rattle.receiver.proofs.Among.{place_inside, place_fits}
+use Rattle.receiver.proofs.Told.{told_bytes, reaches, all_of}
+use Rattle.receiver.proofs.stored.Pending.compare.Goals as goal
+
+pub overflow_mul-place : goal.overflow_mul-place
+overflow_mul-place g c =
+    let f = c.args.fti.now in
+    let few = c.args.self.now.few in
+    let most = (counts f c.symbol_length.ensures.valid c.args.packet.now.sbn c.requires.number).1 in
+    let w = place_fits c.args.place c.from-size.result (omega (arith, few, most, c.requires.of.need, c.requires.place.0))
+    (omega (arith, c.from-size.ensures, c.symbol_length.type_inv)) in
+    omega (arith, w)
+
+pub read-requires-clause-there : goal.read-requires-clause-there
+read-requires-clause-there g c =
+    let p = c.args.self.now in
+    let size = c.args.fti.now.symbol_length in
+    reaches _ c.args.packet.now.sbn _ (λ x told.
+    let h = c.requires.there x told in
+    let whole = h.1.symbols.whole in
+    let inside = place_inside c.args.place (length p.esis.items) size c.requires.place.0 in
+    let e : c.from-size.result ≡ size = c.from-size.ensures ∙ c.symbol_length.ensures.value in
+    let m : c.args.place * c.from-size.result ≡ c.args.place * size = ap (λ (k : ℕ). c.args.place * k) e in
+    let l = c.deref_mut.ensures.len in
+    let n = c.in-Ok.ensures.len in
+    omega (arith, whole, inside, e, m, l, n))
+
+-- what was read is the symbol
+pub returns-then-eq-clause-outcome : goal.returns-then-eq-clause-outcome
+returns-then-eq-clause-outcome g c = λ x at told h.
+    let b = c.args.packet.now.sbn in
+    let size = c.args.fti.now.symbol_length in
+    let e : c.from-size.result ≡ size = c.from-size.ensures ∙ c.symbol_length.ensures.value in
+    let len : length c.read.new.into ≡ c.from-size.result = c.in-Ok-read.ensures.len ∙ c.deref_mut.ensures.len ∙ c.in-Ok.ensures.len in
+    let whole : c.as_slice.result.now ≡ c.read.new.into = c.as_slice.ensures.value ∙ all_of c.read.new.into _ _ (len ∙ sym c.in-Ok.ensures.len) in
+    let bytes = told_bytes _ x b (c.args.place * c.from-size.result) c.read.new.into told c.in-Ok-read.ensures.bytes in
+    let own : c.read.new.into ≡ symbol_in size (x b) c.args.place =
+    bytes ∙ ap (λ (k : ℕ). take k (drop (c.args.place * c.from-size.result) (x b))) (len ∙ e) ∙ ap (λ (k : ℕ). take size (drop (c.args.place * k) (x b))) e in
+    let same : c.as_slice.result.now ≡ c.args.packet.now.symbol.now = same_text c.as_slice.result.now c.args.packet.now.symbol.now (sym c.if-eq.true ∙ c.eq.ensures) in
+    (ap at (sym c.requires.place.1) ∙ h.symbols.came c.args.place c.requires.place.0 ∙ ap Some (sym own ∙ sym whole ∙ same), tt)
+
+pub returns-clause-outcome : goal.returns-clause-outcome
+returns-clause-outcome g c = λ x at told h.
+    let b = c.args.packet.now.sbn in
+    let size = c.args.fti.now.symbol_length in
+    let e : c.from-size.result ≡ size = c.from-size.ensures ∙ c.symbol_length.ensures.value in
+    let len : length c.read.new.into ≡ c.from-size.result = c.in-Ok-read.ensures.len ∙ c.deref_mut.ensures.len ∙ c.in-Ok.ensures.len in
+    let whole : c.as_slice.result.now ≡ c.read.new.into = c.as_slice.ensures.value ∙ all_of c.read.new.into _ _ (len ∙ sym c.in-Ok.ensures.len) in
+    let bytes = told_bytes _ x b (c.args.place * c.from-size.result) c.read.new.into told c.in-Ok-read.ensures.bytes in
+    let own : c.read.new.into ≡ symbol_in size (x b) c.args.place =
+    bytes ∙ ap (λ (k : ℕ). take k (drop (c.args.place * c.from-size.result) (x b))) (len ∙ e) ∙ ap (λ (k : ℕ). take size (drop (c.args.place * k) (x b))) e in (
+      tt,
+      record {
+        other = c.as_slice.result.now;
+        stands = ap at (sym c.requires.place.1) ∙ h.symbols.came c.args.place c.requires.place.0 ∙ ap Some (sym own ∙ sym whole);
+        differs = λ is. differ c.as_slice.result.now c.args.packet.now.symbol.now c.eq.result c.eq.ensures c.if-eq.false is;
+      },
+    )

@@ -1,0 +1,166 @@
+//! The bytes of blocks, kept in an output that is written at offsets.
+ghost use Rattle.std.specs.Prelude.{◌≡◌, ◌<◌, ◌≤◌, ◌+◌, ◌*◌, ◌^◌, ◌⊎◌, ℕ, None, [], true, false};
+ghost use Rattle.std.specs.Prelude.{Err, length, replicate, IfSome, OnOk, OnErr};
+ghost use Rattle.std.specs.Option.{option_map};
+ghost use Rattle.std.proofs.Props.{props};
+ghost use Rattle.partition.specs.Fti.{Fti as FtiValue, IsValidFti, block_count, source_count};
+ghost use Rattle.partition.specs.Fti.{start_of};
+ghost use Rattle.receiver.specs.Bytes.{StandIn, Puts};
+ghost use Rattle.receiver.specs.InFile.{kept_at};
+ghost use Rattle.receiver.specs.Parts.{object_in};
+
+use crate::block_bytes::{BlockBytes, BytesFault};
+use partition::Fti;
+use session::Failed;
+use std::alloc::Global;
+use streams::{WriteAt, read_all_back, write_all_at};
+
+/// The bytes of blocks in an output, one block behind the other. It is made so long that there is
+/// room for the last block of which something was put or read. What isn't there counts as zeros.
+#[derive(Drop)]
+pub struct FileBlocks<W: WriteAt> {
+    output: W,
+    // How long the output is.
+    len: u64,
+    ghost long: { IfSome (W.contents output) (λ x. length x ≡ len) } by { Prim.hlevel props },
+}
+
+// Where a block's bytes begin.
+fn begin_of(fti: &Fti, block: u32) -> u64
+    requires { block < block_count fti.now }
+    ensures value { result ≡ start_of fti.now block * fti.now.symbol_length }
+    ensures fits { result + source_count fti.now block * fti.now.symbol_length < 2 ^ 64 }
+    ensures valid { IsValidFti fti.now }
+{
+    fti.start(block) * u64::from(fti.symbol_length())
+}
+
+// Where they end.
+fn end_of(fti: &Fti, block: u32) -> u64
+    requires { block < block_count fti.now }
+    ensures value { result ≡ start_of fti.now block * fti.now.symbol_length
+        + source_count fti.now block * fti.now.symbol_length }
+{
+    begin_of(fti, block) + fti.k(block) as u64 * u64::from(fti.symbol_length())
+}
+
+impl<W: WriteAt> FileBlocks<W> {
+    /// Keeps the bytes in this output, to which nothing was written.
+    pub fn new(output: W) -> FileBlocks<W>
+        requires empty { IfSome (W.contents output) (λ x. x ≡ []) }
+        ensures output { result.output ≡ output }
+        ensures zeros { (f : FtiValue) → IfSome (kept_at (W.contents result.output) f)
+            (λ bytes. (b : ℕ) → bytes b ≡ replicate (source_count f b * f.symbol_length) 0) }
+    {
+        FileBlocks { output, len: 0 }
+    }
+
+    // Makes the output so long, where it is shorter. That changes nothing of what is kept.
+    fn grow(&mut self, len: u64) -> Result<(), Failed>
+        ensures long { OnOk result (len ≤ self.new.len) }
+        ensures stays { kept_at (W.contents self.new.output)
+            ≡ kept_at (W.contents self.old.output) }
+        ensures fails { OnErr result (W.failed self.new.output ≡ true) }
+    {
+        if self.len < len {
+            self.output.set_len(len)?;
+            self.len = len;
+        }
+        Ok(())
+    }
+
+    // Puts bytes at a place of a block. An error comes only where the output has failed.
+    fn put(&mut self, fti: &Fti, block: u32, from: usize, bytes: &[u8]) -> Result<(), Failed>
+        requires number { block < block_count fti.now }
+        requires inside { from + length bytes.now
+            ≤ source_count fti.now block * fti.now.symbol_length }
+        ensures put { OnOk result (Puts (kept_at (W.contents self.old.output) fti.now)
+            (kept_at (W.contents self.new.output) fti.now) block from bytes.now) }
+        ensures fails { OnErr result (W.failed self.new.output ≡ true) }
+    {
+        self.grow(end_of(fti, block))?;
+        let offset = begin_of(fti, block) + from as u64;
+        write_all_at(&mut self.output, offset, bytes)
+    }
+
+    /// Gives the output back, whatever was written to it.
+    pub fn into_output(self) -> W
+        ensures { result ≡ self.output }
+    {
+        self.output
+    }
+
+    /// Gives the output back, cut to the object of what is kept, or filled up with zeros. Cutting
+    /// fails only where the output has failed.
+    pub fn finish(self, fti: &Fti) -> (W, Result<(), Failed>)
+        ensures object { OnOk result.1 (W.contents result.0
+            ≡ option_map (object_in fti.now) (kept_at (W.contents self.output) fti.now)) }
+        ensures fails { OnErr result.1 (W.failed result.0 ≡ true) }
+    {
+        let FileBlocks { mut output, len: _ } = self;
+        let cut = output.set_len(fti.transfer_length());
+        (output, cut)
+    }
+}
+
+impl<W: WriteAt> BlockBytes for FileBlocks<W> {
+    ghost use Rattle.receiver.specs.InFile.{kept_at};
+    ghost use Rattle.std.proofs.Common.{refl};
+    ghost use Rattle.std.specs.Prelude.{Some, is_some};
+
+    ghost kept = { λ file. kept_at (W.contents file.output) };
+
+    ghost all_told = { λ file f g. elim (W.contents file.output)
+        as (λ o. is_some (kept_at o f) ≡ is_some (kept_at o g)) [
+          | None ↦ refl
+          | Some x ↦ refl
+        ] };
+
+    ghost reliable = { λ _. false };
+
+    /// Fails only where the output has failed, or what it has isn't told.
+    fn read(&mut self, fti: &Fti, block: u32, from: usize, into: &mut [u8]) -> Result<(), Failed>
+        requires number { block < block_count fti.now }
+        requires inside { from + length into.old
+            ≤ source_count fti.now block * fti.now.symbol_length }
+        ensures len { length into.new ≡ length into.old }
+        ensures bytes { OnOk result
+            (StandIn (kept_at (W.contents self.old.output) fti.now) block from into.new) }
+        ensures stays { kept_at (W.contents self.new.output)
+            ≡ kept_at (W.contents self.old.output) }
+        ensures reliable { false ≡ false }
+        ensures fails { OnErr result (false ≡ false) }
+        ensures broken { OnErr result
+            ((W.failed self.new.output ≡ true) ⊎ (W.contents self.old.output ≡ None)) }
+    {
+        self.grow(end_of(fti, block))?;
+        let offset = begin_of(fti, block) + from as u64;
+        read_all_back(&mut self.output, offset, into)
+    }
+
+    /// Fails only where the output has failed.
+    fn write(
+        &mut self,
+        _alloc: Global,
+        fti: &Fti,
+        block: u32,
+        from: usize,
+        bytes: &[u8],
+    ) -> Result<(), BytesFault>
+        requires number { block < block_count fti.now }
+        requires inside { from + length bytes.now
+            ≤ source_count fti.now block * fti.now.symbol_length }
+        ensures put { OnOk result (Puts (kept_at (W.contents self.old.output) fti.now)
+            (kept_at (W.contents self.new.output) fti.now) block from bytes.now) }
+        ensures stays { result ≡ Err BytesFault.NoMemory → kept_at (W.contents self.new.output)
+            ≡ kept_at (W.contents self.old.output) }
+        ensures reliable { false ≡ false }
+        ensures fails { result ≡ Err BytesFault.Failed → false ≡ false }
+        ensures broken { OnErr result (W.failed self.new.output ≡ true) }
+    {
+        match self.put(fti, block, from, bytes) {
+            Ok(()) => Ok(()),
+            Err(_) => Err(BytesFault::Failed),
+        }
+    }
+}

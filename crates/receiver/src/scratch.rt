@@ -1,0 +1,51 @@
+//! What is used again from block to block.
+ghost use Rattle.std.specs.Prelude.{◌≡◌, ◌<◌, ◌^◌, IfOk};
+ghost use Rattle.decoder.specs.Rows.{HasSizes};
+
+use decoder::{Recovery, Rows};
+use std::alloc::{AllocError, Global};
+
+/// What is used again from block to block.
+#[derive(Drop)]
+pub(crate) struct Scratch {
+    /// What recovered the missing symbols of a block, as blocks mostly lose the same ones.
+    pub(crate) recovery: Option<Recovery>,
+    /// Room for a block's source symbols.
+    pub(crate) rows: Option<Rows>,
+}
+
+impl Scratch {
+    /// Nothing yet.
+    pub(crate) fn new() -> Scratch
+        ensures { result.recovery ≡ None }
+    {
+        Scratch {
+            recovery: None,
+            rows: None,
+        }
+    }
+
+    /// Room for rows of these sizes. What it has isn't said.
+    pub(crate) fn room(
+        &mut self,
+        alloc: Global,
+        count: usize,
+        size: usize,
+    ) -> Result<Rows, AllocError>
+        requires few { count < 2 ^ 8 }
+        requires small { size < 2 ^ 16 }
+        ensures sizes { IfOk result (HasSizes count size) }
+        ensures recovery { self.new.recovery ≡ self.old.recovery }
+    {
+        if let Some(rows) = self.rows.take() {
+            if rows.count == count && rows.size == size {
+                return Ok(rows);
+            }
+        }
+        Ok(Rows {
+            bytes: vec![in alloc; 0; count * size]?,
+            size,
+            count,
+        })
+    }
+}
