@@ -17,5 +17,5 @@ IsHandle h = IsBehind h.is_open h
 pub record IsOpen (h : AlcrsReceiver) (who : Identity) (datagrams : List (List ℕ)) : Type 0 where
   pub opened : h.is_open ≡ true
   pub full : h.held.full ≡ true
-  pub identity : h.held.value.identity ≡ who
+  pub identity : h.held.value.receiving.identity ≡ who
   pub stands : Stands h.held.value datagrams
