@@ -66,7 +66,7 @@ LINES = {
     },
     "follow": {
         0: REFUSALS + r"complete after \d+ datagrams\nobject \d+ bytes\n",
-        1: f"{REFUSALS}(?:{FRAMES})",
+        1: rf"{REFUSALS}(?:{FRAMES}|fault file out\n)",
         3: REFUSALS + LACKS,
     },
     "show": {0: f"(?:{SHOWN})*", 1: rf"(?:{SHOWN}|\d+ {PACKET}\n)+(?:{FRAMES})?|{FRAMES}"},
@@ -203,6 +203,8 @@ def plain_frame_of(block, esi, size):
     return struct.pack(">H", len(datagram)) + datagram
 
 
+# So long a file every file system has that is in use: 2 TiB.
+LONGEST = 1 << 41
 # FTIs that claim much, the last block of each, and how many symbols the first and the last block
 # need.
 GREAT = [
@@ -224,8 +226,10 @@ def great_claims():
             (far, f"missing block 0 have 0 need {need}\n"),
             (far * 300, f"missing block 0 have 0 need {need}\n"),
         ]:
-            for command in ["decode", "follow"]:
-                yield Try(f"packet of {fti}", WORDS[command], {"s": session}, (3, text))
+            yield Try(f"packet of {fti}", WORDS["decode"], {"s": session}, (3, text))
+            # A file system may have no file as long as the object that is claimed.
+            wanted = (3, text) if fti[0] <= LONGEST else None
+            yield Try(f"packet of {fti}", WORDS["follow"], {"s": session}, wanted)
         shown = "tsi 7 toi 2 length {} symbol {} block {} max {}".format(*fti)
         yield Try(
             f"packet of {fti}", WORDS["show"], {"s": far}, (0, f"0 {shown} sbn {last} esi 0\n")

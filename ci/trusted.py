@@ -45,8 +45,7 @@ HANDED_ON = {"Rattle.cert.specs.Fed", "Rattle.receiver.specs.Stands",
 
 # What the decoder offers to the receiver alone, which stands on it: no promise to callers.
 INNER = {("decoder", call) for call in (
-    "push_arrival", "symbol_at", "seen_of", "symbols_below", "bytes", "block_rows", "gives",
-    "fault_at",
+    "block_rows", "gives", "fault_at",
 )}
 
 # The files of what `cert` offers to `file_check` alone, in the same way.

@@ -7,7 +7,7 @@ ghost use Rattle.decoder.specs.Arrivals.{arrived_at, seen_at};
 use std::alloc::{AllocError, Global};
 
 /// What holds the bytes of a symbol: a slice of its datagram, or a copy of it.
-pub trait SymbolBytes: Drop {
+pub(crate) trait SymbolBytes: Drop {
     ghost held: { Self → List ℕ };
 
     /// The symbol's bytes.
@@ -33,14 +33,14 @@ impl SymbolBytes for Vec<u8> {
 
 /// A symbol that came, and its ESI.
 #[derive(Drop)]
-pub struct Arrival<S> {
-    pub esi: u8,
-    pub symbol: S,
+pub(crate) struct Arrival<S> {
+    pub(crate) esi: u8,
+    pub(crate) symbol: S,
 }
 
 /// Puts a symbol behind the others. Where there is no room for one more, makes room for it and for
 /// a quarter of what came: twice as much would be more than the datagrams' places take.
-pub fn push_arrival<S: Drop>(
+pub(crate) fn push_arrival<S: Drop>(
     arrivals: &mut Vec<Arrival<S>>,
     arrival: Arrival<S>,
 ) -> Result<(), AllocError>
@@ -55,7 +55,7 @@ pub fn push_arrival<S: Drop>(
 }
 
 /// The bytes of the symbol at an ESI, if it came.
-pub fn symbol_at<S: SymbolBytes>(arrivals: &[Arrival<S>], esi: u8) -> Option<&[u8]>
+pub(crate) fn symbol_at<S: SymbolBytes>(arrivals: &[Arrival<S>], esi: u8) -> Option<&[u8]>
     ensures { option_map (λ s. s.now) result ≡ arrived_at S.held arrivals.now esi }
 {
     let mut found = None;
@@ -68,7 +68,7 @@ pub fn symbol_at<S: SymbolBytes>(arrivals: &[Arrival<S>], esi: u8) -> Option<&[u
 }
 
 /// Whether the symbol at each ESI came.
-pub fn seen_of<S: Drop>(arrivals: &[Arrival<S>]) -> [bool; 256]
+pub(crate) fn seen_of<S: Drop>(arrivals: &[Arrival<S>]) -> [bool; 256]
     ensures { (held : S → List ℕ) (j : ℕ) → j < 256
         → seen_at result j ≡ is_some (arrived_at held arrivals.now j) }
 {
@@ -80,7 +80,7 @@ pub fn seen_of<S: Drop>(arrivals: &[Arrival<S>]) -> [bool; 256]
 }
 
 /// The symbols at the first `n` ESIs, those that came.
-pub fn symbols_below<'a, S: SymbolBytes>(
+pub(crate) fn symbols_below<'a, S: SymbolBytes>(
     alloc: Global,
     arrivals: &'a [Arrival<S>],
     n: usize,

@@ -17,9 +17,8 @@
 //! - `decoding`: the public call, and `selecting`: the same for a selection of a session's
 //!   datagrams, with what a check's yes promises of it.
 //!
-//! A receiver of one datagram at a time is the crate `receiver`. For it the symbols that came of a
-//! block (`arrivals`), its source symbols (`block_rows`) and whether these give a symbol (`giving`)
-//! are public.
+//! A receiver of one datagram at a time is the crate `receiver`. For it a block's source symbols
+//! (`block_rows`) and whether these give a symbol (`giving`) are public.
 #![tactic(auto)]
 
 mod answer;
@@ -49,7 +48,6 @@ mod verdict;
 mod writing;
 
 pub use answer::{Answer, DecodeFault};
-pub use arrivals::{Arrival, SymbolBytes, push_arrival, seen_of, symbol_at, symbols_below};
 pub use blocks::block_rows;
 pub use counting::Short;
 pub use decoding::decode;

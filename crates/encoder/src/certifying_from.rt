@@ -102,40 +102,6 @@ fn write_rows<R: Read, W: Write>(
     Ok(())
 }
 
-// Writes the whole text of the object that is read. There is room for the bytes and for the rows of
-// the greatest block, and `work` is room to work in.
-fn write_certificate<R: Read, W: Write>(
-    reader: &mut R,
-    fti: &Fti,
-    identity: Identity,
-    interpolators: &BlockCodes,
-    sources: &mut [u8],
-    rows: &mut [u8],
-    work: &mut [u8],
-    writer: &mut W,
-) -> Result<(), CertifyFromFault>
-    requires valid { IsValidFti fti.now }
-    requires identity { IsIdentity identity }
-    requires interpolators { EachBlockHas (IsInterpolatorOf fti.now) fti.now interpolators.now }
-    requires sources { length sources.old ≡ source_count fti.now 0 * fti.now.symbol_length }
-    requires room { length rows.old ≡ source_count fti.now 0 * fti.now.symbol_length }
-    requires work { IsRoom fti.now work.old }
-    ensures certified { OnOk result (ReadsObject fti.now (R.remaining reader.old)
-        (λ object. IsCertifiedTo object fti.now identity
-        (W.contents writer.old) (W.contents writer.new))) }
-    ensures end { OnOk result (IsAtEnd (R.remaining reader.new)) }
-    ensures fault { IfErr result (λ e. IsCertifyFromFault e fti.now identity
-        (R.remaining reader.old) (R.sound reader.old) (R.failed reader.new)
-        (W.contents writer.old) (W.contents writer.new) (W.failed writer.new)) }
-    ensures full { IfErr result (λ e. e ≡ CertifyFromFault.Write → W.room writer.old
-        < length (head_text (Some identity) fti.now) + coefficient_count fti.now) }
-{
-    write_head(writer, &Some(identity), fti)?;
-    write_rows(reader, fti, interpolators, sources, rows, work, writer)?;
-    read_end(reader)?;
-    Ok(())
-}
-
 /// Reads the object, all up to the reader's end, and writes what `certify_to` writes of it. One
 /// block is held at a time: memory is asked for two matrices at most, for the bytes and the rows of
 /// the greatest block, and for room to work in as `certify` asks for it, and all of it before the
@@ -170,14 +136,16 @@ pub fn certify_from<R: Read, W: Write>(
     let mut sources = Vec::from_elem(alloc, 0u8, most)?;
     let mut rows = Vec::from_elem(alloc, 0u8, most)?;
     let mut work = Vec::from_elem(alloc, 0u8, room(fti))?;
-    write_certificate(
+    write_head(writer, &Some(identity), fti)?;
+    write_rows(
         reader,
         fti,
-        identity,
         &interpolators,
         &mut sources,
         &mut rows,
         &mut work,
         writer,
-    )
+    )?;
+    read_end(reader)?;
+    Ok(())
 }

@@ -1,5 +1,5 @@
 //! What a command meets outside.
-ghost use Rattle.std.specs.Prelude.{◌≡◌, true, IfOk, IfErr, IfSome, OnOk, OnErr};
+ghost use Rattle.std.specs.Prelude.{◌≡◌, [], true, IfOk, IfErr, IfSome, OnOk, OnErr};
 ghost use Rattle.std.specs.Io.KnownBytes.{Appends};
 ghost use Rattle.host.specs.World.{World, GivesFile, LeavesBytes, IsBlank, Replaces, IsRefused};
 ghost use Rattle.host.specs.World.{IsMissing, IsFree, IsTaken, KeepsFiles, IsSilent, one_more};
@@ -45,6 +45,8 @@ pub trait Host {
     fn create_file(&mut self, name: &str, no_clobber: bool) -> Result<Self::Output, FileFault>
         ensures blank { IfOk result (λ file.
             IsBlank (world self.old) (Self.Output.contents file)) }
+        ensures empty { IfOk result (λ file.
+            IfSome (Self.Output.contents file) (λ bytes. bytes ≡ [])) }
         ensures free { OnOk result (IsFree (world self.old).files name.now no_clobber) }
         ensures fault { IfErr result (IsTaken (world self.old) name.now no_clobber) }
         ensures files { (world self.new).files ≡ (world self.old).files }

@@ -78,9 +78,6 @@ below_place i n size li = ring_le i n size li
       | inr ne ↦ (let w = ring_le i n size (omega (arith, li, ne)) in omega (arith, w))
     ]
 
-pub place_inside : (i n size : ℕ) → i < n → i * size + size ≤ n * size
-place_inside = below_place
-
 module _ (size : ℕ) (esis : List ℕ) (at : ℕ → Option (List ℕ)) where
   -- bytes behind the symbols say nothing
   pub symbols_same : (x y : List ℕ) → take (length esis * size) y ≡ take (length esis * size) x → AreSymbols size esis x at → AreSymbols size esis y at

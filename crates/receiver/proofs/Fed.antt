@@ -41,12 +41,13 @@ use Rattle.reception.proofs.Within.{within}
 use Rattle.decoder.specs.Columns.{ColumnExplained}
 use Rattle.decoder.specs.Decoded.{IsEnoughAt}
 use Rattle.decoder.specs.Arrivals.{with_symbol}
-use Rattle.receiver.specs.Holds.{Holds, HoldsIn, kept_of, is_solved, solved_count}
+use Rattle.receiver.specs.Holds.{HoldsIn, kept_of, is_solved, solved_count}
 use Rattle.receiver.specs.Putting.{MayStand, IsClash, IsNoCode, IsPutFault, UnlessFailed}
 use Rattle.receiver.specs.declared.stored.PutFault.{PutFault}
 use Rattle.receiver.specs.declared.stored.PutFault.TheVariants as put_fault
 use Rattle.decoder.specs.Received.{IsIndex, AreReceived}
 use Rattle.receiver.specs.Stored.{IsStored}
+use Rattle.receiver.specs.Taking.{AllSolved}
 use Rattle.receiver.specs.Stands.{StandsWith, Keeps, IsSoundIn}
 use Rattle.receiver.specs.Fed.{HoldsFor, put_refusal}
 use Rattle.receiver.specs.Receiving.{LeaveNoneShort, IfRefused, IsUnfedOf, with_datagram, ComesEarly}
@@ -60,7 +61,6 @@ use Rattle.decoder.proofs.Index.{pointwise_same, clash_none, clash_some}
 use Rattle.decoder.proofs.Receiving.{Scanned, empty_index, clashed, no_clash as unclashed_judge, receives, received}
 use Rattle.decoder.proofs.Solving.{solvable_from, solvable_gives}
 use Rattle.receiver.proofs.Pending.{pending_count}
-use Rattle.receiver.proofs.Told.{one_told}
 use Rattle.receiver.proofs.Taken.{full_explained, nothing_count, no_fti, keeps, all_within, arrived_is, none_short, here_full, full_solvable}
 use Rattle.decoder.proofs.Those.{few_pass}
 use Rattle.std.specs.Str.{bytes_eq as same}
@@ -377,12 +377,12 @@ module _ (r : Receiving) (told : Told) (ds : List (List ℕ)) (stands : StandsWi
         }
 
       -- why the symbol isn't put is the answer
-      pub refusal_told : IsValidFti f → HoldsFor f told r.store at → (v : PutFault) → UnlessFailed v (IsPutFault f p.sbn (at p.sbn) p.esi p.symbol.now v)
+      pub refusal_told : IsValidFti f → HoldsFor f told r.store at → (failed : Bool) (v : PutFault) → UnlessFailed failed v (IsPutFault f p.sbn (at p.sbn) p.esi p.symbol.now v)
           → IsUnfedOf r.identity all (put_refusal r.accepted p.sbn v)
-      refusal_told valid holds put_fault.Clash h = clash_told h
-      refusal_told valid holds put_fault.NotCode h = no_code_told (inl h.free) valid holds h
-      refusal_told valid holds put_fault.NoMemory h = tt
-      refusal_told valid holds put_fault.Failed h = tt
+      refusal_told valid holds failed put_fault.Clash h = clash_told h
+      refusal_told valid holds failed put_fault.NotCode h = no_code_told (inl h.free) valid holds h
+      refusal_told valid holds failed put_fault.NoMemory h = tt
+      refusal_told valid holds failed put_fault.Failed h = tt
 
       -- the receiver stands for those before, where the store holds what it held
       pub refused : (now : Told) → ((g h : Fti) → is_some (now g) ≡ is_some (now h)) → (store : Option Store) → IsSoundIn store → HoldsFor f now store at → is_some store ≡ is_some r.store
@@ -396,11 +396,11 @@ module _ (r : Receiving) (told : Told) (ds : List (List ℕ)) (stands : StandsWi
       }
 
 -- a symbol isn't put, and so the datagram isn't accepted
-pub if_refused : (So : Type 0) (place b : ℕ) (v : PutFault) → UnlessFailed v So → IfRefused So (put_refusal place b v)
-if_refused So place b put_fault.Clash h = h
-if_refused So place b put_fault.NotCode h = h
-if_refused So place b put_fault.NoMemory h = h
-if_refused So place b put_fault.Failed h = tt
+pub if_refused : (So : Type 0) (place b : ℕ) (failed : Bool) (v : PutFault) → UnlessFailed failed v So → IfRefused So (put_refusal place b v)
+if_refused So place b failed put_fault.Clash h = h
+if_refused So place b failed put_fault.NotCode h = h
+if_refused So place b failed put_fault.NoMemory h = h
+if_refused So place b failed put_fault.Failed h = tt
 
 -- ---- whether each block is solved
 
@@ -428,22 +428,33 @@ module _ (r : Receiving) (told : Told) (ds : List (List ℕ)) (stands : StandsWi
   pub all_solved : store.solved ≡ block_count store.fti → LeaveNoneShort r.identity ds
   all_solved all = none_short r told ds stands store is valid (all_pass (λ b. is_solved (kept_of store b)) (block_count store.fti) (sym counted_solved ∙ all))
 
-  -- else one is
+  -- where none is short each block is solved
+  not_unsolved : (b : ℕ) → b < block_count store.fti → is_solved (kept_of store b) ≡ false → LeaveNoneShort r.identity ds → ⊥
+  not_unsolved b hb unsolved none =
+      let k = keeps r told ds stands store is in
+      let known = (here_full r told ds stands none).0 in
+      let there = k.0 in
+      let same_fti : none.fti ≡ store.fti = cc in
+      let full : is_full store.fti (reception_of r.identity (readings_of ds)).symbols b ≡ true =
+      subst (λ (f : Fti). (a : ℕ) → a < block_count f → is_full f (reception_of r.identity (readings_of ds)).symbols a ≡ true) same_fti (here_full r told ds stands none).1 b hb in
+      let arrived_at = arrived_is store valid k.1.holds.0 k.1.at k.1.holds.2 (reception_of r.identity (readings_of ds)).symbols k.1.index (all_within r told ds stands store is) b hb in
+      unsolved_short store.fti b (k.1.holds.0 b) (kept_of store b) (k.1.at b) (block_counts store.fti valid b hb).0 (k.1.holds.2.blocks b) unsolved
+      (omega (arith, leb-true (source_count store.fti b) (arrived_count (reception_of r.identity (readings_of ds)).symbols b) full, arrived_at))
+
+  pub each_solved : LeaveNoneShort r.identity ds → AllSolved store
+  each_solved none b hb = elim (cases_Bool (is_solved (kept_of store b))) [
+    | inl solved ↦ solved
+    | inr unsolved ↦ absurd (not_unsolved b hb unsolved none)
+  ]
+
+  -- where fewer blocks are solved than there are, one is short
   pub some_unsolved : store.solved ≢ block_count store.fti → LeaveNoneShort r.identity ds → ⊥
   some_unsolved other none =
-      let k = keeps r told ds stands store is in
       let n = block_count store.fti in
       let counted_is = counted_solved in
       let most = few_pass (λ b. is_solved (kept_of store b)) (block_count store.fti) in
       let w = one_missing (λ b. is_solved (kept_of store b)) n n (omega arith) (omega (arith, other, counted_is, most)) in
-      let known = (here_full r told ds stands none).0 in
-      let there = k.0 in
-      let same_fti : none.fti ≡ store.fti = cc in
-      let full : is_full store.fti (reception_of r.identity (readings_of ds)).symbols w.0 ≡ true =
-      subst (λ (f : Fti). (b : ℕ) → b < block_count f → is_full f (reception_of r.identity (readings_of ds)).symbols b ≡ true) same_fti (here_full r told ds stands none).1 w.0 w.1 in
-      let arrived_at = arrived_is store valid k.1.holds.0 k.1.at k.1.holds.2 (reception_of r.identity (readings_of ds)).symbols k.1.index (all_within r told ds stands store is) w.0 w.1 in
-      unsolved_short store.fti w.0 (k.1.holds.0 w.0) (kept_of store w.0) (k.1.at w.0) (block_counts store.fti valid w.0 w.1).0 (k.1.holds.2.blocks w.0) w.2
-      (omega (arith, leb-true (source_count store.fti w.0) (arrived_count (reception_of r.identity (readings_of ds)).symbols w.0) full, arrived_at))
+      not_unsolved w.0 w.1 w.2 none
 
 -- the answer to them is no fault
 module _ (r : Receiving) (told : Told) (ds : List (List ℕ)) (stands : StandsWith r told ds) (store : Store) (is : r.store ≡ Some store) (valid : IsValidFti store.fti) where
@@ -514,10 +525,3 @@ scope_stands r told ds f stands is =
 pub store_fti : (o : Option Store) (f : Fti) → ((h : Fti) → option_map (λ s. s.fti) o ≡ Some h → h ≡ f) → IfSome o (λ s. s.fti ≡ f)
 store_fti None f h = tt
 store_fti (Some s) f h = h s.fti refl
-
--- and it holds what stands, by the bytes that are told
-pub store_holds : (f : Fti) (told : Told) (o : Option Store) (at : ℕ → ℕ → Option (List ℕ)) (x : ℕ → List ℕ) → told f ≡ Some x → HoldsFor f told o at
-    → IfSome o (λ s. (at : ℕ → ℕ → Option (List ℕ)) × Holds s x at)
-store_holds f told None at x known h = tt
-store_holds f told (Some s) at x known h =
-    (at, subst (λ (y : ℕ → List ℕ). Holds s y at) (one_told (told f) h.1.0 x h.1.1 known) h.1.2)

@@ -1,6 +1,6 @@
 -- A symbol put to what is kept of an object.
 use Rattle.std.specs.Prelude.{filter, is_some, ◌==◌, ◌&&◌, Result, Ok, Err}
-use Rattle.std.proofs.Common.{◌≡◌, ◌≢◌, ℕ, ◌+◌, ◌<◌, ◌≤◌, true, false, List, Option, Some, None, length, refl, sym, ap, subst, ◌∙◌, inl, inr, arith}
+use Rattle.std.proofs.Common.{◌≡◌, ◌≢◌, ℕ, ◌+◌, ◌<◌, ◌≤◌, Bool, true, false, List, Option, Some, None, length, refl, sym, ap, subst, ◌∙◌, inl, inr, arith}
 use Rattle.std.proofs.Math.Path.{fun_ext}
 use Rattle.std.proofs.lemmas.Bool.{cases_Bool, cases_eq, and_parts, eqb-true, eq-eqb, ne_eqb}
 use Rattle.lists.specs.Below.{below}
@@ -21,9 +21,9 @@ use Rattle.receiver.specs.declared.store.Store.{Store}
 use Rattle.receiver.proofs.Told.{unless}
 
 -- what comes of a symbol is so of what follows
-pub outcome_then : {A : Type 0} (r : Result A PutFault) (P Q : A → Type 0) (N M : PutFault → Type 0) → ((a : A) → P a → Q a) → ((e : PutFault) → N e → M e) → Outcome r P N → Outcome r Q M
-outcome_then (Ok a) P Q N M f n h = (f a h.0, tt)
-outcome_then (Err e) P Q N M f n h = (tt, unless e (N e) (M e) (n e) h.1)
+pub outcome_then : {A : Type 0} (r : Result A PutFault) (P Q : A → Type 0) (N M : PutFault → Type 0) (failed : Bool) → ((a : A) → P a → Q a) → ((e : PutFault) → N e → M e) → Outcome failed r P N → Outcome failed r Q M
+outcome_then (Ok a) P Q N M failed f n h = (f a h.0, tt)
+outcome_then (Err e) P Q N M failed f n h = (tt, unless failed e (N e) (M e) (n e) h.1)
 
 -- the symbol more is one of its block
 pub with_own : (at : ℕ → ℕ → Option (List ℕ)) (b j : ℕ) (y : List ℕ) → with_symbol at b j y b ≡ with_esi (at b) j y
@@ -139,20 +139,20 @@ told_some (Some x) some = (x, refl)
 nothing : (at : ℕ → ℕ → Option (List ℕ)) → ((b j : ℕ) → at b j ≡ None) → (λ b j. None) ≡ at
 nothing at none = fun_ext (λ b. fun_ext (λ j. sym (none b j)))
 
-module _ (f : Fti) (told now : Fti → Option (ℕ → List ℕ)) (old new : Store) (fti : old.fti ≡ f) (same : new.fti ≡ old.fti) (p : Packet) {A : Type 0} (r : Result A PutFault)
-    (put : (at : ℕ → ℕ → Option (List ℕ)) → HoldsIn old (told old.fti) at → StoreOutcome old.fti (now old.fti) at p r new) (at : ℕ → ℕ → Option (List ℕ)) where
-  pub fed_some : HoldsIn old (told f) at → FedOutcome f now at p r (Some new)
+module _ (f : Fti) (told now : Fti → Option (ℕ → List ℕ)) (old new : Store) (fti : old.fti ≡ f) (same : new.fti ≡ old.fti) (p : Packet) (failed : Bool) {A : Type 0} (r : Result A PutFault)
+    (put : (at : ℕ → ℕ → Option (List ℕ)) → HoldsIn old (told old.fti) at → StoreOutcome old.fti (now old.fti) failed at p r new) (at : ℕ → ℕ → Option (List ℕ)) where
+  pub fed_some : HoldsIn old (told f) at → FedOutcome f now failed at p r (Some new)
   fed_some =
-      subst (λ (g : Fti). HoldsIn old (told g) at → FedOutcome g now at p r (Some new)) fti
-      (λ hold. outcome_then r _ _ _ _ (λ a h. (h.0, (same, h.1))) (λ e h. (h.0, (same, h.1))) (put at hold))
+      subst (λ (g : Fti). HoldsIn old (told g) at → FedOutcome g now failed at p r (Some new)) fti
+      (λ hold. outcome_then r _ _ _ _ failed (λ a h. (h.0, (same, h.1))) (λ e h. (h.0, (same, h.1))) (put at hold))
 
   -- a new one holds nothing
   pub fed_none : ((x : ℕ → List ℕ) → Holds old x (λ b j. None)) → HoldsFor f told None at
-      → Outcome r (λ a. MayStand (at p.sbn) p.esi p.symbol.now × HoldsFor f now (Some new) (with_symbol at p.sbn p.esi p.symbol.now))
+      → Outcome failed r (λ a. MayStand (at p.sbn) p.esi p.symbol.now × HoldsFor f now (Some new) (with_symbol at p.sbn p.esi p.symbol.now))
       (λ e. IsPutFault f p.sbn (at p.sbn) p.esi p.symbol.now e × HoldsFor f now None at)
   fed_none none h =
       let w = told_some (told f) h.1 in
       let hold : HoldsIn old (told f) at = subst (λ (g : ℕ → ℕ → Option (List ℕ)). HoldsIn old (told f) g) (nothing at h.0) (w.0, w.1, none w.0) in
       outcome_then r (λ a. MayStand (at p.sbn) p.esi p.symbol.now × HoldsFor f now (Some new) (with_symbol at p.sbn p.esi p.symbol.now)) _
-      (λ e. IsPutFault f p.sbn (at p.sbn) p.esi p.symbol.now e × HoldsFor f now (Some new) at) _
+      (λ e. IsPutFault f p.sbn (at p.sbn) p.esi p.symbol.now e × HoldsFor f now (Some new) at) _ failed
       (λ a o. o) (λ e o. (o.0, (h.0, ap is_some o.1.1.1))) (fed_some hold)

@@ -10,3 +10,5 @@ mod Holding
 mod Fed
 mod Padding
 mod BlocksInFile
+mod Begun
+mod Filed

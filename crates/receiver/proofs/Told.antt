@@ -1,5 +1,5 @@
 -- The bytes of blocks, where they are told.
-use Rattle.std.proofs.Common.{◌≡◌, true, false, ℕ, ◌+◌, ◌≤◌, List, ◌++◌, Option, Some, None, length, take, drop, refl, sym, ap, subst, ◌∙◌}
+use Rattle.std.proofs.Common.{◌≡◌, true, false, ℕ, ◌+◌, List, ◌++◌, Option, Some, None, length, take, drop, refl, sym, ap, subst, ◌∙◌}
 use Rattle.std.proofs.Math.Seq.{take-append_seam}
 use Rattle.std.specs.Prelude.{eqb, Bool}
 use lib.Pointwise.{pointwise}
@@ -8,7 +8,7 @@ use Rattle.decoder.proofs.Index.{pointwise_same}
 use Rattle.receiver.specs.Putting.{UnlessFailed}
 use Rattle.receiver.specs.declared.stored.PutFault.{PutFault}
 use Rattle.receiver.specs.declared.stored.PutFault.TheVariants as put
-use Rattle.receiver.specs.Bytes.{StandIn, Reaches, Becomes, Puts}
+use Rattle.receiver.specs.Bytes.{StandIn, Becomes, Puts}
 
 -- what is told is one
 pub one_told : (told : Option (ℕ → List ℕ)) (x y : ℕ → List ℕ) → told ≡ Some x → told ≡ Some y → x ≡ y
@@ -19,10 +19,6 @@ told_bytes None x b from bytes is h = absurd (cc)
 told_bytes (Some y) x b from bytes is h =
     let e : y ≡ x = cc in
     subst (λ (z : ℕ → List ℕ). bytes ≡ take (length bytes) (drop from (z b))) e h
-
-pub reaches : (told : Option (ℕ → List ℕ)) (b n : ℕ) → ((x : ℕ → List ℕ) → told ≡ Some x → n ≤ length (x b)) → Reaches told b n
-reaches None b n h = tt
-reaches (Some x) b n h = h x refl
 
 pub puts_at : (told new : Option (ℕ → List ℕ)) (x : ℕ → List ℕ) (b from : ℕ) (bytes : List ℕ) → told ≡ Some x → Puts told new b from bytes
     → Becomes x new b (λ y. take (from + length bytes) y ≡ take from (x b) ++ bytes)
@@ -48,8 +44,15 @@ differ xs ys v is other same =
     let u : pointwise eqb xs ys ≡ true = ap (λ (l : List ℕ). pointwise eqb l ys) same ∙ w in
     absurd (cc)
 
-pub unless : (fault : PutFault) (P Q : Type 0) → (P → Q) → UnlessFailed fault P → UnlessFailed fault Q
-unless put.Clash P Q f h = f h
-unless put.NotCode P Q f h = f h
-unless put.NoMemory P Q f h = f h
-unless put.Failed P Q f h = tt
+pub unless : (failed : Bool) (fault : PutFault) (P Q : Type 0) → (P → Q) → UnlessFailed failed fault P → UnlessFailed failed fault Q
+unless failed put.Clash P Q f h = f h
+unless failed put.NotCode P Q f h = f h
+unless failed put.NoMemory P Q f h = f h
+unless failed put.Failed P Q f h = h
+
+-- where it has failed, so has reading or writing
+pub is_broken : (failed : Bool) (fault : PutFault) (P : Type 0) → UnlessFailed failed fault P → fault ≡ put.Failed → failed ≡ true
+is_broken failed put.Clash P h is = absurd (cc)
+is_broken failed put.NotCode P h is = absurd (cc)
+is_broken failed put.NoMemory P h is = absurd (cc)
+is_broken failed put.Failed P h is = h

@@ -11,9 +11,9 @@ AreTold told = (f : Fti) → is_some (told f) ≡ true
 abbrev pub StandIn : Option (ℕ → List ℕ) → ℕ → ℕ → List ℕ → Type 0
 StandIn kept b from bytes = IfSome kept (λ x. bytes ≡ take (length bytes) (drop from (x b)))
 
--- a block has so many bytes, or more
-abbrev pub Reaches : Option (ℕ → List ℕ) → ℕ → ℕ → Type 0
-Reaches kept b count = IfSome kept (λ x. count ≤ length (x b))
+-- they are told, and a block has so many of them, or more
+abbrev pub IsThere : Option (ℕ → List ℕ) → ℕ → ℕ → Type 0
+IsThere kept b count = (x : ℕ → List ℕ) × (kept ≡ Some x) × (count ≤ length (x b))
 
 -- what is told has changed in one block alone, which has bytes of which this is so
 pub record Becomes (old : ℕ → List ℕ) (new : Option (ℕ → List ℕ)) (b : ℕ)

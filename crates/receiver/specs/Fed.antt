@@ -1,5 +1,5 @@
 -- What is kept of an object with this FTI, and why a datagram is refused whose symbol isn't put.
-use Rattle.std.specs.Prelude.{◌≡◌, ℕ, true, List, Option, Some, None, is_some, Result}
+use Rattle.std.specs.Prelude.{◌≡◌, ℕ, Bool, true, List, Option, Some, None, is_some, Result}
 use Rattle.partition.specs.Fti.{Fti}
 use Rattle.alc.specs.declared.reading.Packet.{Packet}
 use Rattle.decoder.specs.Arrivals.{with_symbol}
@@ -28,9 +28,9 @@ put_refusal place b put.NoMemory = Refused NoMemory
 put_refusal place b put.Failed = Failed
 
 -- what comes of a packet's symbol for the store, if there is one
-abbrev pub FedOutcome : {A : Type 0} → Fti → (Fti → Option (ℕ → List ℕ))
+abbrev pub FedOutcome : {A : Type 0} → Fti → (Fti → Option (ℕ → List ℕ)) → Bool
     → (ℕ → ℕ → Option (List ℕ)) → Packet → Result A PutFault → Option Store → Type 0
-FedOutcome f told at p result new = Outcome result
+FedOutcome f told failed at p result new = Outcome failed result
     (λ a. MayStand (at p.sbn) p.esi p.symbol.now
     × HoldsFor f told new (with_symbol at p.sbn p.esi p.symbol.now))
     (λ fault. IsPutFault f p.sbn (at p.sbn) p.esi p.symbol.now fault × HoldsFor f told new at)

@@ -9,3 +9,6 @@ pub mod Putting
 pub mod Taking
 pub mod Parts
 pub mod InFile
+pub mod Begun
+pub mod Places
+pub mod Filed

@@ -1,5 +1,6 @@
 -- What becomes of a symbol that is put to those that stand at a block's ESIs.
-use Rattle.std.specs.Prelude.{◌≡◌, ◌≢◌, ◌<◌, ◌⊎◌, ℕ, List, length, Option, Some, None, ⊤}
+use Rattle.std.specs.Prelude.{◌≡◌, ◌≢◌, ◌<◌, ◌⊎◌, ℕ, Bool, true, List, length}
+use Rattle.std.specs.Prelude.{Option, Some, None, ⊤}
 use Rattle.std.specs.Prelude.{Result, IfOk, IfErr}
 use Rattle.partition.specs.Fti.{Fti, block_count, encoding_count}
 use Rattle.alc.specs.declared.reading.Packet.{Packet}
@@ -48,28 +49,31 @@ IsPutFault f b at j y NoMemory = ⊤
 IsPutFault f b at j y Failed = ⊤
 
 -- so, unless reading or writing has failed
-abbrev pub UnlessFailed : PutFault → Type 0 → Type 0
-UnlessFailed Failed So = ⊤
-UnlessFailed fault So = So
+abbrev pub UnlessFailed : Bool → PutFault → Type 0 → Type 0
+UnlessFailed failed Failed So = failed ≡ true
+UnlessFailed failed fault So = So
 
--- What comes of a symbol that is put: this is so where it was, and that where it wasn't, by why.
--- Nothing is told where reading or writing has failed.
-abbrev pub Outcome : {A : Type 0} → Result A PutFault → (A → Type 0) → (PutFault → Type 0) → Type 0
-Outcome result Put Not = IfOk result Put × IfErr result (λ fault. UnlessFailed fault (Not fault))
+-- What comes of a symbol that is put: this is so where it was, and that where it wasn't, by why, or
+-- reading or writing has failed.
+abbrev pub Outcome : {A : Type 0} → Bool → Result A PutFault → (A → Type 0) → (PutFault → Type 0)
+    → Type 0
+Outcome failed result Put Not =
+    IfOk result Put × IfErr result (λ fault. UnlessFailed failed fault (Not fault))
 
 -- a block's stored part and its bytes, where these were told before: they are for these symbols
--- with one more, which may stand there, or why not, and they are for those before
-abbrev pub BlockOutcome : {A : Type 0} → Fti → ℕ → (ℕ → List ℕ) → Option (ℕ → List ℕ)
-    → (ℕ → Option (List ℕ)) → ℕ → List ℕ → Result A PutFault
+-- with the packet's, which may stand there, or why not, and they are for those before
+abbrev pub BlockOutcome : {A : Type 0} → Fti → Packet → (ℕ → List ℕ) → Option (ℕ → List ℕ) → Bool
+    → (ℕ → Option (List ℕ)) → Result A PutFault
     → (A → List ℕ → (ℕ → Option (List ℕ)) → Type 0) → (List ℕ → Type 0) → Type 0
-BlockOutcome f b old new at j y result Is Was = Outcome result
-    (λ a. MayStand at j y × Becomes old new b (λ x. Is a x (with_esi at j y)))
-    (λ fault. IsPutFault f b at j y fault × Becomes old new b Was)
+BlockOutcome f p old new failed at result Is Was = Outcome failed result
+    (λ a. MayStand at p.esi p.symbol.now
+    × Becomes old new p.sbn (λ x. Is a x (with_esi at p.esi p.symbol.now)))
+    (λ fault. IsPutFault f p.sbn at p.esi p.symbol.now fault × Becomes old new p.sbn Was)
 
 -- the same of what is kept of an object, where the bytes of its blocks are told
-abbrev pub StoreOutcome : {A : Type 0} → Fti → Option (ℕ → List ℕ) → (ℕ → ℕ → Option (List ℕ))
-    → Packet → Result A PutFault → Store → Type 0
-StoreOutcome f told at p result store = Outcome result
+abbrev pub StoreOutcome : {A : Type 0} → Fti → Option (ℕ → List ℕ) → Bool
+    → (ℕ → ℕ → Option (List ℕ)) → Packet → Result A PutFault → Store → Type 0
+StoreOutcome f told failed at p result store = Outcome failed result
     (λ a. MayStand (at p.sbn) p.esi p.symbol.now
     × HoldsIn store told (with_symbol at p.sbn p.esi p.symbol.now))
     (λ fault. IsPutFault f p.sbn (at p.sbn) p.esi p.symbol.now fault × HoldsIn store told at)

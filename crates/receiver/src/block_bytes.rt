@@ -1,8 +1,8 @@
 //! Where the bytes of source blocks are kept.
-ghost use Rattle.std.specs.Prelude.{◌≡◌, ◌<◌, ◌≤◌, ◌+◌, ◌*◌, ℕ, Bool, List, Option, Ok, Err, false};
+ghost use Rattle.std.specs.Prelude.{◌≡◌, ◌<◌, ◌≤◌, ◌+◌, ◌*◌, ℕ, Bool, List, Option, Ok, Err, true};
 ghost use Rattle.std.specs.Prelude.{length, is_some, OnOk, OnErr};
 ghost use Rattle.partition.specs.Fti.{Fti as FtiValue, block_count, source_count};
-ghost use Rattle.receiver.specs.Bytes.{StandIn, Reaches, Puts};
+ghost use Rattle.receiver.specs.Bytes.{StandIn, IsThere, Puts};
 
 use partition::Fti;
 use session::Failed;
@@ -26,22 +26,23 @@ pub trait BlockBytes {
     /// It is told for every FTI, or for none.
     ghost all_told: { (s : Self) (f g : FtiValue) → is_some (kept s f) ≡ is_some (kept s g) };
 
-    /// Whether reading and writing can't fail, but for want of memory.
-    ghost reliable: { Self → Bool };
+    /// Whether reading or writing has failed.
+    ghost failed: { Self → Bool };
 
-    /// Reads a block's bytes from a place on, all that `into` has room for.
+    /// Reads a block's bytes from a place on, all that `into` has room for. Where so many are
+    /// there, an error comes only where reading has failed.
     fn read(&mut self, fti: &Fti, block: u32, from: usize, into: &mut [u8]) -> Result<(), Failed>
         requires number { block < block_count fti.now }
         requires inside { from + length into.old
             ≤ source_count fti.now block * fti.now.symbol_length }
-        requires there { Reaches (kept self.old fti.now) block (from + length into.old) }
         ensures len { length into.new ≡ length into.old }
         ensures bytes { OnOk result (StandIn (kept self.old fti.now) block from into.new) }
         ensures stays { kept self.new ≡ kept self.old }
-        ensures reliable { reliable self.new ≡ reliable self.old }
-        ensures fails { OnErr result (reliable self.old ≡ false) };
+        ensures fails { IsThere (kept self.old fti.now) block (from + length into.old)
+            → OnErr result (failed self.new ≡ true) };
 
-    /// Puts bytes behind the first `from` of a block.
+    /// Puts bytes behind the first `from` of a block. Where so many are there, `Failed` comes only
+    /// where writing has failed.
     fn write(
         &mut self,
         alloc: Global,
@@ -53,10 +54,9 @@ pub trait BlockBytes {
         requires number { block < block_count fti.now }
         requires inside { from + length bytes.now
             ≤ source_count fti.now block * fti.now.symbol_length }
-        requires there { Reaches (kept self.old fti.now) block from }
         ensures put { OnOk result (Puts (kept self.old fti.now) (kept self.new fti.now)
             block from bytes.now) }
         ensures stays { result ≡ Err BytesFault.NoMemory → kept self.new ≡ kept self.old }
-        ensures reliable { reliable self.new ≡ reliable self.old }
-        ensures fails { result ≡ Err BytesFault.Failed → reliable self.old ≡ false };
+        ensures fails { IsThere (kept self.old fti.now) block from
+            → result ≡ Err BytesFault.Failed → failed self.new ≡ true };
 }

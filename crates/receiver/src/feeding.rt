@@ -1,11 +1,12 @@
 //! Feeding a receiver with one datagram.
-ghost use Rattle.std.specs.Prelude.{◌≡◌, ◌≢◌, ◌<◌, ◌+◌, ◌↔◌, ℕ, List, Option, Some, Err, false};
+ghost use Rattle.std.specs.Prelude.{◌≡◌, ◌≢◌, ◌<◌, ◌+◌, ◌↔◌, ℕ, List, Option, None, Ok, Err, true};
+ghost use Rattle.std.specs.Prelude.{false};
 ghost use Rattle.std.specs.Prelude.{length, is_some, option_map};
 ghost use Rattle.std.specs.Prelude.{IfOk, IfSome, IsSome, IfErr, OnOk, OnErr};
 ghost use Rattle.partition.specs.Fti.{Fti as FtiValue, block_count, encoding_count};
 ghost use Rattle.reception.specs.Answer.{reception_of};
 ghost use Rattle.reception.specs.Walks.{readings_of};
-ghost use Rattle.receiver.specs.Holds.{Holds};
+ghost use Rattle.receiver.specs.Begun.{Begins, IsCarrierOf};
 ghost use Rattle.receiver.specs.Stands.{Stands, StandsWith, IsFed, IsSoundIn};
 ghost use Rattle.receiver.specs.Receiving.{with_datagram, Tells, IsFaultOf, HasNoFault};
 ghost use Rattle.receiver.specs.Receiving.{HasNoFaultBefore, ComesEarly, IfRefused, IsUnfedOf};
@@ -51,16 +52,12 @@ fn put<B: BlockBytes>(
     requires esi { packet.now.esi < encoding_count fti packet.now.sbn }
     requires symbol { length packet.now.symbol.now ≡ fti.symbol_length }
     requires fti { IfSome store.old (λ s. s.fti ≡ fti) }
-    requires there { (x : ℕ → List ℕ) → B.kept bytes.old fti ≡ Some x
-        → IfSome store.old (λ s. (at : ℕ → ℕ → Option (List ℕ)) × Holds s x at) }
     ensures sound { IsSoundIn store.new }
     ensures outcome { (at : ℕ → ℕ → Option (List ℕ))
         → HoldsFor fti (B.kept bytes.old) store.old at
-        → FedOutcome fti (B.kept bytes.new) at packet.now result store.new }
+        → FedOutcome fti (B.kept bytes.new) (B.failed bytes.new) at packet.now result store.new }
     ensures some { OnOk result (IsSome store.new) }
     ensures none { OnErr result (is_some store.new ≡ is_some store.old) }
-    ensures reliable { B.reliable bytes.new ≡ B.reliable bytes.old }
-    ensures fails { result ≡ Err PutFault.Failed → B.reliable bytes.old ≡ false }
 {
     if let Some(store) = store {
         return store.put(alloc, packet, bytes);
@@ -76,6 +73,7 @@ fn put<B: BlockBytes>(
 impl Receiving {
     // Whose packets it receives and with which FTI, as far as that is known.
     fn scope(&self) -> Scope
+        ensures identity { result.identity ≡ self.now.identity }
         ensures fti { result.fti ≡ option_map (λ s. s.fti) self.now.store }
         ensures scope { (told : FtiValue → Option (ℕ → List ℕ)) (ds : List (List ℕ))
             → StandsWith self.now told ds
@@ -97,6 +95,7 @@ impl Receiving {
             → StandsWith self.now told ds → Tells result self.now.identity ds }
         ensures sound { (told : FtiValue → Option (ℕ → List ℕ)) (ds : List (List ℕ))
             → StandsWith self.now told ds → HasNoFault self.now.identity ds }
+        ensures complete { result ≡ Progress.Complete → IsSome self.now.store }
     {
         let Some(store) = &self.store else {
             return Progress::More;
@@ -120,9 +119,25 @@ impl Receiving {
             → StandsWith self.new told ds → Tells result self.new.identity ds }
         ensures sound { (told : FtiValue → Option (ℕ → List ℕ)) (ds : List (List ℕ))
             → StandsWith self.new told ds → HasNoFault self.new.identity ds }
+        ensures complete { result ≡ Progress.Complete → IsSome self.new.store }
     {
         self.accepted += 1;
         self.progress()
+    }
+
+    /// Whether this datagram would be the first carrier, and its own FTI has its symbol.
+    pub(crate) fn is_begun_by(&self, datagram: &[u8]) -> bool
+        ensures carrier { result ≡ true → IsCarrierOf self.now.identity datagram.now }
+        ensures other { result ≡ false → ¬ Begins self.now.identity datagram.now }
+    {
+        are_bytes(datagram);
+        let mut scope = Scope::new(self.identity);
+        match scope.look(datagram) {
+            Ok(Look::InRange(_)) => true,
+            Ok(Look::Other) => false,
+            Ok(Look::Early) => false,
+            Err(_) => false,
+        }
     }
 
     /// Takes one datagram, as `Receiver::feed`, and keeps its symbol among these bytes, which are
@@ -134,8 +149,6 @@ impl Receiving {
         datagram: &[u8],
     ) -> Result<Progress, Unfed>
         requires sound { IsSoundIn self.old.store }
-        requires fed { (f : FtiValue) (x : ℕ → List ℕ) → B.kept bytes.old f ≡ Some x
-            → (ds : List (List ℕ)) × StandsWith self.old (B.kept bytes.old) ds }
         ensures identity { self.new.identity ≡ self.old.identity }
         ensures sound { IsSoundIn self.new.store }
         ensures accepted { (ds : List (List ℕ)) → StandsWith self.old (B.kept bytes.old) ds
@@ -157,8 +170,11 @@ impl Receiving {
         ensures early { (ds : List (List ℕ)) → StandsWith self.old (B.kept bytes.old) ds
             → (result ≡ Err (Unfed.Refused FeedFault.Early))
             ↔ ((length ds ≢ usize.MAX) × ComesEarly self.old.identity ds datagram.now) }
-        ensures reliable { B.reliable bytes.new ≡ B.reliable bytes.old }
-        ensures fails { result ≡ Err Unfed.Failed → B.reliable bytes.old ≡ false }
+        ensures complete { result ≡ Ok Progress.Complete → IsSome self.new.store }
+        ensures waits { self.old.store ≡ None → ¬ Begins self.old.identity datagram.now
+            → (self.new.store ≡ None) × (result ≢ Err Unfed.Failed) }
+        ensures fails { (ds : List (List ℕ)) → StandsWith self.old (B.kept bytes.old) ds
+            → result ≡ Err Unfed.Failed → B.failed bytes.new ≡ true }
     {
         if self.accepted == usize::MAX {
             return Err(Unfed::Refused(FeedFault::Full));

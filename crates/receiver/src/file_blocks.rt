@@ -116,7 +116,7 @@ impl<W: WriteAt> BlockBytes for FileBlocks<W> {
           | Some x ↦ refl
         ] };
 
-    ghost reliable = { λ _. false };
+    ghost failed = { λ file. W.failed file.output };
 
     /// Fails only where the output has failed, or what it has isn't told.
     fn read(&mut self, fti: &Fti, block: u32, from: usize, into: &mut [u8]) -> Result<(), Failed>
@@ -128,9 +128,7 @@ impl<W: WriteAt> BlockBytes for FileBlocks<W> {
             (StandIn (kept_at (W.contents self.old.output) fti.now) block from into.new) }
         ensures stays { kept_at (W.contents self.new.output)
             ≡ kept_at (W.contents self.old.output) }
-        ensures reliable { false ≡ false }
-        ensures fails { OnErr result (false ≡ false) }
-        ensures broken { OnErr result
+        ensures fails { OnErr result
             ((W.failed self.new.output ≡ true) ⊎ (W.contents self.old.output ≡ None)) }
     {
         self.grow(end_of(fti, block))?;
@@ -154,9 +152,7 @@ impl<W: WriteAt> BlockBytes for FileBlocks<W> {
             (kept_at (W.contents self.new.output) fti.now) block from bytes.now) }
         ensures stays { result ≡ Err BytesFault.NoMemory → kept_at (W.contents self.new.output)
             ≡ kept_at (W.contents self.old.output) }
-        ensures reliable { false ≡ false }
-        ensures fails { result ≡ Err BytesFault.Failed → false ≡ false }
-        ensures broken { OnErr result (W.failed self.new.output ≡ true) }
+        ensures fails { OnErr result (W.failed self.new.output ≡ true) }
     {
         match self.put(fti, block, from, bytes) {
             Ok(()) => Ok(()),

@@ -1,5 +1,5 @@
 //! The bytes of blocks, held in memory.
-ghost use Rattle.std.specs.Prelude.{◌≡◌, ◌≤◌, ◌+◌, [], Some, true, length, OnErr};
+ghost use Rattle.std.specs.Prelude.{◌≡◌, ◌≤◌, ◌+◌, [], Some, false, length, OnErr};
 ghost use Rattle.std.specs.Prelude.{take, ◌++◌, OnOk, refl};
 
 use crate::block_bytes::{BlockBytes, BytesFault};
@@ -66,14 +66,19 @@ impl BlockBytes for HeldBlocks {
 
     ghost all_told = { λ s f g. refl };
 
-    ghost reliable = { λ _. true };
+    ghost failed = { λ _. false };
 
+    /// Fails where the block has fewer bytes.
     fn read(&mut self, _fti: &Fti, block: u32, from: usize, into: &mut [u8]) -> Result<(), Failed> {
         let bytes = self.block(block);
+        if bytes.len() < from || bytes.len() - from < into.len() {
+            return Err(Failed);
+        }
         into.copy_from_slice(&bytes[from..from + into.len()]);
         Ok(())
     }
 
+    /// Fails where the block has fewer bytes before them.
     fn write(
         &mut self,
         alloc: Global,
@@ -84,6 +89,9 @@ impl BlockBytes for HeldBlocks {
     ) -> Result<(), BytesFault> {
         let blocks = self.blocks.get_or_insert_with(|| BTreeMap::new(alloc));
         if let Some(held) = blocks.get_mut(&block) {
+            if held.len() < from {
+                return Err(BytesFault::Failed);
+            }
             let most = fti
                 .k(block)
                 .saturating_mul(usize::from(fti.symbol_length()));
@@ -91,6 +99,9 @@ impl BlockBytes for HeldBlocks {
                 Ok(()) => Ok(()),
                 Err(_) => Err(BytesFault::NoMemory),
             };
+        }
+        if 0 < from {
+            return Err(BytesFault::Failed);
         }
         let Ok(copy) = bytes.to_vec(alloc) else {
             return Err(BytesFault::NoMemory);

@@ -8,7 +8,8 @@
 //! - `receiving`: the same but for the bytes of symbols, which are kept wherever the caller says.
 //!   `block_bytes` is what is asked of such a place: bytes that are put one behind the other, by
 //!   block, and read again. `held_blocks` is one in memory, which a `Receiver` has, and
-//!   `file_blocks` one in an output that is written at offsets;
+//!   `file_blocks` one in an output that is written at offsets. `file_receiver` is a receiver that
+//!   keeps them in the output that the object is for, and `blocks` says where there;
 //! - `feeding` takes one datagram more, and `taking` gives the answer, or writes the object block
 //!   by block; `storing` tells how much is kept;
 //! - `store`: what it keeps of an object beside bytes, and `stored`: of a block. While too few
@@ -21,8 +22,10 @@
 #![tactic(auto)]
 
 mod block_bytes;
+mod blocks;
 mod feeding;
 mod file_blocks;
+mod file_receiver;
 mod held_blocks;
 mod pending_block;
 mod putting;
@@ -37,6 +40,7 @@ mod taking;
 
 pub use block_bytes::{BlockBytes, BytesFault};
 pub use file_blocks::FileBlocks;
+pub use file_receiver::FileReceiver;
 pub use held_blocks::HeldBlocks;
 pub use receiver::{FeedFault, Progress, Receiver};
 pub use receiving::{Receiving, Unfed};

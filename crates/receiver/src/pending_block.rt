@@ -109,17 +109,13 @@ impl Pending {
         requires place { (place < length self.now.esis.items)
             × (slice_index self.now.esis.items place ≡ packet.now.esi) }
         requires of { IsPendingOf fti.now packet.now.sbn self.now }
-        requires there { (x : ℕ → List ℕ) → B.kept bytes.old fti.now ≡ Some x
-            → (at : ℕ → Option (List ℕ))
-            × IsPending fti.now packet.now.sbn (x packet.now.sbn) self.now at }
         ensures outcome { (x : ℕ → List ℕ) (at : ℕ → Option (List ℕ))
             → B.kept bytes.old fti.now ≡ Some x
             → IsPending fti.now packet.now.sbn (x packet.now.sbn) self.now at
-            → Outcome result (λ _. at packet.now.esi ≡ Some packet.now.symbol.now)
+            → Outcome (B.failed bytes.new) result
+            (λ _. at packet.now.esi ≡ Some packet.now.symbol.now)
             (IsPutFault fti.now packet.now.sbn at packet.now.esi packet.now.symbol.now) }
         ensures stays { B.kept bytes.new ≡ B.kept bytes.old }
-        ensures reliable { B.reliable bytes.new ≡ B.reliable bytes.old }
-        ensures fails { result ≡ Err PutFault.Failed → B.reliable bytes.old ≡ false }
     {
         let size = usize::from(fti.symbol_length());
         let Ok(mut symbol) = vec![in alloc; 0u8; size] else {
@@ -164,18 +160,13 @@ impl Pending {
         requires few { length self.old.esis.items + 1 < self.old.need }
         requires of { IsPendingOf fti.now packet.now.sbn self.old }
         requires free { is_among self.old.esis.items packet.now.esi ≡ false }
-        requires there { (x : ℕ → List ℕ) → B.kept bytes.old fti.now ≡ Some x
-            → (at : ℕ → Option (List ℕ))
-            × IsPending fti.now packet.now.sbn (x packet.now.sbn) self.old at }
         ensures of { IsPendingOf fti.now packet.now.sbn self.new }
         ensures outcome { (x : ℕ → List ℕ) (at : ℕ → Option (List ℕ))
             → B.kept bytes.old fti.now ≡ Some x
             → IsPending fti.now packet.now.sbn (x packet.now.sbn) self.old at
-            → BlockOutcome fti.now packet.now.sbn x (B.kept bytes.new fti.now) at packet.now.esi
-            packet.now.symbol.now result (λ _ y. IsPending fti.now packet.now.sbn y self.new)
+            → BlockOutcome fti.now packet.now x (B.kept bytes.new fti.now) (B.failed bytes.new)
+            at result (λ _ y. IsPending fti.now packet.now.sbn y self.new)
             (λ y. IsPending fti.now packet.now.sbn y self.new at) }
-        ensures reliable { B.reliable bytes.new ≡ B.reliable bytes.old }
-        ensures fails { result ≡ Err PutFault.Failed → B.reliable bytes.old ≡ false }
     {
         let from = self.esis.len() * usize::from(fti.symbol_length());
         match bytes.write(alloc, fti, packet.sbn, from, packet.symbol) {
@@ -203,19 +194,14 @@ impl Pending {
         requires of { IsPendingOf fti.now packet.now.sbn self.now }
         requires free { is_among self.now.esis.items packet.now.esi ≡ false }
         requires last { self.now.need ≤ length self.now.esis.items + 1 }
-        requires there { (x : ℕ → List ℕ) → B.kept bytes.old fti.now ≡ Some x
-            → (at : ℕ → Option (List ℕ))
-            × IsPending fti.now packet.now.sbn (x packet.now.sbn) self.now at }
         ensures keeps { MayPut fti.now codes.now packet.now scratch.new }
         ensures of { IfOk result (IsSolvedOf fti.now packet.now.sbn) }
         ensures outcome { (x : ℕ → List ℕ) (at : ℕ → Option (List ℕ))
             → B.kept bytes.old fti.now ≡ Some x
             → IsPending fti.now packet.now.sbn (x packet.now.sbn) self.now at
-            → BlockOutcome fti.now packet.now.sbn x (B.kept bytes.new fti.now) at packet.now.esi
-            packet.now.symbol.now result (λ s y. IsSolved fti.now packet.now.sbn y s)
+            → BlockOutcome fti.now packet.now x (B.kept bytes.new fti.now) (B.failed bytes.new)
+            at result (λ s y. IsSolved fti.now packet.now.sbn y s)
             (λ y. IsPending fti.now packet.now.sbn y self.now at) }
-        ensures reliable { B.reliable bytes.new ≡ B.reliable bytes.old }
-        ensures fails { result ≡ Err PutFault.Failed → B.reliable bytes.old ≡ false }
     {
         let n = fti.n(packet.sbn);
         let size = usize::from(fti.symbol_length());
@@ -265,20 +251,15 @@ impl Pending {
     ) -> Result<Option<Solved>, PutFault>
         requires given { MayPut fti.now codes.now packet.now scratch.old }
         requires of { IsPendingOf fti.now packet.now.sbn self.old }
-        requires there { (x : ℕ → List ℕ) → B.kept bytes.old fti.now ≡ Some x
-            → (at : ℕ → Option (List ℕ))
-            × IsPending fti.now packet.now.sbn (x packet.now.sbn) self.old at }
         ensures keeps { MayPut fti.now codes.now packet.now scratch.new }
         ensures of { IsPendingOf fti.now packet.now.sbn self.new }
         ensures solved_of { IfOk result (λ o. IfSome o (IsSolvedOf fti.now packet.now.sbn)) }
         ensures outcome { (x : ℕ → List ℕ) (at : ℕ → Option (List ℕ))
             → B.kept bytes.old fti.now ≡ Some x
             → IsPending fti.now packet.now.sbn (x packet.now.sbn) self.old at
-            → BlockOutcome fti.now packet.now.sbn x (B.kept bytes.new fti.now) at packet.now.esi
-            packet.now.symbol.now result (IsNow fti.now packet.now.sbn self.new)
+            → BlockOutcome fti.now packet.now x (B.kept bytes.new fti.now) (B.failed bytes.new)
+            at result (IsNow fti.now packet.now.sbn self.new)
             (λ y. IsPending fti.now packet.now.sbn y self.new at) }
-        ensures reliable { B.reliable bytes.new ≡ B.reliable bytes.old }
-        ensures fails { result ≡ Err PutFault.Failed → B.reliable bytes.old ≡ false }
     {
         if let Some(place) = place_of(&self.esis, packet.esi) {
             self.compare(alloc, fti, packet, place, bytes)?;

@@ -1,9 +1,8 @@
 //! Putting a symbol to what is kept of an object.
-ghost use Rattle.std.specs.Prelude.{◌≡◌, ◌≢◌, ◌<◌, ℕ, List, Option, Some, None, Err, length};
-ghost use Rattle.std.specs.Prelude.{false};
+ghost use Rattle.std.specs.Prelude.{◌≡◌, ◌≢◌, ◌<◌, ℕ, List, Option, Some, None, length};
 ghost use Rattle.partition.specs.Fti.{block_count, encoding_count};
 ghost use Rattle.decoder.specs.Blocks.{HaveLength};
-ghost use Rattle.receiver.specs.Holds.{HasParts, IsSound, Holds, HoldsIn, Solves, kept_of};
+ghost use Rattle.receiver.specs.Holds.{HasParts, IsSound, HoldsIn, Solves, kept_of};
 ghost use Rattle.receiver.specs.Putting.{MayPut, BlockOutcome, StoreOutcome};
 ghost use Rattle.receiver.specs.Stored.{IsOf, IsStored};
 
@@ -29,9 +28,6 @@ impl Stored {
     ) -> Result<bool, PutFault>
         requires given { MayPut fti.now codes.now packet.now scratch.old }
         requires of { IsOf fti.now packet.now.sbn (Some self.old) }
-        requires there { (x : ℕ → List ℕ) → B.kept bytes.old fti.now ≡ Some x
-            → (at : ℕ → Option (List ℕ))
-            × IsStored fti.now packet.now.sbn (x packet.now.sbn) (Some self.old) at }
         ensures keeps { MayPut fti.now codes.now packet.now scratch.new }
         ensures of { IsOf fti.now packet.now.sbn (Some self.new) }
         ensures solves { Solves result (Some self.old) (Some self.new) }
@@ -39,11 +35,9 @@ impl Stored {
             → B.kept bytes.old fti.now ≡ Some x
             → IsStored fti.now packet.now.sbn (x packet.now.sbn) (Some self.old) at
             → HaveLength fti.now.symbol_length at
-            → BlockOutcome fti.now packet.now.sbn x (B.kept bytes.new fti.now) at packet.now.esi
-            packet.now.symbol.now result (λ _ y. IsStored fti.now packet.now.sbn y (Some self.new))
+            → BlockOutcome fti.now packet.now x (B.kept bytes.new fti.now) (B.failed bytes.new)
+            at result (λ _ y. IsStored fti.now packet.now.sbn y (Some self.new))
             (λ y. IsStored fti.now packet.now.sbn y (Some self.new) at) }
-        ensures reliable { B.reliable bytes.new ≡ B.reliable bytes.old }
-        ensures fails { result ≡ Err PutFault.Failed → B.reliable bytes.old ≡ false }
     {
         let solved = match self {
             Stored::Pending(pending) => {
@@ -84,10 +78,8 @@ impl Store {
             → kept_of self.new a ≡ kept_of self.old a }
         ensures outcome { (at : ℕ → ℕ → Option (List ℕ))
             → HoldsIn self.old (B.kept bytes.old self.old.fti) at
-            → StoreOutcome self.old.fti (B.kept bytes.new self.old.fti) at packet.now result
-            self.new }
-        ensures reliable { B.reliable bytes.new ≡ B.reliable bytes.old }
-        ensures fails { result ≡ Err PutFault.Failed → B.reliable bytes.old ≡ false }
+            → StoreOutcome self.old.fti (B.kept bytes.new self.old.fti) (B.failed bytes.new) at
+            packet.now result self.new }
     {
         let mut stored = Stored::Pending(Pending::new(alloc, self.fti.k(packet.sbn)));
         let scratch = &mut self.scratch;
@@ -109,8 +101,6 @@ impl Store {
         requires number { packet.now.sbn < block_count self.old.fti }
         requires esi { packet.now.esi < encoding_count self.old.fti packet.now.sbn }
         requires symbol { length packet.now.symbol.now ≡ self.old.fti.symbol_length }
-        requires there { (x : ℕ → List ℕ) → B.kept bytes.old self.old.fti ≡ Some x
-            → (at : ℕ → ℕ → Option (List ℕ)) × Holds self.old x at }
         ensures fti { self.new.fti ≡ self.old.fti }
         ensures count { self.new.solved ≡ self.old.solved }
         ensures parts { HasParts self.new }
@@ -120,10 +110,8 @@ impl Store {
             → kept_of self.new a ≡ kept_of self.old a }
         ensures outcome { (at : ℕ → ℕ → Option (List ℕ))
             → HoldsIn self.old (B.kept bytes.old self.old.fti) at
-            → StoreOutcome self.old.fti (B.kept bytes.new self.old.fti) at packet.now result
-            self.new }
-        ensures reliable { B.reliable bytes.new ≡ B.reliable bytes.old }
-        ensures fails { result ≡ Err PutFault.Failed → B.reliable bytes.old ≡ false }
+            → StoreOutcome self.old.fti (B.kept bytes.new self.old.fti) (B.failed bytes.new) at
+            packet.now result self.new }
     {
         let scratch = &mut self.scratch;
         match self.blocks.get_mut(&packet.sbn) {
@@ -143,16 +131,12 @@ impl Store {
         requires number { packet.now.sbn < block_count self.old.fti }
         requires esi { packet.now.esi < encoding_count self.old.fti packet.now.sbn }
         requires symbol { length packet.now.symbol.now ≡ self.old.fti.symbol_length }
-        requires there { (x : ℕ → List ℕ) → B.kept bytes.old self.old.fti ≡ Some x
-            → (at : ℕ → ℕ → Option (List ℕ)) × Holds self.old x at }
         ensures fti { self.new.fti ≡ self.old.fti }
         ensures sound { IsSound self.new }
         ensures outcome { (at : ℕ → ℕ → Option (List ℕ))
             → HoldsIn self.old (B.kept bytes.old self.old.fti) at
-            → StoreOutcome self.old.fti (B.kept bytes.new self.old.fti) at packet.now result
-            self.new }
-        ensures reliable { B.reliable bytes.new ≡ B.reliable bytes.old }
-        ensures fails { result ≡ Err PutFault.Failed → B.reliable bytes.old ≡ false }
+            → StoreOutcome self.old.fti (B.kept bytes.new self.old.fti) (B.failed bytes.new) at
+            packet.now result self.new }
     {
         self.fti.is_valid();
         if self.put_to_block(alloc, packet, bytes)? {

@@ -27,7 +27,7 @@ pub struct Receiving {
 }
 
 impl Receiving {
-    ghost use Rattle.std.specs.Prelude.{◌≡◌, [], ℕ, List, Option};
+    ghost use Rattle.std.specs.Prelude.{◌≡◌, [], ℕ, List, Option, None};
     ghost use Rattle.partition.specs.Fti.{Fti as FtiValue};
     ghost use Rattle.receiver.specs.Bytes.{AreTold};
     ghost use Rattle.receiver.specs.Stands.{StandsWith};
@@ -37,6 +37,7 @@ impl Receiving {
         ensures stands { (told : FtiValue → Option (ℕ → List ℕ)) → AreTold told
             → StandsWith result told [] }
         ensures identity { result.identity ≡ identity }
+        ensures store { result.store ≡ None }
     {
         Receiving {
             identity,

@@ -26,20 +26,15 @@ impl Solved {
     ) -> Result<(), PutFault>
         requires given { MayPut fti.now codes.now packet.now scratch.old }
         requires of { IsSolvedOf fti.now packet.now.sbn self.old }
-        requires there { (x : ℕ → List ℕ) → B.kept bytes.old fti.now ≡ Some x
-            → (at : ℕ → Option (List ℕ))
-            × IsSolved fti.now packet.now.sbn (x packet.now.sbn) self.old at }
         ensures keeps { MayPut fti.now codes.now packet.now scratch.new }
         ensures of { IsSolvedOf fti.now packet.now.sbn self.new }
         ensures outcome { (x : ℕ → List ℕ) (at : ℕ → Option (List ℕ))
             → B.kept bytes.old fti.now ≡ Some x
             → IsSolved fti.now packet.now.sbn (x packet.now.sbn) self.old at
             → HaveLength fti.now.symbol_length at
-            → BlockOutcome fti.now packet.now.sbn x (B.kept bytes.new fti.now) at packet.now.esi
-            packet.now.symbol.now result (λ _ y. IsSolved fti.now packet.now.sbn y self.new)
+            → BlockOutcome fti.now packet.now x (B.kept bytes.new fti.now) (B.failed bytes.new)
+            at result (λ _ y. IsSolved fti.now packet.now.sbn y self.new)
             (λ y. IsSolved fti.now packet.now.sbn y self.new at) }
-        ensures reliable { B.reliable bytes.new ≡ B.reliable bytes.old }
-        ensures fails { result ≡ Err PutFault.Failed → B.reliable bytes.old ≡ false }
     {
         fti.is_valid();
         let size = usize::from(fti.symbol_length());

@@ -1,7 +1,7 @@
 //! What a receiver gives: the answer to the datagrams that it accepted, and the object block by
 //! block.
 ghost use Rattle.std.specs.Prelude.{◌≡◌, ◌<◌, ℕ, List, Option, Ok, None, true, length, IfOk};
-ghost use Rattle.std.specs.Prelude.{IfSome, IsNone, OnOk, OnErr};
+ghost use Rattle.std.specs.Prelude.{IfSome, IsSome, IsNone, OnOk, OnErr};
 ghost use Rattle.std.specs.Io.KnownBytes.{Appends};
 ghost use Rattle.session.specs.Frames.{AppendsSome};
 ghost use Rattle.partition.specs.Fti.{block_count};
@@ -10,7 +10,9 @@ ghost use Rattle.decoder.specs.Answers.{answer_value, IsNoFault};
 ghost use Rattle.decoder.specs.Decoded.{IsShort};
 ghost use Rattle.receiver.specs.Holds.{Holds, kept_of, is_solved};
 ghost use Rattle.receiver.specs.Held.{held_of};
-ghost use Rattle.receiver.specs.Stands.{Stands};
+ghost use Rattle.partition.specs.Fti.{Fti as FtiValue};
+ghost use Rattle.receiver.specs.Filed.{IsLack};
+ghost use Rattle.receiver.specs.Stands.{Stands, StandsWith};
 ghost use Rattle.receiver.specs.Receiving.{LeaveNoneShort};
 ghost use Rattle.receiver.specs.Taking.{IsShortBlock, AllSolved};
 ghost use Rattle.receiver.specs.Parts.{part_of, object_in};
@@ -18,6 +20,7 @@ ghost use Rattle.decoder.specs.Gathering.{IsWrittenOf};
 
 use crate::held_blocks::HeldBlocks;
 use crate::receiver::Receiver;
+use crate::receiving::Receiving;
 use crate::store::Store;
 use crate::stored::Stored;
 use decoder::{Answer, Short};
@@ -91,7 +94,7 @@ impl HeldBlocks {
     }
 
     // Writes the object.
-    fn write_object<W: Write>(&self, fti: &Fti, writer: &mut W) -> Result<(), Failed>
+    pub(crate) fn write_object<W: Write>(&self, fti: &Fti, writer: &mut W) -> Result<(), Failed>
         ensures ok { OnOk result (Appends (W.contents writer.old) (W.contents writer.new)
             (object_in fti.now (held_of self.now))) }
         ensures err { OnErr result (AppendsSome (W.contents writer.old) (W.contents writer.new)
@@ -104,6 +107,31 @@ impl HeldBlocks {
             write_all(writer, self.part(fti, b))?;
         }
         Ok(())
+    }
+}
+
+impl Receiving {
+    /// What the accepted datagrams lack for the object: a carrier, or symbols of a block, the first
+    /// that is short. `None` is where nothing does.
+    pub(crate) fn lack(&self) -> Option<Answer>
+        ensures answer { (told : FtiValue → Option (ℕ → List ℕ)) (ds : List (List ℕ))
+            → StandsWith self.now told ds
+            → IfSome result (λ a. IsAnswer self.now.identity ds (answer_value a)) }
+        ensures lack { IfSome result IsLack }
+        ensures none { (told : FtiValue → Option (ℕ → List ℕ)) (ds : List (List ℕ))
+            → StandsWith self.now told ds → IsNone result → LeaveNoneShort self.now.identity ds }
+        ensures store { IsNone result → IsSome self.now.store }
+    {
+        let Some(store) = &self.store else {
+            return Some(Answer::Empty);
+        };
+        store.fti.is_valid();
+        let short = store.first_short()?;
+        Some(Answer::Missing {
+            block: short.block,
+            have: short.have,
+            need: short.need,
+        })
     }
 }
 

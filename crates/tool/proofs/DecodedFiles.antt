@@ -1,5 +1,5 @@
 -- A session file that was decoded where it stands, by its parts.
-use Rattle.std.proofs.Common.{◌≡◌, ◌⊎◌, ◌∙◌, ℕ, Bool, false, List, [], ◌∷◌, Option, Some, None, Result, Err, inl, inr, refl, sym, ap, subst, length, codes}
+use Rattle.std.proofs.Common.{◌≡◌, ◌⊎◌, ◌∙◌, ℕ, Bool, List, [], ◌∷◌, Option, Some, None, Result, Err, inl, inr, refl, sym, ap, subst, length, codes}
 use Rattle.std.specs.Prelude.{IfErr, IfSome}
 use Rattle.std.specs.Borrow.{Bor}
 use Rattle.session.specs.Frames.{StopsAt}
@@ -25,7 +25,7 @@ use Rattle.tool.proofs.Stopping.{kept_whole}
 use Rattle.decoder.specs.declared.answer.Answer.{Answer}
 use Rattle.request.specs.declared.requests.DecodeRequest.{DecodeRequest}
 use Rattle.request.specs.declared.requests.Request.TheVariants.{Decode}
-use Rattle.host.specs.World.{Files, GivesFile, Holds, IsFree, IsSilent, KeepsFiles, MayFail, Replaces, World, one_more}
+use Rattle.host.specs.World.{Files, GivesFile, Holds, IsFree, IsSilent, KeepsFiles, Replaces, World, one_more}
 use Rattle.tool.specs.Inputs.{ASession, Opened, HasValue, IsUnread}
 use Rattle.tool.specs.Lines.{line_of, count_line, answer_text}
 use Rattle.tool.specs.Commands.{answer_status, IsAnswerIn}

@@ -1,49 +1,61 @@
 -- Datagrams that come one by one, and one more.
-use Rattle.std.proofs.Common.{◌≡◌, ◌≢◌, ◌⊎◌, ◌≤◌, ◌+◌, ◌-◌, ◌^◌, ◌∙◌, ℕ, suc, Bool, true, false, List, [], ◌∷◌, ◌++◌, length, Option, Some, None, Result, Ok, Err, IfOk, IfErr, OnOk, inl, inr, refl, sym, ap, subst, arith, append_assoc}
+use Rattle.std.proofs.Common.{◌≡◌, ◌≢◌, ◌⊎◌, ◌≤◌, ◌+◌, ◌-◌, ◌^◌, ◌∙◌, ℕ, suc, Bool, true, false, List, [], ◌∷◌, ◌++◌, length, Option, Some, None, Ok, Err, inl, inr, refl, sym, ap, subst, arith, append_assoc}
+use Rattle.std.specs.Prelude.{IfSome, IsSome}
 use Rattle.std.proofs.lemmas.List.{append-nil, length-append}
-use Rattle.std.specs.Io.KnownBytes.{Consumes, Appends}
-use Rattle.session.specs.Frames.{frame, most_bytes}
+use Rattle.std.specs.Borrow.{Bor}
+use Rattle.std.specs.Io.KnownBytes.{Consumes, Appends, IsAtEnd}
+use Rattle.session.specs.Frames.{frame, most_bytes, IsReadFault}
 use Rattle.session.specs.declared.frame.FrameFault.{FrameFault}
 use Rattle.session.specs.declared.frame.FrameFault.TheVariants as frame_fault
 use Rattle.session.proofs.Sessions.{short_push}
 use Rattle.session.proofs.Writes.{then_appends}
 use Rattle.cert.proofs.FromReader.{consumes_one}
 use Rattle.reception.specs.declared.scope.Identity.{Identity}
-use Rattle.reception.specs.Answer as value
 use Rattle.partition.specs.Fti.{Fti as FtiValue}
 use Rattle.alc.specs.Reading.{Reading}
 use Rattle.reception.specs.Reception.{ReadAll}
 use Rattle.reception.specs.Answer.{IsAnswer, reception_of}
+use Rattle.streams.specs.declared.io.Write.{Ghosts}
 use Rattle.decoder.specs.Answers.{answer_value}
-use Rattle.receiver.specs.Receiving.{with_datagram, LeaveNoneShort, HasNoFault, ComesEarly}
 use Rattle.decoder.specs.declared.answer.Answer.{Answer}
 use Rattle.decoder.specs.declared.answer.Answer.TheVariants.{Empty, Fault as NoObject, Missing, Object}
+use Rattle.decoder.specs.declared.answer.DecodeFault.{DecodeFault}
+use Rattle.receiver.specs.Begun.{IsCarrierOf}
+use Rattle.receiver.specs.Filed.{Stands, IsLack, has_output}
+use Rattle.receiver.specs.Stands.{IsSoundIn}
+use Rattle.receiver.specs.Receiving.{with_datagram, LeaveNoneShort, HasNoFault, ComesEarly, Tells}
+use Rattle.receiver.specs.declared.receiver.Progress.{Progress}
+use Rattle.receiver.specs.declared.receiver.Progress.TheVariants.{More, Complete}
 use Rattle.receiver.specs.declared.receiver.FeedFault.{FeedFault}
 use Rattle.receiver.specs.declared.receiver.FeedFault.TheVariants as feed
-use Rattle.receiver.specs.declared.receiver.Receiver.{Receiver}
+use Rattle.receiver.specs.declared.receiving.Receiving.{Receiving}
+use Rattle.receiver.specs.declared.file_receiver.FileReceiver.{FileReceiver}
 use Rattle.request.specs.declared.requests.FollowRequest.{FollowRequest}
 use Rattle.request.specs.declared.requests.Request.TheVariants.{Follow}
-use Rattle.host.specs.World.{IsFree, Files, World, KeepsFiles, MayFail, Replaces, one_more}
+use Rattle.host.specs.World.{Files, World, Holds, IsBlank, IsFree, IsToStay, IsSilent, KeepsFiles, MayFail, one_more}
 use Rattle.tool.specs.Inputs.{AStream, Opened, HasValue}
 use Rattle.tool.specs.Lines.{line_of, answer_text}
-use Rattle.tool.specs.Commands.{answer_status, object_of}
-use Rattle.tool.specs.Following.{refusal_line, complete_line, IsNotTaken, Comes, Come, IsHeard, ends_text, Ends}
-use Rattle.tool.specs.Outcomes.{Makes, IsDone, IsUnmade, IsBecause, MayCreate, IsStopped}
-use Rattle.tool.specs.Doing.{IsUndone}
-use Rattle.decoder.specs.declared.answer.DecodeFault.{DecodeFault}
-use Rattle.tool.specs.Listening.{AreSaid, IsFrameUnread, stopped_by, HasMadeUp, HasHeardAll, IsCutBehind, IsUnheard, IsUnsaid, IsObjectMade, IsDelivered, IsUndelivered, TellsAnswer, heard_of}
+use Rattle.tool.specs.Commands.{Outcome, answer_status, object_of}
+use Rattle.tool.specs.Following.{refusal_line, IsNotTaken, Comes, Come, IsHeard, IsHeardInPart, BringsCarrier, ends_text, Ends}
+use Rattle.tool.specs.Outcomes.{Makes, IsDone, IsMade, IsBecause, IsGivenUp, IsUnprinted, MayCreate, IsStopped}
+use Rattle.tool.specs.Doing.{IsUncommitted, IsUncreated, IsUndone}
+use Rattle.tool.specs.Listening.{AreSaid, IsFrameUnread, stopped_by, IsCreatedFor, IsFollowed, IsShort, IsFull, HasHeardSome, IsReceived, IsLacking, IsUnread, IsUnheard, IsHearing}
 use Rattle.tool.specs.declared.fault.Fault.{Fault}
 use Rattle.tool.specs.declared.fault.Fault.TheVariants.{Open, File, Memory, Frame, Certificate, Fti, Send, NoPlace}
 use Rattle.tool.specs.declared.fault.Stop.{Stop}
-use Rattle.tool.specs.declared.fault.Stop.TheVariants.{ByFault, Unprinted}
-use Rattle.tool.proofs.Stopping.{by_refused, by_unmade, unmade_before}
+use Rattle.tool.specs.declared.fault.Stop.TheVariants.{ByFault}
+use Rattle.tool.specs.declared.follow.Followed.{Followed}
+use Rattle.tool.specs.declared.output.Unwritten.{Unwritten}
+use Rattle.tool.specs.declared.output.Unwritten.TheVariants as unwritten
+use Rattle.tool.proofs.Showed.{keeps}
+use Rattle.tool.proofs.Stopping.{by_refused, by_unmade}
 
 nothing_more : (a : Option (List ℕ)) → Appends a a []
 nothing_more None = tt
 nothing_more (Some xs) = sym (append-nil xs)
 
-pub none_heard : (who : Identity) (opened out : Option (List ℕ)) → Consumes opened opened [] → IsHeard who opened opened 0 [] [] × Appends out out []
-none_heard who opened out nothing = (record { datagrams = []; consumed = nothing; each = λ i. omega arith; many = refl; come = (refl, refl) }, nothing_more out)
+none_of : (who : Identity) (opened left : Option (List ℕ)) → Consumes opened left [] → IsHeard who opened left 0 [] []
+none_of who opened left nothing = record { datagrams = []; consumed = nothing; each = λ i. omega arith; many = refl; come = (refl, refl) }
 
 pub nothing_consumed : (a : Option (List ℕ)) → Consumes a a []
 nothing_consumed None = tt
@@ -108,198 +120,6 @@ refused_by who taken d feed.Full some full early faulty = full refl
 refused_by who taken d feed.Early some full early faulty = early refl
 refused_by who taken d feed.NoMemory some full early faulty = absurd (some refl)
 
--- no more is read, as there is no memory, or no frame
-pub stopped_memory : (who : Identity) (opened : Option (List ℕ)) (old new : World) (left : Option (List ℕ)) (read : ℕ) (taken : List (List ℕ)) (lines : List ℕ) (said : Bool)
-    → IsHeard who opened left read taken lines → AreSaid old new lines said → IsUnheard who opened old new (stopped_by Memory said)
-stopped_memory who opened old new left read taken lines true is printed = (left, read, taken, lines, is, printed)
-stopped_memory who opened old new left read taken lines false is failed = failed
-
-pub stopped_frame : (who : Identity) (opened : Option (List ℕ)) (old new : World) (left rest : Option (List ℕ)) (failed : Bool) (read : ℕ) (taken : List (List ℕ)) (lines : List ℕ) (said : Bool)
-    → IsHeard who opened left read taken lines → AreSaid old new lines said → (fault : Fault) → IsFrameUnread left rest failed fault
-    → IsUnheard who opened old new (stopped_by fault said)
-stopped_frame who opened old new left rest failed read taken lines false is none fault why = none
-stopped_frame who opened old new left rest failed read taken lines true is printed Memory why = (left, read, taken, lines, is, printed)
-stopped_frame who opened old new left rest failed read taken lines true is printed (Frame frame_fault.NoMemory) why = absurd why
-stopped_frame who opened old new left rest failed read taken lines true is printed (Frame frame_fault.Io) why = (left, rest, failed, read, taken, lines, is, why, printed)
-stopped_frame who opened old new left rest failed read taken lines true is printed (Frame frame_fault.CutLength) why = (left, rest, failed, read, taken, lines, is, why, printed)
-stopped_frame who opened old new left rest failed read taken lines true is printed (Frame frame_fault.CutDatagram) why = (left, rest, failed, read, taken, lines, is, why, printed)
-stopped_frame who opened old new left rest failed read taken lines true is printed (Frame frame_fault.TooLong) why = (left, rest, failed, read, taken, lines, is, why, printed)
-stopped_frame who opened old new left rest failed read taken lines true is printed (Frame (frame_fault.NoSuchPlace p)) why = (left, rest, failed, read, taken, lines, is, why, printed)
-stopped_frame who opened old new left rest failed read taken lines true is printed (Open n) why = absurd why
-stopped_frame who opened old new left rest failed read taken lines true is printed (File n) why = absurd why
-stopped_frame who opened old new left rest failed read taken lines true is printed (Certificate e) why = absurd why
-stopped_frame who opened old new left rest failed read taken lines true is printed (Fti e) why = absurd why
-stopped_frame who opened old new left rest failed read taken lines true is printed (Send e) why = absurd why
-stopped_frame who opened old new left rest failed read taken lines true is printed (NoPlace n) why = absurd why
-
-pub if_all : (result : Result ℕ Stop) (P Q : ℕ → Type 0) (said : Bool) → OnOk result (said ≡ true) → ((status : ℕ) → said ≡ true → P status → Q status) → IfOk result P → IfOk result Q
-if_all (Ok n) P Q said all f h = f n all h
-if_all (Err e) P Q said all f h = tt
-
-pub unless_all : (result : Result ℕ Stop) (P Q : Stop → Type 0) (said : Bool) → IfErr result (λ stop. stop ≢ Unprinted → said ≡ true)
-    → ((stop : Stop) → (stop ≢ Unprinted → said ≡ true) → P stop → Q stop) → IfErr result P → IfErr result Q
-unless_all (Ok n) P Q said told f h = tt
-unless_all (Err e) P Q said told f h = f e told h
-
--- ---- how following ends
-
-module _ (old : World) (r : FollowRequest) (opened : Option (List ℕ)) (held : HasValue old.files (AStream r.session.now) (Opened opened)) where
-  -- no more was read
-  module _ (new : World) (files : KeepsFiles old new) where
-    stopped_so : (text : List ℕ) (fault : Fault) → IsBecause old new (Follow r) text fault
-        → (left : Option (List ℕ)) → (read : ℕ) → (taken : List (List ℕ)) → IsHeard r.identity opened left read taken text → IsStopped old new (Follow r) text fault
-    stopped_so text fault why left read taken is =
-        record { because = why; before = inr (opened, held, (left, read, taken, text, is, inl refl)); files = files.files; created = inl files.created }
-
-    cut : (e : FrameFault) → IsCutBehind r.identity e opened old new → (e ≡ frame_fault.Io → MayFail old) → IsUndone old new (Follow r) (ByFault (Frame e))
-    cut e (left, rest, failed, read, taken, lines, is, fault, printed) fails =
-        (lines, printed, stopped_so lines (Frame e) (by_refused old new (Follow r) lines (Frame e) (opened, left, rest, failed, read, taken, held, is, fault, fails)) left read taken is)
-
-    pub unheard : (stop : Stop) → IsUnheard r.identity opened old new stop → (stop ≡ ByFault (Frame frame_fault.Io) → MayFail old) → IsUndone old new (Follow r) stop
-    unheard (ByFault (Frame frame_fault.NoMemory)) why fails = absurd why
-    unheard (ByFault (Frame frame_fault.Io)) why fails = cut frame_fault.Io why (λ _. fails refl)
-    unheard (ByFault (Frame frame_fault.CutLength)) why fails = cut frame_fault.CutLength why (λ e. absurd (cc))
-    unheard (ByFault (Frame frame_fault.CutDatagram)) why fails = cut frame_fault.CutDatagram why (λ e. absurd (cc))
-    unheard (ByFault (Frame frame_fault.TooLong)) why fails = cut frame_fault.TooLong why (λ e. absurd (cc))
-    unheard (ByFault (Frame (frame_fault.NoSuchPlace p))) why fails = cut (frame_fault.NoSuchPlace p) why (λ e. absurd (cc))
-    unheard (ByFault Memory) (left, read, taken, lines, is, printed) fails = (lines, printed, stopped_so lines Memory tt left read taken is)
-    unheard (ByFault (Open n)) why fails = absurd why
-    unheard (ByFault (File n)) why fails = absurd why
-    unheard (ByFault (Certificate e)) why fails = absurd why
-    unheard (ByFault (Fti e)) why fails = absurd why
-    unheard (ByFault (Send e)) why fails = absurd why
-    unheard (ByFault (NoPlace n)) why fails = absurd why
-    unheard Unprinted why fails = record { failed = why; done = inl (files.files, files.created) }
-
-  -- ---- the object
-  module _ (mid : World) (files : KeepsFiles old mid) (receiver : Receiver) (same : receiver.receiving.identity ≡ r.identity) (read : ℕ) (said : Bool) (made : HasMadeUp receiver opened old mid read said) where
-    pub taken_are : List (List ℕ)
-    taken_are = made.1
-
-    heard_so : IsHeard r.identity opened made.0 read made.1 made.2
-    heard_so = subst (λ (who : Identity). IsHeard who opened made.0 read made.1 made.2) same made.5
-
-    full_so : LeaveNoneShort r.identity made.1
-    full_so = subst (λ (who : Identity). LeaveNoneShort who made.1) same made.4
-
-    whole : List ℕ → List ℕ
-    whole object = made.2 ++ ends_text (value.Object object) read
-
-    makes_so : (new : World) (object : List ℕ) → IsObjectMade r (heard_of receiver made.1 read) mid new object
-        → Makes old new (Follow r) (record { text = made.2 ++ ends_text (value.Object object) read; status = 0; output = Some object })
-    makes_so new object (is, (replaced, created, free)) = record {
-      values = Opened opened ∷ [];
-      read = (held, tt);
-      gives = (made.0, read, made.1, made.2, value.Object object, heard_so, subst (λ (who : Identity). IsAnswer who made.1 (value.Object object)) same is, tt, (refl, refl, refl));
-      made = (
-        subst (λ (fs : Option Files). Replaces fs new.files r.output.name.now object) files.files replaced,
-        created ∙ ap one_more files.created,
-        subst (λ (fs : Option Files). IsFree fs r.output.name.now r.output.no_clobber) files.files free,
-      );
-    }
-
-    lines_said : said ≡ true → Appends old.printed mid.printed made.2
-    lines_said is = subst (AreSaid old mid made.2) is made.6
-
-    pub is_delivered : (new : World) (status : ℕ) → said ≡ true → IsDelivered r (heard_of receiver made.1 read) mid new status → IsDone old new (Follow r) status
-    is_delivered new status all (object, is, printed, done) = record {
-      outcome = record { text = made.2 ++ ends_text (value.Object object) read; status = 0; output = Some object };
-      makes = makes_so new object is;
-      printed = then_appends old.printed mid.printed new.printed made.2 (ends_text (value.Object object) read) (lines_said all) printed;
-      is_status = done;
-    }
-
-    may_here : MayCreate old.files (Follow r)
-    may_here = (opened, held, made.0, read, made.1, made.2, heard_so, full_so)
-
-    before_object : (new : World) → said ≡ true → Appends mid.printed new.printed (complete_line read) → Appends old.printed new.printed (made.2 ++ complete_line read)
-    before_object new all printed = then_appends old.printed mid.printed new.printed made.2 (complete_line read) (lines_said all) printed
-
-    pub is_undelivered : (new : World) (stop : Stop) → (stop ≢ Unprinted → said ≡ true) → IsUndelivered r (heard_of receiver made.1 read) mid new stop → IsUndone old new (Follow r) stop
-    is_undelivered new Unprinted told (failed, inl (object, is)) = record { failed = failed; done = inr (inl (_, makes_so new object is)) }
-    is_undelivered new Unprinted told (failed, inr (same_files, inl none)) = record { failed = failed; done = inl (same_files ∙ files.files, none ∙ files.created) }
-    is_undelivered new Unprinted told (failed, inr (same_files, inr one)) =
-        record { failed = failed; done = inr (inr (same_files ∙ files.files, one ∙ ap one_more files.created, may_here)) }
-    is_undelivered new (ByFault fault) told (why, printed) = (
-      made.2 ++ complete_line read,
-      before_object new (told (λ e. absurd (cc))) printed,
-      record {
-        because = unwritten_so fault (why.because (subst (λ (fs : Option Files). MayCreate fs (Follow r)) (sym files.files) may_here));
-        before = inr (opened, held, (made.0, read, made.1, made.2, heard_so, inr (full_so, refl)));
-        files = why.files ∙ files.files;
-        created = created_so why.created;
-      },
-    )
-      where
-        created_so : (new.created ≡ mid.created) ⊎ (new.created ≡ one_more mid.created) → (new.created ≡ old.created) ⊎ ((new.created ≡ one_more old.created) × MayCreate old.files (Follow r))
-        created_so (inl none) = inl (none ∙ files.created)
-        created_so (inr one) = inr (one ∙ ap one_more files.created, may_here)
-
-        unwritten_so : (fault : Fault) → (fault ≡ Memory) ⊎ IsUnmade mid new (Follow r) fault → IsBecause old new (Follow r) (made.2 ++ complete_line read) fault
-        unwritten_so fault (inl none) = subst (λ (f : Fault). IsBecause old new (Follow r) (made.2 ++ complete_line read) f) (sym none) tt
-        unwritten_so fault (inr unmade) = by_unmade old new (Follow r) (made.2 ++ complete_line read) fault (unmade_before old mid new (Follow r) files fault unmade)
-
-  -- ---- what lacks
-  module _ (mid : World) (files : KeepsFiles old mid) (receiver : Receiver) (same : receiver.receiving.identity ≡ r.identity) (heard : HasHeardAll receiver opened old mid true) where
-    no_object : (object : List ℕ) → IsAnswer receiver.receiving.identity heard.2 (value.Object object) → ⊥
-    no_object object h =
-        let (f, clean, solvable, full, fits) = h.answers in
-        heard.5 record { readings = h.readings; read = h.read; fti = f; known = clean.some; full = full }
-
-    heard_here : IsHeard r.identity opened heard.0 heard.1 heard.2 heard.3
-    heard_here = subst (λ (who : Identity). IsHeard who opened heard.0 heard.1 heard.2 heard.3) same heard.6
-
-    lacks_so : (new : World) → KeepsFiles mid new → (answer : Answer) (status : ℕ) → IsAnswer receiver.receiving.identity heard.2 (answer_value answer) → object_of (answer_value answer) ≡ None
-        → Ends (answer_value answer) heard.0 → ends_text (answer_value answer) heard.1 ≡ line_of (answer_text (answer_value answer))
-        → Appends mid.printed new.printed (line_of (answer_text (answer_value answer))) → status ≡ answer_status (answer_value answer) → IsDone old new (Follow r) status
-    lacks_so new kept answer status is none ends text printed done = record {
-      outcome = record { text = heard.3 ++ line_of (answer_text (answer_value answer)); status = answer_status (answer_value answer); output = None };
-      makes = record {
-        values = Opened opened ∷ [];
-        read = (held, tt);
-        gives = (
-          heard.0,
-          heard.1,
-          heard.2,
-          heard.3,
-          answer_value answer,
-          heard_here,
-          subst (λ (who : Identity). IsAnswer who heard.2 (answer_value answer)) same is,
-          ends,
-          (ap (λ (t : List ℕ). heard.3 ++ t) (sym text), refl, sym none),
-        );
-        made = (kept.files ∙ files.files, kept.created ∙ files.created);
-      };
-      printed = then_appends old.printed mid.printed new.printed heard.3 (line_of (answer_text (answer_value answer))) heard.8 printed;
-      is_status = done;
-    }
-
-    pub is_lack : (new : World) → KeepsFiles mid new → (status : ℕ) → TellsAnswer receiver.receiving.identity heard.2 mid new status → IsDone old new (Follow r) status
-    is_lack new kept status (Empty, is, sound, printed, done) = lacks_so new kept Empty status is refl heard.7 refl printed done
-    is_lack new kept status (Missing b have need, is, sound, printed, done) = lacks_so new kept (Missing b have need) status is refl heard.7 refl printed done
-    is_lack new kept status (Object object, is, sound, printed, done) = absurd (no_object object.items is)
-    is_lack new kept status (NoObject e, is, sound, printed, done) = absurd sound
-
-    pub is_unsaid : (new : World) → KeepsFiles mid new → (stop : Stop) → IsUnsaid mid new stop → IsUndone old new (Follow r) stop
-    is_unsaid new kept (ByFault Memory) why = (
-      heard.3,
-      subst (λ (o : Option (List ℕ)). Appends old.printed o heard.3) (sym why) heard.8,
-      record {
-        because = tt;
-        before = inr (opened, held, (heard.0, heard.1, heard.2, heard.3, heard_here, inl refl));
-        files = kept.files ∙ files.files;
-        created = inl (kept.created ∙ files.created);
-      },
-    )
-    is_unsaid new kept (ByFault (Open n)) why = absurd why
-    is_unsaid new kept (ByFault (File n)) why = absurd why
-    is_unsaid new kept (ByFault (Frame e)) why = absurd why
-    is_unsaid new kept (ByFault (Certificate e)) why = absurd why
-    is_unsaid new kept (ByFault (Fti e)) why = absurd why
-    is_unsaid new kept (ByFault (Send e)) why = absurd why
-    is_unsaid new kept (ByFault (NoPlace n)) why = absurd why
-    is_unsaid new kept Unprinted why = record { failed = why; done = inl (kept.files ∙ files.files, kept.created ∙ files.created) }
-
 -- ---- no datagrams
 
 no_carrier : (who : Identity) (rs : List Reading) (f : FtiValue) → ReadAll [] rs → (reception_of who rs).scope.fti ≡ Some f → ⊥
@@ -308,3 +128,407 @@ no_carrier who (x ∷ rs) f all known = absurd all
 
 pub no_datagrams : (who : Identity) → ¬ LeaveNoneShort who []
 no_datagrams who none = no_carrier who none.readings none.fti none.read none.known
+
+-- ---- what the session's file holds, where files are told
+
+pub holds_then : (files : Option Files) (name : List ℕ) (P Q : List ℕ → Type 0) → ((bytes : List ℕ) → P bytes → Q bytes) → Holds files name P → Holds files name Q
+holds_then None name P Q f h = tt
+holds_then (Some held) name P Q f (bytes, is, p) = (bytes, is, f bytes p)
+
+-- what is so of a value that the bytes give, or of any where they aren't told
+holds_some : (files : Option Files) (name : List ℕ) (A : Type 0) (any : A) (P : List ℕ → Type 0) (Q : List ℕ → A → Type 0) → Holds files name P
+    → ((bytes : List ℕ) → P bytes → (a : A) × Q bytes a) → (a : A) × Holds files name (λ bytes. Q bytes a)
+holds_some None name A any P Q h f = (any, tt)
+holds_some (Some held) name A any P Q (bytes, is, p) f = let w = f bytes p in (w.0, (bytes, is, w.1))
+
+abbrev pub opened_of : Option Files → List ℕ → Option (List ℕ)
+opened_of None name = None
+opened_of (Some held) name = held name
+
+pub has_opened : (files : Option Files) (name : List ℕ) (P : List ℕ → Type 0) → Holds files name P → HasValue files (AStream name) (Opened (opened_of files name))
+has_opened None name P h = tt
+has_opened (Some held) name P (bytes, is, p) = (bytes, is, is)
+
+pub of_opened : (files : Option Files) (name : List ℕ) (P : List ℕ → Type 0) → Holds files name P → IfSome (opened_of files name) P
+of_opened None name P h = tt
+of_opened (Some held) name P (bytes, is, p) = subst (λ (o : Option (List ℕ)). IfSome o P) (sym is) p
+
+-- ---- how far a session was followed
+
+-- so it is of the session's bytes, where they are told
+abbrev Session : FollowRequest → World → (List ℕ → Type 0) → Type 0
+Session r old P = Holds old.files r.session.now P
+
+module _ (r : FollowRequest) (old : World) where
+  created_still : (mid new : World) → new.created ≡ mid.created → (p q : Bool) → q ≡ p → IsCreatedFor r old mid p → IsCreatedFor r old new q
+  created_still mid new same true q is h = subst (λ (b : Bool). IsCreatedFor r old new b) (sym is) (same ∙ h.0, h.1, h.2)
+  created_still mid new same false q is h = subst (λ (b : Bool). IsCreatedFor r old new b) (sym is) (same ∙ h)
+
+  said_still : (mid new : World) (lines : List ℕ) (p q : Bool) → IsSilent mid new → q ≡ p → AreSaid old mid lines p → AreSaid old new lines q
+  said_still mid new lines true q silent same is = subst (λ (b : Bool). AreSaid old new lines b) (sym same) (subst (λ (o : Option (List ℕ)). Appends old.printed o lines) (sym silent.printed) is)
+  said_still mid new lines false q silent same is = subst (λ (b : Bool). AreSaid old new lines b) (sym same) (silent.failed ∙ is)
+
+  memory_because : (new : World) (text : List ℕ) (fault : Fault) → fault ≡ Memory → IsBecause old new (Follow r) text fault
+  memory_because new text fault is = subst (λ (f : Fault). IsBecause old new (Follow r) text f) (sym is) tt
+
+module _ {W : Type 0} {w : Ghosts W} (r : FollowRequest) (old : World) where
+  module _ (mid : World) (before : Followed W w) (P : List ℕ → List ℕ → Type 0) (h : IsFollowed r old mid before P) where
+    pub may_fail_here : MayFail mid → MayFail old
+    may_fail_here (inl untold) = inl (sym h.files ∙ untold)
+    may_fail_here (inr fallible) = inr (sym h.fallible ∙ fallible)
+
+    -- another receiver, while nothing is printed
+    pub followed_as : (new : World) (after : Followed W w) (Q : List ℕ → List ℕ → Type 0) → new.files ≡ mid.files → IsSilent mid new → IsSoundIn after.receiver.receiving.store
+        → after.receiver.receiving.identity ≡ before.receiver.receiving.identity → IsCreatedFor r old new (has_output after.receiver) → after.said ≡ before.said
+        → Session r old (λ bytes. Q bytes h.lines) → IsFollowed r old new after Q
+    followed_as new after Q files silent sound identity created said heard = record {
+      sound = sound;
+      identity = identity ∙ h.identity;
+      files = files ∙ h.files;
+      fallible = silent.fallible ∙ h.fallible;
+      created = created;
+      lines = h.lines;
+      said = said_still r old mid new h.lines before.said after.said silent said h.said;
+      heard = heard;
+    }
+
+    -- what was heard told otherwise
+    pub followed_then : (Q : List ℕ → List ℕ → Type 0) → ((bytes : List ℕ) → P bytes h.lines → Q bytes h.lines) → IsFollowed r old mid before Q
+    followed_then Q f = record {
+      sound = h.sound;
+      identity = h.identity;
+      files = h.files;
+      fallible = h.fallible;
+      created = h.created;
+      lines = h.lines;
+      said = h.said;
+      heard = holds_then old.files r.session.now (λ bytes. P bytes h.lines) (λ bytes. Q bytes h.lines) f h.heard;
+    }
+
+  -- those that leave a block short are some
+  pub some_heard : (mid : World) (left : Option (List ℕ)) (followed : Followed W w) → IsFollowed r old mid followed (IsShort r left followed) → IsFollowed r old mid followed (HasHeardSome r left)
+  some_heard mid left followed h = followed_then mid followed (IsShort r left followed) h (HasHeardSome r left) (λ bytes s. (followed.count, s.0, s.3))
+
+  -- ---- the beginning
+
+  pub begun : (opened : Option (List ℕ)) → Session r old (λ bytes. opened ≡ Some bytes) → (receiver : FileReceiver W w) → Stands receiver [] → IsSoundIn receiver.receiving.store
+      → receiver.receiving.identity ≡ r.identity → has_output receiver ≡ false
+      → let start : Followed W w = record { receiver = receiver; count = 0; said = true } in IsFollowed r old old start (IsShort r opened start)
+  begun opened held receiver stands sound identity none = record {
+    sound = sound;
+    identity = identity;
+    files = refl;
+    fallible = refl;
+    created = subst (λ (b : Bool). IsCreatedFor r old old b) (sym none) refl;
+    lines = [];
+    said = nothing_more old.printed;
+    heard = holds_then old.files r.session.now _ _ (λ bytes is. (
+      [],
+      stands,
+      no_datagrams r.identity,
+      none_of r.identity (Some bytes) opened (subst (λ (o : Option (List ℕ)). Consumes (Some bytes) o []) (sym is) (nothing_consumed (Some bytes))),
+    )) held;
+  }
+
+  -- ---- the output
+
+  module _ (mid : World) (before after : Option (List ℕ)) (d : List ℕ) (f : Followed W w) (is : IsFollowed r old mid f (IsShort r before f)) (one : Consumes before after (frame d))
+      (short : length d ≤ most_bytes) where
+    module _ (carrier : IsCarrierOf f.receiver.receiving.identity d) (none : has_output f.receiver ≡ false) where
+      may : MayCreate old.files (Follow r)
+      may = holds_then old.files r.session.now _ (λ bytes. BringsCarrier r.identity (Some bytes)) (λ bytes (taken, stands, lacks, heard). (
+        after,
+        heard.datagrams,
+        d,
+        record { consumed = consumes_one (Some bytes) before after heard.datagrams d heard.consumed one; each = short_push heard.datagrams d heard.each short },
+        subst (λ (who : Identity). IsCarrierOf who d) is.identity carrier,
+      )) is.heard
+
+      none_created : mid.created ≡ old.created
+      none_created = subst (λ (b : Bool). IsCreatedFor r old mid b) none is.created
+
+      module _ (new : World) (files : new.files ≡ mid.files) (silent : IsSilent mid new) where
+        pub unprepared : new.created ≡ mid.created → (fault : Fault) → IsUncreated mid r.output fault → IsUnread r old new f fault
+        unprepared same fault why = go fault why
+          where
+            here : IsFollowed r old new f (HasHeardSome r before)
+            here = followed_as mid f (HasHeardSome r before) (some_heard mid before f is) new f (HasHeardSome r before) files silent is.sound refl
+                (created_still r old mid new same (has_output f.receiver) (has_output f.receiver) refl is.created) refl (some_heard mid before f is).heard
+
+            go : (fault : Fault) → IsUncreated mid r.output fault → IsUnread r old new f fault
+            go (Open n) (named, inl fails) = ((named, inl (may_fail_here mid f (IsShort r before f) is fails)), may, none, before, here)
+            go (Open n) (named, inr stays) = ((named, inr (subst (λ (fs : Option Files). IsToStay fs r.output.name.now r.output.no_clobber) is.files stays)), may, none, before, here)
+            go (File n) why = absurd why
+            go Memory why = (before, here)
+            go (Frame e) why = absurd why
+            go (Certificate e) why = absurd why
+            go (Fti e) why = absurd why
+            go (Send e) why = absurd why
+            go (NoPlace n) why = absurd why
+
+        pub prepared : (output : Option (List ℕ)) → IsBlank mid output → IsFree mid.files r.output.name.now r.output.no_clobber → new.created ≡ one_more mid.created
+            → (receiver : FileReceiver W w) → receiver.receiving ≡ f.receiver.receiving → has_output receiver ≡ true
+            → ((ds : List (List ℕ)) → Stands f.receiver ds → IsSome output → Stands receiver ds)
+            → let next : Followed W w = record { receiver = receiver; count = f.count; said = f.said } in IsFollowed r old new next (IsShort r before next)
+        prepared output blank free created receiver same has stands =
+            let next : Followed W w = record { receiver = receiver; count = f.count; said = f.said } in
+            followed_as mid f (IsShort r before f) is new next (IsShort r before next) files silent (subst (λ (x : Receiving). IsSoundIn x.store) (sym same) is.sound) (ap (λ (x : Receiving). x.identity) same)
+            (subst (λ (b : Bool). IsCreatedFor r old new b) (sym has)
+            (created ∙ ap one_more none_created, may, subst (λ (fs : Option Files). IsFree fs r.output.name.now r.output.no_clobber) is.files free)) refl
+            (told old.files (subst (λ (fs : Option Files). IfSome fs (λ held. output ≡ Some [])) is.files blank) is.heard)
+          where
+            told : (fs : Option Files) → IfSome fs (λ held. output ≡ Some []) → Holds fs r.session.now (λ bytes. IsShort r before f bytes is.lines)
+                → Holds fs r.session.now (λ bytes. (taken : List (List ℕ)) × Stands receiver taken × (¬ LeaveNoneShort r.identity taken) × IsHeard r.identity (Some bytes) before f.count taken is.lines)
+            told None empty h = tt
+            told (Some held) empty (bytes, at, (taken, s, lacks, heard)) = (bytes, at, (taken, stands taken s (subst (λ (o : Option (List ℕ)). IsSome o) (sym empty) refl), lacks, heard))
+
+    -- ---- one datagram more
+
+    module _ (n : ℕ) (next : n ≡ f.count + 1) (receiver : FileReceiver W w) (sound : IsSoundIn receiver.receiving.store)
+        (same : receiver.receiving.identity ≡ f.receiver.receiving.identity) (has : has_output receiver ≡ has_output f.receiver) where
+      abbrev fed : Bool → Followed W w
+      fed said = record { receiver = receiver; count = n; said = said }
+
+      silent_self : IsSilent mid mid
+      silent_self = record { printed = refl; failed = refl; fallible = refl }
+
+      fed_as : (Q : List ℕ → List ℕ → Type 0) → ((bytes : List ℕ) → IsShort r before f bytes is.lines → Q bytes is.lines) → IsFollowed r old mid (fed f.said) Q
+      fed_as Q g = followed_as mid f (IsShort r before f) is mid (fed f.said) Q refl silent_self sound same
+          (created_still r old mid mid refl (has_output f.receiver) (has_output receiver) has is.created) refl (holds_then old.files r.session.now _ (λ bytes. Q bytes is.lines) g is.heard)
+
+      pub stays_some : IsFollowed r old mid (fed f.said) (HasHeardSome r before)
+      stays_some = fed_as (HasHeardSome r before) (λ bytes s. (f.count, s.0, s.3))
+
+      module _ (accepted : (ds : List (List ℕ)) → Stands f.receiver ds → Stands receiver (with_datagram ds d)) (against : (ds : List (List ℕ)) → Stands f.receiver ds
+          → (fault : FeedFault) → ¬ IsNotTaken f.receiver.receiving.identity ds d fault) where
+        heard_now : (bytes : List ℕ) (taken : List (List ℕ)) → Stands f.receiver taken → ¬ LeaveNoneShort r.identity taken → IsHeard r.identity (Some bytes) before f.count taken is.lines
+            → IsHeard r.identity (Some bytes) after n (with_datagram taken d) is.lines
+        heard_now bytes taken stands lacks heard = heard_taken r.identity (Some bytes) before after taken is.lines f.count n d heard lacks next one short
+            (subst (λ (who : Identity). (fault : FeedFault) → ¬ IsNotTaken who taken d fault) is.identity (against taken stands))
+
+        more : ((ds : List (List ℕ)) → Stands f.receiver ds → ¬ LeaveNoneShort f.receiver.receiving.identity (with_datagram ds d))
+            → IsFollowed r old mid (fed f.said) (IsShort r after (fed f.said))
+        more short_still = fed_as (IsShort r after (fed f.said)) (λ bytes (taken, stands, lacks, heard). (
+          with_datagram taken d,
+          accepted taken stands,
+          subst (λ (who : Identity). ¬ LeaveNoneShort who (with_datagram taken d)) is.identity (short_still taken stands),
+          heard_now bytes taken stands lacks heard,
+        ))
+
+        full : ((ds : List (List ℕ)) → Stands f.receiver ds → LeaveNoneShort f.receiver.receiving.identity (with_datagram ds d))
+            → IsFollowed r old mid (fed f.said) (IsFull r (fed f.said))
+        full all = fed_as (IsFull r (fed f.said)) (λ bytes (taken, stands, lacks, heard). (
+          after,
+          with_datagram taken d,
+          accepted taken stands,
+          subst (λ (who : Identity). LeaveNoneShort who (with_datagram taken d)) is.identity (all taken stands),
+          heard_now bytes taken stands lacks heard,
+        ))
+
+        pub heard_one : (progress : Progress) → (progress ≡ Complete → has_output receiver ≡ true)
+            → ((ds : List (List ℕ)) → Stands f.receiver ds → Tells progress f.receiver.receiving.identity (with_datagram ds d)) → IsHearing r old mid after (fed f.said) (Ok progress)
+        heard_one More output tells = more tells
+        heard_one Complete output tells = (output refl, full tells)
+
+      pub refused : (fault : FeedFault) → ((ds : List (List ℕ)) → Stands f.receiver ds → Stands receiver ds) → ((ds : List (List ℕ)) → Stands f.receiver ds
+          → IsNotTaken f.receiver.receiving.identity ds d fault) → (new : World) (said : Bool) → AreSaid mid new (refusal_line f.count fault) said → (said ≡ true → f.said ≡ true) → KeepsFiles mid new
+          → IsFollowed r old new (fed said) (IsShort r after (fed said))
+      refused fault stands why new said line first kept = record {
+        sound = sound;
+        identity = same ∙ is.identity;
+        files = kept.files ∙ is.files;
+        fallible = kept.fallible ∙ is.fallible;
+        created = created_still r old mid new kept.created (has_output f.receiver) (has_output receiver) has is.created;
+        lines = is.lines ++ refusal_line f.count fault;
+        said = then_said old mid new is.lines (refusal_line f.count fault) f.said said is.said line first;
+        heard = holds_then old.files r.session.now _ _ (λ bytes (taken, here, lacks, heard). (
+          taken,
+          stands taken here,
+          lacks,
+          heard_refused r.identity (Some bytes) before after taken is.lines f.count n d heard lacks next one short fault
+              (subst (λ (who : Identity). IsNotTaken who taken d fault) is.identity (why taken here)),
+        )) is.heard;
+      }
+
+  -- ---- the end
+
+  pub ended : (mid : World) (left : Option (List ℕ)) (f : Followed W w) → IsFollowed r old mid f (IsShort r left f) → IsAtEnd left → (answer : Answer) → IsLack answer
+      → ((ds : List (List ℕ)) → Stands f.receiver ds → IsAnswer f.receiver.receiving.identity ds (answer_value answer)) → IsLacking r old mid f answer
+  ended mid left f is end answer lack answers = (
+    lack,
+    followed_then mid f (IsShort r left f) is _ (λ bytes (taken, stands, lacks, heard).
+        (left, f.count, taken, heard, end, subst (λ (who : Identity). IsAnswer who taken (answer_value answer)) is.identity (answers taken stands))),
+  )
+
+  pub ended_full : (mid : World) (left : Option (List ℕ)) (f : Followed W w) → IsFollowed r old mid f (IsShort r left f) → has_output f.receiver ≡ true
+      → ((ds : List (List ℕ)) → Stands f.receiver ds → LeaveNoneShort f.receiver.receiving.identity ds) → IsReceived r old mid f
+  ended_full mid left f is has all = (
+    has,
+    followed_then mid f (IsShort r left f) is (IsFull r f) (λ bytes (taken, stands, lacks, heard).
+        (left, taken, stands, subst (λ (who : Identity). LeaveNoneShort who taken) is.identity (all taken stands), heard)),
+  )
+
+  -- no frame comes, or none can be read
+  pub cut : (mid : World) (left rest : Option (List ℕ)) (failed : Bool) (f : Followed W w) → IsFollowed r old mid f (IsShort r left f) → (fault : Fault) → IsFrameUnread left rest failed fault
+      → (fault ≡ Frame frame_fault.Io → MayFail old) → IsUnread r old mid f fault
+  cut mid left rest failed f is fault why fails = go fault why fails
+    where
+      here : IsFollowed r old mid f (HasHeardSome r left)
+      here = some_heard mid left f is
+
+      frame_cut : (e : FrameFault) → IsReadFault e left rest failed → (Frame e ≡ Frame frame_fault.Io → MayFail old) → (e ≡ frame_fault.Io → MayFail old) × (left : Option (List ℕ)) × (rest : Option (List ℕ))
+          × (failed : Bool) × IsReadFault e left rest failed × IsFollowed r old mid f (HasHeardSome r left)
+      frame_cut e why fails = (λ same. fails (ap Frame same), left, rest, failed, why, here)
+
+      go : (fault : Fault) → IsFrameUnread left rest failed fault → (fault ≡ Frame frame_fault.Io → MayFail old) → IsUnread r old mid f fault
+      go Memory why fails = (left, here)
+      go (Frame frame_fault.NoMemory) why fails = absurd why
+      go (Frame frame_fault.Io) why fails = frame_cut frame_fault.Io why fails
+      go (Frame frame_fault.CutLength) why fails = frame_cut frame_fault.CutLength why fails
+      go (Frame frame_fault.CutDatagram) why fails = frame_cut frame_fault.CutDatagram why fails
+      go (Frame frame_fault.TooLong) why fails = frame_cut frame_fault.TooLong why fails
+      go (Frame (frame_fault.NoSuchPlace p)) why fails = frame_cut (frame_fault.NoSuchPlace p) why fails
+      go (Open n) why fails = absurd why
+      go (File n) why fails = absurd why
+      go (Certificate e) why fails = absurd why
+      go (Fti e) why fails = absurd why
+      go (Send e) why fails = absurd why
+      go (NoPlace n) why fails = absurd why
+
+  -- ---- what is done behind it
+
+  module _ (mid : World) (f : Followed W w) (P : List ℕ → List ℕ → Type 0) (is : IsFollowed r old mid f P) (new : World) (kept : KeepsFiles mid new) where
+    files_still : new.files ≡ old.files
+    files_still = kept.files ∙ is.files
+
+    created_given_up : (new.created ≡ old.created) ⊎ ((new.created ≡ one_more old.created) × MayCreate old.files (Follow r))
+    created_given_up = go (has_output f.receiver) is.created
+      where
+        go : (b : Bool) → IsCreatedFor r old mid b → (new.created ≡ old.created) ⊎ ((new.created ≡ one_more old.created) × MayCreate old.files (Follow r))
+        go true h = inr (kept.created ∙ h.0, h.1)
+        go false h = inl (kept.created ∙ h)
+
+    pub given_up : IsMade old new (Follow r) None
+    given_up = go (has_output f.receiver) is.created
+      where
+        go : (b : Bool) → IsCreatedFor r old mid b → IsMade old new (Follow r) None
+        go true h = (files_still, inr (kept.created ∙ h.0, h.1, h.2))
+        go false h = (files_still, inl (kept.created ∙ h))
+
+    pub unprinted : new.failed ≡ true → IsUnprinted old new (Follow r)
+    unprinted failed = record { failed = failed; done = go created_given_up }
+      where
+        go : (new.created ≡ old.created) ⊎ ((new.created ≡ one_more old.created) × MayCreate old.files (Follow r))
+            → ((new.files ≡ old.files) × (new.created ≡ old.created)) ⊎ (((outcome : Outcome) × Makes old new (Follow r) outcome) ⊎ IsGivenUp old new (Follow r))
+        go (inl none) = inl (files_still, none)
+        go (inr one) = inr (inr (files_still, one.0, one.1))
+
+    -- for this fault, behind this text
+    pub stopped_behind : (text : List ℕ) → Session r old (λ bytes. IsHeardInPart r.identity (Some bytes) text) → (fault : Fault) → IsBecause old new (Follow r) text fault
+        → IsStopped old new (Follow r) text fault
+    stopped_behind text before fault why = record { because = why; before = inr before; files = files_still; created = created_given_up }
+
+  module _ (mid : World) (f : Followed W w) (left : Option (List ℕ)) (is : IsFollowed r old mid f (HasHeardSome r left)) (new : World) (kept : KeepsFiles mid new) (silent : IsSilent mid new) where
+    in_part : Session r old (λ bytes. IsHeardInPart r.identity (Some bytes) is.lines)
+    in_part = holds_then old.files r.session.now _ _ (λ bytes (read, taken, heard). (left, read, taken, is.lines, heard, inl refl)) is.heard
+
+    pub stopped_for : (fault : Fault) → IsBecause old new (Follow r) is.lines fault → IsUndone old new (Follow r) (stopped_by fault f.said)
+    stopped_for fault why = go f.said is.said
+      where
+        go : (said : Bool) → AreSaid old mid is.lines said → IsUndone old new (Follow r) (stopped_by fault said)
+        go true said = (is.lines, said_still r old mid new is.lines true true silent refl said, stopped_behind mid f (HasHeardSome r left) is new kept is.lines in_part fault why)
+        go false said = unprinted mid f (HasHeardSome r left) is new kept (silent.failed ∙ said)
+
+  -- no more was read, and the output is given up
+  module _ (mid : World) (f : Followed W w) (new : World) (kept : KeepsFiles mid new) (silent : IsSilent mid new) where
+    by_frame : (e : FrameFault) → (e ≡ frame_fault.Io → MayFail old) → (left rest : Option (List ℕ)) (failed : Bool) → IsReadFault e left rest failed → IsFollowed r old mid f (HasHeardSome r left)
+        → IsUndone old new (Follow r) (stopped_by (Frame e) f.said)
+    by_frame e fails left rest failed why is = stopped_for mid f left is new kept silent (Frame e)
+        (by_refused old new (Follow r) is.lines (Frame e) (left, rest, failed, why, fails, is.heard))
+
+    unread : (fault : Fault) → IsUnread r old mid f fault → IsUndone old new (Follow r) (stopped_by fault f.said)
+    unread Memory (left, is) = stopped_for mid f left is new kept silent Memory tt
+    unread (Frame frame_fault.NoMemory) why = absurd why
+    unread (Frame frame_fault.Io) (fails, left, rest, failed, why, is) = by_frame frame_fault.Io fails left rest failed why is
+    unread (Frame frame_fault.CutLength) (fails, left, rest, failed, why, is) = by_frame frame_fault.CutLength fails left rest failed why is
+    unread (Frame frame_fault.CutDatagram) (fails, left, rest, failed, why, is) = by_frame frame_fault.CutDatagram fails left rest failed why is
+    unread (Frame frame_fault.TooLong) (fails, left, rest, failed, why, is) = by_frame frame_fault.TooLong fails left rest failed why is
+    unread (Frame (frame_fault.NoSuchPlace p)) (fails, left, rest, failed, why, is) = by_frame (frame_fault.NoSuchPlace p) fails left rest failed why is
+    unread (Open n) (why, may, none, left, is) = stopped_for mid f left is new kept silent (Open n)
+        (by_unmade old new (Follow r) is.lines (Open n) (r.output, refl, why.0, why.1, may, kept.created ∙ subst (λ (b : Bool). IsCreatedFor r old mid b) none is.created))
+    unread (File n) why = absurd why
+    unread (Certificate e) why = absurd why
+    unread (Fti e) why = absurd why
+    unread (Send e) why = absurd why
+    unread (NoPlace n) why = absurd why
+
+    pub gave_up : (unwritten : Unwritten) (name : Bor (List ℕ)) → name.now ≡ r.output.name.now → IsUnheard r old mid f unwritten → (fault : Fault) → IsUncommitted mid (Err unwritten) (File name) fault
+        → IsUndone old new (Follow r) (stopped_by fault f.said)
+    gave_up unwritten.Writing name named (has, left, is) fault (inl none) = stopped_for mid f left is new kept silent fault (memory_because r old new is.lines fault none)
+    gave_up unwritten.Writing name named (has, left, is) fault (inr (same, fails)) = stopped_for mid f left is new kept silent fault
+        (subst (λ (x : Fault). IsBecause old new (Follow r) is.lines x) (sym same) (by_unmade old new (Follow r) is.lines (File name)
+        (may_fail_here mid f (HasHeardSome r left) is fails, named, kept.created ∙ (subst (λ (b : Bool). IsCreatedFor r old mid b) has is.created).0)))
+    gave_up (unwritten.Fault e) name named why fault same = subst (λ (x : Fault). IsUndone old new (Follow r) (stopped_by x f.said)) (sym same) (unread e why)
+
+  -- ---- what lacks
+
+  module _ (mid : World) (f : Followed W w) (answer : Answer) (lacking : IsLacking r old mid f answer) where
+    how_many : (read : ℕ) × Session r old (λ bytes. (left : Option (List ℕ)) × (taken : List (List ℕ)) × IsHeard r.identity (Some bytes) left read taken lacking.1.lines
+        × IsAnswer r.identity taken (answer_value answer) × Ends (answer_value answer) left)
+    how_many = holds_some old.files r.session.now ℕ 0 _ (λ bytes read. (left : Option (List ℕ)) × (taken : List (List ℕ)) × IsHeard r.identity (Some bytes) left read taken lacking.1.lines
+        × IsAnswer r.identity taken (answer_value answer) × Ends (answer_value answer) left) lacking.1.heard
+        (λ bytes (left, read, taken, heard, end, is). (read, (left, taken, heard, is, ends answer lacking.0 left end)))
+      where
+        ends : (a : Answer) → IsLack a → (left : Option (List ℕ)) → IsAtEnd left → Ends (answer_value a) left
+        ends Empty lack left end = end
+        ends (Missing b have need) lack left end = end
+        ends (Object object) lack left end = absurd lack
+        ends (NoObject e) lack left end = absurd lack
+
+    ends_with : (a : Answer) → IsLack a → (read : ℕ) → ends_text (answer_value a) read ≡ line_of (answer_text (answer_value a))
+    ends_with Empty lack read = refl
+    ends_with (Missing b have need) lack read = refl
+    ends_with (Object object) lack read = absurd lack
+    ends_with (NoObject e) lack read = absurd lack
+
+    no_output : (a : Answer) → IsLack a → object_of (answer_value a) ≡ None
+    no_output Empty lack = refl
+    no_output (Missing b have need) lack = refl
+    no_output (Object object) lack = absurd lack
+    no_output (NoObject e) lack = absurd lack
+
+    module _ (between : World) (kept : KeepsFiles mid between) (silent : IsSilent mid between) where
+      pub lack_told : (new : World) (status : ℕ) (text : List ℕ) → f.said ≡ true → KeepsFiles between new → Appends between.printed new.printed text
+          → text ≡ line_of (answer_text (answer_value answer)) → status ≡ answer_status (answer_value answer) → IsDone old new (Follow r) status
+      lack_told new status text said then printed is done = record {
+        outcome = record { text = lacking.1.lines ++ text; status = status; output = None };
+        makes = record {
+          values = Opened (opened_of old.files r.session.now) ∷ [];
+          read = (has_opened old.files r.session.now _ how_many.1, tt);
+          gives = (
+            how_many.0,
+            lacking.1.lines,
+            answer_value answer,
+            of_opened old.files r.session.now _ how_many.1,
+            (ap (λ (t : List ℕ). lacking.1.lines ++ t) (is ∙ sym (ends_with answer lacking.0 how_many.0)), done, sym (no_output answer lacking.0)),
+          );
+          made = given_up mid f _ lacking.1 new (keeps mid between new kept then);
+        };
+        printed = then_appends old.printed between.printed new.printed lacking.1.lines text
+            (said_still r old mid between lacking.1.lines true true silent refl (subst (λ (b : Bool). AreSaid old mid lacking.1.lines b) said lacking.1.said)) printed;
+        is_status = refl;
+      }
+
+      pub lack_untold : (stop : Stop) → f.said ≡ true → stop ≡ ByFault Memory → IsUndone old between (Follow r) stop
+      lack_untold stop said is = subst (λ (s : Stop). IsUndone old between (Follow r) s) (sym is) (
+        lacking.1.lines,
+        said_still r old mid between lacking.1.lines true true silent refl (subst (λ (b : Bool). AreSaid old mid lacking.1.lines b) said lacking.1.said),
+        stopped_behind mid f _ lacking.1 between kept lacking.1.lines
+            (holds_then old.files r.session.now _ _ (λ bytes (left, read, taken, heard, end, is). (left, read, taken, lacking.1.lines, heard, inl refl)) lacking.1.heard) Memory tt,
+      )
+
+      pub lack_unprinted : (new : World) → KeepsFiles between new → new.failed ≡ true → IsUnprinted old new (Follow r)
+      lack_unprinted new then failed = unprinted mid f _ lacking.1 new (keeps mid between new kept then) failed
+
+      pub lack_unsaid : f.said ≡ false → IsUnprinted old between (Follow r)
+      lack_unsaid said = unprinted mid f _ lacking.1 between kept (silent.failed ∙ unsaid old mid lacking.1.lines f.said lacking.1.said said)

@@ -184,6 +184,13 @@ made_then old mid new (Decode r) None files created h = (
     | inr more ↦ inr (created ∙ more.0, more.1, more.2)
   ],
 )
+made_then old mid new (Follow r) None files created h = (
+  files ∙ h.0,
+  elim h.1 [
+    | inl same ↦ inl (created ∙ same)
+    | inr more ↦ inr (created ∙ more.0, more.1, more.2)
+  ],
+)
 made_then old mid new (Decode r) (Some bytes) files created h = output_then old mid new (output_of (Decode r)) (Some bytes) files created h
 made_then old mid new (Check r) o files created h = output_then old mid new (output_of (Check r)) o files created h
 made_then old mid new (Twin r) o files created h = output_then old mid new (output_of (Twin r)) o files created h
@@ -191,7 +198,7 @@ made_then old mid new (Show r) o files created h = output_then old mid new (outp
 made_then old mid new (Encode r) o files created h = output_then old mid new (output_of (Encode r)) o files created h
 made_then old mid new (Certify r) o files created h = output_then old mid new (output_of (Certify r)) o files created h
 made_then old mid new (Convert r) o files created h = output_then old mid new (output_of (Convert r)) o files created h
-made_then old mid new (Follow r) o files created h = output_then old mid new (output_of (Follow r)) o files created h
+made_then old mid new (Follow r) (Some bytes) files created h = output_then old mid new (output_of (Follow r)) (Some bytes) files created h
 made_then old mid new (Drop r) o files created h = output_then old mid new (output_of (Drop r)) o files created h
 made_then old mid new (Salvage r) o files created h = output_then old mid new (output_of (Salvage r)) o files created h
 made_then old mid new (Join r) o files created h = output_then old mid new (output_of (Join r)) o files created h

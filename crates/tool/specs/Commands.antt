@@ -1,6 +1,6 @@
 -- What each command gives of what it reads.
 use Rattle.std.specs.Prelude.{◌≡◌, ◌⊎◌, ◌<◌, ℕ, Bool, true, false, List, []}
-use Rattle.std.specs.Prelude.{◌∷◌, ◌++◌, Option, Some, None, IsSome, IfSome, length, map, ⊤}
+use Rattle.std.specs.Prelude.{◌∷◌, ◌++◌, Option, Some, None, IsSome, IfSome, length, map}
 use Rattle.std.specs.Prelude.{option_map, codes, Ok, Err}
 use Rattle.std.specs.Borrow.{Bor}
 use Rattle.lists.specs.Selection.{rest}
@@ -250,10 +250,10 @@ Gives (Decode r) (Opened content ∷ []) outcome =
     (answer : Answer) × IsAnswerIn r.identity content answer
     × IsOutcome (line_of (answer_text answer)) (answer_status answer) (object_of answer) outcome
 Gives (Follow r) (Opened opened ∷ []) outcome =
-    (left : Option (List ℕ)) × (read : ℕ) × (taken : List (List ℕ)) × (lines : List ℕ)
-    × (answer : Answer)
-    × IsHeard r.identity opened left read taken lines × IsAnswer r.identity taken answer
-    × Ends answer left
+    (read : ℕ) × (lines : List ℕ) × (answer : Answer)
+    × IfSome opened (λ bytes. (left : Option (List ℕ)) × (taken : List (List ℕ))
+    × IsHeard r.identity (Some bytes) left read taken lines × IsAnswer r.identity taken answer
+    × Ends answer left)
     × IsOutcome (lines ++ ends_text answer read) (answer_status answer) (object_of answer) outcome
 Gives (Drop r) (Datagrams datagrams ∷ []) outcome =
     GivesOthers r.places.items datagrams outcome
@@ -295,11 +295,10 @@ Refuses world (Show r) text (Frame fault) =
     × (text ≡ told_before r.summary readings)
     × IsReadFault fault left new failed × (fault ≡ FrameIo → MayFail world)
 Refuses world (Follow r) text (Frame fault) =
-    (opened : Option (List ℕ)) × (left : Option (List ℕ)) × (new : Option (List ℕ))
-    × (failed : Bool) × (read : ℕ) × (taken : List (List ℕ))
-    × HasValue world.files (AStream r.session.now) (Opened opened)
-    × IsHeard r.identity opened left read taken text
+    (left : Option (List ℕ)) × (new : Option (List ℕ)) × (failed : Bool)
     × IsReadFault fault left new failed × (fault ≡ FrameIo → MayFail world)
+    × Holds world.files r.session.now (λ bytes. (read : ℕ) × (taken : List (List ℕ))
+    × IsHeard r.identity (Some bytes) left read taken text)
 Refuses world (Encode r) text (NoFti fault) =
     (object : List ℕ) × HasValue world.files (AnObject r.object.now) (Bytes object)
     × (fti_fault (sized r.sending.sizes (length object)) ≡ Some fault)

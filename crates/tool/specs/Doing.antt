@@ -5,7 +5,7 @@ use Rattle.request.specs.declared.requests.Request.{Request}
 use Rattle.host.specs.World.{World, IsToStay, MayFail, one_more}
 use Rattle.tool.specs.Lines.{count_line}
 use Rattle.tool.specs.Commands.{Outcome}
-use Rattle.tool.specs.Outcomes.{Makes, MayCreate, IsUnmade, IsStopped, IsUnprinted}
+use Rattle.tool.specs.Outcomes.{Makes, IsStopped, IsUnprinted}
 use Rattle.tool.specs.declared.done.Told.{Told}
 use Rattle.tool.specs.declared.done.Told.TheVariants.{Lines, Count}
 use Rattle.tool.specs.declared.done.Done.{Done}
@@ -58,9 +58,3 @@ abbrev pub IsUnkept : World → World → Output → Fault → Fault → Type 0
 IsUnkept old new output failure told =
     (IsUncreated old output told × (new.created ≡ old.created))
     ⊎ (((told ≡ Memory) ⊎ ((told ≡ failure) × MayFail old)) × (new.created ≡ one_more old.created))
-
--- the output of a request that was to be written, as it may be, isn't there
-pub record IsUnwritten (r : Request) (old new : World) (fault : Fault) : Type 0 where
-  pub because : MayCreate old.files r → (fault ≡ Memory) ⊎ IsUnmade old new r fault
-  pub files : new.files ≡ old.files
-  pub created : (new.created ≡ old.created) ⊎ (new.created ≡ one_more old.created)

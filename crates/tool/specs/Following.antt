@@ -2,10 +2,11 @@
 use Rattle.std.specs.Prelude.{◌≡◌, ◌⊎◌, ◌+◌, ◌-◌, ◌^◌, ℕ, List, [], ◌∷◌, ◌++◌, Option, length}
 use Rattle.std.specs.Prelude.{codes, decimal}
 use Rattle.std.specs.Io.KnownBytes.{Consumes, IsAtEnd}
-use Rattle.session.specs.Frames.{frames, AreShort}
+use Rattle.session.specs.Frames.{frames, AreShort, HasRead}
 use Rattle.reception.specs.declared.scope.Identity.{Identity}
 use Rattle.reception.specs.Answer.{Answer, Object, IsAnswer}
 use Rattle.decoder.specs.Answers.{fault_value}
+use Rattle.receiver.specs.Begun.{IsCarrierOf}
 use Rattle.receiver.specs.Receiving.{with_datagram, LeaveNoneShort, ComesEarly}
 use Rattle.receiver.specs.declared.receiver.FeedFault.{FeedFault}
 use Rattle.receiver.specs.declared.receiver.FeedFault.TheVariants.{Fault as NoObject, Full, Early}
@@ -42,6 +43,12 @@ Come who place before (d ∷ ds) after text =
     (¬ LeaveNoneShort who before) × (middle : List (List ℕ)) × (front : List ℕ) × (rest : List ℕ)
     × Comes who place before d middle front × Come who (place + 1) middle ds after rest
     × (text ≡ front ++ rest)
+
+-- the last of the datagrams that were read first is a carrier of the identity's
+abbrev pub BringsCarrier : Identity → Option (List ℕ) → Type 0
+BringsCarrier who opened =
+    (left : Option (List ℕ)) × (datagrams : List (List ℕ)) × (last : List ℕ)
+    × HasRead opened left (with_datagram datagrams last) × IsCarrierOf who last
 
 -- So many datagrams were read, just their frames, and came; those that were taken, and the lines.
 pub record IsHeard (who : Identity) (opened left : Option (List ℕ)) (read : ℕ)

@@ -1,28 +1,34 @@
 -- What the parts of following a session do.
-use Rattle.std.specs.Prelude.{◌≡◌, ◌⊎◌, ◌++◌, ℕ, Bool, true, false, List, Option, Some, length, ⊤}
+use Rattle.std.specs.Prelude.{◌≡◌, ℕ, Bool, true, false, List, Option, Some, length, ⊤}
+use Rattle.std.specs.Prelude.{Result, Ok, Err}
 use Rattle.std.specs.Io.KnownBytes.{IsAtEnd, Appends}
 use Rattle.session.specs.Frames.{IsReadFault}
-use Rattle.session.specs.declared.frame.FrameFault.{FrameFault}
-use Rattle.session.specs.declared.frame.FrameFault.TheVariants.{NoMemory as NoFrameMemory}
+use Rattle.session.specs.declared.frame.FrameFault.TheVariants.{NoMemory as NoFrameMemory, Io}
 use Rattle.reception.specs.declared.scope.Identity.{Identity}
 use Rattle.reception.specs.Answer.{Object, IsAnswer}
-use Rattle.decoder.specs.Answers.{answer_value, IsNoFault}
-use Rattle.receiver.specs.Stands.{Stands}
-use Rattle.receiver.specs.Receiving.{LeaveNoneShort}
+use Rattle.streams.specs.declared.io.Write.{Ghosts}
+use Rattle.decoder.specs.Answers.{answer_value}
 use Rattle.decoder.specs.declared.answer.Answer.{Answer}
-use Rattle.receiver.specs.declared.receiver.Receiver.{Receiver}
+use Rattle.receiver.specs.Filed.{Stands, IsLack, has_output}
+use Rattle.receiver.specs.Stands.{IsSoundIn}
+use Rattle.receiver.specs.Receiving.{LeaveNoneShort}
+use Rattle.receiver.specs.declared.receiver.Progress.{Progress}
+use Rattle.receiver.specs.declared.receiver.Progress.TheVariants.{More, Complete}
 use Rattle.request.specs.declared.requests.FollowRequest.{FollowRequest}
 use Rattle.request.specs.declared.requests.Request.TheVariants.{Follow}
-use Rattle.host.specs.World.{World, one_more}
-use Rattle.tool.specs.Outcomes.{IsOutput}
-use Rattle.tool.specs.Lines.{line_of, answer_text}
-use Rattle.tool.specs.Commands.{answer_status}
-use Rattle.tool.specs.Following.{IsHeard, complete_line}
-use Rattle.tool.specs.Doing.{IsUnwritten}
+use Rattle.host.specs.World.{World, Holds, IsFree, MayFail, Replaces, one_more}
+use Rattle.tool.specs.Outcomes.{MayCreate}
+use Rattle.tool.specs.Following.{IsHeard}
+use Rattle.tool.specs.Doing.{IsUncreated}
 use Rattle.tool.specs.declared.fault.Fault.{Fault}
-use Rattle.tool.specs.declared.fault.Fault.TheVariants.{Memory, Frame}
+use Rattle.tool.specs.declared.fault.Fault.TheVariants.{Memory, Frame, Open}
 use Rattle.tool.specs.declared.fault.Stop.{Stop}
 use Rattle.tool.specs.declared.fault.Stop.TheVariants.{ByFault, Unprinted}
+use Rattle.tool.specs.declared.follow.Ending.{Ending}
+use Rattle.tool.specs.declared.follow.Ending.TheVariants.{Full, Lacks}
+use Rattle.tool.specs.declared.follow.Followed.{Followed}
+use Rattle.tool.specs.declared.output.Unwritten.{Unwritten}
+use Rattle.tool.specs.declared.output.Unwritten.TheVariants as unwritten
 
 -- these lines were printed; or printing has failed, and nothing is told of them
 abbrev pub AreSaid : World → World → List ℕ → Bool → Type 0
@@ -34,45 +40,108 @@ abbrev pub stopped_by : Fault → Bool → Stop
 stopped_by fault true = ByFault fault
 stopped_by fault false = Unprinted
 
--- the datagrams that were read gave the receiver the object; how many were, and whether the lines
--- were printed
-abbrev pub HasMadeUp : Receiver → Option (List ℕ) → World → World → ℕ → Bool → Type 0
-HasMadeUp receiver opened old new read said =
-    (left : Option (List ℕ)) × (taken : List (List ℕ)) × (lines : List ℕ) × Stands receiver taken
-    × LeaveNoneShort receiver.receiving.identity taken
-    × IsHeard receiver.receiving.identity opened left read taken lines
-    × AreSaid old new lines said
+-- ---- how far a session was followed
 
--- all datagrams were read, and leave some block short
-abbrev pub HasHeardAll : Receiver → Option (List ℕ) → World → World → Bool → Type 0
-HasHeardAll receiver opened old new said =
-    (left : Option (List ℕ)) × (read : ℕ) × (taken : List (List ℕ)) × (lines : List ℕ)
-    × Stands receiver taken
-    × (¬ LeaveNoneShort receiver.receiving.identity taken)
-    × IsHeard receiver.receiving.identity opened left read taken lines × IsAtEnd left
-    × AreSaid old new lines said
+-- the output was created, as it may be; or none was
+abbrev pub IsCreatedFor : FollowRequest → World → World → Bool → Type 0
+IsCreatedFor r old new true =
+    (new.created ≡ one_more old.created) × MayCreate old.files (Follow r)
+    × IsFree old.files r.output.name.now r.output.no_clobber
+IsCreatedFor r old new false = new.created ≡ old.created
 
--- some datagrams were read, and their lines printed
-abbrev pub HasHeardSome : Identity → Option (List ℕ) → World → World → Type 0
-HasHeardSome who opened old new =
-    (left : Option (List ℕ)) × (read : ℕ) × (taken : List (List ℕ)) × (lines : List ℕ)
-    × IsHeard who opened left read taken lines × Appends old.printed new.printed lines
+-- The receiver is the identity's, its output was created, and these lines were printed. Where files
+-- are told, this is so of the session's bytes and the lines.
+pub record IsFollowed {W : Type 0} {w : Ghosts W} (r : FollowRequest) (old new : World)
+    (followed : Followed W w) (Heard : List ℕ → List ℕ → Type 0) : Type 0 where
+  pub sound : IsSoundIn followed.receiver.receiving.store
+  pub identity : followed.receiver.receiving.identity ≡ r.identity
+  pub files : new.files ≡ old.files
+  pub fallible : new.fallible ≡ old.fallible
+  pub created : IsCreatedFor r old new (has_output followed.receiver)
+  pub lines : List ℕ
+  pub said : AreSaid old new lines followed.said
+  pub heard : Holds old.files r.session.now (λ bytes. Heard bytes lines)
 
--- behind them comes no frame
-abbrev pub IsCutBehind : Identity → FrameFault → Option (List ℕ) → World → World → Type 0
-IsCutBehind who fault opened old new =
-    (left : Option (List ℕ)) × (rest : Option (List ℕ)) × (failed : Bool) × (read : ℕ)
-    × (taken : List (List ℕ)) × (lines : List ℕ)
-    × IsHeard who opened left read taken lines × IsReadFault fault left rest failed
-    × Appends old.printed new.printed lines
+-- the datagrams that were read are these, and the receiver stands for those that it took, which
+-- leave some block short
+abbrev pub IsShort : {W : Type 0} {w : Ghosts W} → FollowRequest → Option (List ℕ)
+    → Followed W w → List ℕ → List ℕ → Type 0
+IsShort r left followed bytes lines =
+    (taken : List (List ℕ)) × Stands followed.receiver taken × (¬ LeaveNoneShort r.identity taken)
+    × IsHeard r.identity (Some bytes) left followed.count taken lines
 
--- why no more datagrams are read
-abbrev pub IsUnheard : Identity → Option (List ℕ) → World → World → Stop → Type 0
-IsUnheard who opened old new (ByFault (Frame NoFrameMemory)) = ⊥
-IsUnheard who opened old new (ByFault (Frame fault)) = IsCutBehind who fault opened old new
-IsUnheard who opened old new (ByFault Memory) = HasHeardSome who opened old new
-IsUnheard who opened old new (ByFault fault) = ⊥
-IsUnheard who opened old new Unprinted = new.failed ≡ true
+-- or none
+abbrev pub IsFull : {W : Type 0} {w : Ghosts W} → FollowRequest → Followed W w → List ℕ → List ℕ
+    → Type 0
+IsFull r followed bytes lines =
+    (left : Option (List ℕ)) × (taken : List (List ℕ)) × Stands followed.receiver taken
+    × LeaveNoneShort r.identity taken
+    × IsHeard r.identity (Some bytes) left followed.count taken lines
+
+-- some were read
+abbrev pub HasHeardSome : FollowRequest → Option (List ℕ) → List ℕ → List ℕ → Type 0
+HasHeardSome r left bytes lines =
+    (read : ℕ) × (taken : List (List ℕ)) × IsHeard r.identity (Some bytes) left read taken lines
+
+-- the receiver has an output, which is to have the object
+abbrev pub IsReceived : {W : Type 0} {w : Ghosts W} → FollowRequest → World → World → Followed W w
+    → Type 0
+IsReceived r old new followed =
+    (has_output followed.receiver ≡ true) × IsFollowed r old new followed (IsFull r followed)
+
+-- all were read, and the answer to those that were taken says what they lack
+abbrev pub IsLacking : {W : Type 0} {w : Ghosts W} → FollowRequest → World → World → Followed W w
+    → Answer → Type 0
+IsLacking r old new followed answer = IsLack answer
+    × IsFollowed r old new followed (λ bytes lines. (left : Option (List ℕ)) × (read : ℕ)
+    × (taken : List (List ℕ)) × IsHeard r.identity (Some bytes) left read taken lines
+    × IsAtEnd left × IsAnswer r.identity taken (answer_value answer))
+
+-- why no more were: there is no memory, or no frame, or the output isn't created
+abbrev pub IsUnread : {W : Type 0} {w : Ghosts W} → FollowRequest → World → World → Followed W w
+    → Fault → Type 0
+IsUnread r old new followed Memory =
+    (left : Option (List ℕ)) × IsFollowed r old new followed (HasHeardSome r left)
+IsUnread r old new followed (Frame NoFrameMemory) = ⊥
+IsUnread r old new followed (Frame fault) = (fault ≡ Io → MayFail old)
+    × (left : Option (List ℕ)) × (rest : Option (List ℕ)) × (failed : Bool)
+    × IsReadFault fault left rest failed × IsFollowed r old new followed (HasHeardSome r left)
+IsUnread r old new followed (Open name) =
+    IsUncreated old r.output (Open name) × MayCreate old.files (Follow r)
+    × (has_output followed.receiver ≡ false) × (left : Option (List ℕ))
+    × IsFollowed r old new followed (HasHeardSome r left)
+IsUnread r old new followed fault = ⊥
+
+-- and the output has failed, or it is one of these
+abbrev pub IsUnheard : {W : Type 0} {w : Ghosts W} → FollowRequest → World → World → Followed W w
+    → Unwritten → Type 0
+IsUnheard r old new followed unwritten.Writing = (has_output followed.receiver ≡ true)
+    × (left : Option (List ℕ)) × IsFollowed r old new followed (HasHeardSome r left)
+IsUnheard r old new followed (unwritten.Fault fault) = IsUnread r old new followed fault
+
+-- what comes of one datagram more
+abbrev pub IsHearing : {W : Type 0} {w : Ghosts W} → FollowRequest → World → World
+    → Option (List ℕ) → Followed W w → Result Progress Unwritten → Type 0
+IsHearing r old new left followed (Ok More) =
+    IsFollowed r old new followed (IsShort r left followed)
+IsHearing r old new left followed (Ok Complete) = IsReceived r old new followed
+IsHearing r old new left followed (Err why) = IsUnheard r old new followed why
+
+-- how it ends
+abbrev pub IsEnding : {W : Type 0} {w : Ghosts W} → FollowRequest → World → World → Followed W w
+    → Result Ending Unwritten → Type 0
+IsEnding r old new followed (Ok Full) = IsReceived r old new followed
+IsEnding r old new followed (Ok (Lacks answer)) = IsLacking r old new followed answer
+IsEnding r old new followed (Err why) = IsUnheard r old new followed why
+
+-- the output is there, where one is wanted for the datagram that comes next
+abbrev pub IsPrepared : {W : Type 0} {w : Ghosts W} → FollowRequest → World → World
+    → Option (List ℕ) → Followed W w → Result Unit Fault → Type 0
+IsPrepared r old new left followed (Ok done) =
+    IsFollowed r old new followed (IsShort r left followed)
+IsPrepared r old new left followed (Err fault) = IsUnread r old new followed fault
+
+-- ---- parts
 
 -- why a datagram wasn't read
 abbrev pub IsFrameUnread : Option (List ℕ) → Option (List ℕ) → Bool → Fault → Type 0
@@ -91,45 +160,4 @@ IsUnsaid old new Unprinted = new.failed ≡ true
 abbrev pub IsWritten : FollowRequest → Identity → List (List ℕ) → World → World → ℕ → Type 0
 IsWritten r who taken old new count =
     (object : List ℕ) × IsAnswer who taken (Object object)
-    × IsOutput old new (Some r.output) (Some object) × (count ≡ length object)
-
--- datagrams that give an object, and how many were read for them
-pub record Heard : Type 0 where
-  pub identity : Identity
-  pub taken : List (List ℕ)
-  pub read : ℕ
-
-abbrev pub heard_of : Receiver → List (List ℕ) → ℕ → Heard
-heard_of receiver taken read =
-    record { identity = receiver.receiving.identity; taken = taken; read = read }
-
--- the object was written, but for what is printed last
-abbrev pub IsObjectMade : FollowRequest → Heard → World → World → List ℕ → Type 0
-IsObjectMade r heard old new object =
-    IsAnswer heard.identity heard.taken (Object object)
-    × IsOutput old new (Some r.output) (Some object)
-
--- it was, and told after how many datagrams, and its length
-abbrev pub IsDelivered : FollowRequest → Heard → World → World → ℕ → Type 0
-IsDelivered r heard old new status =
-    (object : List ℕ) × IsObjectMade r heard old new object
-    × Appends old.printed new.printed
-    (complete_line heard.read ++ line_of (answer_text (Object object))) × (status ≡ 0)
-
--- Why not: the first line was printed, and the object isn't there. Or printing has failed, and the
--- object is there, or it isn't, for a fault that can't be told.
-abbrev pub IsUndelivered : FollowRequest → Heard → World → World → Stop → Type 0
-IsUndelivered r heard old new (ByFault fault) =
-    IsUnwritten (Follow r) old new fault
-    × Appends old.printed new.printed (complete_line heard.read)
-IsUndelivered r heard old new Unprinted =
-    (new.failed ≡ true)
-    × (((object : List ℕ) × IsObjectMade r heard old new object) ⊎ ((new.files ≡ old.files)
-    × ((new.created ≡ old.created) ⊎ (new.created ≡ one_more old.created))))
-
--- the answer to these datagrams, which is no fault, was printed; its status
-abbrev pub TellsAnswer : Identity → List (List ℕ) → World → World → ℕ → Type 0
-TellsAnswer who taken old new status =
-    (answer : Answer) × IsAnswer who taken (answer_value answer) × IsNoFault answer
-    × Appends old.printed new.printed (line_of (answer_text (answer_value answer)))
-    × (status ≡ answer_status (answer_value answer))
+    × Replaces old.files new.files r.output.name.now object × (count ≡ length object)

@@ -8,7 +8,6 @@ use Rattle.reception.specs.declared.scope.Identity.{Identity}
 use Rattle.reception.specs.Answer.{reception_of}
 use Rattle.reception.specs.Reception.{IsClean, ReadAll}
 use Rattle.reception.specs.Symbols.{AllFull}
-use Rattle.receiver.specs.Receiving.{LeaveNoneShort}
 use Rattle.request.specs.declared.requests.Output.{Output}
 use Rattle.request.specs.declared.requests.Request.{Request}
 use Rattle.request.specs.declared.requests.Request.TheVariants.{Check, Twin, Show, Decode, Follow}
@@ -17,7 +16,7 @@ use Rattle.host.specs.World.{Files, World, Holds, IsFree, IsToStay, MayFail, Rep
 use Rattle.tool.specs.Inputs.{AStream, Value, Opened, HasValue, HaveValues, AreThere, IsUnopened}
 use Rattle.tool.specs.Inputs.{IsFirstUnopened, IsFirstUnread}
 use Rattle.tool.specs.Lines.{TellsFault}
-use Rattle.tool.specs.Following.{IsHeard, IsHeardInPart}
+use Rattle.tool.specs.Following.{IsHeardInPart, BringsCarrier}
 use Rattle.tool.specs.Commands.{inputs_of, place_inputs, output_of, IsWriteFault, Outcome}
 use Rattle.tool.specs.Commands.{AreReadAs, Gives, told_before, Refuses}
 use Rattle.tool.specs.declared.fault.Fault.{Fault}
@@ -43,9 +42,10 @@ GivesOutput files r =
     (values : List Value) × (outcome : Outcome) × (bytes : List ℕ)
     × HaveValues files (inputs_of r) values × Gives r values outcome × (outcome.output ≡ Some bytes)
 
--- Whether an output may be created before a fault: of an object, once datagrams leave nothing out;
--- of a picture, where the answer is yes; of a session without some places, once it is there and the
--- file of places is read; else once all inputs are there.
+-- Whether an output may be created before a fault: of an object, once datagrams leave nothing out,
+-- or, of datagrams that are followed, once a carrier came; of a picture, where the answer is yes;
+-- of a session without some places, once it is there and the file of places is read; else once all
+-- inputs are there.
 abbrev pub MayCreate : Option Files → Request → Type 0
 MayCreate files (Check r) = GivesOutput files (Check r)
 MayCreate files (Show r) = ⊥
@@ -54,19 +54,21 @@ MayCreate files (Decode r) = Holds files r.session.now
     (λ bytes. (datagrams : List (List ℕ)) × IsFramed datagrams bytes
     × AreCleanAndFull r.identity datagrams)
 MayCreate files (Follow r) =
-    (opened : Option (List ℕ)) × HasValue files (AStream r.session.now) (Opened opened)
-    × (left : Option (List ℕ)) × (read : ℕ) × (taken : List (List ℕ)) × (lines : List ℕ)
-    × IsHeard r.identity opened left read taken lines × LeaveNoneShort r.identity taken
+    Holds files r.session.now (λ bytes. BringsCarrier r.identity (Some bytes))
 MayCreate files (Drop r) = Holds files r.session.now (λ bytes. ⊤)
     × ((values : List Value) × HaveValues files (place_inputs r.places_file) values)
 MayCreate files r = AreThere files (inputs_of r)
 
--- What was made of an output's bytes. An object is written while its symbols are looked at: where
--- they turn out to be of none, its output was created, and is given up.
+-- What was made of an output's bytes. An object is written while its symbols come or are looked at:
+-- where they turn out to be too few or of none, its output was created, and is given up.
 abbrev pub IsMade : World → World → Request → Option (List ℕ) → Type 0
 IsMade old new (Decode r) None = (new.files ≡ old.files)
     × ((new.created ≡ old.created)
     ⊎ ((new.created ≡ one_more old.created) × MayCreate old.files (Decode r)
+    × IsFree old.files r.output.name.now r.output.no_clobber))
+IsMade old new (Follow r) None = (new.files ≡ old.files)
+    × ((new.created ≡ old.created)
+    ⊎ ((new.created ≡ one_more old.created) × MayCreate old.files (Follow r)
     × IsFree old.files r.output.name.now r.output.no_clobber))
 IsMade old new r output = IsOutput old new (output_of r) output
 
@@ -126,8 +128,7 @@ BeginsText files (Show r) text =
     × (text ≡ told_before r.summary readings))
 BeginsText files (Follow r) text =
     (text ≡ [])
-    ⊎ ((opened : Option (List ℕ)) × HasValue files (AStream r.session.now) (Opened opened)
-    × IsHeardInPart r.identity opened text)
+    ⊎ Holds files r.session.now (λ bytes. IsHeardInPart r.identity (Some bytes) text)
 BeginsText files r text = text ≡ []
 
 -- The request wasn't done, and the files are as before.
@@ -138,7 +139,7 @@ pub record IsStopped (old new : World) (r : Request) (text : List ℕ) (fault : 
   pub created : (new.created ≡ old.created)
       ⊎ ((new.created ≡ one_more old.created) × MayCreate old.files r)
 
--- an object that was received isn't there, though its output was created
+-- an object isn't there, though the output for what was received was created
 abbrev pub IsGivenUp : World → World → Request → Type 0
 IsGivenUp old new (Follow r) = (new.files ≡ old.files) × (new.created ≡ one_more old.created)
     × MayCreate old.files (Follow r)

@@ -1,23 +1,25 @@
 //! The command `follow`.
-ghost use Rattle.std.specs.Prelude.{◌≡◌, ◌≢◌, ◌<◌, ◌≤◌, ◌++◌, ℕ, List, [], None, true, false};
-ghost use Rattle.std.specs.Prelude.{length};
-ghost use Rattle.std.specs.Prelude.{IfOk, IfErr, IfSome, IfNone, OnOk, OnErr};
-ghost use Rattle.std.specs.Io.KnownBytes.{Appends, Consumes, IsAtEnd};
+ghost use Rattle.std.specs.Prelude.{◌≡◌, ◌≢◌, ◌≤◌, ◌++◌, ◌⊎◌, ℕ, List, Option, Ok, Err, true};
+ghost use Rattle.std.specs.Prelude.{false, length, IfOk, IfErr, OnOk, OnErr};
+ghost use Rattle.std.specs.Io.KnownBytes.{Consumes, IsAtEnd};
 ghost use Rattle.session.specs.Frames.{frame, most_bytes};
-ghost use Rattle.decoder.specs.Gathering.{IsWrittenOf};
+ghost use Rattle.decoder.specs.Answers.{answer_value};
+ghost use Rattle.receiver.specs.Begun.{Begins};
+ghost use Rattle.receiver.specs.Filed.{Stands, has_output};
 ghost use Rattle.receiver.specs.Receiving.{LeaveNoneShort};
-ghost use Rattle.receiver.specs.Stands.{Stands};
+ghost use Rattle.receiver.specs.Stands.{IsSoundIn};
 ghost use Rattle.request.specs.declared.requests.Request.TheVariants.{Follow};
-ghost use Rattle.host.specs.World.{KeepsFiles, IsSilent};
-ghost use Rattle.tool.specs.Doing.{IsUndone, IsUnwritten};
+ghost use Rattle.host.specs.World.{World as WorldValue, GivesFile, KeepsFiles, IsSilent, MayFail};
+ghost use Rattle.request.specs.declared.requests.FollowRequest.{FollowRequest as RequestValue};
+ghost use Rattle.tool.specs.Doing.{IsUndone, IsUncommitted};
 ghost use Rattle.tool.specs.Following.{complete_line, refusal_line};
 ghost use Rattle.tool.specs.Lines.{refusal_words};
-ghost use Rattle.tool.specs.Listening.{AreSaid, HasMadeUp, HasHeardAll, IsUnheard, IsUnsaid};
-ghost use Rattle.tool.specs.Listening.{heard_of, stopped_by};
-ghost use Rattle.tool.specs.Listening.{IsWritten, IsDelivered, IsUndelivered, TellsAnswer};
+ghost use Rattle.tool.specs.Listening.{AreSaid, IsFollowed, IsShort, IsReceived, IsLacking};
+ghost use Rattle.tool.specs.Listening.{IsUnheard, IsHearing, IsEnding, IsPrepared, IsWritten};
+ghost use Rattle.tool.specs.Listening.{stopped_by};
 ghost use Rattle.tool.specs.Outcomes.{IsDone};
-ghost use Rattle.tool.specs.declared.fault.Fault.TheVariants.{Frame};
-ghost use Rattle.tool.specs.declared.fault.Stop.TheVariants.{ByFault, Unprinted};
+ghost use Rattle.tool.specs.declared.fault.Fault.TheVariants.{File, Frame, Memory};
+ghost use Rattle.tool.specs.declared.output.Unwritten.TheVariants.{Writing};
 
 use crate::decode::told_of;
 use crate::fault::{Fault, Stop};
@@ -25,25 +27,37 @@ use crate::input::{next_datagram, open};
 use crate::output::{Unwritten, commit, create};
 use crate::print::{Text, print_count};
 use crate::wording::put_packet_fault;
-use decoder::DecodeFault;
+use decoder::{Answer, DecodeFault};
 use host::Host;
-use receiver::{FeedFault, Progress, Receiver};
+use receiver::{FeedFault, FileReceiver, Progress, Unfed};
 use request::FollowRequest;
-use session::{FrameFault, Read, Write};
+use session::{Failed, Read};
 use std::alloc::{AllocError, Global};
+use streams::WriteAt;
 
-/// How a session was heard.
-struct Heard {
-    /// How many datagrams gave the object, where they do.
-    complete: Option<usize>,
+/// A session as far as it was followed.
+struct Followed<W: WriteAt> {
+    receiver: FileReceiver<W>,
+    /// How many datagrams were read.
+    count: usize,
     /// Whether the lines of those that were refused were printed.
     said: bool,
 }
 
-/// Takes the session's datagrams one by one, and prints a line for each that is refused. Once they
-/// give the object no more are read, and it is written; else what lacks is printed at the end.
-/// Answers the status. Each line is passed on before the next datagram is read. Where printing
-/// fails, no more is printed, and the object is received and written all the same.
+/// How a session ends.
+enum Ending {
+    /// The datagrams that were read gave the object.
+    Full,
+    /// All were read, and the answer says what they lack.
+    Lacks(Answer),
+}
+
+/// Takes the session's datagrams one by one, and prints a line for each that is refused. The output
+/// is created once a carrier comes, and has the symbols from then on, where it has offsets. Once
+/// the datagrams give the object no more are read, and it is kept; else the output is given up, and
+/// what lacks is printed at the end. Answers the status. Each line is passed on before the next
+/// datagram is read. Where printing fails, no more is printed, and the object is received and kept
+/// all the same.
 pub(crate) fn follow<'a, H: Host>(
     alloc: Global,
     host: &mut H,
@@ -56,12 +70,11 @@ pub(crate) fn follow<'a, H: Host>(
     ensures small { IfOk result (λ status. status ≤ 3) }
 {
     let mut frames = open(host, request.session)?;
-    let mut receiver = Receiver::new(request.identity);
-    let Heard { complete, said } = listen(alloc, &mut frames, host, &mut receiver)?;
-    match complete {
-        Some(count) => deliver(host, request, &receiver, count, said),
-        None if said => tell_lack(alloc, host, &receiver),
-        None => Err(Stop::Unprinted),
+    let (followed, ending) = listen(alloc, host, request, &mut frames);
+    match ending {
+        Ok(Ending::Full) => deliver(host, request, followed),
+        Ok(Ending::Lacks(answer)) => tell_lack(alloc, host, followed, &answer),
+        Err(unwritten) => Err(give_up(host, request, followed, unwritten)),
     }
 }
 
@@ -76,57 +89,159 @@ fn stop_by<'a>(fault: Fault<'a>, said: bool) -> Stop<'a>
     }
 }
 
-// Feeds the datagrams that are left of a reader until they give the object, or all.
+// Follows a session that was opened until its datagrams give the object, or to its end.
 fn listen<'a, R: Read, H: Host>(
     alloc: Global,
-    frames: &mut R,
     host: &mut H,
-    receiver: &mut Receiver,
-) -> Result<Heard, Stop<'a>>
-    requires { Stands receiver.old [] }
-    ensures identity { receiver.new.receiving.identity ≡ receiver.old.receiving.identity }
-    ensures complete { IfOk result (λ heard. IfSome heard.complete (λ read.
-        HasMadeUp receiver.new (R.remaining frames.old) (H.world host.old) (H.world host.new)
-        read heard.said)) }
-    ensures end { IfOk result (λ heard. IfNone heard.complete (HasHeardAll receiver.new
-        (R.remaining frames.old) (H.world host.old) (H.world host.new) heard.said)) }
-    ensures fault { IfErr result (IsUnheard receiver.old.receiving.identity
-        (R.remaining frames.old) (H.world host.old) (H.world host.new)) }
-    ensures unsound { IfErr result (λ stop.
-        stop ≡ ByFault (Frame FrameFault.Io) → R.sound frames.old ≡ false) }
-    ensures files { KeepsFiles (H.world host.old) (H.world host.new) }
+    request: &FollowRequest<'a>,
+    frames: &mut R,
+) -> (Followed<H::Output>, Result<Ending, Unwritten<'a>>)
+    requires { GivesFile (H.world host.old) request.now.session.now (R.remaining frames.old)
+        (R.sound frames.old) }
+    ensures { IsEnding request.now (H.world host.old) (H.world host.new) result.0 result.1 }
 {
-    let mut count = 0usize;
-    let mut said = true;
+    let mut followed = Followed {
+        receiver: FileReceiver::new(request.identity),
+        count: 0,
+        said: true,
+    };
     loop {
         let datagram = match next_datagram(alloc, frames) {
             Ok(Some(datagram)) => datagram,
             Ok(None) => {
-                return Ok(Heard {
-                    complete: None,
-                    said,
-                });
+                let ending = end(&followed);
+                return (followed, Ok(ending));
             }
-            Err(fault) => return Err(stop_by(fault, said)),
+            Err(fault) => return (followed, Err(Unwritten::Fault(fault))),
         };
-        let Some(read) = count.checked_add(1) else {
-            return Err(stop_by(Fault::Memory, said));
-        };
-        match receiver.feed(alloc, datagram.as_slice()) {
-            Ok(Progress::Complete) => {
-                return Ok(Heard {
-                    complete: Some(read),
-                    said,
-                });
-            }
-            Ok(Progress::More) => {}
-            Err(refusal) => match tell_refusal(alloc, host, count, refusal, said) {
-                Ok(told) => said = told,
-                Err(AllocError) => return Err(stop_by(Fault::Memory, said)),
-            },
+        let (next, heard) = hear(alloc, host, request, followed, datagram.as_slice());
+        match heard {
+            Ok(Progress::More) => followed = next,
+            Ok(Progress::Complete) => return (next, Ok(Ending::Full)),
+            Err(unwritten) => return (next, Err(unwritten)),
         }
-        count = read;
     }
+}
+
+// How a session ends that was read to its end.
+fn end<W: WriteAt>(followed: &Followed<W>) -> Ending
+    ensures { (r : RequestValue) (old new : WorldValue) (left : Option (List ℕ))
+        → IsFollowed r old new followed.now (IsShort r left followed.now) → IsAtEnd left
+        → IsEnding r old new followed.now (Ok result) }
+{
+    match followed.receiver.lack() {
+        Some(answer) => Ending::Lacks(answer),
+        None => Ending::Full,
+    }
+}
+
+// Hears one datagram more, and prints why it is refused, where it is.
+fn hear<'a, H: Host>(
+    alloc: Global,
+    host: &mut H,
+    request: &FollowRequest<'a>,
+    followed: Followed<H::Output>,
+    datagram: &[u8],
+) -> (Followed<H::Output>, Result<Progress, Unwritten<'a>>)
+    requires sound { IsSoundIn followed.receiver.receiving.store }
+    requires said { followed.said ≡ false → (H.world host.old).failed ≡ true }
+    ensures { (old : WorldValue) (before after : Option (List ℕ))
+        → IsFollowed request.now old (H.world host.old) followed
+        (IsShort request.now before followed)
+        → Consumes before after (frame datagram.now) → length datagram.now ≤ most_bytes
+        → IsHearing request.now old (H.world host.new) after result.0 result.1 }
+{
+    let (followed, prepared) = prepare(host, request, followed, datagram);
+    if let Err(fault) = prepared {
+        return (followed, Err(Unwritten::Fault(fault)));
+    }
+    let Some(read) = followed.count.checked_add(1) else {
+        return (followed, Err(Unwritten::Fault(Fault::Memory)));
+    };
+    let Followed {
+        mut receiver,
+        count: place,
+        said,
+    } = followed;
+    let count = read;
+    match receiver.feed(alloc, datagram) {
+        Ok(progress) => (
+            Followed {
+                receiver,
+                count,
+                said,
+            },
+            Ok(progress),
+        ),
+        Err(Unfed::Failed) => (
+            Followed {
+                receiver,
+                count,
+                said,
+            },
+            Err(Unwritten::Writing),
+        ),
+        Err(Unfed::Refused(refusal)) => match tell_refusal(alloc, host, place, refusal, said) {
+            Ok(said) => (
+                Followed {
+                    receiver,
+                    count,
+                    said,
+                },
+                Ok(Progress::More),
+            ),
+            Err(AllocError) => (
+                Followed {
+                    receiver,
+                    count,
+                    said,
+                },
+                Err(Unwritten::Fault(Fault::Memory)),
+            ),
+        },
+    }
+}
+
+// Creates the output where this datagram is the first carrier.
+fn prepare<'a, H: Host>(
+    host: &mut H,
+    request: &FollowRequest<'a>,
+    followed: Followed<H::Output>,
+    datagram: &[u8],
+) -> (Followed<H::Output>, Result<(), Fault<'a>>)
+    requires { IsSoundIn followed.receiver.receiving.store }
+    ensures sound { IsSoundIn result.0.receiver.receiving.store }
+    ensures said { result.0.said ≡ followed.said }
+    ensures silent { IsSilent (H.world host.old) (H.world host.new) }
+    ensures ready { OnOk result.1 (has_output result.0.receiver ≡ false
+        → ¬ Begins result.0.receiver.receiving.identity datagram.now) }
+    ensures prepared { (old : WorldValue) (before after : Option (List ℕ))
+        → IsFollowed request.now old (H.world host.old) followed
+        (IsShort request.now before followed)
+        → Consumes before after (frame datagram.now) → length datagram.now ≤ most_bytes
+        → IsPrepared request.now old (H.world host.new) before result.0 result.1 }
+{
+    if !followed.receiver.wants_output(datagram) {
+        return (followed, Ok(()));
+    }
+    let output = match create(host, &request.output) {
+        Ok(output) => output,
+        Err(fault) => return (followed, Err(fault)),
+    };
+    let Followed {
+        receiver,
+        count,
+        said,
+    } = followed;
+    let receiver = receiver.with_output(output);
+    (
+        Followed {
+            receiver,
+            count,
+            said,
+        },
+        Ok(()),
+    )
 }
 
 // Prints that the datagram at a place was refused, and why, unless printing has failed. Answers
@@ -187,30 +302,28 @@ fn put_refusal(line: &mut Text, fault: FeedFault) -> Result<(), AllocError>
     }
 }
 
-// Tells that the object is there once so many datagrams were read, writes it, and answers the
-// status. Where printing has failed, before or now, the object is written all the same.
+// Tells that the object is there once so many datagrams were read, keeps it, and answers the
+// status. Where printing has failed, before or now, the object is kept all the same.
 fn deliver<'a, H: Host>(
     host: &mut H,
     request: &FollowRequest<'a>,
-    receiver: &Receiver,
-    count: usize,
-    said: bool,
+    followed: Followed<H::Output>,
 ) -> Result<u8, Stop<'a>>
-    requires { said ≡ false → (H.world host.old).failed ≡ true }
-    ensures ok { (taken : List (List ℕ)) → Stands receiver.now taken
-        → LeaveNoneShort receiver.now.receiving.identity taken
-        → IfOk result (IsDelivered request.now (heard_of receiver.now taken count)
-        (H.world host.old) (H.world host.new)) }
-    ensures fault { (taken : List (List ℕ)) → Stands receiver.now taken
-        → LeaveNoneShort receiver.now.receiving.identity taken
-        → IfErr result (IsUndelivered request.now (heard_of receiver.now taken count)
-        (H.world host.old) (H.world host.new)) }
-    ensures said { OnOk result (said ≡ true) }
-    ensures told { IfErr result (λ stop. stop ≢ Unprinted → said ≡ true) }
+    requires output { has_output followed.receiver ≡ true }
+    requires said { followed.said ≡ false → (H.world host.old).failed ≡ true }
+    ensures ok { (old : WorldValue) → IsReceived request.now old (H.world host.old) followed
+        → IfOk result (IsDone old (H.world host.new) (Follow request.now)) }
+    ensures fault { (old : WorldValue) → IsReceived request.now old (H.world host.old) followed
+        → IfErr result (IsUndone old (H.world host.new) (Follow request.now)) }
     ensures small { IfOk result (λ status. status ≤ 3) }
 {
+    let Followed {
+        receiver,
+        count,
+        said,
+    } = followed;
     let said = tell_complete(host, count, said);
-    let length = match write_object(host, request, receiver) {
+    let length = match keep_object(host, request, receiver) {
         Ok(length) => length,
         Err(fault) => return Err(stop_by(fault, said)),
     };
@@ -233,60 +346,105 @@ fn tell_complete<H: Host>(host: &mut H, count: usize, said: bool) -> bool
         && host.pass_on().is_ok()
 }
 
-// Writes the object that the datagrams gave, and answers its length in bytes.
-fn write_object<'a, H: Host>(
+// Keeps the object that the datagrams gave, and answers its length in bytes.
+fn keep_object<'a, H: Host>(
     host: &mut H,
     request: &FollowRequest<'a>,
-    receiver: &Receiver,
+    receiver: FileReceiver<H::Output>,
 ) -> Result<u64, Fault<'a>>
-    ensures made { (taken : List (List ℕ)) → Stands receiver.now taken
-        → LeaveNoneShort receiver.now.receiving.identity taken
-        → IfOk result (IsWritten request.now receiver.now.receiving.identity taken
+    requires { has_output receiver ≡ true }
+    ensures kept { (taken : List (List ℕ)) → Stands receiver taken
+        → LeaveNoneShort receiver.receiving.identity taken
+        → IfOk result (IsWritten request.now receiver.receiving.identity taken
         (H.world host.old) (H.world host.new)) }
-    ensures fault { IfErr result (IsUnwritten (Follow request.now)
-        (H.world host.old) (H.world host.new)) }
+    ensures fault { IfErr result (λ told. (told ≡ Memory)
+        ⊎ ((told ≡ File request.now.output.name) × MayFail (H.world host.old))) }
+    ensures files { OnErr result ((H.world host.new).files ≡ (H.world host.old).files) }
     ensures silent { IsSilent (H.world host.old) (H.world host.new) }
+    ensures created { (H.world host.new).created ≡ (H.world host.old).created }
 {
-    let mut file = create(host, &request.output)?;
-    let written = write_taken(receiver, &mut file);
-    commit(
-        host,
-        request.output.name,
-        file,
-        written,
-        Fault::File(request.output.name),
-    )
+    let (output, finished) = receiver.finish();
+    let written = match finished {
+        Ok(length) => Ok(length),
+        Err(Failed) => Err(Unwritten::Writing),
+    };
+    let name = request.output.name;
+    commit(host, name, output, written, Fault::File(name))
 }
 
-// Answers the object's length in bytes.
-fn write_taken<'a, W: Write>(receiver: &Receiver, writer: &mut W) -> Result<u64, Unwritten<'a>>
-    ensures written { (taken : List (List ℕ)) → Stands receiver.now taken
-        → LeaveNoneShort receiver.now.receiving.identity taken
-        → IfOk result (IsWrittenOf receiver.now.receiving.identity taken
-        (W.contents writer.old) (W.contents writer.new)) }
-    ensures writing { IfErr result (λ e. e ≡ Unwritten.Writing) }
-    ensures fails { (taken : List (List ℕ)) → Stands receiver.now taken
-        → LeaveNoneShort receiver.now.receiving.identity taken
-        → OnErr result (W.failed writer.new ≡ true) }
-{
-    match receiver.write_object(writer) {
-        Ok(Some(length)) => Ok(length),
-        // A block that is short comes only where the caller hasn't waited for the object.
-        Ok(None) | Err(_) => Err(Unwritten::Writing),
-    }
-}
-
-// Prints what lacks, and answers the status.
-fn tell_lack<'a, H: Host>(alloc: Global, host: &mut H, receiver: &Receiver) -> Result<u8, Stop<'a>>
-    ensures ok { (taken : List (List ℕ)) → Stands receiver.now taken
-        → IfOk result (TellsAnswer receiver.now.receiving.identity taken
-        (H.world host.old) (H.world host.new)) }
-    ensures fault { IfErr result (IsUnsaid (H.world host.old) (H.world host.new)) }
-    ensures files { KeepsFiles (H.world host.old) (H.world host.new) }
+// Prints what the datagrams lack, and answers the status. The output, if there is one, is given up.
+fn tell_lack<'a, H: Host>(
+    alloc: Global,
+    host: &mut H,
+    followed: Followed<H::Output>,
+    answer: &Answer,
+) -> Result<u8, Stop<'a>>
+    ensures ok { (r : RequestValue) (old : WorldValue)
+        → IsLacking r old (H.world host.old) followed answer.now
+        → IfOk result (IsDone old (H.world host.new) (Follow r)) }
+    ensures fault { (r : RequestValue) (old : WorldValue)
+        → IsLacking r old (H.world host.old) followed answer.now
+        → IfErr result (IsUndone old (H.world host.new) (Follow r)) }
     ensures small { IfOk result (λ status. status ≤ 3) }
 {
-    let answer = receiver.take(alloc)?;
-    let done = told_of(alloc, &answer)?;
+    let Followed {
+        receiver,
+        count: _,
+        said,
+    } = followed;
+    if let Some(output) = receiver.into_output() {
+        host.give_up(output);
+    }
+    if !said {
+        return Err(Stop::Unprinted);
+    }
+    let done = told_of(alloc, answer)?;
     done.told.print(host)?;
     Ok(done.status)
+}
+
+// Gives the output up, if there is one, and answers why following stops.
+fn give_up<'a, H: Host>(
+    host: &mut H,
+    request: &FollowRequest<'a>,
+    followed: Followed<H::Output>,
+    unwritten: Unwritten<'a>,
+) -> Stop<'a>
+    requires { unwritten ≡ Writing → has_output followed.receiver ≡ true }
+    ensures { (old : WorldValue)
+        → IsUnheard request.now old (H.world host.old) followed unwritten.entry
+        → IsUndone old (H.world host.new) (Follow request.now) result }
+{
+    let Followed {
+        receiver,
+        count: _,
+        said,
+    } = followed;
+    stop_by(drop_output(host, request, receiver, unwritten), said)
+}
+
+// Gives the output up, if there is one, and answers the fault that is told.
+fn drop_output<'a, H: Host>(
+    host: &mut H,
+    request: &FollowRequest<'a>,
+    receiver: FileReceiver<H::Output>,
+    unwritten: Unwritten<'a>,
+) -> Fault<'a>
+    requires { unwritten ≡ Writing → has_output receiver ≡ true }
+    ensures fault { IsUncommitted (H.world host.old) (Err unwritten.entry)
+        (File request.now.output.name) result }
+    ensures files { KeepsFiles (H.world host.old) (H.world host.new) }
+    ensures silent { IsSilent (H.world host.old) (H.world host.new) }
+{
+    let name = request.output.name;
+    let Some(output) = receiver.into_output() else {
+        return match unwritten {
+            Unwritten::Fault(fault) => fault,
+            Unwritten::Writing => unreachable!(),
+        };
+    };
+    match commit(host, name, output, Err(unwritten), Fault::File(name)) {
+        Ok(_) => unreachable!(),
+        Err(fault) => fault,
+    }
 }

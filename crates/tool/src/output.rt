@@ -1,5 +1,5 @@
 //! Output files.
-ghost use Rattle.std.specs.Prelude.{◌≡◌, Ok, IfOk, IfErr, IfSome, OnOk, OnErr};
+ghost use Rattle.std.specs.Prelude.{◌≡◌, [], Ok, IfOk, IfErr, IfSome, OnOk, OnErr};
 ghost use Rattle.host.specs.World.{IsBlank, IsFree, Replaces, IsSilent, one_more};
 ghost use Rattle.tool.specs.Doing.{IsUncreated, IsUncommitted, IsUnkept};
 
@@ -20,6 +20,8 @@ pub(crate) enum Unwritten<'a> {
 pub(crate) fn create<'a, H: Host>(host: &mut H, output: &Output<'a>) -> Result<H::Output, Fault<'a>>
     ensures blank { IfOk result (λ file.
         IsBlank (H.world host.old) (H.Output.contents file)) }
+    ensures empty { IfOk result (λ file.
+        IfSome (H.Output.contents file) (λ bytes. bytes ≡ [])) }
     ensures free { OnOk result
         (IsFree (H.world host.old).files output.now.name.now output.now.no_clobber) }
     ensures fault { IfErr result (IsUncreated (H.world host.old) output.now) }

@@ -13,6 +13,8 @@ mod converting_tests;
 #[cfg(test)]
 mod decoding_tests;
 #[cfg(test)]
+mod file_receiver_tests;
+#[cfg(test)]
 mod file_tests;
 #[cfg(test)]
 mod hostile_tests;

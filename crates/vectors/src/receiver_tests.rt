@@ -104,7 +104,11 @@ fn agrees(fed: &Result<Progress, FeedFault>, taken: &Answer, decoded: &Answer) -
     }
 }
 
-fn feed(alloc: Global, receiver: &mut Receiver, datagram: &[u8]) -> Result<Progress, FeedFault>
+pub(crate) fn feed(
+    alloc: Global,
+    receiver: &mut Receiver,
+    datagram: &[u8],
+) -> Result<Progress, FeedFault>
     requires { IsFed receiver.old }
     ensures { IsFed receiver.new }
 {

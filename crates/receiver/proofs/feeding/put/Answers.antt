@@ -1,4 +1,4 @@
-use Rattle.std.proofs.Common.{◌≡◌, ◌∙◌, Option, Some, None, Ok, Err, sym, subst, ap, rules}
+use Rattle.std.proofs.Common.{Option, Some, None, Ok, Err, sym, subst, rules}
 use Rattle.std.specs.Prelude.{⊤}
 use Rattle.receiver.specs.Fed.{HoldsFor}
 use Rattle.receiver.specs.Putting.{IsPutFault, UnlessFailed}
@@ -7,33 +7,26 @@ use Rattle.receiver.proofs.Holding.{fed_some, fed_none}
 use Rattle.receiver.proofs.Told.{unless}
 use Rattle.receiver.proofs.feeding.put.Goals as goal
 
-pub put-requires-clause-there : goal.put-requires-clause-there
-put-requires-clause-there g c = λ x told.
-    let fti : c.in-Some.store.fti ≡ c.args.fti = (rw c.in-Some.is at c.requires.fti) in
-    (rw c.in-Some.is at c.requires.there x (ap (g.B.BlockBytes.kept c.args.bytes.now) (sym fti) ∙ told))
-
 pub returns-in-Some-clause-outcome : goal.returns-in-Some-clause-outcome
 returns-in-Some-clause-outcome g c = λ at h.
     let own : HoldsFor c.args.fti (g.B.BlockBytes.kept c.args.bytes.now) (Some c.in-Some.store) at = (rw c.in-Some.is at h) in
-    fed_some c.args.fti (g.B.BlockBytes.kept c.args.bytes.now) (g.B.BlockBytes.kept c.put.new.bytes) c.in-Some.store c.put.new.self own.0 c.put.ensures.fti c.args.packet.now c.put.result
+    fed_some c.args.fti (g.B.BlockBytes.kept c.args.bytes.now) (g.B.BlockBytes.kept c.put.new.bytes) c.in-Some.store c.put.new.self own.0 c.put.ensures.fti c.args.packet.now (g.B.BlockBytes.failed c.put.new.bytes) c.put.result
     c.put.ensures.outcome at own.1
-
-pub put-requires-2-clause-there : goal.put-requires-2-clause-there
-put-requires-2-clause-there g c = λ x told. (λ b j. None, c.in-Ok.ensures.holds x)
 
 pub returns-in_err-put-clause-outcome : goal.returns-in_err-put-clause-outcome
 returns-in_err-put-clause-outcome g c = λ at h.
     let k = c.args.packet.now in
     let now = g.B.BlockBytes.kept c.put-2.new.bytes in
+    let failed = g.B.BlockBytes.failed c.put-2.new.bytes in
     let own : HoldsFor c.args.fti (g.B.BlockBytes.kept c.args.bytes.now) None at = (rw c.in_default.is at h) in
-    let d : UnlessFailed c.in_err-put.field-0.0 (IsPutFault c.args.fti k.sbn (at k.sbn) k.esi k.symbol.now c.in_err-put.field-0.0 × HoldsFor c.args.fti now c.args.store.now at) =
-    unless c.in_err-put.field-0.0 _ _ (λ o. (o.0, subst (λ (s : Option Store). HoldsFor c.args.fti now s at) (sym c.in_default.is) o.1))
-    (fed_none c.args.fti (g.B.BlockBytes.kept c.args.bytes.now) now c.in-Ok.new c.put-2.new.self c.in-Ok.ensures.fti c.in_err-put.ensures.fti k {A = ⊤} (Err c.in_err-put.field-0.0)
+    let d : UnlessFailed failed c.in_err-put.field-0.0 (IsPutFault c.args.fti k.sbn (at k.sbn) k.esi k.symbol.now c.in_err-put.field-0.0 × HoldsFor c.args.fti now c.args.store.now at) =
+    unless failed c.in_err-put.field-0.0 _ _ (λ o. (o.0, subst (λ (s : Option Store). HoldsFor c.args.fti now s at) (sym c.in_default.is) o.1))
+    (fed_none c.args.fti (g.B.BlockBytes.kept c.args.bytes.now) now c.in-Ok.new c.put-2.new.self c.in-Ok.ensures.fti c.in_err-put.ensures.fti k failed {A = ⊤} (Err c.in_err-put.field-0.0)
     c.in_err-put.ensures.outcome at c.in-Ok.ensures.holds own).1 in
     (search rules, search rules)
 
 pub returns-clause-outcome : goal.returns-clause-outcome
 returns-clause-outcome g c = λ at h.
     let own : HoldsFor c.args.fti (g.B.BlockBytes.kept c.args.bytes.now) None at = (rw c.in_default.is at h) in
-    fed_none c.args.fti (g.B.BlockBytes.kept c.args.bytes.now) (g.B.BlockBytes.kept c.put-2.new.bytes) c.in-Ok.new c.put-2.new.self c.in-Ok.ensures.fti c.in_ok-put.ensures.fti c.args.packet.now {A = ⊤} (Ok tt)
+    fed_none c.args.fti (g.B.BlockBytes.kept c.args.bytes.now) (g.B.BlockBytes.kept c.put-2.new.bytes) c.in-Ok.new c.put-2.new.self c.in-Ok.ensures.fti c.in_ok-put.ensures.fti c.args.packet.now (g.B.BlockBytes.failed c.put-2.new.bytes) {A = ⊤} (Ok tt)
     c.in_ok-put.ensures.outcome at c.in-Ok.ensures.holds own

@@ -19,8 +19,8 @@ returns-clause-bytes g c =
     (stands_in f middle c.grow.new.self.len c.args.block c.args.from bytes c.grow.new.self.long room inside there))
     c.read_all_back.ensures.bytes
 
-pub returns-clause-broken : goal.returns-clause-broken
-returns-clause-broken g c =
+pub returns-clause-fails : goal.returns-clause-fails
+returns-clause-fails g c =
     on_err c.read_all_back.result _ _
     (λ why. elim why [ inl failed ↦ inl failed | inr untold ↦ inr (untold_before c.args.fti.now _ _ c.in_ok-grow.ensures.stays untold) ])
     c.read_all_back.ensures.fails

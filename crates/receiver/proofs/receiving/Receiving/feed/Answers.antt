@@ -1,4 +1,5 @@
-use Rattle.std.proofs.Common.{◌∙◌, refl, sym, subst}
+use Rattle.std.proofs.Common.{◌∙◌, ap, refl, sym, subst}
+use Rattle.std.specs.Prelude.{option_map}
 use Rattle.reception.specs.Answer.{IsAnswer}
 use Rattle.reception.proofs.Looks.{length_look}
 use Rattle.receiver.specs.Fed.{HoldsFor}
@@ -6,8 +7,9 @@ use Rattle.receiver.specs.Putting.{IsPutFault}
 use Rattle.receiver.specs.Receiving.{IfRefused, IsUnfedOf, with_datagram}
 use Rattle.receiver.specs.Stands.{StandsWith}
 use Rattle.receiver.specs.declared.receiving.Receiving.{Receiving}
-use Rattle.receiver.proofs.Fed.{faulty, fti_was, store_fti, store_holds, held, accepted, passed_over, refused, refusal_told, if_refused, none_before, not_early_fault, not_early_other, not_early_packet, comes_early}
-use Rattle.receiver.proofs.Told.{unless}
+use Rattle.receiver.proofs.Begun.{begins}
+use Rattle.receiver.proofs.Fed.{faulty, fti_was, store_fti, held, accepted, passed_over, refused, refusal_told, if_refused, none_before, not_early_fault, not_early_other, not_early_packet, comes_early}
+use Rattle.receiver.proofs.Told.{unless, is_broken}
 use Rattle.receiver.proofs.receiving.Receiving.feed.Goals as goal
 
 pub returns-in-Err-clause-fault : goal.returns-in-Err-clause-fault
@@ -25,15 +27,6 @@ put-requires-clause-fti g c =
     store_fti c.args.self.now.store c.unwrap-fti.result
     (λ h e. fti_was c.args.datagram.now c.scope-scope.result c.look.new.self c.in-Ok-InRange.packet look c.unwrap-fti.result c.unwrap-fti.ensures h (c.scope-scope.ensures.fti ∙ e))
 
-pub put-requires-clause-there : goal.put-requires-clause-there
-put-requires-clause-there g c = λ x told.
-    let w = c.requires.fed c.unwrap-fti.result x told in
-    let ds = w.0 in
-    let stands = w.1 in
-    let look = (rw (c.in-Ok-InRange.is, c.in-Ok-InRange.field-0-is) at c.look.ensures) in
-    let h = held c.args.self.now (g.B.BlockBytes.kept c.args.bytes.now) ds stands c.args.datagram.now c.are_bytes.ensures c.scope-scope.result c.look.new.self (c.scope-scope.ensures.scope (g.B.BlockBytes.kept c.args.bytes.now) ds stands) c.in-Ok-InRange.packet look c.unwrap-fti.result c.unwrap-fti.ensures in
-    store_holds c.unwrap-fti.result (g.B.BlockBytes.kept c.args.bytes.now) c.args.self.now.store h.0 x told h.2
-
 pub returns-in-Err-put-clause-refused : goal.returns-in-Err-put-clause-refused
 returns-in-Err-put-clause-refused g c = λ ds stands.
     let look = (rw (c.in-Ok-InRange.is, c.in-Ok-InRange.field-0-is) at c.look.ensures) in
@@ -42,8 +35,8 @@ returns-in-Err-put-clause-refused g c = λ ds stands.
     let k = c.in-Ok-InRange.packet in
     let receiving : Receiving = record { identity = c.args.self.now.identity; store = c.put.new.store; accepted = c.args.self.now.accepted } in
     subst (λ v. IfRefused (StandsWith receiving now ds) v) (sym c.refusal.ensures.value)
-    (if_refused (StandsWith receiving now ds) c.args.self.now.accepted c.in-Ok-InRange.packet.sbn c.in-Err-put.fault
-    (unless c.in-Err-put.fault (IsPutFault c.unwrap-fti.result k.sbn (h.0 k.sbn) k.esi k.symbol.now c.in-Err-put.fault × HoldsFor c.unwrap-fti.result now c.put.new.store h.0) (StandsWith receiving now ds)
+    (if_refused (StandsWith receiving now ds) c.args.self.now.accepted c.in-Ok-InRange.packet.sbn (g.B.BlockBytes.failed c.put.new.bytes) c.in-Err-put.fault
+    (unless (g.B.BlockBytes.failed c.put.new.bytes) c.in-Err-put.fault (IsPutFault c.unwrap-fti.result k.sbn (h.0 k.sbn) k.esi k.symbol.now c.in-Err-put.fault × HoldsFor c.unwrap-fti.result now c.put.new.store h.0) (StandsWith receiving now ds)
     (λ o. refused c.args.self.now (g.B.BlockBytes.kept c.args.bytes.now) ds stands c.args.datagram.now c.are_bytes.ensures c.scope-scope.result c.look.new.self (c.scope-scope.ensures.scope (g.B.BlockBytes.kept c.args.bytes.now) ds stands) c.in-Ok-InRange.packet look c.unwrap-fti.result c.unwrap-fti.ensures
     h.0 h.1 now (g.B.BlockBytes.all_told c.put.new.bytes) c.put.new.store c.put.ensures.sound o.1 c.in-Err-put.ensures.none)
     (c.in-Err-put.ensures.outcome h.0 h.2).1))
@@ -55,8 +48,16 @@ returns-in-Err-put-clause-fault g c = λ ds stands.
     let k = c.in-Ok-InRange.packet in
     subst (λ v. IsUnfedOf c.args.self.now.identity (with_datagram ds c.args.datagram.now) v) (sym c.refusal.ensures.value)
     (refusal_told c.args.self.now (g.B.BlockBytes.kept c.args.bytes.now) ds stands c.args.datagram.now c.are_bytes.ensures c.scope-scope.result c.look.new.self (c.scope-scope.ensures.scope (g.B.BlockBytes.kept c.args.bytes.now) ds stands) c.in-Ok-InRange.packet look c.unwrap-fti.result c.unwrap-fti.ensures
-    h.0 h.1 c.is_valid.ensures h.2 c.in-Err-put.fault (unless c.in-Err-put.fault (IsPutFault c.unwrap-fti.result k.sbn (h.0 k.sbn) k.esi k.symbol.now c.in-Err-put.fault × HoldsFor c.unwrap-fti.result (g.B.BlockBytes.kept c.put.new.bytes) c.put.new.store h.0)
+    h.0 h.1 c.is_valid.ensures h.2 (g.B.BlockBytes.failed c.put.new.bytes) c.in-Err-put.fault (unless (g.B.BlockBytes.failed c.put.new.bytes) c.in-Err-put.fault (IsPutFault c.unwrap-fti.result k.sbn (h.0 k.sbn) k.esi k.symbol.now c.in-Err-put.fault × HoldsFor c.unwrap-fti.result (g.B.BlockBytes.kept c.put.new.bytes) c.put.new.store h.0)
     (IsPutFault c.unwrap-fti.result k.sbn (h.0 k.sbn) k.esi k.symbol.now c.in-Err-put.fault) (λ o. o.0) (c.in-Err-put.ensures.outcome h.0 h.2).1))
+
+-- reading or writing has failed where that is told
+pub returns-in-Err-put-clause-fails : goal.returns-in-Err-put-clause-fails
+returns-in-Err-put-clause-fails g c = λ ds stands is.
+    let look = (rw (c.in-Ok-InRange.is, c.in-Ok-InRange.field-0-is) at c.look.ensures) in
+    let h = held c.args.self.now (g.B.BlockBytes.kept c.args.bytes.now) ds stands c.args.datagram.now c.are_bytes.ensures c.scope-scope.result c.look.new.self (c.scope-scope.ensures.scope (g.B.BlockBytes.kept c.args.bytes.now) ds stands) c.in-Ok-InRange.packet look c.unwrap-fti.result c.unwrap-fti.ensures in
+    is_broken (g.B.BlockBytes.failed c.put.new.bytes) c.in-Err-put.fault (IsPutFault c.unwrap-fti.result c.in-Ok-InRange.packet.sbn (h.0 c.in-Ok-InRange.packet.sbn) c.in-Ok-InRange.packet.esi c.in-Ok-InRange.packet.symbol.now c.in-Err-put.fault × HoldsFor c.unwrap-fti.result (g.B.BlockBytes.kept c.put.new.bytes) c.put.new.store h.0)
+    (c.in-Err-put.ensures.outcome h.0 h.2).1 (c.refusal.ensures.failed (cc))
 
 pub returns-in-Err-put-clause-memory : goal.returns-in-Err-put-clause-memory
 returns-in-Err-put-clause-memory g c = λ ds stands is i e answer.
@@ -151,3 +152,19 @@ returns-clause-early g c = λ ds stands. (
       (not_early_packet c.args.self.now (g.B.BlockBytes.kept c.args.bytes.now) ds stands c.args.datagram.now c.are_bytes.ensures c.scope-scope.result c.look.new.self (c.scope-scope.ensures.scope (g.B.BlockBytes.kept c.args.bytes.now) ds stands)
       c.in-Ok-InRange.packet (rw (c.in-Ok-InRange.is, c.in-Ok-InRange.field-0-is) at c.look.ensures) comes.1),
 )
+
+-- ---- where no FTI was known
+
+pub returns-in-Err-put-clause-waits : goal.returns-in-Err-put-clause-waits
+returns-in-Err-put-clause-waits g c = λ none not_begun.
+    absurd
+    (not_begun
+    (begins c.args.self.now.identity c.args.datagram.now c.scope-scope.result c.look.new.self c.in-Ok-InRange.packet c.scope-scope.ensures.identity
+    (c.scope-scope.ensures.fti ∙ ap (option_map (λ s. s.fti)) none) (rw (c.in-Ok-InRange.is, c.in-Ok-InRange.field-0-is) at c.look.ensures)))
+
+pub returns-clause-waits : goal.returns-clause-waits
+returns-clause-waits g c = λ none not_begun.
+    absurd
+    (not_begun
+    (begins c.args.self.now.identity c.args.datagram.now c.scope-scope.result c.look.new.self c.in-Ok-InRange.packet c.scope-scope.ensures.identity
+    (c.scope-scope.ensures.fti ∙ ap (option_map (λ s. s.fti)) none) (rw (c.in-Ok-InRange.is, c.in-Ok-InRange.field-0-is) at c.look.ensures)))

@@ -15,12 +15,6 @@ use Rattle.receiver.proofs.store.Store.begin.Goals as goal
 pub put-requires-clause-of : goal.put-requires-clause-of
 put-requires-clause-of g c = of_none c.args.self.now.fti c.args.packet.now.sbn c.new.result (c.new.ensures.need ∙ c.k.ensures.value) c.new.ensures.none
 
-pub put-requires-clause-there : goal.put-requires-clause-there
-put-requires-clause-there g c = λ x told. (
-  λ j. None,
-  pending_none c.args.self.now.fti c.args.packet.now.sbn c.new.result (x c.args.packet.now.sbn) (λ j. None) (c.new.ensures.need ∙ c.k.ensures.value) c.new.ensures.none (λ j. refl),
-)
-
 pub returns-in_err-solved-clause-outcome : goal.returns-in_err-solved-clause-outcome
 returns-in_err-solved-clause-outcome g c = λ at hold.
     let k = c.args.packet.now in
@@ -32,8 +26,9 @@ returns-in_err-solved-clause-outcome g c = λ at hold.
     let store : Store = record { fti = s.fti; codes = s.codes; blocks = s.blocks; solved = s.solved; scratch = c.put.new.scratch } in
     let told = g.B.BlockBytes.kept c.put.new.bytes s.fti in
     let fault = c.in_err-solved.field-0.0 in
-    let d : UnlessFailed c.in_err-solved.field-0.0 (IsPutFault s.fti k.sbn (at k.sbn) k.esi k.symbol.now c.in_err-solved.field-0.0 × HoldsIn store told at) =
-    unless fault _ _
+    let failed = g.B.BlockBytes.failed c.put.new.bytes in
+    let d : UnlessFailed (g.B.BlockBytes.failed c.put.new.bytes) c.in_err-solved.field-0.0 (IsPutFault s.fti k.sbn (at k.sbn) k.esi k.symbol.now c.in_err-solved.field-0.0 × HoldsIn store told at) =
+    unless failed fault _ _
     (λ h. (
       h.0,
       holds_same s store refl k.sbn (λ a ne. refl) x told at held

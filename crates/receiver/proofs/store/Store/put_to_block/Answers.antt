@@ -23,7 +23,7 @@ returns-in-Some-clause-outcome g c = λ at hold.
     let told = g.B.BlockBytes.kept c.put.new.bytes s.fti in
     let here : kept_of store k.sbn ≡ Some c.put.new.self = updates.1 in
     let others : (a : ℕ) → k.sbn ≢ a → kept_of store a ≡ kept_of s a = λ a ne. updates.2 a (sym (number_eq k.sbn a) ∙ ne_eqb k.sbn a ne) in
-    outcome_then c.put.result _ _ _ _
+    outcome_then c.put.result _ _ _ _ (g.B.BlockBytes.failed c.put.new.bytes)
     (λ a h. (
       h.0,
       holds_more s store refl k.sbn others x told at held k.esi k.symbol.now c.requires.number c.requires.esi c.requires.symbol

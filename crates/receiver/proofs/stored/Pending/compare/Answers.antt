@@ -1,10 +1,9 @@
 use Rattle.std.proofs.Common.{◌≡◌, ◌∙◌, ◌*◌, ℕ, Some, length, take, drop, sym, ap, arith}
 use Rattle.std.specs.Cmp.Lexicographic.{same_text}
 use Rattle.partition.proofs.Laws.{counts}
-use Rattle.receiver.proofs.Told.{differ}
 use Rattle.receiver.specs.Stored.{symbol_in}
-use Rattle.receiver.proofs.Among.{place_inside, place_fits}
-use Rattle.receiver.proofs.Told.{told_bytes, reaches, all_of}
+use Rattle.receiver.proofs.Among.{place_fits}
+use Rattle.receiver.proofs.Told.{told_bytes, differ, all_of}
 use Rattle.receiver.proofs.stored.Pending.compare.Goals as goal
 
 pub overflow_mul-place : goal.overflow_mul-place
@@ -15,20 +14,6 @@ overflow_mul-place g c =
     let w = place_fits c.args.place c.from-size.result (omega (arith, few, most, c.requires.of.need, c.requires.place.0))
     (omega (arith, c.from-size.ensures, c.symbol_length.type_inv)) in
     omega (arith, w)
-
-pub read-requires-clause-there : goal.read-requires-clause-there
-read-requires-clause-there g c =
-    let p = c.args.self.now in
-    let size = c.args.fti.now.symbol_length in
-    reaches _ c.args.packet.now.sbn _ (λ x told.
-    let h = c.requires.there x told in
-    let whole = h.1.symbols.whole in
-    let inside = place_inside c.args.place (length p.esis.items) size c.requires.place.0 in
-    let e : c.from-size.result ≡ size = c.from-size.ensures ∙ c.symbol_length.ensures.value in
-    let m : c.args.place * c.from-size.result ≡ c.args.place * size = ap (λ (k : ℕ). c.args.place * k) e in
-    let l = c.deref_mut.ensures.len in
-    let n = c.in-Ok.ensures.len in
-    omega (arith, whole, inside, e, m, l, n))
 
 -- what was read is the symbol
 pub returns-then-eq-clause-outcome : goal.returns-then-eq-clause-outcome

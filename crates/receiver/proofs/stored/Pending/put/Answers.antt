@@ -13,9 +13,9 @@ returns-in_err-compare-clause-outcome g c = λ x at told h.
     let k = c.args.packet.now in
     let e = c.in_err-compare.field-0.0 in
     let now = becomes_same x _ k.sbn (λ y. IsPending f k.sbn y c.args.self.now at) (ap (λ (t : Fti → Option (ℕ → List ℕ)). t f) c.in_err-compare.ensures.stays ∙ told) h in
-    let d : UnlessFailed c.in_err-compare.field-0.0 (IsPutFault f k.sbn at k.esi k.symbol.now c.in_err-compare.field-0.0
+    let d : UnlessFailed (g.B.BlockBytes.failed c.compare.new.bytes) c.in_err-compare.field-0.0 (IsPutFault f k.sbn at k.esi k.symbol.now c.in_err-compare.field-0.0
     × Becomes x (g.B.BlockBytes.kept c.compare.new.bytes f) k.sbn (λ y. IsPending f k.sbn y c.args.self.now at)) =
-    unless c.in_err-compare.field-0.0 _ _ (λ fault. (fault, now)) (c.in_err-compare.ensures.outcome x at told h).1 in
+    unless (g.B.BlockBytes.failed c.compare.new.bytes) c.in_err-compare.field-0.0 _ _ (λ fault. (fault, now)) (c.in_err-compare.ensures.outcome x at told h).1 in
     (search rules, search rules)
 
 pub returns-in-Some-clause-outcome : goal.returns-in-Some-clause-outcome
