@@ -19,8 +19,8 @@ place_failed Waiting = false
 place_failed (Beside beside) = false
 place_failed {w = w} (File file) = w.failed file.output
 
--- The bytes of each block, where they are told: those of an output are where the output's are.
--- Where there is none, nothing is kept.
+-- The bytes of each block, where they are told: those in an output are where the output's are, and
+-- so are those in memory beside one. Where there is none, nothing is kept.
 abbrev pub told_in : {W : Type 0} {w : Ghosts W} → Blocks W w → Fti → Option (ℕ → List ℕ)
 told_in Waiting f = Some (λ b. [])
 told_in {w = w} (Beside beside) f =

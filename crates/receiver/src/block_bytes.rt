@@ -13,12 +13,12 @@ use std::alloc::Global;
 pub enum BytesFault {
     /// Memory is wanting, and nothing has changed.
     NoMemory,
-    /// Writing has failed, and what is kept of the block isn't known.
+    /// Writing has failed, or the bytes before these aren't there. What is kept isn't known.
     Failed,
 }
 
-/// The bytes of an object's source blocks, by the block's number. Of each there are as many as were
-/// put one behind the other, and no more than its source symbols have.
+/// The bytes of an object's source blocks, by the block's number. Of each block those stand first
+/// that were put, one behind the other. What stands behind them isn't said.
 pub trait BlockBytes {
     /// What is kept of each block of an object with this FTI, where it is told.
     ghost kept: { Self → FtiValue → Option (ℕ → List ℕ) };

@@ -20,7 +20,7 @@ pub(crate) struct Beside<W: WriteAt> {
 /// Where the bytes of blocks are.
 #[derive(Drop)]
 pub(crate) enum Blocks<W: WriteAt> {
-    /// Nowhere, as no carrier came.
+    /// Nowhere, as there is no output.
     Waiting,
     /// In memory.
     Beside(Beside<W>),
@@ -31,11 +31,12 @@ pub(crate) enum Blocks<W: WriteAt> {
 impl<W: WriteAt> Blocks<W> {
     ghost use Rattle.std.specs.Prelude.{Some, true, is_some, OnOk, OnErr};
     ghost use Rattle.receiver.specs.Parts.{object_in};
-    ghost use Rattle.receiver.specs.Places.{has_place, told_in};
+    ghost use Rattle.receiver.specs.Places.{has_place, place_failed, told_in};
 
     /// Gives the output back, if there is one, with whatever was written to it.
     pub(crate) fn into_output(self) -> Option<W>
-        ensures { is_some result ≡ has_place self }
+        ensures some { is_some result ≡ has_place self }
+        ensures failed { place_failed self ≡ true → IfSome result (λ w. W.failed w ≡ true) }
     {
         match self {
             Blocks::Waiting => None,

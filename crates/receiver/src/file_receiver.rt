@@ -14,9 +14,9 @@ use std::alloc::Global;
 use streams::WriteAt;
 
 /// A receiver of an object's datagrams, one at a time, as a `Receiver`, but that it keeps symbols
-/// in the output that the object is for. It has one from the first carrier on, and keeps none
-/// before. An output that has no offsets has nothing before all symbols came: they are kept in
-/// memory then.
+/// in the output that the object is for. It wants one before the first carrier, and keeps no symbol
+/// without one. An output that has no offsets stays empty until the object is there: symbols are
+/// kept in memory then.
 #[derive(Drop)]
 pub struct FileReceiver<W: WriteAt> {
     pub(crate) receiving: Receiving,
@@ -89,8 +89,8 @@ impl<W: WriteAt> FileReceiver<W> {
         FileReceiver { receiving, blocks }
     }
 
-    /// Takes one datagram, of any bytes, as `Receiver::feed`. Where it begins with it, an output is
-    /// there. `Failed` says that the output has failed.
+    /// Takes one datagram, of any bytes, as `Receiver::feed`. A datagram to begin with asks for an
+    /// output first. `Failed` says that reading or writing the output has failed.
     pub fn feed(&mut self, alloc: Global, datagram: &[u8]) -> Result<Progress, Unfed>
         requires sound { IsSoundIn self.old.receiving.store }
         requires output { has_output self.old ≡ false
@@ -146,7 +146,9 @@ impl<W: WriteAt> FileReceiver<W> {
 
     /// Gives the output back, if there is one, with whatever was written to it.
     pub fn into_output(self) -> Option<W>
-        ensures { is_some result ≡ has_output self }
+        ensures some { is_some result ≡ has_output self }
+        ensures failed { place_failed self.blocks ≡ true
+            → IfSome result (λ output. W.failed output ≡ true) }
     {
         let FileReceiver {
             receiving: _,
@@ -155,8 +157,9 @@ impl<W: WriteAt> FileReceiver<W> {
         blocks.into_output()
     }
 
-    /// Gives the output back with the object, which leaves no block short, and its length in bytes.
-    /// An error comes only where the output has failed.
+    /// Gives the output back with the object, and the object's length in bytes. Where the output's
+    /// bytes are told and no block is short, an error comes only where the output has failed. Where
+    /// a block is short, what the output has isn't said.
     pub fn finish(self) -> (W, Result<u64, Failed>)
         requires { has_output self ≡ true }
         ensures object { (ds : List (List ℕ)) → Stands self ds

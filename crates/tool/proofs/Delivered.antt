@@ -91,7 +91,7 @@ module _ {W : Type 0} {w : Ghosts W} (r : FollowRequest) (old mid : World) (f : 
               created = inr (created_now, created_here.1);
             },
           )
-          go false so = record { failed = failed_now so; done = inr (inr (files ∙ before.files ∙ is.files, created_now, created_here.1)) }
+          go false so = record { failed = failed_now so; done = inr (inr (files ∙ before.files ∙ is.files, created_now, created_here.1, created_here.2)) }
 
     -- it is
     module _ (n : ℕ) (written : (taken : List (List ℕ)) → Stands f.receiver taken → LeaveNoneShort f.receiver.receiving.identity taken

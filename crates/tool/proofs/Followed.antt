@@ -416,12 +416,12 @@ module _ {W : Type 0} {w : Ghosts W} (r : FollowRequest) (old : World) where
         go false h = (files_still, inl (kept.created ∙ h))
 
     pub unprinted : new.failed ≡ true → IsUnprinted old new (Follow r)
-    unprinted failed = record { failed = failed; done = go created_given_up }
+    unprinted failed = record { failed = failed; done = go (has_output f.receiver) is.created }
       where
-        go : (new.created ≡ old.created) ⊎ ((new.created ≡ one_more old.created) × MayCreate old.files (Follow r))
+        go : (b : Bool) → IsCreatedFor r old mid b
             → ((new.files ≡ old.files) × (new.created ≡ old.created)) ⊎ (((outcome : Outcome) × Makes old new (Follow r) outcome) ⊎ IsGivenUp old new (Follow r))
-        go (inl none) = inl (files_still, none)
-        go (inr one) = inr (inr (files_still, one.0, one.1))
+        go true h = inr (inr (files_still, kept.created ∙ h.0, h.1, h.2))
+        go false h = inl (files_still, kept.created ∙ h)
 
     -- for this fault, behind this text
     pub stopped_behind : (text : List ℕ) → Session r old (λ bytes. IsHeardInPart r.identity (Some bytes) text) → (fault : Fault) → IsBecause old new (Follow r) text fault

@@ -44,7 +44,7 @@ Come who place before (d ∷ ds) after text =
     × Comes who place before d middle front × Come who (place + 1) middle ds after rest
     × (text ≡ front ++ rest)
 
--- the last of the datagrams that were read first is a carrier of the identity's
+-- the bytes begin with frames of datagrams the last of which is a carrier of the identity's
 abbrev pub BringsCarrier : Identity → Option (List ℕ) → Type 0
 BringsCarrier who opened =
     (left : Option (List ℕ)) × (datagrams : List (List ℕ)) × (last : List ℕ)

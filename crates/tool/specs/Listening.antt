@@ -49,8 +49,8 @@ IsCreatedFor r old new true =
     × IsFree old.files r.output.name.now r.output.no_clobber
 IsCreatedFor r old new false = new.created ≡ old.created
 
--- The receiver is the identity's, its output was created, and these lines were printed. Where files
--- are told, this is so of the session's bytes and the lines.
+-- The receiver is the identity's, its output, if it has one, was created, and these lines were
+-- printed. Where files are told, this is so of the session's bytes and the lines.
 pub record IsFollowed {W : Type 0} {w : Ghosts W} (r : FollowRequest) (old new : World)
     (followed : Followed W w) (Heard : List ℕ → List ℕ → Type 0) : Type 0 where
   pub sound : IsSoundIn followed.receiver.receiving.store
@@ -112,7 +112,7 @@ IsUnread r old new followed (Open name) =
     × IsFollowed r old new followed (HasHeardSome r left)
 IsUnread r old new followed fault = ⊥
 
--- and the output has failed, or it is one of these
+-- following stopped at the output, which there is, or for one of these
 abbrev pub IsUnheard : {W : Type 0} {w : Ghosts W} → FollowRequest → World → World → Followed W w
     → Unwritten → Type 0
 IsUnheard r old new followed unwritten.Writing = (has_output followed.receiver ≡ true)
@@ -134,7 +134,7 @@ IsEnding r old new followed (Ok Full) = IsReceived r old new followed
 IsEnding r old new followed (Ok (Lacks answer)) = IsLacking r old new followed answer
 IsEnding r old new followed (Err why) = IsUnheard r old new followed why
 
--- the output is there, where one is wanted for the datagram that comes next
+-- what was heard stays so, with the output that the next datagram wants, or why there is none
 abbrev pub IsPrepared : {W : Type 0} {w : Ghosts W} → FollowRequest → World → World
     → Option (List ℕ) → Followed W w → Result Unit Fault → Type 0
 IsPrepared r old new left followed (Ok done) =

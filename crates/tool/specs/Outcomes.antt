@@ -60,7 +60,7 @@ MayCreate files (Drop r) = Holds files r.session.now (λ bytes. ⊤)
 MayCreate files r = AreThere files (inputs_of r)
 
 -- What was made of an output's bytes. An object is written while its symbols come or are looked at:
--- where they turn out to be too few or of none, its output was created, and is given up.
+-- where they turn out to be too few or of none, its output may have been created, and is given up.
 abbrev pub IsMade : World → World → Request → Option (List ℕ) → Type 0
 IsMade old new (Decode r) None = (new.files ≡ old.files)
     × ((new.created ≡ old.created)
@@ -120,7 +120,8 @@ IsBecause old new r text fault =
     IsUnhad old r fault ⊎ Refuses old r text fault ⊎ IsUnmade old new r fault
 
 -- what may be printed before a fault: of datagrams that are shown the lines of the first that the
--- file begins with, unless a summary is asked for; of those that are followed the lines of some
+-- file begins with, unless a summary is asked for; of those that are followed the lines of some,
+-- and that they gave the object
 abbrev pub BeginsText : Option Files → Request → List ℕ → Type 0
 BeginsText files (Show r) text =
     (text ≡ []) ⊎ ((opened : Option (List ℕ)) × (left : Option (List ℕ)) × (readings : List Reading)
@@ -142,11 +143,11 @@ pub record IsStopped (old new : World) (r : Request) (text : List ℕ) (fault : 
 -- an object isn't there, though the output for what was received was created
 abbrev pub IsGivenUp : World → World → Request → Type 0
 IsGivenUp old new (Follow r) = (new.files ≡ old.files) × (new.created ≡ one_more old.created)
-    × MayCreate old.files (Follow r)
+    × MayCreate old.files (Follow r) × IsFree old.files r.output.name.now r.output.no_clobber
 IsGivenUp old new r = ⊥
 
--- Printing has failed: nothing was done, or all but what is printed; or an object was received and
--- can't be written, which can't be told.
+-- Printing has failed: nothing was done, or all but what is printed; or an output was created for
+-- what was received, and no object is there, which can't be told.
 pub record IsUnprinted (old new : World) (r : Request) : Type 0 where
   pub failed : new.failed ≡ true
   pub done : ((new.files ≡ old.files) × (new.created ≡ old.created))

@@ -53,11 +53,11 @@ enum Ending {
 }
 
 /// Takes the session's datagrams one by one, and prints a line for each that is refused. The output
-/// is created once a carrier comes, and has the symbols from then on, where it has offsets. Once
-/// the datagrams give the object no more are read, and it is kept; else the output is given up, and
-/// what lacks is printed at the end. Answers the status. Each line is passed on before the next
-/// datagram is read. Where printing fails, no more is printed, and the object is received and kept
-/// all the same.
+/// is created for the first carrier whose FTI has its symbol, and has the symbols from then on,
+/// where it has offsets. Once the datagrams give the object no more are read, and it is kept; else
+/// the output is given up, and what lacks is printed at the end. Answers the status. Each line is
+/// passed on before the next datagram is read. Where printing fails, no more is printed, and the
+/// object is received and kept all the same.
 pub(crate) fn follow<'a, H: Host>(
     alloc: Global,
     host: &mut H,
@@ -202,7 +202,7 @@ fn hear<'a, H: Host>(
     }
 }
 
-// Creates the output where this datagram is the first carrier.
+// Creates the output where this datagram is the first carrier whose FTI has its symbol.
 fn prepare<'a, H: Host>(
     host: &mut H,
     request: &FollowRequest<'a>,
