@@ -10,7 +10,7 @@ use crate::view::CertificateView;
 use crate::walk::{NoReport, Walk};
 use lists::are_bytes;
 use reception::Identity;
-use session::{FrameFault, Read, read_next};
+use session::{FrameFault, Read, read_next_into};
 use std::alloc::Global;
 use std::borrow::CowSlice;
 use thiserror::Error;
@@ -75,13 +75,15 @@ pub(crate) fn walk_from<'a, R: Read>(
     ensures stays { R.sound reader.new ≡ R.sound reader.old }
 {
     let mut walk = Walk::new(alloc, CowSlice::Borrowed(object), certificate, identity)?;
+    let mut room = Vec::new(alloc);
     loop {
-        let Some(datagram) = read_next(alloc, reader)? else {
+        let Some(datagram) = read_next_into(reader, room)? else {
             return Ok(walk);
         };
         let bytes = datagram.as_slice();
         are_bytes(bytes);
         walk.step(bytes)?;
+        room = datagram;
     }
 }
 

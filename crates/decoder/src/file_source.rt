@@ -15,7 +15,7 @@ use crate::blocks::block_rows;
 use crate::counting::have;
 use crate::enough::{least_enough, places_below};
 use crate::recovery::Recovery;
-use crate::rereading::read_block_again;
+use crate::rereading::{DatagramReader, read_block_again};
 use crate::rows::Rows;
 use crate::source::{Source, Unread};
 use crate::symbols::Symbols;
@@ -25,7 +25,7 @@ use partition::Fti;
 use reception::{Identity, Scope};
 use session::Extent;
 use std::alloc::{AllocError, Global};
-use streams::{Lanes, ReadAt};
+use streams::ReadAt;
 
 /// The places of an identity's packets, and the FTI of the first carrier.
 #[derive(Drop)]
@@ -38,7 +38,7 @@ pub(crate) struct Indexed {
 /// What symbols are read with, and what is kept of a solution.
 #[derive(Drop)]
 pub(crate) struct FileWorkspace<'a, F: ReadAt> {
-    pub(crate) lanes: Lanes<'a, F>,
+    pub(crate) reader: DatagramReader<'a, F>,
     pub(crate) kept: Option<Recovery>,
 }
 
@@ -76,7 +76,7 @@ impl<'a, F: ReadAt> FileSource<'a, F> {
             → (c : ℕ) → c < self.now.indexed.now.fti.symbol_length
             → ColumnExplained self.now.indexed.now.fti b
             (file_at (F.content self.now.file.now) self.now.indexed.now.symbols b) c }
-        requires file { workspace.old.lanes.file.now ≡ self.now.file.now }
+        requires file { workspace.old.reader.lanes.file.now ≡ self.now.file.now }
         requires kept { IsKeptOf codes.now workspace.old.kept }
         ensures rows { AllStandIn (F.content self.now.file.now)
             (with_fti self.now.indexed.now.identity self.now.indexed.now.fti)
@@ -89,7 +89,7 @@ impl<'a, F: ReadAt> FileSource<'a, F> {
             self.now.indexed.now.symbols
             → IfOk result (λ o. IsNone o → IsUnexplained self.now.indexed.now.fti b
             (file_at (F.content self.now.file.now) self.now.indexed.now.symbols b)) }
-        ensures file { workspace.new.lanes.file.now ≡ self.now.file.now }
+        ensures file { workspace.new.reader.lanes.file.now ≡ self.now.file.now }
         ensures keeps { IsKeptOf codes.now workspace.new.kept }
         ensures fault { IfErr result (IsUnreadOf
             (AllStandIn (F.content self.now.file.now)
@@ -102,7 +102,7 @@ impl<'a, F: ReadAt> FileSource<'a, F> {
         let arrived = self.indexed.symbols.of_block(b).unwrap_or(&[]);
         let limit = least_enough(arrived, fti.k(b), fti.n(b));
         let chosen = places_below(alloc, arrived, limit)?;
-        let again = read_block_again(alloc, &mut workspace.lanes, &scope, b, &chosen)?;
+        let again = read_block_again(alloc, &mut workspace.reader, &scope, b, &chosen)?;
         let arrivals = symbols_below(alloc, &again, fti.n(b))?;
         Ok(block_rows(alloc, fti, codes, b, &arrivals, false, &mut workspace.kept)?)
     }
@@ -120,7 +120,7 @@ impl<'a, F: ReadAt> Source for FileSource<'a, F> {
 
     ghost reliable = { λ source. F.reliable source.file.now };
 
-    ghost Fits = { λ source codes workspace. (workspace.lanes.file.now ≡ source.file.now)
+    ghost Fits = { λ source codes workspace. (workspace.reader.lanes.file.now ≡ source.file.now)
         × IsKeptOf codes workspace.kept };
 
     fn fti(&self) -> Fti {
@@ -138,10 +138,10 @@ impl<'a, F: ReadAt> Source for FileSource<'a, F> {
     fn workspace(&self, alloc: Global) -> Result<FileWorkspace<'a, F>, AllocError> {
         let fti = &self.indexed.fti;
         fti.is_valid();
-        match Lanes::new(alloc, self.file, fti.n(0)) {
-            Ok(lanes) => Ok(FileWorkspace { lanes, kept: None }),
-            Err(_) => Err(AllocError),
-        }
+        Ok(FileWorkspace {
+            reader: DatagramReader::new(alloc, self.file, fti.n(0))?,
+            kept: None,
+        })
     }
 
     // All symbols are looked at, unless they are known to be sound.
@@ -159,7 +159,7 @@ impl<'a, F: ReadAt> Source for FileSource<'a, F> {
         let fti = &self.indexed.fti;
         let scope = Scope::with_fti(self.indexed.identity, *fti);
         let came = self.indexed.symbols.of_block(b).unwrap_or(&[]);
-        let again = read_block_again(alloc, &mut workspace.lanes, &scope, b, came)?;
+        let again = read_block_again(alloc, &mut workspace.reader, &scope, b, came)?;
         let arrivals = symbols_below(alloc, &again, fti.n(b))?;
         Ok(block_rows(alloc, fti, codes, b, &arrivals, false, &mut workspace.kept)?)
     }

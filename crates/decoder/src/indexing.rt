@@ -29,7 +29,7 @@ use alc::Packet;
 use lists::are_bytes;
 use partition::Fti;
 use reception::{Identity, Look, Scope};
-use session::{Extent, FrameFault, Position, Read, read_next};
+use session::{Extent, FrameFault, Position, Read, read_next, read_next_into};
 use std::alloc::{AllocError, Global};
 use streams::{Cursor, ReadAt};
 
@@ -267,8 +267,9 @@ fn index_frames<R: Read, F: ReadAt>(
 {
     let mut symbols = Symbols::new(alloc);
     let mut position = Position::new();
+    let mut room = Vec::new(alloc);
     loop {
-        let Some(datagram) = read_next(alloc, reader)? else {
+        let Some(datagram) = read_next_into(reader, room)? else {
             return Ok(symbols);
         };
         let bytes = datagram.as_slice();
@@ -279,15 +280,21 @@ fn index_frames<R: Read, F: ReadAt>(
         let mut scope = Scope::with_fti(identity, fti);
         let packet = match scope.look(bytes) {
             Ok(Look::InRange(packet)) => packet,
-            Ok(Look::Other) => continue,
-            Ok(Look::Early) => continue,
+            Ok(Look::Other) => {
+                room = datagram;
+                continue;
+            }
+            Ok(Look::Early) => {
+                room = datagram;
+                continue;
+            }
             Err(fault) => {
                 read_rest(alloc, reader)?;
                 return Err(Unindexed::Fault(fault_at(place, fault)));
             }
         };
         match keep(alloc, file, &scope, &mut symbols, &packet, here) {
-            Ok(()) => {}
+            Ok(()) => room = datagram,
             Err(Unkept::Clash) => {
                 read_rest(alloc, reader)?;
                 return Err(Unindexed::Fault(DecodeFault::Clash(place)));

@@ -38,6 +38,10 @@ pub(crate) fn is_zero(bytes: &[u8]) -> bool
     ensures other { result ≡ false
         → (c : ℕ) × (c < length bytes.now) × (slice_index bytes.now c ≢ 0) }
 {
+    // Mostly they are, and one comparison of all bytes with those before them is faster.
+    if !bytes.is_empty() && bytes[0] == 0 && bytes[1..] == bytes[..bytes.len() - 1] {
+        return true;
+    }
     for i in 0..bytes.len() {
         if bytes[i] != 0 {
             return false;

@@ -11,7 +11,7 @@ use cert::Tally;
 use lists::are_bytes;
 use partition::Fti;
 use reception::{Identity, Look, PlaceFault};
-use session::{Extent, FrameFault, Position, Read, read_next};
+use session::{Extent, FrameFault, Position, Read, read_next_into};
 use std::alloc::{AllocError, Global};
 use streams::{Cursor, ReadAt};
 
@@ -85,8 +85,9 @@ fn index_frames<R: Read>(
         extents: Extents::new(alloc),
     };
     let mut position = Position::new();
+    let mut room = Vec::new(alloc);
     loop {
-        let datagram = match read_next(alloc, reader) {
+        let datagram = match read_next_into(reader, room) {
             Ok(Some(datagram)) => datagram,
             Ok(None) => return Ok((index, End::File)),
             Err(FrameFault::NoMemory) => return Err(AllocError),
@@ -98,7 +99,10 @@ fn index_frames<R: Read>(
             return Err(AllocError);
         };
         match index.take(bytes, extent)? {
-            None => position = next,
+            None => {
+                position = next;
+                room = datagram;
+            }
             Some(fault) => return Ok((index, End::Fault(fault))),
         }
     }

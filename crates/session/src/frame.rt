@@ -87,10 +87,34 @@ pub fn read_next<R: Read>(alloc: Global, reader: &mut R) -> Result<Option<Vec<u8
     ensures unsound { IfErr result (λ e. e ≡ FrameFault.Io → R.sound reader.old ≡ false) }
     ensures stays { R.sound reader.new ≡ R.sound reader.old }
 {
+    read_next_into(reader, Vec::new(alloc))
+}
+
+/// The next datagram, as [`read_next`] answers it, in the room of a vector whose bytes are no
+/// longer wanted: that of the datagram before, so that none is asked for anew.
+pub fn read_next_into<R: Read>(
+    reader: &mut R,
+    room: Vec<u8>,
+) -> Result<Option<Vec<u8>>, FrameFault>
+    // Just its frame is consumed.
+    ensures some { IfOk result (λ o. IfSome o (λ d.
+        Consumes (R.remaining reader.old) (R.remaining reader.new) (frame d.items))) }
+    ensures short { IfOk result (λ o. IfSome o (λ d. length d.items ≤ most_bytes)) }
+    ensures none { IfOk result (λ o.
+        o ≡ None → IsAtEnd (R.remaining reader.old) × IsAtEnd (R.remaining reader.new)) }
+    ensures nothing { IfOk result (λ o.
+        o ≡ None → Consumes (R.remaining reader.old) (R.remaining reader.new) []) }
+    ensures fault { IfErr result (λ e.
+        IsReadFault e (R.remaining reader.old) (R.remaining reader.new) (R.failed reader.new)) }
+    ensures falls { IfOk result (λ o. IfSome o (λ d. R.left reader.new < R.left reader.old)) }
+    ensures unsound { IfErr result (λ e. e ≡ FrameFault.Io → R.sound reader.old ≡ false) }
+    ensures stays { R.sound reader.new ≡ R.sound reader.old }
+{
     let Some(length) = read_length(reader)? else {
         return Ok(None);
     };
-    let Ok(mut datagram) = Vec::from_elem(alloc, 0u8, length) else {
+    let mut datagram = room;
+    let Ok(()) = datagram.resize(length, 0) else {
         return Err(FrameFault::NoMemory);
     };
     let Ok(got) = fill(reader, datagram.as_mut_slice()) else {

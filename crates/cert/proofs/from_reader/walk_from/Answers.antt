@@ -24,8 +24,8 @@ returns-in_err-datagram-clause-no g c =
     let read = c.loop-walk.invariant.read in
     let clean = rw (c.loop-walk.invariant.identity, c.loop-walk.invariant.certificate) at read.2.clean in
     passed_on c.from_residual-in_err-datagram.result (Fault (Frame c.in_err-datagram.field-0.0)) _ c.from_residual-in_err-datagram.ensures.1
-    (not_read who z object name form gives (g.R.Read.remaining c.args.reader.now) (g.R.Read.remaining c.loop-walk.reader) (g.R.Read.failed c.read_next.new.reader) read.0 read.1 read.3 clean
-    (g.R.Read.remaining c.read_next.new.reader) c.in_err-datagram.field-0.0 c.in_err-datagram.ensures.fault)
+    (not_read who z object name form gives (g.R.Read.remaining c.args.reader.now) (g.R.Read.remaining c.loop-walk.reader) (g.R.Read.failed c.read_next_into.new.reader) read.0 read.1 read.3 clean
+    (g.R.Read.remaining c.read_next_into.new.reader) c.in_err-datagram.field-0.0 c.in_err-datagram.ensures.fault)
 
 pub returns-in_err-step-clause-no : goal.returns-in_err-step-clause-no
 returns-in_err-step-clause-no g c =
@@ -40,9 +40,9 @@ returns-in_err-step-clause-no g c =
     let some = rw c.in-Some.is at c.in_ok-datagram.ensures.some in
     let short = rw c.in-Some.is at c.in_ok-datagram.ensures.short in
     let here : IsDatagram d = record { short = short; bytes = rw c.as_slice-bytes.ensures.value at c.are_bytes.ensures } in
-    let left = g.R.Read.remaining c.read_next.new.reader in
+    let left = g.R.Read.remaining c.read_next_into.new.reader in
     passed_on c.from_residual-in_err-step.result (ending_of c.in_err-step.field-0.0) _ c.from_residual-in_err-step.ensures.1
-    (not_passed who z object name form gives (g.R.Read.remaining c.args.reader.now) left (g.R.Read.failed c.read_next.new.reader) (read.0 ++ d ∷ []) (datagrams_push read.0 d read.1 here)
+    (not_passed who z object name form gives (g.R.Read.remaining c.args.reader.now) left (g.R.Read.failed c.read_next_into.new.reader) (read.0 ++ d ∷ []) (datagrams_push read.0 d read.1 here)
     (consumes_one (g.R.Read.remaining c.args.reader.now) (g.R.Read.remaining c.loop-walk.reader) left read.0 d read.3 some)
     c.in_err-step.field-0.0 (rw (c.loop-walk.invariant.identity, c.loop-walk.invariant.certificate, c.as_slice-bytes.ensures.value) at (c.in_err-step.ensures.no_report read.0 read.2)))
 
@@ -53,7 +53,7 @@ loop-walk-preserved g c =
     let some = rw c.in-Some.is at c.in_ok-datagram.ensures.some in
     let short = rw c.in-Some.is at c.in_ok-datagram.ensures.short in
     let here : IsDatagram d = record { short = short; bytes = rw c.as_slice-bytes.ensures.value at c.are_bytes.ensures } in
-    let left = g.R.Read.remaining c.read_next.new.reader in
+    let left = g.R.Read.remaining c.read_next_into.new.reader in
     record {
       identity = c.step.ensures.identity ∙ c.loop-walk.invariant.identity;
       certificate = c.step.ensures.certificate ∙ c.loop-walk.invariant.certificate;
@@ -64,7 +64,7 @@ loop-walk-preserved g c =
         rw c.as_slice-bytes.ensures.value at (c.in_ok-step.ensures.passed read.0 read.2),
         consumes_one (g.R.Read.remaining c.args.reader.now) (g.R.Read.remaining c.loop-walk.reader) left read.0 d read.3 some,
       );
-      stays = c.read_next.ensures.stays ∙ c.loop-walk.invariant.stays;
+      stays = c.read_next_into.ensures.stays ∙ c.loop-walk.invariant.stays;
     }
 
 pub returns-in_default-clause-walked : goal.returns-in_default-clause-walked
@@ -75,7 +75,7 @@ returns-in_default-clause-walked g c =
     record {
       datagrams = read.0;
       each = read.1;
-      consumed = consumes_none (g.R.Read.remaining c.args.reader.now) (g.R.Read.remaining c.loop-walk.reader) (g.R.Read.remaining c.read_next.new.reader) read.0 read.3 nothing;
+      consumed = consumes_none (g.R.Read.remaining c.args.reader.now) (g.R.Read.remaining c.loop-walk.reader) (g.R.Read.remaining c.read_next_into.new.reader) read.0 read.3 nothing;
       end = end.1;
       walked = read.2;
       identity = c.loop-walk.invariant.identity;

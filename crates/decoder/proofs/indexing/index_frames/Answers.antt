@@ -38,7 +38,7 @@ pub loop-symbols-preserved-in-Ok-Other : goal.loop-symbols-preserved-in-Ok-Other
 loop-symbols-preserved-in-Ok-Other g c =
     let content = g.F.ReadAt.content c.args.file.now in
     let left = g.R.Read.remaining c.loop-symbols.reader in
-    let new = g.R.Read.remaining c.read_next.new.reader in
+    let new = g.R.Read.remaining c.read_next_into.new.reader in
     let i = c.loop-symbols.invariant in
     let d = c.in-Some.datagram.items in
     let who = c.args.identity in
@@ -49,7 +49,7 @@ loop-symbols-preserved-in-Ok-Other g c =
     let bytes = rw c.as_slice-bytes.ensures.value at c.are_bytes.ensures in
     let look = rw (c.as_slice-bytes.ensures.value, c.with_fti-scope.ensures, c.in-Ok-Other.is, c.in-Ok-Other.field-0-is) at c.look.ensures in
     record {
-      behind = subst (λ (n : ℕ). Behind (g.F.ReadAt.content c.args.file.now) (g.R.Read.remaining c.read_next.new.reader) c.in_ok-here.next.offset n) (sym c.in_ok-here.ensures.more)
+      behind = subst (λ (n : ℕ). Behind (g.F.ReadAt.content c.args.file.now) (g.R.Read.remaining c.read_next_into.new.reader) c.in_ok-here.next.offset n) (sym c.in_ok-here.ensures.more)
           (read_more content left c.loop-symbols.position.offset place i.behind new d reads short bytes c.in_ok-here.next.offset (omega (arith, c.in_ok-here.ensures.behind, ap length c.as_slice-bytes.ensures.value)));
       stays = c.in_ok-datagram.ensures.stays ∙ i.stays;
       scanned = λ x ds told framed known.
@@ -64,7 +64,7 @@ pub loop-symbols-preserved-in-Ok-Early : goal.loop-symbols-preserved-in-Ok-Early
 loop-symbols-preserved-in-Ok-Early g c =
     let content = g.F.ReadAt.content c.args.file.now in
     let left = g.R.Read.remaining c.loop-symbols.reader in
-    let new = g.R.Read.remaining c.read_next.new.reader in
+    let new = g.R.Read.remaining c.read_next_into.new.reader in
     let i = c.loop-symbols.invariant in
     let d = c.in-Some.datagram.items in
     let who = c.args.identity in
@@ -75,7 +75,7 @@ loop-symbols-preserved-in-Ok-Early g c =
     let bytes = rw c.as_slice-bytes.ensures.value at c.are_bytes.ensures in
     let look = rw (c.as_slice-bytes.ensures.value, c.with_fti-scope.ensures, c.in-Ok-Early.is, c.in-Ok-Early.field-0-is) at c.look.ensures in
     record {
-      behind = subst (λ (n : ℕ). Behind (g.F.ReadAt.content c.args.file.now) (g.R.Read.remaining c.read_next.new.reader) c.in_ok-here.next.offset n) (sym c.in_ok-here.ensures.more)
+      behind = subst (λ (n : ℕ). Behind (g.F.ReadAt.content c.args.file.now) (g.R.Read.remaining c.read_next_into.new.reader) c.in_ok-here.next.offset n) (sym c.in_ok-here.ensures.more)
           (read_more content left c.loop-symbols.position.offset place i.behind new d reads short bytes c.in_ok-here.next.offset (omega (arith, c.in_ok-here.ensures.behind, ap length c.as_slice-bytes.ensures.value)));
       stays = c.in_ok-datagram.ensures.stays ∙ i.stays;
       scanned = λ x ds told framed known.
@@ -90,7 +90,7 @@ pub returns-in_err-read_rest-in-Err-clause-unindexed : goal.returns-in_err-read_
 returns-in_err-read_rest-in-Err-clause-unindexed g c =
     let content = g.F.ReadAt.content c.args.file.now in
     let left = g.R.Read.remaining c.loop-symbols.reader in
-    let new = g.R.Read.remaining c.read_next.new.reader in
+    let new = g.R.Read.remaining c.read_next_into.new.reader in
     let i = c.loop-symbols.invariant in
     let d = c.in-Some.datagram.items in
     let who = c.args.identity in
@@ -110,7 +110,7 @@ pub returns-in-Err-clause-fault : goal.returns-in-Err-clause-fault
 returns-in-Err-clause-fault g c = λ x ds told framed known.
     let content = g.F.ReadAt.content c.args.file.now in
     let left = g.R.Read.remaining c.loop-symbols.reader in
-    let new = g.R.Read.remaining c.read_next.new.reader in
+    let new = g.R.Read.remaining c.read_next_into.new.reader in
     let i = c.loop-symbols.invariant in
     let d = c.in-Some.datagram.items in
     let who = c.args.identity in
@@ -128,7 +128,7 @@ pub returns-in-Err-clause-unindexed : goal.returns-in-Err-clause-unindexed
 returns-in-Err-clause-unindexed g c =
     let content = g.F.ReadAt.content c.args.file.now in
     let left = g.R.Read.remaining c.loop-symbols.reader in
-    let new = g.R.Read.remaining c.read_next.new.reader in
+    let new = g.R.Read.remaining c.read_next_into.new.reader in
     let i = c.loop-symbols.invariant in
     let d = c.in-Some.datagram.items in
     let who = c.args.identity in
@@ -144,7 +144,7 @@ pub keep-requires : goal.keep-requires
 keep-requires g c =
     let content = g.F.ReadAt.content c.args.file.now in
     let left = g.R.Read.remaining c.loop-symbols.reader in
-    let new = g.R.Read.remaining c.read_next.new.reader in
+    let new = g.R.Read.remaining c.read_next_into.new.reader in
     let i = c.loop-symbols.invariant in
     let d = c.in-Some.datagram.items in
     let who = c.args.identity in
@@ -160,7 +160,7 @@ pub returns-in_err-read_rest-in-Err-Clash-clause-unindexed : goal.returns-in_err
 returns-in_err-read_rest-in-Err-Clash-clause-unindexed g c =
     let content = g.F.ReadAt.content c.args.file.now in
     let left = g.R.Read.remaining c.loop-symbols.reader in
-    let new = g.R.Read.remaining c.read_next.new.reader in
+    let new = g.R.Read.remaining c.read_next_into.new.reader in
     let i = c.loop-symbols.invariant in
     let d = c.in-Some.datagram.items in
     let who = c.args.identity in
@@ -180,7 +180,7 @@ pub returns-in-Err-Clash-clause-fault : goal.returns-in-Err-Clash-clause-fault
 returns-in-Err-Clash-clause-fault g c = λ x ds told framed known.
     let content = g.F.ReadAt.content c.args.file.now in
     let left = g.R.Read.remaining c.loop-symbols.reader in
-    let new = g.R.Read.remaining c.read_next.new.reader in
+    let new = g.R.Read.remaining c.read_next_into.new.reader in
     let i = c.loop-symbols.invariant in
     let d = c.in-Some.datagram.items in
     let who = c.args.identity in
@@ -200,7 +200,7 @@ pub returns-in-Err-Clash-clause-unindexed : goal.returns-in-Err-Clash-clause-uni
 returns-in-Err-Clash-clause-unindexed g c =
     let content = g.F.ReadAt.content c.args.file.now in
     let left = g.R.Read.remaining c.loop-symbols.reader in
-    let new = g.R.Read.remaining c.read_next.new.reader in
+    let new = g.R.Read.remaining c.read_next_into.new.reader in
     let i = c.loop-symbols.invariant in
     let d = c.in-Some.datagram.items in
     let who = c.args.identity in
@@ -216,7 +216,7 @@ pub returns-in-Err-Again-clause-unindexed : goal.returns-in-Err-Again-clause-uni
 returns-in-Err-Again-clause-unindexed g c =
     let content = g.F.ReadAt.content c.args.file.now in
     let left = g.R.Read.remaining c.loop-symbols.reader in
-    let new = g.R.Read.remaining c.read_next.new.reader in
+    let new = g.R.Read.remaining c.read_next_into.new.reader in
     let i = c.loop-symbols.invariant in
     let d = c.in-Some.datagram.items in
     let who = c.args.identity in
@@ -236,7 +236,7 @@ pub loop-symbols-preserved : goal.loop-symbols-preserved
 loop-symbols-preserved g c =
     let content = g.F.ReadAt.content c.args.file.now in
     let left = g.R.Read.remaining c.loop-symbols.reader in
-    let new = g.R.Read.remaining c.read_next.new.reader in
+    let new = g.R.Read.remaining c.read_next_into.new.reader in
     let i = c.loop-symbols.invariant in
     let d = c.in-Some.datagram.items in
     let who = c.args.identity in
@@ -252,7 +252,7 @@ loop-symbols-preserved g c =
     let both = has_both f p.sbn p.esi (faultless_look d (with_fti who f) c.look.new.self p look f known_fti).range in
     let long : c.in_ok-here.here.length ≡ length c.in-Some.datagram.items = omega (arith, c.in_ok-here.ensures.length, ap length c.as_slice-bytes.ensures.value) in
     record {
-      behind = subst (λ (n : ℕ). Behind (g.F.ReadAt.content c.args.file.now) (g.R.Read.remaining c.read_next.new.reader) c.in_ok-here.next.offset n) (sym c.in_ok-here.ensures.more)
+      behind = subst (λ (n : ℕ). Behind (g.F.ReadAt.content c.args.file.now) (g.R.Read.remaining c.read_next_into.new.reader) c.in_ok-here.next.offset n) (sym c.in_ok-here.ensures.more)
           (read_more content left c.loop-symbols.position.offset place i.behind new d reads short bytes c.in_ok-here.next.offset (omega (arith, c.in_ok-here.ensures.behind, ap length c.as_slice-bytes.ensures.value)));
       stays = c.in_ok-datagram.ensures.stays ∙ i.stays;
       scanned = λ x ds told framed known.

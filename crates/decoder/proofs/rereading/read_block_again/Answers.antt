@@ -14,7 +14,7 @@ pub returns-in_err-symbol-clause-fault : goal.returns-in_err-symbol-clause-fault
 returns-in_err-symbol-clause-fault g c =
     let p = err_from_is_err_and c.from_residual-in_err-symbol.result c.from_residual-in_err-symbol.ensures.1 in
     rw (p.1, p.2)
-    (unread_of _ (BlockStandsIn (g.F.ReadAt.content c.args.lanes.now.file.now) c.args.scope.now c.args.b c.args.came.now) _ _
+    (unread_of _ (BlockStandsIn (g.F.ReadAt.content c.args.reader.now.lanes.file.now) c.args.scope.now c.args.b c.args.came.now) _ _
     (λ all. (all.0, all.1, all.2 c.loop-arrival.arrival-index (record { esi = 0; symbol = record { offset = 0; length = 0 } }) c.loop-arrival-test.true)) (rw c.loop-arrival.invariant.file at c.in_err-symbol.ensures.fault))
 
 pub loop-arrival-preserved : goal.loop-arrival-preserved

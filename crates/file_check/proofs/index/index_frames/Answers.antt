@@ -45,7 +45,7 @@ returns-in-Err g c =
       many = read.2;
       stand = read.3;
       ends = (
-        (g.R.Read.remaining c.read_next.new.reader, g.R.Read.failed c.read_next.new.reader, c.in-Err.ensures.fault),
+        (g.R.Read.remaining c.read_next_into.new.reader, g.R.Read.failed c.read_next_into.new.reader, c.in-Err.ensures.fault),
         λ e. sym c.loop-datagram.invariant.stays ∙ c.in-Err.ensures.unsound e,
       );
     }
@@ -80,7 +80,7 @@ returns-in-Some g c =
       tallied = read.1;
       many = read.2;
       stand = read.3;
-      ends = (d, g.R.Read.remaining c.read_next.new.reader, here, rw c.in-Ok-Some.field-0-is at c.in-Ok-Some.ensures.some, fault);
+      ends = (d, g.R.Read.remaining c.read_next_into.new.reader, here, rw c.in-Ok-Some.field-0-is at c.in-Ok-Some.ensures.some, fault);
     })
 
 pub loop-datagram-smaller : goal.loop-datagram-smaller
@@ -90,7 +90,7 @@ pub loop-datagram-preserved : goal.loop-datagram-preserved
 loop-datagram-preserved g c =
     let content = g.R.Read.remaining c.args.reader.now in
     let left = g.R.Read.remaining c.loop-datagram.reader in
-    let new = g.R.Read.remaining c.read_next.new.reader in
+    let new = g.R.Read.remaining c.read_next_into.new.reader in
     let read = c.loop-datagram.invariant.read in
     let d = c.in-Ok-Some.datagram.items in
     let offset = c.loop-datagram.position.offset in
