@@ -15,6 +15,7 @@ use Rattle.decoder.specs.Arrivals.{with_esi, with_arrived, arrived_at, seen_at}
 use Rattle.decoder.specs.Received.{arrived_of, came_at}
 use Rattle.decoder.specs.declared.symbols.Symbols.{Symbols}
 use Rattle.decoder.specs.declared.arrivals.Arrival.{Arrival}
+use Rattle.decoder.specs.declared.block_arrivals.BlockArrivals.{BlockArrivals}
 use Rattle.decoder.proofs.Index.{number_eq}
 use Rattle.decoder.proofs.Kept.{with_here, with_other}
 
@@ -118,17 +119,17 @@ arrived_or {S} held s b None d came is empty none some j =
 arrived_or {S} held s b (Some v) d came is empty none some j = ap (λ (x : Bor (List (Arrival S))). arrived_at held x.now j) is ∙ some held j
 
 -- in a map in which a block has one symbol more, all else is as before
-pub more_elsewhere : {S : Type 0} (held : S → List ℕ) (m new : BTreeMap ℕ (Vec (Arrival S))) (block : ℕ) (v w : Vec (Arrival S)) (a : Arrival S) → get nat_cmp m block ≡ Some v
+pub more_elsewhere : {S : Type 0} (held : S → List ℕ) (m new : BTreeMap ℕ (BlockArrivals S)) (block : ℕ) (v w : BlockArrivals S) (a : Arrival S) → get nat_cmp m block ≡ Some v
     → get nat_cmp new block ≡ Some w
-    → ((q : ℕ) → is_eq (nat_cmp block q) ≡ false → get nat_cmp new q ≡ get nat_cmp m q) → w.items ≡ v.items ++ a ∷ []
+    → ((q : ℕ) → is_eq (nat_cmp block q) ≡ false → get nat_cmp new q ≡ get nat_cmp m q) → w.list.items ≡ v.list.items ++ a ∷ []
     → (b j : ℕ) → (block == b && a.esi == j) ≡ false → arrived_of held (get nat_cmp new b) j ≡ arrived_of held (get nat_cmp m b) j
 more_elsewhere {S} held m new block v w a was is others items b j other = elim (cases_eq block b) [
-  | inr ne ↦ ap (λ (o : Option (Vec (Arrival S))). arrived_of held o j) (others b (sym (number_eq block b) ∙ ne_eqb block b ne))
+  | inr ne ↦ ap (λ (o : Option (BlockArrivals S)). arrived_of held o j) (others b (sym (number_eq block b) ∙ ne_eqb block b ne))
   | inl same ↦ elim (cases_eq a.esi j) [
     | inl e ↦ absurd (let t = rw (eq-eqb block b same, eq-eqb a.esi j e) at other in cc)
     | inr ne ↦ rw (← same, was, is) (
         ap (λ (l : List (Arrival S)). arrived_at held l j) items
-        ∙ ap (λ (g : ℕ → Option (List ℕ)). g j) (arrived_more held v.items a)
-        ∙ with_other (arrived_at held v.items) a.esi j (held a.symbol) ne)
+        ∙ ap (λ (g : ℕ → Option (List ℕ)). g j) (arrived_more held v.list.items a)
+        ∙ with_other (arrived_at held v.list.items) a.esi j (held a.symbol) ne)
   ]
 ]

@@ -8,7 +8,7 @@ use Rattle.std.specs.Set.{is_member}
 use Rattle.std.proofs.lemmas.Bool.{cases_eq, cases_lt, ne_eqb}
 use Rattle.std.proofs.lemmas.List.{get_or_append_left, get_or_push}
 use Rattle.decoder.specs.Received.{came_at, arrived_of}
-use Rattle.decoder.specs.declared.arrivals.Arrival.{Arrival}
+use Rattle.decoder.specs.declared.block_arrivals.BlockArrivals.{BlockArrivals}
 use Rattle.decoder.specs.declared.symbols.Symbols.{Symbols}
 use Rattle.decoder.proofs.Index.{number_eq}
 
@@ -26,7 +26,7 @@ pub record AreListed {S : Type 0} (held : S → List ℕ) (s : Symbols S) (left 
   pub some : (i : ℕ) → i < length blocks → (j : ℕ) × (is_some (came_at held s (get_or blocks i 0) j) ≡ true)
 
 -- where something came of a block, the block is a key
-of_key : {S : Type 0} (held : S → List ℕ) (o : Option (Vec (Arrival S))) (j : ℕ) → is_some (arrived_of held o j) ≡ true → is_some o ≡ true
+of_key : {S : Type 0} (held : S → List ℕ) (o : Option (BlockArrivals S)) (j : ℕ) → is_some (arrived_of held o j) ≡ true → is_some o ≡ true
 of_key held None j h = h
 of_key held (Some v) j h = refl
 

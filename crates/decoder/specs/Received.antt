@@ -2,7 +2,6 @@
 use Rattle.std.specs.Prelude.{◌≡◌, ℕ, true, false, List, [], Option, Some, None}
 use Rattle.std.specs.Borrow.{Bor}
 use Rattle.std.specs.BTreeMap.{get}
-use Rattle.std.specs.Global.{Vec}
 use Rattle.std.specs.List.{AllByRecursion}
 use Rattle.std.specs.Ordering.{nat_cmp}
 use Rattle.partition.specs.Fti.{Fti}
@@ -13,22 +12,23 @@ use Rattle.reception.specs.Walks.{readings_of}
 use Rattle.reception.specs.Answer.{Empty, AnswerTo, reception_of}
 use Rattle.decoder.specs.Arrivals.{arrived_at}
 use Rattle.decoder.specs.declared.arrivals.Arrival.{Arrival}
+use Rattle.decoder.specs.declared.block_arrivals.BlockArrivals.{BlockArrivals}
 use Rattle.decoder.specs.declared.symbols.Symbols.{Symbols}
 
 -- the bytes of the symbol that came of a block at an ESI, if one did, by what each symbol holds
-abbrev pub arrived_of : {S : Type 0} → (S → List ℕ) → Option (Vec (Arrival S)) → ℕ
+abbrev pub arrived_of : {S : Type 0} → (S → List ℕ) → Option (BlockArrivals S) → ℕ
     → Option (List ℕ)
 arrived_of held None j = None
-arrived_of held (Some v) j = arrived_at held v.items j
+arrived_of held (Some v) j = arrived_at held v.list.items j
 
 -- the bytes that stand at a block and an ESI, by what each symbol holds
 abbrev pub came_at : {S : Type 0} → (S → List ℕ) → Symbols S → ℕ → ℕ → Option (List ℕ)
 came_at held s b j = arrived_of held (get nat_cmp s.blocks b) j
 
 -- the symbols of a block, in the order in which they came
-abbrev pub listed : {S : Type 0} → Option (Vec (Arrival S)) → List (Arrival S)
+abbrev pub listed : {S : Type 0} → Option (BlockArrivals S) → List (Arrival S)
 listed None = []
-listed (Some v) = v.items
+listed (Some v) = v.list.items
 
 abbrev pub list_of : {S : Type 0} → Symbols S → ℕ → List (Arrival S)
 list_of s b = listed (get nat_cmp s.blocks b)

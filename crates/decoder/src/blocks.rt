@@ -34,9 +34,7 @@ fn are_padded(fti: &Fti, b: u32, rows: &Rows) -> bool
         × (c < fti.now.symbol_length) × (fti.now.transfer_length ≤ source_place fti.now b i c)
         × (byte_in rows.now i c ≢ 0) }
 {
-    let left = fti.transfer_length() - fti.start(b) * u64::from(fti.symbol_length());
-    let used = left.min(rows.bytes.len() as u64) as usize;
-    is_zero(&rows.bytes[used..])
+    is_zero(&rows.bytes[fti.block_bytes(b)..])
 }
 
 /// A block's source symbols, if all that came of it are symbols of an object; `are_sound` says that

@@ -13,6 +13,7 @@ ghost use Rattle.reception.specs.Answer.{clashes};
 ghost use Rattle.reception.specs.Walks.{scope_in};
 ghost use Rattle.session.specs.Extents.{AreFrames};
 ghost use Rattle.session.specs.Frames.{IsFramed, IsSessionFault};
+ghost use Rattle.decoder.specs.Arrivals.{arrived_at};
 ghost use Rattle.decoder.specs.InFile.{held_in, AreSymbolsIn, IsSymbolIn, AreOfBlock};
 ghost use Rattle.decoder.specs.Indexing.{IsAlone, IsUnindexed, IsFaultAmong};
 ghost use Rattle.decoder.specs.Received.{AreReceived, IsIndex, IsNothing, came_at, list_of};
@@ -21,6 +22,7 @@ ghost use Rattle.session.specs.declared.extent.Extent.{Extent as ExtentValue};
 ghost use Rattle.partition.specs.Fti.{Fti as FtiValue, block_count, encoding_count};
 
 use crate::answer::DecodeFault;
+use crate::arrivals::Arrival;
 use crate::received::fault_at;
 use crate::rereading::read_alone;
 use crate::source::Unread;
@@ -177,6 +179,22 @@ pub(crate) fn find_fti<F: ReadAt>(
     first_fti(alloc, &mut cursor, identity)
 }
 
+// The last of a block's places that has this ESI.
+fn last_place(arrivals: &[Arrival<Extent>], esi: u8) -> Option<Extent>
+    ensures at { (held : ExtentValue → List ℕ)
+        → option_map held result ≡ arrived_at held arrivals.now esi }
+    ensures listed { IfSome result (λ p.
+        Contains arrivals.now (record { esi = esi; symbol = p })) }
+{
+    let mut found = None;
+    for arrival in arrivals {
+        if arrival.esi == esi {
+            found = Some(arrival.symbol);
+        }
+    }
+    found
+}
+
 // Where the packet at a block and an ESI stands, if one came.
 fn place_of(symbols: &Symbols<Extent>, block: u32, esi: u8) -> Option<Extent>
     ensures at { (held : ExtentValue → List ℕ)
@@ -184,13 +202,11 @@ fn place_of(symbols: &Symbols<Extent>, block: u32, esi: u8) -> Option<Extent>
     ensures listed { IfSome result (λ p.
         Contains (list_of symbols.now block) (record { esi = esi; symbol = p })) }
 {
-    let mut found = None;
-    for arrival in symbols.of_block(block)? {
-        if arrival.esi == esi {
-            found = Some(arrival.symbol);
-        }
+    let arrivals = symbols.blocks.get(&block)?;
+    if !arrivals.may_have(esi) {
+        return None;
     }
-    found
+    last_place(arrivals.as_slice(), esi)
 }
 
 // Keeps the packet's place, unless an earlier packet of its block and ESI has other bytes.

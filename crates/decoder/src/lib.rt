@@ -24,6 +24,7 @@
 mod answer;
 mod arrivals;
 mod block;
+mod block_arrivals;
 mod blocks;
 mod counting;
 mod decoding;

@@ -4,7 +4,8 @@ ghost use Rattle.std.specs.Prelude.{false, is_some, option_map, IsNone, IfSome, 
 ghost use Rattle.decoder.specs.Arrivals.{arrived_at};
 ghost use Rattle.decoder.specs.Received.{bytes_at, came_at, list_of};
 
-use crate::arrivals::{Arrival, push_arrival, symbol_at};
+use crate::arrivals::{Arrival, symbol_at};
+use crate::block_arrivals::BlockArrivals;
 use std::alloc::{AllocError, Global};
 use std::collections::BTreeMap;
 
@@ -12,7 +13,7 @@ use std::collections::BTreeMap;
 /// came.
 #[derive(Drop)]
 pub(crate) struct Symbols<S> {
-    pub(crate) blocks: BTreeMap<u32, Vec<Arrival<S>>>,
+    pub(crate) blocks: BTreeMap<u32, BlockArrivals<S>>,
 }
 
 impl<S: Drop> Symbols<S> {
@@ -75,11 +76,11 @@ impl<S: Drop> Symbols<S> {
         let arrival = Arrival { esi, symbol };
         match self.blocks.get_mut(&block) {
             Some(arrivals) => {
-                push_arrival(arrivals, arrival)?;
+                arrivals.push(arrival)?;
                 Ok(())
             }
             None => {
-                let mut arrivals = Vec::new(alloc);
+                let mut arrivals = BlockArrivals::new(alloc);
                 arrivals.push(arrival)?;
                 self.blocks.insert(block, arrivals)?;
                 Ok(())

@@ -6,8 +6,8 @@ use Rattle.std.proofs.lemmas.List.{append-nil, get_or_append_left, get_or-append
 use Rattle.std.specs.Io.KnownBytes.{Consumes, IsAtEnd}
 use Rattle.lists.specs.Bytes.{AreBytes}
 use Rattle.gf256.proofs.RowPlaces.{rows_apart, row_ends}
-use Rattle.partition.specs.Fti.{Fti, IsValidFti, block_count, symbol_count, source_count, start_of, source_place}
-use Rattle.partition.proofs.Laws.{start_end, symbols_bounds, in_object, some_source}
+use Rattle.partition.specs.Fti.{Fti, IsValidFti, block_bytes, block_count, symbol_count, source_count, start_of, source_place}
+use Rattle.partition.proofs.Laws.{begins_within, start_end, symbols_bounds}
 use Rattle.alc.proofs.Bytes.{AreBytes-append}
 use Rattle.streams.proofs.Fills.{then_consumes}
 use Rattle.reception.specs.Symbols.{IsObject}
@@ -16,7 +16,7 @@ use Rattle.encoder.specs.declared.object.ObjectFault.{ObjectFault}
 use Rattle.encoder.specs.declared.object.ObjectFault.TheVariants.{Length, Io}
 use Rattle.encoder.specs.Rows.{AreSourcesOf}
 use Rattle.encoder.specs.ObjectRead.{Begins, ReadsObject, ReadsSome, IsObjectFault}
-use Rattle.encoder.specs.BlocksRead.{bytes_before, block_bytes, HasRead, IsReadFault}
+use Rattle.encoder.specs.BlocksRead.{bytes_before, HasRead, IsReadFault}
 
 -- what a reader had left begins with what it gave
 begun : (a b : Option (List ℕ)) (x : List ℕ) → Consumes a b x → IfSome a (Begins x)
@@ -36,12 +36,8 @@ wrong_length (Some y) None x n P read is other = absurd read
 wrong_length (Some y) (Some rest) x n P read is other = λ e. other rest is (sym (length-append x rest) ∙ sym (ap length read) ∙ e)
 
 module _ (f : Fti) (valid : IsValidFti f) where
-  -- a block begins within the object
-  pub begins_within : (n : ℕ) → n < block_count f → start_of f n * f.symbol_length < f.transfer_length
-  begins_within n inside = omega (arith, in_object f valid n 0 inside (omega (arith, some_source f valid n)))
-
   next_before : (n : ℕ) → n < block_count f → bytes_before f (n + 1) ≡ bytes_before f n + block_bytes f n
-  next_before n inside = omega (arith, next_start f valid n, begins_within n inside)
+  next_before n inside = omega (arith, next_start f valid n, begins_within f valid n inside)
 
   all_before : bytes_before f (block_count f) ≡ f.transfer_length
   all_before =
@@ -52,7 +48,7 @@ module _ (f : Fti) (valid : IsValidFti f) where
   block_sources : (n : ℕ) (front block later object : List ℕ) → n < block_count f → length front ≡ bytes_before f n → length block ≡ block_bytes f n
       → length object ≡ f.transfer_length → object ≡ front ++ (block ++ later) → AreSourcesOf f object n block
   block_sources n front block later object inside before long whole is i c li lc =
-      let within = begins_within n inside in
+      let within = begins_within f valid n inside in
       let at : ℕ = start_of f n * f.symbol_length in
       let front_long : length front ≡ start_of f n * f.symbol_length = omega (arith, before, within) in
       let apart = rows_apart (start_of f n) i f.symbol_length in
@@ -114,7 +110,7 @@ module _ (f : Fti) (valid : IsValidFti f) where
     cut_short : n < block_count f → IfSome here (λ x. length x < block_bytes f n) → IfSome left (λ x. length x ≢ f.transfer_length)
     cut_short inside short =
         wrong_length left here done.front f.transfer_length (λ x. length x < block_bytes f n) done.consumed short
-        (λ y few e. absurd (omega (arith, few, e, done.count, begins_within n inside)))
+        (λ y few e. absurd (omega (arith, few, e, done.count, begins_within f valid n inside)))
 
     -- or none
     pub block_fault : (e : ObjectFault) (most : ℕ) (sound now failed : Bool) → n < block_count f → most ≡ block_bytes f n

@@ -12,11 +12,6 @@ use Rattle.encoder.specs.ObjectRead.{Begins}
 abbrev pub bytes_before : Fti → ℕ → ℕ
 bytes_before f n = min (start_of f n * f.symbol_length) f.transfer_length
 
--- and how many those of block b
-abbrev pub block_bytes : Fti → ℕ → ℕ
-block_bytes f b =
-    min (source_count f b * f.symbol_length) (f.transfer_length - start_of f b * f.symbol_length)
-
 -- the blocks before n were read, and this holds of each object that begins with them
 pub record HasRead (f : Fti) (n : ℕ) (left here : Option (List ℕ))
     (Holds : List ℕ → Type 0) : Type 0 where

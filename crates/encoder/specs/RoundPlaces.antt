@@ -8,7 +8,7 @@ use Rattle.partition.specs.Fti.{Fti, block_count, encoding_count}
 use Rattle.partition.specs.declared.order.Order.TheVariants.{Rounds}
 use Rattle.reception.specs.Symbols.{Agrees}
 use Rattle.session.specs.Frames.{frame}
-use Rattle.encoder.specs.BlocksRead.{block_bytes}
+use Rattle.partition.specs.Fti.{block_bytes}
 use Rattle.encoder.specs.Rows.{row_at, AreSourcesOf}
 use Rattle.encoder.specs.Sending.{Item, IsSent, pairs, pair_with, pairs_of_round, frame_bytes}
 

@@ -14,7 +14,7 @@ ghost use Rattle.encoder.specs.RowsWritten.{WritesRows, IsRowsFault};
 
 use crate::by_values::room;
 use crate::certifying::write_block;
-use crate::object::{ObjectFault, block_bytes, read_block, read_end};
+use crate::object::{ObjectFault, read_block, read_end};
 use block_code::{BlockCodes, Kind};
 use cert::write_head;
 use partition::Fti;
@@ -95,7 +95,7 @@ fn write_rows<R: Read, W: Write>(
     ensures stays { R.sound reader.new ≡ R.sound reader.old }
 {
     for b in 0..fti.block_count() {
-        let block = &mut sources[..block_bytes(fti, b)];
+        let block = &mut sources[..fti.block_bytes(b)];
         read_block(reader, block)?;
         write_block(block, fti, b, interpolators, rows, work, writer)?;
     }

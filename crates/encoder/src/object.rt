@@ -3,7 +3,7 @@ ghost use Rattle.std.specs.Prelude.{◌≡◌, ◌<◌, length, true, false, IfE
 ghost use Rattle.std.specs.Io.KnownBytes.{Consumes, IsAtEnd};
 ghost use Rattle.lists.specs.Bytes.{AreBytes};
 ghost use Rattle.partition.specs.Fti.{block_count};
-ghost use Rattle.encoder.specs.BlocksRead.{block_bytes, IsReadFault};
+ghost use Rattle.encoder.specs.BlocksRead.{IsReadFault};
 
 use lists::are_bytes;
 use partition::Fti;
@@ -19,18 +19,6 @@ pub enum ObjectFault {
     /// The reader has failed.
     #[error("O3 Io")]
     Io,
-}
-
-/// How many bytes of the object are a block's: fewer than those of its source symbols in the last
-/// block, where its last symbol is padded.
-pub(crate) fn block_bytes(fti: &Fti, b: u32) -> usize
-    requires { b < block_count fti.now }
-    ensures { result ≡ block_bytes fti.now b }
-{
-    let size = usize::from(fti.symbol_length());
-    let before = fti.start(b) * size as u64;
-    let left = fti.transfer_length() - before;
-    (fti.k(b) * size).min(left as usize)
 }
 
 /// Reads the next bytes, as many as there is room for.

@@ -8,13 +8,13 @@ ghost use Rattle.std.specs.Prelude.{slice_index, true, is_some, Some, IfOk, IfEr
 ghost use Rattle.std.specs.Prelude.{OnErr};
 ghost use Rattle.std.specs.Io.KnownBytes.{IsAtEnd};
 ghost use Rattle.partition.specs.Fti.{IsValidFti, block_count, source_count, encoding_count};
-ghost use Rattle.partition.specs.Fti.{large_blocks};
+ghost use Rattle.partition.specs.Fti.{block_bytes, large_blocks};
 ghost use Rattle.partition.specs.declared.order.Order.TheVariants.{Rounds};
 ghost use Rattle.block_code.specs.Codes.{EachBlockHas};
 ghost use Rattle.block_code.specs.CodesOf.{IsCodeOf};
 ghost use Rattle.reception.specs.Symbols.{Agrees};
 ghost use Rattle.encoder.specs.ObjectRead.{ReadsObject, IsObjectFault};
-ghost use Rattle.encoder.specs.BlocksRead.{HasRead, IsReadFault, block_bytes};
+ghost use Rattle.encoder.specs.BlocksRead.{HasRead, IsReadFault};
 ghost use Rattle.encoder.specs.Sending.{pairs, items, items_from, Sends, most_symbol_bytes};
 ghost use Rattle.encoder.specs.Passes.{IsBlocksFault};
 ghost use Rattle.encoder.specs.Sending.{frame_bytes};
@@ -23,7 +23,7 @@ ghost use Rattle.encoder.specs.RoundPlaces.{AreSymbolsAt, AreSymbolsOf, ReadsBlo
 ghost use Rattle.encoder.specs.RoundPlaces.{IsFrameOf, HasFrames, IsAsLong};
 ghost use Rattle.encoder.specs.SentInRounds.{emptied, IsRoundsFromFault};
 
-use crate::object::{ObjectFault, block_bytes, read_block, read_end};
+use crate::object::{ObjectFault, read_block, read_end};
 use crate::rows::encoding_symbols;
 use crate::sending::{MOST_SYMBOL_BYTES, Transmission};
 use crate::sending_from::SendFromFault;
@@ -264,7 +264,7 @@ fn make_block<R: Read>(
     ensures stays { R.sound reader.new ≡ R.sound reader.old }
 {
     let size = usize::from(t.fti.symbol_length());
-    let bytes = &mut sources[..block_bytes(&t.fti, block)];
+    let bytes = &mut sources[..t.fti.block_bytes(block)];
     read_block(reader, bytes)?;
     let count = t.fti.n(block);
     let from = i * (t.fti.n(0) * size);

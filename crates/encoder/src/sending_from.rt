@@ -12,7 +12,7 @@ ghost use Rattle.encoder.specs.Sending.{session_bytes};
 ghost use Rattle.encoder.specs.SentFrom.{IsSendFromFault};
 ghost use Rattle.encoder.specs.Passes.{IsDatagramRoom, IsBlocksFault};
 
-use crate::object::{ObjectFault, block_bytes, read_block, read_end};
+use crate::object::{ObjectFault, read_block, read_end};
 use crate::sending::{MOST_SYMBOL_BYTES, Run, Transmission, send_symbols};
 use alc::HEADER_SIZE;
 use block_code::{BlockCodes, Kind};
@@ -88,7 +88,7 @@ fn send_blocks<R: Read, W: Write>(
     let size = usize::from(t.fti.symbol_length());
     let mut place = 0;
     for block in 0..t.fti.block_count() {
-        let bytes = &mut sources[..block_bytes(&t.fti, block)];
+        let bytes = &mut sources[..t.fti.block_bytes(block)];
         read_block(reader, bytes)?;
         let count = t.fti.n(block);
         let room = &mut symbols[..count * size];

@@ -201,6 +201,10 @@ module _ (f : Fti) (valid : IsValidFti f) where
   pub in_object : (b i : ℕ) → b < block_count f → i < source_count f b → source_place f b i 0 < f.transfer_length
   in_object b i hb hi = omega (arith, symbol_end b i hb hi, symbols_bounds.1)
 
+  -- each block begins with a byte of the object
+  pub begins_within : (b : ℕ) → b < block_count f → start_of f b * f.symbol_length < f.transfer_length
+  begins_within b hb = omega (arith, in_object b 0 hb (omega (arith, some_source b)))
+
   -- the last source symbol holds at least one byte of the object
   pub last_bounds : ((symbol_count f - 1) * f.symbol_length + last_length f ≡ f.transfer_length) × (1 ≤ last_length f) × (last_length f ≤ f.symbol_length)
   unfolding last_length

@@ -11,8 +11,8 @@
 
 ghost use Rattle.std.specs.Prelude.{◌≡◌, ℕ, ◌+◌, ◌*◌, ◌^◌, ◌<◌, ◌≤◌, min, Some, None, IfOk, IfErr};
 ghost use Rattle.partition.specs.Fti.{symbol_count, block_count, source_count, start_of};
-ghost use Rattle.partition.specs.Fti.{encoding_count, has_symbol, last_length, IsValidFti};
-ghost use Rattle.partition.specs.Fti.{fti_from};
+ghost use Rattle.partition.specs.Fti.{block_bytes, encoding_count, has_symbol, last_length};
+ghost use Rattle.partition.specs.Fti.{fti_from, IsValidFti};
 
 mod order;
 
@@ -240,6 +240,19 @@ impl Fti {
         let (small, large) = self.shares();
         let before = u64::from(b);
         before * small + before.min(large)
+    }
+
+    /// How many bytes of the object are those of block `b`, which is below N: fewer than those of its
+    /// source symbols in the last block, where its last symbol is padded.
+    #[tactic(auto, using(crate::proofs::Laws::begins_within))]
+    pub fn block_bytes(&self, b: u32) -> usize
+        requires { b < block_count self.now }
+        ensures value { result ≡ block_bytes self.now b }
+        ensures valid { IsValidFti self.now }
+    {
+        let size = u64::from(self.symbol_length());
+        let left = self.transfer_length() - self.start(b) * size;
+        left.min(self.k(b) as u64 * size) as usize
     }
 
     /// How many bytes of the object its last source symbol holds, at least one and at most E.

@@ -1,13 +1,11 @@
 -- The object, by the bytes of its source blocks.
-use Rattle.std.specs.Prelude.{ℕ, ◌-◌, ◌*◌, min, List, take, flat_map}
+use Rattle.std.specs.Prelude.{ℕ, List, take, flat_map}
 use Rattle.lists.specs.Below.{below}
-use Rattle.partition.specs.Fti.{Fti, block_count, source_count, start_of}
+use Rattle.partition.specs.Fti.{Fti, block_bytes, block_count}
 
 -- the object's bytes in a block: those of its source symbols, cut at the object's end
 abbrev pub part_of : Fti → (ℕ → List ℕ) → ℕ → List ℕ
-part_of f bytes b = take
-    (min (f.transfer_length - start_of f b * f.symbol_length) (source_count f b * f.symbol_length))
-    (bytes b)
+part_of f bytes b = take (block_bytes f b) (bytes b)
 
 -- the object's bytes in the blocks below n
 abbrev pub object_below : Fti → (ℕ → List ℕ) → ℕ → List ℕ

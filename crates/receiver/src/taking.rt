@@ -75,11 +75,8 @@ impl HeldBlocks {
         requires { b < block_count fti.now }
         ensures { result.now ≡ part_of fti.now (held_of self.now) b }
     {
-        let size = u64::from(fti.symbol_length());
-        let left = fti.transfer_length() - fti.start(b) * size;
         let bytes = self.block(b);
-        let used = left.min(fti.k(b) as u64 * size).min(bytes.len() as u64) as usize;
-        &bytes[..used]
+        &bytes[..fti.block_bytes(b).min(bytes.len())]
     }
 
     // The object.

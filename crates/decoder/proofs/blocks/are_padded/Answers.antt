@@ -1,44 +1,28 @@
 use Rattle.std.proofs.Common.{◌≡◌, ◌≤◌, ◌∙◌, ◌+◌, ◌*◌, ℕ, List, length, get_or, arith, ap, sym}
-use Rattle.partition.specs.Fti.{start_of, source_count, source_place}
-use Rattle.partition.proofs.Laws.{in_object, some_source}
+use Rattle.partition.specs.Fti.{source_count, source_place}
+use Rattle.partition.proofs.Laws.{begins_within}
 use Rattle.block_code.proofs.RowAdding.{products}
 use Rattle.decoder.proofs.RowPlaces.{zero_behind, other_behind, row_and_column}
 use Rattle.decoder.proofs.blocks.are_padded.Goals as goal
-
-pub overflow_mul-left : goal.overflow_mul-left
-overflow_mul-left c =
-    let f = c.args.fti.now in
-    let e = products c.start.result c.from.result (start_of f c.args.b) f.symbol_length c.start.ensures.value (c.from.ensures ∙ c.symbol_length.ensures.value) in
-    let w = in_object f c.symbol_length.ensures.valid c.args.b 0 c.requires.number (omega (arith, some_source f c.symbol_length.ensures.valid c.args.b)) in
-    omega (arith, e, w, c.symbol_length.ensures.valid.length_below)
-
-pub overflow_sub-left : goal.overflow_sub-left
-overflow_sub-left c =
-    let f = c.args.fti.now in
-    let e = products c.start.result c.from.result (start_of f c.args.b) f.symbol_length c.start.ensures.value (c.from.ensures ∙ c.symbol_length.ensures.value) in
-    let w = in_object f c.symbol_length.ensures.valid c.args.b 0 c.requires.number (omega (arith, some_source f c.symbol_length.ensures.valid c.args.b)) in
-    omega (arith, e, w, c.transfer_length.ensures.value)
 
 pub returns-clause-zero : goal.returns-clause-zero
 returns-clause-zero c = λ ok i y li ly past.
     let f = c.args.fti.now in
     let rows = c.args.rows.now in
-    let e = products c.start.result c.from.result (start_of f c.args.b) f.symbol_length c.start.ensures.value (c.from.ensures ∙ c.symbol_length.ensures.value) in
     ap (λ (s : ℕ). get_or rows.bytes.items (i * s + y) 0) c.requires.sizes.bytes_are
     ∙ ap (λ (l : List ℕ). get_or l (i * f.symbol_length + y) 0) (sym c.deref.ensures.value)
-    ∙ zero_behind c.deref.result.now c.min-used.result (c.is_zero.ensures.zero ok) (i * f.symbol_length + y)
-    (omega (arith, c.min-used.ensures, e, c.transfer_length.ensures.value, past))
+    ∙ zero_behind c.deref.result.now c.block_bytes.result (c.is_zero.ensures.zero ok) (i * f.symbol_length + y)
+    (omega (arith, c.block_bytes.ensures.value, past))
 
 pub returns-clause-other : goal.returns-clause-other
 returns-clause-other c = λ no_zero.
     let f = c.args.fti.now in
     let rows = c.args.rows.now in
-    let e = products c.start.result c.from.result (start_of f c.args.b) f.symbol_length c.start.ensures.value (c.from.ensures ∙ c.symbol_length.ensures.value) in
     let w = c.is_zero.ensures.other no_zero in
-    let o = other_behind c.deref.result.now c.min-used.result w.0 w.1 w.2 in
+    let o = other_behind c.deref.result.now c.block_bytes.result w.0 w.1 w.2 in
     let sized : length c.deref.result.now ≡ source_count c.args.fti.now c.args.b * c.args.fti.now.symbol_length = ap length c.deref.ensures.value ∙ rows.whole ∙ products _ _ _ _ c.requires.sizes.rows_are c.requires.sizes.bytes_are in
-    let p = row_and_column (c.min-used.result + w.0) (source_count f c.args.b) f.symbol_length c.symbol_length.ensures.valid.some_symbol (omega (arith, o.0, sized)) in
-    let past : c.args.fti.now.transfer_length ≤ source_place c.args.fti.now c.args.b p.0 p.1 = omega (arith, p.4, o.0, c.min-used.ensures, e, c.transfer_length.ensures.value) in (
+    let p = row_and_column (c.block_bytes.result + w.0) (source_count f c.args.b) f.symbol_length c.block_bytes.ensures.valid.some_symbol (omega (arith, o.0, sized)) in
+    let past : c.args.fti.now.transfer_length ≤ source_place c.args.fti.now c.args.b p.0 p.1 = omega (arith, p.4, o.0, sized, c.block_bytes.ensures.value) in (
       p.0,
       p.1,
       p.2,

@@ -1,21 +1,12 @@
-use Rattle.decoder.proofs.Indexed.{found_here, listed_here, found_before}
-use Rattle.decoder.specs.Received.{list_of}
+use Rattle.std.specs.Prelude.{IfSome}
+use Rattle.std.specs.List.{Contains}
+use Rattle.std.proofs.Common.{◌∙◌, List, ap, subst}
+use Rattle.session.specs.declared.extent.Extent.{Extent}
+use Rattle.decoder.specs.declared.arrivals.Arrival.{Arrival}
+use Rattle.decoder.specs.Received.{listed}
 use Rattle.decoder.proofs.indexing.place_of.Goals as goal
-use Rattle.decoder.proofs.indexing.place_of.Goals.{then-arrival-esi, else-arrival-esi}
 
-pub loop-arrival-preserved : goal.loop-arrival-preserved
-loop-arrival-preserved c =
-    let xs = c.in_ok-arrival-items.arrival-items.now in
-    let came = list_of c.args.symbols.now c.args.block in
-    let same = c.in_ok-arrival-items.ensures.list in
-    let i = c.loop-arrival.arrival-index in
-    elim c.if-arrival-esi.branch [
-      | then-arrival-esi w ↦ rw w.found-is (record {
-        at = found_here xs came same i _ c.loop-arrival-test.true c.args.esi w.if-arrival-esi.true;
-        listed = listed_here xs came same i _ c.loop-arrival-test.true c.args.esi w.if-arrival-esi.true;
-      })
-      | else-arrival-esi w ↦ rw w.found-is (record {
-        at = λ held. found_before xs came same i _ c.loop-arrival-test.true c.args.esi w.if-arrival-esi.false held c.loop-arrival.found (c.loop-arrival.invariant.at held);
-        listed = c.loop-arrival.invariant.listed;
-      })
-    ]
+pub returns-clause-listed : goal.returns-clause-listed
+returns-clause-listed c =
+    subst (λ (l : List (Arrival Extent)). IfSome c.last_place.result (λ p. Contains l (record { esi = c.args.esi; symbol = p })))
+    (c.as_slice.ensures ∙ ap listed c.in_ok-arrivals.ensures.value) c.last_place.ensures.listed

@@ -11,11 +11,11 @@ use Rattle.encoder.proofs.rounds_from.make_block.Goals as goal
 
 pub slice_bounds-bytes-end : goal.slice_bounds-bytes-end
 slice_bounds-bytes-end g c =
-    omega (arith, c.block_bytes.ensures, rows_of_block c.args.t.now.fti c.symbol_length.ensures.valid c.args.block, c.requires.sources)
+    omega (arith, c.block_bytes.ensures.value, rows_of_block c.args.t.now.fti c.symbol_length.ensures.valid c.args.block, c.requires.sources)
 
 pub slice_bounds-bytes-end-2 : goal.slice_bounds-bytes-end-2
 slice_bounds-bytes-end-2 g c =
-    let room : c.block_bytes.result ≤ length c.args.sources.now = omega (arith, c.block_bytes.ensures, rows_of_block c.args.t.now.fti c.symbol_length.ensures.valid c.args.block, c.requires.sources) in
+    let room : c.block_bytes.result ≤ length c.args.sources.now = omega (arith, c.block_bytes.ensures.value, rows_of_block c.args.t.now.fti c.symbol_length.ensures.valid c.args.block, c.requires.sources) in
     sym (length-take-le c.block_bytes.result c.args.sources.now room)
 
 pub slice_bounds-rows-end : goal.slice_bounds-rows-end
@@ -31,7 +31,7 @@ pub returns-clause-read : goal.returns-clause-read
 returns-clause-read g c =
     let f = c.args.t.now.fti in
     let valid = c.symbol_length.ensures.valid in
-    let room : c.block_bytes.result ≤ length c.args.sources.now = omega (arith, c.block_bytes.ensures, rows_of_block f valid c.args.block, c.requires.sources) in
+    let room : c.block_bytes.result ≤ length c.args.sources.now = omega (arith, c.block_bytes.ensures.value, rows_of_block f valid c.args.block, c.requires.sources) in
     let size = c.from-size.ensures ∙ c.symbol_length.ensures.value in
     let one = products c.n.result c.from-size.result (encoding_count f 0) f.symbol_length c.n.ensures.value size in
     let at : c.args.i * (c.n.result * c.from-size.result) ≡ c.args.i * encoding_count f 0 * f.symbol_length =
@@ -42,7 +42,7 @@ returns-clause-read g c =
     let inside : c.args.i * (c.n.result * c.from-size.result) ≤ length c.args.symbols.now = omega (arith, all, c.requires.room) in
     record {
       block = c.read_block.new.bytes;
-      count = c.in_ok-read_block.ensures.len ∙ length-take-le c.block_bytes.result c.args.sources.now room ∙ c.block_bytes.ensures;
+      count = c.in_ok-read_block.ensures.len ∙ length-take-le c.block_bytes.result c.args.sources.now room ∙ c.block_bytes.ensures.value;
       bytes = c.in_ok-read_block.ensures.bytes;
       consumed = c.in_ok-read_block.ensures.read;
       holds = λ object bytes are j lj.

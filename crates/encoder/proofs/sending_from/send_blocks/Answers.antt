@@ -8,7 +8,7 @@ use Rattle.cert.proofs.Flat.{on_err}
 use Rattle.cert.proofs.GreatestBlock.{rows_of_block}
 use Rattle.block_code.proofs.RowAdding.{products}
 use Rattle.encoder.specs.declared.sending_from.SendFromFault.TheVariants.{Object}
-use Rattle.encoder.specs.BlocksRead.{block_bytes}
+use Rattle.partition.specs.Fti.{block_bytes}
 use Rattle.encoder.specs.Sending.{pairs_of_block}
 use Rattle.encoder.proofs.Sent.{nothing_sent, behind_sends, behind_some, behind_room, behind_short, sent_some, flat_next, flat_parts, length_next}
 use Rattle.encoder.proofs.InPasses.{first_most, whole_run, length-run_of}
@@ -27,7 +27,7 @@ slice_bounds-bytes-end g c =
     let f = t.fti in
     let b = c.loop-block.block in
     let valid = c.symbol_length.ensures.valid in
-    omega (arith, c.block_bytes.ensures, rows_of_block f valid b, c.requires.sources, c.loop-block.auto.sources)
+    omega (arith, c.block_bytes.ensures.value, rows_of_block f valid b, c.requires.sources, c.loop-block.auto.sources)
 
 pub slice_bounds-bytes-end-in-loop-block : goal.slice_bounds-bytes-end-in-loop-block
 slice_bounds-bytes-end-in-loop-block g c =
@@ -35,7 +35,7 @@ slice_bounds-bytes-end-in-loop-block g c =
     let f = t.fti in
     let b = c.loop-block.block in
     let valid = c.symbol_length.ensures.valid in
-    let room : c.block_bytes.result ≤ length c.loop-block.sources = omega (arith, c.block_bytes.ensures, rows_of_block f valid b, c.requires.sources, c.loop-block.auto.sources) in
+    let room : c.block_bytes.result ≤ length c.loop-block.sources = omega (arith, c.block_bytes.ensures.value, rows_of_block f valid b, c.requires.sources, c.loop-block.auto.sources) in
     omega (arith, length-take-le c.block_bytes.result c.loop-block.sources room)
 
 pub returns-in_err-read_block-clause-err : goal.returns-in_err-read_block-clause-err
@@ -57,9 +57,9 @@ returns-in_err-read_block-clause-fault g c =
     let b = c.loop-block.block in
     let valid = c.symbol_length.ensures.valid in
     let inside : c.loop-block.block < block_count c.args.t.now.fti = omega (arith, c.loop-block-test.true, c.block_count-block-end.ensures.value) in
-    let room : c.block_bytes.result ≤ length c.loop-block.sources = omega (arith, c.block_bytes.ensures, rows_of_block f valid b, c.requires.sources, c.loop-block.auto.sources) in
+    let room : c.block_bytes.result ≤ length c.loop-block.sources = omega (arith, c.block_bytes.ensures.value, rows_of_block f valid b, c.requires.sources, c.loop-block.auto.sources) in
     let e = c.in_err-read_block.field-0.0 in
-    let long = length-take-le c.block_bytes.result c.loop-block.sources room ∙ c.block_bytes.ensures in
+    let long = length-take-le c.block_bytes.result c.loop-block.sources room ∙ c.block_bytes.ensures.value in
     passed_on c.from_residual.result (Object e) _ c.from_residual.ensures.1
     (block_fault f valid b _ _ _ c.loop-block.invariant.read e _ _ _ _ inside long c.in_err-read_block.ensures.short c.in_err-read_block.ensures.io c.loop-block.invariant.stays)
 
@@ -105,8 +105,8 @@ returns-in_default-clause-err g c =
     let b = c.loop-block.block in
     let valid = c.symbol_length.ensures.valid in
     let inside : c.loop-block.block < block_count c.args.t.now.fti = omega (arith, c.loop-block-test.true, c.block_count-block-end.ensures.value) in
-    let room : c.block_bytes.result ≤ length c.loop-block.sources = omega (arith, c.block_bytes.ensures, rows_of_block f valid b, c.requires.sources, c.loop-block.auto.sources) in
-    let long : length c.read_block.new.bytes ≡ block_bytes f b = c.in_ok-read_block.ensures.len ∙ length-take-le c.block_bytes.result c.loop-block.sources room ∙ c.block_bytes.ensures in
+    let room : c.block_bytes.result ≤ length c.loop-block.sources = omega (arith, c.block_bytes.ensures.value, rows_of_block f valid b, c.requires.sources, c.loop-block.auto.sources) in
+    let long : length c.read_block.new.bytes ≡ block_bytes f b = c.in_ok-read_block.ensures.len ∙ length-take-le c.block_bytes.result c.loop-block.sources room ∙ c.block_bytes.ensures.value in
     let sent = pairs_of_block f in
     let at : c.loop-block.place ≡ 0 + length (flat_map (pairs_of_block f) (below b)) = omega (arith, c.loop-block.invariant.place) in
     let run = whole_run f b c.n-count.result c.n-count.ensures.value in
@@ -135,8 +135,8 @@ loop-block-preserved g c =
     let b = c.loop-block.block in
     let valid = c.symbol_length.ensures.valid in
     let inside : c.loop-block.block < block_count c.args.t.now.fti = omega (arith, c.loop-block-test.true, c.block_count-block-end.ensures.value) in
-    let room : c.block_bytes.result ≤ length c.loop-block.sources = omega (arith, c.block_bytes.ensures, rows_of_block f valid b, c.requires.sources, c.loop-block.auto.sources) in
-    let long : length c.read_block.new.bytes ≡ block_bytes f b = c.in_ok-read_block.ensures.len ∙ length-take-le c.block_bytes.result c.loop-block.sources room ∙ c.block_bytes.ensures in
+    let room : c.block_bytes.result ≤ length c.loop-block.sources = omega (arith, c.block_bytes.ensures.value, rows_of_block f valid b, c.requires.sources, c.loop-block.auto.sources) in
+    let long : length c.read_block.new.bytes ≡ block_bytes f b = c.in_ok-read_block.ensures.len ∙ length-take-le c.block_bytes.result c.loop-block.sources room ∙ c.block_bytes.ensures.value in
     let sent = pairs_of_block f in
     let at : c.loop-block.place ≡ 0 + length (flat_map (pairs_of_block f) (below b)) = omega (arith, c.loop-block.invariant.place) in
     let run = whole_run f b c.n-count.result c.n-count.ensures.value in
