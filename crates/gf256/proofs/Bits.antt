@@ -1,4 +1,4 @@
-use Rattle.std.proofs.Common.{ℕ, zero, suc, ◌≡◌, ◌<◌, ◌≤◌, ◌+◌, ◌-◌, ◌*◌, ◌/◌, ◌%◌, ◌^◌, true, refl, sym, ◌∙◌, ap, arith, bit_xor}
+use Rattle.std.proofs.Common.{ℕ, zero, suc, ◌≡◌, ◌<◌, ◌≤◌, ◌+◌, ◌-◌, ◌*◌, ◌/◌, ◌%◌, ◌^◌, true, refl, sym, subst, ◌∙◌, ap, arith, bit_xor}
 use Rattle.std.specs.Prelude.{◌==◌}
 use Rattle.std.specs.Int.Bits.{xor_zero_r}
 use Rattle.std.proofs.lemmas.Nat.{shr_high}
@@ -7,7 +7,7 @@ use Rattle.std.proofs.Math.Nat.{div-eq_of_lt, div-div-eq-div-mul, pow-succ', two
 use Rattle.std.proofs.Math.Pow.{pow_mono}
 use Rattle.gf256.specs.Computing.{all_under, passes}
 use Rattle.gf256.specs.ByteSums.{byte_sum}
-use Rattle.gf256.specs.Slices.{pick, bit, choice_sum}
+use Rattle.gf256.specs.Slices.{pick, bit, choice_sum, IsEightfold}
 use Rattle.gf256.proofs.SliceSums.{sum_same}
 
 bit_above : (x p : ℕ) → p < 2 ^ x → bit x p ≡ 0
@@ -69,3 +69,12 @@ number_small n s l v ln ls ll ev =
 pub number_bits : (n s l v : ℕ) (b : ℕ → ℕ) → n < 6 → s < 2 ^ n → l < 2 → v ≡ (2 * s + l) % 256 → l ≡ b 0 → ((y : ℕ) → y < n → bit y s ≡ b (suc y)) → (y : ℕ) → y < suc n → bit y v ≡ b y
 number_bits n s l v b ln ls ll ev e0 es zero ly = ap (bit 0) (number_is n s l v ln ls ll ev) ∙ bit_first s l ll ∙ e0
 number_bits n s l v b ln ls ll ev e0 es (suc y) ly = ap (bit (suc y)) (number_is n s l v ln ls ll ev) ∙ bit_next y s l ll ∙ es y (omega arith)
+
+-- a list's number
+pub eightfold_same : (n m size : ℕ) (b : ℕ → ℕ) → n ≡ m → IsEightfold m size b → IsEightfold n size b
+eightfold_same n m size b e h = subst (λ k. IsEightfold k size b) (sym e) h
+
+pub eightfold_of : (n v size : ℕ) (b : ℕ → ℕ) → n ≡ 8 * v → ((x : ℕ) → x < size → bit x v ≡ b x) → IsEightfold n size b
+eightfold_of n v size b e h =
+    let back : n / 8 ≡ v = omega arith in
+    record { whole = omega arith; each = λ x l. ap (bit x) back ∙ h x l }

@@ -33,35 +33,42 @@ horner (suc n) f = sum_of (doubled (horner n f)) (f n)
 abbrev pub lane : List (List ℕ) → ℕ → ℕ → ℕ
 lane table place t = slice_index (slice_index_or table place []) t
 
+-- byte t of an entry of a table of 64 bytes an entry
+abbrev pub entry_byte : List ℕ → ℕ → ℕ → ℕ
+entry_byte table place t = slice_index table (64 * place + t)
+
 -- byte j of source i
 abbrev pub source_byte : Sources → ℕ → ℕ → ℕ
 source_byte sources i j = slice_index sources.bytes.now (i * sources.stride + j)
 
 -- the table has the sums of the groups below m, of the columns from one on
-abbrev pub IsFilled : List (List ℕ) → Sources → Tiling → ℕ → ℕ → Type 0
+abbrev pub IsFilled : List ℕ → Sources → Tiling → ℕ → ℕ → Type 0
 IsFilled table sources tiling at m = (q p t : ℕ) → q < m → p < tiling.entries → t < 64
-    → lane table (q * tiling.entries + p) t ≡ choice_sum tiling.size p
+    → entry_byte table (q * tiling.entries + p) t ≡ choice_sum tiling.size p
     (λ x. below sources.count (q + x * tiling.groups)
     (source_byte sources (q + x * tiling.groups) (at + t)))
 
--- from a place on there are the bits of a row's coefficients, the highest m bits so far, each bit a
--- step behind the one above it
-abbrev pub IsList : List ℕ → ℕ → List ℕ → ℕ → ℕ → Tiling → ℕ → Type 0
-IsList lists at coefficients row taken tiling m =
-    (b q x : ℕ) → b < m → q < tiling.groups → x < tiling.size
-    → bit x (slice_index lists (at + b * tiling.step + q))
-    ≡ bit (7 - b)
-    (below taken (q + x * tiling.groups)
-    (slice_index coefficients (row + (q + x * tiling.groups))))
+-- eight times a number whose first bits are these
+pub record IsEightfold (n size : ℕ) (bits : ℕ → ℕ) : Type 0 where
+  pub whole : n ≡ 8 * (n / 8)
+  pub each : (x : ℕ) → x < size → bit x (n / 8) ≡ bits x
+
+-- from a place on there are the bits of a row's coefficients, the highest m bits so far, each bit
+-- 16 places behind the one above it
+abbrev pub IsList : List ℕ → ℕ → List ℕ → ℕ → Tiling → ℕ → Type 0
+IsList lists at coefficients row tiling m =
+    (b q : ℕ) → b < m → q < tiling.groups
+    → IsEightfold (slice_index lists (at + b * 16 + q)) tiling.size
+    (λ x. bit (7 - b) (slice_index coefficients (row + (q + x * tiling.groups))))
 
 -- a lane of the sum that the list from a place on looks up in the table
-abbrev pub sum_at : List (List ℕ) → List ℕ → Tiling → ℕ → ℕ → ℕ
-sum_at table lists tiling at t = horner 8 (λ b. byte_sum tiling.groups
-    (λ q. lane table (q * tiling.entries + slice_index lists (at + b * tiling.step + q)) t))
+abbrev pub sum_at : List ℕ → List ℕ → Tiling → ℕ → ℕ → ℕ
+sum_at table lists tiling at t = horner 8 (λ b. byte_sum tiling.groups (λ q. slice_index table
+    (64 * (q * tiling.entries) + 8 * slice_index lists (at + b * 16 + q) + t)))
 
 -- a lane of the sum that the list of row r looks up in the table
-abbrev pub tile_sum : List (List ℕ) → List ℕ → Tiling → ℕ → ℕ → ℕ
-tile_sum table lists tiling r t = sum_at table lists tiling (r * (8 * tiling.step)) t
+abbrev pub tile_sum : List ℕ → List ℕ → Tiling → ℕ → ℕ → ℕ
+tile_sum table lists tiling r t = sum_at table lists tiling (r * 128) t
 
 -- to some columns of each row a sum was added, and nothing else has changed
 pub record IsAdded (old new : List ℕ) (rows : ℕ) (columns : Columns)
@@ -75,6 +82,6 @@ pub record IsAdded (old new : List ℕ) (rows : ℕ) (columns : Columns)
       → slice_index new (r * columns.width + j) ≡ slice_index old (r * columns.width + j)
   pub above : (p : ℕ) → rows * columns.width ≤ p → slice_index new p ≡ slice_index old p
 
--- each byte is below a limit
+-- no byte is above eight times the last number below a limit
 abbrev pub AreSmall : List ℕ → ℕ → Type 0
-AreSmall lists limit = (i : ℕ) → slice_index lists i < limit
+AreSmall lists limit = (i : ℕ) → slice_index lists i + 8 ≤ 8 * limit

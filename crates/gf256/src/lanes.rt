@@ -24,6 +24,42 @@ pub(crate) fn double_lanes(v: u8x64) -> u8x64
             .select(u8x64::splat(29), u8x64::splat(0))
 }
 
+/// The bytes from a place on, all of them there.
+#[inline(always)]
+pub(crate) fn lanes_at(bytes: &[u8], at: usize) -> u8x64
+    requires { at + 64 ≤ length bytes.now }
+    ensures { (t : ℕ) → t < 64 → slice_index result t ≡ slice_index bytes.now (at + t) }
+{
+    u8x64::from_slice(&bytes[at..])
+}
+
+/// Writes the lanes from a place on.
+#[inline(always)]
+pub(crate) fn put_lanes(bytes: &mut [u8], at: usize, v: u8x64)
+    requires { at + 64 ≤ length bytes.old }
+    ensures within { (t : ℕ) → t < 64 → slice_index bytes.new (at + t) ≡ slice_index v t }
+    ensures below { (p : ℕ) → p < at → slice_index bytes.new p ≡ slice_index bytes.old p }
+{
+    v.copy_to_slice(&mut bytes[at..]);
+}
+
+// The bytes from a place on where they are fewer than 64, zeros past the end. It stands apart from
+// its callers, whose loops are laid out in full only if they are short.
+#[cold]
+#[inline(never)]
+fn last_lanes(bytes: &[u8], at: usize) -> u8x64
+    requires some { at ≤ length bytes.now }
+    requires few { length bytes.now < at + 64 }
+    ensures { (t : ℕ) → t < 64 → slice_index result t ≡ slice_index bytes.now (at + t) }
+{
+    let left = bytes.len() - at;
+    let mut last = [0u8; LANES];
+    for t in 0..left {
+        last[t] = bytes[at + t];
+    }
+    u8x64::from_array(last)
+}
+
 /// The bytes from a place on, zeros past the end.
 #[inline(always)]
 pub(crate) fn lanes_from(bytes: &[u8], at: usize) -> u8x64
@@ -32,15 +68,10 @@ pub(crate) fn lanes_from(bytes: &[u8], at: usize) -> u8x64
     if at >= bytes.len() {
         return u8x64::splat(0);
     }
-    let left = bytes.len() - at;
-    if left >= LANES {
-        return u8x64::from_slice(&bytes[at..]);
+    if bytes.len() - at >= LANES {
+        return lanes_at(bytes, at);
     }
-    let mut last = [0u8; LANES];
-    for t in 0..left {
-        last[t] = bytes[at + t];
-    }
-    u8x64::from_array(last)
+    last_lanes(bytes, at)
 }
 
 /// Adds the first lanes to the bytes from a place on.

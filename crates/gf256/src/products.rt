@@ -2,8 +2,8 @@
 //!
 //! A product is a sum over the bits of its coefficient, by Horner's rule: from the highest bit down
 //! the sum is doubled, and where the bit is set the source is added. For several outputs the sums
-//! of each choice of four sources, for many of six, are tabled once, 64 columns at a time, so that
-//! a bit of four or six coefficients is one addition.
+//! of each choice of four sources, for many of five, are tabled once, 64 columns at a time, so that
+//! a bit of four or five coefficients is one addition.
 ghost use Rattle.std.specs.Prelude.{◌≡◌, ℕ, ◌<◌, ◌≤◌, ◌+◌, ◌-◌, ◌*◌, ◌^◌, length, slice_index};
 ghost use Rattle.gf256.specs.Arithmetic.{sum_of, product};
 ghost use Rattle.gf256.specs.Sums.{row_sum};
@@ -12,26 +12,32 @@ ghost use Rattle.gf256.specs.Slices.{source_byte, AreSmall, IsAdded, tile_sum, s
 
 use crate::bit_lists::write_list;
 use crate::gf::Gf;
-use crate::lanes::{LANES, add_lanes, double_lanes, sum_lanes};
+use crate::lanes::{LANES, add_lanes, double_lanes, lanes_at, sum_lanes};
 use crate::rows::add_scaled;
 use crate::sources::Sources;
 use crate::table::fill_table;
-use crate::tiling::{Columns, Tiling};
+use crate::tiling::{Columns, LIST, STEP, Tiling};
 use std::simd::prelude::*;
 
-/// From so many outputs on, the sums of six sources are faster for any number of sources above
-/// [`ONE_TABLE`], by measurement.
+/// Up to so many sources groups of five are slower for some numbers of sources, as for 16, by
+/// measurement.
+const FEW_SOURCES: usize = 32;
+
+/// From so many outputs on, the sums of five sources are faster for any number of sources above
+/// [`FEW_SOURCES`], by measurement.
 const MANY_ROWS: usize = 64;
 
-/// The sources of one table of groups of four. Up to here groups of six are slower for some numbers
-/// of sources, as for 12 and fewer, and about as fast for 64, by measurement.
-const ONE_TABLE: usize = 64;
+/// From so many outputs on this is so for rows of [`WIDE_BYTES`] and more.
+const SOME_ROWS: usize = 24;
+
+/// In rows of so many bytes the lists are used often enough to pay for longer ones.
+const WIDE_BYTES: usize = 512;
 
 /// Outputs that are made of one table.
 const MOST_ROWS: usize = 128;
 
 /// A value at an address that 16 divides, as a number of 16 bytes beside it asks for that. A local
-/// array of vectors alone has none such: then one load in four crosses a line of the cache.
+/// array of bytes alone has none such: then more loads cross a line of the cache.
 #[derive(Drop)]
 struct Aligned<T> {
     value: T,
@@ -58,8 +64,8 @@ struct Coefficients<'a> {
 
 // The sum that the list from a place on tells, 64 columns of it.
 #[inline(always)]
-fn listed_sum(table: &[u8x64], lists: &[u8; 16384], at: usize, tiling: Tiling) -> u8x64
-    requires room { tiling.groups * tiling.entries ≤ length table.now }
+fn listed_sum(table: &[u8], lists: &[u8; 16384], at: usize, tiling: Tiling) -> u8x64
+    requires room { 64 * (tiling.groups * tiling.entries) ≤ length table.now }
     requires within { at + 128 ≤ 16384 }
     requires small { AreSmall lists.now tiling.entries }
     ensures { (t : ℕ) → t < 64
@@ -68,10 +74,10 @@ fn listed_sum(table: &[u8x64], lists: &[u8; 16384], at: usize, tiling: Tiling) -
     let mut sum = u8x64::splat(0);
     for b in 0..8usize {
         sum = double_lanes(sum);
-        let row = at + b * tiling.step;
+        let row = at + b * STEP;
         for q in 0..tiling.groups {
-            let entry = q * tiling.entries + usize::from(lists[row + q]);
-            sum = sum_lanes(sum, table[entry]);
+            let place = LANES * (q * tiling.entries) + 8 * usize::from(lists[row + q]);
+            sum = sum_lanes(sum, lanes_at(table, place));
         }
     }
     sum
@@ -82,53 +88,54 @@ fn listed_sum(table: &[u8x64], lists: &[u8; 16384], at: usize, tiling: Tiling) -
 fn add_listed(
     outputs: &mut [u8],
     rows: usize,
-    table: &[u8x64],
+    table: &[u8],
     lists: &[u8; 16384],
     tiling: Tiling,
     columns: Columns,
 )
     requires few_rows { rows ≤ 128 }
     requires room { rows * columns.width ≤ length outputs.old }
-    requires table { tiling.groups * tiling.entries ≤ length table.now }
+    requires table { 64 * (tiling.groups * tiling.entries) ≤ length table.now }
     requires small { AreSmall lists.now tiling.entries }
     ensures { IsAdded outputs.old outputs.new rows columns
         (tile_sum table.now lists.now tiling) }
 {
     let Columns { width, at, used } = columns;
     for r in 0..rows {
-        let v = listed_sum(table, lists, r * (8 * tiling.step), tiling);
+        let v = listed_sum(table, lists, r * LIST, tiling);
         add_lanes(outputs, r * width + at, used, v);
     }
 }
 
 // Adds the sums of one table to some columns of each row. A loop over numbers that are known is
 // laid out in full: those of whole tables, those of the few sources that levels of values have, and
-// those that 128 or 160 sources leave to the last table of groups of six.
+// those that 96, 160, 223 or 255 sources leave to the last table of groups of five.
 #[inline(always)]
 fn add_tile(
     outputs: &mut [u8],
     rows: usize,
-    table: &[u8x64],
+    table: &[u8],
     lists: &[u8; 16384],
     tiling: Tiling,
     columns: Columns,
 )
     requires few_rows { rows ≤ 128 }
     requires room { rows * columns.width ≤ length outputs.old }
-    requires table { tiling.groups * tiling.entries ≤ length table.now }
+    requires table { 64 * (tiling.groups * tiling.entries) ≤ length table.now }
     requires small { AreSmall lists.now tiling.entries }
     ensures { IsAdded outputs.old outputs.new rows columns
         (tile_sum table.now lists.now tiling) }
 {
-    match (tiling.groups, tiling.entries, tiling.step) {
-        (16, 16, 16) => add_listed(outputs, rows, table, lists, Tiling::fours(16), columns),
-        (8, 16, 16) => add_listed(outputs, rows, table, lists, Tiling::fours(8), columns),
-        (4, 16, 16) => add_listed(outputs, rows, table, lists, Tiling::fours(4), columns),
-        (3, 16, 16) => add_listed(outputs, rows, table, lists, Tiling::fours(3), columns),
-        (2, 16, 16) => add_listed(outputs, rows, table, lists, Tiling::fours(2), columns),
-        (8, 64, 8) => add_listed(outputs, rows, table, lists, Tiling::sixes(8), columns),
-        (6, 64, 8) => add_listed(outputs, rows, table, lists, Tiling::sixes(6), columns),
-        (3, 64, 8) => add_listed(outputs, rows, table, lists, Tiling::sixes(3), columns),
+    match (tiling.groups, tiling.entries) {
+        (16, 16) => add_listed(outputs, rows, table, lists, Tiling::fours(16), columns),
+        (8, 16) => add_listed(outputs, rows, table, lists, Tiling::fours(8), columns),
+        (4, 16) => add_listed(outputs, rows, table, lists, Tiling::fours(4), columns),
+        (3, 16) => add_listed(outputs, rows, table, lists, Tiling::fours(3), columns),
+        (2, 16) => add_listed(outputs, rows, table, lists, Tiling::fours(2), columns),
+        (13, 32) => add_listed(outputs, rows, table, lists, Tiling::fives(13), columns),
+        (12, 32) => add_listed(outputs, rows, table, lists, Tiling::fives(12), columns),
+        (7, 32) => add_listed(outputs, rows, table, lists, Tiling::fives(7), columns),
+        (6, 32) => add_listed(outputs, rows, table, lists, Tiling::fives(6), columns),
         _ => add_listed(outputs, rows, table, lists, tiling, columns),
     }
 }
@@ -140,12 +147,12 @@ fn add_table(
     coefficients: &Coefficients<'_>,
     first: usize,
     sources: &Sources<'_>,
-    table: &mut [u8x64],
+    table: &mut [u8],
     tiling: Tiling,
 )
     requires few_rows { coefficients.now.rows ≤ 128 }
     requires enough { sources.now.count ≤ tiling.size * tiling.groups }
-    requires table { tiling.groups * tiling.entries ≤ length table.old }
+    requires table { 64 * (tiling.groups * tiling.entries) ≤ length table.old }
     requires inside { first + sources.now.count ≤ coefficients.now.count }
     requires room { coefficients.now.rows * sources.now.width ≤ length outputs.old }
     ensures sums { (r j : ℕ) → r < coefficients.now.rows → j < sources.now.width
@@ -162,14 +169,7 @@ fn add_table(
     let mut lists = [0u8; 16384];
     for r in 0..rows {
         let row = r * count + first;
-        write_list(
-            &mut lists,
-            r * (8 * tiling.step),
-            bytes,
-            row,
-            sources.count,
-            tiling,
-        );
+        write_list(&mut lists, r * LIST, bytes, row, tiling);
     }
     for t in 0..width.div_ceil(LANES) {
         let at = LANES * t;
@@ -187,11 +187,11 @@ fn add_rows(
     coefficients: &Coefficients<'_>,
     first: usize,
     sources: &Sources<'_>,
-    table: &mut [u8x64],
+    table: &mut [u8],
     tiling: Tiling,
 )
     requires enough { sources.now.count ≤ tiling.size * tiling.groups }
-    requires table { tiling.groups * tiling.entries ≤ length table.old }
+    requires table { 64 * (tiling.groups * tiling.entries) ≤ length table.old }
     requires inside { first + sources.now.count ≤ coefficients.now.count }
     requires room { length outputs.old ≡ coefficients.now.rows * sources.now.width }
     ensures { (r j : ℕ) → r < coefficients.now.rows → j < sources.now.width
@@ -228,12 +228,12 @@ fn add_by_groups(
     outputs: &mut [u8],
     coefficients: &Coefficients<'_>,
     sources: &Sources<'_>,
-    table: &mut [u8x64],
+    table: &mut [u8],
     tiling: Tiling,
 )
     requires some { 0 < tiling.groups }
     requires one { 0 < tiling.size }
-    requires table { tiling.groups * tiling.entries ≤ length table.old }
+    requires table { 64 * (tiling.groups * tiling.entries) ≤ length table.old }
     requires count { sources.now.count ≡ coefficients.now.count }
     requires outputs { length outputs.old ≡ coefficients.now.rows * sources.now.width }
     ensures { (r j : ℕ) → r < coefficients.now.rows → j < sources.now.width
@@ -261,8 +261,18 @@ fn add_by_groups(
     }
 }
 
-// Adds to each row the products of its coefficients and all sources, by tables of sums: of six
-// sources each where many outputs share a table, and groups of four would need more than one.
+// Whether groups of four are to be taken for such coefficients, and not of five.
+fn takes_fours(coefficients: &Coefficients<'_>, width: usize) -> bool {
+    let least = if width < WIDE_BYTES {
+        MANY_ROWS
+    } else {
+        SOME_ROWS
+    };
+    coefficients.rows < least || coefficients.count <= FEW_SOURCES
+}
+
+// Adds to each row the products of its coefficients and all sources, by tables of sums: of five
+// sources each where many outputs share a table of many sources.
 fn add_by_tables(outputs: &mut [u8], coefficients: &Coefficients<'_>, sources: &Sources<'_>)
     requires count { sources.now.count ≡ coefficients.now.count }
     requires outputs { length outputs.old ≡ coefficients.now.rows * sources.now.width }
@@ -273,13 +283,13 @@ fn add_by_tables(outputs: &mut [u8], coefficients: &Coefficients<'_>, sources: &
         (slice_index coefficients.now.bytes.now (r * coefficients.now.count + i))
         (source_byte sources.now i j))) }
 {
-    if coefficients.rows < MANY_ROWS || coefficients.count <= ONE_TABLE {
-        let mut table = Aligned::new([u8x64::splat(0); 256]);
+    if takes_fours(coefficients, sources.width) {
+        let mut table = Aligned::new([0u8; 16384]);
         let tiling = Tiling::fours(16);
         add_by_groups(outputs, coefficients, sources, &mut table.value, tiling);
     } else {
-        let mut table = Aligned::new([u8x64::splat(0); 512]);
-        let tiling = Tiling::sixes(8);
+        let mut table = Aligned::new([0u8; 26624]);
+        let tiling = Tiling::fives(13);
         add_by_groups(outputs, coefficients, sources, &mut table.value, tiling);
     }
 }

@@ -1,30 +1,33 @@
-//! The sums of every choice of a group's sources.
+//! The sums of every choice of a group's sources, 64 bytes each.
 ghost use Rattle.std.specs.Prelude.{◌≡◌, ℕ, ◌<◌, ◌≤◌, ◌+◌, ◌*◌, length, slice_index};
 ghost use Rattle.gf256.specs.Arithmetic.{sum_of};
-ghost use Rattle.gf256.specs.Slices.{choice_sum, below, lane, source_byte, IsFilled};
+ghost use Rattle.gf256.specs.Slices.{choice_sum, below, entry_byte, source_byte, IsFilled};
 
-use crate::lanes::sum_lanes;
+use crate::lanes::{LANES, lanes_at, put_lanes, sum_lanes};
 use crate::sources::Sources;
 use crate::tiling::Tiling;
 use std::simd::prelude::*;
 
 // The entries from a place on once more behind themselves, each with a source added.
 #[inline(always)]
-fn put_with(table: &mut [u8x64], at: usize, have: usize, v: u8x64)
-    requires { at + (have + have) ≤ length table.old }
+fn put_with(table: &mut [u8], at: usize, have: usize, v: u8x64)
+    requires { 64 * (at + (have + have)) ≤ length table.old }
     ensures with { (p t : ℕ) → p < have → t < 64
-        → lane table.new (at + have + p) t ≡ sum_of (lane table.old (at + p) t) (slice_index v t) }
-    ensures below { (p t : ℕ) → p < at + have → lane table.new p t ≡ lane table.old p t }
+        → entry_byte table.new (at + have + p) t
+        ≡ sum_of (entry_byte table.old (at + p) t) (slice_index v t) }
+    ensures below { (p t : ℕ) → p < at + have → t < 64
+        → entry_byte table.new p t ≡ entry_byte table.old p t }
 {
     for p in 0..have {
-        table[at + have + p] = sum_lanes(table[at + p], v);
+        let sum = sum_lanes(lanes_at(table, LANES * (at + p)), v);
+        put_lanes(table, LANES * (at + have + p), sum);
     }
 }
 
 // The sums of every choice of the sources of group `q`, in the entries from a place on.
 #[inline(always)]
 fn put_sums(
-    table: &mut [u8x64],
+    table: &mut [u8],
     place: usize,
     sources: &Sources<'_>,
     tiling: Tiling,
@@ -33,14 +36,15 @@ fn put_sums(
 )
     requires columns { at ≤ sources.now.width }
     requires inside { q < tiling.groups }
-    requires room { place + tiling.entries ≤ length table.old }
+    requires room { 64 * (place + tiling.entries) ≤ length table.old }
     ensures sums { (p t : ℕ) → p < tiling.entries → t < 64
-        → lane table.new (place + p) t ≡ choice_sum tiling.size p (λ x.
+        → entry_byte table.new (place + p) t ≡ choice_sum tiling.size p (λ x.
         below sources.now.count (q + x * tiling.groups)
         (source_byte sources.now (q + x * tiling.groups) (at + t))) }
-    ensures below { (p t : ℕ) → p < place → lane table.new p t ≡ lane table.old p t }
+    ensures below { (p t : ℕ) → p < place → t < 64
+        → entry_byte table.new p t ≡ entry_byte table.old p t }
 {
-    table[place] = u8x64::splat(0);
+    put_lanes(table, LANES * place, u8x64::splat(0));
     let mut have = 1;
     for x in 0..tiling.size {
         let v = sources.lanes(q + x * tiling.groups, at);
@@ -49,15 +53,31 @@ fn put_sums(
     }
 }
 
-/// Fills a table with the sums of each group, of the 64 columns from one on.
+// The sums of each group.
 #[inline(always)]
-pub(crate) fn fill_table(table: &mut [u8x64], sources: &Sources<'_>, tiling: Tiling, at: usize)
+fn put_groups(table: &mut [u8], sources: &Sources<'_>, tiling: Tiling, at: usize)
     requires columns { at ≤ sources.now.width }
-    requires room { tiling.groups * tiling.entries ≤ length table.old }
+    requires room { 64 * (tiling.groups * tiling.entries) ≤ length table.old }
     ensures filled { IsFilled table.new sources.now tiling at tiling.groups }
     ensures length { length table.new ≡ length table.old }
 {
     for q in 0..tiling.groups {
         put_sums(table, q * tiling.entries, sources, tiling, q, at);
+    }
+}
+
+/// Fills a table with the sums of each group, of the 64 columns from one on. The loops over the
+/// sources and the sums of a group are laid out in full where their numbers are known.
+#[inline(always)]
+pub(crate) fn fill_table(table: &mut [u8], sources: &Sources<'_>, tiling: Tiling, at: usize)
+    requires columns { at ≤ sources.now.width }
+    requires room { 64 * (tiling.groups * tiling.entries) ≤ length table.old }
+    ensures filled { IsFilled table.new sources.now tiling at tiling.groups }
+    ensures length { length table.new ≡ length table.old }
+{
+    match (tiling.size, tiling.entries) {
+        (4, 16) => put_groups(table, sources, Tiling::fours(tiling.groups), at),
+        (5, 32) => put_groups(table, sources, Tiling::fives(tiling.groups), at),
+        _ => put_groups(table, sources, tiling, at),
     }
 }

@@ -1,18 +1,21 @@
 //! How sources and columns are taken together.
 ghost use Rattle.std.specs.Prelude.{◌≡◌, ◌≤◌, ◌+◌, ◌^◌};
 
+/// The numbers that a list has for each bit of its coefficients, a group's in each of the first.
+pub(crate) const STEP: usize = 16;
+
+/// The numbers of a list, for 8 bits.
+pub(crate) const LIST: usize = 128;
+
 /// How the sources of one table are grouped. Source `q + x * groups` is number `x` of group `q`. A
-/// group has `size` sources, and the table `entries` sums of it, one for each choice of them. A
-/// list has `step` numbers for each bit of its coefficients, a group's in each of the first.
+/// group has `size` sources, and the table `entries` sums of it, one for each choice of them.
 #[derive(Clone, Copy)]
 pub(crate) struct Tiling {
     pub(crate) groups: usize,
     pub(crate) size: usize,
     pub(crate) entries: usize,
-    pub(crate) step: usize,
-    ghost few: { groups ≤ step },
-    ghost near: { step ≤ 16 },
-    ghost small: { size ≤ 6 },
+    ghost few: { groups ≤ 16 },
+    ghost small: { size ≤ 5 },
     ghost all: { entries ≡ 2 ^ size },
 }
 
@@ -24,30 +27,26 @@ impl Tiling {
         ensures groups { result.groups ≡ groups }
         ensures size { result.size ≡ 4 }
         ensures entries { result.entries ≡ 16 }
-        ensures step { result.step ≡ 16 }
     {
         Tiling {
             groups,
             size: 4,
             entries: 16,
-            step: 16,
         }
     }
 
-    /// Groups of six.
+    /// Groups of five.
     #[inline(always)]
-    pub(crate) fn sixes(groups: usize) -> Tiling
-        requires { groups ≤ 8 }
+    pub(crate) fn fives(groups: usize) -> Tiling
+        requires { groups ≤ 16 }
         ensures groups { result.groups ≡ groups }
-        ensures size { result.size ≡ 6 }
-        ensures entries { result.entries ≡ 64 }
-        ensures step { result.step ≡ 8 }
+        ensures size { result.size ≡ 5 }
+        ensures entries { result.entries ≡ 32 }
     {
         Tiling {
             groups,
-            size: 6,
-            entries: 64,
-            step: 8,
+            size: 5,
+            entries: 32,
         }
     }
 
@@ -58,13 +57,11 @@ impl Tiling {
         ensures groups { result.groups ≡ groups }
         ensures size { result.size ≡ self.size }
         ensures entries { result.entries ≡ self.entries }
-        ensures step { result.step ≡ self.step }
     {
         Tiling {
             groups,
             size: self.size,
             entries: self.entries,
-            step: self.step,
         }
     }
 }

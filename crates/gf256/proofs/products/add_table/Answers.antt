@@ -1,19 +1,19 @@
-use Rattle.std.proofs.Common.{ℕ, ◌≡◌, ◌<◌, ◌+◌, ◌-◌, ◌*◌, replicate, get_or, bit_xor, ap, sym, ◌∙◌, inl, inr, arith}
+use Rattle.std.proofs.Common.{ℕ, ◌≡◌, ◌<◌, ◌+◌, ◌≤◌, ◌-◌, ◌*◌, replicate, get_or, bit_xor, ap, sym, ◌∙◌, inl, inr, arith}
 use Rattle.std.proofs.lemmas.Bool.{cases_lt}
 use Rattle.std.proofs.lemmas.List.{get_or_past}
 use Rattle.std.proofs.lemmas.Simd.{get_or-replicate, length-replicate}
 use Rattle.gf256.specs.Arithmetic.{product}
 use Rattle.std.proofs.lemmas.Nat.{pow_pos}
-use Rattle.gf256.specs.Slices.{bit, tile_sum, source_byte}
+use Rattle.gf256.specs.Slices.{tile_sum, source_byte}
+use Rattle.gf256.proofs.Bits.{eightfold_same}
 use Rattle.gf256.proofs.Tiles.{tile_value}
-use Rattle.gf256.proofs.RowPlaces.{row_ends}
 use Rattle.gf256.proofs.SliceSums.{sum_same}
 use Rattle.gf256.proofs.products.add_table.Goals as goal
 
-zero_small : (limit k : ℕ) → 0 < limit → k ≡ 0 → k < limit
+zero_small : (limit k : ℕ) → 0 < limit → k ≡ 0 → k + 8 ≤ 8 * limit
 zero_small limit k h e = omega arith
 
-zeros_small : (limit n i : ℕ) → 0 < limit → get_or (replicate {A = ℕ} n 0) i 0 < limit
+zeros_small : (limit n i : ℕ) → 0 < limit → get_or (replicate {A = ℕ} n 0) i 0 + 8 ≤ 8 * limit
 zeros_small limit n i h = elim (cases_lt i n) [
   | inl l ↦ zero_small limit _ h (get_or-replicate {A = ℕ} n i 0 0 l)
   | inr g ↦ zero_small limit _ h (get_or_past (replicate {A = ℕ} n 0) i 0 (omega (arith, length-replicate {A = ℕ} n 0)))
@@ -25,10 +25,7 @@ loop-r-init c = ((λ r lr. absurd (omega arith)), (λ i. zeros_small c.args.tili
 pub loop-r-preserved : goal.loop-r-preserved
 loop-r-preserved c = (
   (λ r lr. elim (cases_lt r c.loop-r.r) [
-    | inl l ↦ λ b q x lb lq lx.
-        let list = row_ends r c.loop-r.r (8 * c.args.tiling.step) l in
-        let ends = row_ends b 8 c.args.tiling.step lb in
-        ap (bit x) (c.write_list.ensures.below (r * (8 * c.args.tiling.step) + b * c.args.tiling.step + q) (omega arith)) ∙ c.loop-r.invariant.0 r l b q x lb lq lx
+    | inl l ↦ λ b q lb lq. eightfold_same _ _ _ _ (c.write_list.ensures.below (r * 128 + b * 16 + q) (omega arith)) (c.loop-r.invariant.0 r l b q lb lq)
     | inr g ↦ let e : r ≡ c.loop-r.r = omega arith in rw e c.write_list.ensures.list
   ]),
   (λ i. let small = c.write_list.ensures.small (λ j. let old = c.loop-r.invariant.1 j in omega arith) i in omega arith),

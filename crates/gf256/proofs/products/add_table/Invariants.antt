@@ -5,7 +5,7 @@ use Rattle.gf256.specs.Slices.{IsList, AreSmall, source_byte}
 use Rattle.gf256.proofs.products.add_table.Given as goal
 
 abbrev pub invariant-loop-r : goal.invariant-loop-r
-invariant-loop-r l = ((r : ℕ) → r < l.r → IsList l.lists (r * (8 * l.tiling.step)) l.bytes (r * l.count + l.first) l.sources.count l.tiling 8) × AreSmall l.lists l.tiling.entries
+invariant-loop-r l = ((r : ℕ) → r < l.r → IsList l.lists (r * 128) l.bytes (r * l.count + l.first) l.tiling 8) × AreSmall l.lists l.tiling.entries
 
 abbrev pub invariant-loop-t : goal.invariant-loop-t
 invariant-loop-t l = record {

@@ -1,10 +1,10 @@
 use Rattle.std.proofs.Common.{◌≡◌, ℕ, ◌<◌, ◌+◌, ◌*◌, ◌^◌}
-use Rattle.gf256.specs.Slices.{lane, choice_sum, below, source_byte}
+use Rattle.gf256.specs.Slices.{entry_byte, choice_sum, below, source_byte}
 use Rattle.gf256.proofs.table.put_sums.Given as goal
 
 abbrev pub invariant-loop-x : goal.invariant-loop-x
 invariant-loop-x l = record {
   power : l.have ≡ 2 ^ l.x;
-  sums : (p t : ℕ) → p < 2 ^ l.x → t < 64 → lane l.table (l.place + p) t ≡ choice_sum l.x p (λ x. below l.sources.count (l.q + x * l.tiling.groups) (source_byte l.sources (l.q + x * l.tiling.groups) (l.at + t)));
-  below : (p t : ℕ) → p < l.place → lane l.table p t ≡ lane l.fn.table p t;
+  sums : (p t : ℕ) → p < 2 ^ l.x → t < 64 → entry_byte l.table (l.place + p) t ≡ choice_sum l.x p (λ x. below l.sources.count (l.q + x * l.tiling.groups) (source_byte l.sources (l.q + x * l.tiling.groups) (l.at + t)));
+  below : (p t : ℕ) → p < l.place → t < 64 → entry_byte l.table p t ≡ entry_byte l.fn.table p t;
 }
