@@ -35,3 +35,4 @@ pub mod Indexed
 pub mod FromFile
 pub mod BelowEsi
 mod Placed
+pub mod Refuted

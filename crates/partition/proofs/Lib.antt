@@ -1,3 +1,4 @@
 pub mod Laws
 pub mod Faults
 pub mod Vectors
+pub mod Kept

@@ -17,6 +17,7 @@ ghost use Rattle.partition.specs.Fti.{fti_from, IsValidFti};
 mod order;
 
 pub use order::Order;
+use std::fmt;
 use std::marker::Model;
 use thiserror::Error;
 
@@ -45,30 +46,64 @@ pub enum FtiError {
 }
 
 /// A valid FTI, compared by its four numbers. Contracts see these, and that they are valid.
-#[derive(Debug, Clone, Copy, PartialEq, Eq)]
+#[derive(Clone, Copy)]
+#[derive_where(PartialEq, Eq)]
 pub struct Fti {
     transfer_length: u64,
     symbol_length: u16,
     block_length: u8,
     max_symbols: u8,
+    // The rest is what these determine of the partition. It is kept, so that a look at a packet
+    // divides nothing.
+    //
+    // N: how many source blocks there are.
+    #[derive_where(skip)]
+    blocks: u32,
+    // I: how many of them, the first ones, have one source symbol more than the others.
+    #[derive_where(skip)]
+    large: u32,
+    // How many source symbols each of the others has.
+    #[derive_where(skip)]
+    small: u8,
 }
 
 impl Model for Fti {
-    ghost use Rattle.partition.specs.Fti.{Fti as FtiValue, IsValidFti, fti_from};
+    ghost use Rattle.std.specs.Prelude.{◌/◌, refl};
+    ghost use Rattle.partition.specs.Fti.{Fti as FtiValue, fti_from};
+    ghost use Rattle.partition.specs.Fti.{symbol_count, block_count, large_blocks};
+    ghost use Rattle.partition.specs.Kept.{IsKept};
 
     ghost Value = { FtiValue };
 
     ghost view = { λ f. fti_from f.transfer_length f.symbol_length f.block_length f.max_symbols };
 
-    ghost invariant = { λ f.
-        IsValidFti (fti_from f.transfer_length f.symbol_length f.block_length f.max_symbols) };
+    ghost invariant = { λ f. IsKept
+        (fti_from f.transfer_length f.symbol_length f.block_length f.max_symbols)
+        f.blocks f.large f.small };
 
     ghost inverse = { λ v. record {
       transfer_length = v.transfer_length;
       symbol_length = v.symbol_length;
       block_length = v.block_length;
       max_symbols = v.max_symbols;
+      blocks = block_count v;
+      large = large_blocks v;
+      small = symbol_count v / block_count v;
     } };
+
+    ghost inverse_ok = { λ f kept. rw (kept.blocks_are, kept.large_are, kept.small_is) refl };
+}
+
+// As a derive shows the four numbers: what is kept beside them isn't shown.
+impl fmt::Debug for Fti {
+    fn fmt<W: fmt::Write>(&self, f: &mut fmt::Formatter<W>) -> fmt::Result {
+        f.debug_struct("Fti")
+            .field("transfer_length", &self.transfer_length)
+            .field("symbol_length", &self.symbol_length)
+            .field("block_length", &self.block_length)
+            .field("max_symbols", &self.max_symbols)
+            .finish()
+    }
 }
 
 impl Fti {
@@ -106,11 +141,17 @@ impl Fti {
         if blocks > 1 << 24 {
             return Err(FtiError::TooManyBlocks);
         }
+        // At most 2^24 blocks of at most 255 source symbols have fewer than 2^32. Numbers of 32
+        // bits are divided faster than those of 64.
+        let (symbols, blocks) = (symbols as u32, blocks as u32);
         Ok(Fti {
             transfer_length: l,
             symbol_length: e,
             block_length: b,
             max_symbols: max_n,
+            blocks,
+            large: symbols % blocks,
+            small: (symbols / blocks) as u8,
         })
     }
 
@@ -154,18 +195,18 @@ impl Fti {
     }
 
     /// T: how many source symbols the object has, at least one.
-    #[tactic(auto, using(crate::proofs::Laws::symbols_are, crate::proofs::Laws::some_symbol, crate::proofs::Laws::symbols_few))]
+    #[tactic(auto, using(crate::proofs::Kept::kept_symbols, crate::proofs::Laws::some_symbol, crate::proofs::Laws::symbols_few))]
     pub fn symbol_count(&self) -> u64
         ensures value { result ≡ symbol_count self.now }
         ensures some { 1 ≤ result }
         ensures few { result ≤ self.now.transfer_length }
     {
-        self.transfer_length.div_ceil(u64::from(self.symbol_length))
+        u64::from(self.blocks) * u64::from(self.small) + u64::from(self.large)
     }
 
     /// N: how many source blocks the object has, at least one and at most 2^24. They share its
     /// source symbols.
-    #[tactic(auto, using(crate::proofs::Laws::blocks_are, crate::proofs::Laws::some_block, crate::proofs::Laws::start_end))]
+    #[tactic(auto, using(crate::proofs::Kept::kept_some, crate::proofs::Laws::start_end))]
     pub fn block_count(&self) -> u32
         ensures value { result ≡ block_count self.now }
         ensures some { 1 ≤ result }
@@ -174,19 +215,17 @@ impl Fti {
         ensures whole { start_of self.now result ≡ symbol_count self.now }
         ensures valid { IsValidFti self.now }
     {
-        self.symbol_count().div_ceil(u64::from(self.block_length)) as u32
+        self.blocks
     }
 
     // The source symbols of a small block, and how many blocks, the first ones, have one more.
     #[tactic(auto, using(crate::proofs::Laws::large_is, crate::proofs::Laws::large_count, crate::proofs::Laws::other_count, crate::proofs::Laws::start_is))]
-    fn shares(&self) -> (u64, u64)
+    fn shares(&self) -> (usize, u32)
         ensures large { (b : ℕ) → b < result.1 → source_count self.now b ≡ result.0 + 1 }
         ensures small { (b : ℕ) → result.1 ≤ b → source_count self.now b ≡ result.0 }
         ensures start { (b : ℕ) → start_of self.now b ≡ b * result.0 + min b result.1 }
     {
-        let symbols = self.symbol_count();
-        let blocks = u64::from(self.block_count());
-        (symbols / blocks, symbols % blocks)
+        (usize::from(self.small), self.large)
     }
 
     /// k: how many source symbols block `b`, which is below N, has: at least one and at most B.
@@ -200,11 +239,15 @@ impl Fti {
     {
         self.is_valid();
         let (small, large) = self.shares();
-        if u64::from(b) < large {
-            small as usize + 1
-        } else {
-            small as usize
-        }
+        if b < large { small + 1 } else { small }
+    }
+
+    // k * max_symbols. A B-th of it, rounded down, is n.
+    fn product(&self, b: u32) -> u32
+        requires { b < block_count self.now }
+        ensures { result ≡ source_count self.now b * self.now.max_symbols }
+    {
+        self.k(b) as u32 * u32::from(self.max_symbols)
     }
 
     /// n: how many encoding symbols block `b`, which is below N, has, its source symbols among them
@@ -217,15 +260,19 @@ impl Fti {
         ensures most { result ≤ self.now.max_symbols }
         ensures byte { result ≤ 255 }
     {
-        self.k(b) * usize::from(self.max_symbols) / usize::from(self.block_length)
+        (self.product(b) / u32::from(self.block_length)) as usize
     }
 
     /// Whether the object has source block `b`, and the block the encoding symbol with this ESI.
     /// Any two numbers may be given.
+    #[tactic(auto, using(crate::proofs::Kept::has_multiplied))]
     pub fn has(&self, b: u32, esi: u8) -> bool
         ensures { result ≡ has_symbol self.now b esi }
     {
-        b < self.block_count() && usize::from(esi) < self.n(b)
+        // The ESI is below n where ESI + 1 is at most a B-th of the product. Multiplied by B, this
+        // takes no division.
+        b < self.block_count()
+            && (u32::from(esi) + 1) * u32::from(self.block_length) <= self.product(b)
     }
 
     /// How many source symbols the blocks before `b` have, and so the place of the first one of
@@ -238,8 +285,7 @@ impl Fti {
     {
         self.is_valid();
         let (small, large) = self.shares();
-        let before = u64::from(b);
-        before * small + before.min(large)
+        u64::from(b) * small as u64 + u64::from(b.min(large))
     }
 
     /// How many bytes of the object are those of block `b`, which is below N: fewer than those of its
