@@ -1,6 +1,6 @@
 //! Symbols that are read again where their packets stand in a session file.
-ghost use Rattle.std.specs.Prelude.{◌≡◌, ◌≤◌, ◌+◌, ℕ, List, Some, length, is_some, IfOk, OnOk, false};
-ghost use Rattle.std.specs.Prelude.{IfErr, IfSome, IsNone};
+ghost use Rattle.std.specs.Prelude.{◌≡◌, ◌≤◌, ◌+◌, ℕ, List, Some, length, is_some, false};
+ghost use Rattle.std.specs.Prelude.{IfOk, IfErr, OnOk, IfSome, IsNone};
 ghost use Rattle.partition.specs.Fti.{Fti as FtiValue};
 ghost use Rattle.decoder.specs.Arrivals.{arrived_at};
 ghost use Rattle.decoder.specs.Blocks.{HaveLength};

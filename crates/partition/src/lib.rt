@@ -288,8 +288,8 @@ impl Fti {
         u64::from(b) * small as u64 + u64::from(b.min(large))
     }
 
-    /// How many bytes of the object are those of block `b`, which is below N: fewer than those of its
-    /// source symbols in the last block, where its last symbol is padded.
+    /// How many bytes of the object are those of block `b`, which is below N: fewer than those of
+    /// its source symbols in the last block, where its last symbol is padded.
     #[tactic(auto, using(crate::proofs::Laws::begins_within))]
     pub fn block_bytes(&self, b: u32) -> usize
         requires { b < block_count self.now }
