@@ -421,7 +421,7 @@ module _ (groups : List Group) (ps : List ℕ) where
           (subst (λ (g : Group). IsLeastGap g.members g.need burst) (sym (at_group narrow.at narrow.within)) narrow.is)
           (λ b l. wide_same (with_carriers groups ps) (length groups) burst (span ps) few wide_with gap_last b (let c = count_with in omega (arith, l, c)))
 
-      pub burst_carriers : span ps < burst → IsBurst (blocks_of_groups groups ps) (places 0 n) (span ps)
+      pub burst_carriers : span ps ≤ burst → IsBurst (blocks_of_groups groups ps) (places 0 n) (span ps)
       burst_carriers few =
           burst_of_all (length groups) (span ps) (let c = count_with in omega (arith, c)) gap_last
           (λ b l. wide_new (with_carriers groups ps) (length groups) burst (span ps) few wide_with gap_last b (let c = count_with in omega (arith, l, c)))

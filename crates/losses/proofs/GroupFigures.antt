@@ -196,7 +196,7 @@ module _ (groups : List Group) (n : ℕ) where
       last_or (λ b. IsHeavyGroup b (group_at groups b) price at) n h
       (record { t = t2; last = last2; price = price2; weighed = w; low = l; early = λ z. absurd (omega (arith, z, a)) })
 
-  pub wide_new : (burst gap : ℕ) → gap < burst → ((b : ℕ) → b < n → IsWideGroup (group_at groups b) burst)
+  pub wide_new : (burst gap : ℕ) → gap ≤ burst → ((b : ℕ) → b < n → IsWideGroup (group_at groups b) burst)
       → IsLeastGap (group_at groups n).members (group_at groups n).need gap → (b : ℕ) → b < n + 1 → IsWideGroup (group_at groups b) gap
   wide_new burst gap l h g =
       last_or (λ b. IsWideGroup (group_at groups b) gap) n

@@ -24,3 +24,4 @@ pub mod CarrierPlaces
 pub mod Ordering
 pub mod Starts
 pub mod LongestRuns
+pub mod FirstBurst

@@ -17,7 +17,7 @@ use Rattle.losses.proofs.Starts.{window_places}
 
 module _ (groups : List Group) (carriers : List ℕ) (n : ℕ) (are : AreOrdered groups n) (came : AreOrderedCarriers carriers n) where
   -- a run that has those places leaves the group short, or takes all carriers
-  lacks : (a e s m : ℕ) (o : Option ℕ) → AreShort groups carriers a e o → s ≤ a → e < s + m → Lacks (blocks_of_groups groups carriers) (rest (is_run s m) (places 0 n)) o
+  pub lacks : (a e s m : ℕ) (o : Option ℕ) → AreShort groups carriers a e o → s ≤ a → e < s + m → Lacks (blocks_of_groups groups carriers) (rest (is_run s m) (places 0 n)) o
   lacks a e s m None h l g = run_takes n carriers came s m (let f = h.0 in omega (arith, f, l)) (let f = h.1 in omega (arith, f, g))
   lacks a e s m (Some b) h l g =
       let w = h.1 in

@@ -6,7 +6,7 @@ use Rattle.lists.specs.Selection.{rest, loss_size, lost_from, is_run, is_among}
 use Rattle.lists.specs.Below.{below}
 use Rattle.losses.specs.Losses.{Blocks, esis_in, is_enough, carrier_places, IsHarmless, IsMargin, IsBurst, IsBefore, taken_wholly, LeavesShort, KillsBlock, IsKill}
 use Rattle.losses.specs.declared.longest.Run.{Run}
-use Rattle.losses.specs.Runs.{Lacks, IsRunFrom, run_at, AreRuns}
+use Rattle.losses.specs.Runs.{Lacks, IsLongestRun, IsFirstBurst, IsRunFrom, run_at, AreRuns}
 use Rattle.losses.proofs.BlockLosses.{KeepsBlocks, IsBlockMargin, IsBlockBurst, IsBlockKill}
 use Rattle.lists.proofs.Lists.{filter_same, all_of, all_to}
 
@@ -130,13 +130,36 @@ module _ {X Y : Type 0} (these : Blocks X) (those : Blocks Y) (xs : List X) (ys 
     lacks_same lost None h = carrier lost ∙ h
     lacks_same lost (Some b) h = (let l = h.0 in omega (arith, l, count), enough_same lost b h.0 ∙ h.1)
 
-    run_same : (s : ℕ) (o : Option Run) → IsRunFrom these xs s o → IsRunFrom those ys s o
-    run_same s None h = λ m l. harmless_to (is_run s m) (h m (omega (arith, l, len)))
-    run_same s (Some run) h = record {
+    lacks_from : (lost : ℕ → Bool) (o : Option ℕ) → Lacks those (rest lost ys) o → Lacks these (rest lost xs) o
+    lacks_from lost None h = sym (carrier lost) ∙ h
+    lacks_from lost (Some b) h =
+        let l = h.0 in
+        let here : b < these.count = omega (arith, l, count) in
+        (here, sym (enough_same lost b here) ∙ h.1)
+
+    longest_same : (s : ℕ) (run : Run) → IsLongestRun these xs s run → IsLongestRun those ys s run
+    longest_same s run h = record {
       within = (let w = h.within in omega (arith, w, len));
       harmless = harmless_to (is_run s run.length) h.harmless;
       lacks = lacks_same (is_run s (run.length + 1)) run.block h.lacks;
     }
+
+    longest_from : (s : ℕ) (run : Run) → IsLongestRun those ys s run → IsLongestRun these xs s run
+    longest_from s run h = record {
+      within = (let w = h.within in omega (arith, w, len));
+      harmless = harmless_from (is_run s run.length) h.harmless;
+      lacks = lacks_from (is_run s (run.length + 1)) run.block h.lacks;
+    }
+
+    pub first_burst_same : (size place : ℕ) (o : Option ℕ) → IsFirstBurst these xs size place o → IsFirstBurst those ys size place o
+    first_burst_same size place o h = record {
+      run = longest_same place (record { length = size; block = o }) h.run;
+      first = λ p other l r. h.first p other l (longest_from p other r);
+    }
+
+    run_same : (s : ℕ) (o : Option Run) → IsRunFrom these xs s o → IsRunFrom those ys s o
+    run_same s None h = λ m l. harmless_to (is_run s m) (h m (omega (arith, l, len)))
+    run_same s (Some run) h = longest_same s run h
 
     pub runs_same : (runs : List (Option Run)) → AreRuns these xs runs → AreRuns those ys runs
     runs_same runs h = record {

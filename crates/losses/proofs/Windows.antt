@@ -6,16 +6,19 @@ use Rattle.std.proofs.lemmas.Bool.{lt-ltb, le-ltb, ltb-true, ltb-false, eqb-true
 use Rattle.losses.proofs.Filled.{same_count}
 use Rattle.losses.proofs.Runs.{filter_fewer}
 use Rattle.losses.specs.Members.{different_outside, has_esi, outside}
+use Rattle.losses.specs.Starts.{IsFirstGap}
 use Rattle.losses.specs.Windows.{ArePlaced, IsLeastGap, IsShortWindow, filled, member, place_at}
 use Rattle.lists.specs.Below.{below}
 use Rattle.losses.specs.declared.groups.Member.{Member}
 
--- a short window of that size
-pub record IsFound (qs : List Member) (k gap : ℕ) : Type 0 where
+-- a short window of that size, and all that start before it go further
+pub record IsFound (qs : List Member) (k place gap : ℕ) : Type 0 where
   pub start : ℕ
   pub end : ℕ
   pub is : IsShortWindow qs k start end
+  pub from : place_at qs start ≡ place
   pub size : place_at qs start + gap ≡ place_at qs (end - 1)
+  pub wider : (x y : ℕ) → x < start → IsShortWindow qs k x y → place_at qs x + gap < place_at qs (y - 1)
 
 count_take_le : (p : Member → Bool) (x y : ℕ) (qs : List Member) → x ≤ y → count_by p (take x qs) ≤ count_by p (take y qs)
 count_take_le p zero y qs l = omega arith
@@ -195,48 +198,73 @@ module _ (qs : List Member) (k : ℕ) (placed : ArePlaced qs) (enough : k ≤ di
             ] refl)
       ] refl
 
+  -- it is the first of its size
+  found_first : (place gap : ℕ) → IsFound qs k place gap → IsFirstGap qs k place gap
+  found_first place gap w =
+      let f = w.from in
+      let z = w.size in
+      record {
+        window = record { start = w.start; end = w.end; is = w.is; from = omega (arith, f); to = omega (arith, f, z) };
+        first = λ x y h g.
+            elim (nat_lt x w.start) as (λ v. nat_lt x w.start ≡ v → place ≤ place_at qs x) [
+              | true ↦ λ e. (let l = w.wider x y (ltb-true x w.start e) h in absurd (omega (arith, l, g)))
+              | false ↦ λ e.
+                  (let l = ltb-false x w.start e in
+                  let s = h.some in
+                  let t = h.within in
+                  let p = place_le w.start x l (omega (arith, s, t)) in
+                  omega (arith, p, f))
+            ] refl;
+      }
+
   -- no window starts later
-  pub done_early : (start least : ℕ) → 0 < k → k ≤ different_outside qs start (length qs)
+  pub done_early : (start place least : ℕ) → 0 < k → k ≤ different_outside qs start (length qs)
       → ((x y : ℕ) → x < start → IsShortWindow qs k x y → place_at qs x + least ≤ place_at qs (y - 1))
-      → ((start ≡ 0) ⊎ IsFound qs k least) → IsLeastGap qs k least
-  done_early start least some full seen found =
+      → ((start ≡ 0) ⊎ IsFound qs k place least) → IsLeastGap qs k least × IsFirstGap qs k place least
+  done_early start place least some full seen found =
       elim found [
         | inl z ↦
             (let a = all_lost qs in
             let b = ap (λ (x : ℕ). different_outside qs x (length qs)) z in
             absurd (omega (arith, a, b, some, full)))
-        | inr w ↦ record {
-          start = w.start;
-          end = w.end;
-          is = w.is;
-          size = w.size;
-          least = λ x y h.
-              elim (nat_lt x start) as (λ v. nat_lt x start ≡ v → place_at qs x + least ≤ place_at qs (y - 1)) [
-                | true ↦ λ e. seen x y (ltb-true x start e) h
-                | false ↦ λ e.
-                    (let g = ltb-false x start e in
-                    let m = different_le qs start (length qs) x y g h.within in
-                    let s = h.short in
-                    absurd (omega (arith, m, s, full)))
-              ] refl;
-        }
+        | inr w ↦ (
+          record {
+            start = w.start;
+            end = w.end;
+            is = w.is;
+            size = w.size;
+            least = λ x y h.
+                elim (nat_lt x start) as (λ v. nat_lt x start ≡ v → place_at qs x + least ≤ place_at qs (y - 1)) [
+                  | true ↦ λ e. seen x y (ltb-true x start e) h
+                  | false ↦ λ e.
+                      (let g = ltb-false x start e in
+                      let m = different_le qs start (length qs) x y g h.within in
+                      let s = h.short in
+                      absurd (omega (arith, m, s, full)))
+                ] refl;
+          },
+          found_first place least w,
+        )
       ]
 
-  pub done_all : (start least : ℕ) → 0 < k → length qs ≤ start
+  pub done_all : (start place least : ℕ) → 0 < k → length qs ≤ start
       → ((x y : ℕ) → x < start → IsShortWindow qs k x y → place_at qs x + least ≤ place_at qs (y - 1))
-      → ((start ≡ 0) ⊎ IsFound qs k least) → IsLeastGap qs k least
-  done_all start least some end seen found =
+      → ((start ≡ 0) ⊎ IsFound qs k place least) → IsLeastGap qs k least × IsFirstGap qs k place least
+  done_all start place least some end seen found =
       elim found [
         | inl z ↦
             (let a = all_lost qs in
             let len : length qs ≡ 0 = omega (arith, z, end) in
             let b = ap (λ (x : ℕ). different_outside qs 0 x) len in
             absurd (omega (arith, a, b, some, enough)))
-        | inr w ↦ record {
-          start = w.start;
-          end = w.end;
-          is = w.is;
-          size = w.size;
-          least = λ x y h. (let s = h.some in let t = h.within in seen x y (omega (arith, s, t, end)) h);
-        }
+        | inr w ↦ (
+          record {
+            start = w.start;
+            end = w.end;
+            is = w.is;
+            size = w.size;
+            least = λ x y h. (let s = h.some in let t = h.within in seen x y (omega (arith, s, t, end)) h);
+          },
+          found_first place least w,
+        )
       ]

@@ -1,7 +1,8 @@
 -- The group whose loss costs least.
-use Rattle.std.specs.Prelude.{ℕ, ◌<◌, ◌≤◌, List, length}
+use Rattle.std.specs.Prelude.{ℕ, ◌+◌, ◌-◌, ◌<◌, ◌≤◌, List, length}
 use Rattle.losses.specs.Costs.{IsWeighed}
-use Rattle.losses.specs.Windows.{IsLeastGap}
+use Rattle.losses.specs.Starts.{HaveWindow}
+use Rattle.losses.specs.Windows.{IsLeastGap, IsShortWindow, place_at}
 use Rattle.losses.specs.Groups.{Group, group_at}
 use Rattle.losses.specs.declared.report.Lightest.{Lightest}
 
@@ -38,4 +39,17 @@ pub record AreLeast (groups : List Group) (n at cost most_copies last_esi burst 
 abbrev pub IsLightest : List Group → Lightest → Type 0
 IsLightest groups l =
     AreLeast groups
-    (length groups) l.at l.threshold.cost l.threshold.most_copies l.threshold.last_esi l.burst
+    (length groups) l.at l.threshold.cost l.threshold.most_copies l.threshold.last_esi l.gap.length
+
+-- of the groups below n, the first place of a window that goes no further than the gap, and a group
+-- that it leaves short
+pub record AreNarrowest (groups : List Group) (n at place gap : ℕ) : Type 0 where
+  pub within : at < n
+  pub window : HaveWindow (group_at groups at).members (group_at groups at).need place (place + gap)
+  pub first : (b x y : ℕ) → b < n
+      → IsShortWindow (group_at groups b).members (group_at groups b).need x y
+      → place_at (group_at groups b).members (y - 1) ≤ place_at (group_at groups b).members x + gap
+      → place ≤ place_at (group_at groups b).members x
+
+abbrev pub IsNarrowest : List Group → Lightest → Type 0
+IsNarrowest groups l = AreNarrowest groups (length groups) l.gap_at l.gap.place l.gap.length

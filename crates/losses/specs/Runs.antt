@@ -1,5 +1,5 @@
 -- The longest run of neighbouring places from each place on whose loss is harmless.
-use Rattle.std.specs.Prelude.{◌≡◌, ℕ, ◌+◌, ◌<◌, ◌≤◌, false, List, length, slice_index_or, Option}
+use Rattle.std.specs.Prelude.{◌≡◌, ◌≢◌, ℕ, ◌+◌, ◌<◌, ◌≤◌, false, List, length, slice_index_or, Option}
 use Rattle.std.specs.Prelude.{Some, None}
 use Rattle.std.specs.List.{list_any}
 use Rattle.lists.specs.Selection.{rest, is_run}
@@ -23,6 +23,14 @@ pub record IsLongestRun {X : Type 0} (blocks : Blocks X) (xs : List X) (s : ℕ)
 abbrev pub IsRunFrom : {X : Type 0} → Blocks X → List X → ℕ → Option Run → Type 0
 IsRunFrom blocks xs s (Some run) = IsLongestRun blocks xs s run
 IsRunFrom blocks xs s None = (m : ℕ) → s + m ≤ length xs → IsHarmless blocks xs (is_run s m)
+
+-- the first place from which no more than so many neighbours may be missed, and what one more
+-- leaves short
+pub record IsFirstBurst {X : Type 0} (blocks : Blocks X) (xs : List X) (size place : ℕ)
+    (block : Option ℕ) : Type 0 where
+  pub run : IsLongestRun blocks xs place (record { length = size; block = block })
+  pub first : (p : ℕ) (other : Run) → p < place → IsLongestRun blocks xs p other
+      → other.length ≢ size
 
 abbrev pub run_at : List (Option Run) → ℕ → Option Run
 run_at runs s = slice_index_or runs s None

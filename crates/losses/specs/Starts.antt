@@ -26,6 +26,12 @@ pub record HaveWindow (qs : List Member) (k a e : ℕ) : Type 0 where
   pub from : a ≤ place_at qs start
   pub to : place_at qs (end - 1) ≤ e
 
+-- the first of the windows that leave fewer than k and go no further than the gap
+pub record IsFirstGap (qs : List Member) (k place gap : ℕ) : Type 0 where
+  pub window : HaveWindow qs k place (place + gap)
+  pub first : (x y : ℕ) → IsShortWindow qs k x y → place_at qs (y - 1) ≤ place_at qs x + gap
+      → place ≤ place_at qs x
+
 -- the shorter of two runs
 abbrev pub shorter : Option Run → Run → Run
 shorter None run = run

@@ -3,13 +3,14 @@ ghost use Rattle.std.specs.Prelude.{◌≡◌, ℕ, ◌+◌, ◌<◌, IfOk, leng
 ghost use Rattle.losses.specs.Groups.{groups_of, AreOfAList, InEachList};
 ghost use Rattle.losses.specs.Ordered.{AreOrdered};
 ghost use Rattle.losses.specs.Losses.{IsMargin, IsKill, IsBurst};
-ghost use Rattle.losses.specs.Lightest.{IsLightest};
-ghost use Rattle.losses.specs.Runs.{Lacks};
+ghost use Rattle.losses.specs.Lightest.{IsLightest, IsNarrowest};
+ghost use Rattle.losses.specs.Runs.{IsFirstBurst, Lacks};
 ghost use Rattle.lists.specs.Selection.{rest, is_among};
 
 use crate::groups::Group;
 use crate::pricing::Threshold;
 use crate::weighing::{doomed_places, weigh};
+use crate::window::Gap;
 use std::alloc::{AllocError, Global};
 
 /// What a list can lose, in places.
@@ -25,40 +26,50 @@ pub struct Figures {
     /// The greatest number of neighbouring places whose loss, wherever they stand, leaves no group
     /// short and a carrier.
     pub burst: usize,
+    /// The first place from which no more neighbours than the burst may be missed.
+    pub burst_place: usize,
+    /// A group that one neighbour more from there leaves short; `None` where that takes all
+    /// carriers.
+    pub burst_block: Option<usize>,
 }
 
-// The group whose loss costs least, the first of such groups, and the narrowest run that leaves any
-// group short.
+// The group whose loss costs least, the first of such groups, and the narrowest window that leaves
+// any group short, the first of such windows, with its group.
 #[derive(Clone, Copy)]
 struct Lightest {
     at: usize,
     threshold: Threshold,
-    burst: usize,
+    gap: Gap,
+    gap_at: usize,
 }
 
 fn weigh_all(alloc: Global, groups: &[Group]) -> Result<Lightest, AllocError>
     requires some { 0 < length groups.now }
     requires groups { (n : ℕ) × AreOrdered (groups_of groups.now) n }
-    ensures { IfOk result (IsLightest (groups_of groups.now)) }
+    ensures lightest { IfOk result (IsLightest (groups_of groups.now)) }
+    ensures narrowest { IfOk result (IsNarrowest (groups_of groups.now)) }
 {
     let first = weigh(alloc, &groups[0].members, groups[0].need)?;
     let mut at = 0;
     let mut threshold = first.threshold;
-    let mut burst = first.burst;
+    let mut gap = first.gap;
+    let mut gap_at = 0;
     for block in 1..groups.len() {
         let weight = weigh(alloc, &groups[block].members, groups[block].need)?;
         if weight.threshold.cost < threshold.cost {
             threshold = weight.threshold;
             at = block;
         }
-        if weight.burst < burst {
-            burst = weight.burst;
+        if weight.gap.is_before(gap) {
+            gap = weight.gap;
+            gap_at = block;
         }
     }
     Ok(Lightest {
         at,
         threshold,
-        burst,
+        gap,
+        gap_at,
     })
 }
 
@@ -80,22 +91,30 @@ pub fn figures_of(
         (λ blocks xs. Lacks blocks (rest (is_among r.kill.items) xs) r.kill_block)) }
     ensures burst { IfOk result (λ r. InEachList (groups_of groups.now) carriers.now
         (λ blocks xs. IsBurst blocks xs r.burst)) }
+    ensures first { IfOk result (λ r. InEachList (groups_of groups.now) carriers.now
+        (λ blocks xs. IsFirstBurst blocks xs r.burst r.burst_place r.burst_block)) }
 {
     let block = weigh_all(alloc, groups)?;
-    // The narrowest run that takes all carriers goes from the first to the last, and is longer by
-    // one place.
-    let span = carriers[carriers.len() - 1] - carriers[0];
-    let burst = if span < block.burst {
-        span
-    } else {
-        block.burst
+    // The narrowest run that takes all carriers goes from the first to the last.
+    let first = carriers[0];
+    let span = Gap {
+        place: first,
+        length: carriers[carriers.len() - 1] - first,
     };
+    let mut gap = block.gap;
+    let mut burst_block = Some(block.gap_at);
+    if span.is_before(gap) {
+        gap = span;
+        burst_block = None;
+    }
     if carriers.len() < block.threshold.cost {
         return Ok(Figures {
             margin: carriers.len() - 1,
             kill: carriers.to_vec(alloc)?,
             kill_block: None,
-            burst,
+            burst: gap.length,
+            burst_place: gap.place,
+            burst_block,
         });
     }
     let kill = doomed_places(alloc, &groups[block.at].members, block.threshold)?;
@@ -103,6 +122,8 @@ pub fn figures_of(
         margin: block.threshold.cost - 1,
         kill,
         kill_block: Some(block.at),
-        burst,
+        burst: gap.length,
+        burst_place: gap.place,
+        burst_block,
     })
 }

@@ -1,38 +1,38 @@
 //! What a block can lose.
 ghost use Rattle.std.specs.Prelude.{◌≡◌, ◌<◌, ◌≤◌, IfOk, nat_lt, nat_le, ◌||◌, ◌&&◌, ◌==◌};
 ghost use Rattle.losses.specs.Members.{different_outside};
+ghost use Rattle.losses.specs.Starts.{IsFirstGap};
 ghost use Rattle.losses.specs.Windows.{ArePlaced, IsLeastGap};
 ghost use Rattle.losses.specs.Costs.{IsWeighed, cheap_places};
 
 use crate::counting::{copies_of, different};
 use crate::groups::Member;
 use crate::pricing::{Threshold, cheapest};
-use crate::window::least_gap;
+use crate::window::{Gap, least_gap};
 use std::alloc::{AllocError, Global};
 
-/// What leaves a block short: the cheapest symbols to lose, and how many neighbouring places it can
-/// lose wherever they stand.
+/// What leaves a block short: the cheapest symbols to lose, and the narrowest window.
 #[derive(Clone, Copy)]
 pub(crate) struct Weight {
     pub(crate) threshold: Threshold,
-    pub(crate) burst: usize,
+    pub(crate) gap: Gap,
 }
 
-/// The cheapest loss and the narrowest run that leave a block fewer than `need` different ESIs.
+/// The cheapest loss and the narrowest window that leave a block fewer than `need` different ESIs.
 pub(crate) fn weigh(alloc: Global, members: &[Member], need: usize) -> Result<Weight, AllocError>
     requires placed { ArePlaced members.now }
     requires some { 0 < need }
     requires enough { need ≤ different_outside members.now 0 0 }
     ensures cut { IfOk result (λ w.
         IsWeighed members.now need w.threshold.cost w.threshold.most_copies w.threshold.last_esi) }
-    ensures burst { IfOk result (λ w. IsLeastGap members.now need w.burst) }
+    ensures least { IfOk result (λ w. IsLeastGap members.now need w.gap.length) }
+    ensures first { IfOk result (λ w. IsFirstGap members.now need w.gap.place w.gap.length) }
 {
     let copies = copies_of(members);
     let esi_count = different(&copies);
     let threshold = cheapest(alloc, &copies, esi_count - need + 1)?;
-    // The narrowest run that leaves the block short is longer by one place.
-    let burst = least_gap(members, need);
-    Ok(Weight { threshold, burst })
+    let gap = least_gap(members, need);
+    Ok(Weight { threshold, gap })
 }
 
 // Whether an ESI with so many copies is among the cheapest.

@@ -1,8 +1,9 @@
 //! The narrowest run of places whose loss leaves a block short.
 ghost use Rattle.std.specs.Prelude.{◌≡◌, ℕ, ◌+◌, ◌<◌, ◌≤◌, slice_set, nat_lt, false, length};
+ghost use Rattle.std.specs.Prelude.{◌||◌, ◌&&◌, ◌==◌};
 ghost use Rattle.losses.specs.Members.{different_outside};
 ghost use Rattle.losses.specs.Windows.{filled, ArePlaced, IsLeastGap};
-ghost use Rattle.losses.specs.Starts.{IsWindow};
+ghost use Rattle.losses.specs.Starts.{IsWindow, IsFirstGap};
 
 use crate::counting::{copies_of, different};
 use crate::groups::Member;
@@ -78,23 +79,44 @@ impl Window {
     }
 }
 
-/// From the first to the last place of the narrowest window whose loss leaves fewer than `need`
-/// different ESIs.
-pub(crate) fn least_gap(members: &[Member], need: usize) -> usize
+/// From the first place of a window to its last: how many places lie behind the first.
+#[derive(Clone, Copy)]
+pub(crate) struct Gap {
+    pub(crate) place: usize,
+    pub(crate) length: usize,
+}
+
+impl Gap {
+    /// Whether this gap is narrower than the other, or as wide and begins earlier.
+    pub(crate) fn is_before(self, other: Gap) -> bool
+        ensures { result ≡ (nat_lt self.length other.length
+            || (self.length == other.length && nat_lt self.place other.place)) }
+    {
+        self.length < other.length || (self.length == other.length && self.place < other.place)
+    }
+}
+
+/// The first of the narrowest windows whose loss leaves fewer than `need` different ESIs.
+pub(crate) fn least_gap(members: &[Member], need: usize) -> Gap
     requires placed { ArePlaced members.now }
     requires some { 0 < need }
     requires enough { need ≤ different_outside members.now 0 0 }
-    ensures { IsLeastGap members.now need result }
+    ensures least { IsLeastGap members.now need result.length }
+    ensures first { IsFirstGap members.now need result.place result.length }
 {
     let mut window = Window::new(members);
-    let mut least = 0;
+    let mut least = Gap {
+        place: 0,
+        length: 0,
+    };
     for start in 0..members.len() {
         if !window.widen(members, need) {
             break;
         }
-        let gap = members[window.end - 1].place - members[start].place;
-        if start == 0 || gap < least {
-            least = gap;
+        let place = members[start].place;
+        let length = members[window.end - 1].place - place;
+        if start == 0 || length < least.length {
+            least = Gap { place, length };
         }
         window.narrow(members);
     }

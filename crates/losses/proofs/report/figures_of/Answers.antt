@@ -1,4 +1,4 @@
-use Rattle.std.proofs.Common.{◌≡◌, false, ◌<◌, ◌+◌, ◌-◌, ℕ, List, length, ap, sym, ◌∙◌, arith, subst}
+use Rattle.std.proofs.Common.{◌≡◌, false, ◌<◌, ◌+◌, ◌-◌, ℕ, List, length, get_or, ap, sym, ◌∙◌, arith, subst}
 use Rattle.std.proofs.lemmas.Grind.{common_steps}
 use Rattle.losses.specs.Costs.{cheap_places}
 use Rattle.losses.specs.Losses.{IsKill, is_enough}
@@ -8,10 +8,11 @@ use Rattle.std.specs.List.{list_any}
 use Rattle.lists.specs.Selection.{rest, is_among}
 use Rattle.losses.proofs.CarrierPlaces.{none_taken}
 use Rattle.losses.proofs.GroupFigures.{members_seen, count_of, some, kill_short}
-use Rattle.losses.proofs.CarrierGroup.{span_fits, margin_blocks, margin_carriers, kill_blocks, kill_carriers, burst_blocks, burst_carriers}
+use Rattle.losses.proofs.CarrierGroup.{span, span_fits, margin_blocks, margin_carriers, kill_blocks, kill_carriers, burst_blocks, burst_carriers}
+use Rattle.losses.proofs.FirstBurst.{before_yes, before_no, first_of_blocks, first_of_carriers}
 use Rattle.losses.proofs.Ordering.{carriers_ordered, groups_ordered}
 use Rattle.losses.proofs.report.figures_of.Goals as goal
-use Rattle.losses.proofs.report.figures_of.Goals.{then-span-block, else-span-block}
+use Rattle.losses.proofs.report.figures_of.Goals.{then-is_before, else-is_before}
 
 pub overflow_sub-span-2 : goal.overflow_sub-span-2
 overflow_sub-span-2 c = span_fits c.requires.groups.0 c.args.carriers.now (carriers_ordered c.args.carriers.now c.requires.groups.0 c.requires.groups.2)
@@ -20,7 +21,7 @@ pub returns-then-carriers-block-clause-margin : goal.returns-then-carriers-block
 returns-then-carriers-block-clause-margin c = λ n told came.
     let are = groups_ordered (groups_of c.args.groups.now) n told in
     let carriers = carriers_ordered c.args.carriers.now n came in
-    let w = c.in_ok-block.ensures in
+    let w = c.in_ok-block.ensures.lightest in
     let l = c.in_ok-block.block in
     margin_carriers (groups_of c.args.groups.now) c.args.carriers.now n are carriers l.at l.threshold.cost l.threshold.most_copies l.threshold.last_esi w.within w.weighed w.heavy c.if-carriers-block.true
 
@@ -28,7 +29,7 @@ pub returns-then-carriers-block-clause-kill : goal.returns-then-carriers-block-c
 returns-then-carriers-block-clause-kill c = λ n told came.
     let are = groups_ordered (groups_of c.args.groups.now) n told in
     let carriers = carriers_ordered c.args.carriers.now n came in
-    let w = c.in_ok-block.ensures in
+    let w = c.in_ok-block.ensures.lightest in
     let l = c.in_ok-block.block in
     subst (λ (ps : List ℕ). IsKill (blocks_of_groups (groups_of c.args.groups.now) c.args.carriers.now) (places 0 n) (length c.args.carriers.now - 1 + 1) ps) (sym (c.in_ok-to_vec.ensures.items_if_clones_equal (λ x y e. e)))
     (kill_carriers (groups_of c.args.groups.now) c.args.carriers.now n are carriers l.at l.threshold.cost l.threshold.most_copies l.threshold.last_esi w.within w.weighed w.heavy c.if-carriers-block.true)
@@ -42,16 +43,20 @@ pub returns-then-carriers-block-clause-burst : goal.returns-then-carriers-block-
 returns-then-carriers-block-clause-burst c = λ n told came.
     let are = groups_ordered (groups_of c.args.groups.now) n told in
     let carriers = carriers_ordered c.args.carriers.now n came in
-    let w = c.in_ok-block.ensures in
+    let w = c.in_ok-block.ensures.lightest in
     let l = c.in_ok-block.block in
-    elim c.if-span-block.branch [
-      | then-span-block b ↦ rw b.burst-is (burst_carriers (groups_of c.args.groups.now) c.args.carriers.now n are carriers l.burst w.narrow w.wide (omega (arith, b)))
-      | else-span-block b ↦ rw b.burst-is (burst_blocks (groups_of c.args.groups.now) c.args.carriers.now n are carriers l.burst w.narrow w.wide (omega (arith, b)))
+    elim c.if-is_before.branch [
+      | then-is_before b ↦
+          (let o = before_yes (span c.args.carriers.now) l.gap.length (get_or c.args.carriers.now 0 0) l.gap.place (sym c.is_before.ensures ∙ b.if-is_before.true) in
+          rw b.gap-is (burst_carriers (groups_of c.args.groups.now) c.args.carriers.now n are carriers l.gap.length w.narrow w.wide o.0))
+      | else-is_before b ↦
+          (let o = before_no (span c.args.carriers.now) l.gap.length (get_or c.args.carriers.now 0 0) l.gap.place (sym c.is_before.ensures ∙ b.if-is_before.false) in
+          rw b.gap-is (burst_blocks (groups_of c.args.groups.now) c.args.carriers.now n are carriers l.gap.length w.narrow w.wide o.0))
     ]
 
 pub overflow_sub-result-2 : goal.overflow_sub-result-2
 overflow_sub-result-2 c =
-    let w = c.in_ok-block.ensures in
+    let w = c.in_ok-block.ensures.lightest in
     let l = c.in_ok-block.block in
     some (groups_of c.args.groups.now) c.requires.groups.0 (groups_ordered (groups_of c.args.groups.now) c.requires.groups.0 c.requires.groups.1) l.at l.threshold.cost l.threshold.most_copies l.threshold.last_esi w.within w.weighed w.heavy
 
@@ -59,7 +64,7 @@ pub returns-clause-margin : goal.returns-clause-margin
 returns-clause-margin c = λ n told came.
     let are = groups_ordered (groups_of c.args.groups.now) n told in
     let carriers = carriers_ordered c.args.carriers.now n came in
-    let w = c.in_ok-block.ensures in
+    let w = c.in_ok-block.ensures.lightest in
     let l = c.in_ok-block.block in
     margin_blocks (groups_of c.args.groups.now) c.args.carriers.now n are carriers l.at l.threshold.cost l.threshold.most_copies l.threshold.last_esi w.within w.weighed w.heavy c.if-carriers-block.false
 
@@ -67,7 +72,7 @@ pub returns-clause-kill : goal.returns-clause-kill
 returns-clause-kill c = λ n told came.
     let are = groups_ordered (groups_of c.args.groups.now) n told in
     let carriers = carriers_ordered c.args.carriers.now n came in
-    let w = c.in_ok-block.ensures in
+    let w = c.in_ok-block.ensures.lightest in
     let l = c.in_ok-block.block in
     let gs = c.args.groups.now in
     let within : l.at < length c.args.groups.now = (let h = w.within in let k = count_of c.args.groups.now in omega (arith, h, k)) in
@@ -79,7 +84,7 @@ returns-clause-kill c = λ n told came.
 pub returns-clause-kill_block : goal.returns-clause-kill_block
 returns-clause-kill_block c = λ n told came.
     let are = groups_ordered (groups_of c.args.groups.now) n told in
-    let w = c.in_ok-block.ensures in
+    let w = c.in_ok-block.ensures.lightest in
     let l = c.in_ok-block.block in
     let gs = c.args.groups.now in
     let within : l.at < length c.args.groups.now = (let h = w.within in let k = count_of c.args.groups.now in omega (arith, h, k)) in
@@ -94,11 +99,15 @@ pub returns-clause-burst : goal.returns-clause-burst
 returns-clause-burst c = λ n told came.
     let are = groups_ordered (groups_of c.args.groups.now) n told in
     let carriers = carriers_ordered c.args.carriers.now n came in
-    let w = c.in_ok-block.ensures in
+    let w = c.in_ok-block.ensures.lightest in
     let l = c.in_ok-block.block in
-    elim c.if-span-block.branch [
-      | then-span-block b ↦ rw b.burst-is (burst_carriers (groups_of c.args.groups.now) c.args.carriers.now n are carriers l.burst w.narrow w.wide (omega (arith, b)))
-      | else-span-block b ↦ rw b.burst-is (burst_blocks (groups_of c.args.groups.now) c.args.carriers.now n are carriers l.burst w.narrow w.wide (omega (arith, b)))
+    elim c.if-is_before.branch [
+      | then-is_before b ↦
+          (let o = before_yes (span c.args.carriers.now) l.gap.length (get_or c.args.carriers.now 0 0) l.gap.place (sym c.is_before.ensures ∙ b.if-is_before.true) in
+          rw b.gap-is (burst_carriers (groups_of c.args.groups.now) c.args.carriers.now n are carriers l.gap.length w.narrow w.wide o.0))
+      | else-is_before b ↦
+          (let o = before_no (span c.args.carriers.now) l.gap.length (get_or c.args.carriers.now 0 0) l.gap.place (sym c.is_before.ensures ∙ b.if-is_before.false) in
+          rw b.gap-is (burst_blocks (groups_of c.args.groups.now) c.args.carriers.now n are carriers l.gap.length w.narrow w.wide o.0))
     ]
 
 pub offset_bounds-groups-block : goal.offset_bounds-groups-block
@@ -110,3 +119,39 @@ bounds-groups-block c = grind (arith, common_steps) steps 2000000
 pub weigh_all-requires-clause-groups : goal.weigh_all-requires-clause-groups
 weigh_all-requires-clause-groups c =
     (c.requires.groups.0, groups_ordered (groups_of c.args.groups.now) c.requires.groups.0 c.requires.groups.1)
+
+pub returns-then-carriers-block-clause-first : goal.returns-then-carriers-block-clause-first
+returns-then-carriers-block-clause-first c = λ n told came.
+    let are = groups_ordered (groups_of c.args.groups.now) n told in
+    let carriers = carriers_ordered c.args.carriers.now n came in
+    let w = c.in_ok-block.ensures.lightest in
+    let v = c.in_ok-block.ensures.narrowest in
+    let l = c.in_ok-block.block in
+    elim c.if-is_before.branch [
+      | then-is_before b ↦
+          (let o = before_yes (span c.args.carriers.now) l.gap.length (get_or c.args.carriers.now 0 0) l.gap.place (sym c.is_before.ensures ∙ b.if-is_before.true) in
+          rw (b.gap-is, b.burst_block-is) (first_of_carriers (groups_of c.args.groups.now) c.args.carriers.now n are carriers l.gap_at l.gap.place l.gap.length v w.wide o.0 o.1
+          (burst_carriers (groups_of c.args.groups.now) c.args.carriers.now n are carriers l.gap.length w.narrow w.wide o.0)))
+      | else-is_before b ↦
+          (let o = before_no (span c.args.carriers.now) l.gap.length (get_or c.args.carriers.now 0 0) l.gap.place (sym c.is_before.ensures ∙ b.if-is_before.false) in
+          rw (b.gap-is, b.burst_block-is) (first_of_blocks (groups_of c.args.groups.now) c.args.carriers.now n are carriers l.gap_at l.gap.place l.gap.length v w.wide o.0 o.1
+          (burst_blocks (groups_of c.args.groups.now) c.args.carriers.now n are carriers l.gap.length w.narrow w.wide o.0)))
+    ]
+
+pub returns-clause-first : goal.returns-clause-first
+returns-clause-first c = λ n told came.
+    let are = groups_ordered (groups_of c.args.groups.now) n told in
+    let carriers = carriers_ordered c.args.carriers.now n came in
+    let w = c.in_ok-block.ensures.lightest in
+    let v = c.in_ok-block.ensures.narrowest in
+    let l = c.in_ok-block.block in
+    elim c.if-is_before.branch [
+      | then-is_before b ↦
+          (let o = before_yes (span c.args.carriers.now) l.gap.length (get_or c.args.carriers.now 0 0) l.gap.place (sym c.is_before.ensures ∙ b.if-is_before.true) in
+          rw (b.gap-is, b.burst_block-is) (first_of_carriers (groups_of c.args.groups.now) c.args.carriers.now n are carriers l.gap_at l.gap.place l.gap.length v w.wide o.0 o.1
+          (burst_carriers (groups_of c.args.groups.now) c.args.carriers.now n are carriers l.gap.length w.narrow w.wide o.0)))
+      | else-is_before b ↦
+          (let o = before_no (span c.args.carriers.now) l.gap.length (get_or c.args.carriers.now 0 0) l.gap.place (sym c.is_before.ensures ∙ b.if-is_before.false) in
+          rw (b.gap-is, b.burst_block-is) (first_of_blocks (groups_of c.args.groups.now) c.args.carriers.now n are carriers l.gap_at l.gap.place l.gap.length v w.wide o.0 o.1
+          (burst_blocks (groups_of c.args.groups.now) c.args.carriers.now n are carriers l.gap.length w.narrow w.wide o.0)))
+    ]
