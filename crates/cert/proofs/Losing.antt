@@ -8,9 +8,9 @@ use Rattle.losses.specs.Losses.{Blocks, places_from, IsMargin, IsKill, IsBurst, 
 use Rattle.losses.specs.Groups.{Group, group_at, places, is_at, blocks_of_groups, AreGroups}
 use Rattle.losses.proofs.Lines.{any_left, places_length}
 use Rattle.losses.proofs.Link.{is_left}
-use Rattle.losses.proofs.Transfer.{margin_same, kill_same, burst_same, lacks_same, runs_same}
+use Rattle.losses.proofs.Transfer.{margin_same, kill_same, burst_same, lacks_same, first_burst_same, runs_same}
 use Rattle.losses.specs.declared.longest.Run.{Run}
-use Rattle.losses.specs.Runs.{Lacks, AreRuns}
+use Rattle.losses.specs.Runs.{Lacks, IsFirstBurst, AreRuns}
 use Rattle.losses.proofs.CarrierPlaces.{carriers_left, carriers_same}
 use Rattle.partition.specs.Fti.{Fti, IsValidFti, source_count}
 use Rattle.partition.proofs.Laws.{some_source}
@@ -106,6 +106,11 @@ module _ (who : Identity) (f : Fti) (valid : IsValidFti f) (rs : List Reading) (
   pub lacks_told : (lost : ℕ → Bool) (o : Option ℕ) → Lacks grouped (rest lost (places 0 (length rs))) o → Lacks (blocks_of who f) (rest lost rs) o
   lacks_told =
       lacks_same grouped (blocks_of who f) (places 0 (length rs)) rs (sym are.count) needed (sym (places_length 0 (length rs))) whole left
+      (λ lost. sym (carriers_left (is_carrier who) rs lost)) (sym (carriers_same (is_carrier who) rs))
+
+  pub first_burst_told : (size place : ℕ) (o : Option ℕ) → IsFirstBurst grouped (places 0 (length rs)) size place o → IsFirstBurst (blocks_of who f) rs size place o
+  first_burst_told =
+      first_burst_same grouped (blocks_of who f) (places 0 (length rs)) rs (sym are.count) needed (sym (places_length 0 (length rs))) whole left
       (λ lost. sym (carriers_left (is_carrier who) rs lost)) (sym (carriers_same (is_carrier who) rs))
 
   pub runs_told : (runs : List (Option Run)) → AreRuns grouped (places 0 (length rs)) runs → AreRuns (blocks_of who f) rs runs

@@ -1,8 +1,7 @@
 -- What a picture of a yes shows beside its report.
 use Rattle.std.specs.Prelude.{◌≡◌, ℕ, List, length, Option, Some, None}
-use Rattle.lists.specs.Selection.{rest, is_among}
 use Rattle.losses.specs.Losses.{carrier_places}
-use Rattle.losses.specs.Runs.{Lacks, AreRuns, IsLeastLength}
+use Rattle.losses.specs.Runs.{AreRuns, IsLeastLength}
 use Rattle.partition.specs.Fti.{Fti}
 use Rattle.alc.specs.Reading.{Reading}
 use Rattle.reception.specs.declared.scope.Identity.{Identity}
@@ -15,17 +14,14 @@ use Rattle.cert.specs.declared.verdict.Survey.{Survey}
 use Rattle.cert.specs.declared.verdict.Verdict.{Verdict}
 use Rattle.cert.specs.declared.verdict.Verdict.TheVariants.{Yes, No}
 
--- How many datagrams there are; the places of the carriers; a block that the kill leaves short, or
--- else no carrier; and from each place on the longest run that may be missed, of which the shortest
--- is the report's burst.
+-- How many datagrams there are; the places of the carriers; and from each place on the longest run
+-- that may be missed, of which the shortest is the report's burst.
 pub record IsSurvey (who : Identity) (ds : List (List ℕ)) (f : Fti) (report : Report)
     (survey : Survey) : Type 0 where
   pub readings : List Reading
   pub read : ReadAll ds readings
   pub datagrams : survey.datagrams ≡ length ds
   pub carriers : survey.carriers.items ≡ carrier_places (blocks_of who f) readings
-  pub kill_block : Lacks (blocks_of who f) (rest (is_among report.kill.items) readings)
-      survey.kill_block
   pub runs : AreRuns (blocks_of who f) readings survey.runs.items
   pub burst : IsLeastLength survey.runs.items report.burst
 

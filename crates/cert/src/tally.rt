@@ -3,10 +3,8 @@ ghost use Rattle.std.specs.Prelude.{◌≡◌, ◌<◌, ◌≤◌, ◌+◌, ◌-
 ghost use Rattle.std.specs.Prelude.{map, true, is_some, IfOk, IfErr, OnOk};
 ghost use Rattle.std.specs.List.{list_any, sum_by};
 ghost use Rattle.lists.specs.Below.{below};
-ghost use Rattle.lists.specs.Selection.{rest, is_among};
 ghost use Rattle.losses.specs.Groups.{group_at, groups_of, InEachList};
 ghost use Rattle.losses.specs.Losses.{IsBurst};
-ghost use Rattle.losses.specs.Runs.{Lacks};
 ghost use Rattle.session.specs.Frames.{AreDatagrams};
 ghost use Rattle.partition.specs.Fti.{Fti as FtiValue};
 ghost use Rattle.alc.specs.Views.{packet_of};
@@ -14,7 +12,7 @@ ghost use Rattle.reception.specs.Reception.{is_carrier, symbol_of};
 ghost use Rattle.reception.specs.Step.{IsLook};
 ghost use Rattle.reception.specs.Walks.{readings_of};
 ghost use Rattle.cert.specs.Certificate.{Certificate as CertificateValue};
-ghost use Rattle.cert.specs.Report.{IsReport, blocks_of};
+ghost use Rattle.cert.specs.Report.{IsReport};
 ghost use Rattle.cert.specs.Surveying.{IsSurvey};
 ghost use Rattle.cert.specs.Scan.{line_in, with_carrier, AreEnough, AreEnoughCertified};
 ghost use Rattle.cert.specs.Scan.{IsShortGroup, IsPut, IsNoReport};
@@ -118,8 +116,7 @@ impl Tally {
             → IsTally (by_certificate z) z.fti self.now datagrams
             → IfErr result (IsNoReport self.now.scope.identity datagrams z) }
     {
-        let (report, _) = self.report_and_kill_block(alloc)?;
-        Ok(report)
+        self.report_of_groups(alloc)
     }
 
     /// The report on the datagrams and what a picture shows beside it, or the reason for which they
@@ -140,13 +137,12 @@ impl Tally {
             → IsTally (by_certificate z) z.fti self.now datagrams
             → IfErr result (IsNoReport self.now.scope.identity datagrams z) }
     {
-        let (report, kill_block) = self.report_and_kill_block(alloc)?;
+        let report = self.report_of_groups(alloc)?;
         let runs = runs_of(alloc, &self.groups, &self.carriers, self.count)?;
         let carriers = self.carriers.to_vec(alloc)?;
         let survey = Survey {
             datagrams: self.count,
             carriers,
-            kill_block,
             runs,
         };
         Ok((report, survey))
@@ -161,20 +157,16 @@ impl Tally {
         esis_of_members(alloc, self.groups[block as usize].members.as_slice())
     }
 
-    // The report, and a block that its kill leaves short.
-    fn report_and_kill_block(&self, alloc: Global) -> Result<(Report, Option<usize>), NoReport>
+    // The report, whose burst is that of the groups and the carriers.
+    fn report_of_groups(&self, alloc: Global) -> Result<Report, NoReport>
         requires { (says : Says) × (f : FtiValue) × (datagrams : List (List ℕ))
             × IsTally says f self.now datagrams }
         ensures report { (says : Says) (f : FtiValue) (datagrams : List (List ℕ))
-            → AreDatagrams datagrams → IsTally says f self.now datagrams → IfOk result (λ r.
-            IsReport self.now.scope.identity datagrams f r.0) }
-        ensures kill_block { (says : Says) (f : FtiValue) (datagrams : List (List ℕ))
-            → IsTally says f self.now datagrams
-            → IfOk result (λ r. Lacks (blocks_of self.now.scope.identity f)
-            (rest (is_among r.0.kill.items) (readings_of datagrams)) r.1) }
-        ensures burst { IfOk result (λ r.
+            → AreDatagrams datagrams → IsTally says f self.now datagrams
+            → IfOk result (IsReport self.now.scope.identity datagrams f) }
+        ensures burst { IfOk result (λ report.
             InEachList (groups_of self.now.groups.items) self.now.carriers.items
-            (λ blocks xs. IsBurst blocks xs r.0.burst)) }
+            (λ blocks xs. IsBurst blocks xs report.burst)) }
         ensures enough { OnOk result (AreEnough (groups_of self.now.groups.items)) }
         ensures carrier { (says : Says) (f : FtiValue) (datagrams : List (List ℕ))
             → IsTally says f self.now datagrams → OnOk result
@@ -198,17 +190,21 @@ impl Tally {
             kill,
             kill_block,
             burst,
+            burst_place,
+            burst_block,
         } = figures_of(alloc, &self.groups, &self.carriers)?;
         let repeats = without_different(self.taken, &blocks);
-        let report = Report {
+        Ok(Report {
             blocks,
             carriers: self.carriers.len(),
             repeats,
             margin,
             kill,
+            kill_block,
             burst,
-        };
-        Ok((report, kill_block))
+            burst_place,
+            burst_block,
+        })
     }
 }
 

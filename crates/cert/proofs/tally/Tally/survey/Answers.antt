@@ -58,7 +58,6 @@ returns-clause-survey c = λ says f datagrams each h. (
       read = read_all datagrams each;
       datagrams = sym h.tallied.many;
       carriers = c.in_ok-carriers.ensures.items_if_clones_equal (λ x y e. e) ∙ c.deref-3.ensures.value ∙ h.tallied.placed;
-      kill_block = c.in_ok-report.ensures.kill_block says f datagrams h;
       runs = runs_told who f h.valid rs (all_sound says f (tallied_of c.args.self.now) datagrams h.tallied) (groups_of c.args.self.now.groups.items) h.tallied.grouped _ runs;
       burst = burst _ (c.in_ok-report.ensures.burst c.args.self.now.count groups carriers);
     })

@@ -21,8 +21,8 @@ use Rattle.cert.proofs.Judging.{read_all, are_certified, none_came, some_came, n
 use Rattle.cert.proofs.DatagramSteps.{all_sound, passed_on}
 use Rattle.cert.proofs.Bridge.{lines_are, enough_full, counts_refused}
 use Rattle.cert.proofs.CarrierPlaces.{any_place, places_counted}
-use Rattle.cert.proofs.Losing.{are_groups, margin_told, kill_told, burst_told, lacks_told}
-use Rattle.cert.proofs.tally.Tally.report_and_kill_block.Goals as goal
+use Rattle.cert.proofs.Losing.{are_groups, margin_told, kill_told, lacks_told, burst_told, first_burst_told}
+use Rattle.cert.proofs.tally.Tally.report_of_groups.Goals as goal
 
 -- some came, all of them as certified
 all_certified : (tally : Tally) (z : Certificate) (datagrams : List (List ℕ)) → IsTally (by_certificate z) z.fti tally datagrams → tally.taken ≢ 0 → AreCertified tally.scope.identity (readings_of datagrams) z
@@ -108,7 +108,9 @@ returns-clause-report c = λ says f datagrams each h. (
     let carriers = rw h.tallied.placed at (carriers_are says f c.args.self.now datagrams h (sym c.is_empty.ensures ∙ c.if-is_empty.false)) in
     let margin = rw (c.deref-2.ensures.value, c.deref-3.ensures.value, h.tallied.placed) at c.in_ok-margin.ensures.margin in
     let kill = rw (c.deref-2.ensures.value, c.deref-3.ensures.value, h.tallied.placed) at c.in_ok-margin.ensures.kill in
+    let kill_block = rw (c.deref-2.ensures.value, c.deref-3.ensures.value, h.tallied.placed) at c.in_ok-margin.ensures.kill_block in
     let burst = rw (c.deref-2.ensures.value, c.deref-3.ensures.value, h.tallied.placed) at c.in_ok-margin.ensures.burst in
+    let first = rw (c.deref-2.ensures.value, c.deref-3.ensures.value, h.tallied.placed) at c.in_ok-margin.ensures.first in
     record {
       readings = rs;
       read = read_all datagrams each;
@@ -119,7 +121,9 @@ returns-clause-report c = λ says f datagrams each h. (
           ∙ ap (λ (m : ℕ). m - sum_by (λ counts. counts.1) c.in_ok-blocks.blocks.items) (sym h.tallied.counts);
       margin = margin_told who f valid rs all groups h.tallied.grouped _ (margin (length rs) are carriers);
       kill = kill_told who f valid rs all groups h.tallied.grouped _ _ (kill (length rs) are carriers);
+      kill_block = lacks_told who f valid rs all groups h.tallied.grouped _ _ (kill_block (length rs) are carriers);
       burst = burst_told who f valid rs all groups h.tallied.grouped _ (burst (length rs) are carriers);
+      first_burst = first_burst_told who f valid rs all groups h.tallied.grouped _ _ _ (first (length rs) are carriers);
     })
 
 pub returns-clause-certified : goal.returns-clause-certified
@@ -134,19 +138,6 @@ returns-clause-certified c = λ z datagrams h. (
 
 pub block_lines-requires : goal.block_lines-requires
 block_lines-requires c = grind (arith, common_steps) steps 2000000
-
-pub returns-clause-kill_block : goal.returns-clause-kill_block
-returns-clause-kill_block c = λ says f datagrams h. (
-    let who = c.args.self.now.scope.identity in
-    let valid = h.valid in
-    let all = all_sound says f (tallied_of c.args.self.now) datagrams h.tallied in
-    let rs = readings_of datagrams in
-    let groups = groups_of c.args.self.now.groups.items in
-    let enough = rw c.deref.ensures.value at c.in_ok-blocks.ensures.enough in
-    let are = are_groups who f valid rs all groups h.tallied.grouped enough in
-    let carriers = rw h.tallied.placed at (carriers_are says f c.args.self.now datagrams h (sym c.is_empty.ensures ∙ c.if-is_empty.false)) in
-    let kill_block = rw (c.deref-2.ensures.value, c.deref-3.ensures.value, h.tallied.placed) at c.in_ok-margin.ensures.kill_block in
-    lacks_told who f valid rs all groups h.tallied.grouped _ _ (kill_block (length rs) are carriers))
 
 pub returns-clause-carrier : goal.returns-clause-carrier
 returns-clause-carrier c = λ says f datagrams h. carrier_came says f c.args.self.now datagrams h (sym c.is_empty.ensures ∙ c.if-is_empty.false)
