@@ -59,9 +59,10 @@ pub(crate) fn fti_content(extensions: &[u8]) -> Result<Option<&[u8]>, PacketFaul
     Ok(seen)
 }
 
-/// The FTI in the content of EXT_FTI: L in six bytes, E in two, B and max_n in one each.
+/// The FTI in the content of EXT_FTI: L in six bytes, E in two, B and max_n in one each. It is
+/// found faster where it's the one that is known.
 #[tactic(auto, using(crate::proofs::FtiFields::length_field, crate::proofs::FtiFields::symbol_field))]
-pub(crate) fn fti_of(content: &[u8]) -> Result<Fti, PacketFault>
+pub(crate) fn fti_of(content: &[u8], known: Option<&Fti>) -> Result<Fti, PacketFault>
     requires { length content.now ≡ 10 }
     ensures numbers { IfOk result (λ f. f ≡ fti_in content.now) }
     ensures no_fault { IfOk result (λ _. fti_fault (fti_in content.now) ≡ None) }
@@ -70,5 +71,12 @@ pub(crate) fn fti_of(content: &[u8]) -> Result<Fti, PacketFault>
 {
     let transfer_length = BigEndian::read_u48(content);
     let symbol_length = BigEndian::read_u16(&content[6..]);
-    Fti::new(transfer_length, symbol_length, content[8], content[9]).map_err(PacketFault::FtiValue)
+    Fti::new_with(
+        known,
+        transfer_length,
+        symbol_length,
+        content[8],
+        content[9],
+    )
+    .map_err(PacketFault::FtiValue)
 }

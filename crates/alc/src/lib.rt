@@ -19,5 +19,5 @@ mod reading;
 mod writing;
 
 pub use fault::PacketFault;
-pub use reading::{Packet, one_reading, read};
+pub use reading::{Packet, one_reading, read, read_with};
 pub use writing::{HEADER_SIZE, HEADER_SIZE_WITHOUT_FTI, write};

@@ -50,7 +50,7 @@ fn packet_with_fti(datagram: &[u8], header: Header, fti: Option<Fti>) -> Packet<
 }
 
 // The packet or the first fault, as a function of the bytes computes them.
-fn parse(datagram: &[u8]) -> Result<Packet<'_>, PacketFault>
+fn parse<'a>(datagram: &'a [u8], known: Option<&Fti>) -> Result<Packet<'a>, PacketFault>
     ensures { read_of datagram.now ≡ reading_of result }
 {
     let header = header_of(datagram)?;
@@ -60,7 +60,7 @@ fn parse(datagram: &[u8]) -> Result<Packet<'_>, PacketFault>
         }
         return Ok(packet_with_fti(datagram, header, None));
     };
-    let fti = fti_of(content)?;
+    let fti = fti_of(content, known)?;
     if datagram.len() != header.end + 4 + usize::from(fti.symbol_length()) {
         return Err(PacketFault::PayloadLength);
     }
@@ -81,7 +81,22 @@ pub fn read(datagram: &[u8]) -> Result<Packet<'_>, PacketFault>
     ensures tsi { IfOk result (λ p. p.tsi < 2 ^ 48) }
     ensures toi { IfOk result (λ p. p.toi < 2 ^ 112) }
 {
-    parse(datagram)
+    read_with(datagram, None)
+}
+
+/// As [`read`]. A packet that carries the FTI that is known is read faster.
+pub fn read_with<'a>(datagram: &'a [u8], known: Option<&Fti>) -> Result<Packet<'a>, PacketFault>
+    // The datagram is that packet, or has that fault and none before it.
+    ensures reads { Reads datagram.now (reading_of result) }
+    // It is no other packet, and has no other first fault.
+    ensures only { (r : Reading) → Reads datagram.now r → r ≡ reading_of result }
+    ensures valid { IfOk result (λ p. IfSome p.fti IsValidFti) }
+    ensures symbol { IfOk result (λ p. IsSymbolLength p.fti (length p.symbol.now)) }
+    ensures block { IfOk result (λ p. p.sbn < 2 ^ 24) }
+    ensures tsi { IfOk result (λ p. p.tsi < 2 ^ 48) }
+    ensures toi { IfOk result (λ p. p.toi < 2 ^ 112) }
+{
+    parse(datagram, known)
 }
 
 /// Every list of bytes has one reading: it is a packet, or isn't one for one reason. A list that

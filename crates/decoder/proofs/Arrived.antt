@@ -3,7 +3,6 @@ use Rattle.std.specs.Prelude.{is_some, not, option_map, ◌==◌, ◌&&◌, IsNo
 use Rattle.std.specs.Option.{unwrap_or}
 use Rattle.std.specs.Borrow.{Bor}
 use Rattle.std.specs.BTreeMap.{BTreeMap, get}
-use Rattle.std.specs.Global.{Vec}
 use Rattle.std.specs.List.{All}
 use Rattle.std.specs.Ordering.{nat_cmp, is_eq}
 use Rattle.std.proofs.Common.{◌≡◌, ◌≢◌, ℕ, suc, ◌+◌, ◌<◌, ◌≤◌, Bool, true, false, List, [], ◌∷◌, ◌++◌, Option, Some, None, length, get_or, set, take, refl, sym, ap, ◌∙◌, inl, inr, arith}

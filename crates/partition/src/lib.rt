@@ -9,7 +9,7 @@
 //! another when they are sent. No call takes memory.
 #![tactic(auto)]
 
-ghost use Rattle.std.specs.Prelude.{◌≡◌, ℕ, ◌+◌, ◌*◌, ◌^◌, ◌<◌, ◌≤◌, min, Some, None, IfOk, IfErr};
+ghost use Rattle.std.specs.Prelude.{◌≡◌, ℕ, ◌+◌, ◌*◌, ◌^◌, ◌<◌, ◌≤◌, min, true, Some, None, IfOk, IfErr};
 ghost use Rattle.partition.specs.Fti.{symbol_count, block_count, source_count, start_of};
 ghost use Rattle.partition.specs.Fti.{block_bytes, encoding_count, has_symbol, last_length};
 ghost use Rattle.partition.specs.Fti.{fti_from, IsValidFti};
@@ -54,7 +54,7 @@ pub struct Fti {
     block_length: u8,
     max_symbols: u8,
     // The rest is what these determine of the partition. It is kept, so that a look at a packet
-    // divides nothing.
+    // divides nothing, where it carries no FTI or one that is known.
     //
     // N: how many source blocks there are.
     #[derive_where(skip)]
@@ -153,6 +153,34 @@ impl Fti {
             large: symbols % blocks,
             small: (symbols / blocks) as u8,
         })
+    }
+
+    // Whether these are the numbers.
+    fn has_numbers(&self, l: u64, e: u16, b: u8, max_n: u8) -> bool
+        ensures { result ≡ true → self.now ≡ fti_from l e b max_n }
+    {
+        self.transfer_length == l
+            && self.symbol_length == e
+            && self.block_length == b
+            && self.max_symbols == max_n
+    }
+
+    /// As [`Fti::new`]. Where the numbers are those of the FTI that is known, nothing is divided.
+    #[tactic(auto, using(crate::proofs::Faults::valid_no_fault))]
+    pub fn new_with(known: Option<&Fti>, l: u64, e: u16, b: u8, max_n: u8) -> Result<Fti, FtiError>
+        ensures numbers { IfOk result (λ f. f ≡ fti_from l e b max_n) }
+        ensures valid { IfOk result IsValidFti }
+        ensures no_fault { IfOk result (λ f. fti_fault f ≡ None) }
+        ensures invalid { IfErr result (λ _. ¬ IsValidFti (fti_from l e b max_n)) }
+        ensures first_fault { IfErr result (λ r. fti_fault (fti_from l e b max_n) ≡ Some r) }
+    {
+        match known {
+            Some(known) if known.has_numbers(l, e, b, max_n) => {
+                known.is_valid();
+                Ok(*known)
+            }
+            _ => Fti::new(l, e, b, max_n),
+        }
     }
 
     /// What the type says: an `Fti` is valid.

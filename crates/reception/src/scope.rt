@@ -7,7 +7,7 @@ ghost use Rattle.reception.specs.Found.{IsScopeOf};
 ghost use Rattle.reception.specs.Step.{IsLook};
 ghost use Rattle.reception.specs.Walks.{IsHeard};
 
-use alc::{Packet, PacketFault, read};
+use alc::{Packet, PacketFault, read, read_with};
 use partition::Fti;
 
 /// Whose packets they are (RFC 5651): the transport session identifier, below 2^48, and, in it, the
@@ -97,7 +97,7 @@ impl Scope {
     pub fn look<'a>(&mut self, datagram: &'a [u8]) -> Result<Look<'a>, PlaceFault>
         ensures { IsLook datagram.now self.old self.new result }
     {
-        let packet = match read(datagram) {
+        let packet = match read_with(datagram, self.fti.as_ref()) {
             Ok(packet) => packet,
             Err(fault) => return Err(PlaceFault::NoPacket(fault)),
         };

@@ -1,6 +1,5 @@
 use Rattle.std.proofs.Common.{◌≡◌, ◌≤◌, ◌∙◌, ◌+◌, ◌*◌, ℕ, List, length, get_or, arith, ap, sym}
 use Rattle.partition.specs.Fti.{source_count, source_place}
-use Rattle.partition.proofs.Laws.{begins_within}
 use Rattle.block_code.proofs.RowAdding.{products}
 use Rattle.decoder.proofs.RowPlaces.{zero_behind, other_behind, row_and_column}
 use Rattle.decoder.proofs.blocks.are_padded.Goals as goal

@@ -4,7 +4,7 @@ use Rattle.partition.specs.Fti.{IsValidFti}
 use Rattle.alc.specs.Packet.{IsSymbolLength}
 use Rattle.alc.proofs.Again.{reads, exact}
 use Rattle.alc.proofs.Packets.{IfOk-packet, packet_valid, packet_symbol, packet_block, packet_tsi, packet_toi}
-use Rattle.alc.proofs.reading.read.Goals as goal
+use Rattle.alc.proofs.reading.read_with.Goals as goal
 
 pub returns-clause-reads : goal.returns-clause-reads
 returns-clause-reads c = reads c.args.datagram.now (λ i. omega (arith, c.type_inv.datagram i)) _ c.parse.ensures
