@@ -5,6 +5,7 @@ use Rattle.std.proofs.lemmas.Bool.Decides.{nat_tests}
 use Rattle.std.proofs.lemmas.List.{length-drop, take_all, get_or-drop}
 use Rattle.lists.specs.Bytes.{AreBytes}
 use Rattle.partition.specs.Fti.{Fti, IsValidFti}
+use Rattle.partition.specs.FtiBytes.{fti_of_bytes}
 use Rattle.alc.specs.Packet.{is_extension, fti_extension}
 use Rattle.alc.specs.PacketFault.{is_fti, HasFields}
 use Rattle.alc.specs.Computed.{part, fti_in, number_of}
@@ -69,3 +70,6 @@ length_field xs h = number_is 6 xs (omega arith)
 
 pub symbol_field : (xs : List ℕ) → length xs ≡ 10 → (fti_in xs).symbol_length ≡ big_from 0 2 (drop 6 xs)
 symbol_field xs h = number_is 2 (drop 6 xs) (omega (arith, length-drop 6 xs))
+
+pub content_is : (xs : List ℕ) → length xs ≡ 10 → fti_of_bytes xs ≡ fti_in xs
+content_is xs h = fti_made _ _ _ _ _ _ _ _ (sym (length_field xs h)) (sym (symbol_field xs h)) refl refl

@@ -7,6 +7,7 @@ use Rattle.std.specs.Prelude.{Option, Some, None, IfSome}
 use Rattle.std.specs.List.{list_all}
 use Rattle.byteorder.specs.Endian.{big_bytes}
 use Rattle.lists.specs.Bytes.{AreBytes}
+use Rattle.partition.specs.FtiBytes.{bytes_of_fti}
 use Rattle.partition.specs.Fti.{Fti, IsValidFti}
 
 -- TSI, TOI, the FTI where the packet carries one, source block number, encoding symbol ID, and the
@@ -38,9 +39,7 @@ abbrev pub is_other : List ℕ → Bool
 is_other e = is_extension e && not (type_of e == 64)
 
 abbrev pub fti_extension : Fti → List ℕ
-fti_extension f =
-    64 ∷ 3 ∷ big_bytes 6 f.transfer_length ++ big_bytes 2 f.symbol_length
-    ++ f.block_length ∷ f.max_symbols ∷ []
+fti_extension f = 64 ∷ 3 ∷ bytes_of_fti f
 
 -- where there is no FTI, there is no extension for it
 abbrev pub fti_bytes : Option Fti → List ℕ

@@ -2,6 +2,7 @@
 use Rattle.std.specs.Prelude.{ℕ, List, [], ◌∷◌, ◌++◌, Option, Some, None}
 use Rattle.byteorder.specs.Endian.{big_bytes}
 use Rattle.partition.specs.Fti.{Fti}
+use Rattle.partition.specs.FtiBytes.{bytes_of_fti}
 
 -- no other form is written: TSI and TOI of 32 bits, no congestion control, so many words of header
 abbrev pub fixed_part : ℕ → ℕ → ℕ → List ℕ
@@ -9,10 +10,7 @@ fixed_part words tsi toi =
     (0x10 ∷ 0xA0 ∷ words ∷ 5 ∷ 0 ∷ 0 ∷ 0 ∷ 0 ∷ []) ++ (big_bytes 4 tsi ++ big_bytes 4 toi)
 
 abbrev pub fti_part : Fti → List ℕ
-fti_part f =
-    (64 ∷ 3 ∷ [])
-    ++ (big_bytes 6 f.transfer_length
-    ++ (big_bytes 2 f.symbol_length ++ (f.block_length ∷ f.max_symbols ∷ [])))
+fti_part f = (64 ∷ 3 ∷ []) ++ bytes_of_fti f
 
 abbrev pub payload_id : ℕ → ℕ → List ℕ
 payload_id block esi = big_bytes 3 block ++ (esi ∷ [])

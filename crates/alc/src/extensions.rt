@@ -6,7 +6,6 @@ ghost use Rattle.partition.specs.FtiFault.{fti_fault};
 ghost use Rattle.alc.specs.Computed.{size_of, walk, fti_in};
 
 use crate::fault::PacketFault;
-use byteorder::{BigEndian, ByteOrder};
 use partition::Fti;
 
 /// The header extension type of EXT_FTI.
@@ -59,9 +58,8 @@ pub(crate) fn fti_content(extensions: &[u8]) -> Result<Option<&[u8]>, PacketFaul
     Ok(seen)
 }
 
-/// The FTI in the content of EXT_FTI: L in six bytes, E in two, B and max_n in one each. It is
-/// found faster where it's the one that is known.
-#[tactic(auto, using(crate::proofs::FtiFields::length_field, crate::proofs::FtiFields::symbol_field))]
+/// The FTI in the content of EXT_FTI. It is found faster where it's the one that is known.
+#[tactic(auto, using(crate::proofs::FtiFields::content_is))]
 pub(crate) fn fti_of(content: &[u8], known: Option<&Fti>) -> Result<Fti, PacketFault>
     requires { length content.now ≡ 10 }
     ensures numbers { IfOk result (λ f. f ≡ fti_in content.now) }
@@ -69,14 +67,5 @@ pub(crate) fn fti_of(content: &[u8], known: Option<&Fti>) -> Result<Fti, PacketF
     ensures fault { IfErr result (λ r.
         option_map PacketFault.FtiValue (fti_fault (fti_in content.now)) ≡ Some r) }
 {
-    let transfer_length = BigEndian::read_u48(content);
-    let symbol_length = BigEndian::read_u16(&content[6..]);
-    Fti::new_with(
-        known,
-        transfer_length,
-        symbol_length,
-        content[8],
-        content[9],
-    )
-    .map_err(PacketFault::FtiValue)
+    Fti::from_bytes(content, known).map_err(PacketFault::FtiValue)
 }

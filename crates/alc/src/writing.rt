@@ -40,9 +40,7 @@ fn write_fti(out: &mut [u8], fti: &Fti)
     ensures valid { IsValidFti fti.now }
 {
     out[..2].copy_from_slice(&[EXT_FTI, 3]);
-    BigEndian::write_u48(&mut out[2..], fti.transfer_length());
-    BigEndian::write_u16(&mut out[8..], fti.symbol_length());
-    out[10..].copy_from_slice(&[fti.block_length(), fti.max_symbols()]);
+    fti.write_to(&mut out[2..]);
 }
 
 fn write_payload_id(out: &mut [u8], sbn: u32, esi: u8)

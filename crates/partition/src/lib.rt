@@ -9,13 +9,16 @@
 //! another when they are sent. No call takes memory.
 #![tactic(auto)]
 
-ghost use Rattle.std.specs.Prelude.{◌≡◌, ℕ, ◌+◌, ◌*◌, ◌^◌, ◌<◌, ◌≤◌, min, true, Some, None, IfOk, IfErr};
+ghost use Rattle.std.specs.Prelude.{◌≡◌, ℕ, ◌+◌, ◌*◌, ◌^◌, ◌<◌, ◌≤◌, min, length, true, Some, None};
+ghost use Rattle.std.specs.Prelude.{IfOk, IfErr};
 ghost use Rattle.partition.specs.Fti.{symbol_count, block_count, source_count, start_of};
 ghost use Rattle.partition.specs.Fti.{block_bytes, encoding_count, has_symbol, last_length};
 ghost use Rattle.partition.specs.Fti.{fti_from, IsValidFti};
+ghost use Rattle.partition.specs.FtiBytes.{bytes_of_fti, fti_of_bytes};
 
 mod order;
 
+use byteorder::{BigEndian, ByteOrder};
 pub use order::Order;
 use std::fmt;
 use std::marker::Model;
@@ -165,9 +168,9 @@ impl Fti {
             && self.max_symbols == max_n
     }
 
-    /// As [`Fti::new`]. Where the numbers are those of the FTI that is known, nothing is divided.
+    // As `new`. Where the numbers are those of the FTI that is known, nothing is divided.
     #[tactic(auto, using(crate::proofs::Faults::valid_no_fault))]
-    pub fn new_with(known: Option<&Fti>, l: u64, e: u16, b: u8, max_n: u8) -> Result<Fti, FtiError>
+    fn new_with(known: Option<&Fti>, l: u64, e: u16, b: u8, max_n: u8) -> Result<Fti, FtiError>
         ensures numbers { IfOk result (λ f. f ≡ fti_from l e b max_n) }
         ensures valid { IfOk result IsValidFti }
         ensures no_fault { IfOk result (λ f. fti_fault f ≡ None) }
@@ -181,6 +184,32 @@ impl Fti {
             }
             _ => Fti::new(l, e, b, max_n),
         }
+    }
+
+    /// The FTI in its ten bytes (RFC 5510, section 5.2.4.1): L in six, E in two, B and max_n in one
+    /// each. The errors are those of [`Fti::new`]. Where the bytes are those of the FTI that is
+    /// known, nothing is divided.
+    pub fn from_bytes(bytes: &[u8], known: Option<&Fti>) -> Result<Fti, FtiError>
+        requires { length bytes.now ≡ 10 }
+        ensures numbers { IfOk result (λ f. f ≡ fti_of_bytes bytes.now) }
+        ensures valid { IfOk result IsValidFti }
+        ensures no_fault { IfOk result (λ _. fti_fault (fti_of_bytes bytes.now) ≡ None) }
+        ensures fault { IfErr result (λ e. fti_fault (fti_of_bytes bytes.now) ≡ Some e) }
+    {
+        let transfer_length = BigEndian::read_u48(bytes);
+        let symbol_length = BigEndian::read_u16(&bytes[6..]);
+        Fti::new_with(known, transfer_length, symbol_length, bytes[8], bytes[9])
+    }
+
+    /// Writes the ten bytes of the FTI.
+    pub fn write_to(&self, out: &mut [u8])
+        requires { length out.old ≡ 10 }
+        ensures written { out.new ≡ bytes_of_fti self.now }
+        ensures valid { IsValidFti self.now }
+    {
+        BigEndian::write_u48(out, self.transfer_length());
+        BigEndian::write_u16(&mut out[6..], self.symbol_length());
+        out[8..].copy_from_slice(&[self.block_length(), self.max_symbols()]);
     }
 
     /// What the type says: an `Fti` is valid.
