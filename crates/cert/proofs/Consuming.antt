@@ -8,7 +8,8 @@ use Rattle.partition.specs.Fti.{Fti, IsValidFti}
 use Rattle.partition.specs.FtiFault.{fti_fault}
 use Rattle.reception.specs.declared.scope.Identity.{Identity}
 use Rattle.std.proofs.lemmas.List.{append-nil}
-use Rattle.cert.specs.Certificate.{coefficient_count, fti_text, head_text, told_fti, text_fault, IsCertFault}
+use Rattle.partition.specs.FtiBytes.{bytes_of_fti}
+use Rattle.cert.specs.Certificate.{coefficient_count, head_text, told_fti, text_fault, IsCertFault}
 use Rattle.cert.specs.CertificateReading.{IsTold, IsReadFault, IsHeadFault, head_length}
 use Rattle.cert.proofs.Texts.{wrong_size}
 use Rattle.cert.proofs.OneText.{fti_back}
@@ -39,9 +40,9 @@ pub size_behind : (name : Option Identity) (f : Fti) (rest : List ℕ) → fti_f
     → text_fault (head_text name f ++ rest) ≡ Some Size
 unfolding head_text
 size_behind None f rest good valid wrong =
-    wrong_size (head_text None f) rest false refl (λ e. refl) refl f (ap (told_fti 0) (sym (append-nil (fti_text f))) ∙ fti_back f [] valid) good wrong
+    wrong_size (head_text None f) rest false refl (λ e. refl) refl f (ap (told_fti 0) (sym (append-nil (bytes_of_fti f))) ∙ fti_back f [] valid) good wrong
 size_behind (Some who) f rest good valid wrong =
-    wrong_size (head_text (Some who) f) rest true refl (λ e. absurd (cc)) refl f (ap (told_fti 0) (sym (append-nil (fti_text f))) ∙ fti_back f [] valid) good wrong
+    wrong_size (head_text (Some who) f) rest true refl (λ e. absurd (cc)) refl f (ap (told_fti 0) (sym (append-nil (bytes_of_fti f))) ∙ fti_back f [] valid) good wrong
 
 size_of_old : (old between : Option (List ℕ)) (name : Option Identity) (f : Fti) → fti_fault f ≡ None → IsValidFti f → Consumes old between (head_text name f)
     → IfSome between (λ x. length x ≢ coefficient_count f) → IfSome old (λ x. text_fault x ≡ Some Size)

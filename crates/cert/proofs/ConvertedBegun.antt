@@ -17,7 +17,8 @@ use Rattle.partition.proofs.Laws.{start_end, rising_to}
 use Rattle.streams.proofs.Writes.{front_some, then_some}
 use Rattle.session.specs.Pieces.{AppendsSome}
 use Rattle.reception.specs.declared.scope.Identity.{Identity}
-use Rattle.cert.specs.Certificate.{Certificate, IsIdentity, is_for, named_as, unnamed, coefficient_count, fti_text, name_text, head_text, coefficients_text, certificate_text}
+use Rattle.partition.specs.FtiBytes.{bytes_of_fti}
+use Rattle.cert.specs.Certificate.{Certificate, IsIdentity, is_for, named_as, unnamed, coefficient_count, name_text, head_text, coefficients_text, certificate_text}
 use Rattle.cert.specs.CertificateReading.{told_name}
 use Rattle.cert.specs.CoefficientRows.{text_place}
 use Rattle.cert.specs.Converting.{CanBe, BeginsConverted}
@@ -74,9 +75,9 @@ module _ (f g : Fti) (x y : List ℕ) (vf : IsValidFti f) (vg : IsValidFti g) wh
   one_head (Some who) (Some other) hn hm same =
       let heads : head_text (Some who) f ≡ head_text (Some other) g =
       sym (take-append_seam (head_text (Some who) f) x) ∙ same 34 (omega arith) (omega arith) ∙ take-append_seam (head_text (Some other) g) y in
-      let behind : name_text who ++ fti_text f ≡ name_text other ++ fti_text g = ap (drop 4) heads in
-      let rest : fti_text f ≡ fti_text g = sym (drop_at (name_text who) _ 20 refl) ∙ ap (drop 20) behind ∙ drop_at (name_text other) _ 20 refl in (
-        ap Some (sym (name_back who (fti_text f) hn) ∙ ap told_name behind ∙ name_back other (fti_text g) hm),
+      let behind : name_text who ++ bytes_of_fti f ≡ name_text other ++ bytes_of_fti g = ap (drop 4) heads in
+      let rest : bytes_of_fti f ≡ bytes_of_fti g = sym (drop_at (name_text who) _ 20 refl) ∙ ap (drop 20) behind ∙ drop_at (name_text other) _ 20 refl in (
+        ap Some (sym (name_back who (bytes_of_fti f) hn) ∙ ap told_name behind ∙ name_back other (bytes_of_fti g) hm),
         (same_fti f g [] [] vf vg (ap (λ (l : List ℕ). l ++ []) rest)).0,
       )
 

@@ -5,14 +5,15 @@ use Rattle.byteorder.specs.Endian.{big_bytes, big_number}
 use Rattle.byteorder.specs.Numbers.{big_number-reads_back}
 use Rattle.partition.specs.Fti.{Fti, IsValidFti, fti_from}
 use Rattle.reception.specs.declared.scope.Identity.{Identity}
-use Rattle.cert.specs.Certificate.{Certificate, IsCertificate, IsIdentity, name_text, fti_text, head_text, told_fti, coefficients_text, certificate_text, unnamed}
+use Rattle.partition.specs.FtiBytes.{bytes_of_fti}
+use Rattle.cert.specs.Certificate.{Certificate, IsCertificate, IsIdentity, name_text, head_text, told_fti, coefficients_text, certificate_text, unnamed}
 use Rattle.cert.specs.CertificateReading.{told_name}
 use Rattle.cert.proofs.TextPlaces.{one_list}
 
 abbrev identity : ℕ → ℕ → Identity
 identity t u = record { tsi = t; toi = u }
 
-pub fti_back : (f : Fti) (rest : List ℕ) → IsValidFti f → told_fti 0 (fti_text f ++ rest) ≡ f
+pub fti_back : (f : Fti) (rest : List ℕ) → IsValidFti f → told_fti 0 (bytes_of_fti f ++ rest) ≡ f
 fti_back f rest valid =
     let behind : List ℕ = f.block_length ∷ f.max_symbols ∷ rest in
     let length_again : big_number 6 (big_bytes 6 f.transfer_length ++ (big_bytes 2 f.symbol_length ++ behind)) ≡ f.transfer_length =
@@ -30,10 +31,10 @@ name_back who rest fits =
     ap (λ (v : ℕ). identity v (big_number 14 (big_bytes 14 who.toi ++ rest))) tsi_again ∙ ap (identity who.tsi) toi_again
 
 -- the FTI that a text tells, and what stands behind it
-pub same_fti : (f g : Fti) (x y : List ℕ) → IsValidFti f → IsValidFti g → fti_text f ++ x ≡ fti_text g ++ y → (f ≡ g) × (x ≡ y)
+pub same_fti : (f g : Fti) (x y : List ℕ) → IsValidFti f → IsValidFti g → bytes_of_fti f ++ x ≡ bytes_of_fti g ++ y → (f ≡ g) × (x ≡ y)
 same_fti f g x y vf vg same = (
   sym (fti_back f x vf) ∙ ap (told_fti 0) same ∙ fti_back g y vg,
-  sym (drop_at (fti_text f) x 10 refl) ∙ ap (drop 10) same ∙ drop_at (fti_text g) y 10 refl,
+  sym (drop_at (bytes_of_fti f) x 10 refl) ∙ ap (drop 10) same ∙ drop_at (bytes_of_fti g) y 10 refl,
 )
 
 abbrev made : Fti → Option Identity → List ℕ → Certificate
@@ -52,9 +53,9 @@ one_text_of None None f g x y hx hy same =
 one_text_of None (Some who) f g x y hx hy same = absurd (let e = ap (λ (l : List ℕ). get_or l 3 0) same in omega (arith, e))
 one_text_of (Some who) None f g x y hx hy same = absurd (let e = ap (λ (l : List ℕ). get_or l 3 0) same in omega (arith, e))
 one_text_of (Some who) (Some other) f g x y hx hy same =
-    let behind : name_text who ++ (fti_text f ++ x) ≡ name_text other ++ (fti_text g ++ y) = ap (drop 4) same in
-    let name : who ≡ other = sym (name_back who (fti_text f ++ x) (hx.name who refl)) ∙ ap told_name behind ∙ name_back other (fti_text g ++ y) (hy.name other refl) in
-    let rest : fti_text f ++ x ≡ fti_text g ++ y = sym (drop_at (name_text who) _ 20 refl) ∙ ap (drop 20) behind ∙ drop_at (name_text other) _ 20 refl in
+    let behind : name_text who ++ (bytes_of_fti f ++ x) ≡ name_text other ++ (bytes_of_fti g ++ y) = ap (drop 4) same in
+    let name : who ≡ other = sym (name_back who (bytes_of_fti f ++ x) (hx.name who refl)) ∙ ap told_name behind ∙ name_back other (bytes_of_fti g ++ y) (hy.name other refl) in
+    let rest : bytes_of_fti f ++ x ≡ bytes_of_fti g ++ y = sym (drop_at (name_text who) _ 20 refl) ∙ ap (drop 20) behind ∙ drop_at (name_text other) _ 20 refl in
     let w = same_fti f g x y hx.fti hy.fti rest in
     ap (λ (n : Identity). made f (Some n) x) name ∙ ap (λ (h : Fti). made h (Some other) x) w.0 ∙ ap (made g (Some other)) w.1
 

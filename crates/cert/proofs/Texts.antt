@@ -16,7 +16,8 @@ use Rattle.alc.specs.Computed.{number_of}
 use Rattle.alc.proofs.Digits.{number_is, bytes_again}
 use Rattle.alc.proofs.Bytes.{AreBytes-take, AreBytes-drop}
 use Rattle.cert.specs.declared.certificate.CertFault.TheVariants.{Magic, Fti as WrongFti, Size}
-use Rattle.cert.specs.Certificate.{IsIdentity, coefficient_count, magic, magic_of_named, name_text, fti_text, told_fti, fault_behind, size_fault, text_fault}
+use Rattle.partition.specs.FtiBytes.{bytes_of_fti}
+use Rattle.cert.specs.Certificate.{IsIdentity, coefficient_count, magic, magic_of_named, name_text, told_fti, fault_behind, size_fault, text_fault}
 use Rattle.cert.specs.CertificateReading.{told_name, head_length}
 
 -- ---- the magic number
@@ -160,7 +161,7 @@ spread_is (suc n) (y ∷ ys) h = ap (λ (l : List ℕ). y ∷ l) (spread_is n ys
 parts : (x : List ℕ) → length x ≡ 10 → x ≡ take 6 x ++ (take 2 (drop 6 x) ++ (get_or x 8 0 ∷ get_or x 9 0 ∷ []))
 parts x h = subst (λ (y : List ℕ). y ≡ take 6 y ++ (take 2 (drop 6 y) ++ (get_or y 8 0 ∷ get_or y 9 0 ∷ []))) (sym (spread_is 10 x h)) refl
 
-pub fti_again : (y : List ℕ) → length y ≡ 10 → AreBytes y → y ≡ fti_text (told_fti 0 y)
+pub fti_again : (y : List ℕ) → length y ≡ 10 → AreBytes y → y ≡ bytes_of_fti (told_fti 0 y)
 fti_again y h bytes =
     let length_bytes = number_back 6 y bytes (omega (arith, h)) in
     let symbol_bytes = number_back 2 (drop 6 y) (AreBytes-drop 6 y bytes) (omega (arith, h, length-drop 6 y)) in

@@ -13,7 +13,8 @@ use Rattle.partition.specs.declared.FtiError.{FtiError}
 use Rattle.partition.proofs.Faults.{valid_no_fault, no_fault_valid}
 use Rattle.reception.specs.declared.scope.Identity.{Identity}
 use Rattle.cert.specs.declared.certificate.CertFault.TheVariants.{Magic, Size}
-use Rattle.cert.specs.Certificate.{Certificate, IsCertificate, IsIdentity, coefficient_count, magic, magic_of_named, fti_text, name_text, head_text, coefficients_text, IsTextOfSome, told_fti, size_fault, fault_behind, text_fault}
+use Rattle.partition.specs.FtiBytes.{bytes_of_fti}
+use Rattle.cert.specs.Certificate.{Certificate, IsCertificate, IsIdentity, coefficient_count, magic, magic_of_named, name_text, head_text, coefficients_text, IsTextOfSome, told_fti, size_fault, fault_behind, text_fault}
 use Rattle.cert.specs.CertificateReading.{told_name}
 use Rattle.cert.proofs.Texts.{plain_front, named_front, told_behind, right_size, fti_again, name_again, name_in_range}
 use Rattle.cert.proofs.OneText.{fti_back}
@@ -29,9 +30,9 @@ length_coefficients (Some who) z form = form.count
 right_behind : (name : Option Identity) (f : Fti) (rest : List ℕ) → IsValidFti f → length rest ≡ coefficient_count f → text_fault (head_text name f ++ rest) ≡ None
 unfolding head_text
 right_behind None f rest valid count =
-    right_size (head_text None f) rest false refl (λ e. refl) refl f (ap (told_fti 0) (sym (append-nil (fti_text f))) ∙ fti_back f [] valid) (valid_no_fault f valid) count
+    right_size (head_text None f) rest false refl (λ e. refl) refl f (ap (told_fti 0) (sym (append-nil (bytes_of_fti f))) ∙ fti_back f [] valid) (valid_no_fault f valid) count
 right_behind (Some who) f rest valid count =
-    right_size (head_text (Some who) f) rest true refl (λ e. absurd (cc)) refl f (ap (told_fti 0) (sym (append-nil (fti_text f))) ∙ fti_back f [] valid) (valid_no_fault f valid) count
+    right_size (head_text (Some who) f) rest true refl (λ e. absurd (cc)) refl f (ap (told_fti 0) (sym (append-nil (bytes_of_fti f))) ∙ fti_back f [] valid) (valid_no_fault f valid) count
 
 pub has_no_fault : (x : List ℕ) → IsTextOfSome x → text_fault x ≡ None
 has_no_fault x text = ap text_fault text.2 ∙ right_behind text.0.name text.0.fti (coefficients_text text.0.name text.0) text.1.fti (length_coefficients text.0.name text.0 text.1)
@@ -68,20 +69,20 @@ valid_told from x bytes good =
 
 module _ (x : List ℕ) (bytes : AreBytes x) where
   -- the FTI that stands at a place
-  fti_here : (from : ℕ) → from + 10 ≤ length x → take 10 (drop from x) ≡ fti_text (told_fti from x)
+  fti_here : (from : ℕ) → from + 10 ≤ length x → take 10 (drop from x) ≡ bytes_of_fti (told_fti from x)
   fti_here from long =
       let here = take 10 (drop from x) in
       let told : told_fti from x ≡ told_fti 0 (take 10 (drop from x)) =
       ap (told_fti from) (sym (take-append-drop (from + 10) x))
       ∙ told_behind (take (from + 10) x) (drop (from + 10) x) from (length-take-le (from + 10) x long) ∙ ap (told_fti 0) (drop-take from 10 x) in
       fti_again here (length-take-le 10 (drop from x) (omega (arith, long, length-drop from x))) (AreBytes-take 10 (drop from x) (AreBytes-drop from x bytes))
-      ∙ ap fti_text (sym told)
+      ∙ ap bytes_of_fti (sym told)
 
   -- it, and what stands behind it
-  fti_behind : (from : ℕ) → from + 10 ≤ length x → drop from x ≡ fti_text (told_fti from x) ++ drop (from + 10) x
+  fti_behind : (from : ℕ) → from + 10 ≤ length x → drop from x ≡ bytes_of_fti (told_fti from x) ++ drop (from + 10) x
   fti_behind from long =
       sym (take-append-drop 10 (drop from x)) ∙ ap (λ (l : List ℕ). l ++ drop 10 (drop from x)) (fti_here from long)
-      ∙ ap (λ (l : List ℕ). fti_text (told_fti from x) ++ l) (drop-drop 10 from x)
+      ∙ ap (λ (l : List ℕ). bytes_of_fti (told_fti from x) ++ l) (drop-drop 10 from x)
 
   certificate_of : (name : Option Identity) → IfSome name IsIdentity → (from : ℕ) → IsRight (from + 10) x → x ≡ head_text name (told_fti from x) ++ drop (from + 10) x → IsTextOfSome x
   certificate_of name named from right text =

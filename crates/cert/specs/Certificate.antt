@@ -11,6 +11,7 @@ use Rattle.gf256.specs.Arithmetic.{point}
 use Rattle.poly.specs.Polynomial.{value}
 use Rattle.partition.specs.Fti.{Fti, IsValidFti, symbol_count, block_count, source_count}
 use Rattle.partition.specs.Fti.{source_place, fti_from}
+use Rattle.partition.specs.FtiBytes.{bytes_of_fti}
 use Rattle.partition.specs.FtiFault.{fti_fault}
 use Rattle.partition.specs.declared.FtiError.{FtiError}
 use Rattle.reception.specs.declared.scope.Identity.{Identity}
@@ -81,16 +82,10 @@ magic_of_named = 0x52 ∷ 0x53 ∷ 0x43 ∷ 0x32 ∷ []
 abbrev pub name_text : Identity → List ℕ
 name_text who = big_bytes 6 who.tsi ++ big_bytes 14 who.toi
 
--- the FTI in ten bytes
-abbrev pub fti_text : Fti → List ℕ
-fti_text f =
-    big_bytes 6 f.transfer_length ++ big_bytes 2 f.symbol_length
-    ++ (f.block_length ∷ f.max_symbols ∷ [])
-
 -- what stands before the coefficients
 unfoldable pub head_text : Option Identity → Fti → List ℕ
-head_text None f = magic ++ fti_text f
-head_text (Some who) f = magic_of_named ++ name_text who ++ fti_text f
+head_text None f = magic ++ bytes_of_fti f
+head_text (Some who) f = magic_of_named ++ name_text who ++ bytes_of_fti f
 
 -- a block's coefficients column by column, in a column the constant one first
 abbrev pub block_columns : Certificate → ℕ → List ℕ

@@ -6,14 +6,14 @@ ghost use Rattle.std.specs.List.{starts_with};
 ghost use Rattle.std.specs.Io.KnownBytes.{Consumes, IsAtEnd, Appends};
 ghost use Rattle.session.specs.Pieces.{AppendsSome};
 ghost use Rattle.partition.specs.FtiFault.{fti_fault};
-ghost use Rattle.cert.specs.Certificate.{IsIdentity, magic, magic_of_named, name_text, fti_text};
-ghost use Rattle.cert.specs.Certificate.{head_text, told_fti, IsCertFault};
+ghost use Rattle.cert.specs.Certificate.{IsIdentity, magic, magic_of_named, name_text};
+ghost use Rattle.cert.specs.Certificate.{head_text, IsCertFault};
 ghost use Rattle.cert.specs.CertificateReading.{told_name, IsTold, IsHeadFault, IsHeadOf};
 ghost use Rattle.cert.specs.CertificateReading.{head_length as length_of};
 
 use crate::certificate::CertFault;
 use byteorder::{BigEndian, ByteOrder};
-use partition::{Fti, FtiError};
+use partition::Fti;
 use reception::Identity;
 use session::{Failed, Read, Write, fill, write_all};
 
@@ -31,15 +31,6 @@ pub(crate) const LENGTH_OF_NAMED: usize = 34;
 pub(crate) struct Head {
     pub(crate) name: Option<Identity>,
     pub(crate) fti: Fti,
-}
-
-fn write_fti(out: &mut [u8], fti: &Fti)
-    requires { length out.old ≡ 10 }
-    ensures { out.new ≡ fti_text fti.now }
-{
-    BigEndian::write_u48(out, fti.transfer_length());
-    BigEndian::write_u16(&mut out[6..], fti.symbol_length());
-    out[8..].copy_from_slice(&[fti.block_length(), fti.max_symbols()]);
 }
 
 fn write_name(out: &mut [u8], name: &Identity)
@@ -63,13 +54,13 @@ fn put_head(out: &mut [u8], name: &Option<Identity>, fti: &Fti) -> usize
     match name {
         None => {
             out[..4].copy_from_slice(&MAGIC);
-            write_fti(&mut out[4..LENGTH], fti);
+            fti.write_to(&mut out[4..LENGTH]);
             LENGTH
         }
         Some(name) => {
             out[..4].copy_from_slice(&MAGIC_OF_NAMED);
             write_name(&mut out[4..24], name);
-            write_fti(&mut out[24..], fti);
+            fti.write_to(&mut out[24..]);
             LENGTH_OF_NAMED
         }
     }
@@ -111,17 +102,6 @@ fn head_length(front: &[u8]) -> usize
     }
 }
 
-fn read_fti(bytes: &[u8]) -> Result<Fti, FtiError>
-    requires { length bytes.now ≡ 10 }
-    ensures ok { IfOk result (λ f. f ≡ told_fti 0 bytes.now) }
-    ensures valid { IfOk result (λ _. fti_fault (told_fti 0 bytes.now) ≡ None) }
-    ensures fault { IfErr result (λ e. fti_fault (told_fti 0 bytes.now) ≡ Some e) }
-{
-    let length = BigEndian::read_u48(bytes);
-    let symbol = BigEndian::read_u16(&bytes[6..]);
-    Fti::new(length, symbol, bytes[8], bytes[9])
-}
-
 fn read_name(bytes: &[u8]) -> Identity
     requires { length bytes.now ≡ 20 }
     ensures { result ≡ told_name bytes.now }
@@ -145,7 +125,7 @@ fn plain_head(bytes: &[u8]) -> Result<Head, CertFault>
         return Err(CertFault::Size);
     }
     let (_, fti) = bytes.split_at(4);
-    match read_fti(fti) {
+    match Fti::from_bytes(fti, None) {
         Ok(fti) => Ok(Head { name: None, fti }),
         Err(e) => Err(CertFault::Fti(e)),
     }
@@ -165,7 +145,7 @@ fn named_head(bytes: &[u8]) -> Result<Head, CertFault>
     let (_, behind) = bytes.split_at(4);
     let (name, fti) = behind.split_at(20);
     let name = Some(read_name(name));
-    match read_fti(fti) {
+    match Fti::from_bytes(fti, None) {
         Ok(fti) => Ok(Head { name, fti }),
         Err(e) => Err(CertFault::Fti(e)),
     }

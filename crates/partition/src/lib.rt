@@ -162,10 +162,10 @@ impl Fti {
     fn has_numbers(&self, l: u64, e: u16, b: u8, max_n: u8) -> bool
         ensures { result ≡ true → self.now ≡ fti_from l e b max_n }
     {
-        self.transfer_length == l
-            && self.symbol_length == e
-            && self.block_length == b
-            && self.max_symbols == max_n
+        l == self.transfer_length
+            && e == self.symbol_length
+            && b == self.block_length
+            && max_n == self.max_symbols
     }
 
     // As `new`. Where the numbers are those of the FTI that is known, nothing is divided.

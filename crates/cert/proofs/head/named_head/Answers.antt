@@ -5,7 +5,8 @@ use Rattle.std.proofs.lemmas.List.{take-append-drop, drop-drop}
 use Rattle.lists.specs.Bytes.{AreBytes}
 use Rattle.partition.specs.FtiFault.{fti_fault}
 use Rattle.alc.proofs.Bytes.{AreBytes-drop, AreBytes-take}
-use Rattle.cert.specs.Certificate.{IsIdentity, magic_of_named, fti_text, name_text, head_text, told_fti}
+use Rattle.partition.specs.FtiBytes.{bytes_of_fti}
+use Rattle.cert.specs.Certificate.{IsIdentity, magic_of_named, name_text, head_text, told_fti}
 use Rattle.cert.specs.CertificateReading.{told_name, head_length}
 use Rattle.cert.proofs.Texts.{named_front, short_head, wrong_fti, fti_again, name_again, name_in_range}
 use Rattle.cert.proofs.head.named_head.Goals as goal
@@ -36,9 +37,9 @@ returns-in-Ok-clause-ok c =
           ∙ ap (λ (l : List ℕ). magic_of_named ++ (l ++ drop 20 (drop 4 x))) (name_again part part_long part_bytes)
           ∙ ap (λ who. magic_of_named ++ (name_text who ++ drop 20 (drop 4 x))) (sym (c.read_name.ensures ∙ ap told_name name_is))
           ∙ ap (λ (l : List ℕ). magic_of_named ++ (name_text c.read_name.result ++ l)) (behind ∙ fti_again (drop 24 x) (omega (arith, long, length-drop 24 x)) (AreBytes-drop 24 x bytes))
-          ∙ ap (λ f. magic_of_named ++ (name_text c.read_name.result ++ fti_text f)) (sym (c.in-Ok.ensures.ok ∙ ap (told_fti 0) fti_is));
+          ∙ ap (λ f. magic_of_named ++ (name_text c.read_name.result ++ bytes_of_fti f)) (sym (c.in-Ok.ensures.numbers ∙ ap (told_fti 0) fti_is));
       name = subst IsIdentity (sym (c.read_name.ensures ∙ ap told_name name_is)) (name_in_range part part_bytes);
-      good = ap fti_fault c.in-Ok.ensures.ok ∙ c.in-Ok.ensures.valid;
+      good = ap fti_fault c.in-Ok.ensures.numbers ∙ c.in-Ok.ensures.no_fault;
     }
 
 pub returns-in-Err-clause-fault : goal.returns-in-Err-clause-fault

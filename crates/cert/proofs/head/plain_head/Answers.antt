@@ -5,7 +5,8 @@ use Rattle.std.proofs.lemmas.List.{take-append-drop}
 use Rattle.lists.specs.Bytes.{AreBytes}
 use Rattle.partition.specs.FtiFault.{fti_fault}
 use Rattle.alc.proofs.Bytes.{AreBytes-drop}
-use Rattle.cert.specs.Certificate.{magic, magic_of_named, fti_text, head_text, told_fti}
+use Rattle.partition.specs.FtiBytes.{bytes_of_fti}
+use Rattle.cert.specs.Certificate.{magic, magic_of_named, head_text, told_fti}
 use Rattle.cert.specs.CertificateReading.{head_length}
 use Rattle.cert.proofs.Texts.{plain_front, short_head, wrong_fti, fti_again}
 use Rattle.cert.proofs.head.plain_head.Goals as goal
@@ -27,9 +28,9 @@ returns-in-Ok-clause-ok c =
     record {
       text = sym (take-append-drop 4 x) ∙ ap (λ (l : List ℕ). l ++ drop 4 x) (plain_front x c.requires.magic)
           ∙ ap (λ (l : List ℕ). magic ++ l) (fti_again (drop 4 x) (omega (arith, long, length-drop 4 x)) (AreBytes-drop 4 x bytes))
-          ∙ ap (λ f. magic ++ fti_text f) (sym (c.in-Ok.ensures.ok ∙ ap (told_fti 0) c.split_at.ensures.back));
+          ∙ ap (λ f. magic ++ bytes_of_fti f) (sym (c.in-Ok.ensures.numbers ∙ ap (told_fti 0) c.split_at.ensures.back));
       name = tt;
-      good = ap fti_fault c.in-Ok.ensures.ok ∙ c.in-Ok.ensures.valid;
+      good = ap fti_fault c.in-Ok.ensures.numbers ∙ c.in-Ok.ensures.no_fault;
     }
 
 pub returns-in-Err-clause-fault : goal.returns-in-Err-clause-fault
