@@ -1,11 +1,11 @@
 -- An object that is put together block by block.
 use Rattle.std.specs.List.{AllByRecursion}
-use Rattle.std.proofs.Common.{◌≡◌, ℕ, suc, ◌+◌, ◌-◌, ◌*◌, ◌<◌, ◌≤◌, List, [], ◌++◌, Option, length, min, get_or, take, get_or-take, length-take-le, length-append, arith, ap, ◌∙◌, sym, subst, inl, inr}
+use Rattle.std.proofs.Common.{◌≡◌, ℕ, suc, ◌+◌, ◌-◌, ◌*◌, ◌<◌, ◌≤◌, List, [], ◌++◌, Option, length, min, get_or, take, get_or-take, length-take-le, length-append, arith, ap, ◌∙◌, sym, subst, refl, inl, inr}
 use Rattle.std.proofs.lemmas.Bool.{cases_lt, le-leb}
 use Rattle.std.proofs.Math.Nat.{mul-le-mul_right}
 use Rattle.std.proofs.lemmas.List.{get_or_append_left, get_or-append-add, get_or_past}
 use Rattle.lists.specs.Bytes.{AreBytes}
-use Rattle.partition.specs.Fti.{Fti, IsValidFti, symbol_count, block_count, source_count, start_of, source_place, source_byte}
+use Rattle.partition.specs.Fti.{Fti, IsValidFti, symbol_count, block_count, source_count, start_of, source_place, source_byte, block_bytes}
 use Rattle.partition.proofs.Laws.{counts, in_object, start_step, start_end, rising_to, symbols_bounds}
 use Rattle.reception.specs.Symbols.{Symbol, AllFull, IsObject}
 use Rattle.reception.specs.Within.{IsWithin}
@@ -16,6 +16,10 @@ use Rattle.decoder.specs.Received.{IsIndex}
 use Rattle.decoder.specs.Decoded.{row_byte}
 use Rattle.decoder.proofs.Counts.{held_is}
 use Rattle.decoder.proofs.Solving.{solvable_from, solvable_gives, all_solvable, fits_only_from}
+
+-- a block's rows have its bytes of the object
+pub has_bytes : (f : Fti) (at : ℕ → Option (List ℕ)) (b : ℕ) (rows : List ℕ) → AreRows f b at rows → block_bytes f b ≤ length rows
+has_bytes f at b rows made = omega (arith, made.count)
 
 -- the object has the source symbols of the blocks before b
 pub record SoFar (f : Fti) (at : ℕ → ℕ → Option (List ℕ)) (b : ℕ) (object : List ℕ) : Type 0 where
@@ -37,9 +41,12 @@ nothing_yet f at some = record {
 }
 
 module _ (f : Fti) (valid : IsValidFti f) (at : ℕ → ℕ → Option (List ℕ)) (b : ℕ) (object rows front : List ℕ) (so_far : SoFar f at b object) (hb : b < block_count f)
-    (made : AreRows f b (at b) rows) (is : front ≡ take (min (f.transfer_length - length object) (length rows)) rows) where
+    (made : AreRows f b (at b) rows) (is_front : front ≡ take (block_bytes f b) rows) where
   here : length object ≡ start_of f b * f.symbol_length
   here = so_far.count hb
+
+  is : front ≡ take (min (f.transfer_length - length object) (length rows)) rows
+  is = is_front ∙ ap (λ (n : ℕ). take n rows) (rw (here, made.count) refl)
 
   front_count : length front ≡ min (f.transfer_length - length object) (length rows)
   front_count = ap length is ∙ length-take-le (min (f.transfer_length - length object) (length rows)) rows (omega arith)

@@ -1,11 +1,11 @@
 -- Sound blocks of which none is short are those of an object.
-use Rattle.std.proofs.Common.{◌≡◌, ◌∙◌, ℕ, zero, suc, ◌+◌, ◌-◌, ◌*◌, ◌/◌, ◌%◌, ◌<◌, ◌≤◌, List, [], ◌++◌, Option, length, min, take, refl, sym, ap, subst, inl, inr, arith}
+use Rattle.std.proofs.Common.{◌≡◌, ◌∙◌, ℕ, zero, suc, ◌+◌, ◌*◌, ◌/◌, ◌%◌, ◌<◌, ◌≤◌, List, [], ◌++◌, Option, take, refl, sym, ap, subst, inl, inr, arith}
 use Rattle.std.proofs.Math.Nat.{mul-le-mul_right}
 use Rattle.std.proofs.lemmas.Bool.{cases_lt}
 use Rattle.std.proofs.lemmas.Nat.{div-mul-add, mod-mul-add}
 use Rattle.gf256.specs.Arithmetic.{point}
 use Rattle.poly.specs.Polynomial.{value}
-use Rattle.partition.specs.Fti.{Fti, IsValidFti, block_count, source_count}
+use Rattle.partition.specs.Fti.{Fti, IsValidFti, block_bytes, block_count, source_count}
 use Rattle.partition.proofs.Laws.{some_block}
 use Rattle.reception.specs.Answer as value_of
 use Rattle.block_code.proofs.SourceRows.{row_of, length-row_of, get_or-row_of, bytes-row_of}
@@ -77,7 +77,7 @@ module _ (f : Fti) (valid : IsValidFti f) (at : ℕ → ℕ → Option (List ℕ
       let before = object_below n (omega (arith, most)) in
       let hb : n < block_count f = omega (arith, most) in
       let made = rows_of f n (at n) (sound n hb (enough n hb)) in
-      let front = take (min (f.transfer_length - length before.0) (length made.0)) made.0 in
+      let front = take (block_bytes f n) made.0 in
       let next : n + 1 ≡ suc n = omega arith in (
         before.0 ++ front,
         subst (λ (m : ℕ). SoFar f at m (before.0 ++ front)) next (one_more_block f valid at n before.0 made.0 front before.1 hb made.1 refl),

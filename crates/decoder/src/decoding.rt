@@ -53,8 +53,7 @@ fn decode_all(
         let Some(rows) = received_rows(alloc, received, codes, b, false, &mut kept)? else {
             return Ok(Answer::Fault(DecodeFault::NotCode(b)));
         };
-        let left = fti.transfer_length() as usize - object.len();
-        object.extend_from_slice(&rows.bytes[..left.min(rows.bytes.len())])?;
+        object.extend_from_slice(&rows.bytes[..fti.block_bytes(b)])?;
     }
     Ok(Answer::Object(object))
 }

@@ -202,11 +202,7 @@ fn place_of(symbols: &Symbols<Extent>, block: u32, esi: u8) -> Option<Extent>
     ensures listed { IfSome result (λ p.
         Contains (list_of symbols.now block) (record { esi = esi; symbol = p })) }
 {
-    let arrivals = symbols.blocks.get(&block)?;
-    if !arrivals.may_have(esi) {
-        return None;
-    }
-    last_place(arrivals.as_slice(), esi)
+    last_place(symbols.among(block, esi)?, esi)
 }
 
 // Keeps the packet's place, unless an earlier packet of its block and ESI has other bytes.

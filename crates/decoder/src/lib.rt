@@ -1,7 +1,8 @@
 //! The decoder: the object that datagrams give, or why they give none (RFC 5510, section 8).
 //!
 //! - `answer`: what a decoder answers;
-//! - `arrivals`: the symbols that came of a block, as slices of their datagrams or as copies;
+//! - `arrivals`: the symbols that came of a block, as slices of their datagrams, as copies or as
+//!   places in a file; `block_arrivals`: the same, with a bound on their ESIs;
 //! - `symbols`: what came, by block and ESI; `received`: that of a list of datagrams, or the first
 //!   fault at a place, by the FTI of the first carrier, which is found before; `counting`: how many
 //!   symbols each block has;

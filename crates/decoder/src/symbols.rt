@@ -42,6 +42,20 @@ impl<S: Drop> Symbols<S> {
         }
     }
 
+    /// The symbols of a block, where one with this ESI may be among them. Else none is.
+    pub(crate) fn among(&self, block: u32, esi: u8) -> Option<&[Arrival<S>]>
+        ensures none { IsNone result
+            → (held : S → List ℕ) → came_at held self.now block esi ≡ None }
+        ensures some { IfSome result (λ v. (held : S → List ℕ)
+            → arrived_at held v.now esi ≡ came_at held self.now block esi) }
+        ensures list { IfSome result (λ v. v.now ≡ list_of self.now block) }
+    {
+        match self.blocks.get(&block) {
+            Some(arrivals) if arrivals.may_have(esi) => Some(arrivals.as_slice()),
+            _ => None,
+        }
+    }
+
     /// Whether something came of a block.
     pub(crate) fn has_some(&self, block: u32) -> bool
         ensures some { result ≡ true → (held : S → List ℕ)
@@ -94,6 +108,6 @@ impl Symbols<&[u8]> {
     pub(crate) fn get(&self, block: u32, esi: u8) -> Option<&[u8]>
         ensures { option_map (λ s. s.now) result ≡ bytes_at self.now block esi }
     {
-        symbol_at(self.of_block(block)?, esi)
+        symbol_at(self.among(block, esi)?, esi)
     }
 }

@@ -74,17 +74,17 @@ pub(crate) fn write_blocks<S: Source, W: Write>(
     ensures unread { IfErr result (IsUnwrittenOf (S.Told source.now) (S.reliable source.now)) }
 {
     let fti = source.fti();
-    let mut left = fti.transfer_length();
+    let count = fti.block_count();
     let mut workspace = source.workspace(alloc)?;
-    for b in 0..fti.block_count() {
+    for b in 0..count {
         let Some(rows) = source.rows(alloc, codes, b, are_sound, &mut workspace)? else {
             return Ok(false);
         };
-        let used = left.min(rows.bytes.len() as u64);
-        let Ok(()) = write_all(writer, &rows.bytes[..used as usize]) else {
+        // Of a source that isn't told the rows may be shorter.
+        let used = fti.block_bytes(b).min(rows.bytes.len());
+        let Ok(()) = write_all(writer, &rows.bytes[..used]) else {
             return Err(Unwritten::Writer);
         };
-        left -= used;
     }
     Ok(true)
 }

@@ -29,7 +29,7 @@ unfoldable pub horner : ℕ → (ℕ → ℕ) → ℕ
 horner zero f = 0
 horner (suc n) f = sum_of (doubled (horner n f)) (f n)
 
--- a lane of an entry of a table
+-- byte t of the entry at a place, of a list of entries
 abbrev pub lane : List (List ℕ) → ℕ → ℕ → ℕ
 lane table place t = slice_index (slice_index_or table place []) t
 
@@ -82,6 +82,6 @@ pub record IsAdded (old new : List ℕ) (rows : ℕ) (columns : Columns)
       → slice_index new (r * columns.width + j) ≡ slice_index old (r * columns.width + j)
   pub above : (p : ℕ) → rows * columns.width ≤ p → slice_index new p ≡ slice_index old p
 
--- no byte is above eight times the last number below a limit
+-- each byte is at most eight times the greatest number below a limit
 abbrev pub AreSmall : List ℕ → ℕ → Type 0
 AreSmall lists limit = (i : ℕ) → slice_index lists i + 8 ≤ 8 * limit

@@ -27,7 +27,7 @@ const FEW_SOURCES: usize = 32;
 /// [`FEW_SOURCES`], by measurement.
 const MANY_ROWS: usize = 64;
 
-/// From so many outputs on this is so for rows of [`WIDE_BYTES`] and more.
+/// From so many outputs on they are faster for rows of [`WIDE_BYTES`] and more, too.
 const SOME_ROWS: usize = 24;
 
 /// In rows of so many bytes the lists are used often enough to pay for longer ones.
@@ -36,8 +36,8 @@ const WIDE_BYTES: usize = 512;
 /// Outputs that are made of one table.
 const MOST_ROWS: usize = 128;
 
-/// A value at an address that 16 divides, as a number of 16 bytes beside it asks for that. A local
-/// array of bytes alone has none such: then more loads cross a line of the cache.
+/// A value at an address that 16 divides: the number of 16 bytes beside it asks for one. A local
+/// array of bytes alone may be at any address, and then more loads cross a line of the cache.
 #[derive(Drop)]
 struct Aligned<T> {
     value: T,

@@ -1,10 +1,11 @@
 //! How sources and columns are taken together.
 ghost use Rattle.std.specs.Prelude.{◌≡◌, ◌≤◌, ◌+◌, ◌^◌};
 
-/// The numbers that a list has for each bit of its coefficients, a group's in each of the first.
+/// How many bytes a list has for each bit of its coefficients. Each of the first ones tells the
+/// entry of one group.
 pub(crate) const STEP: usize = 16;
 
-/// The numbers of a list, for 8 bits.
+/// The bytes of a list, for 8 bits.
 pub(crate) const LIST: usize = 128;
 
 /// How the sources of one table are grouped. Source `q + x * groups` is number `x` of group `q`. A

@@ -1,5 +1,4 @@
-use Rattle.std.proofs.Common.{◌≡◌, ◌∙◌, arith, sym, ap, refl, length}
-use Rattle.partition.proofs.Laws.{in_object, some_source}
+use Rattle.std.proofs.Common.{arith, refl}
 use Rattle.decoder.specs.Received.{bytes_at}
 use Rattle.decoder.proofs.ObjectSoFar.{nothing_yet, one_more_block, object_answers, not_code_answers}
 use Rattle.decoder.proofs.decoding.decode_all.Goals as goal
@@ -15,21 +14,13 @@ returns-in_default c =
     not_code_answers c.args.received.now.fti c.transfer_length.ensures.valid (bytes_at c.args.received.now.symbols) c.loop-b.b c.loop-b.object.items c.loop-b.invariant.object
     (omega (arith, c.block_count-b-end.ensures.value)) (c.in_ok-rows.ensures.none (rw c.in_default.is refl)) c.requires.enough
 
-pub overflow_sub-left : goal.overflow_sub-left
-overflow_sub-left c =
-    let e = c.loop-b.invariant.object.count (omega (arith, c.block_count-b-end.ensures.value)) in
-    let first = in_object c.args.received.now.fti c.transfer_length.ensures.valid c.loop-b.b 0 (omega (arith, c.block_count-b-end.ensures.value)) (omega (arith, some_source c.args.received.now.fti c.transfer_length.ensures.valid c.loop-b.b)) in
-    omega (arith, e, first, c.transfer_length-in-loop-b.ensures.value, c.len.ensures)
-
 pub loop-b-preserved : goal.loop-b-preserved
 loop-b-preserved c = record {
   object =
       rw c.in_ok-extend_from_slice.ensures.items
       (one_more_block c.args.received.now.fti c.transfer_length.ensures.valid (bytes_at c.args.received.now.symbols) c.loop-b.b c.loop-b.object.items c.in-Some.rows.bytes.items _ c.loop-b.invariant.object
       (omega (arith, c.block_count-b-end.ensures.value)) (rw c.in-Some.is at c.in_ok-rows.ensures.rows)
-      (let have : c.len.result ≡ length c.loop-b.object.items = omega (arith, c.len.ensures) in
-      let more : c.len-in-loop-b.result ≡ length c.in-Some.rows.bytes.items = c.len-in-loop-b.ensures ∙ sym c.deref.ensures.len ∙ ap length c.deref.ensures.value in
-      rw (c.deref.ensures.value, c.min.ensures, c.transfer_length-in-loop-b.ensures.value, have, more) refl));
+      (rw (c.deref.ensures.value, c.block_bytes.ensures.value) refl));
   kept = c.received_rows.ensures.keeps;
 }
 

@@ -1,21 +1,20 @@
-use Rattle.std.proofs.Common.{◌≡◌, ◌≤◌, ◌<◌, ◌-◌, ◌+◌, ◌++◌, ◌∙◌, ℕ, List, [], length, take, length-append, length-take-le, ap, sym, subst, refl, arith}
-use Rattle.partition.specs.Fti.{IsValidFti, block_count}
-use Rattle.partition.proofs.Laws.{some_block}
+use Rattle.std.proofs.Common.{◌≡◌, ◌≤◌, ◌<◌, ◌+◌, ◌*◌, ◌++◌, ◌∙◌, ℕ, suc, List, [], length, take, length-append, length-take-le, ap, sym, subst, refl, arith}
+use Rattle.partition.specs.Fti.{IsValidFti, block_count, source_count, start_of, block_bytes}
+use Rattle.partition.proofs.Laws.{some_block, some_source, start_step, in_object}
 use Rattle.session.proofs.Writes.{then_appends, then_some}
 use Rattle.decoder.proofs.Beginnings.{begins, begins_whole}
-use Rattle.decoder.proofs.ObjectSoFar.{nothing_yet, one_more_block, object_answers}
+use Rattle.decoder.proofs.ObjectSoFar.{nothing_yet, has_bytes, one_more_block, object_answers}
 use Rattle.decoder.proofs.Beginnings.{appends_nothing, on_err}
 use Rattle.decoder.proofs.writing.write_blocks.Goals as goal
 
 pub loop-b-init : goal.loop-b-init
 loop-b-init g c =
-    let many = rw c.fti-fti.ensures at c.block_count-b-end.ensures.value in
-    let all = rw c.fti-fti.ensures at c.transfer_length-left.ensures.value in
+    let many = rw c.fti-fti.ensures at c.block_count-count.ensures.value in
     record {
       object = [];
-      so_far = λ told. nothing_yet (g.S.Source.known c.args.source.now) (g.S.Source.at c.args.source.now) (omega (arith, c.block_count-b-end.ensures.some, many));
+      so_far = λ told. nothing_yet (g.S.Source.known c.args.source.now) (g.S.Source.at c.args.source.now) (omega (arith, c.block_count-count.ensures.some, many));
       written = appends_nothing _;
-      left = omega (arith, all);
+      few = omega arith;
       room = omega arith;
       fits = c.in_ok-workspace.ensures c.args.codes.now;
     }
@@ -24,31 +23,31 @@ pub returns-in_err-workspace-clause-front : goal.returns-in_err-workspace-clause
 returns-in_err-workspace-clause-front g c = λ told.
     let f = g.S.Source.known c.args.source.now in
     let at = g.S.Source.at c.args.source.now in
-    let valid = subst IsValidFti c.fti-fti.ensures c.transfer_length-left.ensures.valid in
+    let valid = subst IsValidFti c.fti-fti.ensures c.block_count-count.ensures.valid in
     let some = some_block f valid in
     on_err _ _ (begins_whole f valid at 0 [] (nothing_yet f at some) (omega (arith, some)) _ _ (appends_nothing _))
 
 pub rows-requires-clause-number : goal.rows-requires-clause-number
 rows-requires-clause-number g c =
-    let many = rw c.fti-fti.ensures at c.block_count-b-end.ensures.value in
+    let many = rw c.fti-fti.ensures at c.block_count-count.ensures.value in
     omega (arith, many, c.loop-b-test.true)
 
 pub rows-requires-clause-enough : goal.rows-requires-clause-enough
 rows-requires-clause-enough g c =
-    let many = rw c.fti-fti.ensures at c.block_count-b-end.ensures.value in
+    let many = rw c.fti-fti.ensures at c.block_count-count.ensures.value in
     c.requires.enough c.loop-b.b (omega (arith, many, c.loop-b-test.true))
 
 pub rows-requires-clause-sound : goal.rows-requires-clause-sound
 rows-requires-clause-sound g c = λ sound told.
-    let many = rw c.fti-fti.ensures at c.block_count-b-end.ensures.value in
+    let many = rw c.fti-fti.ensures at c.block_count-count.ensures.value in
     let hb : c.loop-b.b < block_count (g.S.Source.known c.args.source.now) = omega (arith, many, c.loop-b-test.true) in
     c.requires.sound sound told c.loop-b.b hb (c.requires.enough c.loop-b.b hb)
 
 pub returns-in_err-rows-clause-front : goal.returns-in_err-rows-clause-front
 returns-in_err-rows-clause-front g c = λ told.
     let i = c.loop-b.invariant in
-    let many = rw c.fti-fti.ensures at c.block_count-b-end.ensures.value in
-    on_err _ _ (begins_whole (g.S.Source.known c.args.source.now) (subst IsValidFti c.fti-fti.ensures c.transfer_length-left.ensures.valid) (g.S.Source.at c.args.source.now) c.loop-b.b i.object (i.so_far told)
+    let many = rw c.fti-fti.ensures at c.block_count-count.ensures.value in
+    on_err _ _ (begins_whole (g.S.Source.known c.args.source.now) (subst IsValidFti c.fti-fti.ensures c.block_count-count.ensures.valid) (g.S.Source.at c.args.source.now) c.loop-b.b i.object (i.so_far told)
     (omega (arith, many)) _ _ i.written)
 
 pub returns-in_default-write_all-clause-front : goal.returns-in_default-write_all-clause-front
@@ -56,46 +55,66 @@ returns-in_default-write_all-clause-front g c = λ told.
     let i = c.loop-b.invariant in
     let f = g.S.Source.known c.args.source.now in
     let at = g.S.Source.at c.args.source.now in
-    let many = rw c.fti-fti.ensures at c.block_count-b-end.ensures.value in
-    let valid = subst IsValidFti c.fti-fti.ensures c.transfer_length-left.ensures.valid in
+    let many = rw c.fti-fti.ensures at c.block_count-count.ensures.value in
+    let valid = subst IsValidFti c.fti-fti.ensures c.block_count-count.ensures.valid in
     let front : List ℕ = take c.min-used.result c.deref.result.now in
     let hb : c.loop-b.b < block_count (g.S.Source.known c.args.source.now) = omega (arith, many) in
+    let made = rw c.in-Some.is at (c.in_ok-rows.ensures.rows told) in
     let more : c.len.result ≡ length c.in-Some.rows.bytes.items = c.len.ensures ∙ sym c.deref.ensures.len ∙ ap length c.deref.ensures.value in
-    let rest : c.loop-b.left ≡ (g.S.Source.known c.args.source.now).transfer_length - length c.loop-b.invariant.object = omega (arith, i.left) in
+    let bytes : c.block_bytes.result ≡ block_bytes f c.loop-b.b = rw c.fti-fti.ensures at c.block_bytes.ensures.value in
+    let used_is : c.min-used.result ≡ block_bytes f c.loop-b.b = omega (arith, c.min-used.ensures, bytes, more, has_bytes f (at c.loop-b.b) c.loop-b.b _ made) in
     begins f valid at (c.loop-b.b + 1) (i.object ++ front)
-    (one_more_block f valid at c.loop-b.b i.object c.in-Some.rows.bytes.items front (i.so_far told) hb
-    (rw c.in-Some.is at (c.in_ok-rows.ensures.rows told)) (rw (c.deref.ensures.value, c.min-used.ensures, rest, more) refl))
+    (one_more_block f valid at c.loop-b.b i.object c.in-Some.rows.bytes.items front (i.so_far told) hb made (rw (c.deref.ensures.value, used_is) refl))
     (omega (arith, hb)) _ _ (then_some _ _ _ i.object front i.written c.in_default-write_all.ensures.err)
 
 pub loop-b-preserved : goal.loop-b-preserved
 loop-b-preserved g c =
     let i = c.loop-b.invariant in
     let f = g.S.Source.known c.args.source.now in
-    let many = rw c.fti-fti.ensures at c.block_count-b-end.ensures.value in
-    let valid = subst IsValidFti c.fti-fti.ensures c.transfer_length-left.ensures.valid in
-    let used : ℕ = c.min-used.result in
+    let at = g.S.Source.at c.args.source.now in
+    let many = rw c.fti-fti.ensures at c.block_count-count.ensures.value in
+    let valid = subst IsValidFti c.fti-fti.ensures c.block_count-count.ensures.valid in
     let front : List ℕ = take c.min-used.result c.deref.result.now in
     let hb : c.loop-b.b < block_count (g.S.Source.known c.args.source.now) = omega (arith, many) in
     let more : c.len.result ≡ length c.in-Some.rows.bytes.items = c.len.ensures ∙ sym c.deref.ensures.len ∙ ap length c.deref.ensures.value in
-    let rest : c.loop-b.left ≡ (g.S.Source.known c.args.source.now).transfer_length - length c.loop-b.invariant.object = omega (arith, i.left) in
+    let bytes : c.block_bytes.result ≡ block_bytes f c.loop-b.b = rw c.fti-fti.ensures at c.block_bytes.ensures.value in
     let within : c.min-used.result ≤ length c.deref.result.now = omega (arith, c.min-used.ensures, more, ap length c.deref.ensures.value) in
     let count : length (take c.min-used.result c.deref.result.now) ≡ c.min-used.result = length-take-le c.min-used.result c.deref.result.now within in
     let all = length-append i.object front in
+    let one : c.loop-b.b + 1 ≡ suc c.loop-b.b = omega arith in
+    let next : start_of f (c.loop-b.b + 1) * f.symbol_length ≡ (start_of f c.loop-b.b + source_count f c.loop-b.b) * f.symbol_length =
+    ap (λ (n : ℕ). start_of f n * f.symbol_length) one ∙ ap (λ (n : ℕ). n * f.symbol_length) (start_step f valid c.loop-b.b) in
     record {
       object = i.object ++ front;
-      so_far = λ told. one_more_block f valid (g.S.Source.at c.args.source.now) c.loop-b.b i.object c.in-Some.rows.bytes.items front (i.so_far told) hb
-          (rw c.in-Some.is at (c.in_ok-rows.ensures.rows told)) (rw (c.deref.ensures.value, c.min-used.ensures, rest, more) refl);
+      so_far = λ told.
+          let made = rw c.in-Some.is at (c.in_ok-rows.ensures.rows told) in
+          let used_is : c.min-used.result ≡ block_bytes f c.loop-b.b = omega (arith, c.min-used.ensures, bytes, more, has_bytes f (at c.loop-b.b) c.loop-b.b _ made) in
+          one_more_block f valid at c.loop-b.b i.object c.in-Some.rows.bytes.items front (i.so_far told) hb made (rw (c.deref.ensures.value, used_is) refl);
       written = then_appends _ _ _ i.object front i.written c.in-Ok.ensures.ok;
-      left = omega (arith, i.left, all, count, c.min-used.ensures);
+      few = omega (arith, i.few, all, count, c.min-used.ensures, bytes, next);
       room = omega (arith, i.room, all, c.in-Ok.ensures.fills);
       fits = c.rows.ensures.fits;
     }
 
+pub returns-in_default-write_all-clause-full : goal.returns-in_default-write_all-clause-full
+returns-in_default-write_all-clause-full g c = λ _.
+    let i = c.loop-b.invariant in
+    let f = g.S.Source.known c.args.source.now in
+    let many = rw c.fti-fti.ensures at c.block_count-count.ensures.value in
+    let valid = subst IsValidFti c.fti-fti.ensures c.block_count-count.ensures.valid in
+    let hb : c.loop-b.b < block_count (g.S.Source.known c.args.source.now) = omega (arith, many) in
+    let more : c.len.result ≡ length c.in-Some.rows.bytes.items = c.len.ensures ∙ sym c.deref.ensures.len ∙ ap length c.deref.ensures.value in
+    let bytes : c.block_bytes.result ≡ block_bytes f c.loop-b.b = rw c.fti-fti.ensures at c.block_bytes.ensures.value in
+    let within : c.min-used.result ≤ length c.deref.result.now = omega (arith, c.min-used.ensures, more, ap length c.deref.ensures.value) in
+    let count : length (take c.min-used.result c.deref.result.now) ≡ c.min-used.result = length-take-le c.min-used.result c.deref.result.now within in
+    let first = in_object f valid c.loop-b.b 0 hb (omega (arith, some_source f valid c.loop-b.b)) in
+    omega (arith, i.few, i.room, count, c.min-used.ensures, bytes, first, c.in_default-write_all.ensures.full)
+
 pub returns-clause-whole : goal.returns-clause-whole
 returns-clause-whole g c = λ told _.
     let i = c.loop-b.invariant in
-    let many = rw c.fti-fti.ensures at c.block_count-b-end.ensures.value in
-    let valid = subst IsValidFti c.fti-fti.ensures c.transfer_length-left.ensures.valid in
+    let many = rw c.fti-fti.ensures at c.block_count-count.ensures.value in
+    let valid = subst IsValidFti c.fti-fti.ensures c.block_count-count.ensures.valid in
     let end : c.loop-b.b ≡ block_count (g.S.Source.known c.args.source.now) = omega (arith, c.loop-b-test.false, c.loop-b.auto.b-end, many) in
     record {
       object = i.object;

@@ -1,4 +1,5 @@
-use Rattle.std.proofs.Common.{◌≡◌, ◌≤◌, ◌+◌, ℕ, List, length}
+use Rattle.std.proofs.Common.{◌≤◌, ◌+◌, ◌*◌, ℕ, List, length}
+use Rattle.partition.specs.Fti.{start_of}
 use Rattle.std.specs.Io.KnownBytes.{Appends}
 use Rattle.decoder.proofs.ObjectSoFar.{SoFar}
 use Rattle.decoder.proofs.writing.write_blocks.Given as goal
@@ -8,7 +9,7 @@ invariant-loop-b g l = record {
   object : List ℕ;
   so_far : g.S.Source.Told l.source → SoFar (g.S.Source.known l.source) (g.S.Source.at l.source) l.b object;
   written : Appends (g.W.Write.contents l.initial.writer) (g.W.Write.contents l.writer) object;
-  left : length object + l.left ≡ (g.S.Source.known l.source).transfer_length;
+  few : length object ≤ start_of (g.S.Source.known l.source) l.b * (g.S.Source.known l.source).symbol_length;
   room : g.W.Write.room l.initial.writer ≤ g.W.Write.room l.writer + length object;
   fits : g.S.Source.Fits l.source l.codes l.workspace;
 }
