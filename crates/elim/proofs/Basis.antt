@@ -403,7 +403,7 @@ abbrev pub AreUnits : ℕ → ℕ → (ℕ → ℕ → ℕ) → Type 0
 AreUnits k i w = (a j : ℕ) → a < i → j < k → row_times sum_of product 0 (w a) power_entry k j ≡ identity_entry 0 1 a j
 
 pub units_more : (k i s : ℕ) (q : List ℕ) (old new : ℕ → ℕ → ℕ) → i < k → IsByte s → IsNumerator k i q → product (value q (point i)) s ≡ 1
-    → IsRowSet product k k i s (λ j. get_or q j 0) old new → AreUnits k i old → AreUnits k (i + 1) new
+    → IsRowSet k k i (λ j. product s (get_or q j 0)) old new → AreUnits k i old → AreUnits k (i + 1) new
 units_more k i s q old new li es h one set so_far a j la lj = elim (cases_eq a i) [
   | inl e ↦ rw e (
       sum_same IsByte sum_of product 0 1 byte_field (λ m. product (new i m) (power_entry m j)) (λ m. product (product s (get_or q m 0)) (power_entry m j)) k

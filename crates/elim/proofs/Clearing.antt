@@ -4,14 +4,25 @@ use Rattle.std.proofs.Common.{◌∙◌, sym, ap, arith, inl, inr}
 use Rattle.std.proofs.lemmas.Bool.{cases_eq}
 use Rattle.gf256.specs.FieldLaws.{IsField}
 use Rattle.elim.specs.Matrices.{AreElements, identity_entry}
-use Rattle.elim.specs.Steps.{IsSwapped, IsScaled, IsAdded, SameSolutions, HasUnitColumns, IsNormalized, ClearsColumn}
+use Rattle.elim.specs.Steps.{IsSwapped, IsRowSet, System, SameSolutions, HasUnitColumns}
 use Rattle.elim.proofs.Sums.{sum_same}
-use Rattle.elim.proofs.Elimination.{transposed_entry, IsReduced, equal_refl, equal_then, swapped_equal, scaled_equal, added_equal, swapped_cleared, scaled_cleared, added_cleared, one_more_cleared}
+use Rattle.elim.proofs.Elimination.{system, transposed_entry, IsReduced, equal_refl, equal_then, swapped_equal, scaled_equal, added_equal, swapped_cleared, scaled_cleared, added_cleared, one_more_cleared}
 use Rattle.elim.specs.Squares.{AreInverseSquares}
+
+-- both systems have the same solutions, the columns before p are kept, and the entry at p, p is one
+pub record IsNormalized {F : Type 0} (element : F → Type 0) (add mul : F → F → F) (none one : F) (k p : ℕ) (old new : System F) : Type 0 where
+  pub equal : SameSolutions element add mul none k old new
+  pub kept : HasUnitColumns none one k p old.matrix → HasUnitColumns none one k p new.matrix
+  pub here : new.matrix p p ≡ one
+
+-- both systems have the same solutions, and one column more is cleared
+pub record ClearsColumn {F : Type 0} (element : F → Type 0) (add mul : F → F → F) (none one : F) (k p : ℕ) (old new : System F) : Type 0 where
+  pub equal : SameSolutions element add mul none k old new
+  pub more : HasUnitColumns none one k p old.matrix → HasUnitColumns none one k (p + 1) new.matrix
 
 -- on the way of clearing column p: the rows before i have nothing in it, but for row p
 pub record IsClearedTo {F : Type 0} (element : F → Type 0) (add mul : F → F → F) (none one : F) (k p i : ℕ) (w r w2 r2 : ℕ → ℕ → F) : Type 0 where
-  pub equal : SameSolutions element add mul none k w r w2 r2
+  pub equal : SameSolutions element add mul none k (system w r) (system w2 r2)
   pub kept : HasUnitColumns none one k p w → HasUnitColumns none one k p w2
   pub here : w2 p p ≡ one
   pub gone : (a : ℕ) → a < i → a ≢ p → w2 a p ≡ none
@@ -19,17 +30,14 @@ pub record IsClearedTo {F : Type 0} (element : F → Type 0) (add mul : F → F 
 pub swapped_at : {F : Type 0} (a b c d k : ℕ) (old new : ℕ → ℕ → F) → c ≡ k → d ≡ k → IsSwapped c d a b old new → IsSwapped k k a b old new
 swapped_at a b c d k old new e f h = record { first = rw (← f) h.first; second = rw (← f) h.second; others = rw (e, f) at h.others }
 
-pub scaled_at : {F : Type 0} (mul : F → F → F) (r : ℕ) (v : F) (c d k : ℕ) (old new : ℕ → ℕ → F) → c ≡ k → d ≡ k → IsScaled mul c d r v old new → IsScaled mul k k r v old new
-scaled_at mul r v c d k old new e f h = record { here = rw (← f) h.here; others = rw (e, f) at h.others }
-
-pub added_at : {F : Type 0} (add mul : F → F → F) (r : ℕ) (v : F) (p c d k : ℕ) (old new : ℕ → ℕ → F) → c ≡ k → d ≡ k → IsAdded add mul c d r v p old new → IsAdded add mul k k r v p old new
-added_at add mul r v p c d k old new e f h = record { here = rw (← f) h.here; others = rw (e, f) at h.others }
+pub set_at : {F : Type 0} (r : ℕ) (row : ℕ → F) (c d k : ℕ) (old new : ℕ → ℕ → F) → c ≡ k → d ≡ k → IsRowSet c d r row old new → IsRowSet k k r row old new
+set_at r row c d k old new e f h = record { here = rw (← f) h.here; others = rw (e, f) at h.others }
 
 module _ {F : Type 0} (element : F → Type 0) (add mul : F → F → F) (none one : F) (field : IsField element add mul none one) where
   pub normal : (k p q : ℕ) (c : F) (w r w2 r2 w3 r3 : ℕ → ℕ → F) → p ≤ q → q < k → element c → mul (w q p) c ≡ one
       → ((i : ℕ) → AreElements element (w i)) → ((i : ℕ) → AreElements element (w2 i)) → ((i : ℕ) → AreElements element (r2 i)) → ((i : ℕ) → AreElements element (w3 i)) → ((i : ℕ) → AreElements element (r3 i))
-      → IsSwapped k k p q w w2 → IsSwapped k k p q r r2 → IsScaled mul k k p c w2 w3 → IsScaled mul k k p c r2 r3
-      → IsNormalized element add mul none one k p w r w3 r3
+      → IsSwapped k k p q w w2 → IsSwapped k k p q r r2 → IsRowSet k k p (λ j. mul c (w2 p j)) w2 w3 → IsRowSet k k p (λ j. mul c (r2 p j)) r2 r3
+      → IsNormalized element add mul none one k p (system w r) (system w3 r3)
   normal k p q c w r w2 r2 w3 r3 le lq ec e ew ew2 er2 ew3 er3 sw sr tw tr =
       let lp : p < k = omega arith in
       let ed = ew q p in
@@ -49,7 +57,7 @@ module _ {F : Type 0} (element : F → Type 0) (add mul : F → F → F) (none o
 
   pub clearing_more : (k p i : ℕ) (c : F) (w r w2 r2 w3 r3 : ℕ → ℕ → F) → p < k → i < k → i ≢ p → c ≡ w2 i p
       → ((i : ℕ) → AreElements element (w2 i)) → ((i : ℕ) → AreElements element (r2 i)) → ((i : ℕ) → AreElements element (w3 i)) → ((i : ℕ) → AreElements element (r3 i))
-      → IsAdded add mul k k i c p w2 w3 → IsAdded add mul k k i c p r2 r3
+      → IsRowSet k k i (λ j. add (w2 i j) (mul c (w2 p j))) w2 w3 → IsRowSet k k i (λ j. add (r2 i j) (mul c (r2 p j))) r2 r3
       → IsClearedTo element add mul none one k p i w r w2 r2 → IsClearedTo element add mul none one k p (i + 1) w r w3 r3
   clearing_more k p i c w r w2 r2 w3 r3 lp li ne e ew2 er2 ew3 er3 sw sr h =
       let ec : element c = rw e (ew2 i p) in
@@ -63,22 +71,22 @@ module _ {F : Type 0} (element : F → Type 0) (add mul : F → F → F) (none o
         ];
       }
 
-  pub clearing_all : (k p : ℕ) (w r w2 r2 : ℕ → ℕ → F) → IsClearedTo element add mul none one k p k w r w2 r2 → ClearsColumn element add mul none one k p w r w2 r2
+  pub clearing_all : (k p : ℕ) (w r w2 r2 : ℕ → ℕ → F) → IsClearedTo element add mul none one k p k w r w2 r2 → ClearsColumn element add mul none one k p (system w r) (system w2 r2)
   clearing_all k p w r w2 r2 h = record { equal = h.equal; more = λ u. one_more_cleared element add mul none one field k p w2 (h.kept u) h.here h.gone }
 
-  pub step_then : (k p : ℕ) (w r w2 r2 w3 r3 : ℕ → ℕ → F) → IsNormalized element add mul none one k p w r w2 r2 → ClearsColumn element add mul none one k p w2 r2 w3 r3 → ClearsColumn element add mul none one k p w r w3 r3
+  pub step_then : (k p : ℕ) (w r w2 r2 w3 r3 : ℕ → ℕ → F) → IsNormalized element add mul none one k p (system w r) (system w2 r2) → ClearsColumn element add mul none one k p (system w2 r2) (system w3 r3) → ClearsColumn element add mul none one k p (system w r) (system w3 r3)
   step_then k p w r w2 r2 w3 r3 a b = record { equal = equal_then element add mul none one field k w r w2 r2 w3 r3 a.equal b.equal; more = λ u. b.more (a.kept u) }
 
-  pub reduced_more : (k p : ℕ) (m w r w2 r2 : ℕ → ℕ → F) → IsReduced element add mul none one k p m w r → ClearsColumn element add mul none one k p w r w2 r2 → IsReduced element add mul none one k (p + 1) m w2 r2
+  pub reduced_more : (k p : ℕ) (m w r w2 r2 : ℕ → ℕ → F) → IsReduced element add mul none one k p m w r → ClearsColumn element add mul none one k p (system w r) (system w2 r2) → IsReduced element add mul none one k (p + 1) m w2 r2
   reduced_more k p m w r w2 r2 h s = record {
     same = equal_then element add mul none one field k (transposed_entry m) (identity_entry none one) w r w2 r2 h.same s.equal;
     cleared = s.more h.cleared;
   }
 
-  pub step_at : (k n p : ℕ) (w r w2 r2 : ℕ → ℕ → F) → k ≡ n → ClearsColumn element add mul none one k p w r w2 r2 → ClearsColumn element add mul none one n p w r w2 r2
+  pub step_at : (k n p : ℕ) (w r w2 r2 : ℕ → ℕ → F) → k ≡ n → ClearsColumn element add mul none one k p (system w r) (system w2 r2) → ClearsColumn element add mul none one n p (system w r) (system w2 r2)
   step_at k n p w r w2 r2 e h = rw e at h
 
-  pub normal_at : (k n p : ℕ) (w r w2 r2 : ℕ → ℕ → F) → k ≡ n → IsNormalized element add mul none one k p w r w2 r2 → IsNormalized element add mul none one n p w r w2 r2
+  pub normal_at : (k n p : ℕ) (w r w2 r2 : ℕ → ℕ → F) → k ≡ n → IsNormalized element add mul none one k p (system w r) (system w2 r2) → IsNormalized element add mul none one n p (system w r) (system w2 r2)
   normal_at k n p w r w2 r2 e h = rw e at h
 
   pub reduced_at : (k p n : ℕ) (m w r : ℕ → ℕ → F) → p ≡ n → IsReduced element add mul none one k p m w r → IsReduced element add mul none one k n m w r

@@ -8,17 +8,21 @@ use Rattle.gf256.specs.FieldLaws.{IsField}
 use Rattle.poly.proofs.Roots.{mul_zero, one_mul}
 use Rattle.gf256.specs.Sums.{dot}
 use Rattle.elim.specs.Matrices.{AreElements, identity_entry}
-use Rattle.elim.specs.Steps.{IsSwapped, IsScaled, IsAdded, KeepsSolutions, SameSolutions, HasUnitColumns}
+use Rattle.elim.specs.Steps.{IsSwapped, IsRowSet, System, KeepsSolutions, SameSolutions, HasUnitColumns}
 use Rattle.elim.proofs.Sums.{sum_one_place}
 use Rattle.elim.proofs.RowTimes.{unit_here, unit_there, zero_mul, unit_element, unit_swapped, dot_same, dot_scaled, dot_of_sums, dot_swapped, dot_none, dot_picks, picks_dot}
 use Rattle.elim.specs.Squares.{AreInverseSquares, IsSingularSquare}
+
+-- a system of these entries
+abbrev pub system : {F : Type 0} → (ℕ → ℕ → F) → (ℕ → ℕ → F) → System F
+system w r = record { matrix = w; right = r }
 
 abbrev pub transposed_entry : {F : Type 0} → (ℕ → ℕ → F) → ℕ → ℕ → F
 transposed_entry m i j = m j i
 
 -- a system on its way from that of m, whose first p columns are cleared
 pub record IsReduced {F : Type 0} (element : F → Type 0) (add mul : F → F → F) (none one : F) (k p : ℕ) (m w r : ℕ → ℕ → F) : Type 0 where
-  pub same : SameSolutions element add mul none k (transposed_entry m) (identity_entry none one) w r
+  pub same : SameSolutions element add mul none k (system (transposed_entry m) (identity_entry none one)) (system w r)
   pub cleared : HasUnitColumns none one k p w
 
 pub swapped_back : {F : Type 0} (k a b : ℕ) (old new : ℕ → ℕ → F) → IsSwapped k k a b old new → IsSwapped k k a b new old
@@ -29,17 +33,17 @@ swapped_back k a b old new s = record {
 }
 
 module _ {F : Type 0} (element : F → Type 0) (add mul : F → F → F) (none one : F) (field : IsField element add mul none one) where
-  pub equal_refl : (k : ℕ) (w r : ℕ → ℕ → F) → SameSolutions element add mul none k w r w r
+  pub equal_refl : (k : ℕ) (w r : ℕ → ℕ → F) → SameSolutions element add mul none k (system w r) (system w r)
   equal_refl k w r = record { there = record { to = λ x z ex ez h. h }; back = record { to = λ x z ex ez h. h } }
 
-  pub equal_then : (k : ℕ) (w r w2 r2 w3 r3 : ℕ → ℕ → F) → SameSolutions element add mul none k w r w2 r2 → SameSolutions element add mul none k w2 r2 w3 r3 → SameSolutions element add mul none k w r w3 r3
+  pub equal_then : (k : ℕ) (w r w2 r2 w3 r3 : ℕ → ℕ → F) → SameSolutions element add mul none k (system w r) (system w2 r2) → SameSolutions element add mul none k (system w2 r2) (system w3 r3) → SameSolutions element add mul none k (system w r) (system w3 r3)
   equal_then k w r w2 r2 w3 r3 a b = record {
     there = record { to = λ x z ex ez h. b.there.to x z ex ez (a.there.to x z ex ez h) };
     back = record { to = λ x z ex ez h. a.back.to x z ex ez (b.back.to x z ex ez h) };
   }
 
   same_leads : (k : ℕ) (w r w2 r2 : ℕ → ℕ → F) → ((i j : ℕ) → i < k → j < k → w2 i j ≡ w i j) → ((i j : ℕ) → i < k → j < k → r2 i j ≡ r i j)
-      → KeepsSolutions element add mul none k w r w2 r2
+      → KeepsSolutions element add mul none k (system w r) (system w2 r2)
   same_leads k w r w2 r2 hw hr = record {
     to = λ x z ex ez h i lt.
         dot_same element add mul none one field x (w2 i) (w i) k (λ j lj. hw i j lt lj)
@@ -49,13 +53,13 @@ module _ {F : Type 0} (element : F → Type 0) (add mul : F → F → F) (none o
 
   -- entries that are the same have the same solutions
   pub same_equal : (k : ℕ) (w r w2 r2 : ℕ → ℕ → F) → ((i j : ℕ) → i < k → j < k → w2 i j ≡ w i j) → ((i j : ℕ) → i < k → j < k → r2 i j ≡ r i j)
-      → SameSolutions element add mul none k w r w2 r2
+      → SameSolutions element add mul none k (system w r) (system w2 r2)
   same_equal k w r w2 r2 hw hr = record {
     there = same_leads k w r w2 r2 hw hr;
     back = same_leads k w2 r2 w r (λ i j li lj. sym (hw i j li lj)) (λ i j li lj. sym (hr i j li lj));
   }
 
-  swapped_leads : (k a b : ℕ) (w r w2 r2 : ℕ → ℕ → F) → a < k → b < k → IsSwapped k k a b w w2 → IsSwapped k k a b r r2 → KeepsSolutions element add mul none k w r w2 r2
+  swapped_leads : (k a b : ℕ) (w r w2 r2 : ℕ → ℕ → F) → a < k → b < k → IsSwapped k k a b w w2 → IsSwapped k k a b r r2 → KeepsSolutions element add mul none k (system w r) (system w2 r2)
   swapped_leads k a b w r w2 r2 la lb sw sr = record {
     to = λ x z ex ez h i lt. elim (cases_eq i a) [
       | inl ea ↦ rw ea (dot_same element add mul none one field x (w2 a) (w b) k sw.first
@@ -69,14 +73,14 @@ module _ {F : Type 0} (element : F → Type 0) (add mul : F → F → F) (none o
     ];
   }
 
-  pub swapped_equal : (k a b : ℕ) (w r w2 r2 : ℕ → ℕ → F) → a < k → b < k → IsSwapped k k a b w w2 → IsSwapped k k a b r r2 → SameSolutions element add mul none k w r w2 r2
+  pub swapped_equal : (k a b : ℕ) (w r w2 r2 : ℕ → ℕ → F) → a < k → b < k → IsSwapped k k a b w w2 → IsSwapped k k a b r r2 → SameSolutions element add mul none k (system w r) (system w2 r2)
   swapped_equal k a b w r w2 r2 la lb sw sr = record {
     there = swapped_leads k a b w r w2 r2 la lb sw sr;
     back = swapped_leads k a b w2 r2 w r la lb (swapped_back k a b w w2 sw) (swapped_back k a b r r2 sr);
   }
 
   scaled_leads : (k p : ℕ) (c : F) (w r w2 r2 : ℕ → ℕ → F) → element c → ((i : ℕ) → AreElements element (w i)) → ((i : ℕ) → AreElements element (r i))
-      → IsScaled mul k k p c w w2 → IsScaled mul k k p c r r2 → KeepsSolutions element add mul none k w r w2 r2
+      → IsRowSet k k p (λ j. mul c (w p j)) w w2 → IsRowSet k k p (λ j. mul c (r p j)) r r2 → KeepsSolutions element add mul none k (system w r) (system w2 r2)
   scaled_leads k p c w r w2 r2 ec ew er sw sr = record {
     to = λ x z ex ez h i lt. elim (cases_eq i p) [
       | inl e ↦ (let lp : p < k = rw e at lt in
@@ -91,7 +95,7 @@ module _ {F : Type 0} (element : F → Type 0) (add mul : F → F → F) (none o
   }
 
   scaled_back : (k p : ℕ) (c d : F) (old new : ℕ → ℕ → F) → p < k → element c → element d → mul d c ≡ one → ((i : ℕ) → AreElements element (old i))
-      → IsScaled mul k k p c old new → IsScaled mul k k p d new old
+      → IsRowSet k k p (λ j. mul c (old p j)) old new → IsRowSet k k p (λ j. mul d (new p j)) new old
   scaled_back k p c d old new lp ec ed e eo s = record {
     here = λ j lt. let e1 = s.here j lt in
         let e2 = field.mul_assoc d c (old p j) ed ec (eo p j) in
@@ -102,14 +106,14 @@ module _ {F : Type 0} (element : F → Type 0) (add mul : F → F → F) (none o
 
   pub scaled_equal : (k p : ℕ) (c d : F) (w r w2 r2 : ℕ → ℕ → F) → p < k → element c → element d → mul d c ≡ one
       → ((i : ℕ) → AreElements element (w i)) → ((i : ℕ) → AreElements element (r i)) → ((i : ℕ) → AreElements element (w2 i)) → ((i : ℕ) → AreElements element (r2 i))
-      → IsScaled mul k k p c w w2 → IsScaled mul k k p c r r2 → SameSolutions element add mul none k w r w2 r2
+      → IsRowSet k k p (λ j. mul c (w p j)) w w2 → IsRowSet k k p (λ j. mul c (r p j)) r r2 → SameSolutions element add mul none k (system w r) (system w2 r2)
   scaled_equal k p c d w r w2 r2 lp ec ed e ew er ew2 er2 sw sr = record {
     there = scaled_leads k p c w r w2 r2 ec ew er sw sr;
     back = scaled_leads k p d w2 r2 w r ed ew2 er2 (scaled_back k p c d w w2 lp ec ed e ew sw) (scaled_back k p c d r r2 lp ec ed e er sr);
   }
 
   added_leads : (k q : ℕ) (c : F) (p : ℕ) (w r w2 r2 : ℕ → ℕ → F) → p < k → element c → ((i : ℕ) → AreElements element (w i)) → ((i : ℕ) → AreElements element (r i))
-      → IsAdded add mul k k q c p w w2 → IsAdded add mul k k q c p r r2 → KeepsSolutions element add mul none k w r w2 r2
+      → IsRowSet k k q (λ j. add (w q j) (mul c (w p j))) w w2 → IsRowSet k k q (λ j. add (r q j) (mul c (r p j))) r r2 → KeepsSolutions element add mul none k (system w r) (system w2 r2)
   added_leads k q c p w r w2 r2 lp ec ew er sw sr = record {
     to = λ x z ex ez h i lt. elim (cases_eq i q) [
       | inl e ↦ (let lq : q < k = rw e at lt in
@@ -129,7 +133,7 @@ module _ {F : Type 0} (element : F → Type 0) (add mul : F → F → F) (none o
   }
 
   added_back : (k q : ℕ) (c : F) (p : ℕ) (old new : ℕ → ℕ → F) → p < k → q ≢ p → element c → ((i : ℕ) → AreElements element (old i))
-      → IsAdded add mul k k q c p old new → IsAdded add mul k k q c p new old
+      → IsRowSet k k q (λ j. add (old q j) (mul c (old p j))) old new → IsRowSet k k q (λ j. add (new q j) (mul c (new p j))) new old
   added_back k q c p old new lp apart ec eo s = record {
     here = λ j lt. let e1 = s.here j lt in
         let m = mul c (old p j) in
@@ -144,7 +148,7 @@ module _ {F : Type 0} (element : F → Type 0) (add mul : F → F → F) (none o
 
   pub added_equal : (k q : ℕ) (c : F) (p : ℕ) (w r w2 r2 : ℕ → ℕ → F) → p < k → q ≢ p → element c
       → ((i : ℕ) → AreElements element (w i)) → ((i : ℕ) → AreElements element (r i)) → ((i : ℕ) → AreElements element (w2 i)) → ((i : ℕ) → AreElements element (r2 i))
-      → IsAdded add mul k k q c p w w2 → IsAdded add mul k k q c p r r2 → SameSolutions element add mul none k w r w2 r2
+      → IsRowSet k k q (λ j. add (w q j) (mul c (w p j))) w w2 → IsRowSet k k q (λ j. add (r q j) (mul c (r p j))) r r2 → SameSolutions element add mul none k (system w r) (system w2 r2)
   added_equal k q c p w r w2 r2 lp apart ec ew er ew2 er2 sw sr = record {
     there = added_leads k q c p w r w2 r2 lp ec ew er sw sr;
     back = added_leads k q c p w2 r2 w r lp ec ew2 er2 (added_back k q c p w w2 lp apart ec ew sw) (added_back k q c p r r2 lp apart ec er sr);
@@ -168,7 +172,7 @@ module _ {F : Type 0} (element : F → Type 0) (add mul : F → F → F) (none o
         ];
   }
 
-  pub scaled_cleared : (k p : ℕ) (c : F) (w w2 : ℕ → ℕ → F) → p < k → element c → IsScaled mul k k p c w w2 → HasUnitColumns none one k p w → HasUnitColumns none one k p w2
+  pub scaled_cleared : (k p : ℕ) (c : F) (w w2 : ℕ → ℕ → F) → p < k → element c → IsRowSet k k p (λ j. mul c (w p j)) w w2 → HasUnitColumns none one k p w → HasUnitColumns none one k p w2
   scaled_cleared k p c w w2 lp ec s u = record {
     at = λ i j li lj.
         let lj2 : j < k = omega arith in
@@ -179,7 +183,7 @@ module _ {F : Type 0} (element : F → Type 0) (add mul : F → F → F) (none o
         ];
   }
 
-  pub added_cleared : (k q : ℕ) (c : F) (p : ℕ) (w w2 : ℕ → ℕ → F) → p < k → element c → IsAdded add mul k k q c p w w2 → HasUnitColumns none one k p w → HasUnitColumns none one k p w2
+  pub added_cleared : (k q : ℕ) (c : F) (p : ℕ) (w w2 : ℕ → ℕ → F) → p < k → element c → IsRowSet k k q (λ j. add (w q j) (mul c (w p j))) w w2 → HasUnitColumns none one k p w → HasUnitColumns none one k p w2
   added_cleared k q c p w w2 lp ec s u = record {
     at = λ i j li lj.
         let lj2 : j < k = omega arith in

@@ -2,7 +2,7 @@
 use Rattle.std.specs.Prelude.{◌≡◌, ◌≢◌, ◌<◌, ◌≤◌, ◌+◌, ℕ, refl}
 use Rattle.std.proofs.Common.{◌∙◌, ap, arith, inl, inr}
 use Rattle.std.proofs.lemmas.Bool.{cases_eq}
-use Rattle.elim.specs.Steps.{IsSwapped, IsScaled, IsAdded}
+use Rattle.elim.specs.Steps.{IsSwapped, IsRowSet}
 use Rattle.elim.specs.Setting.{IsSet}
 
 -- row r has the values of f in its first places, and all else is as before
@@ -40,11 +40,8 @@ module _ {F : Type 0} (n : ℕ) where
     others = λ i j lj ne. s.others i j lj (λ h2 _. ne h2) ∙ h.others i j lj ne;
   }
 
-  pub scaled_all : (k r : ℕ) (mul : F → F → F) (c : F) (old new : ℕ → ℕ → F) → IsRowTo n r n (λ j. mul c (old r j)) old new → IsScaled mul k n r c old new
-  scaled_all k r mul c old new h = record { here = h.done; others = λ i j li lj ne. h.others i j lj ne }
-
-  pub added_all : (k r : ℕ) (add mul : F → F → F) (c : F) (p : ℕ) (old new : ℕ → ℕ → F) → IsRowTo n r n (λ j. add (old r j) (mul c (old p j))) old new → IsAdded add mul k n r c p old new
-  added_all k r add mul c p old new h = record { here = h.done; others = λ i j li lj ne. h.others i j lj ne }
+  pub row_all : (k r : ℕ) (f : ℕ → F) (old new : ℕ → ℕ → F) → IsRowTo n r n f old new → IsRowSet k n r f old new
+  row_all k r f old new h = record { here = h.done; others = λ i j li lj ne. h.others i j lj ne }
 
   pub swapped_none : (a b : ℕ) (old : ℕ → ℕ → F) → IsSwappedTo n a b 0 old old
   swapped_none a b old = record { first = λ j lt. absurd (omega arith); second = λ j lt. absurd (omega arith); later = λ i j le lt. refl; others = λ i j lt na nb. refl }

@@ -5,7 +5,7 @@ use Rattle.std.proofs.lemmas.Nat.{mul-add-lt, same_from_place}
 use Rattle.std.proofs.lemmas.List.{get_or-replicate, length-replicate, get_or_past, get_or-drop, length-drop}
 use Rattle.std.proofs.lemmas.Nat.{row_fits}
 use Rattle.gf256.specs.FieldLaws.{IsField}
-use Rattle.elim.specs.Steps.{IsAdded, IsRowAdded}
+use Rattle.elim.specs.Steps.{IsRowSet}
 use Rattle.std.proofs.Math.Nat.{mul_comm}
 use Rattle.std.specs.Prelude.{replicate, ◌≤◌}
 use Rattle.std.proofs.Common.{arith, take, drop, get_or-take, length-take-le, ◌∙◌}
@@ -40,7 +40,7 @@ pub added_row : {F : Type 0} (add mul : F → F → F) (none c : F) (rows cols r
     → ((j : ℕ) → j < cols → get_or new (r * cols + j) none ≡ add (get_or old (r * cols + j) none) (mul c (get_or old (p * cols + j) none)))
     → ((i : ℕ) → i < r * cols → get_or new i none ≡ get_or old i none)
     → ((i : ℕ) → r * cols + cols ≤ i → get_or new i none ≡ get_or old i none)
-    → IsAdded add mul rows cols r c p (λ i j. get_or old (i * cols + j) none) (λ i j. get_or new (i * cols + j) none)
+    → IsRowSet rows cols r (λ j. add (get_or old (r * cols + j) none) (mul c (get_or old (p * cols + j) none))) (λ i j. get_or old (i * cols + j) none) (λ i j. get_or new (i * cols + j) none)
 added_row add mul none c rows cols r p old new here before after = record {
   here = here;
   others = λ i j li lj ne. elim (cases_lt i r) [
@@ -69,7 +69,7 @@ pub row_added : {F : Type 0} (add mul : F → F → F) (none c : F) (rows cols r
     → ((j : ℕ) → j < cols → get_or new (r * cols + j) none ≡ add (get_or old (r * cols + j) none) (mul c (row j)))
     → ((i : ℕ) → i < r * cols → get_or new i none ≡ get_or old i none)
     → ((i : ℕ) → r * cols + cols ≤ i → get_or new i none ≡ get_or old i none)
-    → IsRowAdded add mul rows cols r c row (λ i j. get_or old (i * cols + j) none) (λ i j. get_or new (i * cols + j) none)
+    → IsRowSet rows cols r (λ j. add (get_or old (r * cols + j) none) (mul c (row j))) (λ i j. get_or old (i * cols + j) none) (λ i j. get_or new (i * cols + j) none)
 row_added add mul none c rows cols r row old new here before after = record {
   here = here;
   others = λ i j li lj ne. elim (cases_lt i r) [

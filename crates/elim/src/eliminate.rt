@@ -1,8 +1,7 @@
 //! Inverses, by elimination of rows.
-ghost use Rattle.std.specs.Prelude.{◌≡◌, ◌≢◌, ◌<◌, ◌≤◌, ℕ, IfOk, IfErr, IfSome, OnOk, IsNone};
-ghost use Rattle.elim.specs.Steps.{IsNormalized, ClearsColumn};
+ghost use Rattle.std.specs.Prelude.{◌≡◌, ◌≢◌, ◌<◌, ◌≤◌, ◌+◌, ℕ, IfOk, IfErr, IfSome, OnOk, IsNone};
+ghost use Rattle.elim.specs.Steps.{SameSolutions, HasUnitColumns, system_of};
 ghost use Rattle.elim.specs.Grid.{entry, HasElements, HasShape, AreInverse, IsSingular};
-ghost use Rattle.elim.specs.Pivot.{IsPivot};
 ghost use Rattle.elim.specs.declared.eliminate.ElimError.{ElimError};
 
 use crate::combine::{identity, transposed};
@@ -37,8 +36,10 @@ impl From<AllocError> for ElimError {
 fn pivot<F: Field>(work: &Matrix<F>, p: usize) -> Option<(usize, F)>
     requires row { p < work.now.rows }
     requires column { p < work.now.cols }
-    ensures found { IfSome result (λ r.
-        IsPivot F.element F.product F.ZERO F.ONE work.now p r.0 r.1) }
+    ensures below { IfSome result (λ r. p ≤ r.0) }
+    ensures inside { IfSome result (λ r. r.0 < work.now.rows) }
+    ensures inverse { IfSome result (λ r. F.product (entry F.ZERO work.now r.0 p) r.1 ≡ F.ONE) }
+    ensures fits { IfSome result (λ r. F.element r.1) }
     ensures none { IsNone result
         → (i : ℕ)
         → p ≤ i
@@ -59,15 +60,18 @@ fn normalize<F: Field>(work: &mut Matrix<F>, right: &mut Matrix<F>, p: usize, q:
     requires right { HasShape work.old.rows work.old.rows right.old }
     requires below { p ≤ q }
     requires row { q < work.old.rows }
-    requires pivot { IsPivot F.element F.product F.ZERO F.ONE work.old p q inverse }
+    requires inverse { F.product (entry F.ZERO work.old q p) inverse ≡ F.ONE }
+    requires fits { F.element inverse }
     requires work_elements { HasElements F.element F.ZERO work.old }
     ensures work { HasShape work.old.rows work.old.rows work.new }
     ensures right { HasShape work.old.rows work.old.rows right.new }
     ensures work_elements { HasElements F.element F.ZERO work.new }
     ensures right_elements { HasElements F.element F.ZERO right.new }
-    ensures normalized { IsNormalized F.element F.sum F.product F.ZERO F.ONE work.old.rows p
-        (entry F.ZERO work.old) (entry F.ZERO right.old)
-        (entry F.ZERO work.new) (entry F.ZERO right.new) }
+    ensures same { SameSolutions F.element F.sum F.product F.ZERO work.old.rows
+        (system_of F.ZERO work.old right.old) (system_of F.ZERO work.new right.new) }
+    ensures kept { HasUnitColumns F.ZERO F.ONE work.old.rows p (entry F.ZERO work.old)
+        → HasUnitColumns F.ZERO F.ONE work.old.rows p (entry F.ZERO work.new) }
+    ensures one { entry F.ZERO work.new p p ≡ F.ONE }
 {
     work.swap_rows(p, q);
     right.swap_rows(p, q);
@@ -87,9 +91,10 @@ fn clear<F: Field>(work: &mut Matrix<F>, right: &mut Matrix<F>, p: usize)
     ensures right { HasShape work.old.rows work.old.rows right.new }
     ensures work_elements { HasElements F.element F.ZERO work.new }
     ensures right_elements { HasElements F.element F.ZERO right.new }
-    ensures cleared { ClearsColumn F.element F.sum F.product F.ZERO F.ONE work.old.rows p
-        (entry F.ZERO work.old) (entry F.ZERO right.old)
-        (entry F.ZERO work.new) (entry F.ZERO right.new) }
+    ensures same { SameSolutions F.element F.sum F.product F.ZERO work.old.rows
+        (system_of F.ZERO work.old right.old) (system_of F.ZERO work.new right.new) }
+    ensures cleared { HasUnitColumns F.ZERO F.ONE work.old.rows p (entry F.ZERO work.old)
+        → HasUnitColumns F.ZERO F.ONE work.old.rows (p + 1) (entry F.ZERO work.new) }
 {
     let rows = work.rows();
     for i in 0..rows {

@@ -3,7 +3,7 @@ ghost use Rattle.std.specs.Prelude.{◌≡◌, ◌≢◌, ◌<◌, ◌≤◌, �
 ghost use Rattle.std.specs.Prelude.{slice_index_or};
 ghost use Rattle.elim.specs.Grid.{Grid, entry, HasElements, HasShape, IsMatrix};
 ghost use Rattle.elim.specs.Setting.{IsSet};
-ghost use Rattle.elim.specs.Steps.{IsStep, IsSwapped, IsScaled, IsAdded, IsRowAdded, IsRowSet};
+ghost use Rattle.elim.specs.Steps.{IsStep, IsSwapped, IsRowSet};
 
 use gf256::Field;
 use std::alloc::{AllocError, Global};
@@ -122,7 +122,8 @@ impl<F: Field> Matrix<F> {
     pub(crate) fn scale_row(&mut self, r: usize, c: F)
         requires { (r < self.old.rows) × F.element c }
         ensures { IsStep F.element F.ZERO
-            (IsScaled F.product self.old.rows self.old.cols r c) self.old self.new }
+            (IsRowSet self.old.rows self.old.cols r (λ j. F.product c (entry F.ZERO self.old r j)))
+            self.old self.new }
     {
         let cols = self.cols();
         for j in 0..cols {
@@ -137,8 +138,8 @@ impl<F: Field> Matrix<F> {
         requires columns { length row.now ≡ self.old.cols }
         requires scale { F.element c }
         ensures { IsStep F.element F.ZERO
-            (IsRowSet F.product self.old.rows self.old.cols r c
-            (λ j. slice_index_or row.now j F.ZERO))
+            (IsRowSet self.old.rows self.old.cols r
+            (λ j. F.product c (slice_index_or row.now j F.ZERO)))
             self.old self.new }
     {
         let cols = self.cols();
@@ -156,7 +157,9 @@ impl<F: Field> Matrix<F> {
         requires apart { p ≢ r }
         requires scale { F.element c }
         ensures { IsStep F.element F.ZERO
-            (IsAdded F.sum F.product self.old.rows self.old.cols r c p) self.old self.new }
+            (IsRowSet self.old.rows self.old.cols r
+            (λ j. F.sum (entry F.ZERO self.old r j) (F.product c (entry F.ZERO self.old p j))))
+            self.old self.new }
     {
         add_scaled_rows(&mut self.entries, self.cols, r, c, p);
     }
@@ -167,7 +170,8 @@ impl<F: Field> Matrix<F> {
         requires other { p < other.now.rows }
         requires columns { (other.now.cols ≡ self.old.cols) × F.element c }
         ensures { IsStep F.element F.ZERO
-            (IsRowAdded F.sum F.product self.old.rows self.old.cols r c (entry F.ZERO other.now p))
+            (IsRowSet self.old.rows self.old.cols r
+            (λ j. F.sum (entry F.ZERO self.old r j) (F.product c (entry F.ZERO other.now p j))))
             self.old self.new }
     {
         let from = p * other.cols;

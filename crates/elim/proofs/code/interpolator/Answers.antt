@@ -14,12 +14,12 @@ use Rattle.elim.proofs.code.interpolator.Goals as goal
 -- the row that is set is the numerator, divided by its value v at its point x
 one_more : (k i rows cols n s x v : ℕ) (points q valued row : List ℕ) (old new : ℕ → ℕ → ℕ) → ArePoints k points → i < k → rows ≡ k → cols ≡ k → n ≡ k
     → valued ≡ q → row ≡ q → x ≡ get_or points i x → v ≡ value valued x → product v s ≡ 1 → IsByte s → IsNumerator n i q
-    → IsRowSet product rows cols i s (λ j. get_or row j 0) old new → AreUnits k i old → AreUnits k (i + 1) new
+    → IsRowSet rows cols i (λ j. product s (get_or row j 0)) old new → AreUnits k i old → AreUnits k (i + 1) new
 one_more k i rows cols n s x v points q valued row old new h li er ec en same same2 place is one es numerator set so_far =
     let here : x ≡ point i = point_read points i x (rw h.count h) (omega (arith, h.count)) place in
     let v_is : v ≡ value q (point i) = is ∙ ap (λ (l : List ℕ). value l x) same ∙ ap (value q) here in
     let numerator_k : IsNumerator k i q = rw en at numerator in
-    let set_k : IsRowSet product k k i s (λ j. get_or q j 0) old new = rw (er, ec, same2) at set in
+    let set_k : IsRowSet k k i (λ j. product s (get_or q j 0)) old new = rw (er, ec, same2) at set in
     units_more k i s q old new li es numerator_k (ap (λ (w : ℕ). product w s) (sym v_is) ∙ one) set_k so_far
 
 pub loop-i-preserved : goal.loop-i-preserved

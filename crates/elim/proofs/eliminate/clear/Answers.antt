@@ -1,5 +1,5 @@
 use Rattle.std.proofs.Common.{arith, ◌∙◌}
-use Rattle.elim.proofs.Clearing.{clearing_passed, clearing_more, added_at}
+use Rattle.elim.proofs.Clearing.{clearing_passed, clearing_more, set_at}
 use Rattle.elim.specs.Grid.{entry}
 use Rattle.elim.proofs.Entries.{elements_by_row}
 use Rattle.elim.proofs.eliminate.clear.Goals as goal
@@ -23,8 +23,8 @@ loop-i-preserved g c =
             (elements_by_row g.F.Field.element g.F.Field.ZERO c.loop-i.right c.loop-i.invariant.right_elements)
             (elements_by_row g.F.Field.element g.F.Field.ZERO w.add_row.new.self w.add_row.ensures.elements)
             (elements_by_row g.F.Field.element g.F.Field.ZERO w.add_row-then-i-p.new.self w.add_row-then-i-p.ensures.elements)
-            (added_at g.F.Field.sum g.F.Field.product c.loop-i.i w.get-c.result c.args.p c.loop-i.work.rows c.loop-i.work.cols c.args.work.now.rows _ _ c.loop-i.invariant.work.rows c.loop-i.invariant.work.cols w.add_row.ensures.entries)
-            (added_at g.F.Field.sum g.F.Field.product c.loop-i.i w.get-c.result c.args.p c.loop-i.right.rows c.loop-i.right.cols c.args.work.now.rows _ _ c.loop-i.invariant.right.rows c.loop-i.invariant.right.cols w.add_row-then-i-p.ensures.entries)
+            (set_at c.loop-i.i _ c.loop-i.work.rows c.loop-i.work.cols c.args.work.now.rows _ _ c.loop-i.invariant.work.rows c.loop-i.invariant.work.cols w.add_row.ensures.entries)
+            (set_at c.loop-i.i _ c.loop-i.right.rows c.loop-i.right.cols c.args.work.now.rows _ _ c.loop-i.invariant.right.rows c.loop-i.invariant.right.cols w.add_row-then-i-p.ensures.entries)
             c.loop-i.invariant.cleared;
       })
       | else-i-p w ↦ rw (w.work-is, w.right-is) (record {

@@ -51,8 +51,8 @@ loop-p-preserved g c =
       reduced = reduced_more g.F.Field.element g.F.Field.sum g.F.Field.product g.F.Field.ZERO g.F.Field.ONE g.met.F.Field.laws c.args.m.now.rows c.loop-p.p (entry g.F.Field.ZERO c.args.m.now) (entry g.F.Field.ZERO c.loop-p.work) (entry g.F.Field.ZERO c.loop-p.right) (entry g.F.Field.ZERO c.clear.new.work) (entry g.F.Field.ZERO c.clear.new.right)
           c.loop-p.invariant.reduced
           (step_then g.F.Field.element g.F.Field.sum g.F.Field.product g.F.Field.ZERO g.F.Field.ONE g.met.F.Field.laws c.args.m.now.rows c.loop-p.p (entry g.F.Field.ZERO c.loop-p.work) (entry g.F.Field.ZERO c.loop-p.right) (entry g.F.Field.ZERO c.normalize.new.work) (entry g.F.Field.ZERO c.normalize.new.right) (entry g.F.Field.ZERO c.clear.new.work) (entry g.F.Field.ZERO c.clear.new.right)
-          (normal_at g.F.Field.element g.F.Field.sum g.F.Field.product g.F.Field.ZERO g.F.Field.ONE g.met.F.Field.laws c.loop-p.work.rows c.args.m.now.rows c.loop-p.p (entry g.F.Field.ZERO c.loop-p.work) (entry g.F.Field.ZERO c.loop-p.right) (entry g.F.Field.ZERO c.normalize.new.work) (entry g.F.Field.ZERO c.normalize.new.right) c.loop-p.invariant.work.rows c.normalize.ensures.normalized)
-          (step_at g.F.Field.element g.F.Field.sum g.F.Field.product g.F.Field.ZERO g.F.Field.ONE g.met.F.Field.laws c.normalize.new.work.rows c.args.m.now.rows c.loop-p.p (entry g.F.Field.ZERO c.normalize.new.work) (entry g.F.Field.ZERO c.normalize.new.right) (entry g.F.Field.ZERO c.clear.new.work) (entry g.F.Field.ZERO c.clear.new.right) same c.clear.ensures.cleared));
+          (normal_at g.F.Field.element g.F.Field.sum g.F.Field.product g.F.Field.ZERO g.F.Field.ONE g.met.F.Field.laws c.loop-p.work.rows c.args.m.now.rows c.loop-p.p (entry g.F.Field.ZERO c.loop-p.work) (entry g.F.Field.ZERO c.loop-p.right) (entry g.F.Field.ZERO c.normalize.new.work) (entry g.F.Field.ZERO c.normalize.new.right) c.loop-p.invariant.work.rows (record { equal = c.normalize.ensures.same; kept = c.normalize.ensures.kept; here = c.normalize.ensures.one }))
+          (step_at g.F.Field.element g.F.Field.sum g.F.Field.product g.F.Field.ZERO g.F.Field.ONE g.met.F.Field.laws c.normalize.new.work.rows c.args.m.now.rows c.loop-p.p (entry g.F.Field.ZERO c.normalize.new.work) (entry g.F.Field.ZERO c.normalize.new.right) (entry g.F.Field.ZERO c.clear.new.work) (entry g.F.Field.ZERO c.clear.new.right) same (record { equal = c.clear.ensures.same; more = c.clear.ensures.cleared })));
     }
 
 pub returns-in_err-made-clause-singular : goal.returns-in_err-made-clause-singular
