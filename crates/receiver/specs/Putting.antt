@@ -12,6 +12,7 @@ use Rattle.decoder.specs.Arrivals.{with_esi, with_symbol}
 use Rattle.decoder.specs.Recoveries.{IsKeptOf}
 use Rattle.receiver.specs.Bytes.{Becomes}
 use Rattle.receiver.specs.Holds.{HoldsIn}
+use Rattle.receiver.specs.declared.block_bytes.BlockBytes.{Ghosts}
 use Rattle.receiver.specs.declared.scratch.Scratch.{Scratch}
 use Rattle.receiver.specs.declared.store.Store.{Store}
 use Rattle.receiver.specs.declared.stored.PutFault.{PutFault}
@@ -60,15 +61,27 @@ abbrev pub Outcome : {A : Type 0} → Bool → Result A PutFault → (A → Type
 Outcome failed result Put Not =
     IfOk result Put × IfErr result (λ fault. UnlessFailed failed fault (Not fault))
 
--- a block's stored part and its bytes, where these were told before: they are for these symbols
--- with the packet's, which may stand there, or why not, and they are for those before
-abbrev pub BlockOutcome : {A : Type 0} → Fti → Packet → (ℕ → List ℕ) → Option (ℕ → List ℕ) → Bool
-    → (ℕ → Option (List ℕ)) → Result A PutFault
-    → (A → List ℕ → (ℕ → Option (List ℕ)) → Type 0) → (List ℕ → Type 0) → Type 0
-BlockOutcome f p old new failed at result Is Was = Outcome failed result
+-- the bytes of blocks: what they were, what is told of them now, and whether reading or writing has
+-- failed
+pub record BytesChange : Type 0 where
+  pub before : ℕ → List ℕ
+  pub after : Option (ℕ → List ℕ)
+  pub failed : Bool
+
+-- those of an object with this FTI that were told before
+abbrev pub bytes_change : {B : Type 0} → Ghosts B → Fti → (ℕ → List ℕ) → B → BytesChange
+bytes_change b f before new =
+    record { before = before; after = b.kept new f; failed = b.failed new }
+
+-- a block's stored part and its bytes: they are for these symbols with the packet's, which may
+-- stand there, or why not, and they are for those before
+abbrev pub BlockOutcome : {A : Type 0} → Fti → Packet → (ℕ → Option (List ℕ)) → BytesChange
+    → Result A PutFault → (A → List ℕ → (ℕ → Option (List ℕ)) → Type 0) → (List ℕ → Type 0) → Type 0
+BlockOutcome f p at bytes result Is Was = Outcome bytes.failed result
     (λ a. MayStand at p.esi p.symbol.now
-    × Becomes old new p.sbn (λ x. Is a x (with_esi at p.esi p.symbol.now)))
-    (λ fault. IsPutFault f p.sbn at p.esi p.symbol.now fault × Becomes old new p.sbn Was)
+    × Becomes bytes.before bytes.after p.sbn (λ x. Is a x (with_esi at p.esi p.symbol.now)))
+    (λ fault. IsPutFault f p.sbn at p.esi p.symbol.now fault
+    × Becomes bytes.before bytes.after p.sbn Was)
 
 -- the same of what is kept of an object, where the bytes of its blocks are told
 abbrev pub StoreOutcome : {A : Type 0} → Fti → Option (ℕ → List ℕ) → Bool

@@ -5,7 +5,7 @@ ghost use Rattle.std.specs.Prelude.{IfOk, IfSome};
 ghost use Rattle.partition.specs.Fti.{block_count, encoding_count};
 ghost use Rattle.decoder.specs.Blocks.{bytes_of_esi, HaveLength};
 ghost use Rattle.decoder.specs.Arrivals.{with_esi, seen_at};
-ghost use Rattle.receiver.specs.Putting.{MayPut, IsPutFault, Outcome, BlockOutcome};
+ghost use Rattle.receiver.specs.Putting.{MayPut, IsPutFault, Outcome, BlockOutcome, bytes_change};
 ghost use Rattle.receiver.specs.Stored.{IsPendingOf, IsSolvedOf, IsPending, IsSolved, AreSymbols};
 ghost use Rattle.receiver.specs.Stored.{is_among, IsNow};
 
@@ -164,8 +164,9 @@ impl Pending {
         ensures outcome { (x : ℕ → List ℕ) (at : ℕ → Option (List ℕ))
             → B.kept bytes.old fti.now ≡ Some x
             → IsPending fti.now packet.now.sbn (x packet.now.sbn) self.old at
-            → BlockOutcome fti.now packet.now x (B.kept bytes.new fti.now) (B.failed bytes.new)
-            at result (λ _ y. IsPending fti.now packet.now.sbn y self.new)
+            → BlockOutcome fti.now packet.now at
+            (bytes_change B.BlockBytes fti.now x bytes.new) result
+            (λ _ y. IsPending fti.now packet.now.sbn y self.new)
             (λ y. IsPending fti.now packet.now.sbn y self.new at) }
     {
         let from = self.esis.len() * usize::from(fti.symbol_length());
@@ -199,8 +200,9 @@ impl Pending {
         ensures outcome { (x : ℕ → List ℕ) (at : ℕ → Option (List ℕ))
             → B.kept bytes.old fti.now ≡ Some x
             → IsPending fti.now packet.now.sbn (x packet.now.sbn) self.now at
-            → BlockOutcome fti.now packet.now x (B.kept bytes.new fti.now) (B.failed bytes.new)
-            at result (λ s y. IsSolved fti.now packet.now.sbn y s)
+            → BlockOutcome fti.now packet.now at
+            (bytes_change B.BlockBytes fti.now x bytes.new) result
+            (λ s y. IsSolved fti.now packet.now.sbn y s)
             (λ y. IsPending fti.now packet.now.sbn y self.now at) }
     {
         let n = fti.n(packet.sbn);
@@ -257,8 +259,9 @@ impl Pending {
         ensures outcome { (x : ℕ → List ℕ) (at : ℕ → Option (List ℕ))
             → B.kept bytes.old fti.now ≡ Some x
             → IsPending fti.now packet.now.sbn (x packet.now.sbn) self.old at
-            → BlockOutcome fti.now packet.now x (B.kept bytes.new fti.now) (B.failed bytes.new)
-            at result (IsNow fti.now packet.now.sbn self.new)
+            → BlockOutcome fti.now packet.now at
+            (bytes_change B.BlockBytes fti.now x bytes.new) result
+            (IsNow fti.now packet.now.sbn self.new)
             (λ y. IsPending fti.now packet.now.sbn y self.new at) }
     {
         if let Some(place) = place_of(&self.esis, packet.esi) {

@@ -3,7 +3,7 @@ ghost use Rattle.std.specs.Prelude.{◌≡◌, ◌≢◌, ◌<◌, ℕ, List, Op
 ghost use Rattle.partition.specs.Fti.{block_count, encoding_count};
 ghost use Rattle.decoder.specs.Blocks.{HaveLength};
 ghost use Rattle.receiver.specs.Holds.{HasParts, IsSound, HoldsIn, Solves, kept_of};
-ghost use Rattle.receiver.specs.Putting.{MayPut, BlockOutcome, StoreOutcome};
+ghost use Rattle.receiver.specs.Putting.{MayPut, BlockOutcome, bytes_change, StoreOutcome};
 ghost use Rattle.receiver.specs.Stored.{IsOf, IsStored};
 
 use crate::block_bytes::BlockBytes;
@@ -35,8 +35,9 @@ impl Stored {
             → B.kept bytes.old fti.now ≡ Some x
             → IsStored fti.now packet.now.sbn (x packet.now.sbn) (Some self.old) at
             → HaveLength fti.now.symbol_length at
-            → BlockOutcome fti.now packet.now x (B.kept bytes.new fti.now) (B.failed bytes.new)
-            at result (λ _ y. IsStored fti.now packet.now.sbn y (Some self.new))
+            → BlockOutcome fti.now packet.now at
+            (bytes_change B.BlockBytes fti.now x bytes.new) result
+            (λ _ y. IsStored fti.now packet.now.sbn y (Some self.new))
             (λ y. IsStored fti.now packet.now.sbn y (Some self.new) at) }
     {
         let solved = match self {

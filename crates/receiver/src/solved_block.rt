@@ -1,7 +1,7 @@
 //! A block that has as many symbols as it needs.
 ghost use Rattle.std.specs.Prelude.{◌≡◌, ℕ, List, Option, Some, Err, false};
 ghost use Rattle.decoder.specs.Blocks.{HaveLength};
-ghost use Rattle.receiver.specs.Putting.{MayPut, BlockOutcome};
+ghost use Rattle.receiver.specs.Putting.{MayPut, BlockOutcome, bytes_change};
 ghost use Rattle.receiver.specs.Stored.{IsSolvedOf, IsSolved};
 
 use crate::block_bytes::BlockBytes;
@@ -32,8 +32,9 @@ impl Solved {
             → B.kept bytes.old fti.now ≡ Some x
             → IsSolved fti.now packet.now.sbn (x packet.now.sbn) self.old at
             → HaveLength fti.now.symbol_length at
-            → BlockOutcome fti.now packet.now x (B.kept bytes.new fti.now) (B.failed bytes.new)
-            at result (λ _ y. IsSolved fti.now packet.now.sbn y self.new)
+            → BlockOutcome fti.now packet.now at
+            (bytes_change B.BlockBytes fti.now x bytes.new) result
+            (λ _ y. IsSolved fti.now packet.now.sbn y self.new)
             (λ y. IsSolved fti.now packet.now.sbn y self.new at) }
     {
         fti.is_valid();
