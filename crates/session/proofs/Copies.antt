@@ -71,7 +71,7 @@ whatever_failed (NoSuchPlace place) a failed other no_io why = why
 -- nothing was read or written
 pub none_joined : (turns : Bool) (old : List (Option (List ℕ))) (before : Option (List ℕ)) (room : ℕ) (lists : List (List (List ℕ)))
     → length lists ≡ length old → ((i : ℕ) → get_or lists i [] ≡ []) → taken turns lists ≡ []
-    → HasJoined turns old old before before room room 0 lists
+    → HasJoined turns old old (IsWritten before before room room) 0 lists
 none_joined turns old before room lists many empty nothing = record {
   many = many;
   consumed = λ i. subst (λ ds. Consumes (get_or old i None) (get_or old i None) (frames ds)) (sym (empty i)) (nothing_read (get_or old i None));
@@ -81,7 +81,7 @@ none_joined turns old before room lists many empty nothing = record {
 }
 
 module _ (turns : Bool) (old new : List (Option (List ℕ))) (before now : Option (List ℕ)) (room room_now count : ℕ) (lists : List (List (List ℕ)))
-    (has : HasJoined turns old new before now room room_now count lists) where
+    (has : HasJoined turns old new (IsWritten before now room room_now) count lists) where
   abbrev pub gaining : ℕ → List ℕ → List (List (List ℕ))
   gaining p d = set lists p (get_or lists p [] ++ d ∷ [])
 
@@ -117,7 +117,7 @@ module _ (turns : Bool) (old new : List (Option (List ℕ))) (before now : Optio
   -- one frame more
   pub copied : (p : ℕ) (left after : Option (List ℕ)) (room_then : ℕ) (one : IsCopied (get_or new p None) left now after room_now room_then)
       → p < length lists → p < length new → IsNext p
-      → HasJoined turns old (set new p left) before after room room_then (count + 1) (gaining p one.datagram)
+      → HasJoined turns old (set new p left) (IsWritten before after room room_then) (count + 1) (gaining p one.datagram)
   copied p left after room_then one l m next =
       let d : List ℕ = one.datagram in
       let whole : frames (taken turns (gaining p d)) ≡ frames (taken turns lists) ++ frame d = ap frames (next d) ∙ frames_push (taken turns lists) d in
@@ -141,7 +141,7 @@ module _ (turns : Bool) (old new : List (Option (List ℕ))) (before now : Optio
 
   -- a reader that was at its end
   pub over : (p : ℕ) (left after : Option (List ℕ)) (room_then : ℕ) → IsOver (get_or new p None) left now after room_now room_then
-      → p < length lists → p < length new → HasJoined turns old (set new p left) before after room room_then count lists
+      → p < length lists → p < length new → HasJoined turns old (set new p left) (IsWritten before after room room_then) count lists
   over p left after room_then one l m = record {
     many = has.many;
     consumed = λ i. elim (same_or_not i p) [
@@ -163,7 +163,7 @@ module _ (turns : Bool) (old new : List (Option (List ℕ))) (before now : Optio
 
   -- ---- why not all was joined
 
-  pub no_memory : (sound failed : List Bool) (writer_failed : Bool) → IsUnjoined turns NoMemory old sound failed before now room writer_failed
+  pub no_memory : (sound failed : List Bool) (writer_failed : Bool) → IsUnjoined turns NoMemory old sound failed (record { before = before; after = now; room = room; failed = writer_failed })
   no_memory sound failed writer_failed = record {
     lists = lists;
     many = has.many;
@@ -175,7 +175,7 @@ module _ (turns : Bool) (old new : List (Option (List ℕ))) (before now : Optio
   pub unread : (fault : FrameFault) (p : ℕ) (sound failed : List Bool) (left after : Option (List ℕ)) (writer_failed : Bool)
       → IsUnread fault (get_or sound p false) (get_or new p None) left (get_or failed p false) now after → p < length old
       → (fault ≢ Io → fault ≢ NoMemory → (i : ℕ) → i < p → IsWhole (get_or old i None))
-      → IsUnjoined turns fault old sound failed before after room writer_failed
+      → IsUnjoined turns fault old sound failed (record { before = before; after = after; room = room; failed = writer_failed })
   unread fault p sound failed left after writer_failed why l first = record {
     lists = lists;
     many = has.many;
@@ -199,11 +199,11 @@ module _ (turns : Bool) (old new : List (Option (List ℕ))) (before now : Optio
       → (front_sound front_failed : List Bool) → ((i : ℕ) → i < p → get_or front_sound i false ≡ get_or sound i false)
       → ((i : ℕ) → i < p → get_or front_failed i false ≡ get_or failed i false)
       → IsFirstFault other fault front front_sound front_failed
-      → IsUnjoined turns fault old sound failed before after room writer_failed
+      → IsUnjoined turns fault old sound failed (record { before = before; after = after; room = room; failed = writer_failed })
   first_told other fault p sound failed left after reader_failed writer_failed why l no_io no_memory_lacks front long same front_sound front_failed same_sound same_failed (inl none) =
       let whole : (i : ℕ) → i < p → IsWhole (get_or old i None) = λ i li.
       whole_behind (get_or old i None) (get_or new i None) (get_or lists i []) (has.consumed i) (has.each i) (subst (λ (o : Option (List ℕ)). IsWhole o) (same i li) (none.1 i (omega (arith, li, long)))) in
-      subst (λ (e : FrameFault). IsUnjoined turns e old sound failed before after room writer_failed) (sym none.0) (record {
+      subst (λ (e : FrameFault). IsUnjoined turns e old sound failed (record { before = before; after = after; room = room; failed = writer_failed })) (sym none.0) (record {
         lists = lists;
         many = has.many;
         read = begun;
@@ -241,7 +241,7 @@ module _ (turns : Bool) (old new : List (Option (List ℕ))) (before now : Optio
 
   pub unwritten : (fault : FrameFault) (p : ℕ) (sound failed : List Bool) (left after : Option (List ℕ)) (writer_failed : Bool)
       → IsUnwritten fault (get_or new p None) left now after room_now writer_failed → p < length lists → p < length new → IsNext p
-      → IsUnjoined turns fault old sound failed before after room writer_failed
+      → IsUnjoined turns fault old sound failed (record { before = before; after = after; room = room; failed = writer_failed })
   unwritten fault p sound failed left after writer_failed why l m next =
       let d : List ℕ = why.datagram in
       let ds : List (List ℕ) = get_or lists p [] ++ d ∷ [] in

@@ -5,7 +5,7 @@ use Rattle.std.proofs.lemmas.List.{take-map, drop-map, map-append, get_or_append
 use Rattle.std.specs.Io.KnownBytes.{IsAtEnd}
 use Rattle.session.specs.Turns.{taken, longest, one_after_other, rounds}
 use Rattle.session.specs.Joining.{IsUnjoined, IsWhole}
-use Rattle.session.specs.Copying.{HasJoined, IsFirstFault, IsToldFirst, IsAfterRounds, IsAtReader, IsCopied, IsInRound, IsOver, IsUnread, IsUnwritten, steps_left}
+use Rattle.session.specs.Copying.{HasJoined, IsFirstFault, IsToldFirst, IsAfterRounds, IsAtReader, IsCopied, IsInRound, IsOver, IsUnread, IsUnwritten, steps_left, IsWritten}
 use Rattle.session.specs.declared.frame.FrameFault.{FrameFault}
 use Rattle.session.specs.declared.frame.FrameFault.TheVariants.{CutLength, CutDatagram, TooLong, Io, NoMemory, NoSuchPlace}
 use Rattle.session.proofs.WholeFrames.{whole_end}
@@ -13,7 +13,7 @@ use Rattle.session.proofs.Joins.{next_turn, next_whole, same_or_not}
 use Rattle.session.proofs.Copies.{IsNext, copied, first_told, none_joined, over, unread, unwritten}
 
 module _ {X : Type 0} (remaining : X → Option (List ℕ)) (sound failed : X → Bool) (turns : Bool) (old now : List X) (before mid : Option (List ℕ)) (room room_now count : ℕ)
-    (lists : List (List (List ℕ))) (has : HasJoined turns (map remaining old) (map remaining now) before mid room room_now count lists)
+    (lists : List (List (List ℕ))) (has : HasJoined turns (map remaining old) (map remaining now) (IsWritten before mid room room_now) count lists)
     (size : length now ≡ length old) (sounds : map sound now ≡ map sound old) (p : ℕ) (l : p < length now) (x : X) (at : x ≡ get_or now p x) where
   here : get_or (map remaining now) p None ≡ remaining x
   here = get_or-map remaining now p x None l ∙ ap remaining (sym at)
@@ -29,14 +29,14 @@ module _ {X : Type 0} (remaining : X → Option (List ℕ)) (sound failed : X �
 
   pub step_copied : (y : X) (after : Option (List ℕ)) (room_then : ℕ) (one : IsCopied (remaining x) (remaining y) mid after room_now room_then)
       → IsNext turns (map remaining old) (map remaining now) before mid room room_now count lists has p
-      → HasJoined turns (map remaining old) (map remaining (set now p y)) before after room room_then (count + 1) (set lists p (get_or lists p [] ++ one.datagram ∷ []))
+      → HasJoined turns (map remaining old) (map remaining (set now p y)) (IsWritten before after room room_then) (count + 1) (set lists p (get_or lists p [] ++ one.datagram ∷ []))
   step_copied y after room_then one next =
       rw (map-set remaining now p y)
       (copied turns (map remaining old) (map remaining now) before mid room room_now count lists has p (remaining y) after room_then
       (record { datagram = one.datagram; short = one.short; consumed = rw here one.consumed; written = one.written }) in_lists in_now next)
 
   pub step_over : (y : X) (after : Option (List ℕ)) (room_then : ℕ) → IsOver (remaining x) (remaining y) mid after room_now room_then
-      → HasJoined turns (map remaining old) (map remaining (set now p y)) before after room room_then count lists
+      → HasJoined turns (map remaining old) (map remaining (set now p y)) (IsWritten before after room room_then) count lists
   step_over y after room_then one =
       rw (map-set remaining now p y)
       (over turns (map remaining old) (map remaining now) before mid room room_now count lists has p (remaining y) after room_then (rw here one) in_lists in_now)
@@ -58,7 +58,7 @@ module _ {X : Type 0} (remaining : X → Option (List ℕ)) (sound failed : X �
       → IsNext turns (map remaining old) (map remaining now) before mid room room_now count lists has p
       → (fault ≢ Io → fault ≢ NoMemory → (i : ℕ) → i < p → IsWhole (get_or (map remaining old) i None))
       → IsUnread fault (sound x) (remaining x) (remaining y) (failed y) mid after ⊎ IsUnwritten fault (remaining x) (remaining y) mid after room_now writer_failed
-      → IsUnjoined turns fault (map remaining old) (map sound old) (map failed all) before after room writer_failed
+      → IsUnjoined turns fault (map remaining old) (map sound old) (map failed all) (record { before = before; after = after; room = room; failed = writer_failed })
   step_fault_then fault y after writer_failed all failed_there next first (inl why) =
       unread turns (map remaining old) (map remaining now) before mid room room_now count lists has fault p (map sound old) (map failed all) (remaining y) after writer_failed
       (rw (sound_here, here, failed_there) why) in_old first
@@ -70,7 +70,7 @@ module _ {X : Type 0} (remaining : X → Option (List ℕ)) (sound failed : X �
       → IsNext turns (map remaining old) (map remaining now) before mid room room_now count lists has p
       → (fault ≢ Io → fault ≢ NoMemory → (i : ℕ) → i < p → IsWhole (get_or (map remaining old) i None))
       → IsUnread fault (sound x) (remaining x) (remaining y) (failed y) mid after ⊎ IsUnwritten fault (remaining x) (remaining y) mid after room_now writer_failed
-      → IsUnjoined turns fault (map remaining old) (map sound old) (map failed (set now p y)) before after room writer_failed
+      → IsUnjoined turns fault (map remaining old) (map sound old) (map failed (set now p y)) (record { before = before; after = after; room = room; failed = writer_failed })
   step_fault fault y after writer_failed next first why = step_fault_then fault y after writer_failed (set now p y) (failed_here y) next first why
 
   -- the readers before this place were read to their ends behind a fault of bytes there: the first is told
@@ -78,7 +78,7 @@ module _ {X : Type 0} (remaining : X → Option (List ℕ)) (sound failed : X �
       → IsUnread other (sound x) (remaining x) (remaining y) (failed y) mid after ⊎ IsUnwritten other (remaining x) (remaining y) mid after room_now writer_failed
       → (front all : List X) (ends : length front ≡ p) → ((i : ℕ) → i < p → get_or (map failed all) i false ≡ get_or (map failed front) i false)
       → IsFirstFault other fault (map remaining (take p (set now p y))) (map sound (take p (set now p y))) (map failed front)
-      → IsUnjoined turns fault (map remaining old) (map sound old) (map failed all) before after room writer_failed
+      → IsUnjoined turns fault (map remaining old) (map sound old) (map failed all) (record { before = before; after = after; room = room; failed = writer_failed })
   step_first other fault y after writer_failed no_io no_memory_lacks (inr why) front all ends kept first = absurd (no_io why.io)
   step_first other fault y after writer_failed no_io no_memory_lacks (inl why) front all ends kept first =
       let long : length (map remaining (take p (set now p y))) ≡ p = length-map (take p (set now p y)) remaining ∙ length-take-le p (set now p y) (let e = length-set now p y in omega (arith, e, l)) in
@@ -126,12 +126,12 @@ module _ {X : Type 0} (remaining : X → Option (List ℕ)) (sound failed : X �
         → IsNext turns (map remaining old) (map remaining now) before mid room room_now count lists has p
         → IsUnread other (sound x) (remaining x) (remaining y) (failed y) mid after ⊎ IsUnwritten other (remaining x) (remaining y) mid after room_now writer_failed
         → IsToldFirst other fault (map remaining (take p (set now p y))) (map sound (take p (set now p y))) (map failed front)
-        → IsUnjoined turns fault (map remaining old) (map sound old) (map failed (front ++ drop p (set now p y))) before after room writer_failed
+        → IsUnjoined turns fault (map remaining old) (map sound old) (map failed (front ++ drop p (set now p y))) (record { before = before; after = after; room = room; failed = writer_failed })
     step_told Io fault after writer_failed next why first =
-        subst (λ (e : FrameFault). IsUnjoined turns e (map remaining old) (map sound old) (map failed all) before after room writer_failed) (sym first)
+        subst (λ (e : FrameFault). IsUnjoined turns e (map remaining old) (map sound old) (map failed all) (record { before = before; after = after; room = room; failed = writer_failed })) (sym first)
         (step_fault_then Io y after writer_failed all failed_last next (λ no_io _. absurd (no_io refl)) why)
     step_told NoMemory fault after writer_failed next why first =
-        subst (λ (e : FrameFault). IsUnjoined turns e (map remaining old) (map sound old) (map failed all) before after room writer_failed) (sym first)
+        subst (λ (e : FrameFault). IsUnjoined turns e (map remaining old) (map sound old) (map failed all) (record { before = before; after = after; room = room; failed = writer_failed })) (sym first)
         (step_fault_then NoMemory y after writer_failed all failed_last next (λ _ no. absurd (no refl)) why)
     step_told CutLength fault after writer_failed next why first = step_first CutLength fault y after writer_failed (λ e. cc) (λ e. cc) why front all ends failed_front first
     step_told CutDatagram fault after writer_failed next why first = step_first CutDatagram fault y after writer_failed (λ e. cc) (λ e. cc) why front all ends failed_front first
@@ -161,7 +161,7 @@ before_or_behind (suc i) (suc n) = elim (before_or_behind i n) [
 
 -- the readers before this one have ended
 pub whole_first : (turns : Bool) (old new : List (Option (List ℕ))) (before now : Option (List ℕ)) (room room_now count : ℕ) (lists : List (List (List ℕ)))
-    → HasJoined turns old new before now room room_now count lists → (p : ℕ) → IsAtReader p new lists → (i : ℕ) → i < p → IsWhole (get_or old i None)
+    → HasJoined turns old new (IsWritten before now room room_now) count lists → (p : ℕ) → IsAtReader p new lists → (i : ℕ) → i < p → IsWhole (get_or old i None)
 whole_first turns old new before now room room_now count lists has p at i li =
     whole_end (get_or old i None) (get_or new i None) (get_or lists i []) (has.consumed i) (has.each i) (at.before i li)
 
@@ -316,7 +316,7 @@ none_yet true xs = ap (rounds (blank xs)) (none_longest xs)
 none_yet false xs = none_whole xs
 
 pub start : {X : Type 0} (remaining : X → Option (List ℕ)) (turns : Bool) (old : List X) (before : Option (List ℕ)) (room : ℕ)
-    → HasJoined turns (map remaining old) (map remaining old) before before room room 0 (blank old)
+    → HasJoined turns (map remaining old) (map remaining old) (IsWritten before before room room) 0 (blank old)
 start remaining turns old before room =
     none_joined turns (map remaining old) before room (blank old) (length-map old (λ _. []) ∙ sym (length-map old remaining)) (is_blank old) (none_yet turns old)
 

@@ -11,6 +11,7 @@ use Rattle.session.specs.Frames.{frame, frames, most_bytes, HasRead, IsReadFault
 use Rattle.session.specs.declared.frame.FrameFault.{FrameFault}
 use Rattle.session.specs.declared.frame.FrameFault.TheVariants as fault
 use Rattle.session.specs.Thinning.{frames_left, ReadsSome, IsThinned, WritesSome, IsUnthinned}
+use Rattle.session.specs.Copying.{IsWritten}
 use Rattle.session.specs.ThinningSteps.{HasCopied}
 use Rattle.session.specs.Ranges.{is_in_some, first_unhad}
 use Rattle.session.specs.declared.range.PlaceRange.{PlaceRange}
@@ -44,24 +45,23 @@ nothing_appended None = tt
 nothing_appended (Some x) = sym (append-nil x)
 
 -- before the first
-pub begins : (ranges : List PlaceRange) (a b : Option (List ℕ)) (room : ℕ) → HasCopied ranges a a b b room room 0 0
+pub begins : (ranges : List PlaceRange) (a b : Option (List ℕ)) (room : ℕ) → HasCopied ranges a a (IsWritten b b room room) 0 0
 begins ranges a b room = record {
   datagrams = [];
   consumed = nothing_consumed a;
   each = λ i. omega arith;
   many = refl;
-  gained = nothing_appended b;
+  writes = record { gained = nothing_appended b; fits = omega arith };
   left = refl;
-  fits = omega arith;
 }
 
-module _ (ranges : List PlaceRange) (a mid b m : Option (List ℕ)) (room room_now n k : ℕ) (h : HasCopied ranges a mid b m room room_now n k) where
+module _ (ranges : List PlaceRange) (a mid b m : Option (List ℕ)) (room room_now n k : ℕ) (h : HasCopied ranges a mid (IsWritten b m room room_now) n k) where
   was_read : HasRead a mid h.datagrams
   was_read = record { consumed = h.consumed; each = h.each }
 
   -- no more was read
   pub unread : (e : FrameFault) (sound : Bool) (new : Option (List ℕ)) (failed writer_failed : Bool) → IsReadFault e mid new failed → (e ≡ fault.Io → sound ≡ false)
-      → IsUnthinned e ranges sound a new failed room writer_failed
+      → IsUnthinned e ranges (record { before = a; after = new; sound = sound; failed = failed }) room writer_failed
   unread fault.CutLength sound new failed writer_failed r io = (h.datagrams, mid, was_read, r)
   unread fault.CutDatagram sound new failed writer_failed r io = (h.datagrams, mid, was_read, r)
   unread fault.TooLong sound new failed writer_failed r io = (h.datagrams, mid, was_read, r)
@@ -73,7 +73,7 @@ module _ (ranges : List PlaceRange) (a mid b m : Option (List ℕ)) (room room_n
   pub some : WritesSome ranges a b m
   some =
       let left = frames_left ranges h.datagrams in
-      (h.datagrams, mid, was_read, (length left, subst (λ (x : List ℕ). Appends b m x) (sym (take_all (length left) left (omega arith))) h.gained))
+      (h.datagrams, mid, was_read, (length left, subst (λ (x : List ℕ). Appends b m x) (sym (take_all (length left) left (omega arith))) h.writes.gained))
 
   -- the reader has ended
   pub thinned : IsAtEnd mid → first_unhad n ranges ≡ None → IsThinned ranges a mid b m k
@@ -82,24 +82,23 @@ module _ (ranges : List PlaceRange) (a mid b m : Option (List ℕ)) (room room_n
     read = was_read;
     end = over;
     inside = ap (λ (l : ℕ). first_unhad l ranges) h.many ∙ inside;
-    written = h.gained;
+    written = h.writes.gained;
     counted = sym h.left;
   }
 
   pub without : (place : ℕ) (sound failed : Bool) (writer_room : ℕ) (writer_failed : Bool) → IsAtEnd mid → first_unhad n ranges ≡ Some place
-      → IsUnthinned (fault.NoSuchPlace place) ranges sound a mid failed writer_room writer_failed
+      → IsUnthinned (fault.NoSuchPlace place) ranges (record { before = a; after = mid; sound = sound; failed = failed }) writer_room writer_failed
   without place sound failed writer_room writer_failed over outside = (over, h.datagrams, was_read, ap (λ (l : ℕ). first_unhad l ranges) h.many ∙ outside)
 
   -- nothing more was there
-  pub at_end : (next : Option (List ℕ)) → Consumes mid next [] → HasCopied ranges a next b m room room_now n k
+  pub at_end : (next : Option (List ℕ)) → Consumes mid next [] → HasCopied ranges a next (IsWritten b m room room_now) n k
   at_end next none = record {
     datagrams = h.datagrams;
     consumed = subst (λ (x : List ℕ). Consumes a next x) (append-nil (frames h.datagrams)) (then_consumes a mid next (frames h.datagrams) [] h.consumed none);
     each = h.each;
     many = h.many;
-    gained = h.gained;
+    writes = h.writes;
     left = h.left;
-    fits = h.fits;
   }
 
   -- one more was read
@@ -121,15 +120,14 @@ module _ (ranges : List PlaceRange) (a mid b m : Option (List ℕ)) (room room_n
       same_left : rest (is_in_some ranges) more ≡ rest (is_in_some ranges) h.datagrams
       same_left = rest_push (is_in_some ranges) h.datagrams d n true h.many lost ∙ append-nil (rest (is_in_some ranges) h.datagrams)
 
-      pub passed_over : (up : ℕ) → n + 1 ≡ up → length d ≤ most_bytes → HasCopied ranges a next b m room room_now up k
+      pub passed_over : (up : ℕ) → n + 1 ≡ up → length d ≤ most_bytes → HasCopied ranges a next (IsWritten b m room room_now) up k
       passed_over up is short = record {
         datagrams = more;
         consumed = read_on;
         each = short_push h.datagrams d h.each short;
         many = counted ∙ is;
-        gained = subst (λ (xs : List (List ℕ)). Appends b m (frames xs)) (sym same_left) h.gained;
+        writes = subst (λ (xs : List (List ℕ)). IsWritten b m room room_now (frames xs)) (sym same_left) h.writes;
         left = ap (λ (xs : List (List ℕ)). length xs) same_left ∙ h.left;
-        fits = subst (λ (xs : List (List ℕ)). room ≤ room_now + length (frames xs)) (sym same_left) h.fits;
       }
 
     -- and is to be written
@@ -144,21 +142,23 @@ module _ (ranges : List PlaceRange) (a mid b m : Option (List ℕ)) (room room_n
       size_left = ap (λ (x : List ℕ). length x) bytes_left ∙ length-append (frames_left ranges h.datagrams) (frame d)
 
       pub written : (m2 : Option (List ℕ)) (room2 up : ℕ) → n + 1 ≡ up → length d ≤ most_bytes → Appends m m2 (frame d) → room_now ≤ room2 + length (frame d)
-          → HasCopied ranges a next b m2 room room2 up (k + 1)
+          → HasCopied ranges a next (IsWritten b m2 room room2) up (k + 1)
       written m2 room2 up is short gains fills = record {
         datagrams = more;
         consumed = read_on;
         each = short_push h.datagrams d h.each short;
         many = counted ∙ is;
-        gained = subst (λ (x : List ℕ). Appends b m2 x) (sym bytes_left) (then_appends b m m2 (frames_left ranges h.datagrams) (frame d) h.gained gains);
+        writes = record {
+          gained = subst (λ (x : List ℕ). Appends b m2 x) (sym bytes_left) (then_appends b m m2 (frames_left ranges h.datagrams) (frame d) h.writes.gained gains);
+          fits = omega (arith, size_left, fills, h.writes.fits);
+        };
         left = ap (λ (xs : List (List ℕ)). length xs) one_left ∙ (let l = length-append (rest (is_in_some ranges) h.datagrams) (d ∷ []) in omega (arith, l, h.left));
-        fits = omega (arith, size_left, fills, h.fits);
       }
 
       -- a beginning of it was
       pub unwritten : (m2 : Option (List ℕ)) → length d ≤ most_bytes → AppendsSome m m2 (frame d) → WritesSome ranges a b m2
       unwritten m2 short begun =
-          (more, next, read_to short, subst (λ (x : List ℕ). AppendsSome b m2 x) (sym bytes_left) (then_some b m m2 (frames_left ranges h.datagrams) (frame d) h.gained begun))
+          (more, next, read_to short, subst (λ (x : List ℕ). AppendsSome b m2 x) (sym bytes_left) (then_some b m m2 (frames_left ranges h.datagrams) (frame d) h.writes.gained begun))
 
       pub no_room : length d ≤ most_bytes → room_now < length (frame d) → ReadsSome a (λ ds left. room < length (frames_left ranges ds))
-      no_room short full = (more, next, read_to short, omega (arith, size_left, full, h.fits))
+      no_room short full = (more, next, read_to short, omega (arith, size_left, full, h.writes.fits))

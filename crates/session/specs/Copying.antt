@@ -75,16 +75,16 @@ IsToldFirst Io fault old sound failed = fault ≡ Io
 IsToldFirst NoMemory fault old sound failed = fault ≡ NoMemory
 IsToldFirst other fault old sound failed = IsFirstFault other fault old sound failed
 
--- these lists of datagrams were read of the readers, and their frames, joined, written
+-- these lists of datagrams were read of the readers, and their frames, joined, written: of those
+-- bytes that is so which Writes tells
 pub record HasJoined (turns : Bool) (old new : List (Option (List ℕ)))
-    (before after : Option (List ℕ)) (room_before room_after count : ℕ)
-    (lists : List (List (List ℕ))) : Type 0 where
+    (Writes : List ℕ → Type 0) (count : ℕ) (lists : List (List (List ℕ))) : Type 0 where
   pub many : length lists ≡ length old
   pub consumed : (i : ℕ)
       → Consumes (slice_index_or old i None) (slice_index_or new i None)
       (frames (slice_index_or lists i []))
   pub each : (i : ℕ) → AreShort (slice_index_or lists i [])
-  pub written : IsWritten before after room_before room_after (frames (taken turns lists))
+  pub written : Writes (frames (taken turns lists))
   pub counted : count ≡ length (taken turns lists)
 
 -- a reader that has given a datagram in each of n rounds, or has ended before

@@ -2,6 +2,7 @@
 use Rattle.std.specs.Prelude.{◌≡◌, ◌≢◌, ◌<◌, ◌⊎◌, ℕ, Bool, true, false, List, [], Option, None}
 use Rattle.std.specs.Prelude.{length, slice_index_or, IfSome}
 use Rattle.std.specs.Io.KnownBytes.{Appends, IsAtEnd}
+use Rattle.streams.specs.Changes.{WriterChange}
 use Rattle.streams.specs.Pieces.{AppendsSome}
 use Rattle.session.specs.Frames.{frames, HasRead, IsFramed, IsSessionFault}
 use Rattle.session.specs.Joined.{joined}
@@ -39,13 +40,13 @@ pub record BlamesReader (fault : FrameFault) (old : List (Option (List ℕ)))
 -- Why not all was joined: a reader's fault, or the writer has failed, which has no room for what
 -- was read, or no memory. A beginning of the frames of what was read, joined, was written.
 pub record IsUnjoined (turns : Bool) (fault : FrameFault) (old : List (Option (List ℕ)))
-    (sound failed : List Bool) (before after : Option (List ℕ)) (room : ℕ)
-    (writer_failed : Bool) : Type 0 where
+    (sound failed : List Bool) (writer : WriterChange) : Type 0 where
   pub lists : List (List (List ℕ))
   pub many : length lists ≡ length old
   pub read : (i : ℕ) → (left : Option (List ℕ))
       × HasRead (slice_index_or old i None) left (slice_index_or lists i [])
-  pub some : AppendsSome before after (frames (joined turns lists))
+  pub some : AppendsSome writer.before writer.after (frames (joined turns lists))
   pub because : BlamesReader fault old sound failed
-      ⊎ ((fault ≡ Io) × (writer_failed ≡ true) × (room < length (frames (joined turns lists))))
+      ⊎ ((fault ≡ Io) × (writer.failed ≡ true)
+      × (writer.room < length (frames (joined turns lists))))
       ⊎ (fault ≡ NoMemory)

@@ -2,6 +2,7 @@
 use Rattle.std.specs.Prelude.{◌≡◌, ◌<◌, ◌⊎◌, ℕ, Bool, true, false, List, Option, None, Some, length}
 use Rattle.std.specs.Prelude.{⊤}
 use Rattle.std.specs.Io.KnownBytes.{Appends, IsAtEnd}
+use Rattle.streams.specs.Changes.{ReaderChange}
 use Rattle.streams.specs.Pieces.{AppendsSome}
 use Rattle.lists.specs.Selection.{rest}
 use Rattle.session.specs.Frames.{frames, HasRead, IsReadFault}
@@ -40,14 +41,14 @@ WritesSome ranges old before after =
 -- Why not all was read and written: a range's place that the datagrams don't have; the reader has
 -- failed, which isn't sound, or the writer, which had no room for what is left of them; want of
 -- memory; or no frame stands behind them.
-abbrev pub IsUnthinned : FrameFault → List PlaceRange → Bool → Option (List ℕ) → Option (List ℕ)
-    → Bool → ℕ → Bool → Type 0
-IsUnthinned (NoSuchPlace place) ranges sound old new failed room writer_failed =
-    IsAtEnd new × (ds : List (List ℕ)) × HasRead old new ds
+abbrev pub IsUnthinned : FrameFault → List PlaceRange → ReaderChange → ℕ → Bool → Type 0
+IsUnthinned (NoSuchPlace place) ranges r room writer_failed =
+    IsAtEnd r.after × (ds : List (List ℕ)) × HasRead r.before r.after ds
     × (first_unhad (length ds) ranges ≡ Some place)
-IsUnthinned Io ranges sound old new failed room writer_failed =
-    ((sound ≡ false) × (failed ≡ true))
-    ⊎ ((writer_failed ≡ true) × ReadsSome old (λ ds left. room < length (frames_left ranges ds)))
-IsUnthinned NoMemory ranges sound old new failed room writer_failed = ⊤
-IsUnthinned fault ranges sound old new failed room writer_failed =
-    ReadsSome old (λ ds left. IsReadFault fault left new failed)
+IsUnthinned Io ranges r room writer_failed =
+    ((r.sound ≡ false) × (r.failed ≡ true))
+    ⊎ ((writer_failed ≡ true)
+    × ReadsSome r.before (λ ds left. room < length (frames_left ranges ds)))
+IsUnthinned NoMemory ranges r room writer_failed = ⊤
+IsUnthinned fault ranges r room writer_failed =
+    ReadsSome r.before (λ ds left. IsReadFault fault left r.after r.failed)

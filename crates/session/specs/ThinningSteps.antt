@@ -1,19 +1,19 @@
 -- What is known of frames that are copied but for those at the places of some ranges.
-use Rattle.std.specs.Prelude.{◌≡◌, ◌≤◌, ◌+◌, ℕ, List, Option, length}
-use Rattle.std.specs.Io.KnownBytes.{Appends, Consumes}
+use Rattle.std.specs.Prelude.{◌≡◌, ℕ, List, Option, length}
+use Rattle.std.specs.Io.KnownBytes.{Consumes}
 use Rattle.lists.specs.Selection.{rest}
 use Rattle.session.specs.Frames.{frames, AreShort}
 use Rattle.session.specs.Ranges.{is_in_some}
 use Rattle.session.specs.declared.range.PlaceRange.{PlaceRange}
 use Rattle.session.specs.Thinning.{frames_left}
 
--- so many datagrams were read, and so many of them written
-pub record HasCopied (ranges : List PlaceRange) (old new before after : Option (List ℕ))
-    (room_before room_after count written : ℕ) : Type 0 where
+-- so many datagrams were read, and so many of them written: of the bytes of their frames that is so
+-- which Writes tells
+pub record HasCopied (ranges : List PlaceRange) (old new : Option (List ℕ))
+    (Writes : List ℕ → Type 0) (count written : ℕ) : Type 0 where
   pub datagrams : List (List ℕ)
   pub consumed : Consumes old new (frames datagrams)
   pub each : AreShort datagrams
   pub many : length datagrams ≡ count
-  pub gained : Appends before after (frames_left ranges datagrams)
+  pub writes : Writes (frames_left ranges datagrams)
   pub left : length (rest (is_in_some ranges) datagrams) ≡ written
-  pub fits : room_before ≤ room_after + length (frames_left ranges datagrams)

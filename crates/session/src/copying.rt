@@ -1,6 +1,7 @@
 //! Frames of several readers joined in one writer.
 ghost use Rattle.std.specs.Prelude.{◌≡◌, ◌<◌, ◌≤◌, ◌⊎◌, map, true, false, length, IfOk, IfErr};
 ghost use Rattle.std.specs.Prelude.{OnOk};
+ghost use Rattle.streams.specs.Changes.{writer_change};
 ghost use Rattle.session.specs.Copying.{IsStep, IsToldFirst, IsUnread, IsUnwritten};
 ghost use Rattle.session.specs.Frames.{IsSessionFault};
 ghost use Rattle.session.specs.Joining.{IsJoined, IsUnjoined, IsWhole};
@@ -76,8 +77,7 @@ fn join_whole<R: Read, W: Write>(
         (W.contents writer.old) (W.contents writer.new)) }
     ensures fault { IfErr result (λ e. IsUnjoined false e
         (map R.remaining readers.old) (map R.sound readers.old) (map R.failed readers.new)
-        (W.contents writer.old) (W.contents writer.new) (W.room writer.old)
-        (W.failed writer.new)) }
+        (writer_change W.Write writer.old writer.new)) }
 {
     let mut count = 0usize;
     let mut place = 0;
@@ -105,8 +105,7 @@ fn join_in_turns<R: Read, W: Write>(
         (W.contents writer.old) (W.contents writer.new)) }
     ensures fault { IfErr result (λ e. IsUnjoined true e
         (map R.remaining readers.old) (map R.sound readers.old) (map R.failed readers.new)
-        (W.contents writer.old) (W.contents writer.new) (W.room writer.old)
-        (W.failed writer.new)) }
+        (writer_change W.Write writer.old writer.new)) }
 {
     let Ok(mut ended) = Vec::from_elem(alloc, false, readers.len()) else {
         return Err(FrameFault::NoMemory);
@@ -159,8 +158,7 @@ pub fn join_frames<R: Read, W: Write>(
         (W.contents writer.old) (W.contents writer.new)) }
     ensures fault { IfErr result (λ e. IsUnjoined turns e
         (map R.remaining readers.old) (map R.sound readers.old) (map R.failed readers.new)
-        (W.contents writer.old) (W.contents writer.new) (W.room writer.old)
-        (W.failed writer.new)) }
+        (writer_change W.Write writer.old writer.new)) }
 {
     if turns {
         join_in_turns(alloc, readers, writer)

@@ -1,6 +1,8 @@
 //! Frames without those at the places of some ranges, from a reader to a writer.
 ghost use Rattle.std.specs.Prelude.{List, IfOk, IfErr, OnErr};
 ghost use Rattle.std.specs.Io.KnownBytes.{IsAtEnd};
+ghost use Rattle.streams.specs.Changes.{reader_change};
+ghost use Rattle.session.specs.Copying.{IsWritten};
 ghost use Rattle.session.specs.Thinning.{IsThinned, IsUnthinned, WritesSome};
 ghost use Rattle.session.specs.ThinningSteps.{HasCopied};
 ghost use Rattle.session.specs.RangeSteps.{AreByFirst, HaveSamePlaces};
@@ -30,13 +32,12 @@ fn copy_others<R: Read, W: Write>(
     requires { AreByFirst lost.now }
     ensures copied { (ranges : List Range) → HaveSamePlaces ranges lost.now
         → IfOk result (λ n. HasCopied ranges (R.remaining reader.old) (R.remaining reader.new)
-        (W.contents writer.old) (W.contents writer.new)
-        (W.room writer.old) (W.room writer.new) n.read n.written) }
+        (IsWritten (W.contents writer.old) (W.contents writer.new)
+        (W.room writer.old) (W.room writer.new)) n.read n.written) }
     ensures end { IfOk result (λ n. IsAtEnd (R.remaining reader.new)) }
     ensures fault { (ranges : List Range) → HaveSamePlaces ranges lost.now
-        → IfErr result (λ e. IsUnthinned e ranges (R.sound reader.old)
-        (R.remaining reader.old) (R.remaining reader.new) (R.failed reader.new)
-        (W.room writer.old) (W.failed writer.new)) }
+        → IfErr result (λ e. IsUnthinned e ranges
+        (reader_change R.Read reader.old reader.new) (W.room writer.old) (W.failed writer.new)) }
     ensures some { (ranges : List Range) → HaveSamePlaces ranges lost.now
         → OnErr result (WritesSome ranges (R.remaining reader.old)
         (W.contents writer.old) (W.contents writer.new)) }
@@ -77,9 +78,8 @@ pub fn thin_frames<R: Read, W: Write>(
     ensures thinned { IfOk result (IsThinned ranges.now
         (R.remaining reader.old) (R.remaining reader.new)
         (W.contents writer.old) (W.contents writer.new)) }
-    ensures fault { IfErr result (λ e. IsUnthinned e ranges.now (R.sound reader.old)
-        (R.remaining reader.old) (R.remaining reader.new) (R.failed reader.new)
-        (W.room writer.old) (W.failed writer.new)) }
+    ensures fault { IfErr result (λ e. IsUnthinned e ranges.now
+        (reader_change R.Read reader.old reader.new) (W.room writer.old) (W.failed writer.new)) }
     ensures some { OnErr result (WritesSome ranges.now (R.remaining reader.old)
         (W.contents writer.old) (W.contents writer.new)) }
 {

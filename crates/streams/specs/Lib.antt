@@ -1,3 +1,4 @@
+pub mod Changes
 pub mod Offsets
 pub mod Pieces
 pub mod Sinks

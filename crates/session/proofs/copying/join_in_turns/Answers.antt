@@ -1,6 +1,6 @@
 use Rattle.std.proofs.Common.{◌≡◌, ◌<◌, ◌+◌, ◌++◌, ◌∷◌, [], ℕ, true, false, List, length, map, get_or, set, replicate, sym, ◌∙◌, refl, arith, rules, subst}
 use Rattle.std.proofs.lemmas.List.{length-set, length-map, map-set, get_or_default}
-use Rattle.session.specs.Copying.{HasJoined, IsInRound}
+use Rattle.session.specs.Copying.{HasJoined, IsInRound, IsWritten}
 use Rattle.session.proofs.Copies.{all_joined, no_memory}
 use Rattle.session.proofs.Steps.{blank, start, step_copied, step_over, step_sound, step_told, turn_next, turn_copied, turn_over, all_over, first_round, ended_more, in_lists, read_here}
 use Rattle.session.proofs.copying.join_in_turns.Goals as goal
@@ -98,7 +98,7 @@ loop-place-preserved g c =
           rw (w.ended-is, w.count-is, w.over-is) (record {
             joined = (
               lists,
-              subst (λ n. HasJoined true (map g.R.Read.remaining old) (map g.R.Read.remaining (set now p y)) (g.W.Write.contents c.args.writer.now) (g.W.Write.contents c.copy_one.new.writer) (g.W.Write.room c.args.writer.now) (g.W.Write.room c.copy_one.new.writer) n lists) (sym more) has,
+              subst (λ n. HasJoined true (map g.R.Read.remaining old) (map g.R.Read.remaining (set now p y)) (IsWritten (g.W.Write.contents c.args.writer.now) (g.W.Write.contents c.copy_one.new.writer) (g.W.Write.room c.args.writer.now) (g.W.Write.room c.copy_one.new.writer)) n lists) (sym more) has,
               subst (λ new. IsInRound c.loop-round._round (p + 1) c.loop-place.ended.items new lists) (sym (map-set g.R.Read.remaining now p y))
                   (turn_copied c.loop-round._round p c.loop-place.ended.items (map g.R.Read.remaining now) state.0 state.2 going (g.R.Read.remaining y) d inside),
             );

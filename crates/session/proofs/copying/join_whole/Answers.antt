@@ -1,7 +1,7 @@
 use Rattle.std.proofs.Common.{◌≡◌, ◌+◌, ◌++◌, ◌∷◌, [], false, map, get_or, set, sym, ◌∙◌, refl, arith, subst}
 use Rattle.std.proofs.lemmas.List.{length-set, length-map, map-set}
 use Rattle.session.specs.Joining.{IsUnjoined}
-use Rattle.session.specs.Copying.{HasJoined, IsAtReader}
+use Rattle.session.specs.Copying.{HasJoined, IsAtReader, IsWritten}
 use Rattle.session.proofs.Copies.{all_joined, no_memory}
 use Rattle.session.proofs.Steps.{blank, is_blank, start, told, step_copied, step_over, step_sound, step_fault, whole_next, whole_copied, whole_over, whole_ends, whole_first, fewer_left, one_over, in_lists, read_here}
 use Rattle.session.proofs.copying.join_whole.Goals as goal
@@ -34,7 +34,7 @@ returns-in_err-copy_one-clause-fault g c =
     let sound = c.loop-place.invariant.sound in
     let inside = in_lists g.R.Read.remaining g.R.Read.sound g.R.Read.failed false old now _ _ _ _ _ state.0 state.1 size sound p l x at in
     told c.from_residual.result c.in_err-copy_one.field-0.0
-    (λ e. IsUnjoined false e (map g.R.Read.remaining old) (map g.R.Read.sound old) (map g.R.Read.failed (set now p y)) (g.W.Write.contents c.args.writer.now) (g.W.Write.contents c.copy_one.new.writer) (g.W.Write.room c.args.writer.now) (g.W.Write.failed c.copy_one.new.writer))
+    (λ e. IsUnjoined false e (map g.R.Read.remaining old) (map g.R.Read.sound old) (map g.R.Read.failed (set now p y)) (record { before = (g.W.Write.contents c.args.writer.now); after = (g.W.Write.contents c.copy_one.new.writer); room = (g.W.Write.room c.args.writer.now); failed = (g.W.Write.failed c.copy_one.new.writer) }))
     c.from_residual.ensures.1
     (step_fault g.R.Read.remaining g.R.Read.sound g.R.Read.failed false old now _ _ _ _ _ state.0 state.1 size sound p l x at
     c.in_err-copy_one.field-0.0 y _ _ (whole_next _ state.0 p state.2 inside)
@@ -85,7 +85,7 @@ loop-place-preserved-then-branch g c =
     record {
       joined = (
         set state.0 p (get_or state.0 p [] ++ one.datagram ∷ []),
-        subst (λ n. HasJoined false (map g.R.Read.remaining old) (map g.R.Read.remaining (set now p y)) (g.W.Write.contents c.args.writer.now) (g.W.Write.contents c.copy_one.new.writer) (g.W.Write.room c.args.writer.now) (g.W.Write.room c.copy_one.new.writer) n (set state.0 p (get_or state.0 p [] ++ one.datagram ∷ []))) (sym next) has,
+        subst (λ n. HasJoined false (map g.R.Read.remaining old) (map g.R.Read.remaining (set now p y)) (IsWritten (g.W.Write.contents c.args.writer.now) (g.W.Write.contents c.copy_one.new.writer) (g.W.Write.room c.args.writer.now) (g.W.Write.room c.copy_one.new.writer)) n (set state.0 p (get_or state.0 p [] ++ one.datagram ∷ []))) (sym next) has,
         subst (λ new. IsAtReader p new (set state.0 p (get_or state.0 p [] ++ one.datagram ∷ []))) (sym (map-set g.R.Read.remaining now p y)) (whole_copied _ state.0 p state.2 (g.R.Read.remaining y) (get_or state.0 p [] ++ one.datagram ∷ [])),
       );
       sound = step_sound g.R.Read.remaining g.R.Read.sound g.R.Read.failed false old now _ _ _ _ _ state.0 state.1 size sound p l x at y c.copy_one.ensures.stays;
