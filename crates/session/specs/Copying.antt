@@ -75,8 +75,7 @@ IsToldFirst Io fault old sound failed = fault ≡ Io
 IsToldFirst NoMemory fault old sound failed = fault ≡ NoMemory
 IsToldFirst other fault old sound failed = IsFirstFault other fault old sound failed
 
--- these lists of datagrams were read of the readers, and their frames, joined, written: of those
--- bytes that is so which Writes tells
+-- these lists of datagrams were read of the readers, and Writes holds of their frames, joined
 pub record HasJoined (turns : Bool) (old new : List (Option (List ℕ)))
     (Writes : List ℕ → Type 0) (count : ℕ) (lists : List (List (List ℕ))) : Type 0 where
   pub many : length lists ≡ length old

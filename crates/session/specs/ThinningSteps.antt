@@ -7,8 +7,8 @@ use Rattle.session.specs.Ranges.{is_in_some}
 use Rattle.session.specs.declared.range.PlaceRange.{PlaceRange}
 use Rattle.session.specs.Thinning.{frames_left}
 
--- so many datagrams were read, and so many of them written: of the bytes of their frames that is so
--- which Writes tells
+-- so many datagrams were read, so many of them are at other places, and Writes holds of the frames
+-- of those
 pub record HasCopied (ranges : List PlaceRange) (old new : Option (List ℕ))
     (Writes : List ℕ → Type 0) (count written : ℕ) : Type 0 where
   pub datagrams : List (List ℕ)
