@@ -113,7 +113,7 @@ module _ (object : List ℕ) (f : Fti) (t u every : ℕ) where
   -- ---- a run is written
 
   module _ (valid : IsValidFti f) (j first count : ℕ) (few : j < f.max_symbols) (inside : first + count ≤ block_count f) (bytes : List ℕ)
-      (run : Sends object f t u every (items_from (place_of f j first) (run_of_round f j first count)) (Some []) (Some bytes)) where
+      (run : Sends (AreSent object f t u every) (items_from (place_of f j first) (run_of_round f j first count)) (Some []) (Some bytes)) where
     abbrev p : ℕ
     p = place_of f j first
 
@@ -261,7 +261,7 @@ module _ (object : List ℕ) (f : Fti) (t u every : ℕ) where
     abbrev upto : ℕ → Option (List ℕ)
     upto n = Some (joined (take n h.pieces))
 
-    step : IsValidFti f → (j b : ℕ) → b < block_count f → Sends object f t u every (items_from (place_of f j b) (pair_with f j b)) (upto (place_of f j b)) (upto (place_of f j (b + 1)))
+    step : IsValidFti f → (j b : ℕ) → b < block_count f → Sends (AreSent object f t u every) (items_from (place_of f j b) (pair_with f j b)) (upto (place_of f j b)) (upto (place_of f j (b + 1)))
     step valid j b hb = elim (cases_lt j (encoding_count f b)) [
       | inl has ↦
           (let n : ℕ = place_of f j b in
@@ -272,39 +272,39 @@ module _ (object : List ℕ) (f : Fti) (t u every : ℕ) where
           ap joined (take_more h.pieces n [] lt) ∙ flat_map-append (λ (x : List ℕ). x) (take n h.pieces) (piece ∷ [])
           ∙ ap (λ (l : List ℕ). joined (take n h.pieces) ++ l) (append-nil piece ∙ is.framed) in
           let sent = one_sent object f t u every (item_at n (b, j)) is.datagram (upto n) (upto (n + 1)) is.sent more in
-          subst (λ (m : ℕ). Sends object f t u every (items_from n (pair_with f j b)) (upto n) (upto m)) (sym (place_here f j b has))
-          (subst (λ (ps : List (ℕ × ℕ)). Sends object f t u every (items_from n ps) (upto n) (upto (n + 1))) (sym (with_pair f j b has)) sent))
+          subst (λ (m : ℕ). Sends (AreSent object f t u every) (items_from n (pair_with f j b)) (upto n) (upto m)) (sym (place_here f j b has))
+          (subst (λ (ps : List (ℕ × ℕ)). Sends (AreSent object f t u every) (items_from n ps) (upto n) (upto (n + 1))) (sym (with_pair f j b has)) sent))
       | inr none ↦
           (let n : ℕ = place_of f j b in
-          subst (λ (m : ℕ). Sends object f t u every (items_from n (pair_with f j b)) (upto n) (upto m)) (sym (place_none f j b none))
-          (subst (λ (ps : List (ℕ × ℕ)). Sends object f t u every (items_from n ps) (upto n) (upto n)) (sym (without_pair f j b none)) (nothing_sent object f t u every (upto n))))
+          subst (λ (m : ℕ). Sends (AreSent object f t u every) (items_from n (pair_with f j b)) (upto n) (upto m)) (sym (place_none f j b none))
+          (subst (λ (ps : List (ℕ × ℕ)). Sends (AreSent object f t u every) (items_from n ps) (upto n) (upto n)) (sym (without_pair f j b none)) (nothing_sent object f t u every (upto n))))
     ]
 
     round_sent : IsValidFti f → (j b : ℕ) → b ≤ block_count f
-        → Sends object f t u every (items_from (place_of f j 0) (flat_map (pair_with f j) (below b))) (upto (place_of f j 0)) (upto (place_of f j b))
+        → Sends (AreSent object f t u every) (items_from (place_of f j 0) (flat_map (pair_with f j) (below b))) (upto (place_of f j 0)) (upto (place_of f j b))
     unfolding below
     round_sent valid j zero le = nothing_sent object f t u every (upto (place_of f j 0))
     round_sent valid j (suc b) le =
         let e : b + 1 ≡ suc b = omega arith in
         let at : place_of f j b ≡ place_of f j 0 + length (flat_map (pair_with f j) (below b)) = omega (arith, round_start f j) in
-        let g : Sends object f t u every (items_from (place_of f j 0) (flat_map (pair_with f j) (below (b + 1)))) (upto (place_of f j 0)) (upto (place_of f j (b + 1))) =
+        let g : Sends (AreSent object f t u every) (items_from (place_of f j 0) (flat_map (pair_with f j) (below (b + 1)))) (upto (place_of f j 0)) (upto (place_of f j (b + 1))) =
         behind_sends object f t u every (place_of f j 0) (place_of f j b) (flat_map (pair_with f j) (below b)) (pair_with f j b) at _ _ _ _ (flat_next (pair_with f j) b)
         (round_sent valid j b (omega arith)) (step valid j b (omega arith)) in
         rw e at g
 
-    rounds_sent : IsValidFti f → (j : ℕ) → Sends object f t u every (items_from 0 (flat_map (pairs_of_round f) (below j))) (upto 0) (upto (place_of f j 0))
+    rounds_sent : IsValidFti f → (j : ℕ) → Sends (AreSent object f t u every) (items_from 0 (flat_map (pairs_of_round f) (below j))) (upto 0) (upto (place_of f j 0))
     unfolding below
     rounds_sent valid zero = nothing_sent object f t u every (upto 0)
     rounds_sent valid (suc j) =
         let e : j + 1 ≡ suc j = omega arith in
         let at : place_of f j 0 ≡ 0 + length (flat_map (pairs_of_round f) (below j)) = omega (arith, round_start f j) in
-        let last = subst (λ (m : ℕ). Sends object f t u every (items_from (place_of f j 0) (pairs_of_round f j)) (upto (place_of f j 0)) (upto m)) (round_end f j) (round_sent valid j (block_count f) (omega arith)) in
-        let g : Sends object f t u every (items_from 0 (flat_map (pairs_of_round f) (below (j + 1)))) (upto 0) (upto (place_of f (j + 1) 0)) =
+        let last = subst (λ (m : ℕ). Sends (AreSent object f t u every) (items_from (place_of f j 0) (pairs_of_round f j)) (upto (place_of f j 0)) (upto m)) (round_end f j) (round_sent valid j (block_count f) (omega arith)) in
+        let g : Sends (AreSent object f t u every) (items_from 0 (flat_map (pairs_of_round f) (below (j + 1)))) (upto 0) (upto (place_of f (j + 1) 0)) =
         behind_sends object f t u every 0 (place_of f j 0) (flat_map (pairs_of_round f) (below j)) (pairs_of_round f j) at _ _ _ _ (flat_next (pairs_of_round f) j)
         (rounds_sent valid j) last in
         rw e at g
 
-    pub all_sent : IsValidFti f → (old : Option (List ℕ)) → is_some contents ≡ is_some old → Sends object f t u every (items Rounds f) (emptied old) contents
+    pub all_sent : IsValidFti f → (old : Option (List ℕ)) → is_some contents ≡ is_some old → Sends (AreSent object f t u every) (items Rounds f) (emptied old) contents
     all_sent valid old told =
         let r = rounds_sent valid f.max_symbols in
         let whole : joined h.pieces ≡ frames r.datagrams =

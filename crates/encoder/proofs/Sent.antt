@@ -73,17 +73,17 @@ nothing_appended None = tt
 nothing_appended (Some x) = sym (append-nil x)
 
 module _ (object : List ℕ) (f : Fti) (t u every : ℕ) where
-  pub nothing_sent : (a : Option (List ℕ)) → Sends object f t u every [] a a
+  pub nothing_sent : (a : Option (List ℕ)) → Sends (AreSent object f t u every) [] a a
   nothing_sent a = record { datagrams = []; sent = tt; gained = nothing_appended a }
 
-  pub one_sent : (x : Item) (d : List ℕ) (a b : Option (List ℕ)) → IsSent object f t u every x d → Appends a b (frame d) → Sends object f t u every (x ∷ []) a b
+  pub one_sent : (x : Item) (d : List ℕ) (a b : Option (List ℕ)) → IsSent object f t u every x d → Appends a b (frame d) → Sends (AreSent object f t u every) (x ∷ []) a b
   one_sent x d a b is gained = record {
     datagrams = d ∷ [];
     sent = (is, tt);
     gained = subst (λ (y : List ℕ). Appends a b y) (sym (append-nil (frame d))) gained;
   }
 
-  pub one_some : (x : Item) (d : List ℕ) (a b : Option (List ℕ)) → IsSent object f t u every x d → AppendsSome a b (frame d) → SendsSome object f t u every (x ∷ []) a b
+  pub one_some : (x : Item) (d : List ℕ) (a b : Option (List ℕ)) → IsSent object f t u every x d → AppendsSome a b (frame d) → SendsSome (AreSent object f t u every) (x ∷ []) a b
   one_some x d a b is gained = record {
     front = x ∷ [];
     later = [];
@@ -93,7 +93,7 @@ module _ (object : List ℕ) (f : Fti) (t u every : ℕ) where
     gained = subst (λ (y : List ℕ). AppendsSome a b y) (sym (append-nil (frame d))) gained;
   }
 
-  then_sends : (xs ys : List Item) (a b c : Option (List ℕ)) → Sends object f t u every xs a b → Sends object f t u every ys b c → Sends object f t u every (xs ++ ys) a c
+  then_sends : (xs ys : List Item) (a b c : Option (List ℕ)) → Sends (AreSent object f t u every) xs a b → Sends (AreSent object f t u every) ys b c → Sends (AreSent object f t u every) (xs ++ ys) a c
   then_sends xs ys a b c h g = record {
     datagrams = h.datagrams ++ g.datagrams;
     sent = sent_append object f t u every xs ys h.datagrams g.datagrams h.sent g.sent;
@@ -101,7 +101,7 @@ module _ (object : List ℕ) (f : Fti) (t u every : ℕ) where
         (then_appends a b c (frames h.datagrams) (frames g.datagrams) h.gained g.gained);
   }
 
-  then_some : (xs ys : List Item) (a b c : Option (List ℕ)) → Sends object f t u every xs a b → SendsSome object f t u every ys b c → SendsSome object f t u every (xs ++ ys) a c
+  then_some : (xs ys : List Item) (a b c : Option (List ℕ)) → Sends (AreSent object f t u every) xs a b → SendsSome (AreSent object f t u every) ys b c → SendsSome (AreSent object f t u every) (xs ++ ys) a c
   then_some xs ys a b c h g = record {
     front = xs ++ g.front;
     later = g.later;
@@ -112,7 +112,7 @@ module _ (object : List ℕ) (f : Fti) (t u every : ℕ) where
         (then_some_bytes a b c (frames h.datagrams) (frames g.datagrams) h.gained g.gained);
   }
 
-  some_of : (xs ys later : List Item) (a b : Option (List ℕ)) → ys ≡ xs ++ later → SendsSome object f t u every xs a b → SendsSome object f t u every ys a b
+  some_of : (xs ys later : List Item) (a b : Option (List ℕ)) → ys ≡ xs ++ later → SendsSome (AreSent object f t u every) xs a b → SendsSome (AreSent object f t u every) ys a b
   some_of xs ys later a b is h = record {
     front = h.front;
     later = h.later ++ later;
@@ -124,7 +124,7 @@ module _ (object : List ℕ) (f : Fti) (t u every : ℕ) where
 
 -- a beginning that is whole by itself
 pub sent_some : (object : List ℕ) (f : Fti) (t u every i : ℕ) (ps later whole : List (ℕ × ℕ)) (a b : Option (List ℕ)) → whole ≡ ps ++ later
-    → Sends object f t u every (items_from i ps) a b → SendsSome object f t u every (items_from i whole) a b
+    → Sends (AreSent object f t u every) (items_from i ps) a b → SendsSome (AreSent object f t u every) (items_from i whole) a b
 sent_some object f t u every i ps later whole a b is h = record {
   front = items_from i ps;
   later = items_from (i + length ps) later;
@@ -155,18 +155,18 @@ length_next g n = ap length (flat_next g n) ∙ length-append (flat_map g (below
 -- ---- what was sent, and the writer's room, list behind list
 
 module _ (object : List ℕ) (f : Fti) (t u every i next : ℕ) (ps qs : List (ℕ × ℕ)) (at : next ≡ i + length ps) (a b c : Option (List ℕ)) where
-  pub behind_sends : (whole : List (ℕ × ℕ)) → whole ≡ ps ++ qs → Sends object f t u every (items_from i ps) a b → Sends object f t u every (items_from next qs) b c
-      → Sends object f t u every (items_from i whole) a c
+  pub behind_sends : (whole : List (ℕ × ℕ)) → whole ≡ ps ++ qs → Sends (AreSent object f t u every) (items_from i ps) a b → Sends (AreSent object f t u every) (items_from next qs) b c
+      → Sends (AreSent object f t u every) (items_from i whole) a c
   behind_sends whole is h g =
-      subst (λ (xs : List Item). Sends object f t u every xs a c) (sym (ap (items_from i) is ∙ items_append i ps qs))
-      (then_sends object f t u every (items_from i ps) (items_from (i + length ps) qs) a b c h (subst (λ (n : ℕ). Sends object f t u every (items_from n qs) b c) at g))
+      subst (λ (xs : List Item). Sends (AreSent object f t u every) xs a c) (sym (ap (items_from i) is ∙ items_append i ps qs))
+      (then_sends object f t u every (items_from i ps) (items_from (i + length ps) qs) a b c h (subst (λ (n : ℕ). Sends (AreSent object f t u every) (items_from n qs) b c) at g))
 
-  pub behind_some : (whole later : List (ℕ × ℕ)) → whole ≡ (ps ++ qs) ++ later → Sends object f t u every (items_from i ps) a b → SendsSome object f t u every (items_from next qs) b c
-      → SendsSome object f t u every (items_from i whole) a c
+  pub behind_some : (whole later : List (ℕ × ℕ)) → whole ≡ (ps ++ qs) ++ later → Sends (AreSent object f t u every) (items_from i ps) a b → SendsSome (AreSent object f t u every) (items_from next qs) b c
+      → SendsSome (AreSent object f t u every) (items_from i whole) a c
   behind_some whole later is h g =
       some_of object f t u every (items_from i ps ++ items_from (i + length ps) qs) (items_from i whole) (items_from (i + length (ps ++ qs)) later) a c
       (ap (items_from i) is ∙ items_append i (ps ++ qs) later ∙ ap (λ (xs : List Item). xs ++ items_from (i + length (ps ++ qs)) later) (items_append i ps qs))
-      (then_some object f t u every (items_from i ps) (items_from (i + length ps) qs) a b c h (subst (λ (n : ℕ). SendsSome object f t u every (items_from n qs) b c) at g))
+      (then_some object f t u every (items_from i ps) (items_from (i + length ps) qs) a b c h (subst (λ (n : ℕ). SendsSome (AreSent object f t u every) (items_from n qs) b c) at g))
 
 module _ (f : Fti) (every : ℕ) where
   bytes_append : (i : ℕ) (ps qs : List (ℕ × ℕ)) → session_bytes f every (items_from i (ps ++ qs)) ≡ session_bytes f every (items_from i ps) + session_bytes f every (items_from (i + length ps) qs)

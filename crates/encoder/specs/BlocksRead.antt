@@ -1,8 +1,8 @@
 -- What reading an object block by block has read.
-use Rattle.std.specs.Prelude.{◌≡◌, ℕ, ◌-◌, ◌*◌, min, List, length, Bool, true, false, Option}
+use Rattle.std.specs.Prelude.{◌≡◌, ℕ, ◌*◌, min, List, length, Bool, true, false, Option}
 use Rattle.std.specs.Io.KnownBytes.{Consumes}
 use Rattle.lists.specs.Bytes.{AreBytes}
-use Rattle.partition.specs.Fti.{Fti, start_of, source_count}
+use Rattle.partition.specs.Fti.{Fti, start_of}
 use Rattle.reception.specs.Symbols.{IsObject}
 use Rattle.encoder.specs.declared.object.ObjectFault.{ObjectFault}
 use Rattle.encoder.specs.declared.object.ObjectFault.TheVariants.{Length, Io}

@@ -1,6 +1,7 @@
 -- Why no certificate was written of an object that comes from a reader, or only a beginning.
-use Rattle.std.specs.Prelude.{◌≡◌, ℕ, List, Bool, true, Option, Some}
+use Rattle.std.specs.Prelude.{◌≡◌, ℕ, List, true, Option, Some}
 use Rattle.partition.specs.Fti.{Fti}
+use Rattle.streams.specs.Changes.{ReaderChange, WriterChange}
 use Rattle.reception.specs.declared.scope.Identity.{Identity}
 use Rattle.cert.specs.Certificate.{head_text}
 use Rattle.encoder.specs.declared.certifying_from.CertifyFromFault.{CertifyFromFault}
@@ -14,12 +15,11 @@ abbrev pub BeginsText : Fti → Identity → (left old new : Option (List ℕ)) 
 BeginsText f who left old new =
     ReadsSome f left (λ object. BeginsRows object f (head_text (Some who) f) old new)
 
--- by what the reader had left before, whether it was sound and has failed, what was written and
--- whether the writer has failed
-abbrev pub IsCertifyFromFault : CertifyFromFault → Fti → Identity → Option (List ℕ) → Bool → Bool
-    → Option (List ℕ) → Option (List ℕ) → Bool → Type 0
-IsCertifyFromFault (Object e) f who left sound reader_failed old new writer_failed =
-    IsObjectFault e f left sound reader_failed × BeginsText f who left old new
-IsCertifyFromFault Write f who left sound reader_failed old new writer_failed =
-    BeginsText f who left old new × (writer_failed ≡ true)
-IsCertifyFromFault NoMemory f who left sound reader_failed old new writer_failed = new ≡ old
+-- by what became of the reader and of the writer
+abbrev pub IsCertifyFromFault : CertifyFromFault → Fti → Identity → ReaderChange → WriterChange
+    → Type 0
+IsCertifyFromFault (Object e) f who r w =
+    IsObjectFault e f r.before r.sound r.failed × BeginsText f who r.before w.before w.after
+IsCertifyFromFault Write f who r w =
+    BeginsText f who r.before w.before w.after × (w.failed ≡ true)
+IsCertifyFromFault NoMemory f who r w = w.after ≡ w.before

@@ -9,6 +9,7 @@ use Rattle.lists.specs.Below.{below}
 use Rattle.partition.specs.Fti.{Fti, block_count, encoding_count}
 use Rattle.alc.specs.Packet.{written}
 use Rattle.alc.specs.Written.{header_size, packet_from}
+use Rattle.streams.specs.Changes.{WriterChange}
 use Rattle.session.specs.Frames.{most_bytes, frames, AppendsSome}
 use Rattle.reception.specs.Symbols.{Agrees}
 use Rattle.partition.specs.declared.order.Order.{Order}
@@ -76,21 +77,22 @@ AreSent object f tsi toi every _ _ = ⊥
 abbrev pub IsSessionOf : List ℕ → Fti → ℕ → ℕ → ℕ → Order → List (List ℕ) → Type 0
 IsSessionOf object f tsi toi every order = AreSent object f tsi toi every (items order f)
 
--- the frames of the datagrams of these encoding symbols were written, where it is told what was
-pub record Sends (object : List ℕ) (f : Fti) (tsi toi every : ℕ) (xs : List Item)
+-- the frames of the datagrams that Are tells of these encoding symbols were written, where it is
+-- told what was
+pub record Sends (Are : List Item → List (List ℕ) → Type 0) (xs : List Item)
     (old new : Option (List ℕ)) : Type 0 where
   pub datagrams : List (List ℕ)
-  pub sent : AreSent object f tsi toi every xs datagrams
+  pub sent : Are xs datagrams
   pub gained : Appends old new (frames datagrams)
 
 -- a beginning of them was
-pub record SendsSome (object : List ℕ) (f : Fti) (tsi toi every : ℕ) (xs : List Item)
+pub record SendsSome (Are : List Item → List (List ℕ) → Type 0) (xs : List Item)
     (old new : Option (List ℕ)) : Type 0 where
   pub front : List Item
   pub later : List Item
   pub whole : xs ≡ front ++ later
   pub datagrams : List (List ℕ)
-  pub sent : AreSent object f tsi toi every front datagrams
+  pub sent : Are front datagrams
   pub gained : AppendsSome old new (frames datagrams)
 
 -- the bytes of a frame: two that tell the length, the datagram's header, and the encoding symbol
@@ -110,12 +112,13 @@ pub record CanBeSent (object : List ℕ) (f : Fti) : Type 0 where
   pub whole : length object ≡ f.transfer_length
   pub short : f.symbol_length ≤ most_symbol_bytes
 
--- Why nothing was sent, or only a beginning.
-abbrev pub IsSendFault : SendFault → List ℕ → Fti → ℕ → ℕ → ℕ → Order → Option (List ℕ)
-    → Option (List ℕ) → Bool → Type 0
-IsSendFault Length object f _ _ _ _ old new _ = (length object ≢ f.transfer_length) × (new ≡ old)
-IsSendFault SymbolTooLong object f _ _ _ _ old new _ =
-    (length object ≡ f.transfer_length) × (most_symbol_bytes < f.symbol_length) × (new ≡ old)
-IsSendFault NoMemory object f _ _ _ _ old new _ = CanBeSent object f × (new ≡ old)
-IsSendFault Io object f tsi toi every order old new failed =
-    CanBeSent object f × SendsSome object f tsi toi every (items order f) old new × (failed ≡ true)
+-- Why nothing was sent, or only a beginning of what Begins tells.
+abbrev pub IsSendFault : SendFault → List ℕ → Fti → (Option (List ℕ) → Option (List ℕ) → Type 0)
+    → WriterChange → Type 0
+IsSendFault Length object f Begins w = (length object ≢ f.transfer_length) × (w.after ≡ w.before)
+IsSendFault SymbolTooLong object f Begins w =
+    (length object ≡ f.transfer_length) × (most_symbol_bytes < f.symbol_length)
+    × (w.after ≡ w.before)
+IsSendFault NoMemory object f Begins w = CanBeSent object f × (w.after ≡ w.before)
+IsSendFault Io object f Begins w =
+    CanBeSent object f × Begins w.before w.after × (w.failed ≡ true)

@@ -1,6 +1,7 @@
 //! The certificate of an object that comes from a reader.
 ghost use Rattle.std.specs.Prelude.{◌≡◌, ◌<◌, ◌+◌, ◌*◌, [], Some, IfErr, OnOk, OnErr, length};
 ghost use Rattle.std.specs.Io.KnownBytes.{IsAtEnd};
+ghost use Rattle.streams.specs.Changes.{reader_change, writer_change};
 ghost use Rattle.partition.specs.Fti.{IsValidFti, block_count, source_count};
 ghost use Rattle.cert.specs.Certificate.{IsIdentity, coefficient_count, head_text};
 ghost use Rattle.block_code.specs.Codes.{EachBlockHas};
@@ -125,8 +126,8 @@ pub fn certify_from<R: Read, W: Write>(
         (W.contents writer.old) (W.contents writer.new))) }
     ensures end { OnOk result (IsAtEnd (R.remaining reader.new)) }
     ensures fault { IfErr result (λ e. IsCertifyFromFault e fti.now identity
-        (R.remaining reader.old) (R.sound reader.old) (R.failed reader.new)
-        (W.contents writer.old) (W.contents writer.new) (W.failed writer.new)) }
+        (reader_change R.Read reader.old reader.new)
+        (writer_change W.Write writer.old writer.new)) }
     ensures full { IfErr result (λ e. e ≡ CertifyFromFault.Write → W.room writer.old
         < length (head_text (Some identity) fti.now) + coefficient_count fti.now) }
 {

@@ -10,7 +10,7 @@ ghost use Rattle.block_code.specs.Codes.{EachBlockHas};
 ghost use Rattle.block_code.specs.CodesOf.{IsCodeOf};
 ghost use Rattle.encoder.specs.Passes.{IsDatagramRoom, pairs_of_pass};
 ghost use Rattle.encoder.specs.Rounds.{AreMade, AreMadeOf};
-ghost use Rattle.encoder.specs.Sending.{pairs, items, items_from, Sends, SendsSome};
+ghost use Rattle.encoder.specs.Sending.{pairs, items, items_from, AreSent, Sends, SendsSome};
 ghost use Rattle.encoder.specs.Sending.{session_bytes};
 
 use crate::rows::{block_of, encoding_symbols};
@@ -95,7 +95,7 @@ fn send_round<W: Write>(
     requires datagram { IsDatagramRoom t.now.fti datagram.old }
     ensures sent { (object : List ℕ)
         → AreMade object t.now.fti batch.first batch.count symbols.now
-        → OnOk result (Sends object t.now.fti t.now.tsi t.now.toi t.now.every
+        → OnOk result (Sends (AreSent object t.now.fti t.now.tsi t.now.toi t.now.every)
         (items_from place (pairs_of_pass Rounds t.now.fti esi))
         (W.contents writer.old) (W.contents writer.new)) }
     ensures next { IfOk result (λ n.
@@ -103,7 +103,7 @@ fn send_round<W: Write>(
     ensures few { IfOk result (λ n. n ≤ place + 2 ^ 24 * 255) }
     ensures some { (object : List ℕ)
         → AreMade object t.now.fti batch.first batch.count symbols.now
-        → OnErr result (SendsSome object t.now.fti t.now.tsi t.now.toi t.now.every
+        → OnErr result (SendsSome (AreSent object t.now.fti t.now.tsi t.now.toi t.now.every)
         (items_from place (pairs_of_pass Rounds t.now.fti esi))
         (W.contents writer.old) (W.contents writer.new)) }
     ensures fails { OnErr result (W.failed writer.new ≡ true) }
@@ -143,11 +143,13 @@ pub(crate) fn send_rounds<W: Write>(
     requires room { block_count t.now.fti * (at_once * t.now.fti.symbol_length)
         ≤ length symbols.old }
     requires datagram { IsDatagramRoom t.now.fti datagram.old }
-    ensures sent { OnOk result (Sends object.now t.now.fti t.now.tsi t.now.toi t.now.every
+    ensures sent { OnOk result (Sends
+        (AreSent object.now t.now.fti t.now.tsi t.now.toi t.now.every)
         (items Rounds t.now.fti) (W.contents writer.old) (W.contents writer.new)) }
     ensures count { IfOk result (λ n. n ≡ length (pairs Rounds t.now.fti)) }
-    ensures some { OnErr result (SendsSome object.now t.now.fti t.now.tsi t.now.toi
-        t.now.every (items Rounds t.now.fti) (W.contents writer.old) (W.contents writer.new)) }
+    ensures some { OnErr result (SendsSome
+        (AreSent object.now t.now.fti t.now.tsi t.now.toi t.now.every)
+        (items Rounds t.now.fti) (W.contents writer.old) (W.contents writer.new)) }
     ensures fails { OnErr result (W.failed writer.new ≡ true) }
     ensures full { OnErr result (W.room writer.old
         < session_bytes t.now.fti t.now.every (items Rounds t.now.fti)) }

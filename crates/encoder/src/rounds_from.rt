@@ -7,6 +7,7 @@ ghost use Rattle.std.specs.Prelude.{◌≡◌, ◌<◌, ◌≤◌, ◌+◌, ◌*
 ghost use Rattle.std.specs.Prelude.{slice_index, true, is_some, Some, IfOk, IfErr, IfSome, OnOk};
 ghost use Rattle.std.specs.Prelude.{OnErr};
 ghost use Rattle.std.specs.Io.KnownBytes.{IsAtEnd};
+ghost use Rattle.streams.specs.Changes.{reader_change, writer_change};
 ghost use Rattle.partition.specs.Fti.{IsValidFti, block_count, source_count, encoding_count};
 ghost use Rattle.partition.specs.Fti.{block_bytes, large_blocks};
 ghost use Rattle.partition.specs.declared.order.Order.TheVariants.{Rounds};
@@ -15,9 +16,9 @@ ghost use Rattle.block_code.specs.CodesOf.{IsCodeOf};
 ghost use Rattle.reception.specs.Symbols.{Agrees};
 ghost use Rattle.encoder.specs.ObjectRead.{ReadsObject, IsObjectFault};
 ghost use Rattle.encoder.specs.BlocksRead.{HasRead, IsReadFault};
-ghost use Rattle.encoder.specs.Sending.{pairs, items, items_from, Sends, most_symbol_bytes};
+ghost use Rattle.encoder.specs.Sending.{pairs, items, items_from, AreSent, Sends};
 ghost use Rattle.encoder.specs.Passes.{IsBlocksFault};
-ghost use Rattle.encoder.specs.Sending.{frame_bytes};
+ghost use Rattle.encoder.specs.Sending.{most_symbol_bytes, frame_bytes};
 ghost use Rattle.encoder.specs.RoundPlaces.{sent_before, place_of, offset_of, run_of_round};
 ghost use Rattle.encoder.specs.RoundPlaces.{AreSymbolsAt, AreSymbolsOf, ReadsBlock, progress};
 ghost use Rattle.encoder.specs.RoundPlaces.{IsFrameOf, HasFrames, IsAsLong};
@@ -151,7 +152,7 @@ fn put_run(
         (place + length (run_of_round t.now.fti esi group.first group.count)) }
     ensures sent { (object : List ℕ)
         → AreSymbolsOf object t.now.fti group.first group.count symbols.now
-        → Sends object t.now.fti t.now.tsi t.now.toi t.now.every
+        → Sends (AreSent object t.now.fti t.now.tsi t.now.toi t.now.every)
         (items_from place (run_of_round t.now.fti esi group.first group.count))
         (Some []) (Some (take result run.new)) }
 {
@@ -339,7 +340,7 @@ fn write_object<R: Read, W: WriteAt>(
         ≤ length symbols.old }
     requires room { at_once * (34 + t.now.fti.symbol_length) ≤ length run.old }
     ensures sent { OnOk result (ReadsObject t.now.fti (R.remaining reader.old)
-        (λ object. Sends object t.now.fti t.now.tsi t.now.toi t.now.every
+        (λ object. Sends (AreSent object t.now.fti t.now.tsi t.now.toi t.now.every)
         (items Rounds t.now.fti) (emptied (W.contents writer.old)) (W.contents writer.new))) }
     ensures end { OnOk result (IsAtEnd (R.remaining reader.new)) }
     ensures count { IfOk result (λ n. n ≡ length (pairs Rounds t.now.fti)) }
@@ -394,14 +395,14 @@ pub fn encode_rounds_from<R: Read, W: WriteAt>(
 ) -> Result<u64, SendFromFault>
     requires every { 1 ≤ every }
     ensures sent { OnOk result (ReadsObject fti.now (R.remaining reader.old)
-        (λ object. Sends object fti.now tsi toi every (items Rounds fti.now)
+        (λ object. Sends (AreSent object fti.now tsi toi every) (items Rounds fti.now)
         (emptied (W.contents writer.old)) (W.contents writer.new))) }
     ensures end { OnOk result (IsAtEnd (R.remaining reader.new)) }
     ensures count { IfOk result (λ n. n ≡ length (pairs Rounds fti.now)) }
     ensures short { OnOk result (fti.now.symbol_length ≤ most_symbol_bytes) }
     ensures fault { IfErr result (λ e. IsRoundsFromFault e fti.now
-        (R.remaining reader.old) (R.sound reader.old) (R.failed reader.new)
-        (W.contents writer.old) (W.contents writer.new) (W.failed writer.new)) }
+        (reader_change R.Read reader.old reader.new)
+        (writer_change W.Write writer.old writer.new)) }
 {
     if fti.symbol_length() > MOST_SYMBOL_BYTES {
         return Err(SendFromFault::SymbolTooLong);

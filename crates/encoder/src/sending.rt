@@ -11,7 +11,9 @@ ghost use Rattle.lists.specs.Bytes.{AreBytes};
 ghost use Rattle.encoder.specs.Rows.{AreSourcesOf};
 ghost use Rattle.encoder.specs.Passes.{IsDatagramRoom, run_of, pairs_in, pairs_of_pass, passes};
 ghost use Rattle.encoder.specs.Passes.{at_once};
-ghost use Rattle.encoder.specs.Sending.{pairs, items, items_from, fti_at, Sends, SendsSome};
+ghost use Rattle.streams.specs.Changes.{writer_change};
+ghost use Rattle.encoder.specs.Sending.{pairs, items, items_from, fti_at, AreSent};
+ghost use Rattle.encoder.specs.Sending.{Sends, SendsSome};
 ghost use Rattle.encoder.specs.Sending.{CanBeSent, IsSendFault, most_symbol_bytes, frame_bytes};
 ghost use Rattle.encoder.specs.Sending.{session_bytes};
 
@@ -105,12 +107,12 @@ pub(crate) fn send_symbol<W: Write>(
     requires datagram { IsDatagramRoom t.now.fti datagram.old }
     ensures sent { (object : List ℕ)
         → Agrees t.now.fti object (record { block = block; esi = esi; bytes = symbol.now })
-        → OnOk result (Sends object t.now.fti t.now.tsi t.now.toi t.now.every
+        → OnOk result (Sends (AreSent object t.now.fti t.now.tsi t.now.toi t.now.every)
         (items_from place ((block, esi) ∷ []))
         (W.contents writer.old) (W.contents writer.new)) }
     ensures some { (object : List ℕ)
         → Agrees t.now.fti object (record { block = block; esi = esi; bytes = symbol.now })
-        → OnErr result (SendsSome object t.now.fti t.now.tsi t.now.toi t.now.every
+        → OnErr result (SendsSome (AreSent object t.now.fti t.now.tsi t.now.toi t.now.every)
         (items_from place ((block, esi) ∷ []))
         (W.contents writer.old) (W.contents writer.new)) }
     ensures fails { OnErr result (W.failed writer.new ≡ true) }
@@ -145,12 +147,12 @@ pub(crate) fn send_symbols<W: Write>(
     requires datagram { IsDatagramRoom t.now.fti datagram.old }
     ensures sent { (object : List ℕ) → AreBytes object
         → AreSourcesOf t.now.fti object run.block sources.now
-        → OnOk result (Sends object t.now.fti t.now.tsi t.now.toi t.now.every
+        → OnOk result (Sends (AreSent object t.now.fti t.now.tsi t.now.toi t.now.every)
         (items_from place (run_of run.block run.first run.count))
         (W.contents writer.old) (W.contents writer.new)) }
     ensures some { (object : List ℕ) → AreBytes object
         → AreSourcesOf t.now.fti object run.block sources.now
-        → OnErr result (SendsSome object t.now.fti t.now.tsi t.now.toi t.now.every
+        → OnErr result (SendsSome (AreSent object t.now.fti t.now.tsi t.now.toi t.now.every)
         (items_from place (run_of run.block run.first run.count))
         (W.contents writer.old) (W.contents writer.new)) }
     ensures fails { OnErr result (W.failed writer.new ≡ true) }
@@ -227,14 +229,16 @@ fn send_pass<W: Write>(
     requires place { place ≤ 2 ^ 40 }
     requires room { length symbols.old ≡ at_once t.now.order t.now.fti * t.now.fti.symbol_length }
     requires datagram { IsDatagramRoom t.now.fti datagram.old }
-    ensures sent { OnOk result (Sends object.now t.now.fti t.now.tsi t.now.toi t.now.every
+    ensures sent { OnOk result (Sends
+        (AreSent object.now t.now.fti t.now.tsi t.now.toi t.now.every)
         (items_from place (pairs_of_pass t.now.order t.now.fti pass))
         (W.contents writer.old) (W.contents writer.new)) }
     ensures next { IfOk result (λ n.
         n ≡ place + length (pairs_of_pass t.now.order t.now.fti pass)) }
     ensures few { IfOk result (λ n. n ≤ place + 2 ^ 24 * 255) }
-    ensures some { OnErr result (SendsSome object.now t.now.fti t.now.tsi t.now.toi
-        t.now.every (items_from place (pairs_of_pass t.now.order t.now.fti pass))
+    ensures some { OnErr result (SendsSome
+        (AreSent object.now t.now.fti t.now.tsi t.now.toi t.now.every)
+        (items_from place (pairs_of_pass t.now.order t.now.fti pass))
         (W.contents writer.old) (W.contents writer.new)) }
     ensures fails { OnErr result (W.failed writer.new ≡ true) }
     ensures full { OnErr result (W.room writer.old < session_bytes t.now.fti t.now.every
@@ -276,11 +280,13 @@ fn send_all<W: Write>(
     requires codes { EachBlockHas (IsCodeOf t.now.fti) t.now.fti t.now.codes }
     requires room { length symbols.old ≡ at_once t.now.order t.now.fti * t.now.fti.symbol_length }
     requires datagram { IsDatagramRoom t.now.fti datagram.old }
-    ensures sent { OnOk result (Sends object.now t.now.fti t.now.tsi t.now.toi t.now.every
+    ensures sent { OnOk result (Sends
+        (AreSent object.now t.now.fti t.now.tsi t.now.toi t.now.every)
         (items t.now.order t.now.fti) (W.contents writer.old) (W.contents writer.new)) }
     ensures count { IfOk result (λ n. n ≡ length (pairs t.now.order t.now.fti)) }
-    ensures some { OnErr result (SendsSome object.now t.now.fti t.now.tsi t.now.toi
-        t.now.every (items t.now.order t.now.fti) (W.contents writer.old) (W.contents writer.new)) }
+    ensures some { OnErr result (SendsSome
+        (AreSent object.now t.now.fti t.now.tsi t.now.toi t.now.every)
+        (items t.now.order t.now.fti) (W.contents writer.old) (W.contents writer.new)) }
     ensures fails { OnErr result (W.failed writer.new ≡ true) }
     ensures full { OnErr result (W.room writer.old
         < session_bytes t.now.fti t.now.every (items t.now.order t.now.fti)) }
@@ -349,11 +355,13 @@ fn send<W: Write>(
     requires many { 1 < rounds
         → length symbols.old ≡ block_count t.now.fti * (rounds * t.now.fti.symbol_length) }
     requires datagram { IsDatagramRoom t.now.fti datagram.old }
-    ensures sent { OnOk result (Sends object.now t.now.fti t.now.tsi t.now.toi t.now.every
+    ensures sent { OnOk result (Sends
+        (AreSent object.now t.now.fti t.now.tsi t.now.toi t.now.every)
         (items t.now.order t.now.fti) (W.contents writer.old) (W.contents writer.new)) }
     ensures count { IfOk result (λ n. n ≡ length (pairs t.now.order t.now.fti)) }
-    ensures some { OnErr result (SendsSome object.now t.now.fti t.now.tsi t.now.toi
-        t.now.every (items t.now.order t.now.fti) (W.contents writer.old) (W.contents writer.new)) }
+    ensures some { OnErr result (SendsSome
+        (AreSent object.now t.now.fti t.now.tsi t.now.toi t.now.every)
+        (items t.now.order t.now.fti) (W.contents writer.old) (W.contents writer.new)) }
     ensures fails { OnErr result (W.failed writer.new ≡ true) }
     ensures full { OnErr result (W.room writer.old
         < session_bytes t.now.fti t.now.every (items t.now.order t.now.fti)) }
@@ -384,12 +392,13 @@ pub fn encode<W: Write>(
     writer: &mut W,
 ) -> Result<u64, SendFault>
     requires every { 1 ≤ every }
-    ensures sent { OnOk result (Sends object.now fti.now tsi toi every (items order fti.now)
-        (W.contents writer.old) (W.contents writer.new)) }
+    ensures sent { OnOk result (Sends (AreSent object.now fti.now tsi toi every)
+        (items order fti.now) (W.contents writer.old) (W.contents writer.new)) }
     ensures count { IfOk result (λ n. n ≡ length (pairs order fti.now)) }
     ensures can { OnOk result (CanBeSent object.now fti.now) }
-    ensures fault { IfErr result (λ e. IsSendFault e object.now fti.now tsi toi every order
-        (W.contents writer.old) (W.contents writer.new) (W.failed writer.new)) }
+    ensures fault { IfErr result (λ e. IsSendFault e object.now fti.now
+        (SendsSome (AreSent object.now fti.now tsi toi every) (items order fti.now))
+        (writer_change W.Write writer.old writer.new)) }
     ensures full { IfErr result (λ e. e ≡ SendFault.Io
         → W.room writer.old < session_bytes fti.now every (items order fti.now)) }
 {

@@ -1,14 +1,15 @@
 //! Sending an object that comes from a reader, block by block.
 ghost use Rattle.std.specs.Prelude.{◌≡◌, ◌≤◌, ◌<◌, ◌+◌, ◌*◌, length, IfOk, IfErr, OnOk, OnErr};
 ghost use Rattle.std.specs.Io.KnownBytes.{IsAtEnd};
+ghost use Rattle.streams.specs.Changes.{reader_change, writer_change};
 ghost use Rattle.partition.specs.Fti.{block_count, source_count, encoding_count};
 ghost use Rattle.partition.specs.declared.order.Order.TheVariants.{Blocks};
 ghost use Rattle.block_code.specs.Codes.{EachBlockHas};
 ghost use Rattle.block_code.specs.CodesOf.{IsCodeOf};
 ghost use Rattle.encoder.specs.ObjectRead.{ReadsObject, ReadsSome};
 ghost use Rattle.encoder.specs.BlocksRead.{HasRead};
-ghost use Rattle.encoder.specs.Sending.{pairs, items, Sends, SendsSome, most_symbol_bytes};
-ghost use Rattle.encoder.specs.Sending.{session_bytes};
+ghost use Rattle.encoder.specs.Sending.{pairs, items, AreSent, Sends, SendsSome};
+ghost use Rattle.encoder.specs.Sending.{most_symbol_bytes, session_bytes};
 ghost use Rattle.encoder.specs.SentFrom.{IsSendFromFault};
 ghost use Rattle.encoder.specs.Passes.{IsDatagramRoom, IsBlocksFault};
 
@@ -73,11 +74,11 @@ fn send_blocks<R: Read, W: Write>(
     requires datagram { IsDatagramRoom t.now.fti datagram.old }
     ensures ok { OnOk result (HasRead t.now.fti (block_count t.now.fti)
         (R.remaining reader.old) (R.remaining reader.new)
-        (λ object. Sends object t.now.fti t.now.tsi t.now.toi t.now.every
+        (λ object. Sends (AreSent object t.now.fti t.now.tsi t.now.toi t.now.every)
         (items Blocks t.now.fti) (W.contents writer.old) (W.contents writer.new))) }
     ensures count { IfOk result (λ n. n ≡ length (pairs Blocks t.now.fti)) }
     ensures err { OnErr result (ReadsSome t.now.fti (R.remaining reader.old)
-        (λ object. SendsSome object t.now.fti t.now.tsi t.now.toi t.now.every
+        (λ object. SendsSome (AreSent object t.now.fti t.now.tsi t.now.toi t.now.every)
         (items Blocks t.now.fti) (W.contents writer.old) (W.contents writer.new))) }
     ensures fault { IfErr result (λ e. IsBlocksFault e t.now.fti (R.remaining reader.old)
         (R.sound reader.old) (R.failed reader.new) (W.failed writer.new)) }
@@ -119,13 +120,13 @@ fn send_object<R: Read, W: Write>(
     requires room { length symbols.old ≡ encoding_count t.now.fti 0 * t.now.fti.symbol_length }
     requires datagram { IsDatagramRoom t.now.fti datagram.old }
     ensures sent { OnOk result (ReadsObject t.now.fti (R.remaining reader.old)
-        (λ object. Sends object t.now.fti t.now.tsi t.now.toi t.now.every
+        (λ object. Sends (AreSent object t.now.fti t.now.tsi t.now.toi t.now.every)
         (items Blocks t.now.fti) (W.contents writer.old) (W.contents writer.new))) }
     ensures end { OnOk result (IsAtEnd (R.remaining reader.new)) }
     ensures count { IfOk result (λ n. n ≡ length (pairs Blocks t.now.fti)) }
     ensures fault { IfErr result (λ e. IsSendFromFault e t.now.fti t.now.tsi t.now.toi t.now.every
-        (R.remaining reader.old) (R.sound reader.old) (R.failed reader.new)
-        (W.contents writer.old) (W.contents writer.new) (W.failed writer.new)) }
+        (reader_change R.Read reader.old reader.new)
+        (writer_change W.Write writer.old writer.new)) }
     ensures full { IfErr result (λ e. e ≡ SendFromFault.Write
         → W.room writer.old < session_bytes t.now.fti t.now.every (items Blocks t.now.fti)) }
 {
@@ -158,14 +159,14 @@ pub fn encode_from<R: Read, W: Write>(
 ) -> Result<u64, SendFromFault>
     requires every { 1 ≤ every }
     ensures sent { OnOk result (ReadsObject fti.now (R.remaining reader.old)
-        (λ object. Sends object fti.now tsi toi every (items Blocks fti.now)
+        (λ object. Sends (AreSent object fti.now tsi toi every) (items Blocks fti.now)
         (W.contents writer.old) (W.contents writer.new))) }
     ensures end { OnOk result (IsAtEnd (R.remaining reader.new)) }
     ensures count { IfOk result (λ n. n ≡ length (pairs Blocks fti.now)) }
     ensures short { OnOk result (fti.now.symbol_length ≤ most_symbol_bytes) }
     ensures fault { IfErr result (λ e. IsSendFromFault e fti.now tsi toi every
-        (R.remaining reader.old) (R.sound reader.old) (R.failed reader.new)
-        (W.contents writer.old) (W.contents writer.new) (W.failed writer.new)) }
+        (reader_change R.Read reader.old reader.new)
+        (writer_change W.Write writer.old writer.new)) }
     ensures full { IfErr result (λ e. e ≡ SendFromFault.Write
         → W.room writer.old < session_bytes fti.now every (items Blocks fti.now)) }
 {

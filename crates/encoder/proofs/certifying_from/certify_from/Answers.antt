@@ -23,7 +23,7 @@ returns-in_err-write_rows-clause-fault g c =
     let f = c.args.fti.now in
     let e = c.in_err-write_rows.field-0.0 in
     passed_on c.from_residual-in_err-write_rows.result e _ c.from_residual-in_err-write_rows.ensures.1
-    (rows_fault e f c.args.identity _ _ _ _ _ _ c.in_err-write_rows.ensures.fault
+    (rows_fault e f c.args.identity _ _ c.in_err-write_rows.ensures.fault
     (then_some f _ _ _ (λ object begun. behind_head object f _ _ _ _ c.in_ok-write_head.ensures.ok begun) c.in_err-write_rows.ensures.err))
 
 pub returns-in_err-read_end-clause-fault : goal.returns-in_err-read_end-clause-fault

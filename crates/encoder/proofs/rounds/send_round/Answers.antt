@@ -5,7 +5,7 @@ use Rattle.lists.specs.Below.{below}
 use Rattle.partition.specs.Fti.{block_count, encoding_count}
 use Rattle.partition.specs.declared.order.Order.TheVariants.{Rounds}
 use Rattle.encoder.specs.Passes.{pairs_in}
-use Rattle.encoder.specs.Sending.{Sends, SendsSome, items_from, session_bytes}
+use Rattle.encoder.specs.Sending.{AreSent, Sends, SendsSome, items_from, session_bytes}
 use Rattle.encoder.proofs.RoundRows.{made_at}
 use Rattle.encoder.proofs.Sent.{nothing_sent, behind_sends, behind_some, behind_room, behind_short, flat_next, flat_parts, if_err, length_next, one_frame, with_pair, without_pair}
 use Rattle.encoder.proofs.rounds.send_round.Goals.{then-from-n+in_ok-send_symbol, else-from-n}
@@ -35,7 +35,7 @@ returns-in_err-send_symbol-clause-some g c = λ object made.
     let parts = flat_parts sent b (block_count f) hb in
     let agrees = made_at object f c.args.batch.first c.args.batch.count c.args.symbols.now made b c.args.esi c.from.result c.from-size.result hb c.from.ensures c.requires.first c.requires.last has
     (c.from-size.ensures ∙ c.symbol_length.ensures.value) in
-    let some = subst (λ (ps : List (ℕ × ℕ)). SendsSome object f t.tsi t.toi t.every (items_from c.loop-block.next ps) (g.W.Write.contents c.loop-block.writer) (g.W.Write.contents c.send_symbol.new.writer))
+    let some = subst (λ (ps : List (ℕ × ℕ)). SendsSome (AreSent object f t.tsi t.toi t.every) (items_from c.loop-block.next ps) (g.W.Write.contents c.loop-block.writer) (g.W.Write.contents c.send_symbol.new.writer))
     (sym one) (c.in_err-send_symbol.ensures.some object agrees) in
     if_err _ _ (behind_some object f t.tsi t.toi t.every c.args.place c.loop-block.next (flat_map sent (below b)) (sent b) c.loop-block.invariant.next _ _ _ _
     parts.0 parts.1 (c.loop-block.invariant.sent object made) some)
@@ -76,7 +76,7 @@ loop-block-preserved g c =
                 let agrees = made_at object f c.args.batch.first c.args.batch.count c.args.symbols.now made b c.args.esi c.from.result c.from-size.result hb c.from.ensures c.requires.first c.requires.last has
                 (c.from-size.ensures ∙ c.symbol_length.ensures.value) in
                 behind_sends object f t.tsi t.toi t.every c.args.place c.loop-block.next (flat_map sent (below b)) (sent b) c.loop-block.invariant.next _ _ _ _ (flat_next sent b)
-                (c.loop-block.invariant.sent object made) (subst (λ (ps : List (ℕ × ℕ)). Sends object f t.tsi t.toi t.every (items_from c.loop-block.next ps) (g.W.Write.contents c.loop-block.writer) (g.W.Write.contents w.send_symbol.new.writer))
+                (c.loop-block.invariant.sent object made) (subst (λ (ps : List (ℕ × ℕ)). Sends (AreSent object f t.tsi t.toi t.every) (items_from c.loop-block.next ps) (g.W.Write.contents c.loop-block.writer) (g.W.Write.contents w.send_symbol.new.writer))
                 (sym one) (w.in_ok-send_symbol.ensures.sent object agrees));
             next = omega (arith, c.loop-block.invariant.next, more, long);
             few = omega (arith, c.loop-block.invariant.few);

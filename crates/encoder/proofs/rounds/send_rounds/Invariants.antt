@@ -2,14 +2,14 @@ use Rattle.std.proofs.Common.{◌≡◌, ◌≤◌, ◌<◌, ◌+◌, ◌*◌, �
 use Rattle.std.specs.Prelude.{flat_map}
 use Rattle.lists.specs.Below.{below}
 use Rattle.partition.specs.declared.order.Order.TheVariants.{Rounds}
-use Rattle.encoder.specs.Sending.{Sends, items_from, session_bytes}
+use Rattle.encoder.specs.Sending.{AreSent, Sends, items_from, session_bytes}
 use Rattle.encoder.specs.Passes.{pairs_of_pass}
 use Rattle.encoder.specs.Rounds.{AreMade}
 use Rattle.encoder.proofs.rounds.send_rounds.Given as goal
 
 abbrev pub invariant-loop-esi : goal.invariant-loop-esi
 invariant-loop-esi g l = record {
-  sent : Sends l.object l.t.fti l.t.tsi l.t.toi l.t.every (items_from 0 (flat_map (pairs_of_pass Rounds l.t.fti) (below l.esi))) (g.W.Write.contents l.initial.writer) (g.W.Write.contents l.writer);
+  sent : Sends (AreSent l.object l.t.fti l.t.tsi l.t.toi l.t.every) (items_from 0 (flat_map (pairs_of_pass Rounds l.t.fti) (below l.esi))) (g.W.Write.contents l.initial.writer) (g.W.Write.contents l.writer);
   count : l.place ≡ length (flat_map (pairs_of_pass Rounds l.t.fti) (below l.esi));
   few : l.place ≤ 2 ^ 24 * 255 * l.esi;
   room : g.W.Write.room l.initial.writer ≤ g.W.Write.room l.writer + session_bytes l.t.fti l.t.every (items_from 0 (flat_map (pairs_of_pass Rounds l.t.fti) (below l.esi)));

@@ -8,7 +8,7 @@ use Rattle.partition.proofs.Laws.{some_block}
 use Rattle.streams.proofs.Fills.{take_filled}
 use borrow.Rule.Slice.PartMut.{put_mid}
 use Rattle.block_code.proofs.RowAdding.{products}
-use Rattle.encoder.specs.Sending.{Sends, items_from, pair_with}
+use Rattle.encoder.specs.Sending.{AreSent, Sends, items_from, pair_with}
 use Rattle.encoder.proofs.FrameOffsets.{offset_next}
 use Rattle.encoder.proofs.Groups.{symbol_at}
 use Rattle.encoder.proofs.RoundRows.{row_of_earlier}
@@ -91,7 +91,7 @@ loop-i-preserved c =
                 let sent = one_sent object f t.tsi t.toi t.every (record { place = c.loop-i.next; block = b; esi = j }) own.datagram (Some (take c.loop-i.at c.loop-i.run)) (Some now) own.sent gained in
                 behind_sends object f t.tsi t.toi t.every c.args.place c.loop-i.next (flat_map part (below c.loop-i.i)) (part c.loop-i.i) c.loop-i.invariant.next _ _ _ _ (flat_next part c.loop-i.i)
                 (c.loop-i.invariant.sent object made)
-                (subst (λ (ps : List (ℕ × ℕ)). Sends object f t.tsi t.toi t.every (items_from c.loop-i.next ps) (Some (take c.loop-i.at c.loop-i.run)) (Some now)) (sym one) sent);
+                (subst (λ (ps : List (ℕ × ℕ)). Sends (AreSent object f t.tsi t.toi t.every) (items_from c.loop-i.next ps) (Some (take c.loop-i.at c.loop-i.run)) (Some now)) (sym one) sent);
             next = omega (arith, c.loop-i.invariant.next, more, long);
             few = omega (arith, c.loop-i.invariant.few);
             size = omega (arith, c.loop-i.invariant.size, next, w.put_frame-at.ensures.size);
