@@ -91,7 +91,7 @@ pub fn read_next<R: Read>(alloc: Global, reader: &mut R) -> Result<Option<Vec<u8
 }
 
 /// The next datagram, as [`read_next`] answers it, in the room of a vector whose bytes are no
-/// longer wanted: that of the datagram before, so that none is asked for anew.
+/// longer wanted: that of the datagram before. More is asked for only where this one is longer.
 pub fn read_next_into<R: Read>(reader: &mut R, room: Vec<u8>) -> Result<Option<Vec<u8>>, FrameFault>
     // Just its frame is consumed.
     ensures some { IfOk result (λ o. IfSome o (λ d.
