@@ -1,6 +1,6 @@
--- What an FTI keeps beside its four numbers, which are valid and determine it: how many blocks there
--- are, how many of them, the first ones, have one source symbol more, and the source symbols of each
--- other block.
+-- What an FTI keeps beside its four numbers, which are valid and determine it: how many blocks
+-- there are, how many of them, the first ones, have one source symbol more, and how many source
+-- symbols each other block has.
 use Rattle.std.specs.Prelude.{◌≡◌, ℕ, ◌/◌}
 use Rattle.partition.specs.Fti.{Fti, IsValidFti, symbol_count, block_count, large_blocks}
 
