@@ -1,5 +1,5 @@
 -- Files that were checked where they stand, by their parts.
-use Rattle.std.proofs.Common.{◌≡◌, ◌⊎◌, ℕ, Bool, false, List, [], ◌∷◌, Option, Some, None, Result, Ok, Err, inl, inr, length, refl, sym, ap, subst, arith}
+use Rattle.std.proofs.Common.{◌≡◌, ◌⊎◌, ℕ, Bool, false, List, [], ◌∷◌, Option, Some, None, Result, Ok, Err, inl, inr, refl, sym, subst}
 use Rattle.std.specs.Prelude.{IfErr, IfSome}
 use Rattle.tool.specs.declared.check.Answered.{Answered}
 use Rattle.std.specs.Borrow.{Bor}
@@ -8,19 +8,12 @@ use Rattle.cert.specs.Certificate.{Certificate, text_fault}
 use Rattle.cert.specs.InFile.{IsLost}
 use Rattle.cert.specs.declared.certificate.CertFault.{CertFault}
 use Rattle.cert.specs.declared.certificate.CertFault.TheVariants as certificate_fault
-use Rattle.cert.specs.Surveying.{OnYesWith}
+use Rattle.cert.specs.Report.{OnYes}
 use Rattle.cert.specs.declared.verdict.Survey.{Survey}
 use Rattle.cert.specs.declared.verdict.Verdict.{Verdict}
 use Rattle.cert.specs.declared.verdict.Verdict.TheVariants.{Yes, No}
-use Rattle.std.proofs.lemmas.List.{length-map}
-use Rattle.lists.specs.Below.{below}
-use Rattle.lists.proofs.Below.{length_below}
-use Rattle.partition.specs.Fti.{block_count, source_count}
-use Rattle.partition.proofs.Laws.{some_block}
-use Rattle.reception.specs.Symbols.{arrived_count}
-use Rattle.reception.specs.Reception.{counted, symbols}
 use Rattle.reception.specs.declared.scope.Identity.{Identity}
-use Rattle.file_check.specs.Files.{IsCertificateFault, IsFilesFault, IsNoCertificate, IsFaultOfFrames, IsSurveyIn, IsSurveyOnSome, IsVerdictIn, Reliable, WhereTold}
+use Rattle.file_check.specs.Files.{IsCertificateFault, IsFilesFault, IsNoCertificate, IsFaultOfFrames, IsSurveyIn, IsSurveyOnSome, IsVerdictIn, IsVerdictOnSome, Reliable, WhereTold}
 use Rattle.file_check.specs.declared.checking.FilesFault.{FilesFault}
 use Rattle.file_check.specs.declared.checking.FilesFault.TheVariants as files_fault
 use Rattle.request.specs.declared.requests.CheckRequest.{CheckRequest}
@@ -31,10 +24,12 @@ use Rattle.tool.specs.Commands.{Refuses, inputs_of}
 use Rattle.tool.specs.Outcomes.{IsBecause}
 use Rattle.tool.specs.Doing.{HasStopped}
 use Rattle.tool.specs.Checks.{IsNotChecked, OfFiles, fault_of}
+use Rattle.tool.specs.Drawing.{IsSurveyed}
 use Rattle.tool.specs.Summing.{CanBeSummed}
 use Rattle.tool.specs.declared.fault.Fault.{Fault}
 use Rattle.tool.specs.declared.fault.Fault.TheVariants as told_as
 use Rattle.tool.proofs.DecodedFiles.{holds_told}
+use Rattle.tool.proofs.Pictured.{has_block}
 use Rattle.tool.proofs.Stopping.{by_refused, by_unread, stopped}
 
 -- the files are told, or they aren't
@@ -142,24 +137,44 @@ module _ (w : World) (r : CheckRequest) (session object text : Option (List ℕ)
   verdict_of_files None h = tt
   verdict_of_files (Some v) h = is_of_files (λ x y z. IsVerdictIn r.identity x y z v) h
 
-  pub survey_of_files : (o : Option (Verdict × Option Survey)) → WhereTold session object text (λ x y z. IfSome o (λ found. IsSurveyIn r.identity x y z found.0 found.1))
-      → IfSome o (λ found. OfFiles w.files r (λ x y z. IsSurveyIn r.identity x y z found.0 found.1))
-  survey_of_files None h = tt
-  survey_of_files (Some found) h = is_of_files (λ x y z. IsSurveyIn r.identity x y z found.0 found.1) h
+  -- and with a survey
+  pub surveyed_of_files : (o : Option (Verdict × Option Survey)) → WhereTold session object text (λ x y z. IfSome o (λ found. IsSurveyIn r.identity x y z found.0 found.1))
+      → IfSome o (λ found. OfFiles w.files r (λ x y z. IsVerdictIn r.identity x y z found.0))
+  surveyed_of_files None h = tt
+  surveyed_of_files (Some found) h =
+      is_of_files (λ x y z. IsVerdictIn r.identity x y z found.0)
+      (λ x y z sx sy sz. (let is = h x y z sx sy sz in (is.0, is.1, is.2, is.3.checked)))
 
--- a survey of some datagrams can be summed up
-pub some_summed : (who : Identity) (found : Verdict × Option Survey) → IsSurveyOnSome who found.0 found.1 → OnYesWith found.0 found.1 CanBeSummed
-some_summed who (Yes report, Some survey) (ds, f, valid, is, surveyed) =
-    let many = ap (λ (bs : List (ℕ × ℕ)). length bs) is.blocks in
-    let each = length-map {B = ℕ × ℕ} (below (block_count f)) (λ b. (source_count f b, arrived_count (symbols (counted who is.readings)) b)) in
-    record { some = omega (arith, many, each, length_below (block_count f), some_block f valid); burst = surveyed.burst }
-some_summed who (Yes report, None) (ds, f, valid, is, none) = absurd none
-some_summed who (No reason, Some survey) (ds, f, valid, is, none) = absurd none
-some_summed who (No reason, None) h = tt
+-- ---- a verdict on some datagrams
 
-pub all_summed : (who : Identity) (o : Option (Verdict × Option Survey)) → IfSome o (λ found. IsSurveyOnSome who found.0 found.1) → IfSome o (λ found. OnYesWith found.0 found.1 CanBeSummed)
-all_summed who None h = tt
-all_summed who (Some found) h = some_summed who found h
+pub some_summed : (who : Identity) (verdict : Verdict) → IsVerdictOnSome who verdict → OnYes verdict CanBeSummed
+some_summed who (Yes report) (ds, f, valid, is) = has_block who ds f valid report is
+some_summed who (No reason) h = tt
+
+pub each_summed : (who : Identity) (o : Option Verdict) → IfSome o (IsVerdictOnSome who) → IfSome o (λ verdict. OnYes verdict CanBeSummed)
+each_summed who None h = tt
+each_summed who (Some verdict) h = some_summed who verdict h
+
+-- and with a survey
+some_verdict : (who : Identity) (verdict : Verdict) (survey : Option Survey) → IsSurveyOnSome who verdict survey → IsVerdictOnSome who verdict
+some_verdict who verdict survey (ds, f, valid, is, surveyed) = (ds, f, valid, is)
+
+pub each_on_some : (who : Identity) (o : Option (Verdict × Option Survey)) → IfSome o (λ found. IsSurveyOnSome who found.0 found.1) → IfSome o (λ found. IsVerdictOnSome who found.0)
+each_on_some who None h = tt
+each_on_some who (Some found) h = some_verdict who found.0 found.1 h
+
+pub each_surveyed_summed : (who : Identity) (o : Option (Verdict × Option Survey)) → IfSome o (λ found. IsSurveyOnSome who found.0 found.1) → IfSome o (λ found. OnYes found.0 CanBeSummed)
+each_surveyed_summed who None h = tt
+each_surveyed_summed who (Some found) h = some_summed who found.0 (some_verdict who found.0 found.1 h)
+
+is_surveyed : (who : Identity) (verdict : Verdict) (survey : Option Survey) → IsSurveyOnSome who verdict survey → IsSurveyed verdict survey
+is_surveyed who (Yes report) (Some survey) h = tt
+is_surveyed who (Yes report) None (ds, f, valid, is, none) = absurd none
+is_surveyed who (No reason) survey h = tt
+
+pub each_surveyed : (who : Identity) (o : Option (Verdict × Option Survey)) → IfSome o (λ found. IsSurveyOnSome who found.0 found.1) → IfSome o (λ found. IsSurveyed found.0 found.1)
+each_surveyed who None h = tt
+each_surveyed who (Some found) h = is_surveyed who found.0 found.1 h
 
 -- ---- a file that isn't opened
 

@@ -1,15 +1,17 @@
 -- What came of a check, by what was told of it.
-use Rattle.std.proofs.Common.{◌≡◌, inl, inr, ℕ, Bool, true, false, List, [], ◌∷◌, Option, Some, None, Result, Ok, Err, Bor, option_map, length, ap, refl, sym, subst, arith}
+use Rattle.std.proofs.Common.{◌≡◌, inl, inr, ℕ, Bool, List, [], ◌∷◌, Option, Some, None, Result, Ok, Err, Bor, option_map, length, ap, refl, sym, subst, arith}
 use Rattle.std.proofs.lemmas.List.{length-map}
 use Rattle.lists.specs.Below.{below}
 use Rattle.lists.proofs.Below.{length_below}
-use Rattle.partition.specs.Fti.{block_count, source_count}
+use Rattle.partition.specs.Fti.{Fti, IsValidFti, block_count, source_count}
 use Rattle.partition.proofs.Laws.{some_block}
 use Rattle.reception.specs.Symbols.{arrived_count}
 use Rattle.reception.specs.Reception.{counted, symbols}
 use Rattle.reception.specs.declared.scope.Identity.{Identity}
 use Rattle.cert.specs.Certificate.{Certificate, IsCertificate}
-use Rattle.cert.specs.Surveying.{IsSurveyedFrom, OnYesWith}
+use Rattle.cert.specs.FromReader.{IsCheckedFrom}
+use Rattle.cert.specs.Report.{IsReport, OnYes}
+use Rattle.cert.specs.Surveying.{IsSurveyedFrom}
 use Rattle.cert.specs.declared.verdict.Report.{Report}
 use Rattle.cert.specs.declared.verdict.Survey.{Survey}
 use Rattle.cert.specs.declared.verdict.Verdict.{Verdict}
@@ -21,17 +23,16 @@ use Rattle.tool.specs.declared.drawing.Drawn.{Drawn}
 use Rattle.request.specs.declared.requests.Output.{Output}
 use Rattle.host.specs.World.{Files, World, IsFree, Replaces, one_more}
 use Rattle.tool.specs.Inputs.{Value, Opened, Bytes, HaveValues, Polynomials}
-use Rattle.tool.specs.Lines.{verdict_text}
 use Rattle.tool.specs.declared.check.Answered.{Answered}
 use Rattle.tool.specs.Commands.{Outcome, Gives, IsDrawn, TellsVerdict, inputs_of, output_of, status_of}
 use Rattle.tool.specs.Outcomes.{IsOutput, MayCreate}
 use Rattle.tool.specs.Doing.{text_of, HasMade}
 use Rattle.tool.specs.Drawing.{HasDrawn, IsSurveyed}
-use Rattle.file_check.specs.Files.{IsSurveyIn, IsSurveyOnSome, IsVerdictIn, IsVerdictOnSome}
+use Rattle.file_check.specs.Files.{IsVerdictIn, IsVerdictOnSome}
 use Rattle.std.specs.Prelude.{IfOk}
 use Rattle.tool.specs.declared.fault.Fault.{Fault}
 use Rattle.tool.specs.Checks.{OfFiles, TellsCheck, TellsRequest}
-use Rattle.tool.specs.Summing.{CanBeSummed, IsTextOf}
+use Rattle.tool.specs.Summing.{CanBeSummed}
 
 -- at a yes there is a survey
 pub has_survey : (who : Identity) (old new : Option (List ℕ)) (object : List ℕ) (z : Certificate) (found : Verdict × Option Survey)
@@ -40,25 +41,17 @@ has_survey who old new object z (Yes report, Some survey) h = tt
 has_survey who old new object z (Yes report, None) h = absurd h.surveyed
 has_survey who old new object z (No reason, survey) h = tt
 
--- a survey at a yes can be summed up
-pub can_be_summed : (who : Identity) (old new : Option (List ℕ)) (object : List ℕ) (z : Certificate) → IsCertificate z → (found : Verdict × Option Survey)
-    → IsSurveyedFrom who old new object z found.0 found.1 → OnYesWith found.0 found.1 CanBeSummed
-can_be_summed who old new object z valid (Yes report, Some survey) h =
-    let blocks = h.checked.report.blocks in
-    let many = ap (λ (bs : List (ℕ × ℕ)). length bs) blocks in
-    let each = length-map {B = ℕ × ℕ} (below (block_count z.fti)) (λ b. (source_count z.fti b, arrived_count (symbols (counted who h.checked.report.readings)) b)) in
-    record { some = omega (arith, many, each, length_below (block_count z.fti), some_block z.fti valid.fti); burst = h.surveyed.burst }
-can_be_summed who old new object z valid (Yes report, None) h = absurd h.surveyed
-can_be_summed who old new object z valid (No reason, Some survey) h = absurd h.surveyed
-can_be_summed who old new object z valid (No reason, None) h = tt
+-- a report has a block
+pub has_block : (who : Identity) (ds : List (List ℕ)) (f : Fti) → IsValidFti f → (report : Report) → IsReport who ds f report → CanBeSummed report
+has_block who ds f valid report is =
+    let many = ap (λ (bs : List (ℕ × ℕ)). length bs) is.blocks in
+    let each = length-map {B = ℕ × ℕ} (below (block_count f)) (λ b. (source_count f b, arrived_count (symbols (counted who is.readings)) b)) in
+    omega (arith, many, each, length_below (block_count f), some_block f valid)
 
--- the lines that were made of a verdict and its survey tell the verdict
-pub tells_verdict : (summary : Bool) (verdict : Verdict) (survey : Option Survey) (text : List ℕ) (IsItsSurvey : Report → Survey → Type 0)
-    → OnYesWith verdict survey IsItsSurvey → IsTextOf summary verdict survey text → TellsVerdict summary IsItsSurvey verdict text
-tells_verdict true (Yes report) (Some survey) text IsItsSurvey is says = (survey, is, says)
-tells_verdict true (Yes report) None text IsItsSurvey is says = absurd is
-tells_verdict true (No reason) survey text IsItsSurvey is says = says
-tells_verdict false verdict survey text IsItsSurvey is says = says
+pub can_be_summed : (who : Identity) (old new : Option (List ℕ)) (object : List ℕ) (z : Certificate) → IsCertificate z → (verdict : Verdict)
+    → IsCheckedFrom who old new object z verdict → OnYes verdict CanBeSummed
+can_be_summed who old new object z valid (Yes report) h = has_block who h.datagrams z.fti valid.fti report h.report
+can_be_summed who old new object z valid (No reason) h = tt
 
 -- an output of this name
 abbrev pub output_named : Bool → Bor (List ℕ) → Output
@@ -153,59 +146,23 @@ unpictured w r done tells =
     }
 
 -- what is told of a verdict on files that stand where they are
-pub told_alone : (files : Option Files) (r : CheckRequest) (verdict : Verdict) (done : Done) → OfFiles files r (λ x o text. IsVerdictIn r.identity x o text verdict) → IsVerdictOnSome r.identity verdict → r.picture ≡ None → r.summary ≡ false
-    → text_of done.told ≡ verdict_text verdict → done.status ≡ status_of verdict → TellsRequest files r (record { done = done; picture = None })
-told_alone None r verdict done is (datagrams, f, valid, report) plain short text status =
-    inr (refl, record { verdict = verdict; datagrams = datagrams; fti = f; valid = valid; report = report; text = (rw short text); status = status; picture = (rw plain refl) })
-told_alone (Some held) r verdict done (session, object, certificate, at_session, at_object, at_certificate, (z, is_text, left, checked)) some plain short text status =
+pub told_there : (files : Option Files) (r : CheckRequest) (verdict : Verdict) (answered : Answered) → OfFiles files r (λ x o text. IsVerdictIn r.identity x o text verdict) → IsVerdictOnSome r.identity verdict
+    → TellsVerdict r.summary verdict (text_of answered.done.told) → answered.done.status ≡ status_of verdict → HasDrawn r.picture verdict answered.picture → TellsRequest files r answered
+told_there None r verdict answered is (datagrams, f, valid, report) text status picture =
+    inr (refl, record { verdict = verdict; datagrams = datagrams; fti = f; valid = valid; report = report; text = text; status = status; picture = picture })
+told_there (Some held) r verdict answered (session, object, certificate, at_session, at_object, at_certificate, (z, is_text, left, checked)) some text status picture =
     inl (record {
       opened = Some session;
       left = left;
       object = object;
       z = z;
       read = ((session, at_session, refl), ((object, at_object, refl), ((is_text.0, (certificate, at_certificate, is_text.1)), tt)));
-      tells = record { verdict = verdict; checked = checked; text = (rw short text); status = status; picture = (rw plain refl) };
+      tells = record { verdict = verdict; checked = checked; text = text; status = status; picture = picture };
     })
 
--- and of one with its survey
-pub told_surveyed : (files : Option Files) (r : CheckRequest) (verdict : Verdict) (survey : Option Survey) (answered : Answered) → OfFiles files r (λ x o text. IsSurveyIn r.identity x o text verdict survey)
-    → IsSurveyOnSome r.identity verdict survey → IsTextOf r.summary verdict survey (text_of answered.done.told) → answered.done.status ≡ status_of verdict → HasDrawn r.picture verdict answered.picture
-    → TellsRequest files r answered
-told_surveyed None r verdict survey answered is (datagrams, f, valid, report, surveyed) text status picture =
-    inr (
-      refl,
-      record {
-        verdict = verdict;
-        datagrams = datagrams;
-        fti = f;
-        valid = valid;
-        report = report;
-        text = tells_verdict r.summary verdict survey _ _ surveyed text;
-        status = status;
-        picture = picture;
-      },
-    )
-told_surveyed (Some held) r verdict survey answered (session, object, certificate, at_session, at_object, at_certificate, (z, is_text, left, surveyed)) some text status picture =
-    inl (record {
-      opened = Some session;
-      left = left;
-      object = object;
-      z = z;
-      read = ((session, at_session, refl), ((object, at_object, refl), ((is_text.0, (certificate, at_certificate, is_text.1)), tt)));
-      tells = record {
-        verdict = verdict;
-        checked = surveyed.checked;
-        text = tells_verdict r.summary verdict survey _ _ surveyed.surveyed text;
-        status = status;
-        picture = picture;
-      };
-    })
-
--- there is a survey where one can be summed up
-pub is_surveyed : (found : Verdict × Option Survey) → OnYesWith found.0 found.1 CanBeSummed → IsSurveyed found.0 found.1
-is_surveyed (Yes report, Some survey) h = tt
-is_surveyed (Yes report, None) h = absurd h
-is_surveyed (No reason, survey) h = tt
+-- no picture is drawn where none is asked for
+pub none_drawn : (p : Option (Bor (List ℕ))) (verdict : Verdict) → p ≡ None → HasDrawn p verdict None
+none_drawn p verdict none = rw none refl
 
 -- what is told of what is held
 pub held_told : (files : Option Files) (r : CheckRequest) (opened left : Option (List ℕ)) (object : List ℕ) (z : Certificate)

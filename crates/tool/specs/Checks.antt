@@ -7,7 +7,6 @@ use Rattle.reception.specs.declared.scope.Identity.{Identity}
 use Rattle.cert.specs.Certificate.{Certificate as CertificateValue}
 use Rattle.cert.specs.FromReader.{IsCheckedFrom, IsRefusedBehind}
 use Rattle.cert.specs.Report.{IsReport, OnYes}
-use Rattle.cert.specs.Surveying.{IsSurvey}
 use Rattle.cert.specs.declared.verdict.Verdict.{Verdict}
 use Rattle.file_check.specs.declared.checking.FilesFault.{FilesFault}
 use Rattle.file_check.specs.declared.checking.FilesFault.TheVariants.{Frame as NoFrame, Session}
@@ -39,8 +38,7 @@ pub record TellsCheck (r : CheckRequest) (old new : Option (List ℕ)) (object :
     (z : CertificateValue) (answered : Answered) : Type 0 where
   pub verdict : Verdict
   pub checked : IsCheckedFrom r.identity old new object z verdict
-  pub text : TellsVerdict r.summary (IsSurvey r.identity checked.datagrams z.fti) verdict
-      (text_of answered.done.told)
+  pub text : TellsVerdict r.summary verdict (text_of answered.done.told)
   pub status : answered.done.status ≡ status_of verdict
   pub picture : HasDrawn r.picture verdict answered.picture
 
@@ -61,8 +59,7 @@ pub record TellsSome (r : CheckRequest) (answered : Answered) : Type 0 where
   pub fti : Fti
   pub valid : IsValidFti fti
   pub report : OnYes verdict (IsReport r.identity datagrams fti)
-  pub text : TellsVerdict r.summary (IsSurvey r.identity datagrams fti) verdict
-      (text_of answered.done.told)
+  pub text : TellsVerdict r.summary verdict (text_of answered.done.told)
   pub status : answered.done.status ≡ status_of verdict
   pub picture : HasDrawn r.picture verdict answered.picture
 

@@ -21,14 +21,11 @@ use Rattle.cert.specs.Certificate.{Certificate, IsCertificate, is_for, named_as,
 use Rattle.cert.specs.Converting.{IsOfOther}
 use Rattle.cert.specs.FromReader.{IsCheckedFrom, IsRefusedBehind}
 use Rattle.cert.specs.Report.{IsReport, OnYes}
-use Rattle.cert.specs.Surveying.{IsSurvey}
 use Rattle.cert.specs.Twins.{IsTwinOfSession}
 use Rattle.cert.specs.Verdict.{IsVerdict, GivesObject}
 use Rattle.cert.specs.declared.certificate.CertFault.TheVariants.{Io as CertificateIo}
 use Rattle.cert.specs.declared.certificate.CertFault.TheVariants.{OtherIdentity}
 use Rattle.cert.specs.declared.verdict.Reason.TheVariants.{Thin}
-use Rattle.cert.specs.declared.verdict.Report.{Report}
-use Rattle.cert.specs.declared.verdict.Survey.{Survey}
 use Rattle.cert.specs.declared.verdict.Verdict.{Verdict}
 use Rattle.cert.specs.declared.verdict.Verdict.TheVariants.{Yes, No}
 use Rattle.encoder.specs.Sending.{most_symbol_bytes, CanBeSent, IsSessionOf, pairs}
@@ -121,10 +118,9 @@ status_of (Yes report) = 0
 status_of (No reason) = 1
 
 -- the lines of a verdict, or the summary of a yes, where one is asked for
-abbrev pub TellsVerdict : Bool → (Report → Survey → Type 0) → Verdict → List ℕ → Type 0
-TellsVerdict true IsItsSurvey (Yes report) text =
-    (survey : Survey) × IsItsSurvey report survey × IsSummary report survey text
-TellsVerdict summary IsItsSurvey verdict text = text ≡ verdict_text verdict
+abbrev pub TellsVerdict : Bool → Verdict → List ℕ → Type 0
+TellsVerdict true (Yes report) text = IsSummary report text
+TellsVerdict summary verdict text = text ≡ verdict_text verdict
 
 -- a picture is there where one is asked for and the answer is yes; nothing is told of what it shows
 abbrev pub IsDrawn : Option (Bor (List ℕ)) → Verdict → Option (List ℕ) → Type 0
@@ -220,13 +216,13 @@ IsAnswerIn who content answer = IfSome content
 abbrev pub Gives : Request → List Value → Outcome → Type 0
 Gives (Check r) (Opened opened ∷ Bytes object ∷ Polynomials z ∷ []) outcome =
     (verdict : Verdict) × (left : Option (List ℕ))
-    × (checked : IsCheckedFrom r.identity opened left object z verdict)
-    × TellsVerdict r.summary (IsSurvey r.identity checked.datagrams z.fti) verdict outcome.text
+    × IsCheckedFrom r.identity opened left object z verdict
+    × TellsVerdict r.summary verdict outcome.text
     × (outcome.status ≡ status_of verdict) × IsDrawn r.picture verdict outcome.output
 Gives (Check r) (Opened session ∷ Opened object ∷ Opened certificate ∷ []) outcome =
     (verdict : Verdict) × (datagrams : List (List ℕ)) × (f : Fti) × IsValidFti f
     × OnYes verdict (IsReport r.identity datagrams f)
-    × TellsVerdict r.summary (IsSurvey r.identity datagrams f) verdict outcome.text
+    × TellsVerdict r.summary verdict outcome.text
     × (outcome.status ≡ status_of verdict) × IsDrawn r.picture verdict outcome.output
 Gives (Twin r) (Datagrams datagrams ∷ Bytes object ∷ Polynomials z ∷ []) outcome =
     (verdict : Verdict) × IsVerdict r.identity datagrams object z verdict

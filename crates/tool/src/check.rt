@@ -2,16 +2,16 @@
 ghost use Rattle.std.specs.Prelude.{◌≡◌, ◌≤◌, ◌++◌, decimal, IfOk, IfErr, IfSome, OnOk};
 ghost use Rattle.cert.specs.Certificate.{IsCertificate};
 ghost use Rattle.cert.specs.FromReader.{IsCheckedFrom};
-ghost use Rattle.cert.specs.Surveying.{IsSurveyedFrom, OnYesWith};
+ghost use Rattle.cert.specs.Report.{OnYes};
 ghost use Rattle.cert.specs.declared.verdict.Verdict.TheVariants.{No};
 ghost use Rattle.request.specs.declared.requests.Request.TheVariants.{Check};
-ghost use Rattle.tool.specs.Commands.{status_of as verdict_status};
+ghost use Rattle.tool.specs.Commands.{TellsVerdict, status_of as verdict_status};
 ghost use Rattle.tool.specs.Doing.{HasMade, HasStopped, text_of};
 ghost use Rattle.host.specs.World.{GivesFile};
-ghost use Rattle.file_check.specs.Files.{IsSurveyIn, IsSurveyOnSome, IsVerdictIn};
-ghost use Rattle.file_check.specs.Files.{IsVerdictOnSome};
+ghost use Rattle.file_check.specs.Files.{IsVerdictIn, IsVerdictOnSome};
 ghost use Rattle.tool.specs.Checks.{IsNotChecked, OfFiles, TellsCheck, TellsRequest, fault_of};
-ghost use Rattle.tool.specs.Summing.{CanBeSummed, IsTextOf};
+ghost use Rattle.tool.specs.Drawing.{IsSurveyed};
+ghost use Rattle.tool.specs.Summing.{CanBeSummed};
 ghost use Rattle.tool.specs.Lines.{named, block_text, kill_text, losses_text, report_text};
 ghost use Rattle.tool.specs.Lines.{reason_text, verdict_text as text_of_verdict};
 
@@ -120,11 +120,11 @@ fn answer_files<'a, H: Host>(
     ensures fault { IfErr result
         (HasStopped (H.world host.now) (H.world host.now) (Check request.now)) }
 {
-    if request.picture.is_none() && !request.summary {
+    if request.picture.is_none() {
         let Some(verdict) = verdict_in(alloc, host, request, files)? else {
             return Ok(None);
         };
-        let done = told_of(alloc, &verdict)?;
+        let done = told_of(alloc, request.summary, &verdict)?;
         return Ok(Some(Answered {
             done,
             picture: None,
@@ -133,7 +133,7 @@ fn answer_files<'a, H: Host>(
     let Some((verdict, survey)) = survey_in(alloc, host, request, files)? else {
         return Ok(None);
     };
-    let done = surveyed_told_of(alloc, request.summary, &verdict, &survey)?;
+    let done = told_of(alloc, request.summary, &verdict)?;
     let picture = picture_of(alloc, request, object_length, &verdict, &survey)?;
     Ok(Some(Answered { done, picture }))
 }
@@ -155,6 +155,7 @@ fn verdict_in<'a, H: Host>(
     ensures verdict { IfOk result (λ o. IfSome o (λ v. OfFiles (H.world host.now).files request.now
         (λ x o text. IsVerdictIn request.now.identity x o text v))) }
     ensures some { IfOk result (λ o. IfSome o (IsVerdictOnSome request.now.identity)) }
+    ensures summed { IfOk result (λ o. IfSome o (λ v. OnYes v CanBeSummed)) }
     ensures fault { IfErr result
         (HasStopped (H.world host.now) (H.world host.now) (Check request.now)) }
 {
@@ -178,13 +179,13 @@ fn survey_in<'a, H: Host>(
     requires certificate { GivesFile (H.world host.now) request.now.certificate.now
         (H.Input.content files.now.certificate.now)
         (H.Input.reliable files.now.certificate.now) }
-    ensures survey { IfOk result (λ o. IfSome o (λ found.
+    ensures verdict { IfOk result (λ o. IfSome o (λ found.
         OfFiles (H.world host.now).files request.now
-        (λ x o text. IsSurveyIn request.now.identity x o text found.0 found.1))) }
+        (λ x o text. IsVerdictIn request.now.identity x o text found.0))) }
     ensures some { IfOk result (λ o. IfSome o (λ found.
-        IsSurveyOnSome request.now.identity found.0 found.1)) }
-    ensures summed { IfOk result (λ o. IfSome o (λ found.
-        OnYesWith found.0 found.1 CanBeSummed)) }
+        IsVerdictOnSome request.now.identity found.0)) }
+    ensures summed { IfOk result (λ o. IfSome o (λ found. OnYes found.0 CanBeSummed)) }
+    ensures surveyed { IfOk result (λ o. IfSome o (λ found. IsSurveyed found.0 found.1)) }
     ensures fault { IfErr result
         (HasStopped (H.world host.now) (H.world host.now) (Check request.now)) }
 {
@@ -221,48 +222,28 @@ fn answer_of<'a, R: Read>(
     ensures fault { IfErr result (IsNotChecked request.now.identity (R.sound frames.old)
         (R.remaining frames.old) object.now certificate.now) }
 {
-    if request.picture.is_none() && !request.summary {
+    if request.picture.is_none() {
         let verdict = verdict_of(alloc, frames, object, certificate, request.identity)?;
-        let done = told_of(alloc, &verdict)?;
+        let done = told_of(alloc, request.summary, &verdict)?;
         return Ok(Answered {
             done,
             picture: None,
         });
     }
     let (verdict, survey) = survey_of(alloc, frames, object, certificate, request.identity)?;
-    let done = surveyed_told_of(alloc, request.summary, &verdict, &survey)?;
+    let done = told_of(alloc, request.summary, &verdict)?;
     let picture = picture_of(alloc, request, object.len() as u64, &verdict, &survey)?;
     Ok(Answered { done, picture })
 }
 
-// What is told of a verdict with its survey: of a yes the summary, where one is asked for.
-fn surveyed_told_of(
-    alloc: Global,
-    summary: bool,
-    verdict: &Verdict,
-    survey: &Option<Survey>,
-) -> Result<Done, AllocError>
-    requires { OnYesWith verdict.now survey.now CanBeSummed }
-    ensures text { IfOk result (λ done.
-        IsTextOf summary verdict.now survey.now (text_of done.told)) }
-    ensures status { IfOk result (λ done. done.status ≡ verdict_status verdict.now) }
-{
-    match (verdict, survey) {
-        (Verdict::Yes(report), Some(survey)) if summary => Ok(Done {
-            told: Told::Lines(summary_lines(alloc, report, survey)?),
-            status: 0,
-        }),
-        _ => told_of(alloc, verdict),
-    }
-}
-
 // What is told of a verdict.
-fn told_of(alloc: Global, verdict: &Verdict) -> Result<Done, AllocError>
-    ensures text { IfOk result (λ done. text_of done.told ≡ text_of_verdict verdict.now) }
+fn told_of(alloc: Global, summary: bool, verdict: &Verdict) -> Result<Done, AllocError>
+    requires { OnYes verdict.now CanBeSummed }
+    ensures text { IfOk result (λ done. TellsVerdict summary verdict.now (text_of done.told)) }
     ensures status { IfOk result (λ done. done.status ≡ verdict_status verdict.now) }
 {
     Ok(Done {
-        told: Told::Lines(verdict_text(alloc, verdict)?),
+        told: Told::Lines(verdict_text(alloc, summary, verdict)?),
         status: status_of(verdict),
     })
 }
@@ -277,11 +258,13 @@ fn status_of(verdict: &Verdict) -> u8
     }
 }
 
-// The lines of a verdict.
-fn verdict_text(alloc: Global, verdict: &Verdict) -> Result<Text, AllocError>
-    ensures { IfOk result (λ text. text ≡ text_of_verdict verdict.now) }
+// The lines of a verdict: of a yes the summary, where one is asked for.
+fn verdict_text(alloc: Global, summary: bool, verdict: &Verdict) -> Result<Text, AllocError>
+    requires { OnYes verdict.now CanBeSummed }
+    ensures { IfOk result (TellsVerdict summary verdict.now) }
 {
     match verdict {
+        Verdict::Yes(report) if summary => summary_lines(alloc, report),
         Verdict::Yes(report) => report_lines(alloc, report),
         Verdict::No(reason) => reason_line(alloc, *reason),
     }
@@ -295,8 +278,10 @@ fn verdict_of<'a, R: Read>(
     certificate: &Certificate,
     identity: Identity,
 ) -> Result<Verdict, Fault<'a>>
+    requires { IsCertificate certificate.now }
     ensures ok { IfOk result (IsCheckedFrom identity (R.remaining frames.old)
         (R.remaining frames.new) object.now certificate.now) }
+    ensures summed { IfOk result (λ verdict. OnYes verdict CanBeSummed) }
     ensures fault { IfErr result (IsNotChecked identity (R.sound frames.old)
         (R.remaining frames.old) object.now certificate.now) }
 {
@@ -318,9 +303,8 @@ fn survey_of<'a, R: Read>(
     requires { IsCertificate certificate.now }
     ensures ok { IfOk result (λ found. IsCheckedFrom identity (R.remaining frames.old)
         (R.remaining frames.new) object.now certificate.now found.0) }
-    ensures survey { IfOk result (λ found. IsSurveyedFrom identity (R.remaining frames.old)
-        (R.remaining frames.new) object.now certificate.now found.0 found.1) }
-    ensures summed { IfOk result (λ found. OnYesWith found.0 found.1 CanBeSummed) }
+    ensures summed { IfOk result (λ found. OnYes found.0 CanBeSummed) }
+    ensures surveyed { IfOk result (λ found. IsSurveyed found.0 found.1) }
     ensures fault { IfErr result (IsNotChecked identity (R.sound frames.old)
         (R.remaining frames.old) object.now certificate.now) }
 {

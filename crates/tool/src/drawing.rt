@@ -58,7 +58,7 @@ fn sheet_text(
         carriers: survey.carriers.as_slice(),
         margin: report.margin,
         kill: report.kill.as_slice(),
-        kill_block: survey.kill_block,
+        kill_block: report.kill_block,
         burst: report.burst,
         runs: survey.runs.as_slice(),
     };

@@ -1,14 +1,11 @@
 //! The few lines of a yes that are printed where a summary is asked for.
-ghost use Rattle.std.specs.Prelude.{◌≡◌, ◌-◌, ◌<◌, ◌++◌, ℕ, Some, length, codes, IfOk, OnOk};
-ghost use Rattle.losses.specs.Runs.{run_at};
-ghost use Rattle.losses.specs.declared.longest.Run.{Run as RunValue};
-ghost use Rattle.tool.specs.Summary.{IsWeakest, IsFirstRun, IsSummary, burst_text, short_words};
+ghost use Rattle.std.specs.Prelude.{◌≡◌, ◌-◌, ◌<◌, ◌++◌, length, codes, IfOk, OnOk};
+ghost use Rattle.tool.specs.Summary.{IsWeakest, IsSummary, burst_text, short_words};
 ghost use Rattle.tool.specs.Summing.{CanBeSummed};
 
 use crate::check::{block_line, number_line};
 use crate::print::Text;
-use cert::{Report, Survey};
-use losses::Run;
+use cert::Report;
 use std::alloc::{AllocError, Global};
 
 // How many symbols a block has beyond those that it needs.
@@ -36,21 +33,6 @@ fn weakest(blocks: &[(usize, usize)]) -> usize
     weakest
 }
 
-// The first of the runs that is so long, and its place.
-fn first_run(runs: &[Option<Run>], length: usize) -> (usize, Run)
-    requires { (place : ℕ) × (run : RunValue)
-        × (run_at runs.now place ≡ Some run) × (run.length ≡ length) }
-    ensures { IsFirstRun runs.now length result.0 result.1 }
-{
-    for place in 0..runs.len() {
-        match runs[place] {
-            Some(run) if run.length == length => return (place, run),
-            _ => {}
-        }
-    }
-    unreachable!()
-}
-
 // Puts last what is short.
 fn put_short(line: &mut Text, block: Option<usize>) -> Result<(), AllocError>
     ensures { OnOk result (line.new ≡ line.old ++ short_words block) }
@@ -72,34 +54,29 @@ fn kill_line(alloc: Global, block: Option<usize>) -> Result<Text, AllocError>
 }
 
 // The line of the burst: from which place on one neighbour more leaves what short.
-fn burst_line(alloc: Global, place: usize, run: Run) -> Result<Text, AllocError>
-    ensures { IfOk result (λ line. line ≡ burst_text place run) }
+fn burst_line(alloc: Global, report: &Report) -> Result<Text, AllocError>
+    ensures { IfOk result (λ line. line ≡ burst_text report.now) }
 {
     let mut line = Text::new(alloc);
-    line.named("burst", run.length)?;
-    line.named(" place", place)?;
-    put_short(&mut line, run.block)?;
+    line.named("burst", report.burst)?;
+    line.named(" place", report.burst_place)?;
+    put_short(&mut line, report.burst_block)?;
     Ok(line)
 }
 
 /// The lines of a summary.
-pub(crate) fn summary_lines(
-    alloc: Global,
-    report: &Report,
-    survey: &Survey,
-) -> Result<Text, AllocError>
-    requires { CanBeSummed report.now survey.now }
-    ensures { IfOk result (IsSummary report.now survey.now) }
+pub(crate) fn summary_lines(alloc: Global, report: &Report) -> Result<Text, AllocError>
+    requires { CanBeSummed report.now }
+    ensures { IfOk result (IsSummary report.now) }
 {
     let block = weakest(&report.blocks);
-    let (place, run) = first_run(&survey.runs, report.burst);
     let mut lines = Text::new(alloc);
     lines.text("yes\n")?;
     lines.put_line(&block_line(alloc, "weakest block", block, report.blocks[block])?)?;
     lines.put_line(&number_line(alloc, "carriers", report.carriers)?)?;
     lines.put_line(&number_line(alloc, "repeats", report.repeats)?)?;
     lines.put_line(&number_line(alloc, "margin", report.margin)?)?;
-    lines.put_line(&kill_line(alloc, survey.kill_block)?)?;
-    lines.put_line(&burst_line(alloc, place, run)?)?;
+    lines.put_line(&kill_line(alloc, report.kill_block)?)?;
+    lines.put_line(&burst_line(alloc, report)?)?;
     Ok(lines)
 }

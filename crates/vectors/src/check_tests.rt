@@ -349,13 +349,16 @@ fn a_reader_that_fails_under_a_check(rt: HostRuntime) -> Result<(), Fail> {
     Ok(())
 }
 
-// What a report of the block of three symbols says of losses.
+// What a report of the block of three symbols says of losses. The kill and one neighbour more than
+// the burst leave the same short: the block, or no carrier.
 #[derive(Clone, Copy)]
 struct Figures {
     carriers: usize,
     margin: usize,
     kill: &'static [usize],
     burst: usize,
+    burst_place: usize,
+    short: Option<usize>,
 }
 
 fn has_figures(report: &Report, figures: Figures) -> bool {
@@ -363,7 +366,10 @@ fn has_figures(report: &Report, figures: Figures) -> bool {
         && report.carriers == figures.carriers
         && report.margin == figures.margin
         && report.kill.as_slice() == figures.kill
+        && report.kill_block == figures.short
         && report.burst == figures.burst
+        && report.burst_place == figures.burst_place
+        && report.burst_block == figures.short
 }
 
 fn is_yes(verdict: &Verdict, figures: Figures) -> bool {
@@ -429,23 +435,52 @@ fn first_and_last() -> [u8; 93] {
     session
 }
 
-fn losses(carriers: usize, margin: usize, kill: &'static [usize], burst: usize) -> Figures {
-    Figures {
-        carriers,
-        margin,
-        kill,
-        burst,
-    }
+// The session of a carrier behind two packets that carry no FTI, and before two more.
+fn carrier_between() -> [u8; 127] {
+    let mut session = [0; 127];
+    session[..46].copy_from_slice(&FIRST_ALONE[35..]);
+    session[46..].copy_from_slice(&FIRST_ALONE);
+    session
 }
 
 // The loss of all carriers counts as that of a block does, and carriers by their places.
 #[test]
 fn carriers_in_the_report(rt: HostRuntime) -> Result<(), Fail> {
     let alloc = rt.alloc();
-    assert!(rt; reports(alloc, &SESSION, losses(3, 1, &[0, 1], 1))?);
-    assert!(rt; reports(alloc, &FIRST_ALONE, losses(1, 0, &[0], 0))?);
-    assert!(rt; reports(alloc, &twice(), losses(2, 1, &[0, 3], 3))?);
-    assert!(rt; reports(alloc, &first_and_last(), losses(2, 1, &[0, 1], 1))?);
+    let all = Figures {
+        carriers: 3,
+        margin: 1,
+        kill: &[0, 1],
+        burst: 1,
+        burst_place: 0,
+        short: Some(0),
+    };
+    assert!(rt; reports(alloc, &SESSION, all)?);
+    let alone = Figures {
+        carriers: 1,
+        margin: 0,
+        kill: &[0],
+        burst: 0,
+        burst_place: 0,
+        short: None,
+    };
+    assert!(rt; reports(alloc, &FIRST_ALONE, alone)?);
+    let two = Figures {
+        carriers: 2,
+        margin: 1,
+        kill: &[0, 3],
+        burst: 3,
+        burst_place: 0,
+        short: None,
+    };
+    assert!(rt; reports(alloc, &twice(), two)?);
+    assert!(rt; reports(alloc, &first_and_last(), Figures { carriers: 2, ..all })?);
+    let behind = Figures {
+        kill: &[2],
+        burst_place: 2,
+        ..alone
+    };
+    assert!(rt; reports(alloc, &carrier_between(), behind)?);
     Ok(())
 }
 

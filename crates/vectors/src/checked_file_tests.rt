@@ -24,7 +24,10 @@ fn is_same_report(a: &Report, b: &Report) -> bool {
         && a.repeats == b.repeats
         && a.margin == b.margin
         && a.kill.as_slice() == b.kill.as_slice()
+        && a.kill_block == b.kill_block
         && a.burst == b.burst
+        && a.burst_place == b.burst_place
+        && a.burst_block == b.burst_block
 }
 
 fn is_same_verdict(a: &Verdict, b: &Verdict) -> bool {

@@ -2,12 +2,15 @@ use Rattle.std.proofs.Common.{sym, subst}
 use Rattle.request.specs.declared.requests.Request.TheVariants.{Check}
 use Rattle.tool.specs.Doing.{HasStopped}
 use Rattle.tool.specs.declared.fault.Fault.{Fault}
-use Rattle.tool.proofs.CheckedFiles.{unchecked, verdict_of_files}
+use Rattle.tool.proofs.CheckedFiles.{each_summed, unchecked, verdict_of_files}
 use Rattle.tool.proofs.check.verdict_in.Goals as goal
 
 pub returns-in-Ok-clause-verdict : goal.returns-in-Ok-clause-verdict
 returns-in-Ok-clause-verdict g c =
     verdict_of_files (g.H.Host.world c.args.host.now) c.args.request.now _ _ _ _ _ _ c.requires.session c.requires.object c.requires.certificate _ c.in-Ok.ensures.verdict
+
+pub returns-in-Ok-clause-summed : goal.returns-in-Ok-clause-summed
+returns-in-Ok-clause-summed g c = each_summed c.args.request.now.identity c.in-Ok.verdict c.in-Ok.ensures.some
 
 pub returns-in-Err-clause-fault : goal.returns-in-Err-clause-fault
 returns-in-Err-clause-fault g c =
