@@ -21,6 +21,10 @@ use Rattle.receiver.proofs.Padding.{same_padded, take-padded, padded-append, res
 abbrev pub IsLong : Option (List ℕ) → ℕ → Type 0
 IsLong contents len = IfSome contents (λ x. length x ≡ len)
 
+pub blank_long : (contents : Option (List ℕ)) → IfSome contents (λ x. x ≡ []) → IsLong contents 0
+blank_long None blank = tt
+blank_long (Some x) blank = ap length blank
+
 -- ---- where blocks stand
 
 module _ (f : Fti) (valid : IsValidFti f) where

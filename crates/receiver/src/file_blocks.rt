@@ -5,11 +5,13 @@ ghost use Rattle.std.specs.Option.{option_map};
 ghost use Rattle.std.proofs.Props.{props};
 ghost use Rattle.partition.specs.Fti.{Fti as FtiValue, IsValidFti, block_count, source_count};
 ghost use Rattle.partition.specs.Fti.{start_of};
+ghost use Rattle.streams.specs.Offsets.{StandsAt, HasRoomAt};
 ghost use Rattle.receiver.specs.Bytes.{StandIn, Puts};
 ghost use Rattle.receiver.specs.InFile.{kept_at};
 ghost use Rattle.receiver.specs.Parts.{object_in};
 
 use crate::block_bytes::{BlockBytes, BytesFault};
+use crate::recent::Recent;
 use partition::Fti;
 use session::Failed;
 use std::alloc::Global;
@@ -22,7 +24,10 @@ pub struct FileBlocks<W: WriteAt> {
     output: W,
     // How long the output is.
     len: u64,
+    // None before something was written.
+    recent: Option<Recent>,
     ghost long: { IfSome (W.contents output) (λ x. length x ≡ len) } by { Prim.hlevel props },
+    ghost again: { IfSome recent (λ r. StandsAt (W.contents output) r.offset r.bytes.items) } by { Prim.hlevel props },
 }
 
 // Where a block's bytes begin.
@@ -52,7 +57,11 @@ impl<W: WriteAt> FileBlocks<W> {
         ensures zeros { (f : FtiValue) → IfSome (kept_at (W.contents result.output) f)
             (λ bytes. (b : ℕ) → bytes b ≡ replicate (source_count f b * f.symbol_length) 0) }
     {
-        FileBlocks { output, len: 0 }
+        FileBlocks {
+            output,
+            len: 0,
+            recent: None,
+        }
     }
 
     // Makes the output so long, where it is shorter. That changes nothing of what is kept.
@@ -61,16 +70,64 @@ impl<W: WriteAt> FileBlocks<W> {
         ensures stays { kept_at (W.contents self.new.output)
             ≡ kept_at (W.contents self.old.output) }
         ensures fails { OnErr result (W.failed self.new.output ≡ true) }
+        ensures none { IfSome self.old.recent (λ r. r.bytes.items ≡ [])
+            → IfSome self.new.recent (λ r. r.bytes.items ≡ []) }
     {
         if self.len < len {
+            self.forget();
             self.output.set_len(len)?;
             self.len = len;
         }
         Ok(())
     }
 
+    // Forgets what was read.
+    fn forget(&mut self)
+        ensures output { self.new.output ≡ self.old.output }
+        ensures len { self.new.len ≡ self.old.len }
+        ensures none { IfSome self.new.recent (λ r. r.bytes.items ≡ []) }
+    {
+        if let Some(recent) = &mut self.recent {
+            recent.bytes.clear();
+        }
+    }
+
+    // Notes bytes that were read at an offset.
+    fn note(&mut self, offset: u64, bytes: &[u8])
+        requires { StandsAt (W.contents self.old.output) offset bytes.now }
+        ensures output { self.new.output ≡ self.old.output }
+        ensures len { self.new.len ≡ self.old.len }
+    {
+        if let Some(recent) = &mut self.recent {
+            recent.note(offset, bytes);
+        }
+    }
+
+    // Reads bytes of the output, or gives them as they were read before.
+    fn read_back(&mut self, offset: u64, into: &mut [u8]) -> Result<(), Failed>
+        requires within { HasRoomAt (W.contents self.old.output) offset (length into.old) }
+        requires fits { offset + length into.old < 2 ^ 64 }
+        ensures bytes { OnOk result (StandsAt (W.contents self.old.output) offset into.new) }
+        ensures size { length into.new ≡ length into.old }
+        ensures len { self.new.len ≡ self.old.len }
+        ensures stays { W.contents self.new.output ≡ W.contents self.old.output }
+        ensures fails { OnErr result
+            ((W.failed self.new.output ≡ true) ⊎ (W.contents self.old.output ≡ None)) }
+    {
+        if let Some(recent) = &self.recent {
+            if recent.has(offset, into.len()) {
+                into.copy_from_slice(&recent.bytes);
+                return Ok(());
+            }
+        }
+        read_all_back(&mut self.output, offset, into)?;
+        self.note(offset, into);
+        Ok(())
+    }
+
     // Puts bytes at a place of a block. An error comes only where the output has failed.
     fn put(&mut self, fti: &Fti, block: u32, from: usize, bytes: &[u8]) -> Result<(), Failed>
+        requires none { IfSome self.old.recent (λ r. r.bytes.items ≡ []) }
         requires number { block < block_count fti.now }
         requires inside { from + length bytes.now
             ≤ source_count fti.now block * fti.now.symbol_length }
@@ -97,7 +154,11 @@ impl<W: WriteAt> FileBlocks<W> {
             ≡ option_map (object_in fti.now) (kept_at (W.contents self.output) fti.now)) }
         ensures fails { OnErr result.1 (W.failed result.0 ≡ true) }
     {
-        let FileBlocks { mut output, len: _ } = self;
+        let FileBlocks {
+            mut output,
+            len: _,
+            recent: _,
+        } = self;
         let cut = output.set_len(fti.transfer_length());
         (output, cut)
     }
@@ -133,13 +194,13 @@ impl<W: WriteAt> BlockBytes for FileBlocks<W> {
     {
         self.grow(end_of(fti, block))?;
         let offset = begin_of(fti, block) + from as u64;
-        read_all_back(&mut self.output, offset, into)
+        self.read_back(offset, into)
     }
 
     /// Fails only where the output has failed.
     fn write(
         &mut self,
-        _alloc: Global,
+        alloc: Global,
         fti: &Fti,
         block: u32,
         from: usize,
@@ -154,6 +215,10 @@ impl<W: WriteAt> BlockBytes for FileBlocks<W> {
             ≡ kept_at (W.contents self.old.output) }
         ensures fails { OnErr result (W.failed self.new.output ≡ true) }
     {
+        if self.recent.is_none() {
+            self.recent = Some(Recent::new(alloc));
+        }
+        self.forget();
         match self.put(fti, block, from, bytes) {
             Ok(()) => Ok(()),
             Err(_) => Err(BytesFault::Failed),

@@ -8,8 +8,9 @@
 //! - `receiving`: the same but for the bytes of symbols, which are kept wherever the caller says.
 //!   `block_bytes` is what is asked of such a place: bytes that are put one behind the other, by
 //!   block, and read again. `held_blocks` is one in memory, which a `Receiver` has, and
-//!   `file_blocks` one in an output that is written at offsets. `file_receiver` is a receiver that
-//!   keeps them in the output that the object is for, and `blocks` says where there;
+//!   `file_blocks` one in an output that is written at offsets, and `recent` what that gave last.
+//!   `file_receiver` is a receiver that keeps them in the output that the object is for, and
+//!   `blocks` says where there;
 //! - `feeding` takes one datagram more, and `taking` gives the answer, or writes the object block
 //!   by block; `storing` tells how much is kept;
 //! - `store`: what it keeps of an object beside bytes, and `stored`: of a block. While too few
@@ -31,6 +32,7 @@ mod pending_block;
 mod putting;
 mod receiver;
 mod receiving;
+mod recent;
 mod scratch;
 mod solved_block;
 mod store;
