@@ -112,7 +112,7 @@ pub record CanBeSent (object : List ℕ) (f : Fti) : Type 0 where
   pub whole : length object ≡ f.transfer_length
   pub short : f.symbol_length ≤ most_symbol_bytes
 
--- Why nothing was sent, or only a beginning of what Begins tells.
+-- Why nothing was sent, or only a beginning: Begins tells so of what the writer had and has.
 abbrev pub IsSendFault : SendFault → List ℕ → Fti → (Option (List ℕ) → Option (List ℕ) → Type 0)
     → WriterChange → Type 0
 IsSendFault Length object f Begins w = (length object ≢ f.transfer_length) × (w.after ≡ w.before)
