@@ -1,6 +1,7 @@
 -- A session whose datagrams are dropped, and the places of a file.
 use Rattle.std.proofs.Common.{◌≡◌, ◌++◌, ◌∷◌, [], ℕ, Bool, List, Option, Some, None, Result, Err, IfErr, length, inl, inr, sym, subst}
 use Rattle.std.specs.Borrow.{Bor}
+use Rattle.streams.specs.Changes.{ReaderChange}
 use Rattle.session.specs.Ranges.{first_unhad}
 use Rattle.session.specs.Thinning.{IsUnthinned}
 use Rattle.session.specs.declared.range.PlaceRange.{PlaceRange}
@@ -110,11 +111,14 @@ module _ (old : World) (r : DropRequest) (opened : Option (List ℕ)) (held : Ha
       no_place NoMemory why = absurd why
 
       module _ (sound : Bool) (rest : Option (List ℕ)) (failed : Bool) (room : ℕ) (writer_failed : Bool) where
-        thin_fault : (f : Fault) → IsCutShort (λ e. IsUnthinned e all sound opened rest failed room writer_failed) (unwritten.Fault f) → IsBecause old new (Drop r) [] f
+        abbrev reader : ReaderChange
+        reader = record { before = opened; after = rest; sound = sound; failed = failed }
+
+        thin_fault : (f : Fault) → IsCutShort (λ e. IsUnthinned e all reader room writer_failed) (unwritten.Fault f) → IsBecause old new (Drop r) [] f
         thin_fault (Open n) why = absurd why
         thin_fault (File n) why = absurd why
         thin_fault Memory why = tt
-        thin_fault (Frame e) why = elim (unthinned old r.session.now opened e all sound rest failed room writer_failed held why.0 why.1 why.2) [
+        thin_fault (Frame e) why = elim (unthinned old r.session.now e all reader room writer_failed held why.0 why.1 why.2) [
           | inl unread ↦
               by_unread old new (Drop r) [] (Frame e)
               (inr (is_there old.files r.session.now opened held, session_unread old r.places_file r.places.items all r.session.now (Frame e) are unread))
@@ -125,7 +129,7 @@ module _ (old : World) (r : DropRequest) (opened : Option (List ℕ)) (held : Ha
         thin_fault (Send e) why = absurd why
         thin_fault (NoPlace n) why = absurd why
 
-        pub because_unthinned : (w : Result ℕ Unwritten) → IfErr w (IsCutShort (λ e. IsUnthinned e all sound opened rest failed room writer_failed))
+        pub because_unthinned : (w : Result ℕ Unwritten) → IfErr w (IsCutShort (λ e. IsUnthinned e all reader room writer_failed))
             → (f : Fault) → w ≡ Err (unwritten.Fault f) → IsBecause old new (Drop r) [] f
         because_unthinned w why f is =
-            thin_fault f (subst (λ (x : Result ℕ Unwritten). IfErr x (IsCutShort (λ e. IsUnthinned e all sound opened rest failed room writer_failed))) is why)
+            thin_fault f (subst (λ (x : Result ℕ Unwritten). IfErr x (IsCutShort (λ e. IsUnthinned e all reader room writer_failed))) is why)

@@ -7,6 +7,7 @@ use Rattle.std.specs.Io.KnownBytes.{IsAtEnd}
 use Rattle.std.specs.Borrow.{Bor}
 use Rattle.std.proofs.lemmas.List.{append-nil, map-append, take_more}
 use Rattle.session.specs.Frames.{frames, HasRead, IsFramed, IsSessionFault, IsNoFrame, StopsAt}
+use Rattle.streams.specs.Changes.{ReaderChange, WriterChange}
 use Rattle.session.specs.Joining.{IsUnjoined, IsWhole}
 use Rattle.session.specs.Thinning.{IsUnthinned}
 use Rattle.session.specs.declared.frame.FrameFault.{FrameFault}
@@ -133,12 +134,12 @@ unread_at w (n ∷ ns) (o ∷ os) (suc i) failed fault are l io memory why first
     inr (here.0, here.1, unread_at w ns os i failed fault are.1 (omega (arith, l)) io memory why (λ j lj. first (suc j) (omega (arith, lj))))
 
 pub unjoined : (w : World) (names : List (Bor (List ℕ))) (opened : List (Option (List ℕ))) (turns : Bool) (fault : FrameFault) (sound failed : List Bool)
-    (before after : Option (List ℕ)) (room : ℕ) (writer_failed : Bool) → AreOpen w.files (texts names) opened
-    → IsUnjoined turns fault opened sound failed before after room writer_failed → fault ≢ Io → fault ≢ NoMemory → IsFirstUnread w (sessions names) (Frame fault)
-unjoined w names opened turns fault sound failed before after room writer_failed are why io memory = elim why.because [
+    (writer : WriterChange) → AreOpen w.files (texts names) opened
+    → IsUnjoined turns fault opened sound failed writer → fault ≢ Io → fault ≢ NoMemory → IsFirstUnread w (sessions names) (Frame fault)
+unjoined w names opened turns fault sound failed writer are why io memory = elim why.because [
   | inl blamed ↦ unread_at w names opened blamed.place _ fault are blamed.inside io memory blamed.because (blamed.first io memory)
   | inr others ↦ elim others [
-    | inl writer ↦ absurd (io writer.0)
+    | inl full ↦ absurd (io full.0)
     | inr none ↦ absurd (memory none)
   ]
 ]
@@ -158,25 +159,25 @@ LacksPlace files name ranges (NoSuchPlace place) =
     (datagrams : List (List ℕ)) × HasValue files (ASession name) (Datagrams datagrams) × (first_unhad (length datagrams) ranges ≡ Some place)
 LacksPlace files name ranges fault = ⊥
 
-pub unthinned : (w : World) (name : List ℕ) (opened : Option (List ℕ)) (fault : FrameFault) (ranges : List PlaceRange) (sound : Bool) (new : Option (List ℕ)) (failed : Bool) (room : ℕ)
-    (writer_failed : Bool) → HasValue w.files (AStream name) (Opened opened) → fault ≢ Io → fault ≢ NoMemory → IsUnthinned fault ranges sound opened new failed room writer_failed
+pub unthinned : (w : World) (name : List ℕ) (fault : FrameFault) (ranges : List PlaceRange) (reader : ReaderChange) (room : ℕ)
+    (writer_failed : Bool) → HasValue w.files (AStream name) (Opened reader.before) → fault ≢ Io → fault ≢ NoMemory → IsUnthinned fault ranges reader room writer_failed
     → IsUnread w (ASession name) (Frame fault) ⊎ LacksPlace w.files name ranges fault
-unthinned w name opened Io ranges sound new failed room writer_failed opens io memory why = absurd (io refl)
-unthinned w name opened NoMemory ranges sound new failed room writer_failed opens io memory why = absurd (memory refl)
-unthinned w name opened (NoSuchPlace p) ranges sound new failed room writer_failed opens io memory (ends, ds, read, outside) =
-    inr (ds, holds_session w.files name opened new ds opens read ends, outside)
-unthinned w name opened CutLength ranges sound new failed room writer_failed opens io memory (ds, left, read, none) =
-    inl (stops_at w.files name opened CutLength opens (stopped_at CutLength opened left ds read none.0))
-unthinned w name opened CutDatagram ranges sound new failed room writer_failed opens io memory (ds, left, read, none) =
-    inl (stops_at w.files name opened CutDatagram opens (stopped_at CutDatagram opened left ds read none.0))
-unthinned w name opened TooLong ranges sound new failed room writer_failed opens io memory (ds, left, read, none) =
-    inl (stops_at w.files name opened TooLong opens (stopped_at TooLong opened left ds read none.0))
+unthinned w name Io ranges reader room writer_failed opens io memory why = absurd (io refl)
+unthinned w name NoMemory ranges reader room writer_failed opens io memory why = absurd (memory refl)
+unthinned w name (NoSuchPlace p) ranges reader room writer_failed opens io memory (ends, ds, read, outside) =
+    inr (ds, holds_session w.files name reader.before reader.after ds opens read ends, outside)
+unthinned w name CutLength ranges reader room writer_failed opens io memory (ds, left, read, none) =
+    inl (stops_at w.files name reader.before CutLength opens (stopped_at CutLength reader.before left ds read none.0))
+unthinned w name CutDatagram ranges reader room writer_failed opens io memory (ds, left, read, none) =
+    inl (stops_at w.files name reader.before CutDatagram opens (stopped_at CutDatagram reader.before left ds read none.0))
+unthinned w name TooLong ranges reader room writer_failed opens io memory (ds, left, read, none) =
+    inl (stops_at w.files name reader.before TooLong opens (stopped_at TooLong reader.before left ds read none.0))
 
 -- ---- the commands
 
 module _ (old new : World) (r : JoinRequest) (opened : List (Option (List ℕ))) (are : AreOpen old.files (texts r.sessions.items) opened) (turns : Bool) (sound failed : List Bool)
-    (before after : Option (List ℕ)) (room : ℕ) (writer_failed : Bool) where
-  join_fault : (f : Fault) → IsCutShort (λ e. IsUnjoined turns e opened sound failed before after room writer_failed) (unwritten.Fault f) → IsBecause old new (Join r) [] f
+    (writer : WriterChange) where
+  join_fault : (f : Fault) → IsCutShort (λ e. IsUnjoined turns e opened sound failed writer) (unwritten.Fault f) → IsBecause old new (Join r) [] f
   join_fault (Open n) why = absurd why
   join_fault (File n) why = absurd why
   join_fault Memory why = tt
@@ -184,14 +185,14 @@ module _ (old new : World) (r : JoinRequest) (opened : List (Option (List ℕ)))
       by_unread old new (Join r) [] (Frame e)
       (inr (
         are_there old.files r.sessions.items opened are,
-        unjoined old r.sessions.items opened turns e sound failed before after room writer_failed are why.2 why.0 why.1,
+        unjoined old r.sessions.items opened turns e sound failed writer are why.2 why.0 why.1,
       ))
   join_fault (Certificate e) why = absurd why
   join_fault (Fti e) why = absurd why
   join_fault (Send e) why = absurd why
   join_fault (NoPlace n) why = absurd why
 
-  pub because_unjoined : (w : Result ℕ Unwritten) → IfErr w (IsCutShort (λ e. IsUnjoined turns e opened sound failed before after room writer_failed))
+  pub because_unjoined : (w : Result ℕ Unwritten) → IfErr w (IsCutShort (λ e. IsUnjoined turns e opened sound failed writer))
       → (f : Fault) → w ≡ Err (unwritten.Fault f) → IsBecause old new (Join r) [] f
   because_unjoined w why f is =
-      join_fault f (subst (λ (x : Result ℕ Unwritten). IfErr x (IsCutShort (λ e. IsUnjoined turns e opened sound failed before after room writer_failed))) is why)
+      join_fault f (subst (λ (x : Result ℕ Unwritten). IfErr x (IsCutShort (λ e. IsUnjoined turns e opened sound failed writer))) is why)

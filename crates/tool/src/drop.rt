@@ -1,6 +1,7 @@
 //! The command `drop`.
 ghost use Rattle.std.specs.Prelude.{IfOk, IfErr};
 ghost use Rattle.request.specs.declared.requests.Request.TheVariants.{Drop};
+ghost use Rattle.streams.specs.Changes.{reader_change};
 ghost use Rattle.session.specs.Thinning.{IsThinned, IsUnthinned};
 ghost use Rattle.tool.specs.Doing.{HasMade, HasStopped};
 ghost use Rattle.tool.specs.Copying.{IsCutShort};
@@ -68,8 +69,7 @@ fn thin_out<'a, R: Read, W: Write>(
         (R.remaining reader.old) (R.remaining reader.new)
         (W.contents writer.old) (W.contents writer.new)) }
     ensures fault { IfErr result (IsCutShort (λ fault. IsUnthinned fault ranges.now
-        (R.sound reader.old) (R.remaining reader.old) (R.remaining reader.new)
-        (R.failed reader.new) (W.room writer.old) (W.failed writer.new))) }
+        (reader_change R.Read reader.old reader.new) (W.room writer.old) (W.failed writer.new))) }
 {
     match thin_frames(alloc, reader, ranges, writer) {
         Ok(count) => Ok(count as u64),

@@ -1,6 +1,7 @@
 //! The command `join`.
 ghost use Rattle.std.specs.Prelude.{map, IfOk, IfErr};
 ghost use Rattle.request.specs.declared.requests.Request.TheVariants.{Join};
+ghost use Rattle.streams.specs.Changes.{writer_change};
 ghost use Rattle.session.specs.Joining.{IsJoined, IsUnjoined};
 ghost use Rattle.tool.specs.Copying.{IsCutShort};
 ghost use Rattle.tool.specs.Doing.{HasMade, HasStopped};
@@ -47,8 +48,7 @@ fn join_all<'a, R: Read, W: Write>(
         (W.contents writer.old) (W.contents writer.new)) }
     ensures fault { IfErr result (IsCutShort (λ fault. IsUnjoined turns fault
         (map R.remaining readers.old) (map R.sound readers.old) (map R.failed readers.new)
-        (W.contents writer.old) (W.contents writer.new) (W.room writer.old)
-        (W.failed writer.new))) }
+        (writer_change W.Write writer.old writer.new))) }
 {
     match join_frames(alloc, readers, turns, writer) {
         Ok(count) => Ok(count as u64),

@@ -35,7 +35,7 @@ returns-in_err-count-clause-fault g c =
     (uncommitted old (g.H.Host.world c.create.new.host) (Join r) r.output refl c.create.ensures.files c.create.ensures.silent new c.in_ok-file.ensures.created
     (are_there old.files r.sessions.items _ are) c.in_err-count.ensures.files c.commit.ensures.silent c.commit.ensures.created
     (Frame Io) (λ may more. (may, refl, more)) c.join_all-joined.result fault
-    (because_unjoined old new r _ are r.turns _ _ _ _ _ _ c.join_all-joined.result c.join_all-joined.ensures.fault)
+    (because_unjoined old new r _ are r.turns _ _ _ c.join_all-joined.result c.join_all-joined.ensures.fault)
     c.in_err-count.ensures.fault)
 
 pub returns-clause-ok : goal.returns-clause-ok
