@@ -9,7 +9,7 @@ use Rattle.std.specs.Io.KnownBytes.{Appends}
 use Rattle.lists.specs.Below.{below}
 use Rattle.session.specs.Frames.{AppendsSome}
 use Rattle.session.proofs.Writes.{then_appends, then_some, front_some}
-use Rattle.partition.specs.Fti.{Fti, IsValidFti, block_count, source_count, encoding_count, start_of}
+use Rattle.partition.specs.Fti.{Fti, IsValidFti, block_count, block_bytes, source_count, encoding_count, start_of}
 use Rattle.partition.proofs.Laws.{counts, some_block}
 use Rattle.reception.specs.Symbols.{Symbol, is_full, arrived_count, AllFull, FullSolvable, IsFirstShort}
 use Rattle.reception.specs.Reception.{asked}
@@ -75,14 +75,8 @@ full_explained f b bytes (Some (stored.Pending p)) at some h enough = absurd (om
 full_explained f b bytes (Some (stored.Solved s)) at some h enough = rows_explain f b at (take (source_count f b * f.symbol_length) bytes) h.rows
 
 -- the object's bytes in a block, by as many rows as the block has
-part_cut : (f : Fti) (bytes : ℕ → List ℕ) (b n : ℕ) → n ≡ start_of f b * f.symbol_length → length (take (source_count f b * f.symbol_length) (bytes b)) ≡ source_count f b * f.symbol_length
-    → part_of f bytes b
-    ≡ take (min (f.transfer_length - n) (length (take (source_count f b * f.symbol_length) (bytes b)))) (take (source_count f b * f.symbol_length) (bytes b))
-part_cut f bytes b n here count =
-    let size = source_count f b * f.symbol_length in
-    sym (take-take (min (f.transfer_length - start_of f b * f.symbol_length) size) size (bytes b) (omega arith))
-    ∙ ap (λ (l : ℕ). take (min (f.transfer_length - l) size) (take size (bytes b))) (sym here)
-    ∙ ap (λ (l : ℕ). take (min (f.transfer_length - n) l) (take size (bytes b))) (sym count)
+part_cut : (f : Fti) (bytes : ℕ → List ℕ) (b : ℕ) → part_of f bytes b ≡ take (block_bytes f b) (take (source_count f b * f.symbol_length) (bytes b))
+part_cut f bytes b = sym (take-take (block_bytes f b) (source_count f b * f.symbol_length) (bytes b) (omega arith))
 
 -- ---- the parts of the object
 
@@ -194,11 +188,10 @@ module _ (store : Store) (valid : IsValidFti store.fti) (bytes : ℕ → List �
         let hb : n < block_count store.fti = omega (arith, most) in
         let rows = take (source_count store.fti n * store.fti.symbol_length) (bytes n) in
         let are = solved_rows store.fti n (bytes n) (kept_of store n) (at n) (holds.blocks n) (all n hb) in
-        let cut = part_cut store.fti bytes n (length (object_below store.fti bytes n)) (before.count hb) are.count in
         let next : n + 1 ≡ suc n = omega arith in
         subst (λ (m : ℕ). SoFar store.fti at m (object_below store.fti bytes m)) next
         (subst (SoFar store.fti at (n + 1)) (sym (part_more store.fti bytes n))
-        (one_more_block store.fti valid at n (object_below store.fti bytes n) rows (part_of store.fti bytes n) before hb are cut))
+        (one_more_block store.fti valid at n (object_below store.fti bytes n) rows (part_of store.fti bytes n) before hb are (part_cut store.fti bytes n)))
 
     -- the object is the answer where no block is
     pub object_in_answers : Answers store.fti at (Object (object_in store.fti bytes))
