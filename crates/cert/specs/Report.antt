@@ -25,8 +25,9 @@ blocks_of who f = record {
 }
 
 -- For each block its source symbols, and how many different ESIs of it came; how many carriers; how
--- many symbols came beside the different ones; and what may be lost, and what more leaves short. A
--- loss is of datagrams, whosever packets they are, and its places are those of all of them.
+-- many symbols came beside the different ones; what may be lost; and what a loss of more leaves
+-- short. A loss is of datagrams, whosever packets they are, and its places are those of all of
+-- them.
 pub record IsReport (who : Identity) (datagrams : List (List ℕ)) (f : Fti)
     (report : Report) : Type 0 where
   pub readings : List Reading

@@ -42,7 +42,8 @@ impl<S: Drop> Symbols<S> {
         }
     }
 
-    /// The symbols of a block, where one with this ESI may be among them. Else none is.
+    /// The symbols of a block, where one with this ESI may be among them. `None` says that none
+    /// has this ESI.
     pub(crate) fn among(&self, block: u32, esi: u8) -> Option<&[Arrival<S>]>
         ensures none { IsNone result
             → (held : S → List ℕ) → came_at held self.now block esi ≡ None }

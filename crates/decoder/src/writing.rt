@@ -80,7 +80,7 @@ pub(crate) fn write_blocks<S: Source, W: Write>(
         let Some(rows) = source.rows(alloc, codes, b, are_sound, &mut workspace)? else {
             return Ok(false);
         };
-        // Of a source that isn't told the rows may be shorter.
+        // The rows of a source that isn't told may be shorter.
         let used = fti.block_bytes(b).min(rows.bytes.len());
         let Ok(()) = write_all(writer, &rows.bytes[..used]) else {
             return Err(Unwritten::Writer);

@@ -77,8 +77,8 @@ AreSent object f tsi toi every _ _ = ⊥
 abbrev pub IsSessionOf : List ℕ → Fti → ℕ → ℕ → ℕ → Order → List (List ℕ) → Type 0
 IsSessionOf object f tsi toi every order = AreSent object f tsi toi every (items order f)
 
--- the frames of the datagrams that Are tells of these encoding symbols were written, where it is
--- told what was
+-- the frames of datagrams that are, by Are, those of these encoding symbols were written, where it
+-- is told what was
 pub record Sends (Are : List Item → List (List ℕ) → Type 0) (xs : List Item)
     (old new : Option (List ℕ)) : Type 0 where
   pub datagrams : List (List ℕ)
@@ -112,7 +112,8 @@ pub record CanBeSent (object : List ℕ) (f : Fti) : Type 0 where
   pub whole : length object ≡ f.transfer_length
   pub short : f.symbol_length ≤ most_symbol_bytes
 
--- Why nothing was sent, or only a beginning: Begins tells so of what the writer had and has.
+-- Why nothing was sent, or only a beginning. Of a beginning Begins holds, of what the writer had
+-- and has.
 abbrev pub IsSendFault : SendFault → List ℕ → Fti → (Option (List ℕ) → Option (List ℕ) → Type 0)
     → WriterChange → Type 0
 IsSendFault Length object f Begins w = (length object ≢ f.transfer_length) × (w.after ≡ w.before)

@@ -1,5 +1,5 @@
--- The narrowest window that begins first is the first place from which no more than the burst may be
--- missed.
+-- Where the first of the narrowest windows begins is the first place from which no more than the
+-- burst may be missed.
 use Rattle.std.proofs.Common.{◌≡◌, ℕ, ◌+◌, ◌-◌, ◌<◌, ◌≤◌, Bool, true, false, ◌&&◌, ◌||◌, ◌==◌, nat_lt, List, length, get_or, Option, Some, None, refl, arith, ltb-true}
 use Rattle.std.proofs.lemmas.Bool.{ltb-false, eqb-true, eq-eqb}
 use Rattle.lists.specs.Selection.{rest, is_run}

@@ -1,4 +1,4 @@
--- The group whose loss costs least.
+-- The group whose loss costs least, and the first of the narrowest windows.
 use Rattle.std.specs.Prelude.{ℕ, ◌+◌, ◌-◌, ◌<◌, ◌≤◌, List, length}
 use Rattle.losses.specs.Costs.{IsWeighed}
 use Rattle.losses.specs.Starts.{HaveWindow}

@@ -21,20 +21,20 @@ pub struct Figures {
     pub margin: usize,
     /// One place more, rising, whose loss does leave a group short, or else no carrier.
     pub kill: Vec<usize>,
-    /// A group that the kill leaves short; `None` where it takes all carriers.
+    /// A group that the kill leaves short. With `None` it takes all carriers.
     pub kill_block: Option<usize>,
     /// The greatest number of neighbouring places whose loss, wherever they stand, leaves no group
     /// short and a carrier.
     pub burst: usize,
     /// The first place from which no more neighbours than the burst may be missed.
     pub burst_place: usize,
-    /// A group that one neighbour more from there leaves short; `None` where that takes all
+    /// A group that one neighbour more from there leaves short. With `None` that takes all
     /// carriers.
     pub burst_block: Option<usize>,
 }
 
-// The group whose loss costs least, the first of such groups, and the narrowest window that leaves
-// any group short, the first of such windows, with its group.
+// The first of the groups whose loss costs least. The first of the narrowest windows that leave a
+// group short, and that group.
 #[derive(Clone, Copy)]
 struct Lightest {
     at: usize,

@@ -79,7 +79,7 @@ impl Window {
     }
 }
 
-/// From the first place of a window to its last: how many places lie behind the first.
+/// A window, by its first place and by how many places it has behind that one.
 #[derive(Clone, Copy)]
 pub(crate) struct Gap {
     pub(crate) place: usize,

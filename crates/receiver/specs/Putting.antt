@@ -68,7 +68,7 @@ pub record BytesChange : Type 0 where
   pub after : Option (ℕ → List ℕ)
   pub failed : Bool
 
--- those of an object with this FTI that were told before
+-- the change of the bytes of an object with this FTI, where they were told before
 abbrev pub bytes_change : {B : Type 0} → Ghosts B → Fti → (ℕ → List ℕ) → B → BytesChange
 bytes_change b f before new =
     record { before = before; after = b.kept new f; failed = b.failed new }

@@ -7,7 +7,7 @@ ghost use Rattle.partition.specs.Fti.{Fti as FtiValue, IsValidFti, block_count, 
 ghost use Rattle.partition.specs.Fti.{start_of};
 ghost use Rattle.streams.specs.Offsets.{StandsAt, HasRoomAt};
 ghost use Rattle.receiver.specs.Bytes.{StandIn, Puts};
-ghost use Rattle.receiver.specs.InFile.{kept_at};
+ghost use Rattle.receiver.specs.InFile.{kept_at, StandsStill};
 ghost use Rattle.receiver.specs.Parts.{object_in};
 
 use crate::block_bytes::{BlockBytes, BytesFault};
@@ -24,10 +24,10 @@ pub struct FileBlocks<W: WriteAt> {
     output: W,
     // How long the output is.
     len: u64,
-    // None before something was written.
+    // `None` until the first write, which brings the allocator.
     recent: Option<Recent>,
     ghost long: { IfSome (W.contents output) (λ x. length x ≡ len) } by { Prim.hlevel props },
-    ghost again: { IfSome recent (λ r. StandsAt (W.contents output) r.offset r.bytes.items) } by { Prim.hlevel props },
+    ghost again: { IfSome recent (StandsStill (W.contents output)) } by { Prim.hlevel props },
 }
 
 // Where a block's bytes begin.
@@ -88,7 +88,7 @@ impl<W: WriteAt> FileBlocks<W> {
         ensures none { IfSome self.new.recent (λ r. r.bytes.items ≡ []) }
     {
         if let Some(recent) = &mut self.recent {
-            recent.bytes.clear();
+            recent.forget();
         }
     }
 
@@ -104,7 +104,7 @@ impl<W: WriteAt> FileBlocks<W> {
     }
 
     // Reads bytes of the output, or gives them as they were read before.
-    fn read_back(&mut self, offset: u64, into: &mut [u8]) -> Result<(), Failed>
+    fn read_or_recall(&mut self, offset: u64, into: &mut [u8]) -> Result<(), Failed>
         requires within { HasRoomAt (W.contents self.old.output) offset (length into.old) }
         requires fits { offset + length into.old < 2 ^ 64 }
         ensures bytes { OnOk result (StandsAt (W.contents self.old.output) offset into.new) }
@@ -194,7 +194,7 @@ impl<W: WriteAt> BlockBytes for FileBlocks<W> {
     {
         self.grow(end_of(fti, block))?;
         let offset = begin_of(fti, block) + from as u64;
-        self.read_back(offset, into)
+        self.read_or_recall(offset, into)
     }
 
     /// Fails only where the output has failed.

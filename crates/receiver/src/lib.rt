@@ -8,7 +8,8 @@
 //! - `receiving`: the same but for the bytes of symbols, which are kept wherever the caller says.
 //!   `block_bytes` is what is asked of such a place: bytes that are put one behind the other, by
 //!   block, and read again. `held_blocks` is one in memory, which a `Receiver` has, and
-//!   `file_blocks` one in an output that is written at offsets, and `recent` what that gave last.
+//!   `file_blocks` one in an output that is written at offsets. `recent` keeps bytes that were
+//!   read of that output twice in a row.
 //!   `file_receiver` is a receiver that keeps them in the output that the object is for, and
 //!   `blocks` says where there;
 //! - `feeding` takes one datagram more, and `taking` gives the answer, or writes the object block

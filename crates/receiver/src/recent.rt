@@ -3,8 +3,8 @@ ghost use Rattle.std.specs.Prelude.{◌≡◌, ◌⊎◌, [], true, length};
 
 use std::alloc::Global;
 
-/// The bytes that were read last, where they were read twice, one time behind the other. Each
-/// symbol that comes when its block is solved is compared with what all bytes of the block give.
+/// The bytes that were read last, kept where the read before was of the same place. A symbol that
+/// comes to a solved block is compared by all of the block's bytes.
 #[derive(Drop)]
 pub(crate) struct Recent {
     pub(crate) offset: u64,
@@ -34,16 +34,24 @@ impl Recent {
         self.offset == offset && self.bytes.len() == count
     }
 
-    /// Notes bytes that were read at an offset. They are kept where they were read before, and
-    /// where there is memory for them.
+    /// Forgets what was read. The memory for it is kept.
+    pub(crate) fn forget(&mut self)
+        ensures { self.new.bytes.items ≡ [] }
+    {
+        self.count = 0;
+        self.bytes.clear();
+    }
+
+    /// Notes bytes that were read at an offset. They are kept where the last read was of the same
+    /// bytes, and where there is memory.
     pub(crate) fn note(&mut self, offset: u64, bytes: &[u8])
         ensures { (self.new.bytes.items ≡ [])
             ⊎ ((self.new.offset ≡ offset) × (self.new.bytes.items ≡ bytes.now)) }
     {
         let again = self.offset == offset && self.count == bytes.len();
+        self.forget();
         self.offset = offset;
         self.count = bytes.len();
-        self.bytes.clear();
         if again {
             let _ = self.bytes.extend_from_slice(bytes);
         }

@@ -39,7 +39,7 @@ summary_text report weakest =
     ++ line_of (codes "kill" ++ short_words report.kill_block)
     ++ line_of (burst_text report)
 
--- the summary tells the weakest block
+-- the text is the summary of the report, with its weakest block
 pub record IsSummary (report : Report) (text : List ℕ) : Type 0 where
   pub weakest : ℕ
   pub weak : IsWeakest report.blocks.items weakest

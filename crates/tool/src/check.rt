@@ -236,7 +236,7 @@ fn answer_of<'a, R: Read>(
     Ok(Answered { done, picture })
 }
 
-// What is told of a verdict.
+// What is told of a verdict, by whether a summary is asked for.
 fn told_of(alloc: Global, summary: bool, verdict: &Verdict) -> Result<Done, AllocError>
     requires { OnYes verdict.now CanBeSummed }
     ensures text { IfOk result (λ done. TellsVerdict summary verdict.now (text_of done.told)) }
