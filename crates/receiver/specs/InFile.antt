@@ -2,8 +2,6 @@
 use Rattle.std.specs.Prelude.{ℕ, ◌*◌, List, ◌++◌, take, drop, replicate, Option}
 use Rattle.std.specs.Option.{option_map}
 use Rattle.partition.specs.Fti.{Fti, source_count, start_of}
-use Rattle.streams.specs.Offsets.{StandsAt}
-use Rattle.receiver.specs.declared.recent.Recent.{Recent}
 
 -- so many bytes from an offset on, with zeros in the place of those behind the end
 abbrev pub padded_from : List ℕ → ℕ → ℕ → List ℕ
@@ -17,7 +15,3 @@ bytes_at f x b =
 -- those of each block, where the file's bytes are told
 abbrev pub kept_at : Option (List ℕ) → Fti → Option (ℕ → List ℕ)
 kept_at contents f = option_map (bytes_at f) contents
-
--- the bytes that are kept of what was read stand in the file
-abbrev pub StandsStill : Option (List ℕ) → Recent → Type 0
-StandsStill contents recent = StandsAt contents recent.offset recent.bytes.items

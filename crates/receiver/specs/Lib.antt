@@ -12,3 +12,4 @@ pub mod InFile
 pub mod Begun
 pub mod Places
 pub mod Filed
+pub mod Recalled

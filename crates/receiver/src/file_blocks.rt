@@ -7,7 +7,8 @@ ghost use Rattle.partition.specs.Fti.{Fti as FtiValue, IsValidFti, block_count, 
 ghost use Rattle.partition.specs.Fti.{start_of};
 ghost use Rattle.streams.specs.Offsets.{StandsAt, HasRoomAt};
 ghost use Rattle.receiver.specs.Bytes.{StandIn, Puts};
-ghost use Rattle.receiver.specs.InFile.{kept_at, StandsStill};
+ghost use Rattle.receiver.specs.InFile.{kept_at};
+ghost use Rattle.receiver.specs.Recalled.{StandsStill};
 ghost use Rattle.receiver.specs.Parts.{object_in};
 
 use crate::block_bytes::{BlockBytes, BytesFault};
