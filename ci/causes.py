@@ -73,7 +73,15 @@ def make_files():
     numbers = ["--symbol", "8", "--block", "8", "--max", "16"]
     run(["encode", "note.txt", "other.session", *OF_NOTE, *numbers])
     run(["encode", "note.txt", "bare.session", *OF_NOTE, *NUMBERS, "--fti-every", "255"])
-    session("bare.session", datagrams("bare.session")[1:])
+    carrier, *others = datagrams("bare.session")
+    session("bare.session", others)
+    # The encoding symbol ID of the only carrier stands before its symbol of 8 bytes.
+    session("ranged.session", [carrier[:-9] + b"\xc8" + carrier[-8:], *others])
+    numbers = ["--symbol", "65475", "--block", "255", "--max", "255"]
+    run(["encode", "note.txt", "vast.session", *OF_NOTE, *numbers])
+    length = len(read("note.txt")).to_bytes(6, "big")
+    vast = datagrams("vast.session")[0].replace(length, (1 << 47).to_bytes(6, "big"), 1)
+    session("vast.session", [vast])
     os.mkdir("folder")
     write("bad\nname.session", read("cut.session"))
     write("-", b"no session, as it is called -")
@@ -101,7 +109,7 @@ CASES = [
     (["encode", "note.txt", "full.out", *OF_NOTE, *NUMBERS], 1, "fault open",
      ["full.out", "full.out.part"]),
     (["encode", "note.txt", "/dev/full", *OF_NOTE, *NUMBERS], 1, "fault O3",
-     ["/dev/full", "room on the disk"]),
+     ["/dev/full", "a pipe or a device"]),
     (["encode", "empty.txt", "out", *OF_NOTE, *NUMBERS], 1, "fault F1", ["empty.txt is empty"]),
     (
         ["encode", "note.txt", "out", *OF_NOTE, "--symbol", "8", "--block", "8", "--max", "4"],
@@ -129,7 +137,7 @@ CASES = [
     (["drop", "note.session", "out", "--places", "places.txt"], 1, "fault L1 NoPlace word 2",
      ["places.txt: word 2, x7, in line 2, is no place"]),
     (["drop", "note.session", "out", "--places", "-"], 1, "fault L1 NoPlace word 0",
-     ["-: word 0 is no place"], "note.txt"),
+     ["standard input: word 0 is no place"], "note.txt"),
     (["drop", "note.session", "out", "--places", "none.txt"], 1, "fault open none.txt",
      ["none.txt", "No such file"]),
     (["drop", "-", "out", "--places", "-"], 1, "fault open -",
@@ -171,17 +179,23 @@ CASES = [
     (["decode", "bare.session", "out", *OF_NOTE], 3, "empty", ["bare.session", "carries the FTI"]),
     (["check", "twice.session", *CHECK], 0, "burst",
      ["at least 6 datagrams of twice.session are repeats of others"]),
+    (["follow", "thin.session", "out", *OF_NOTE], 3, "missing",
+     ["3 different symbols of block 0 were taken of thin.session", "alcrs join"]),
+    (["follow", "ranged.session", "out", *OF_NOTE], 3, "empty",
+     ["ranged.session: datagram 0 carries the FTI, and was refused"]),
+    (["follow", "vast.session", "out", *OF_NOTE], 1, "fault file out",
+     ["out can't be written", "by datagram 0 the object has 140737488355328 bytes"]),
     (["follow", "clash.session", "out", *OF_NOTE], 0, "object",
-     ["1 datagrams of clash.session contradict", "out wrong"]),
+     ["1 datagrams of clash.session contradict", "the object wrong"]),
     (["check", "-", *CHECK[:2], *OF_BULLETIN], 1, "no N12",
      ["note.rsc is for another TSI or TOI"], "note.session"),
     (["check", "-", "bulletin.txt", "bulletin.rsc", *OF_BULLETIN], 1, "no N3",
-     ["- has no packet of TSI 7"], "note.session"),
+     ["standard input has no packet of TSI 7"], "note.session"),
     (["check", "-", "-", "note.rsc", *OF_NOTE], 1, "fault open -",
      ["standard input can be read once"], "note.session"),
     (["join", "out", "-", "-"], 1, "fault open -",
      ["standard input can be read once"], "note.session"),
-    (["show", "-"], 1, "fault S4", ["- is a folder"], "folder"),
+    (["show", "-"], 1, "fault S4", ["standard input is a folder"], "folder"),
     (["decode", "note.session", "note.txt", *OF_NOTE, "-n"], 1, "fault open",
      ["note.txt is there already", "--no-clobber"]),
     (["check", "note.session", *CHECK, "-n", "--picture", "folder"], 1, "fault open",

@@ -2,13 +2,14 @@
 ghost use Rattle.std.specs.Prelude.{◌≡◌, IfOk, is_some, true};
 ghost use Rattle.causes.specs.Sentences.{is_doubted, is_reception, tells_repeats};
 
-use crate::files::{Kind, STANDARD_INPUT, kind_of, unread, unwritten};
+use crate::files::{Kind, kind_of, unread, unwritten};
 use crate::names::{
-    Name, certificate_of, identity_of, inputs_named, object_of, output_of, places_of, session_of,
+    Name, STANDARD_INPUT, certificate_of, identity_of, input_name, inputs_named, object_of,
+    output_of, places_of, session_of,
 };
 use crate::places::{Word, word_behind};
 use crate::sessions::{Break, Carrier, carrier_from, walk};
-use request::Request;
+use request::{Output, Request};
 use session::FrameFault;
 use std::alloc::{AllocError, Global};
 use std::rt::Files;
@@ -42,16 +43,8 @@ pub fn explain<R: Files>(
         "fault" => case.fault(),
         "no" => case.no_and_no_picture(),
         "kept" => case.kept(),
-        "missing" => case.say(
-            "{S} has {1} different symbols of block {0}, and {2} are needed: join it with what \
-            came of the same session at another time (alcrs join)",
-            &[case.number(2), case.number(4), case.number(6)],
-        ),
-        "empty" => case.say(
-            "{S} has no packet of TSI {T} and TOI {I} that carries the FTI: alcrs show --summary \
-            {S} tells what it has",
-            &[],
-        ),
+        "missing" => case.missing(),
+        "empty" => case.empty(),
         _ => Ok(None),
     }
 }
@@ -75,7 +68,7 @@ pub fn doubt<R: Files>(
     match request {
         Request::Follow(_) if contradictions > 0 => case.say(
             "{0} datagrams of {S} contradict those that came before them: one that was taken may \
-            be damaged, and {W} wrong; keep the datagrams, and decode them",
+            be damaged, and the object wrong; keep the datagrams, and decode them",
             &[contradictions],
         ),
         _ => Ok(None),
@@ -141,20 +134,16 @@ impl<'a, R: Files> Case<'a, R> {
         certificate_of(self.request).unwrap_or("the certificate")
     }
 
-    // What stands for a key of a pattern: `S` the session, `O` the object, `C` the certificate, `W`
-    // what is written, `T` and `I` the TSI and the TOI, a digit the number at that place.
+    // What stands for a key of a pattern: `S` the session, `O` the object, `C` the certificate, `T`
+    // and `I` the TSI and the TOI, a digit the number at that place.
     fn value(&self, key: &str, numbers: &[u64]) -> Result<String, AllocError> {
         let name = match key {
             "S" => self.session(),
             "O" => object_of(self.request).unwrap_or("the object"),
             "C" => self.certificate(),
-            "W" => match output_of(self.request) {
-                Some(output) => output.name,
-                None => "the output",
-            },
             _ => return self.figure(key, numbers),
         };
-        Name { text: name }.to_string(self.alloc)
+        input_name(name).to_string(self.alloc)
     }
 
     fn figure(&self, key: &str, numbers: &[u64]) -> Result<String, AllocError> {
@@ -188,13 +177,47 @@ impl<'a, R: Files> Case<'a, R> {
         Ok(Some(text))
     }
 
-    // The sentence that begins with a name and goes on by a pattern.
+    // The sentence that begins with an input's name and goes on by a pattern.
     fn say_of(&self, name: &str, pattern: &str, numbers: &[u64]) -> Sentence {
-        let mut text = Name { text: name }.to_string(self.alloc)?;
+        let mut text = input_name(name).to_string(self.alloc)?;
         if let Some(rest) = self.say(pattern, numbers)? {
             text.push_str(rest.as_str())?;
         }
         Ok(Some(text))
+    }
+
+    // What a block lacks. Who follows may have refused symbols of it, which the lines before tell.
+    fn missing(&self) -> Sentence {
+        let numbers = [self.number(2), self.number(4), self.number(6)];
+        if let Request::Follow(_) = self.request {
+            return self.say(
+                "{1} different symbols of block {0} were taken of {S}, and {2} are needed: keep \
+                what came, and join it with what came of the same session at another time (alcrs \
+                join), without what a line calls refused",
+                &numbers,
+            );
+        }
+        self.say(
+            "{S} has {1} different symbols of block {0}, and {2} are needed: join it with what \
+            came of the same session at another time (alcrs join)",
+            &numbers,
+        )
+    }
+
+    // Why nothing is known of the object. A carrier that is there was refused.
+    fn empty(&self) -> Sentence {
+        match self.carrier(0) {
+            Some(Carrier { place, .. }) => self.say(
+                "{S}: datagram {0} carries the FTI, and was refused, as its line says why; no \
+                other of TSI {T} and TOI {I} was taken",
+                &[place],
+            ),
+            None => self.say(
+                "{S} has no packet of TSI {T} and TOI {I} that carries the FTI: alcrs show \
+                --summary {S} tells what it has",
+                &[],
+            ),
+        }
     }
 
     fn fault(&self) -> Sentence {
@@ -235,11 +258,26 @@ impl<'a, R: Files> Case<'a, R> {
             );
         }
         match output_of(self.request) {
-            Some(output) if !self.is_of_input() => {
-                Ok(Some(unwritten(self.rt, self.alloc, output)?))
-            }
+            Some(output) if !self.is_of_input() => self.no_output(output),
             _ => self.say(self.broken_off(), &[]),
         }
+    }
+
+    // Why the output can't be written. How long an object is that is received is only what the
+    // first carrier claims.
+    fn no_output(&self, output: Output<'_>) -> Sentence {
+        let mut text = unwritten(self.rt, self.alloc, output)?;
+        if !matches!(self.request, Request::Decode(_) | Request::Follow(_)) {
+            return Ok(Some(text));
+        }
+        if let Some(Carrier { place, fti }) = self.carrier(0) {
+            let length = fti.transfer_length();
+            let told = format!(in self.alloc;
+                "; by datagram {place} the object has {length} bytes"
+            )?;
+            text.push_str(told.as_str())?;
+        }
+        Ok(Some(text))
     }
 
     // Whether the line tells of an input, in commands that tell of their output in other words.
@@ -362,7 +400,7 @@ impl<'a, R: Files> Case<'a, R> {
         let name = places_of(self.request).unwrap_or("the file of places");
         match word_behind(self.rt, self.alloc, name, count) {
             Some(Word { shown, line }) => {
-                let mut text = Name { text: name }.to_string(self.alloc)?;
+                let mut text = input_name(name).to_string(self.alloc)?;
                 let word = Name {
                     text: shown.as_str(),
                 };
@@ -373,7 +411,7 @@ impl<'a, R: Files> Case<'a, R> {
                 Ok(Some(text))
             }
             None => {
-                let name = Name { text: name };
+                let name = input_name(name);
                 let told = format!(in self.alloc; "{name}: word {count} is no place: {PLACES}")?;
                 Ok(Some(told))
             }

@@ -1,5 +1,5 @@
 //! Why a file can't be had, and what it is.
-use crate::names::Name;
+use crate::names::{Name, STANDARD_INPUT, input_name};
 use request::Output;
 use session::{Device, Read, fill};
 use std::alloc::{AllocError, Global};
@@ -16,9 +16,6 @@ pub(crate) enum Kind {
     Text,
     Other,
 }
-
-/// The name of an input that is standard input.
-pub(crate) const STANDARD_INPUT: &str = "-";
 
 /// Where the system has standard input.
 const INPUT_DEVICE: &str = "/dev/stdin";
@@ -95,7 +92,7 @@ pub(crate) fn unread<R: Files>(
     alloc: Global,
     name: &str,
 ) -> Result<Option<String>, AllocError> {
-    let shown = Name { text: name };
+    let shown = input_name(name);
     match fs::metadata(rt, path_of(name)) {
         Ok(there) if there.is_dir() => return Ok(Some(format!(in alloc; "{shown} is a folder")?)),
         Ok(_) => {}
@@ -174,7 +171,13 @@ fn unwritten_file<R: Files>(rt: &R, alloc: Global, name: &str) -> Result<String,
                 return format!(in alloc; "{shown} can't be written: {error}");
             }
         }
-        _ => {}
+        Ok(_) => {
+            return format!(in alloc;
+                "{shown} can't be written: it is a pipe or a device, which takes no more or can't \
+                be opened"
+            );
+        }
+        Err(_) => {}
     }
     if let Some(error) = unmade(rt, alloc, name)? {
         return format!(in alloc; "{shown} can't be written: {error}");

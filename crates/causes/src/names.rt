@@ -21,6 +21,20 @@ impl fmt::Display for Name<'_> {
     }
 }
 
+/// The name of an input that is standard input.
+pub(crate) const STANDARD_INPUT: &str = "-";
+
+/// An input's name as it is told.
+pub(crate) fn input_name(name: &str) -> Name<'_> {
+    Name {
+        text: if name == STANDARD_INPUT {
+            "standard input"
+        } else {
+            name
+        },
+    }
+}
+
 /// The session that a command reads, if it reads just one.
 pub(crate) fn session_of<'a>(request: &Request<'a>) -> Option<&'a str> {
     match request {
