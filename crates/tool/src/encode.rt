@@ -88,7 +88,8 @@ fn send_read<'a, R: Read, W: WriteAt>(
         (where_empty (W.contents writer.old)) (W.contents writer.new))) }
     ensures fault { IfErr result (IsUnsentFrom fti.now (R.remaining reader.old)
         (R.sound reader.old) request.now.object.now) }
-    ensures writing { IfErr result (λ e. e ≡ Unwritten.Writing → W.failed writer.new ≡ true) }
+    ensures writing { IfErr result (λ e. e ≡ Unwritten.Writing
+        → W.failed writer.new ≡ true) }
 {
     match request.sending.order {
         Order::Blocks => send_blocks(alloc, reader, fti, request, writer),
@@ -115,7 +116,8 @@ fn send_blocks<'a, R: Read, W: Write>(
         (W.contents writer.old) (W.contents writer.new))) }
     ensures fault { IfErr result (IsUnsentFrom fti.now (R.remaining reader.old)
         (R.sound reader.old) request.now.object.now) }
-    ensures writing { IfErr result (λ e. e ≡ Unwritten.Writing → W.failed writer.new ≡ true) }
+    ensures writing { IfErr result (λ e. e ≡ Unwritten.Writing
+        → W.failed writer.new ≡ true) }
 {
     fti.is_valid();
     let Sending {
@@ -148,7 +150,8 @@ fn send_rounds<'a, R: Read, W: WriteAt>(
         (emptied (W.contents writer.old)) (W.contents writer.new))) }
     ensures fault { IfErr result (IsUnsentFrom fti.now (R.remaining reader.old)
         (R.sound reader.old) request.now.object.now) }
-    ensures writing { IfErr result (λ e. e ≡ Unwritten.Writing → W.failed writer.new ≡ true) }
+    ensures writing { IfErr result (λ e. e ≡ Unwritten.Writing
+        → W.failed writer.new ≡ true) }
 {
     fti.is_valid();
     let Sending {
@@ -181,7 +184,8 @@ fn send_whole<'a, R: Read, W: Write>(
         (W.contents writer.old) (W.contents writer.new))) }
     ensures fault { IfErr result (IsUnsentFrom fti.now (R.remaining reader.old)
         (R.sound reader.old) request.now.object.now) }
-    ensures writing { IfErr result (λ e. e ≡ Unwritten.Writing → W.failed writer.new ≡ true) }
+    ensures writing { IfErr result (λ e. e ≡ Unwritten.Writing
+        → W.failed writer.new ≡ true) }
 {
     let object = match read_rest(alloc, reader, request.object) {
         Ok(object) => object,
@@ -229,7 +233,8 @@ fn send_held<'a, W: Write>(
     ensures sent { IfOk result (λ count. WritesSession object.now fti.now sending.now count
         (W.contents writer.old) (W.contents writer.new)) }
     ensures fault { IfErr result (IsUnsent fti.now) }
-    ensures writing { IfErr result (λ e. e ≡ Unwritten.Writing → W.failed writer.new ≡ true) }
+    ensures writing { IfErr result (λ e. e ≡ Unwritten.Writing
+        → W.failed writer.new ≡ true) }
 {
     fti.is_valid();
     let Sending {
