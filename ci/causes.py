@@ -110,6 +110,10 @@ CASES = [
      ["full.out", "full.out.part"]),
     (["encode", "note.txt", "/dev/full", *OF_NOTE, *NUMBERS], 1, "fault O3",
      ["/dev/full", "a pipe or a device"]),
+    (["encode", "/proc/self/mem", "out", *OF_NOTE, *NUMBERS], 1, "fault file /proc/self/mem",
+     ["reading /proc/self/mem failed half way"]),
+    (["convert", "note.txt", "out", *OF_NOTE], 1, "fault Z1",
+     ["note.txt begins as text", "the order is IN OUT"]),
     (["encode", "empty.txt", "out", *OF_NOTE, *NUMBERS], 1, "fault F1", ["empty.txt is empty"]),
     (
         ["encode", "note.txt", "out", *OF_NOTE, "--symbol", "8", "--block", "8", "--max", "4"],

@@ -106,7 +106,8 @@ pub fn write(
     requires room { header_size (lent fti) + length symbol.now ≤ length out.old }
     ensures length { result ≡ header_size (lent fti.entry) + length symbol.now }
     ensures written { out.new
-        ≡ written (packet_from tsi toi (lent fti.entry) sbn esi symbol.now) ++ drop result out.old }
+        ≡ written (packet_from tsi toi (lent fti.entry) sbn esi symbol.now)
+        ++ drop result out.old }
     ensures packet { IsPacket (take result out.new)
         (packet_from tsi toi (lent fti.entry) sbn esi symbol.now) }
 {

@@ -42,7 +42,8 @@ fn check_bytes(
 ) -> Result<Verdict, CheckFault>
     ensures verdict { IfOk result (λ v. (left : List ℕ)
         × IsCheckedFrom identity (Some session.now) (Some left) object.now certificate.entry v) }
-    ensures fault { IfErr result (IsCheckFault (λ e. (left : List ℕ) × IsRefusedBehind identity e
+    ensures fault { IfErr result (IsCheckFault (λ e. (left : List ℕ)
+        × IsRefusedBehind identity e
         (Some session.now) (Some left) false object.now certificate.entry)) }
 {
     let mut frames = Pieces::new(session, usize::MAX);
@@ -118,7 +119,8 @@ pub extern "C" fn alcrs_check(
     ensures stays { result ≢ ok → (report.new ≡ report.old) × (blocks.new ≡ blocks.old)
         × (kill.new ≡ kill.old) }
     ensures silent { IsOneOf (ok ∷ no_memory ∷ []) result → fault.new ≡ fault.old }
-    ensures statuses { IsOneOf (ok ∷ no ∷ no_session ∷ no_certificate ∷ no_memory ∷ []) result }
+    ensures statuses { IsOneOf
+        (ok ∷ no ∷ no_session ∷ no_certificate ∷ no_memory ∷ []) result }
 {
     let identity = identity(tsi, toi_high, toi_low);
     match verdict_of(alloc, session, object, certificate, identity) {

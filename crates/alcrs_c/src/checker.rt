@@ -136,7 +136,8 @@ pub extern "C" fn alcrs_checker_open(
     ensures taken { handle.old.is_open ≡ true → result ≡ is_open }
     ensures free { handle.old.is_open ≡ false → result ≢ is_open }
     ensures silent { result ≢ no → result ≢ no_certificate → fault.new ≡ fault.old }
-    ensures statuses { IsOneOf (ok ∷ no ∷ no_certificate ∷ no_memory ∷ is_open ∷ []) result }
+    ensures statuses { IsOneOf
+        (ok ∷ no ∷ no_certificate ∷ no_memory ∷ is_open ∷ []) result }
 {
     if handle.is_open {
         return status::IS_OPEN;
@@ -205,7 +206,8 @@ pub extern "C" fn alcrs_checker_feed(
     ensures lacking { Lacks handle.old → length datagram.now ≤ most_bytes
         → (result ≡ no_memory) × Lacks handle.new }
     ensures stays { (who : IdentityValue) (object : List ℕ) (z : CertificateValue)
-        (ds : List (List ℕ)) → IsOpen handle.old who object z ds → result ≢ ok → result ≢ no
+        (ds : List (List ℕ)) → IsOpen handle.old who object z ds → result ≢ ok
+        → result ≢ no
         → IsOpen handle.new who object z ds }
     ensures closed { handle.old.is_open ≡ false → result ≡ not_open }
     ensures open { handle.old.is_open ≡ true → result ≢ not_open }

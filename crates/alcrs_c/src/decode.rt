@@ -144,7 +144,8 @@ pub extern "C" fn alcrs_decode(
     ensures silent { IsOneOf (ok ∷ no_room ∷ empty ∷ no_memory ∷ []) result
         → fault.new ≡ fault.old }
     ensures statuses { IsOneOf
-        (ok ∷ missing ∷ empty ∷ refused ∷ no_session ∷ no_room ∷ no_memory ∷ []) result }
+        (ok ∷ missing ∷ empty ∷ refused ∷ no_session ∷ no_room ∷ no_memory ∷ [])
+        result }
 {
     match answer_of(alloc, session, identity(tsi, toi_high, toi_low)) {
         Ok(Answer::Object(bytes)) => {

@@ -187,7 +187,8 @@ pub extern "C" fn alcrs_certify(
     ensures stays { result ≢ ok → certificate.new ≡ certificate.old }
     ensures sizeless { result ≢ ok → result ≢ no_room → size.new ≡ size.old }
     ensures silent { result ≢ no_fti → fault.new ≡ fault.old }
-    ensures statuses { IsOneOf (ok ∷ no_fti ∷ no_room ∷ no_memory ∷ out_of_range ∷ []) result }
+    ensures statuses { IsOneOf
+        (ok ∷ no_fti ∷ no_room ∷ no_memory ∷ out_of_range ∷ []) result }
 {
     let numbers = (symbol_length, block_length, max_symbols);
     match certified(alloc, object, numbers, identity(tsi, toi_high, toi_low)) {

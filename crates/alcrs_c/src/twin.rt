@@ -202,8 +202,9 @@ pub extern "C" fn alcrs_twin(
     ensures stays { result ≢ ok → twin.new ≡ twin.old }
     ensures sizeless { result ≢ ok → result ≢ no_room → size.new ≡ size.old }
     ensures silent { IsOneOf (none_short ∷ no_memory ∷ []) result → fault.new ≡ fault.old }
-    ensures statuses { IsOneOf (ok ∷ no ∷ no_session ∷ no_certificate ∷ no_room ∷ no_memory
-        ∷ none_short ∷ []) result }
+    ensures statuses { IsOneOf
+        (ok ∷ no ∷ no_session ∷ no_certificate ∷ no_room ∷ no_memory ∷ none_short ∷ [])
+        result }
 {
     let identity = identity(tsi, toi_high, toi_low);
     match twin_of(alloc, session, object, certificate, identity) {

@@ -4,7 +4,7 @@ ghost use Rattle.causes.specs.Sentences.{is_doubted, is_reception, tells_repeats
 
 use crate::files::{Kind, kind_of, unread, unwritten};
 use crate::names::{
-    Name, STANDARD_INPUT, certificate_of, identity_of, input_name, inputs_named, object_of,
+    Name, STANDARD_INPUT, certificate_of, identity_of, input_name, inputs_named, object_of, order_of,
     output_of, places_of, session_of,
 };
 use crate::places::{Word, word_behind};
@@ -134,8 +134,9 @@ impl<'a, R: Files> Case<'a, R> {
         certificate_of(self.request).unwrap_or("the certificate")
     }
 
-    // What stands for a key of a pattern: `S` the session, `O` the object, `C` the certificate, `T`
-    // and `I` the TSI and the TOI, a digit the number at that place.
+    // What stands for a key of a pattern: `S` the session, `O` the object, `C` the certificate, `A`
+    // the order of the command's files, `T` and `I` the TSI and the TOI, a digit the number at that
+    // place.
     fn value(&self, key: &str, numbers: &[u64]) -> Result<String, AllocError> {
         let name = match key {
             "S" => self.session(),
@@ -149,6 +150,7 @@ impl<'a, R: Files> Case<'a, R> {
     fn figure(&self, key: &str, numbers: &[u64]) -> Result<String, AllocError> {
         let (tsi, toi) = identity_of(self.request).unwrap_or((0, 0));
         match key {
+            "A" => order_of(self.request).to_string(self.alloc),
             "T" => tsi.to_string(self.alloc),
             "I" => toi.to_string(self.alloc),
             _ => {
@@ -233,7 +235,10 @@ impl<'a, R: Files> Case<'a, R> {
             "R1" | "R4" | "R5" | "R6" | "R7" => {
                 self.say(undecoded(self.word(1)), &[self.number(4)])
             }
-            "memory" => self.say("there is too little memory; no file was changed", &[]),
+            "memory" => self.say(
+                "there is too little memory; an output that is a file is what it was before",
+                &[],
+            ),
             _ => Ok(None),
         }
     }
@@ -267,6 +272,11 @@ impl<'a, R: Files> Case<'a, R> {
     // first carrier claims.
     fn no_output(&self, output: Output<'_>) -> Sentence {
         let mut text = unwritten(self.rt, self.alloc, output)?;
+        if self.may_be_of_input() {
+            return Ok(Some(format!(in self.alloc;
+                "an input can't be read to its end, or {text}"
+            )?));
+        }
         if !matches!(self.request, Request::Decode(_) | Request::Follow(_)) {
             return Ok(Some(text));
         }
@@ -280,12 +290,30 @@ impl<'a, R: Files> Case<'a, R> {
         Ok(Some(text))
     }
 
-    // Whether the line tells of an input, in commands that tell of their output in other words.
+    // Whether the line tells of an input, in commands that tell of their output in other words, or
+    // by another name.
     fn is_of_input(&self) -> bool {
+        let code = self.word(1);
         match self.request {
-            Request::Check(_) | Request::Twin(_) | Request::Decode(_) | Request::Follow(_) => {
-                self.word(1) == "S4" || self.word(1) == "Z4"
+            Request::Encode(_) | Request::Certify(_) | Request::Drop(_) if code == "file" => true,
+            Request::Check(request) if self.blames(request.object) => {
+                request.picture != Some(request.object)
             }
+            Request::Twin(request) if self.blames(request.object) => {
+                request.output.name != request.object
+            }
+            Request::Check(_) | Request::Twin(_) | Request::Decode(_) | Request::Follow(_) => {
+                code == "S4" || code == "Z4"
+            }
+            _ => false,
+        }
+    }
+
+    // Whether the line may as well be of an input: these commands tell both in the same words.
+    fn may_be_of_input(&self) -> bool {
+        match self.request {
+            Request::Drop(_) | Request::Salvage(_) | Request::Join(_) => self.word(1) == "S4",
+            Request::Convert(_) => self.word(1) == "Z4",
             _ => false,
         }
     }
@@ -294,6 +322,9 @@ impl<'a, R: Files> Case<'a, R> {
     fn broken_off(&self) -> &'static str {
         if self.word(1) == "Z4" {
             return "reading {C} failed half way";
+        }
+        if places_of(self.request).is_some_and(|name| self.blames(name)) {
+            return "reading the file of places failed half way";
         }
         match object_of(self.request) {
             Some(object) if self.blames(object) => "reading {O} failed half way",
@@ -537,12 +568,12 @@ fn stop(kind: Kind, fault: FrameFault) -> &'static str {
 fn no_certificate(code: &str, kind: Kind) -> &'static str {
     match (code, kind) {
         ("Z1", Kind::Text) => {
-            "{C} begins as text, and is no certificate: the order is SESSION OBJECT CERT"
+            "{C} begins as text, and is no certificate: the order is {A}"
         }
         ("Z1", Kind::Capture) => "{C} is a capture, and no certificate",
         ("Z1", _) => {
             "{C} is no certificate: one begins with RSC1 or RSC2, and alcrs certify makes it; the \
-            order is SESSION OBJECT CERT"
+            order is {A}"
         }
         ("Z2", _) => "{C}: the numbers in it are no FTI: the file is damaged",
         _ => {
@@ -592,7 +623,7 @@ fn reason_text(code: &str) -> Option<&'static str> {
         "twin" => { "no block of {S} is short: its datagrams give the object" }
         "N1" => {
             "{O} hasn't the length that {C} is for: one of the two is another object's, or their \
-            order is wrong (SESSION OBJECT CERT)"
+            order is wrong ({A})"
         }
         "N3" => {
             "{S} has no packet of TSI {T} and TOI {I}: alcrs show --summary {S} tells which it has"

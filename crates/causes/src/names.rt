@@ -70,6 +70,15 @@ pub(crate) fn certificate_of<'a>(request: &Request<'a>) -> Option<&'a str> {
     }
 }
 
+/// In which order it takes the files of which one is a certificate.
+pub(crate) fn order_of(request: &Request<'_>) -> &'static str {
+    match request {
+        Request::Convert(_) => "IN OUT",
+        Request::Twin(_) => "SESSION OBJECT CERT OUT",
+        _ => "SESSION OBJECT CERT",
+    }
+}
+
 /// The file of places that it reads, if it names one.
 pub(crate) fn places_of<'a>(request: &Request<'a>) -> Option<&'a str> {
     match request {

@@ -159,7 +159,8 @@ impl<'a> Checker<'a> {
     pub fn twin(&self, alloc: Global, block: u32) -> Result<Vec<u8>, AllocError>
         requires { IsFedShort self.now block }
         ensures { (who : IdentityValue) (object : List ℕ) (z : CertificateValue)
-            (ds : List (List ℕ)) → IsFed self.now who object z ds → IsShortIn who ds object z block
+            (ds : List (List ℕ)) → IsFed self.now who object z ds
+            → IsShortIn who ds object z block
             → IfOk result (λ other.
             IsTwinOfSession who z.fti block ds object other.items) }
     {

@@ -149,7 +149,8 @@ impl<'a> Walk<'a> {
         requires { (datagrams : List (List ℕ)) × HasWalked self.now datagrams }
         ensures report { (datagrams : List (List ℕ)) → AreDatagrams datagrams
             → HasWalked self.now datagrams
-            → IfOk result (IsReport self.now.tally.scope.identity datagrams self.now.symbols.fti) }
+            → IfOk result
+            (IsReport self.now.tally.scope.identity datagrams self.now.symbols.fti) }
         ensures certified { (datagrams : List (List ℕ)) → HasWalked self.now datagrams
             → OnOk result (AreEnoughCertified self.now.tally.scope.identity datagrams
             self.now.symbols) }

@@ -148,7 +148,8 @@ fn put_run(
         ≤ length symbols.now }
     requires room { group.count * (34 + t.now.fti.symbol_length) ≤ length run.old }
     ensures bound { result ≤ length run.old }
-    ensures size { offset_of t.now.fti t.now.every place + result ≡ offset_of t.now.fti t.now.every
+    ensures size { offset_of t.now.fti t.now.every place + result
+        ≡ offset_of t.now.fti t.now.every
         (place + length (run_of_round t.now.fti esi group.first group.count)) }
     ensures sent { (object : List ℕ)
         → AreSymbolsOf object t.now.fti group.first group.count symbols.now

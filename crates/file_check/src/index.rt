@@ -43,7 +43,8 @@ impl Index {
         requires fits { extent.offset + extent.length < 2 ^ 64 }
         ensures scope { self.new.tally.scope ≡ self.old.tally.scope }
         ensures taken { (f : FtiValue) (ds : List (List ℕ))
-            → AreTallied nothing f (tallied_of self.old.tally) ds → IfOk result (λ o. o ≡ None
+            → AreTallied nothing f (tallied_of self.old.tally) ds
+            → IfOk result (λ o. o ≡ None
             → AreTallied nothing f (tallied_of self.new.tally) (ds ++ datagram.now ∷ [])) }
         ensures extents { IfOk result (λ o. o ≡ None
             → extents_of self.new.extents ≡ extents_of self.old.extents ++ extent ∷ []) }

@@ -46,7 +46,8 @@ fn wrong_column<S: ReadAt>(
     requires known { (f : FtiValue) × (scope.now.fti ≡ Some f) × (made.block < block_count f)
         × (length made.symbols.now ≡ encoding_count f made.block * f.symbol_length) }
     ensures says { (x : List ℕ) (z : CertificateValue) (p : PacketValue)
-        → S.content session.old.file.now ≡ Some x → IsCertificate z → scope.now.fti ≡ Some z.fti
+        → S.content session.old.file.now ≡ Some x → IsCertificate z
+        → scope.now.fti ≡ Some z.fti
         → AreSymbols z made.entry.block 0 (encoding_count z.fti made.entry.block)
         made.entry.symbols.now
         → extent.offset + extent.length ≤ length x
@@ -117,7 +118,8 @@ pub(crate) fn first_wrong<S: ReadAt>(
         → AreSymbols z made.entry.block 0 (encoding_count z.fti made.entry.block)
         made.entry.symbols.now → IfSome before (IsWrong z index.now.tally.scope ds)
         → IfOk result (λ w. IfSome w (IsWrong z index.now.tally.scope ds)) }
-    ensures earlier { (x : List ℕ) (f : FtiValue) (ds : List (List ℕ)) → IsIndexOf x f index.now ds
+    ensures earlier { (x : List ℕ) (f : FtiValue) (ds : List (List ℕ))
+        → IsIndexOf x f index.now ds
         → IfOk result (λ w. limit_of w (length ds) ≤ limit_of before (length ds)) }
     ensures lost { OnErr result ((x : List ℕ) (f : FtiValue) (ds : List (List ℕ))
         → S.content session.old.file.now ≡ Some x → IsIndexOf x f index.now ds

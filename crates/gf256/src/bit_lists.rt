@@ -10,7 +10,8 @@ use std::simd::prelude::*;
 #[inline(always)]
 fn coefficients_from(coefficients: &[u8], at: usize) -> u8x16
     requires { at + 16 < 2 ^ 64 }
-    ensures { (i : ℕ) → i < 16 → slice_index result i ≡ slice_index coefficients.now (at + i) }
+    ensures { (i : ℕ) → i < 16 → slice_index result i
+        ≡ slice_index coefficients.now (at + i) }
 {
     if at + 16 <= coefficients.len() {
         return u8x16::from_slice(&coefficients[at..]);
@@ -88,7 +89,8 @@ fn put_list(lists: &mut [u8], at: usize, v: u8x16)
     ensures within { (q : ℕ) → q < 16 → slice_index lists.new (at + q) ≡ slice_index v q }
     ensures below { (p : ℕ) → p < at → slice_index lists.new p ≡ slice_index lists.old p }
     ensures small { (limit : ℕ) → AreSmall lists.old limit
-        → ((q : ℕ) → q < 16 → slice_index v q + 8 ≤ 8 * limit) → AreSmall lists.new limit }
+        → ((q : ℕ) → q < 16 → slice_index v q + 8 ≤ 8 * limit)
+        → AreSmall lists.new limit }
 {
     v.copy_to_slice(&mut lists[at..]);
 }

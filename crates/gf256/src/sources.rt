@@ -52,7 +52,8 @@ impl<'a> Sources<'a> {
         requires { first + count ≤ self.now.count }
         ensures count { result.count ≡ count }
         ensures width { result.width ≡ self.now.width }
-        ensures bytes { (i j : ℕ) → source_byte result i j ≡ source_byte self.now (first + i) j }
+        ensures bytes { (i j : ℕ) → source_byte result i j
+            ≡ source_byte self.now (first + i) j }
     {
         let from = (first * self.stride).min(self.bytes.len());
         Sources {

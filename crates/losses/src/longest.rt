@@ -40,7 +40,8 @@ fn put(runs: &mut [Option<Run>], start: usize, run: Run)
 // At the place of each member the narrowest window from there on whose loss leaves the group short.
 fn mark(runs: &mut [Option<Run>], block: usize, members: &[Member], need: usize)
     requires placed { ArePlaced members.now }
-    requires within { (i : ℕ) → i < length members.now → place_at members.now i < length runs.old }
+    requires within { (i : ℕ) → i < length members.now
+        → place_at members.now i < length runs.old }
     requires some { 0 < need }
     requires enough { need ≤ different_outside members.now 0 0 }
     ensures { AreMarked members.now need block (length members.now) runs.old runs.new }
@@ -63,7 +64,8 @@ fn mark(runs: &mut [Option<Run>], block: usize, members: &[Member], need: usize)
 
 // A run from a place on ends where one from the place behind it ends, or earlier.
 fn spread(runs: &mut [Option<Run>])
-    requires { (s : ℕ) (run : Run) → run_at runs.old s ≡ Some run → s + run.length < 2 ^ 64 }
+    requires { (s : ℕ) (run : Run) → run_at runs.old s ≡ Some run
+        → s + run.length < 2 ^ 64 }
     ensures { AreSpread 0 runs.old runs.new }
 {
     // From the end down, so that the run behind is the shortest already.

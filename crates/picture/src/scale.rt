@@ -21,7 +21,8 @@ impl Scale {
         ensures value { result ≡ scaled self.start self.length self.count place }
         ensures from { self.start ≤ result }
         ensures within { result ≤ self.start + self.length }
-        ensures end { 0 < self.count → self.count ≤ place → result ≡ self.start + self.length }
+        ensures end { 0 < self.count → self.count ≤ place
+            → result ≡ self.start + self.length }
         ensures rises { (before : ℕ) → before ≤ place
             → scaled self.start self.length self.count before ≤ result }
     {

@@ -218,17 +218,20 @@ impl Receiver {
             → IfOk result
             (λ p. Tells p self.old.receiving.identity (with_datagram ds datagram.now)) }
         ensures fault { (ds : List (List ℕ)) → Stands self.old ds
-            → IfErr result (IsFaultOf self.old.receiving.identity (with_datagram ds datagram.now)) }
+            → IfErr result (IsFaultOf self.old.receiving.identity
+            (with_datagram ds datagram.now)) }
         ensures memory { (ds : List (List ℕ)) → Stands self.old ds
             → result ≡ Err FeedFault.NoMemory
             → HasNoFaultBefore self.old.receiving.identity (with_datagram ds datagram.now) }
         ensures sound { (ds : List (List ℕ)) → Stands self.old ds
-            → OnOk result (HasNoFault self.old.receiving.identity (with_datagram ds datagram.now)) }
+            → OnOk result (HasNoFault self.old.receiving.identity
+            (with_datagram ds datagram.now)) }
         ensures full { (ds : List (List ℕ)) → Stands self.old ds
             → (result ≡ Err FeedFault.Full) ↔ (length ds ≡ usize.MAX) }
         ensures early { (ds : List (List ℕ)) → Stands self.old ds
             → (result ≡ Err FeedFault.Early)
-            ↔ ((length ds ≢ usize.MAX) × ComesEarly self.old.receiving.identity ds datagram.now) }
+            ↔ ((length ds ≢ usize.MAX)
+            × ComesEarly self.old.receiving.identity ds datagram.now) }
     {
         match self.receiving.feed(alloc, &mut self.blocks, datagram) {
             Ok(progress) => Ok(progress),

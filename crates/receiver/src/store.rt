@@ -26,7 +26,8 @@ impl Store {
     pub(crate) fn new(alloc: Global, fti: Fti) -> Result<Store, AllocError>
         ensures fti { IfOk result (λ s. s.fti ≡ fti) }
         ensures sound { IfOk result IsSound }
-        ensures holds { (bytes : ℕ → List ℕ) → IfOk result (λ s. Holds s bytes (λ b j. None)) }
+        ensures holds { (bytes : ℕ → List ℕ)
+            → IfOk result (λ s. Holds s bytes (λ b j. None)) }
     {
         let codes = BlockCodes::new(alloc, Kind::Generator, &fti)?;
         Ok(Store {

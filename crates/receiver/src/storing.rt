@@ -34,7 +34,8 @@ impl Receiver {
     /// How many symbols of a block are kept: as many as came with different ESIs, and no more than
     /// the block has source symbols. None where no FTI is known.
     pub fn stored(&self, block: u32) -> usize
-        ensures { (ds : List (List ℕ)) (rs : List Reading) → Stands self.now ds → ReadAll ds rs
+        ensures { (ds : List (List ℕ)) (rs : List Reading) → Stands self.now ds
+            → ReadAll ds rs
             → result ≡ stored_count (reception_of self.now.receiving.identity rs) block }
     {
         let Some(store) = &self.receiving.store else {

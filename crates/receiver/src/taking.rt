@@ -116,7 +116,8 @@ impl Receiving {
             → IfSome result (λ a. IsAnswer self.now.identity ds (answer_value a)) }
         ensures lack { IfSome result IsLack }
         ensures none { (told : FtiValue → Option (ℕ → List ℕ)) (ds : List (List ℕ))
-            → StandsWith self.now told ds → IsNone result → LeaveNoneShort self.now.identity ds }
+            → StandsWith self.now told ds → IsNone result
+            → LeaveNoneShort self.now.identity ds }
         ensures store { IsNone result → IsSome self.now.store }
     {
         let Some(store) = &self.store else {

@@ -155,7 +155,8 @@ fn output<'a>(matches: &ArgMatches<'a>) -> Output<'a>
 fn line<'a>(matches: &ArgMatches<'a>, request: Request<'a>) -> CommandLine<'a>
     requires { IsFlagGiven (codes "quiet") (rows_in matches.now) }
     ensures request { result.request ≡ request.entry }
-    ensures flag { first_of (codes "quiet") (rows_in matches.now) ≡ Some (flag_word result.quiet) }
+    ensures flag { first_of (codes "quiet") (rows_in matches.now)
+        ≡ Some (flag_word result.quiet) }
 {
     CommandLine {
         request,

@@ -87,7 +87,8 @@ fn write_read<'a, R: Read, W: Write>(
         (W.contents writer.old) (W.contents writer.new))) }
     ensures fault { IfErr result (IsUncertifiedFrom fti.now (R.remaining reader.old)
         (R.sound reader.old) request.now.object.now) }
-    ensures writing { IfErr result (λ e. e ≡ Unwritten.Writing → W.failed writer.new ≡ true) }
+    ensures writing { IfErr result (λ e. e ≡ Unwritten.Writing
+        → W.failed writer.new ≡ true) }
 {
     match certify_from(alloc, reader, fti, request.identity, writer) {
         Ok(()) => Ok(u64::from(fti.block_count())),
@@ -133,7 +134,8 @@ fn write_held<'a, W: Write>(
     ensures written { IfOk result (λ count. WritesCertificate object.now fti.now identity count
         (W.contents writer.old) (W.contents writer.new)) }
     ensures fault { IfErr result IsUncertified }
-    ensures writing { IfErr result (λ e. e ≡ Unwritten.Writing → W.failed writer.new ≡ true) }
+    ensures writing { IfErr result (λ e. e ≡ Unwritten.Writing
+        → W.failed writer.new ≡ true) }
 {
     match certify_to(alloc, object, fti, identity, writer) {
         Ok(()) => Ok(u64::from(fti.block_count())),

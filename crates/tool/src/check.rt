@@ -152,7 +152,8 @@ fn verdict_in<'a, H: Host>(
     requires certificate { GivesFile (H.world host.now) request.now.certificate.now
         (H.Input.content files.now.certificate.now)
         (H.Input.reliable files.now.certificate.now) }
-    ensures verdict { IfOk result (λ o. IfSome o (λ v. OfFiles (H.world host.now).files request.now
+    ensures verdict { IfOk result (λ o. IfSome o (λ v. OfFiles
+        (H.world host.now).files request.now
         (λ x o text. IsVerdictIn request.now.identity x o text v))) }
     ensures some { IfOk result (λ o. IfSome o (IsVerdictOnSome request.now.identity)) }
     ensures summed { IfOk result (λ o. IfSome o (λ v. OnYes v CanBeSummed)) }

@@ -47,7 +47,8 @@ fn convert_file<'a, R: Read, W: Write>(
         (W.contents writer.old) (W.contents writer.new)) }
     ensures fault { IfErr result (IsUnconverted identity (R.remaining reader.old)
         (R.sound reader.old)) }
-    ensures writing { IfErr result (λ e. e ≡ Unwritten.Writing → W.failed writer.new ≡ true) }
+    ensures writing { IfErr result (λ e. e ≡ Unwritten.Writing
+        → W.failed writer.new ≡ true) }
 {
     match cert::convert(alloc, reader, writer, identity) {
         Ok(fti) => Ok(u64::from(fti.block_count())),

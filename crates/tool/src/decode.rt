@@ -169,7 +169,8 @@ fn write_object_from<'a, F: ReadAt, W: WriteAt>(
     ensures none { IfOk result (λ o. IfSome o IsNoObject) }
     ensures fault { (world : World) → GivesFile world session.now (F.content input.now)
         (F.reliable input.now) → IfErr result (IsWriteBrokenFrom world session.now) }
-    ensures writing { IfErr result (λ e. e ≡ Unwritten.Writing → W.failed writer.new ≡ true) }
+    ensures writing { IfErr result (λ e. e ≡ Unwritten.Writing
+        → W.failed writer.new ≡ true) }
 {
     if !writer.is_seekable() {
         match symbols.refutation(alloc, input) {
@@ -228,7 +229,8 @@ fn write_object<'a, W: Write>(
         → AreSymbolsOf who ds symbols.now
         → IfOk result (IsWrittenOf who ds (W.contents writer.old) (W.contents writer.new)) }
     ensures fault { IfErr result IsWriteBroken }
-    ensures writing { IfErr result (λ e. e ≡ Unwritten.Writing → W.failed writer.new ≡ true) }
+    ensures writing { IfErr result (λ e. e ≡ Unwritten.Writing
+        → W.failed writer.new ≡ true) }
 {
     match symbols.write(alloc, writer) {
         Ok(length) => Ok(length),
