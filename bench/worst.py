@@ -1,8 +1,8 @@
 #!/usr/bin/env python3
-"""Times the program's commands on inputs that are made to take long: MB/s of all input files, and
-the seconds.
+"""Times some of the program's commands on inputs that are made to take long: MB/s of all input
+files, the seconds, and the memory that was held.
 
-Each row is one input in each command that reads it, once, on one core. Sessions that no encoder
+Each row is one input in some commands that read it, once, on one core. Sessions that no encoder
 sends are made here, the others by the program. The table goes to standard output; the whole takes
 some minutes, and the greatest inputs are of 78 MB. Inputs named on the command line are the only
 ones then.

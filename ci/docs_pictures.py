@@ -4,8 +4,8 @@ after losses.
 
 `ci/docs_pictures.py` draws the sample session, and compares it with docs/picture.svg.
 `ci/docs_pictures.py --write` makes all three, which takes a gigabyte below the folder for temporary
-files, and tells how long the check of the 200 MB took with and without its picture. After `./alcrs`
-has built the program.
+files, and tells how long the checks of both large sessions took with and without their pictures.
+After `./alcrs` has built the program.
 """
 import os
 import random

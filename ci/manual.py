@@ -38,7 +38,7 @@ FILES = [
     ("CERT", "A certificate has the TSI and TOI that it is for, the numbers by which the object "
      "was cut, and for each block the coefficients of its polynomials."),
     ("OUT", "An output is whole, or what it was before: it is written to `OUT.part`, which is "
-     "renamed at the end."),
+     "renamed at the end. A pipe, a device or a link to no file is written straight."),
 ]
 FILES_POINTER = (
     "docs/FORMATS.md of the source has the layout of each file, and every line that is printed."
