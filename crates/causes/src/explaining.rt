@@ -4,8 +4,8 @@ ghost use Rattle.causes.specs.Sentences.{is_doubted, is_reception, tells_repeats
 
 use crate::files::{Kind, kind_of, unread, unwritten};
 use crate::names::{
-    Name, STANDARD_INPUT, certificate_of, identity_of, input_name, inputs_named, object_of, order_of,
-    output_of, places_of, session_of,
+    Name, STANDARD_INPUT, certificate_of, identity_of, input_name, inputs_named, object_of,
+    order_of, output_of, places_of, session_of,
 };
 use crate::places::{Word, word_behind};
 use crate::sessions::{Break, Carrier, carrier_from, walk};
@@ -567,9 +567,7 @@ fn stop(kind: Kind, fault: FrameFault) -> &'static str {
 
 fn no_certificate(code: &str, kind: Kind) -> &'static str {
     match (code, kind) {
-        ("Z1", Kind::Text) => {
-            "{C} begins as text, and is no certificate: the order is {A}"
-        }
+        ("Z1", Kind::Text) => { "{C} begins as text, and is no certificate: the order is {A}" }
         ("Z1", Kind::Capture) => "{C} is a capture, and no certificate",
         ("Z1", _) => {
             "{C} is no certificate: one begins with RSC1 or RSC2, and alcrs certify makes it; the \
