@@ -154,6 +154,32 @@ def counted():
         yield "docs/EMBEDDING.md", rf"`{name}` (\d+)", [int(size)]
 
 
+def tens(numbers):
+    """The least and the greatest of them, each to the next ten."""
+    return [10 * round(it / 10) for it in (min(numbers), max(numbers))]
+
+
+def measured():
+    """What was measured, as docs/BENCHMARKS.md has it, where other documents tell it."""
+    text = text_of("docs/BENCHMARKS.md")
+    speeds = collections.defaultdict(list)
+    for table in re.findall(r"^\| order of .*\n\|[-|]*\n(?:\|.*\n)*", text, re.M):
+        names, _, *rows = ([it.strip() for it in row.strip("|").split("|")]
+                           for row in table.splitlines())
+        for row in rows:
+            for name, cell in zip(names[1:], row[1:]):
+                speeds[name.strip("`")].append(int(cell.split()[0]))
+    received = speeds["check"] + speeds["decode"] + speeds["nothing lost"]
+    sent = speeds["encode"] + speeds["certify"] + speeds["drop"]
+    for name in ("README.md", "docs/OPERATING.md"):
+        yield name, r"process (\d+) to (\d+) MB of object a second", tens(received)
+        yield name, r"`drop` (\d+) to (\d+), with symbols", tens(sent)
+    builds = [float(it) for it in re.findall(r"\*\*([\d.]+) minutes\*\*", text)]
+    yield "README.md", r"takes (\d+) to (\d+) minutes on four cores", [
+        round(min(builds)), round(max(builds))
+    ]
+
+
 def blocks_of(symbols, block, most):
     """How many source and encoding symbols each block has (RFC 5052, section 9.1; RFC 5510)."""
     count = -(-symbols // block)
@@ -288,7 +314,7 @@ def crates_of_architecture():
 
 def main():
     wrong, count = [*wrong_losses(), *wrong_texts(), *wrong_commands(), *wrong_calls()], 0
-    for name, pattern, wanted in [*counted(), *constants()]:
+    for name, pattern, wanted in [*counted(), *constants(), *measured()]:
         # A line of a document ends anywhere.
         found = re.findall(pattern.replace(" ", r"\s+"), text_of(name))
         count += 1
