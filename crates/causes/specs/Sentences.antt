@@ -1,7 +1,19 @@
--- Behind which requests there is a sentence that no line asks for.
-use Rattle.std.specs.Prelude.{ℕ, Bool, true, false, nat_lt}
+-- Behind which lines and requests there is a sentence.
+use Rattle.std.specs.Prelude.{◌||◌, ℕ, Bool, true, false, List, nat_eq, nat_lt, codes}
+use Rattle.std.specs.List.{starts_with}
 use Rattle.request.specs.declared.requests.Request.{Request}
 use Rattle.request.specs.declared.requests.Request.TheVariants.{Check, Follow}
+
+-- the line says that too little came
+abbrev pub is_lack : List ℕ → Bool
+is_lack line =
+    starts_with nat_eq line (codes "missing ") || starts_with nat_eq line (codes "empty")
+
+-- so it does, or it is a fault, a no or what was kept of a session
+abbrev pub may_be_explained : List ℕ → Bool
+may_be_explained line =
+    is_lack line || starts_with nat_eq line (codes "fault ")
+    || starts_with nat_eq line (codes "no ") || starts_with nat_eq line (codes "kept ")
 
 -- what comes is lost where it can't be kept
 abbrev pub is_reception : Request → Bool

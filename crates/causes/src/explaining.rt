@@ -1,6 +1,8 @@
 //! The sentence for a line.
-ghost use Rattle.std.specs.Prelude.{◌≡◌, IfOk, is_some, true};
-ghost use Rattle.causes.specs.Sentences.{is_doubted, is_reception, tells_repeats};
+ghost use Rattle.std.specs.Prelude.{◌≡◌, IfOk, None, false, is_some, nat_eq, true};
+ghost use Rattle.std.specs.List.{starts_with};
+ghost use Rattle.causes.specs.Sentences.{is_doubted, is_lack, is_reception, may_be_explained};
+ghost use Rattle.causes.specs.Sentences.{tells_repeats};
 
 use crate::files::{Kind, kind_of, unread, unwritten};
 use crate::names::{
@@ -26,27 +28,50 @@ struct Case<'a, R> {
     line: &'a str,
 }
 
-/// What the last line of a command means, and what to do. `None` where the line says it all.
+/// What the last line of a command means, and what to do. `None` where the line says it all. Of a
+/// lack there always is a sentence, and of what is neither a fault, a no, a count nor a lack there
+/// is none.
 pub fn explain<R: Files>(
     rt: &R,
     alloc: Global,
     request: &Request<'_>,
     line: &str,
-) -> Result<Option<String>, AllocError> {
+) -> Result<Option<String>, AllocError>
+    ensures lack { is_lack line.now ≡ true → IfOk result (λ said. is_some said ≡ true) }
+    ensures other { may_be_explained line.now ≡ false → IfOk result (λ said. said ≡ None) }
+{
     let case = Case {
         rt,
         alloc,
         request,
         line,
     };
-    match case.word(0) {
-        "fault" => case.fault(),
-        "no" => case.no_and_no_picture(),
-        "kept" => case.kept(),
-        "missing" => case.missing(),
-        "empty" => case.empty(),
-        _ => Ok(None),
+    if says_lack(line) {
+        return case.lack();
     }
+    if line.starts_with("fault ") {
+        return case.fault();
+    }
+    if line.starts_with("no ") {
+        return case.no_and_no_picture();
+    }
+    if line.starts_with("kept ") {
+        return case.kept();
+    }
+    Ok(None)
+}
+
+// Whether a line says that too little came.
+fn says_lack(line: &str) -> bool
+    ensures { result ≡ is_lack line.now }
+{
+    begins(line, "missing ") || begins(line, "empty")
+}
+
+fn begins(line: &str, words: &str) -> bool
+    ensures { result ≡ starts_with nat_eq line.now words.now }
+{
+    line.starts_with(words)
 }
 
 /// What to think of an object that was completed although datagrams contradicted it, so many of
@@ -188,8 +213,21 @@ impl<'a, R: Files> Case<'a, R> {
         Ok(Some(text))
     }
 
+    // What lacks: symbols of a block, or all that is known of the object.
+    fn lack(&self) -> Sentence
+        ensures { IfOk result (λ said. is_some said ≡ true) }
+    {
+        if self.word(0) == "missing" {
+            self.missing()
+        } else {
+            self.empty()
+        }
+    }
+
     // What a block lacks. Who follows may have refused symbols of it, which the lines before tell.
-    fn missing(&self) -> Sentence {
+    fn missing(&self) -> Sentence
+        ensures { IfOk result (λ said. is_some said ≡ true) }
+    {
         let numbers = [self.number(2), self.number(4), self.number(6)];
         if let Request::Follow(_) = self.request {
             return self.say(
@@ -207,7 +245,9 @@ impl<'a, R: Files> Case<'a, R> {
     }
 
     // Why nothing is known of the object. A carrier that is there was refused.
-    fn empty(&self) -> Sentence {
+    fn empty(&self) -> Sentence
+        ensures { IfOk result (λ said. is_some said ≡ true) }
+    {
         match self.carrier(0) {
             Some(Carrier { place, .. }) => self.say(
                 "{S}: datagram {0} carries the FTI, and was refused, as its line says why; no \

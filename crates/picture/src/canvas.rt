@@ -1,4 +1,6 @@
 //! The text of a sheet.
+ghost use Rattle.std.specs.Prelude.{◌≡◌, ◌++◌, IfOk, true, is_ok, string_bytes};
+
 use itoa::{Buffer, Integer};
 use std::alloc::{AllocError, Global};
 
@@ -34,7 +36,10 @@ impl Canvas {
     }
 
     /// The whole text.
-    pub(crate) fn finish(self) -> Result<String, AllocError> {
+    pub(crate) fn finish(self) -> Result<String, AllocError>
+        ensures { IfOk result (λ text. (is_ok self.outcome ≡ true)
+            × (text ≡ self.text)) }
+    {
         match self.outcome {
             Ok(()) => Ok(self.text),
             Err(fault) => Err(fault),
@@ -42,7 +47,10 @@ impl Canvas {
     }
 
     /// Puts a text that needs no escapes last.
-    pub(crate) fn put(&mut self, text: &str) {
+    pub(crate) fn put(&mut self, text: &str)
+        ensures { is_ok self.new.outcome ≡ true
+            → string_bytes self.new.text ≡ string_bytes self.old.text ++ text.now }
+    {
         if self.outcome.is_ok() {
             self.outcome = self.text.push_str(text);
         }

@@ -1,4 +1,7 @@
 //! The sheet.
+ghost use Rattle.std.specs.Prelude.{IfOk};
+ghost use Rattle.picture.specs.Sheets.{IsWhole};
+
 use crate::bursts::{lengths_of, put_bursts, shortest_of};
 use crate::canvas::Canvas;
 use crate::heading::{put_description, put_head, put_heading};
@@ -37,8 +40,10 @@ pub struct Sheet<'a> {
     pub runs: &'a [Option<Run>],
 }
 
-/// The text of an SVG that shows the sheet. Want of memory is the only error.
-pub fn draw(alloc: Global, sheet: &Sheet<'_>) -> Result<String, AllocError> {
+/// The text of an SVG that shows the sheet, to its end. Want of memory is the only error.
+pub fn draw(alloc: Global, sheet: &Sheet<'_>) -> Result<String, AllocError>
+    ensures { IfOk result IsWhole }
+{
     let spares = spares_of(alloc, sheet.blocks)?;
     let lengths = lengths_of(alloc, sheet.runs)?;
     paint(alloc, sheet, spares.as_slice(), lengths.as_slice())
@@ -50,7 +55,9 @@ fn paint(
     sheet: &Sheet<'_>,
     spares: &[usize],
     lengths: &[usize],
-) -> Result<String, AllocError> {
+) -> Result<String, AllocError>
+    ensures { IfOk result IsWhole }
+{
     let mut canvas = Canvas::new(alloc);
     put_head(&mut canvas);
     put_description(
