@@ -1,4 +1,4 @@
--- Values added to a block's first column, one source symbol after the other.
+-- Values added to the first column of symbols of t bytes each, of which s stand before them.
 use Rattle.std.proofs.Common.{◌≡◌, ◌<◌, ◌≤◌, ◌+◌, ◌*◌, ◌-◌, ◌/◌, ◌%◌, ℕ, Bool, true, false, ◌&&◌, suc, cond, List, [], ◌∷◌, ◌++◌, map, length, get_or, set, get_or-set_same, get_or-set_other, refl, sym, ap, ◌∙◌, arith, leb-true, ltb-true}
 use Rattle.std.specs.Prelude.{◌==◌, nat_le, nat_lt, filter}
 use Rattle.std.proofs.lemmas.Bool.{eqb-true, eqb-false, eq-eqb, le-leb, lt-ltb, le-ltb}
@@ -8,68 +8,67 @@ use Rattle.std.proofs.lemmas.List.{append-nil, map-append}
 use Rattle.std.proofs.lemmas.List.Elements.{filter-append}
 use Rattle.gf256.specs.Arithmetic.{sum_of, point}
 use Rattle.lists.specs.Below.{below}
-use Rattle.partition.specs.Fti.{Fti, start_of}
 use Rattle.lists.proofs.Lists.{both}
 use Rattle.cert.specs.TwinBytes.{is_first_of}
 
--- what an object is after values were added at n source symbols
-abbrev pub added : Fti → ℕ → ℕ → (ℕ → ℕ) → List ℕ → ℕ → ℕ
-added f b n v object x =
-    cond (is_first_of f b n x) (sum_of (get_or object x 0) (v (x / f.symbol_length - start_of f b))) (get_or object x 0)
+-- what bytes are after values were added at n of these symbols
+abbrev pub added : ℕ → ℕ → ℕ → (ℕ → ℕ) → List ℕ → ℕ → ℕ
+added t s n v object x =
+    cond (is_first_of t s n x) (sum_of (get_or object x 0) (v (x / t - s))) (get_or object x 0)
 
-module _ (f : Fti) (some : 0 < f.symbol_length) (b : ℕ) where
-  none_yet : (x : ℕ) → is_first_of f b 0 x ≡ false
+module _ (t : ℕ) (some : 0 < t) (s : ℕ) where
+  none_yet : (x : ℕ) → is_first_of t s 0 x ≡ false
   none_yet x =
-      elim (is_first_of f b 0 x) as (λ v. is_first_of f b 0 x ≡ v → v ≡ false) [
+      elim (is_first_of t s 0 x) as (λ v. is_first_of t s 0 x ≡ v → v ≡ false) [
         | false ↦ λ e. refl
         | true ↦ λ e.
-            (let w : ((x % f.symbol_length == 0) ≡ true) × ((nat_le (start_of f b) (x / f.symbol_length) && nat_lt (x / f.symbol_length) (start_of f b + 0)) ≡ true) = both _ _ e in
-            let u : (nat_le (start_of f b) (x / f.symbol_length) ≡ true) × (nat_lt (x / f.symbol_length) (start_of f b + 0) ≡ true) = both _ _ w.1 in
-            let low : start_of f b ≤ x / f.symbol_length = leb-true _ _ u.0 in
-            let high : x / f.symbol_length < start_of f b + 0 = ltb-true _ _ u.1 in
+            (let w : ((x % t == 0) ≡ true) × ((nat_le s (x / t) && nat_lt (x / t) (s + 0)) ≡ true) = both _ _ e in
+            let u : (nat_le s (x / t) ≡ true) × (nat_lt (x / t) (s + 0) ≡ true) = both _ _ w.1 in
+            let low : s ≤ x / t = leb-true _ _ u.0 in
+            let high : x / t < s + 0 = ltb-true _ _ u.1 in
             absurd (omega (arith, low, high)))
       ] refl
 
-  pub added_none : (v : ℕ → ℕ) (object : List ℕ) (x : ℕ) → get_or object x 0 ≡ added f b 0 v object x
+  pub added_none : (v : ℕ → ℕ) (object : List ℕ) (x : ℕ) → get_or object x 0 ≡ added t s 0 v object x
   added_none v object x = rw (none_yet x) refl
 
   module _ (i : ℕ) where
-    row : (start_of f b + i) * f.symbol_length / f.symbol_length ≡ start_of f b + i
-    row = ap (λ (y : ℕ). y / f.symbol_length) (let e : (start_of f b + i) * f.symbol_length ≡ (start_of f b + i) * f.symbol_length + 0 = omega arith in e) ∙ div-mul-add (start_of f b + i) f.symbol_length 0 some
+    row : (s + i) * t / t ≡ s + i
+    row = ap (λ (y : ℕ). y / t) (let e : (s + i) * t ≡ (s + i) * t + 0 = omega arith in e) ∙ div-mul-add (s + i) t 0 some
 
-    column : (start_of f b + i) * f.symbol_length % f.symbol_length ≡ 0
-    column = ap (λ (y : ℕ). y % f.symbol_length) (let e : (start_of f b + i) * f.symbol_length ≡ (start_of f b + i) * f.symbol_length + 0 = omega arith in e) ∙ mod-mul-add (start_of f b + i) f.symbol_length 0 some
+    column : (s + i) * t % t ≡ 0
+    column = ap (λ (y : ℕ). y % t) (let e : (s + i) * t ≡ (s + i) * t + 0 = omega arith in e) ∙ mod-mul-add (s + i) t 0 some
 
-    here_next : is_first_of f b (i + 1) ((start_of f b + i) * f.symbol_length) ≡ true
+    here_next : is_first_of t s (i + 1) ((s + i) * t) ≡ true
     here_next =
-        let x : ((start_of f b + i) * f.symbol_length % f.symbol_length == 0) ≡ true = eq-eqb _ _ column in
-        let y : nat_le (start_of f b) ((start_of f b + i) * f.symbol_length / f.symbol_length) ≡ true = le-leb _ _ (omega (arith, row)) in
-        let z : nat_lt ((start_of f b + i) * f.symbol_length / f.symbol_length) (start_of f b + (i + 1)) ≡ true = lt-ltb _ _ (omega (arith, row)) in
+        let x : ((s + i) * t % t == 0) ≡ true = eq-eqb _ _ column in
+        let y : nat_le s ((s + i) * t / t) ≡ true = le-leb _ _ (omega (arith, row)) in
+        let z : nat_lt ((s + i) * t / t) (s + (i + 1)) ≡ true = lt-ltb _ _ (omega (arith, row)) in
         rw (x, y, z) refl
 
-    here_yet : is_first_of f b i ((start_of f b + i) * f.symbol_length) ≡ false
+    here_yet : is_first_of t s i ((s + i) * t) ≡ false
     here_yet =
-        let x : ((start_of f b + i) * f.symbol_length % f.symbol_length == 0) ≡ true = eq-eqb _ _ column in
-        let y : nat_le (start_of f b) ((start_of f b + i) * f.symbol_length / f.symbol_length) ≡ true = le-leb _ _ (omega (arith, row)) in
-        let z : nat_lt ((start_of f b + i) * f.symbol_length / f.symbol_length) (start_of f b + i) ≡ false = le-ltb _ _ (omega (arith, row)) in
+        let x : ((s + i) * t % t == 0) ≡ true = eq-eqb _ _ column in
+        let y : nat_le s ((s + i) * t / t) ≡ true = le-leb _ _ (omega (arith, row)) in
+        let z : nat_lt ((s + i) * t / t) (s + i) ≡ false = le-ltb _ _ (omega (arith, row)) in
         rw (x, y, z) refl
 
     -- which place the i-th source symbol's first byte has
-    only_here : (x : ℕ) → x % f.symbol_length ≡ 0 → x / f.symbol_length ≡ start_of f b + i → x ≡ (start_of f b + i) * f.symbol_length
+    only_here : (x : ℕ) → x % t ≡ 0 → x / t ≡ s + i → x ≡ (s + i) * t
     only_here x c r =
-        let d = div-add-mod x f.symbol_length in
-        let e = ap (λ (y : ℕ). f.symbol_length * y) r in
+        let d = div-add-mod x t in
+        let e = ap (λ (y : ℕ). t * y) r in
         omega (arith, c, d, e)
 
-    elsewhere : (x : ℕ) → (x ≡ (start_of f b + i) * f.symbol_length → ⊥) → is_first_of f b (i + 1) x ≡ is_first_of f b i x
+    elsewhere : (x : ℕ) → (x ≡ (s + i) * t → ⊥) → is_first_of t s (i + 1) x ≡ is_first_of t s i x
     elsewhere x ne =
-        elim (x % f.symbol_length == 0) as (λ v. (x % f.symbol_length == 0) ≡ v → (v && (nat_le (start_of f b) (x / f.symbol_length) && nat_lt (x / f.symbol_length) (start_of f b + (i + 1)))) ≡ (v && (nat_le (start_of f b) (x / f.symbol_length) && nat_lt (x / f.symbol_length) (start_of f b + i)))) [
+        elim (x % t == 0) as (λ v. (x % t == 0) ≡ v → (v && (nat_le s (x / t) && nat_lt (x / t) (s + (i + 1)))) ≡ (v && (nat_le s (x / t) && nat_lt (x / t) (s + i)))) [
           | false ↦ λ e. refl
           | true ↦ λ e.
               (let c = eqb-true _ _ e in
-              let other : x / f.symbol_length ≡ start_of f b + i → ⊥ = λ r. ne (only_here x c r) in
-              ap (λ (v : Bool). nat_le (start_of f b) (x / f.symbol_length) && v)
-              (elim (nat_lt (x / f.symbol_length) (start_of f b + i)) as (λ v. nat_lt (x / f.symbol_length) (start_of f b + i) ≡ v → nat_lt (x / f.symbol_length) (start_of f b + (i + 1)) ≡ v) [
+              let other : x / t ≡ s + i → ⊥ = λ r. ne (only_here x c r) in
+              ap (λ (v : Bool). nat_le s (x / t) && v)
+              (elim (nat_lt (x / t) (s + i)) as (λ v. nat_lt (x / t) (s + i) ≡ v → nat_lt (x / t) (s + (i + 1)) ≡ v) [
                 | true ↦ λ g. (let l = ltb-true _ _ g in lt-ltb _ _ (omega (arith, l)))
                 | false ↦ λ g. (let l = not_lt g in le-ltb _ _ (omega (arith, l, other)))
               ] refl))
@@ -83,28 +82,28 @@ module _ (f : Fti) (some : 0 < f.symbol_length) (b : ℕ) where
             ] refl
 
     -- one more
-    pub added_more : (v : ℕ → ℕ) (object now next : List ℕ) (byte : ℕ) → (start_of f b + i) * f.symbol_length < length now
-        → next ≡ set now ((start_of f b + i) * f.symbol_length) byte
-        → byte ≡ sum_of (get_or now ((start_of f b + i) * f.symbol_length) 0) (v i)
-        → ((x : ℕ) → get_or now x 0 ≡ added f b i v object x) → (x : ℕ) → get_or next x 0 ≡ added f b (i + 1) v object x
+    pub added_more : (v : ℕ → ℕ) (object now next : List ℕ) (byte : ℕ) → (s + i) * t < length now
+        → next ≡ set now ((s + i) * t) byte
+        → byte ≡ sum_of (get_or now ((s + i) * t) 0) (v i)
+        → ((x : ℕ) → get_or now x 0 ≡ added t s i v object x) → (x : ℕ) → get_or next x 0 ≡ added t s (i + 1) v object x
     added_more v object now next byte within is byte_is before x =
-        let place = (start_of f b + i) * f.symbol_length in
-        elim (x == (start_of f b + i) * f.symbol_length) as (λ w. (x == (start_of f b + i) * f.symbol_length) ≡ w → get_or next x 0 ≡ added f b (i + 1) v object x) [
+        let place = (s + i) * t in
+        elim (x == (s + i) * t) as (λ w. (x == (s + i) * t) ≡ w → get_or next x 0 ≡ added t s (i + 1) v object x) [
           | true ↦ λ e.
-              (let at : x ≡ (start_of f b + i) * f.symbol_length = eqb-true _ _ e in
-              let index : (start_of f b + i) * f.symbol_length / f.symbol_length - start_of f b ≡ i = omega (arith, row) in
-              let old : get_or now ((start_of f b + i) * f.symbol_length) 0 ≡ get_or object ((start_of f b + i) * f.symbol_length) 0 =
-              before ((start_of f b + i) * f.symbol_length) ∙ rw here_yet refl in
+              (let at : x ≡ (s + i) * t = eqb-true _ _ e in
+              let index : (s + i) * t / t - s ≡ i = omega (arith, row) in
+              let old : get_or now ((s + i) * t) 0 ≡ get_or object ((s + i) * t) 0 =
+              before ((s + i) * t) ∙ rw here_yet refl in
               ap (λ (xs : List ℕ). get_or xs x 0) is
-              ∙ ap (λ (y : ℕ). get_or (set now ((start_of f b + i) * f.symbol_length) byte) y 0) at
-              ∙ get_or-set_same now ((start_of f b + i) * f.symbol_length) byte 0 within
+              ∙ ap (λ (y : ℕ). get_or (set now ((s + i) * t) byte) y 0) at
+              ∙ get_or-set_same now ((s + i) * t) byte 0 within
               ∙ byte_is
               ∙ ap (λ (y : ℕ). sum_of y (v i)) old
-              ∙ sym (ap (λ (y : ℕ). added f b (i + 1) v object y) at ∙ rw (here_next, index) refl))
+              ∙ sym (ap (λ (y : ℕ). added t s (i + 1) v object y) at ∙ rw (here_next, index) refl))
           | false ↦ λ e.
-              (let ne : x ≡ (start_of f b + i) * f.symbol_length → ⊥ = eqb-false _ _ e in
+              (let ne : x ≡ (s + i) * t → ⊥ = eqb-false _ _ e in
               ap (λ (xs : List ℕ). get_or xs x 0) is
-              ∙ get_or-set_other now ((start_of f b + i) * f.symbol_length) x byte 0 ne
+              ∙ get_or-set_other now ((s + i) * t) x byte 0 ne
               ∙ before x
               ∙ (let same = elsewhere x ne in rw same refl))
         ] refl

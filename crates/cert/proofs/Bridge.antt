@@ -26,7 +26,7 @@ use Rattle.cert.specs.declared.verdict.Reason.TheVariants.{OtherCertificate, Obj
 use Rattle.cert.specs.declared.walk.NoReport.{NoReport}
 use Rattle.cert.specs.declared.walk.NoReport.TheVariants.{Reason as ByReason, NoMemory}
 use Rattle.cert.specs.Verdict.{first_reason, IsAgainst}
-use Rattle.cert.specs.Scan.{members_at, members_of, AreGroupsOf, IsPut, IsNoReport, different_in, line_in, AreEnough, IsFirstShortGroup, IsShortGroup, block_lines}
+use Rattle.cert.specs.Scan.{members_at, members_of, AreGroupsOf, IsPut, IsNoReport, different_in, line_in, AreEnough, IsFirstShortGroup, IsShortGroup, IsShortWhereThin, block_lines}
 
 -- ---- one symbol more
 
@@ -216,6 +216,24 @@ module _ (who : Identity) (z : Certificate) (ds : List (List ℕ)) (groups : Lis
   pub counts_refused : (e : NoReport) → first_reason who z (readings_of ds) ≡ None → symbols (counted who (readings_of ds)) ≢ [] → IsShortGroup groups e → IsNoReport who ds z e
   counts_refused NoMemory none some h = tt
   counts_refused (ByReason r) none some h = refused_reason r none some h
+
+-- a group that is short is the reason that one is
+thin_where : (groups : List Group) (r : Reason) → IsShortGroup groups (ByReason r) → IsShortWhereThin groups (ByReason r)
+thin_where groups (Thin b have need) h = h
+thin_where groups OtherCertificate h = absurd h
+thin_where groups ObjectLength h = absurd h
+thin_where groups (NotObject b c i) h = absurd h
+thin_where groups Empty h = absurd h
+thin_where groups (NoPacket i x) h = absurd h
+thin_where groups (OtherFti i) h = absurd h
+thin_where groups (SymbolLength i) h = absurd h
+thin_where groups (Range i) h = absurd h
+thin_where groups (Wrong i c) h = absurd h
+thin_where groups NoCarrier h = absurd h
+
+pub where_thin : (groups : List Group) (e : NoReport) → IsShortGroup groups e → IsShortWhereThin groups e
+where_thin groups NoMemory h = tt
+where_thin groups (ByReason r) h = thin_where groups r h
 
 -- a map over one number more
 pub map_below_more : {A : Type 0} (f : ℕ → A) (n : ℕ) → map f (below (n + 1)) ≡ map f (below n) ++ f n ∷ []

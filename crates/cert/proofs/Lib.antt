@@ -25,6 +25,7 @@ pub mod CarrierPlaces
 pub mod Losing
 pub mod Adding
 pub mod TwinObject
+pub mod TwinParts
 pub mod Few
 pub mod Short
 pub mod HeldEsis

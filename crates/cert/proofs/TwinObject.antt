@@ -1,9 +1,9 @@
 -- An object with a polynomial's values added in the first column of a short block is a twin.
-use Rattle.std.proofs.Common.{◌≡◌, ◌≢◌, ◌<◌, ◌+◌, ◌-◌, ◌/◌, ℕ, true, false, cond, List, [], ◌∷◌, length, get_or, refl, sym, ap, subst, ◌∙◌, arith, ltb-true}
+use Rattle.std.proofs.Common.{◌≡◌, ◌≢◌, ◌<◌, ◌+◌, ◌-◌, ◌/◌, ℕ, zero, suc, true, false, cond, List, [], ◌∷◌, length, map, get_or, refl, sym, ap, subst, ◌∙◌, inl, inr, arith, ltb-true}
 use Rattle.std.specs.Prelude.{slice_index, nat_lt}
 use Rattle.std.specs.List.{AllByRecursion}
-use Rattle.std.proofs.lemmas.Bool.{ltb-false}
-use Rattle.std.proofs.lemmas.List.{ext_get_or}
+use Rattle.std.proofs.lemmas.Bool.{cases_lt, ltb-false}
+use Rattle.std.proofs.lemmas.List.{ext_get_or, get_or-map, get_or_append_left, get_or_at, length-map}
 use Rattle.std.proofs.Math.ListN.{get_or-eq_default}
 use Rattle.lists.specs.Bytes.{IsByte, AreBytes}
 use Rattle.gf256.specs.Arithmetic.{sum_of, product, point}
@@ -15,12 +15,13 @@ use Rattle.poly.proofs.Lists.{all_weaker}
 use Rattle.lists.specs.Selection.{is_among}
 use Rattle.lists.specs.Below.{below}
 use Rattle.lists.proofs.Lists.{all_filter}
-use Rattle.lists.proofs.Below.{all_below, one_missing, at_passing}
+use Rattle.lists.proofs.Below.{all_below, one_missing, at_passing, length_below}
 use Rattle.partition.specs.Fti.{Fti, IsValidFti, source_count, block_count, start_of, source_byte}
 use Rattle.partition.proofs.Laws.{counts}
 use Rattle.reception.specs.Symbols.{Symbol, Agrees, IsObject}
 use Rattle.cert.specs.Twins.{different_esis, root_value, IsTwin}
-use Rattle.cert.specs.TwinBytes.{is_first_of}
+use Rattle.cert.specs.TwinBytes.{is_first_of, byte_of_twin, twin_bytes}
+use Rattle.cert.proofs.Adding.{added}
 use Rattle.cert.proofs.Twinning.{vanishing, twin_byte, twin_of, is_first_column, at_place, length_with_places, agrees, twin_form, differs, changed, unchanged}
 
 -- the symbols of an object are bytes
@@ -92,22 +93,27 @@ module _ (f : Fti) (valid : IsValidFti f) (b : ℕ) (hb : b < block_count f) (q 
 
   -- an object whose bytes are the twin's
   same_bytes : (object other p : List ℕ) → length other ≡ length object → ((j : ℕ) → value p (point j) ≡ value q (point j))
-      → ((x : ℕ) → slice_index other x ≡ cond (is_first_of f b (source_count f b) x) (sum_of (slice_index object x) (value p (point (x / f.symbol_length - start_of f b)))) (slice_index object x))
+      → ((x : ℕ) → x < length object → get_or other x 0 ≡ added f.symbol_length (start_of f b) (source_count f b) (λ j. value p (point j)) object x)
       → other ≡ twin_of f b q object
   same_bytes object other p len values bytes =
       ext_get_or 0 other (twin_of f b q object) (len ∙ sym (length_with_places (twin_byte f b q) 0 object))
       (λ x l.
-      bytes x
-      ∙ ap (λ (v : ℕ). cond (is_first_of f b (source_count f b) x) (sum_of (slice_index object x) v) (slice_index object x)) (values (x / f.symbol_length - start_of f b))
+      bytes x (omega (arith, l, len))
+      ∙ ap (λ (v : ℕ). cond (is_first_of f.symbol_length (start_of f b) (source_count f b) x) (sum_of (get_or object x 0) v) (get_or object x 0)) (values (x / f.symbol_length - start_of f b))
       ∙ sym (at_place (twin_byte f b q) 0 object x (omega (arith, l, len)) ∙ (let z : 0 + x ≡ x = omega arith in ap (λ (n : ℕ). twin_byte f b q n (get_or object x 0)) z)))
 
--- what the code makes is a twin
-pub is_twin : (f : Fti) → IsValidFti f → (b : ℕ) → b < block_count f → (arrived_esis object other p : List ℕ) → IsObject f object → length (different_esis arrived_esis) < source_count f b
-    → ((z : ℕ) → z < 256 → value p z ≡ root_value arrived_esis z) → length other ≡ length object
-    → ((x : ℕ) → slice_index other x ≡ cond (is_first_of f b (source_count f b) x) (sum_of (slice_index object x) (value p (point (x / f.symbol_length - start_of f b)))) (slice_index object x))
-    → IsTwin f b arrived_esis object other
-is_twin f valid b hb arrived_esis object other p form few values len bytes =
-    let js = different_esis arrived_esis in
+-- a polynomial whose values are the product's
+record Roots (f : Fti) (b : ℕ) (arrived_esis : List ℕ) : Type 0 where
+  polynomial : List ℕ
+  is : IsPolynomial (source_count f b) polynomial
+  roots : (j : ℕ) → j < 255 → is_among arrived_esis j ≡ true → value polynomial (point j) ≡ 0
+  symbol : ℕ
+  inside : symbol < source_count f b
+  apart : value polynomial (point symbol) ≢ 0
+  values : (z : ℕ) → z < 256 → value polynomial z ≡ root_value arrived_esis z
+
+there_is : (f : Fti) → IsValidFti f → (b : ℕ) → b < block_count f → (arrived_esis : List ℕ) → length (different_esis arrived_esis) < source_count f b → Roots f b arrived_esis
+there_is f valid b hb arrived_esis few =
     let n = counts f valid b hb in
     let gap = one_missing (is_among arrived_esis) (source_count f b) 255 (omega (arith, n.1)) few in
     let passing : AllByRecursion (λ j. (is_among arrived_esis j ≡ true) × (j < 255)) (different_esis arrived_esis) =
@@ -118,7 +124,57 @@ is_twin f valid b hb arrived_esis object other p form few values len bytes =
     all_weaker (λ j. (is_among arrived_esis j ≡ true) × (j < 255)) (λ j. j ≢ gap.0)
     (λ j h e. let x = subst (λ (y : ℕ). is_among arrived_esis y ≡ true) e h.0 in let g = gap.2 in absurd (cc)) _ passing in
     let w = vanishing (source_count f b) gap.0 (different_esis arrived_esis) few (omega (arith, gap.1, n.1)) small apart in
-    let same : (z : ℕ) → z < 256 → value w.0 z ≡ root_value arrived_esis z = w.4 in
-    let twin = made f valid b hb w.0 w.1 arrived_esis (at_passing (λ j. value w.0 (point j) ≡ 0) (is_among arrived_esis) 255 w.2) object form gap.0 gap.1 w.3 same in
+    record {
+      polynomial = w.0;
+      is = w.1;
+      roots = at_passing (λ j. value w.0 (point j) ≡ 0) (is_among arrived_esis) 255 w.2;
+      symbol = gap.0;
+      inside = gap.1;
+      apart = w.3;
+      values = w.4;
+    }
+
+-- what the code makes is a twin
+pub is_twin : (f : Fti) → IsValidFti f → (b : ℕ) → b < block_count f → (arrived_esis object other p : List ℕ) → IsObject f object → length (different_esis arrived_esis) < source_count f b
+    → ((z : ℕ) → z < 256 → value p z ≡ root_value arrived_esis z) → length other ≡ length object
+    → ((x : ℕ) → x < length object → get_or other x 0 ≡ added f.symbol_length (start_of f b) (source_count f b) (λ j. value p (point j)) object x)
+    → IsTwin f b arrived_esis object other
+is_twin f valid b hb arrived_esis object other p form few values len bytes =
+    let w = there_is f valid b hb arrived_esis few in
     subst (λ (o : List ℕ). IsTwin f b arrived_esis object o)
-    (sym (same_bytes f valid b hb w.0 w.1 object other p len (λ j. values (point j) (point_byte j) ∙ sym (same (point j) (point_byte j))) bytes)) twin
+    (sym (same_bytes f valid b hb w.polynomial w.is object other p len (λ j. values (point j) (point_byte j) ∙ sym (w.values (point j) (point_byte j))) bytes))
+    (made f valid b hb w.polynomial w.is arrived_esis w.roots object form w.symbol w.inside w.apart w.values)
+
+number_at : (n i : ℕ) → i < n → get_or (below n) i 0 ≡ i
+unfolding below
+number_at zero i l = absurd (omega arith)
+number_at (suc n) i l = elim (cases_lt i n) [
+  | inl lt ↦ get_or_append_left (below n) (n ∷ []) 0 i (omega (arith, lt, length_below n)) ∙ number_at n i lt
+  | inr ge ↦ let e : n ≡ i = omega (arith, l, ge) in get_or_at (below n) n [] 0 i (length_below n ∙ e) ∙ e
+]
+
+-- the bytes that the code makes are those of the definition
+pub same_twin : (f : Fti) (b : ℕ) (arrived_esis object other p : List ℕ) → ((z : ℕ) → z < 256 → value p z ≡ root_value arrived_esis z) → length other ≡ length object
+    → ((x : ℕ) → x < length object → get_or other x 0 ≡ added f.symbol_length (start_of f b) (source_count f b) (λ j. value p (point j)) object x)
+    → other ≡ twin_bytes f b arrived_esis object
+unfolding twin_bytes
+same_twin f b arrived_esis object other p values len bytes =
+    let many : length (below (length object)) ≡ length object = length_below (length object) in
+    ext_get_or 0 other (map (byte_of_twin f b arrived_esis object) (below (length object)))
+    (len ∙ sym (length-map (below (length object)) (byte_of_twin f b arrived_esis object) ∙ many))
+    (λ x l.
+    bytes x (omega (arith, l, len))
+    ∙ ap (λ (v : ℕ). cond (is_first_of f.symbol_length (start_of f b) (source_count f b) x) (sum_of (get_or object x 0) v) (get_or object x 0))
+    (values (point (x / f.symbol_length - start_of f b)) (point_byte (x / f.symbol_length - start_of f b)))
+    ∙ sym (get_or-map (byte_of_twin f b arrived_esis object) (below (length object)) x 0 0 (omega (arith, l, len, many))
+    ∙ ap (byte_of_twin f b arrived_esis object) (number_at (length object) x (omega (arith, l, len)))))
+
+-- and those are a twin
+pub is_twin_bytes : (f : Fti) → IsValidFti f → (b : ℕ) → b < block_count f → (arrived_esis object : List ℕ) → IsObject f object → length (different_esis arrived_esis) < source_count f b
+    → IsTwin f b arrived_esis object (twin_bytes f b arrived_esis object)
+is_twin_bytes f valid b hb arrived_esis object form few =
+    let w = there_is f valid b hb arrived_esis few in
+    subst (λ (o : List ℕ). IsTwin f b arrived_esis object o)
+    (same_twin f b arrived_esis object (twin_of f b w.polynomial object) w.polynomial w.values (length_with_places (twin_byte f b w.polynomial) 0 object)
+    (λ x l. at_place (twin_byte f b w.polynomial) 0 object x l ∙ (let z : 0 + x ≡ x = omega arith in ap (λ (n : ℕ). twin_byte f b w.polynomial n (get_or object x 0)) z)))
+    (made f valid b hb w.polynomial w.is arrived_esis w.roots object form w.symbol w.inside w.apart w.values)

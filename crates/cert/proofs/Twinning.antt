@@ -38,7 +38,7 @@ at_place g i (x ∷ xs) (suc n) l =
 
 -- the first column of a source symbol of this block
 abbrev pub is_first_column : Fti → ℕ → ℕ → Bool
-is_first_column f b x = is_first_of f b (source_count f b) x
+is_first_column f b x = is_first_of f.symbol_length (start_of f b) (source_count f b) x
 
 abbrev pub twin_byte : Fti → ℕ → List ℕ → ℕ → ℕ → ℕ
 twin_byte f b q x y = cond (is_first_column f b x) (sum_of y (value q (point (x / f.symbol_length - start_of f b)))) y

@@ -15,6 +15,7 @@ pub mod Converting
 pub mod ConvertingBlocks
 pub mod CertifiedSymbol
 pub mod TwinBytes
+pub mod TwinPieces
 pub mod NotGiven
 pub mod NotBegun
 pub mod Tallying

@@ -77,6 +77,11 @@ IsShortGroup groups (ByReason (Thin b have need)) = IsFirstShortGroup groups b h
 IsShortGroup groups (ByReason _) = ⊥
 IsShortGroup groups NoMemory = Unit {0}
 
+-- it is, where the reason is that one has too few
+abbrev pub IsShortWhereThin : List Group → NoReport → Type 0
+IsShortWhereThin groups (ByReason (Thin b have need)) = IsFirstShortGroup groups b have need
+IsShortWhereThin groups _ = Unit {0}
+
 -- what a yes says of the datagrams
 pub record AreEnoughCertified (who : Identity) (datagrams : List (List ℕ))
     (z : Certificate) : Type 0 where

@@ -24,7 +24,7 @@
 //! keeps those that datagrams are compared with, and `runs` tells how many pay where they aren't
 //! kept. `differing` finds the first byte in which two rows differ, which is how a column is told.
 //! `twins` makes the object that can't be told from the true one where a block is short
-//! (`specs/Twins`). `laws` says of the definitions which bytes are a certificate, that there is one
+//! (`specs/Twins`), or writes it a piece at a time (`specs/TwinPieces`). `laws` says of the definitions which bytes are a certificate, that there is one
 //! verdict, and which reason and which column it has.
 //!
 //! Nothing is solved here: a check evaluates polynomials and compares bytes. What a yes promises of
@@ -71,7 +71,7 @@ pub use laws::{
 pub use losses::Run;
 pub use surveying::survey_from;
 pub use tally::Tally;
-pub use twins::{session_twin, twin};
+pub use twins::{TwinFault, session_twin, twin, write_twin};
 pub use verdict::{Reason, Report, Survey, Verdict};
 pub use view::CertificateView;
 pub use walk::NoReport;

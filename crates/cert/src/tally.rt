@@ -15,7 +15,7 @@ ghost use Rattle.cert.specs.Certificate.{Certificate as CertificateValue};
 ghost use Rattle.cert.specs.Report.{IsReport};
 ghost use Rattle.cert.specs.Surveying.{IsSurvey};
 ghost use Rattle.cert.specs.Scan.{line_in, with_carrier, AreEnough, AreEnoughCertified};
-ghost use Rattle.cert.specs.Scan.{IsShortGroup, IsPut, IsNoReport};
+ghost use Rattle.cert.specs.Scan.{IsShortGroup, IsShortWhereThin, IsPut, IsNoReport};
 
 use crate::datagrams::{empty_groups, put, put_carrier};
 use crate::verdict::{Reason, Report, Survey};
@@ -115,6 +115,7 @@ impl Tally {
         ensures no_report { (z : CertificateValue) (datagrams : List (List ℕ))
             → IsTally (by_certificate z) z.fti self.now datagrams
             → IfErr result (IsNoReport self.now.scope.identity datagrams z) }
+        ensures short { IfErr result (IsShortWhereThin (groups_of self.now.groups.items)) }
     {
         self.report_of_groups(alloc)
     }
@@ -149,7 +150,7 @@ impl Tally {
     }
 
     /// The ESIs of a block's symbols, as they came.
-    pub(crate) fn esis(&self, alloc: Global, block: u32) -> Result<Vec<u8>, AllocError>
+    pub fn esis(&self, alloc: Global, block: u32) -> Result<Vec<u8>, AllocError>
         requires { block < length self.now.groups.items }
         ensures { IfOk result (λ v. v.items
             ≡ map (λ q. q.esi) (group_at (groups_of self.now.groups.items) block).members) }
@@ -177,6 +178,7 @@ impl Tally {
         ensures no_report { (z : CertificateValue) (datagrams : List (List ℕ))
             → IsTally (by_certificate z) z.fti self.now datagrams
             → IfErr result (IsNoReport self.now.scope.identity datagrams z) }
+        ensures short { IfErr result (IsShortWhereThin (groups_of self.now.groups.items)) }
     {
         if self.taken == 0 {
             return Err(NoReport::Reason(Reason::Empty));

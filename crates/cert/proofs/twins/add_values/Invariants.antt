@@ -6,6 +6,6 @@ use Rattle.cert.proofs.twins.add_values.Given as goal
 
 abbrev pub invariant-loop-i : goal.invariant-loop-i
 invariant-loop-i l = record {
-  long : length l.object ≡ length l.initial.object;
-  bytes : (x : ℕ) → get_or l.object x 0 ≡ added l.fti l.block l.i (λ j. value l.polynomial (point j)) l.initial.object x;
+  long : length l.bytes ≡ length l.initial.bytes;
+  bytes : (x : ℕ) → get_or l.bytes x 0 ≡ added l.fti.symbol_length 0 l.i (λ j. value l.polynomial (point j)) l.initial.bytes x;
 }

@@ -19,7 +19,7 @@ use Rattle.cert.specs.Scan.{line_in}
 use Rattle.cert.specs.Verdict.{AreCertified}
 use Rattle.cert.proofs.Judging.{read_all, are_certified, none_came, some_came, no_reason}
 use Rattle.cert.proofs.DatagramSteps.{all_sound, passed_on}
-use Rattle.cert.proofs.Bridge.{lines_are, enough_full, counts_refused}
+use Rattle.cert.proofs.Bridge.{lines_are, enough_full, counts_refused, where_thin}
 use Rattle.cert.proofs.CarrierPlaces.{any_place, places_counted}
 use Rattle.cert.proofs.Losing.{are_groups, margin_told, kill_told, lacks_told, burst_told, first_burst_told}
 use Rattle.cert.proofs.tally.Tally.report_of_groups.Goals as goal
@@ -141,3 +141,8 @@ block_lines-requires c = grind (arith, common_steps) steps 2000000
 
 pub returns-clause-carrier : goal.returns-clause-carrier
 returns-clause-carrier c = λ says f datagrams h. carrier_came says f c.args.self.now datagrams h (sym c.is_empty.ensures ∙ c.if-is_empty.false)
+
+pub returns-in_err-blocks-clause-short : goal.returns-in_err-blocks-clause-short
+returns-in_err-blocks-clause-short c =
+    passed_on c.from_residual.result c.in_err-blocks.field-0.0 _ c.from_residual.ensures.1
+    (where_thin (groups_of c.args.self.now.groups.items) c.in_err-blocks.field-0.0 (rw c.deref.ensures.value at c.in_err-blocks.ensures.no_report))
