@@ -7,3 +7,4 @@ pub mod NamedParts
 pub mod Rereading
 pub mod SourceBytes
 pub mod WholeTallies
+pub mod Twins

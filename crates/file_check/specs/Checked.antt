@@ -1,5 +1,5 @@
 -- Why a check of files tells no report.
-use Rattle.std.specs.Prelude.{◌≡◌, ℕ, Bool, List, Option, Some, ⊤}
+use Rattle.std.specs.Prelude.{◌≡◌, ℕ, Bool, false, List, Option, Some, ⊤}
 use Rattle.std.specs.Io.KnownBytes.{Consumes, IsAtEnd}
 use Rattle.partition.specs.Fti.{Fti}
 use Rattle.session.specs.Frames.{frames, AreDatagrams}
@@ -15,6 +15,7 @@ use Rattle.file_check.specs.declared.checking.Stop.{Stop}
 use Rattle.file_check.specs.declared.checking.Stop.TheVariants as stop
 use Rattle.file_check.specs.Files.{IsCertificateFault, IsFileFault, IsFaultOfFrames, IsNoVerdict}
 use Rattle.file_check.specs.Files.{Reliable}
+use Rattle.file_check.specs.Shortness.{is_thin}
 
 -- why a block isn't compared to its end: the certificate doesn't give the object there, or a file
 -- has failed
@@ -45,6 +46,11 @@ IsCertificateStop content reliable (stop.ByFault fault) = IsCertificateFault con
 abbrev pub IsFrameStop : Bool → Stop → Type 0
 IsFrameStop reliable (stop.ByReason reason) = ⊤
 IsFrameStop reliable (stop.ByFault fault) = IsFaultOfFrames reliable fault
+
+-- no block is told as short before all datagrams are tallied
+abbrev pub IsEarlyStop : Stop → Type 0
+IsEarlyStop (stop.ByReason reason) = is_thin reason ≡ false
+IsEarlyStop (stop.ByFault fault) = ⊤
 
 -- the tally of all datagrams of a session, each of them as the certificate has it
 pub record IsWholeTally (who : Identity) (session : List ℕ) (z : Certificate)

@@ -4,3 +4,4 @@ pub mod Blocks
 pub mod Files
 pub mod Checked
 pub mod Compared
+pub mod Shortness

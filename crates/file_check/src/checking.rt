@@ -1,6 +1,6 @@
 //! The check of files: their datagrams' headers first, and then block by block the object and the
 //! symbols.
-ghost use Rattle.std.specs.Prelude.{◌≡◌, ◌<◌, ◌*◌, ℕ, List, Option, Some, true, length, OnOk};
+ghost use Rattle.std.specs.Prelude.{◌≡◌, ◌<◌, ◌*◌, ℕ, List, Option, Some, true, false, length, OnOk};
 ghost use Rattle.std.specs.Prelude.{IfOk, IfErr, IfSome, IsNone};
 ghost use Rattle.partition.specs.Fti.{Fti as FtiValue, block_count, source_count, encoding_count};
 ghost use Rattle.reception.specs.Symbols.{IsObject};
@@ -10,8 +10,9 @@ ghost use Rattle.cert.specs.InFile.{IsUnnamed};
 ghost use Rattle.cert.specs.Surveying.{IsSurveyedFrom};
 ghost use Rattle.cert.specs.Tallying.{tallied_of};
 ghost use Rattle.cert.specs.Verdict.{GivesObject};
+ghost use Rattle.cert.specs.declared.verdict.Reason.TheVariants.{Thin};
 ghost use Rattle.file_check.specs.Checked.{IsBlockStop, IsBlocksStop, IsCertificateStop};
-ghost use Rattle.file_check.specs.Checked.{IsFrameStop, IsStop};
+ghost use Rattle.file_check.specs.Checked.{IsEarlyStop, IsFrameStop, IsStop};
 ghost use Rattle.file_check.specs.Files.{IsCertificateFault, IsFilesFault, IsFaultOfFrames};
 ghost use Rattle.file_check.specs.Files.{IsNoCertificate, IsNoVerdict};
 ghost use Rattle.file_check.specs.Checked.{IsSomeTally, IsWholeTally};
@@ -19,6 +20,7 @@ ghost use Rattle.file_check.specs.Compared.{AreCompared, IsCompared};
 ghost use Rattle.file_check.specs.Files.{IsSurveyIn, IsSurveyOnSome, IsVerdictIn};
 ghost use Rattle.file_check.specs.Files.{IsVerdictOnSome, WhereTold};
 ghost use Rattle.file_check.specs.Indexed.{IsIndexOf};
+ghost use Rattle.file_check.specs.Shortness.{IsShortFound, IsTwinnedIn, MakesTwins, is_thin};
 
 use crate::blocks::{Wrong, first_not_given, make_symbols, read_source};
 use crate::index::{End, Index, index_session};
@@ -51,6 +53,18 @@ pub enum FilesFault {
     Certificate(CertFault),
     /// There is no memory for the check.
     NoMemory,
+}
+
+/// A block that a check finds short, and what a twin of the object is made of.
+#[derive(Drop)]
+pub struct ShortBlock {
+    pub block: u32,
+    /// How many different symbols of it came, and how many it needs.
+    pub have: usize,
+    pub need: usize,
+    pub fti: Fti,
+    /// The ESIs of its symbols, as they came.
+    pub arrived_esis: Vec<u8>,
 }
 
 // What is checked where the certificate has a name.
@@ -155,6 +169,7 @@ fn compare_block<S: ReadAt, O: ReadAt, C: ReadAt>(
     ensures lost { IfErr result (IsCertificateStop
         (C.content files.now.certificate.file.now) (C.reliable files.now.certificate.file.now)) }
     ensures frame { IfErr result (IsFrameStop (S.reliable files.now.session.now)) }
+    ensures early { IfErr result IsEarlyStop }
     ensures file { session.new.file.now ≡ session.old.file.now }
 {
     let fti = files.certificate.fti;
@@ -218,6 +233,7 @@ fn compare_blocks<S: ReadAt, O: ReadAt, C: ReadAt>(
     ensures lost { IfErr result (IsCertificateStop
         (C.content files.now.certificate.file.now) (C.reliable files.now.certificate.file.now)) }
     ensures frame { IfErr result (IsFrameStop (S.reliable files.now.session.now)) }
+    ensures early { IfErr result IsEarlyStop }
 {
     let fti = files.certificate.fti;
     let mut buffers = Buffers::new(alloc);
@@ -260,6 +276,7 @@ fn tally_files<S: ReadAt, O: ReadAt, C: ReadAt>(
     ensures lost { IfErr result (IsCertificateStop
         (C.content files.now.certificate.file.now) (C.reliable files.now.certificate.file.now)) }
     ensures frame { IfErr result (IsFrameStop (S.reliable files.now.session.now)) }
+    ensures early { IfErr result IsEarlyStop }
     ensures some { IfOk result (IsSomeTally identity files.now.certificate.fti) }
 {
     let fti = files.certificate.fti;
@@ -354,6 +371,82 @@ fn survey_named<S: ReadAt, O: ReadAt, C: ReadAt>(
     }
 }
 
+// The check as [`check_named`] does it, and the block that is short, where that is the reason.
+fn twin_named<S: ReadAt, O: ReadAt, C: ReadAt>(
+    alloc: Global,
+    files: &NamedFiles<'_, S, O, C>,
+    identity: Identity,
+) -> Result<(Verdict, Option<ShortBlock>), FilesFault>
+    ensures verdict { WhereTold (S.content files.now.session.now)
+        (O.content files.now.object.now) (C.content files.now.certificate.file.now)
+        (λ x o text. IfOk result (λ r. (left : Option (List ℕ))
+        × IsCheckedFrom identity (Some x) left o
+        (named_in text files.now.certificate.fti files.now.certificate.name) r.0)) }
+    ensures twins { WhereTold (S.content files.now.session.now)
+        (O.content files.now.object.now) (C.content files.now.certificate.file.now)
+        (λ x o text. IfOk result (λ r. MakesTwins identity x o
+        (named_in text files.now.certificate.fti files.now.certificate.name) r.0 r.1)) }
+    ensures fault { WhereTold (S.content files.now.session.now)
+        (O.content files.now.object.now) (C.content files.now.certificate.file.now)
+        (λ x o text. IfErr result (IsNoVerdict identity
+        (record {
+          session = S.reliable files.now.session.now;
+          object = O.reliable files.now.object.now;
+          certificate = C.reliable files.now.certificate.file.now;
+        }) x o (named_in text files.now.certificate.fti files.now.certificate.name))) }
+    ensures some { IfOk result (λ r. IsVerdictOnSome identity r.0) }
+    ensures short { IfOk result (λ r. IsShortFound r.0 r.1) }
+    ensures certificate { IfErr result (IsCertificateFault
+        (C.content files.now.certificate.file.now) (C.reliable files.now.certificate.file.now)) }
+    ensures frame { IfErr result (IsFaultOfFrames (S.reliable files.now.session.now)) }
+{
+    let tally = match tally_files(alloc, files, identity) {
+        Ok(tally) => tally,
+        Err(Stop::ByReason(reason)) => return Ok((Verdict::No(reason), None)),
+        Err(Stop::ByFault(fault)) => return Err(fault),
+    };
+    let reason = match tally.report(alloc) {
+        Ok(report) => return Ok((Verdict::Yes(report), None)),
+        Err(NoReport::Reason(reason)) => reason,
+        Err(NoReport::NoMemory) => return Err(FilesFault::NoMemory),
+    };
+    let Some((block, have, need)) = short_block(reason) else {
+        return Ok((Verdict::No(reason), None));
+    };
+    let Ok(arrived_esis) = tally.esis(alloc, block) else {
+        return Err(FilesFault::NoMemory);
+    };
+    let short = ShortBlock {
+        block,
+        have,
+        need,
+        fti: files.certificate.fti,
+        arrived_esis,
+    };
+    Ok((Verdict::No(reason), Some(short)))
+}
+
+// The block that is too short, how many symbols it has and how many it needs, where that is the
+// reason.
+fn short_block(reason: Reason) -> Option<(u32, usize, usize)>
+    ensures some { IfSome result (λ t. reason ≡ Thin t.0 t.1 t.2) }
+    ensures none { IsNone result → is_thin reason ≡ false }
+{
+    match reason {
+        Reason::Thin { block, have, need } => Some((block, have, need)),
+        Reason::OtherCertificate
+        | Reason::ObjectLength
+        | Reason::NotObject { .. }
+        | Reason::Empty
+        | Reason::Packet(..)
+        | Reason::OtherFti(_)
+        | Reason::SymbolLength(_)
+        | Reason::Range(_)
+        | Reason::Symbol(..)
+        | Reason::NoCarrier => None,
+    }
+}
+
 // The files, where the certificate has a name.
 fn named<'a, S: ReadAt, O: ReadAt, C: ReadAt>(
     files: &Files<'a, S, O, C>,
@@ -444,6 +537,42 @@ pub fn survey_files<S: ReadAt, O: ReadAt, C: ReadAt>(
 {
     match named(files) {
         Ok(Some(named)) => Ok(Some(survey_named(alloc, &named, identity)?)),
+        Ok(None) => Ok(None),
+        Err(fault) => Err(FilesFault::Certificate(fault)),
+    }
+}
+
+/// The check as [`check_files`] does it, and where a block is short, and only there, what a twin is
+/// made of beside the object: a twin that `cert::write_twin` makes of it agrees with all of the
+/// identity's packets in the session.
+pub fn check_for_twin<S: ReadAt, O: ReadAt, C: ReadAt>(
+    alloc: Global,
+    files: &Files<'_, S, O, C>,
+    identity: Identity,
+) -> Result<Option<(Verdict, Option<ShortBlock>)>, FilesFault>
+    ensures verdict { WhereTold (S.content files.now.session.now)
+        (O.content files.now.object.now) (C.content files.now.certificate.now)
+        (λ x o text. IfOk result (λ r. IfSome r (λ found.
+        IsTwinnedIn identity x o text found.0 found.1))) }
+    ensures some { IfOk result (λ r. IfSome r (λ found.
+        IsVerdictOnSome identity found.0)) }
+    ensures short { IfOk result (λ r. IfSome r (λ found. IsShortFound found.0 found.1)) }
+    ensures unnamed { IfOk result (λ r. IsNone r
+        → IsUnnamed (C.content files.now.certificate.now)) }
+    ensures certificate { IfErr result (IsCertificateFault (C.content files.now.certificate.now)
+        (C.reliable files.now.certificate.now)) }
+    ensures frame { IfErr result (IsFaultOfFrames (S.reliable files.now.session.now)) }
+    ensures fault { WhereTold (S.content files.now.session.now)
+        (O.content files.now.object.now) (C.content files.now.certificate.now)
+        (λ x o text. IfErr result (IsFilesFault identity
+        (record {
+          session = S.reliable files.now.session.now;
+          object = O.reliable files.now.object.now;
+          certificate = C.reliable files.now.certificate.now;
+        }) x o text)) }
+{
+    match named(files) {
+        Ok(Some(named)) => Ok(Some(twin_named(alloc, &named, identity)?)),
         Ok(None) => Ok(None),
         Err(fault) => Err(FilesFault::Certificate(fault)),
     }

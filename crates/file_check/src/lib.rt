@@ -12,7 +12,7 @@
 //! - `members`: the symbols of a block's datagrams, read again where they stand.
 //! - `checking`: the blocks one after the other (`specs/Compared`), and the first reason in the
 //!   order of [`cert::Reason`] (`specs/Checked`): the least place of those that the index and the
-//!   blocks tell.
+//!   blocks tell; and of a block that is short, what a twin is made of (`specs/Shortness`).
 //!
 //! Its verdict is that of [`cert::check_from`], word for word.
 #![tactic(auto)]
@@ -23,4 +23,4 @@ mod extents;
 mod index;
 mod members;
 
-pub use checking::{Files, FilesFault, check_files, survey_files};
+pub use checking::{Files, FilesFault, ShortBlock, check_files, check_for_twin, survey_files};

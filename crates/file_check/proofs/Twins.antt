@@ -1,0 +1,117 @@
+-- What a twin is made of, by the tally that finds a block short.
+use Rattle.std.proofs.Common.{◌≡◌, ◌∙◌, ◌<◌, ◌++◌, ℕ, false, true, List, Option, Some, None, length, map, refl, sym, ap, subst, arith}
+use Rattle.std.specs.Io.KnownBytes.{Consumes, IsAtEnd}
+use Rattle.std.proofs.lemmas.List.{append-nil}
+use Rattle.losses.specs.Groups.{Group, groups_of, group_at}
+use Rattle.losses.specs.declared.groups.Member.{Member}
+use Rattle.losses.proofs.GroupFigures.{count_of}
+use Rattle.partition.specs.Fti.{Fti}
+use Rattle.session.specs.Frames.{frames, AreDatagrams, IsFramed}
+use Rattle.session.proofs.OneSession.{only}
+use Rattle.reception.specs.declared.scope.Identity.{Identity}
+use Rattle.reception.specs.declared.scope.PlaceFault.{PlaceFault}
+use Rattle.reception.specs.declared.scope.PlaceFault.TheVariants as fault
+use Rattle.reception.specs.Reception.{counted, symbols, Faulty}
+use Rattle.reception.specs.Symbols.{IsObject}
+use Rattle.reception.specs.Walks.{readings_of}
+use Rattle.cert.specs.Certificate.{Certificate, IsCertificate, is_for}
+use Rattle.cert.specs.Scan.{IsFirstShortGroup, IsNoReport, IsShortWhereThin}
+use Rattle.cert.specs.Twins.{IsTwinOfSession, esis_of}
+use Rattle.cert.specs.Verdict.{GivesObject, reason_at}
+use Rattle.cert.specs.declared.tally.Tally.{Tally}
+use Rattle.cert.specs.declared.verdict.Reason.{Reason}
+use Rattle.cert.specs.declared.verdict.Reason.TheVariants.{OtherCertificate, ObjectLength, NotObject, Empty, Packet, OtherFti, SymbolLength, Range, Symbol, Thin, NoCarrier}
+use Rattle.cert.specs.declared.verdict.Verdict.TheVariants.{No}
+use Rattle.cert.specs.declared.walk.NoReport.TheVariants.{Reason as ByReason}
+use Rattle.cert.proofs.HeldEsis.{held_esis, few_in_group}
+use Rattle.cert.proofs.Judging.{read_all, refused}
+use Rattle.cert.proofs.Short.{twin_of_session}
+use Rattle.file_check.specs.Checked.{IsSomeTally, IsWholeTally}
+use Rattle.file_check.specs.Shortness.{IsShortFound, MakesTwins, is_thin}
+use Rattle.file_check.specs.declared.checking.ShortBlock.{ShortBlock}
+
+-- a fault at a place isn't that a block is short
+pub not_thin : (place : ℕ) (e : PlaceFault) → is_thin (reason_at place (Faulty e)) ≡ false
+not_thin place (fault.NoPacket r) = refl
+not_thin place fault.OtherFti = refl
+not_thin place fault.SymbolLength = refl
+not_thin place fault.Range = refl
+
+-- where no block is short, none is told
+pub none_found : (r : Reason) → is_thin r ≡ false → IsShortFound (No r) None
+none_found OtherCertificate e = tt
+none_found ObjectLength e = tt
+none_found (NotObject b c i) e = tt
+none_found Empty e = tt
+none_found (Packet i x) e = tt
+none_found (OtherFti i) e = tt
+none_found (SymbolLength i) e = tt
+none_found (Range i) e = tt
+none_found (Symbol i c) e = tt
+none_found (Thin b have need) e = absurd (cc)
+none_found NoCarrier e = tt
+
+pub none_made : (who : Identity) (x o : List ℕ) (z : Certificate) (r : Reason) → MakesTwins who x o z (No r) None
+none_made who x o z OtherCertificate = tt
+none_made who x o z ObjectLength = tt
+none_made who x o z (NotObject b c i) = tt
+none_made who x o z Empty = tt
+none_made who x o z (Packet i e) = tt
+none_made who x o z (OtherFti i) = tt
+none_made who x o z (SymbolLength i) = tt
+none_made who x o z (Range i) = tt
+none_made who x o z (Symbol i c) = tt
+none_made who x o z (Thin b have need) = tt
+none_made who x o z NoCarrier = tt
+
+-- the group that is short
+pub is_short : (groups : List Group) (r : Reason) (b have need : ℕ) → r ≡ Thin b have need → IsShortWhereThin groups (ByReason r) → IsFirstShortGroup groups b have need
+is_short groups r b have need e h = subst (λ (x : Reason). IsShortWhereThin groups (ByReason x)) e h
+
+pub is_inside : (tally : Tally) (b have need : ℕ) → IsFirstShortGroup (groups_of tally.groups.items) b have need → b < length tally.groups.items
+is_inside tally b have need h = let n = count_of tally.groups.items in let l = h.block in omega (arith, n, l)
+
+-- all frames of a file were read
+framed_by : (x : List ℕ) (left : Option (List ℕ)) (ds : List (List ℕ)) → Consumes (Some x) left (frames ds) → IsAtEnd left → AreDatagrams ds → IsFramed ds x
+framed_by x None ds p end each = absurd p
+framed_by x (Some y) ds p end each = record { whole = p ∙ ap (λ (l : List ℕ). frames ds ++ l) end ∙ append-nil (frames ds); each = λ i. (each i).short }
+
+-- fewer different ESIs came than the block needs
+pub short_found : (who : Identity) (f : Fti) (tally : Tally) → IsSomeTally who f tally → (r : Reason) (b have need : ℕ) → r ≡ Thin b have need → IsFirstShortGroup (groups_of tally.groups.items) b have need
+    → (short : ShortBlock) → short.block ≡ b → short.have ≡ have → short.need ≡ need → short.fti ≡ f
+    → short.arrived_esis.items ≡ map (λ (q : Member). q.esi) (group_at (groups_of tally.groups.items) b).members → IsShortFound (No r) (Some short)
+short_found who f tally s r b have need e h short block_is have_is need_is fti esis =
+    let few = few_in_group tally.scope.identity f s.datagrams (groups_of tally.groups.items) s.tallied.tallied.grouped b have need h in
+    subst (λ (x : Reason). IsShortFound (No x) (Some short)) (sym e)
+    (record {
+      block = block_is;
+      symbols = have_is;
+      needed = need_is;
+      inside = rw fti few.0;
+      few = rw (fti, esis) few.1;
+    })
+
+module _ (who : Identity) (x o : List ℕ) (z : Certificate) (valid : IsCertificate z) (name : is_for who z.name ≡ true) (form : IsObject z.fti o) (gives : GivesObject o z) (tally : Tally)
+    (w : IsWholeTally who x z tally) where
+  -- a twin made for what came is one of the session
+  pub twins_made : (r : Reason) (b have need : ℕ) → r ≡ Thin b have need → IsFirstShortGroup (groups_of tally.groups.items) b have need → IsNoReport who w.datagrams z (ByReason r)
+      → (short : ShortBlock) → short.fti ≡ z.fti → short.arrived_esis.items ≡ map (λ (q : Member). q.esi) (group_at (groups_of tally.groups.items) b).members
+      → MakesTwins who x o z (No r) (Some short)
+  twins_made r b have need e h against short fti esis =
+      let ds = w.datagrams in
+      let grouped = rw w.identity at w.tallied.tallied.grouped in
+      let inside = (few_in_group who z.fti w.datagrams (groups_of tally.groups.items) grouped b have need h).0 in
+      let came : short.arrived_esis.items ≡ esis_of b (symbols (counted who (readings_of w.datagrams))) =
+      esis ∙ held_esis z.fti (counted who (readings_of w.datagrams)) (groups_of tally.groups.items) b grouped inside in
+      let thin = subst (λ (y : Reason). IsNoReport who w.datagrams z (ByReason y)) e against in
+      subst (λ (y : Reason). MakesTwins who x o z (No y) (Some short)) (sym e) (
+        fti,
+        λ all other framed twin.
+            (let same : all ≡ w.datagrams = only x all w.datagrams framed (framed_by x w.left w.datagrams w.consumed w.end w.each) in
+            subst (λ (l : List (List ℕ)). IsTwinOfSession who z.fti b l o other) (sym same)
+            (twin_of_session who w.datagrams o other z b valid w.each (
+              have,
+              need,
+              record { readings = readings_of w.datagrams; read = read_all w.datagrams w.each; judged = refused who (readings_of w.datagrams) o z (Thin b have need) name form gives thin },
+            ) (rw came at twin))),
+      )
