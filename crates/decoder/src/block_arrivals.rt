@@ -35,7 +35,8 @@ impl<S: Drop> BlockArrivals<S> {
 
     /// Puts a symbol behind the others.
     pub(crate) fn push(&mut self, arrival: Arrival<S>) -> Result<(), AllocError>
-        ensures pushed { OnOk result (self.new.list.items ≡ self.old.list.items ++ arrival ∷ []) }
+        ensures pushed { OnOk result (self.new.list.items ≡ self.old.list.items
+            ++ arrival ∷ []) }
         ensures stays { OnErr result (self.new.list.items ≡ self.old.list.items) }
     {
         let esi = arrival.esi;

@@ -209,11 +209,13 @@ impl FileSymbols {
     ) -> Result<Option<Answer>, FileFault>
         requires { ArePlacedIn (F.content file.now) self.now }
         ensures answer { (ds : List (List ℕ)) (x : List ℕ)
-            → F.content file.now ≡ Some x → ArePlacedOf self.now.indexed.identity ds x self.now
+            → F.content file.now ≡ Some x
+            → ArePlacedOf self.now.indexed.identity ds x self.now
             → IfOk result (λ o. IfSome o (λ a.
             IsAnswer self.now.indexed.identity ds (answer_value a))) }
         ensures object { (ds : List (List ℕ)) (x : List ℕ)
-            → F.content file.now ≡ Some x → ArePlacedOf self.now.indexed.identity ds x self.now
+            → F.content file.now ≡ Some x
+            → ArePlacedOf self.now.indexed.identity ds x self.now
             → IfOk result (λ o. IsNone o
             → ArePlacesOf self.now.indexed.identity ds x self.now × (object : List ℕ)
             × IsAnswer self.now.indexed.identity ds (Object object)) }
@@ -239,12 +241,14 @@ impl FileSymbols {
     ) -> Result<Option<Answer>, FileWriteFault>
         requires { ArePlacedIn (F.content file.now) self.now }
         ensures written { (ds : List (List ℕ)) (x : List ℕ)
-            → F.content file.now ≡ Some x → ArePlacedOf self.now.indexed.identity ds x self.now
+            → F.content file.now ≡ Some x
+            → ArePlacedOf self.now.indexed.identity ds x self.now
             → IfOk result (λ o. IsNone o
             → IsWrittenOf self.now.indexed.identity ds (W.contents writer.old)
             (W.contents writer.new) self.now.indexed.fti.transfer_length) }
         ensures answer { (ds : List (List ℕ)) (x : List ℕ)
-            → F.content file.now ≡ Some x → ArePlacedOf self.now.indexed.identity ds x self.now
+            → F.content file.now ≡ Some x
+            → ArePlacedOf self.now.indexed.identity ds x self.now
             → IfOk result (λ o. IfSome o (λ a.
             IsAnswer self.now.indexed.identity ds (answer_value a))) }
         ensures none { IfOk result (λ o. IfSome o IsNoObject) }

@@ -215,15 +215,18 @@ fn keep<F: ReadAt>(
     extent: Extent,
 ) -> Result<(), Unkept>
     requires { (f : FtiValue) × (scope.now.fti ≡ Some f) }
-    ensures here { (x : List ℕ) → F.content file.now ≡ Some x → AreSymbolsIn x scope.now symbols.old
+    ensures here { (x : List ℕ) → F.content file.now ≡ Some x
+        → AreSymbolsIn x scope.now symbols.old
         → packet.now.symbol.now ≡ held_in x extent → OnOk result
         (came_at (held_in x) symbols.new packet.now.sbn packet.now.esi
         ≡ Some packet.now.symbol.now) }
     ensures elsewhere { OnOk result ((held : ExtentValue → List ℕ) (b j : ℕ)
         → (packet.now.sbn == b && packet.now.esi == j) ≡ false
         → came_at held symbols.new b j ≡ came_at held symbols.old b j) }
-    ensures none { (x : List ℕ) → F.content file.now ≡ Some x → AreSymbolsIn x scope.now symbols.old
-        → OnOk result ((earlier : List Symbol) → IsIndex earlier (came_at (held_in x) symbols.old)
+    ensures none { (x : List ℕ) → F.content file.now ≡ Some x
+        → AreSymbolsIn x scope.now symbols.old
+        → OnOk result ((earlier : List Symbol)
+        → IsIndex earlier (came_at (held_in x) symbols.old)
         → clashes earlier (symbol_of (packet_of packet.now)) ≡ false) }
     ensures clash { (x : List ℕ) → F.content file.now ≡ Some x
         → AreSymbolsIn x scope.now symbols.old
@@ -240,7 +243,8 @@ fn keep<F: ReadAt>(
     ensures again { (x : List ℕ) → F.content file.now ≡ Some x
         → AreSymbolsIn x scope.now symbols.old
         → IfErr result (λ e. e ≡ Unkept.Again Unread.Changed → ⊥) }
-    ensures io { IfErr result (λ e. e ≡ Unkept.Again Unread.Io → F.reliable file.now ≡ false) }
+    ensures io { IfErr result (λ e. e ≡ Unkept.Again Unread.Io
+        → F.reliable file.now ≡ false) }
 {
     let Some(earlier) = place_of(symbols, packet.sbn, packet.esi) else {
         symbols.put(alloc, packet.sbn, packet.esi, extent)?;

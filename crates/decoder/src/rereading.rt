@@ -146,7 +146,8 @@ pub(crate) fn read_block_again<F: ReadAt>(
 ) -> Result<Vec<Arrival<Vec<u8>>>, Unread>
     requires { (f : FtiValue) × (scope.now.fti ≡ Some f) }
     ensures some { (held : ExtentValue → List ℕ) → IfOk result (λ v. (j : ℕ)
-        → is_some (arrived_at (λ s. s.items) v.items j) ≡ is_some (arrived_at held came.now j)) }
+        → is_some (arrived_at (λ s. s.items) v.items j)
+        ≡ is_some (arrived_at held came.now j)) }
     ensures size { (f : FtiValue) → scope.now.fti ≡ Some f → IfOk result (λ v.
         HaveLength f.symbol_length (arrived_at (λ s. s.items) v.items)) }
     ensures symbols { (x : List ℕ) → F.content reader.old.lanes.file.now ≡ Some x

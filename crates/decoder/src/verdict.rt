@@ -110,7 +110,8 @@ pub(crate) fn short_verdict<S: Source>(
     ensures told { S.Told source.now → IfOk result (λ o. IfSome o (λ a.
         Answers (S.known source.now) (S.at source.now) (answer_value a))) }
     ensures none { IfOk result (λ o. IfSome o IsNoObject) }
-    ensures enough { IfOk result (λ o. IsNone o → (b : ℕ) → b < block_count (S.known source.now)
+    ensures enough { IfOk result (λ o. IsNone o → (b : ℕ)
+        → b < block_count (S.known source.now)
         → IsEnoughAt (S.known source.now) b (S.at source.now b)) }
     ensures fault { IfErr result (IsUnreadOf (S.Told source.now) (S.reliable source.now)) }
 {
@@ -133,7 +134,8 @@ pub(crate) fn verdict<S: Source>(
     ensures told { S.Told source.now
         → IfOk result (IsVerdict (S.known source.now) (S.at source.now)) }
     ensures none { IfOk result (λ o. IfSome o IsNoObject) }
-    ensures enough { IfOk result (λ o. IsNone o → (b : ℕ) → b < block_count (S.known source.now)
+    ensures enough { IfOk result (λ o. IsNone o → (b : ℕ)
+        → b < block_count (S.known source.now)
         → IsEnoughAt (S.known source.now) b (S.at source.now b)) }
     ensures fault { IfErr result (IsUnreadOf (S.Told source.now) (S.reliable source.now)) }
 {
