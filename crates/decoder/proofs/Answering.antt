@@ -2,6 +2,8 @@
 use Rattle.std.specs.Prelude.{◌==◌, Result, Ok, Err, IfOk, IfSome, None, is_some}
 use Rattle.std.specs.Borrow.{Bor}
 use Rattle.std.proofs.lemmas.List.{length-map}
+use Rattle.std.proofs.Math.Logic.{∥∥₁_elim}
+use Rattle.std.proofs.Props.{props}
 use Rattle.std.proofs.Common.{◌≡◌, ℕ, suc, ◌<◌, true, List, [], ◌∷◌, Option, Some, map, length, get_or, arith, subst, refl, leb-true}
 use Rattle.lists.specs.Bytes.{AreBytes}
 use Rattle.partition.specs.Fti.{Fti, IsValidFti, block_count}
@@ -69,6 +71,10 @@ module _ (f : Fti) (at : ℕ → ℕ → Option (List ℕ)) (s : Stand f at) whe
   pub enough_where_full : IsValidFti f → AllFull f s.arrivals → (b : ℕ) → b < block_count f → IsEnoughAt f b (at b)
   enough_where_full valid full b hb =
       omega (arith, held_is f s.arrivals at b s.index s.within (omega (arith, counts f valid b hb)), leb-true _ _ (full b hb))
+
+-- and where it is only known that some symbols stand so
+pub within_of : (f : Fti) (at : ℕ → ℕ → Option (List ℕ)) → ∥ Stand f at ∥₁ → AreWithin f at
+within_of f at stand = ∥∥₁_elim stand (hlevel props) (are_within f at)
 
 -- what is received stands
 pub stand_of : (who : Identity) (ds : List (List ℕ)) (f : Fti) (at : ℕ → ℕ → Option (List ℕ)) → AreReceived who ds f at → Stand f at

@@ -26,6 +26,7 @@ pub mod Differences
 pub mod Padded
 pub mod Interpolated
 pub mod JustEnough
+mod OneCode
 pub mod SoundObject
 pub mod BytesOfSymbols
 pub mod ReadAgain

@@ -1,50 +1,53 @@
 -- What places in a file tell of the symbols there, of which it isn't known whether they are of an object.
 use Rattle.std.specs.Prelude.{IfSome, IsNone}
 use Rattle.std.specs.Option.{unwrap_or}
-use Rattle.std.proofs.Common.{◌≡◌, ℕ, ◌<◌, List, [], Option, Some, None, sym, subst}
-use Rattle.partition.specs.Fti.{block_count}
+use Rattle.std.proofs.Common.{◌≡◌, ℕ, List, [], Option, Some, None, sym, subst}
+use Rattle.reception.specs.declared.scope.Identity.{Identity}
 use Rattle.reception.specs.Answer as value
 use Rattle.reception.specs.Answer.{IsAnswer}
 use Rattle.reception.specs.Reception.{with_fti}
 use Rattle.decoder.specs.Answers.{answer_value}
-use Rattle.decoder.specs.Decoded.{Answers, AreWithin, IsEnoughAt, Stand}
+use Rattle.decoder.specs.Decoded.{Answers, NoneIsShort, Stand}
 use Rattle.decoder.specs.InFile.{held_in, file_at, AllStandIn}
-use Rattle.decoder.specs.PlacesOf.{ArePlacedIn, ArePlacedOf, ArePlacesOf}
+use Rattle.decoder.specs.PlacesOf.{AreEnoughPlaces, AreGatheredIn, AreIndexedOf, ArePlacedIn, ArePlacedOf, ArePlacesOf}
 use Rattle.decoder.specs.Received.{came_at}
 use Rattle.decoder.specs.Sources.{AreInRange}
 use Rattle.decoder.specs.Unsolvable.{AreSound, HaveBytes}
 use Rattle.decoder.specs.Written.{IsVerdict}
 use Rattle.decoder.specs.declared.answer.Answer.{Answer}
 use Rattle.decoder.specs.declared.file_gathering.FileSymbols.{FileSymbols}
-use Rattle.decoder.proofs.Answering.{are_within, stand_of}
+use Rattle.decoder.specs.declared.file_source.Indexed.{Indexed}
+use Rattle.decoder.proofs.Answering.{stand_of}
 use Rattle.decoder.proofs.BytesOfSymbols.{have_bytes}
 use Rattle.decoder.proofs.FromFile.{told_is}
 use Rattle.decoder.proofs.GatheredSymbols.{answer_of}
 
-module _ (content : Option (List ℕ)) (s : FileSymbols) (placed : ArePlacedIn content s) where
-  abbrev All : Type 0
-  All = AllStandIn content (with_fti s.indexed.identity s.indexed.fti) s.indexed.symbols
+-- where the places in a file are those of some of its datagrams, where its bytes are told
+module _ (content : Option (List ℕ)) (s : Indexed) (of : (x : List ℕ) → content ≡ Some x → (who : Identity) × (ds : List (List ℕ)) × AreIndexedOf who ds x s) where
+  pub indexed_stand : AllStandIn content (with_fti s.identity s.fti) s.symbols → Stand s.fti (file_at content s.symbols)
+  indexed_stand told =
+      let w = of told.0 told.1 in
+      subst (λ (y : List ℕ). Stand s.fti (came_at (held_in y) s.symbols)) (sym (told_is content told.0 told.1))
+      (stand_of w.0 w.1 s.fti (came_at (held_in told.0) s.symbols) w.2.received)
 
-  pub placed_range : AreInRange s.indexed.fti (file_at content s.indexed.symbols)
-  placed_range = placed.0.range (held_in (unwrap_or content []))
+  pub indexed_bytes : AllStandIn content (with_fti s.identity s.fti) s.symbols → HaveBytes (file_at content s.symbols)
+  indexed_bytes told =
+      let w = of told.0 told.1 in
+      subst (λ (y : List ℕ). HaveBytes (came_at (held_in y) s.symbols)) (sym (told_is content told.0 told.1))
+      (have_bytes w.0 w.1 (came_at (held_in told.0) s.symbols) w.2.read w.2.received.index)
 
-  pub placed_enough : (b : ℕ) → b < block_count s.indexed.fti → IsEnoughAt s.indexed.fti b (file_at content s.indexed.symbols b)
-  placed_enough = placed.0.enough (held_in (unwrap_or content []))
+module _ (content : Option (List ℕ)) (s : FileSymbols) where
+  pub placed_range : AreEnoughPlaces s → AreInRange s.indexed.fti (file_at content s.indexed.symbols)
+  placed_range places = places.range (held_in (unwrap_or content []))
 
-  pub placed_stand : All → Stand s.indexed.fti (file_at content s.indexed.symbols)
-  placed_stand told =
-      let w = rw told.1 at placed.1 in
-      subst (λ (y : List ℕ). Stand s.indexed.fti (came_at (held_in y) s.indexed.symbols)) (sym (told_is content told.0 told.1))
-      (stand_of s.indexed.identity w.0 s.indexed.fti (came_at (held_in told.0) s.indexed.symbols) w.1.indexed.received)
+  pub placed_enough : AreEnoughPlaces s → NoneIsShort s.indexed.fti (file_at content s.indexed.symbols)
+  placed_enough places = places.enough (held_in (unwrap_or content []))
 
-  pub placed_bytes : All → HaveBytes (file_at content s.indexed.symbols)
-  placed_bytes told =
-      let w = rw told.1 at placed.1 in
-      subst (λ (y : List ℕ). HaveBytes (came_at (held_in y) s.indexed.symbols)) (sym (told_is content told.0 told.1))
-      (have_bytes s.indexed.identity w.0 (came_at (held_in told.0) s.indexed.symbols) w.1.indexed.read w.1.indexed.received.index)
+  pub placed_of : ArePlacedIn content s → (x : List ℕ) → content ≡ Some x → (who : Identity) × (ds : List (List ℕ)) × AreIndexedOf who ds x s.indexed
+  placed_of placed x told = let w = rw told at placed.1 in (s.indexed.identity, w.0, w.1.indexed)
 
-  pub placed_within : All → AreWithin s.indexed.fti (file_at content s.indexed.symbols)
-  placed_within told = are_within s.indexed.fti (file_at content s.indexed.symbols) (placed_stand told)
+  pub gathered_of : AreGatheredIn content s → (x : List ℕ) → content ≡ Some x → (who : Identity) × (ds : List (List ℕ)) × AreIndexedOf who ds x s.indexed
+  gathered_of gathered x told = let w = rw told at gathered.1 in (w.0, w.1, w.2.indexed)
 
 module _ (content : Option (List ℕ)) (s : FileSymbols) (ds : List (List ℕ)) (x : List ℕ) (told : content ≡ Some x) (are : ArePlacedOf s.indexed.identity ds x s) where
   pub placed_answer : (answer : value.Answer) → Answers s.indexed.fti (file_at content s.indexed.symbols) answer → IsAnswer s.indexed.identity ds answer

@@ -26,6 +26,10 @@ abbrev pub IsEnoughAt : Fti → ℕ → (ℕ → Option (List ℕ)) → Type 0
 IsEnoughAt f b at =
     source_count f b ≤ length (filter (λ j. is_some (at j)) (below (encoding_count f b)))
 
+-- no block is short
+abbrev pub NoneIsShort : Fti → (ℕ → ℕ → Option (List ℕ)) → Type 0
+NoneIsShort f at = (b : ℕ) → b < block_count f → IsEnoughAt f b (at b)
+
 -- byte c of row i, where rows of so many bytes stand one behind the other
 abbrev pub row_byte : List ℕ → ℕ → ℕ → ℕ → ℕ
 row_byte rows size c i = slice_index rows (i * size + c)

@@ -2,8 +2,7 @@
 ghost use Rattle.std.specs.Prelude.{◌≡◌, ◌<◌, ◌≤◌, ℕ, List, length, filter, is_some, IfSome};
 ghost use Rattle.std.specs.Prelude.{IfNone};
 ghost use Rattle.lists.specs.Below.{below};
-ghost use Rattle.partition.specs.Fti.{block_count};
-ghost use Rattle.decoder.specs.Decoded.{IsEnoughAt, IsShort};
+ghost use Rattle.decoder.specs.Decoded.{IsShort, NoneIsShort};
 ghost use Rattle.decoder.specs.Received.{came_at};
 
 use crate::arrivals::seen_of;
@@ -43,8 +42,7 @@ pub(crate) fn have<S: Drop>(symbols: &Symbols<S>, b: u32, n: usize) -> usize
 /// The first block that has fewer encoding symbols than source symbols.
 pub(crate) fn first_short<S: Source>(source: &S) -> Option<Short>
     ensures short { IfSome result (IsShort (S.known source.now) (S.at source.now)) }
-    ensures enough { IfNone result ((b : ℕ) → b < block_count (S.known source.now)
-        → IsEnoughAt (S.known source.now) b (S.at source.now b)) }
+    ensures enough { IfNone result (NoneIsShort (S.known source.now) (S.at source.now)) }
 {
     let fti = source.fti();
     for block in 0..fti.block_count() {

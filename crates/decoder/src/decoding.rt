@@ -2,18 +2,19 @@
 ghost use Rattle.std.specs.Prelude.{◌≡◌, ◌<◌, ℕ, [], length, map, slice_index_or, IfOk};
 ghost use Rattle.std.specs.Prelude.{IfErr};
 ghost use Rattle.lists.specs.Bytes.{AreBytes};
-ghost use Rattle.partition.specs.Fti.{block_count};
 ghost use Rattle.block_code.specs.Codes.{EachBlockHas};
 ghost use Rattle.block_code.specs.CodesOf.{IsCodeOf};
 ghost use Rattle.reception.specs.Answer.{IsAnswer};
 ghost use Rattle.decoder.specs.Answers.{answer_value};
-ghost use Rattle.decoder.specs.Decoded.{AreWithin, IsEnoughAt, IsShort, Answers, Stand};
+ghost use Rattle.decoder.specs.Decoded.{AreWithin, Answers, IsShort, NoneIsShort, Stand};
 ghost use Rattle.decoder.specs.Gathering.{IsNoObject};
 ghost use Rattle.decoder.specs.Received.{bytes_at};
-ghost use Rattle.decoder.specs.Sources.{AreInRange, IsUnreadOf};
+ghost use Rattle.decoder.specs.Sources.{IsUnreadOf};
+ghost use Rattle.decoder.specs.Unsolvable.{HaveBytes};
 
 use crate::answer::{Answer, DecodeFault};
 use crate::blocks::received_rows;
+use crate::coded_source::CodedSource;
 use crate::counting::{Short, first_short};
 use crate::received::{Received, Refusal, receive};
 use crate::source::{Source, Unread};
@@ -41,8 +42,7 @@ fn decode_all(
 ) -> Result<Answer, AllocError>
     requires codes { EachBlockHas (IsCodeOf received.now.fti) received.now.fti codes.now }
     requires within { AreWithin received.now.fti (bytes_at received.now.symbols) }
-    requires enough { (b : ℕ) → b < block_count received.now.fti
-        → IsEnoughAt received.now.fti b (bytes_at received.now.symbols b) }
+    requires enough { NoneIsShort received.now.fti (bytes_at received.now.symbols) }
     ensures { IfOk result (λ a.
         Answers received.now.fti (bytes_at received.now.symbols) (answer_value a)) }
 {
@@ -61,20 +61,17 @@ fn decode_all(
 /// The answer where a block is short: the first such, if no full one is of no object.
 pub(crate) fn short_answer<S: Source>(
     alloc: Global,
-    source: &S,
-    codes: &BlockCodes,
+    coded: &CodedSource<'_, S>,
     short: Short,
 ) -> Result<Answer, Unread>
-    requires codes { EachBlockHas (IsCodeOf (S.known source.now)) (S.known source.now) codes.now }
-    requires range { AreInRange (S.known source.now) (S.at source.now) }
-    requires within { S.Told source.now → AreWithin (S.known source.now) (S.at source.now) }
-    requires short { IsShort (S.known source.now) (S.at source.now) short }
-    ensures answers { S.Told source.now → IfOk result (λ a.
-        Answers (S.known source.now) (S.at source.now) (answer_value a)) }
+    requires { IsShort (S.known coded.now.source.now) (S.at coded.now.source.now) short }
+    ensures answers { S.Told coded.now.source.now → IfOk result (λ a.
+        Answers (S.known coded.now.source.now) (S.at coded.now.source.now) (answer_value a)) }
     ensures none { IfOk result IsNoObject }
-    ensures fault { IfErr result (IsUnreadOf (S.Told source.now) (S.reliable source.now)) }
+    ensures fault { IfErr result
+        (IsUnreadOf (S.Told coded.now.source.now) (S.reliable coded.now.source.now)) }
 {
-    match first_unsolvable(alloc, source, codes)? {
+    match first_unsolvable(alloc, coded)? {
         Some(b) => Ok(Answer::Fault(DecodeFault::NotCode(b))),
         None => Ok(Answer::Missing {
             block: short.block,
@@ -86,14 +83,19 @@ pub(crate) fn short_answer<S: Source>(
 
 // What the symbols give.
 fn answer(alloc: Global, received: &Received<'_>) -> Result<Answer, AllocError>
-    requires { Stand received.now.fti (bytes_at received.now.symbols) }
+    requires stand { Stand received.now.fti (bytes_at received.now.symbols) }
+    requires bytes { HaveBytes (bytes_at received.now.symbols) }
     ensures { IfOk result (λ a.
         Answers received.now.fti (bytes_at received.now.symbols) (answer_value a)) }
 {
     received.fti.is_valid();
     let codes = BlockCodes::new(alloc, Kind::Generator, &received.fti)?;
+    let coded = CodedSource {
+        source: received,
+        codes: &codes,
+    };
     match first_short(received) {
-        Some(short) => match short_answer(alloc, received, &codes, short) {
+        Some(short) => match short_answer(alloc, &coded, short) {
             Ok(answer) => Ok(answer),
             Err(_) => Err(AllocError),
         },

@@ -18,6 +18,7 @@ ghost use Rattle.decoder.specs.declared.answer.DecodeFault.{DecodeFault as Decod
 ghost use Rattle.session.specs.declared.extent.Extent.{Extent as ExtentValue};
 
 use crate::answer::Answer;
+use crate::coded_source::CodedSource;
 use crate::file_source::{FileSource, Indexed};
 use crate::indexing::{Unindexed, find_fti, index};
 use crate::source::Unread;
@@ -130,7 +131,11 @@ fn count_places<F: ReadAt>(
         file,
         indexed: &indexed,
     };
-    match short_verdict(alloc, &source, &codes)? {
+    let coded = CodedSource {
+        source: &source,
+        codes: &codes,
+    };
+    match short_verdict(alloc, &coded)? {
         Some(answer) => Ok(GatheredFile::Answer(answer)),
         None => Ok(GatheredFile::Symbols(FileSymbols { indexed, codes })),
     }
@@ -226,7 +231,11 @@ impl FileSymbols {
             file,
             indexed: &self.indexed,
         };
-        Ok(first_of_no_object(alloc, &source, &self.codes)?)
+        let coded = CodedSource {
+            source: &source,
+            codes: &self.codes,
+        };
+        Ok(first_of_no_object(alloc, &coded)?)
     }
 
     /// Writes the object block by block, as long as the symbols of a block, all of which are looked
@@ -263,9 +272,13 @@ impl FileSymbols {
             file,
             indexed: &self.indexed,
         };
-        match write_blocks(alloc, &source, &self.codes, false, writer) {
+        let coded = CodedSource {
+            source: &source,
+            codes: &self.codes,
+        };
+        match write_blocks(alloc, &coded, false, writer) {
             Ok(true) => Ok(None),
-            Ok(false) => match unsound_answer(alloc, &source, &self.codes) {
+            Ok(false) => match unsound_answer(alloc, &coded) {
                 Ok(answer) => Ok(Some(answer)),
                 Err(unread) => Err(FileWriteFault::Unread(unread)),
             },
@@ -308,7 +321,11 @@ impl FileSymbols {
             file,
             indexed: &self.indexed,
         };
-        match write_blocks(alloc, &source, &self.codes, true, writer) {
+        let coded = CodedSource {
+            source: &source,
+            codes: &self.codes,
+        };
+        match write_blocks(alloc, &coded, true, writer) {
             Ok(true) => Ok(self.indexed.fti.transfer_length()),
             Ok(false) => Err(FileWriteFault::Unread(Unread::Changed)),
             Err(Unwritten::Writer) => Err(FileWriteFault::Io),

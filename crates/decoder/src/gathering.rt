@@ -15,6 +15,7 @@ ghost use Rattle.decoder.specs.Gathering.{IsGathered, IsWrittenOf};
 ghost use Rattle.decoder.specs.Written.{Gathers, WritesObject, BeginsObject};
 
 use crate::answer::{Answer, DecodeFault};
+use crate::coded_source::CodedSource;
 use crate::decoding::all_are_bytes;
 use crate::received::{Received, Refusal, receive};
 use crate::verdict::verdict;
@@ -71,7 +72,11 @@ fn gather_symbols<'a>(alloc: Global, received: Received<'a>) -> Result<Gathered<
 {
     received.fti.is_valid();
     let codes = BlockCodes::new(alloc, Kind::Generator, &received.fti)?;
-    match verdict(alloc, &received, &codes) {
+    let coded = CodedSource {
+        source: &received,
+        codes: &codes,
+    };
+    match verdict(alloc, &coded) {
         Ok(Some(answer)) => Ok(Gathered::Answer(answer)),
         Ok(None) => Ok(Gathered::Symbols(ObjectSymbols { received, codes })),
         // Symbols that are held are given.
@@ -121,7 +126,11 @@ impl ObjectSymbols<'_> {
             → AreSymbolsOf who ds self.now → IsAnswer who ds (Object object)
             → IfErr result (λ e. e ≡ WriteFault.Io → W.room writer.old < length object) }
     {
-        match write_blocks(alloc, &self.received, &self.codes, true, writer) {
+        let coded = CodedSource {
+            source: &self.received,
+            codes: &self.codes,
+        };
+        match write_blocks(alloc, &coded, true, writer) {
             Ok(true) => Ok(self.received.fti.transfer_length()),
             Err(Unwritten::Writer) => Err(WriteFault::Io),
             // Symbols that are held are given, and are those of an object.

@@ -13,8 +13,9 @@
 //!   those of no object;
 //! - `gathering`: the same for an object that is written block by block, so that it is never held;
 //!   `file_gathering`: the same of a session file, of which only places are held. `indexing` finds
-//!   them, `source` says what symbols are had of, and `file_source` has those of a file, which
-//!   `rereading` reads again, and by `enough` no more of them than a block needs;
+//!   them, `source` says what symbols are had of, `coded_source` has that with the codes of the
+//!   blocks, and `file_source` has the symbols of a file, which `rereading` reads again, and by
+//!   `enough` no more of them than a block needs;
 //! - `decoding`: the public call, and `selecting`: the same for a selection of a session's
 //!   datagrams, with what a check's yes promises of it.
 //!
@@ -27,6 +28,7 @@ mod arrivals;
 mod block;
 mod block_arrivals;
 mod blocks;
+mod coded_source;
 mod counting;
 mod decoding;
 mod enough;

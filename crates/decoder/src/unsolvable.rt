@@ -3,17 +3,14 @@ ghost use Rattle.std.specs.Prelude.{◌≡◌, ◌<◌, ℕ, List, true, length,
 ghost use Rattle.std.specs.Prelude.{IfErr};
 ghost use Rattle.std.specs.Prelude.{IfSome, IsNone, IsTrue, ◌↔◌};
 ghost use Rattle.std.specs.List.{AllByRecursion};
-ghost use Rattle.block_code.specs.Codes.{EachBlockHas};
-ghost use Rattle.block_code.specs.CodesOf.{IsCodeOf};
 ghost use Rattle.reception.specs.Symbols.{Symbol, FullSolvable, IsFirstUnsolvable};
 ghost use Rattle.reception.specs.Within.{IsWithin};
-ghost use Rattle.decoder.specs.Decoded.{AreWithin};
 ghost use Rattle.decoder.specs.Received.{came_at, IsIndex};
-ghost use Rattle.decoder.specs.Sources.{AreInRange, IsUnreadOf};
+ghost use Rattle.decoder.specs.Sources.{IsUnreadOf};
 
+use crate::coded_source::CodedSource;
 use crate::source::{Source, Unread};
 use crate::symbols::Symbols;
-use block_code::BlockCodes;
 use std::alloc::{AllocError, Global};
 
 // The source blocks of which something came.
@@ -49,36 +46,34 @@ fn is_before(b: u32, least: Option<u32>) -> bool
 /// The least block that has enough symbols and whose symbols are those of no object.
 pub(crate) fn first_unsolvable<S: Source>(
     alloc: Global,
-    source: &S,
-    codes: &BlockCodes,
+    coded: &CodedSource<'_, S>,
 ) -> Result<Option<u32>, Unread>
-    requires codes { EachBlockHas (IsCodeOf (S.known source.now)) (S.known source.now) codes.now }
-    requires range { AreInRange (S.known source.now) (S.at source.now) }
-    requires within { S.Told source.now → AreWithin (S.known source.now) (S.at source.now) }
-    ensures none { S.Told source.now → IfOk result (λ o. IsNone o → (arrivals : List Symbol)
-        → IsIndex arrivals (S.at source.now)
-        → AllByRecursion (IsWithin (S.known source.now)) arrivals
-        → FullSolvable (S.known source.now) arrivals) }
-    ensures some { S.Told source.now → IfOk result (λ o. IfSome o (λ b. (arrivals : List Symbol)
-        → IsIndex arrivals (S.at source.now)
-        → AllByRecursion (IsWithin (S.known source.now)) arrivals
-        → IsFirstUnsolvable (S.known source.now) arrivals b)) }
-    ensures fault { IfErr result (IsUnreadOf (S.Told source.now) (S.reliable source.now)) }
+    ensures none { S.Told coded.now.source.now → IfOk result (λ o. IsNone o
+        → (arrivals : List Symbol) → IsIndex arrivals (S.at coded.now.source.now)
+        → AllByRecursion (IsWithin (S.known coded.now.source.now)) arrivals
+        → FullSolvable (S.known coded.now.source.now) arrivals) }
+    ensures some { S.Told coded.now.source.now → IfOk result (λ o. IfSome o (λ b.
+        (arrivals : List Symbol) → IsIndex arrivals (S.at coded.now.source.now)
+        → AllByRecursion (IsWithin (S.known coded.now.source.now)) arrivals
+        → IsFirstUnsolvable (S.known coded.now.source.now) arrivals b)) }
+    ensures fault { IfErr result
+        (IsUnreadOf (S.Told coded.now.source.now) (S.reliable coded.now.source.now)) }
 {
-    let fti = source.fti();
+    let fti = coded.source.fti();
     fti.is_valid();
-    let blocks = source.blocks(alloc)?;
+    let blocks = coded.source.blocks(alloc)?;
     let mut least = None;
-    let mut workspace = source.workspace(alloc)?;
+    let mut workspace = coded.source.workspace(alloc)?;
     for b in &blocks {
         if !is_before(*b, least) {
             continue;
         }
-        if source.count(*b, fti.n(*b)) < fti.k(*b) {
+        if coded.source.count(*b, fti.n(*b)) < fti.k(*b) {
             continue;
         }
-        if source
-            .rows(alloc, codes, *b, false, &mut workspace)?
+        if coded
+            .source
+            .rows(alloc, coded.codes, *b, false, &mut workspace)?
             .is_none()
         {
             least = Some(*b);

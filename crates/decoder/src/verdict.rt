@@ -1,47 +1,42 @@
 //! Whether symbols are those of an object, told without making it.
-ghost use Rattle.std.specs.Prelude.{◌≡◌, ◌<◌, ℕ, IsNone, IfOk, IfErr, IfSome, MatchBool};
-ghost use Rattle.partition.specs.Fti.{block_count};
-ghost use Rattle.block_code.specs.Codes.{EachBlockHas};
-ghost use Rattle.block_code.specs.CodesOf.{IsCodeOf};
+ghost use Rattle.std.specs.Prelude.{IsNone, IfOk, IfErr, IfSome, MatchBool};
 ghost use Rattle.decoder.specs.Answers.{answer_value};
-ghost use Rattle.decoder.specs.Decoded.{Answers, AreWithin, IsEnoughAt, Stand};
+ghost use Rattle.decoder.specs.Decoded.{Answers, NoneIsShort};
 ghost use Rattle.decoder.specs.Gathering.{IsNoObject};
-ghost use Rattle.decoder.specs.Sources.{AreInRange, IsUnreadOf};
-ghost use Rattle.decoder.specs.Unsolvable.{AreSound, SomeUnsound, HaveBytes};
+ghost use Rattle.decoder.specs.Sources.{IsUnreadOf};
+ghost use Rattle.decoder.specs.Unsolvable.{AreSound, SomeUnsound};
 ghost use Rattle.decoder.specs.Written.{IsVerdict};
 
 use crate::answer::{Answer, DecodeFault};
+use crate::coded_source::CodedSource;
 use crate::counting::first_short;
 use crate::decoding::short_answer;
 use crate::source::{Source, Unread};
 use crate::unsolvable::first_unsolvable;
-use block_code::BlockCodes;
 use std::alloc::Global;
 
 // Whether some block is of no object, where no block is short. Any `k` symbols of a block are those
 // of some polynomials, so that only blocks with more have to be solved, and the last one, whose
 // symbols have to fit the object's padding.
-fn has_unsolvable<S: Source>(alloc: Global, source: &S, codes: &BlockCodes) -> Result<bool, Unread>
-    requires codes { EachBlockHas (IsCodeOf (S.known source.now)) (S.known source.now) codes.now }
-    requires within { S.Told source.now → AreWithin (S.known source.now) (S.at source.now) }
-    requires enough { (b : ℕ) → b < block_count (S.known source.now)
-        → IsEnoughAt (S.known source.now) b (S.at source.now b) }
-    requires bytes { S.Told source.now → HaveBytes (S.at source.now) }
-    ensures told { S.Told source.now → IfOk result (λ v. MatchBool v
-        (SomeUnsound (S.known source.now) (S.at source.now))
-        (AreSound (S.known source.now) (S.at source.now))) }
-    ensures fault { IfErr result (IsUnreadOf (S.Told source.now) (S.reliable source.now)) }
+fn has_unsolvable<S: Source>(alloc: Global, coded: &CodedSource<'_, S>) -> Result<bool, Unread>
+    requires { NoneIsShort (S.known coded.now.source.now) (S.at coded.now.source.now) }
+    ensures told { S.Told coded.now.source.now → IfOk result (λ v. MatchBool v
+        (SomeUnsound (S.known coded.now.source.now) (S.at coded.now.source.now))
+        (AreSound (S.known coded.now.source.now) (S.at coded.now.source.now))) }
+    ensures fault { IfErr result
+        (IsUnreadOf (S.Told coded.now.source.now) (S.reliable coded.now.source.now)) }
 {
-    let fti = source.fti();
+    let fti = coded.source.fti();
     fti.is_valid();
     let last = fti.block_count() - 1;
-    let mut workspace = source.workspace(alloc)?;
+    let mut workspace = coded.source.workspace(alloc)?;
     for b in 0..fti.block_count() {
-        if b < last && source.count(b, fti.n(b)) == fti.k(b) {
+        if b < last && coded.source.count(b, fti.n(b)) == fti.k(b) {
             continue;
         }
-        if source
-            .rows(alloc, codes, b, false, &mut workspace)?
+        if coded
+            .source
+            .rows(alloc, coded.codes, b, false, &mut workspace)?
             .is_none()
         {
             return Ok(true);
@@ -53,21 +48,18 @@ fn has_unsolvable<S: Source>(alloc: Global, source: &S, codes: &BlockCodes) -> R
 /// The answer to what came, where some block is of no object, and no block is short.
 pub(crate) fn unsound_answer<S: Source>(
     alloc: Global,
-    source: &S,
-    codes: &BlockCodes,
+    coded: &CodedSource<'_, S>,
 ) -> Result<Answer, Unread>
-    requires codes { EachBlockHas (IsCodeOf (S.known source.now)) (S.known source.now) codes.now }
-    requires range { AreInRange (S.known source.now) (S.at source.now) }
-    requires stand { S.Told source.now → Stand (S.known source.now) (S.at source.now) }
-    requires bytes { S.Told source.now → HaveBytes (S.at source.now) }
-    requires some { S.Told source.now → SomeUnsound (S.known source.now) (S.at source.now) }
-    ensures told { S.Told source.now → IfOk result (λ a.
-        Answers (S.known source.now) (S.at source.now) (answer_value a)) }
+    requires { S.Told coded.now.source.now
+        → SomeUnsound (S.known coded.now.source.now) (S.at coded.now.source.now) }
+    ensures told { S.Told coded.now.source.now → IfOk result (λ a.
+        Answers (S.known coded.now.source.now) (S.at coded.now.source.now) (answer_value a)) }
     ensures none { IfOk result IsNoObject }
-    ensures fault { IfErr result (IsUnreadOf (S.Told source.now) (S.reliable source.now)) }
+    ensures fault { IfErr result
+        (IsUnreadOf (S.Told coded.now.source.now) (S.reliable coded.now.source.now)) }
 {
-    source.fti().is_valid();
-    match first_unsolvable(alloc, source, codes)? {
+    coded.source.fti().is_valid();
+    match first_unsolvable(alloc, coded)? {
         Some(b) => Ok(Answer::Fault(DecodeFault::NotCode(b))),
         None => Err(Unread::Changed),
     }
@@ -76,47 +68,37 @@ pub(crate) fn unsound_answer<S: Source>(
 /// The answer to what came, where it is no object, and `None` where it is one; no block is short.
 pub(crate) fn first_of_no_object<S: Source>(
     alloc: Global,
-    source: &S,
-    codes: &BlockCodes,
+    coded: &CodedSource<'_, S>,
 ) -> Result<Option<Answer>, Unread>
-    requires codes { EachBlockHas (IsCodeOf (S.known source.now)) (S.known source.now) codes.now }
-    requires range { AreInRange (S.known source.now) (S.at source.now) }
-    requires stand { S.Told source.now → Stand (S.known source.now) (S.at source.now) }
-    requires enough { (b : ℕ) → b < block_count (S.known source.now)
-        → IsEnoughAt (S.known source.now) b (S.at source.now b) }
-    requires bytes { S.Told source.now → HaveBytes (S.at source.now) }
-    ensures told { S.Told source.now
-        → IfOk result (IsVerdict (S.known source.now) (S.at source.now)) }
+    requires { NoneIsShort (S.known coded.now.source.now) (S.at coded.now.source.now) }
+    ensures told { S.Told coded.now.source.now
+        → IfOk result (IsVerdict (S.known coded.now.source.now) (S.at coded.now.source.now)) }
     ensures none { IfOk result (λ o. IfSome o IsNoObject) }
-    ensures fault { IfErr result (IsUnreadOf (S.Told source.now) (S.reliable source.now)) }
+    ensures fault { IfErr result
+        (IsUnreadOf (S.Told coded.now.source.now) (S.reliable coded.now.source.now)) }
 {
-    source.fti().is_valid();
-    if !has_unsolvable(alloc, source, codes)? {
+    coded.source.fti().is_valid();
+    if !has_unsolvable(alloc, coded)? {
         return Ok(None);
     }
-    Ok(Some(unsound_answer(alloc, source, codes)?))
+    Ok(Some(unsound_answer(alloc, coded)?))
 }
 
 /// The answer to what came, where a block is short, and `None` where none is.
 pub(crate) fn short_verdict<S: Source>(
     alloc: Global,
-    source: &S,
-    codes: &BlockCodes,
+    coded: &CodedSource<'_, S>,
 ) -> Result<Option<Answer>, Unread>
-    requires codes { EachBlockHas (IsCodeOf (S.known source.now)) (S.known source.now) codes.now }
-    requires range { AreInRange (S.known source.now) (S.at source.now) }
-    requires stand { S.Told source.now → Stand (S.known source.now) (S.at source.now) }
-    requires bytes { S.Told source.now → HaveBytes (S.at source.now) }
-    ensures told { S.Told source.now → IfOk result (λ o. IfSome o (λ a.
-        Answers (S.known source.now) (S.at source.now) (answer_value a))) }
+    ensures told { S.Told coded.now.source.now → IfOk result (λ o. IfSome o (λ a.
+        Answers (S.known coded.now.source.now) (S.at coded.now.source.now) (answer_value a))) }
     ensures none { IfOk result (λ o. IfSome o IsNoObject) }
-    ensures enough { IfOk result (λ o. IsNone o → (b : ℕ)
-        → b < block_count (S.known source.now)
-        → IsEnoughAt (S.known source.now) b (S.at source.now b)) }
-    ensures fault { IfErr result (IsUnreadOf (S.Told source.now) (S.reliable source.now)) }
+    ensures enough { IfOk result (λ o. IsNone o
+        → NoneIsShort (S.known coded.now.source.now) (S.at coded.now.source.now)) }
+    ensures fault { IfErr result
+        (IsUnreadOf (S.Told coded.now.source.now) (S.reliable coded.now.source.now)) }
 {
-    match first_short(source) {
-        Some(short) => Ok(Some(short_answer(alloc, source, codes, short)?)),
+    match first_short(coded.source) {
+        Some(short) => Ok(Some(short_answer(alloc, coded, short)?)),
         None => Ok(None),
     }
 }
@@ -124,23 +106,18 @@ pub(crate) fn short_verdict<S: Source>(
 /// The answer to what came, where it is no object, and `None` where it is one.
 pub(crate) fn verdict<S: Source>(
     alloc: Global,
-    source: &S,
-    codes: &BlockCodes,
+    coded: &CodedSource<'_, S>,
 ) -> Result<Option<Answer>, Unread>
-    requires codes { EachBlockHas (IsCodeOf (S.known source.now)) (S.known source.now) codes.now }
-    requires range { AreInRange (S.known source.now) (S.at source.now) }
-    requires stand { S.Told source.now → Stand (S.known source.now) (S.at source.now) }
-    requires bytes { S.Told source.now → HaveBytes (S.at source.now) }
-    ensures told { S.Told source.now
-        → IfOk result (IsVerdict (S.known source.now) (S.at source.now)) }
+    ensures told { S.Told coded.now.source.now
+        → IfOk result (IsVerdict (S.known coded.now.source.now) (S.at coded.now.source.now)) }
     ensures none { IfOk result (λ o. IfSome o IsNoObject) }
-    ensures enough { IfOk result (λ o. IsNone o → (b : ℕ)
-        → b < block_count (S.known source.now)
-        → IsEnoughAt (S.known source.now) b (S.at source.now b)) }
-    ensures fault { IfErr result (IsUnreadOf (S.Told source.now) (S.reliable source.now)) }
+    ensures enough { IfOk result (λ o. IsNone o
+        → NoneIsShort (S.known coded.now.source.now) (S.at coded.now.source.now)) }
+    ensures fault { IfErr result
+        (IsUnreadOf (S.Told coded.now.source.now) (S.reliable coded.now.source.now)) }
 {
-    match short_verdict(alloc, source, codes)? {
+    match short_verdict(alloc, coded)? {
         Some(answer) => Ok(Some(answer)),
-        None => first_of_no_object(alloc, source, codes),
+        None => first_of_no_object(alloc, coded),
     }
 }

@@ -1,15 +1,12 @@
 //! An object that is written block by block, so that it is never held.
-ghost use Rattle.std.specs.Prelude.{◌≡◌, ◌<◌, ℕ, true, false, IfErr, IfOk, OnErr};
-ghost use Rattle.partition.specs.Fti.{block_count};
-ghost use Rattle.block_code.specs.Codes.{EachBlockHas};
-ghost use Rattle.block_code.specs.CodesOf.{IsCodeOf};
-ghost use Rattle.decoder.specs.Decoded.{AreWithin, IsEnoughAt};
+ghost use Rattle.std.specs.Prelude.{◌≡◌, ◌<◌, true, false, IfErr, IfOk, OnErr};
+ghost use Rattle.decoder.specs.Decoded.{NoneIsShort};
 ghost use Rattle.decoder.specs.Sources.{IsUnwrittenOf};
 ghost use Rattle.decoder.specs.Unsolvable.{AreSound, SomeUnsound};
 ghost use Rattle.decoder.specs.Written.{WritesObject, BeginsObject};
 
+use crate::coded_source::CodedSource;
 use crate::source::{Source, Unread};
-use block_code::BlockCodes;
 use session::{Write, write_all};
 use std::alloc::{AllocError, Global};
 
@@ -49,35 +46,35 @@ impl From<AllocError> for Unwritten {
 /// Answers whether all are. `are_sound` says that this is known.
 pub(crate) fn write_blocks<S: Source, W: Write>(
     alloc: Global,
-    source: &S,
-    codes: &BlockCodes,
+    coded: &CodedSource<'_, S>,
     are_sound: bool,
     writer: &mut W,
 ) -> Result<bool, Unwritten>
-    requires codes { EachBlockHas (IsCodeOf (S.known source.now)) (S.known source.now) codes.now }
-    requires within { S.Told source.now → AreWithin (S.known source.now) (S.at source.now) }
-    requires enough { (b : ℕ) → b < block_count (S.known source.now)
-        → IsEnoughAt (S.known source.now) b (S.at source.now b) }
-    requires sound { are_sound ≡ true → S.Told source.now
-        → AreSound (S.known source.now) (S.at source.now) }
-    ensures whole { S.Told source.now → IfOk result (λ v. v ≡ true
-        → WritesObject (S.known source.now) (S.at source.now)
+    requires enough { NoneIsShort (S.known coded.now.source.now) (S.at coded.now.source.now) }
+    requires sound { are_sound ≡ true → S.Told coded.now.source.now
+        → AreSound (S.known coded.now.source.now) (S.at coded.now.source.now) }
+    ensures whole { S.Told coded.now.source.now → IfOk result (λ v. v ≡ true
+        → WritesObject (S.known coded.now.source.now) (S.at coded.now.source.now)
         (W.contents writer.old) (W.contents writer.new)) }
-    ensures other { S.Told source.now → IfOk result (λ v. v ≡ false
-        → SomeUnsound (S.known source.now) (S.at source.now)) }
-    ensures front { S.Told source.now
-        → OnErr result (BeginsObject (S.known source.now) (S.at source.now)
+    ensures other { S.Told coded.now.source.now → IfOk result (λ v. v ≡ false
+        → SomeUnsound (S.known coded.now.source.now) (S.at coded.now.source.now)) }
+    ensures front { S.Told coded.now.source.now
+        → OnErr result (BeginsObject (S.known coded.now.source.now) (S.at coded.now.source.now)
         (W.contents writer.old) (W.contents writer.new)) }
     ensures fault { IfErr result (λ e. e ≡ Unwritten.Writer → W.failed writer.new ≡ true) }
     ensures full { IfErr result (λ e. e ≡ Unwritten.Writer
-        → W.room writer.old < (S.known source.now).transfer_length) }
-    ensures unread { IfErr result (IsUnwrittenOf (S.Told source.now) (S.reliable source.now)) }
+        → W.room writer.old < (S.known coded.now.source.now).transfer_length) }
+    ensures unread { IfErr result
+        (IsUnwrittenOf (S.Told coded.now.source.now) (S.reliable coded.now.source.now)) }
 {
-    let fti = source.fti();
+    let fti = coded.source.fti();
     let count = fti.block_count();
-    let mut workspace = source.workspace(alloc)?;
+    let mut workspace = coded.source.workspace(alloc)?;
     for b in 0..count {
-        let Some(rows) = source.rows(alloc, codes, b, are_sound, &mut workspace)? else {
+        let Some(rows) = coded
+            .source
+            .rows(alloc, coded.codes, b, are_sound, &mut workspace)?
+        else {
             return Ok(false);
         };
         // The rows of a source that isn't told may be shorter.

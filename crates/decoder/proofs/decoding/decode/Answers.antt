@@ -5,15 +5,23 @@ use Rattle.reception.specs.Walks.{readings_of}
 use Rattle.decoder.specs.declared.answer.Answer.{Answer}
 use Rattle.decoder.specs.Answers.{answer_value}
 use Rattle.decoder.specs.Decoded.{Answers}
-use Rattle.decoder.specs.Received.{bytes_at}
+use Rattle.decoder.specs.Received.{bytes_at, AreReceived}
 use Rattle.decoder.proofs.Answering.{answered, bytes_of, read_all, stand_of, if_ok}
+use Rattle.decoder.proofs.BytesOfSymbols.{have_bytes}
 use Rattle.decoder.proofs.decoding.decode.Goals as goal
 
-pub answer-requires : goal.answer-requires
-answer-requires c =
+pub answer-requires-clause-stand : goal.answer-requires-clause-stand
+answer-requires-clause-stand c =
     let ds = map (λ (d : Bor (List ℕ)). d.now) c.args.datagrams.now in
     stand_of c.args.identity ds c.in-Ok-Some.received.fti (bytes_at c.in-Ok-Some.received.symbols)
     (rw c.in-Ok-Some.field-0-is at c.in-Ok-Some.ensures.received)
+
+pub answer-requires-clause-bytes : goal.answer-requires-clause-bytes
+answer-requires-clause-bytes c =
+    let ds = map (λ (d : Bor (List ℕ)). d.now) c.args.datagrams.now in
+    let received : AreReceived c.args.identity (map (λ (d : Bor (List ℕ)). d.now) c.args.datagrams.now) c.in-Ok-Some.received.fti (bytes_at c.in-Ok-Some.received.symbols) =
+    rw c.in-Ok-Some.field-0-is at c.in-Ok-Some.ensures.received in
+    have_bytes c.args.identity ds (bytes_at c.in-Ok-Some.received.symbols) (read_all ds (bytes_of c.args.datagrams.now _ c.all_are_bytes.ensures)) received.index
 
 pub returns-in-Ok-Some : goal.returns-in-Ok-Some
 returns-in-Ok-Some c =

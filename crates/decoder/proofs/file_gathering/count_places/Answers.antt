@@ -1,47 +1,35 @@
 use Rattle.std.specs.Option.{unwrap_or}
-use Rattle.std.proofs.Common.{ℕ, List, [], refl, sym, subst}
+use Rattle.std.proofs.Common.{◌≡◌, ℕ, List, [], Some, refl, subst}
 use Rattle.std.proofs.lemmas.Result.{err_from_is_err_and}
 use Rattle.session.specs.Frames.{IsFramed}
+use Rattle.reception.specs.declared.scope.Identity.{Identity}
 use Rattle.reception.specs.Answer.{IsAnswer}
 use Rattle.reception.specs.Reception.{asked, counted, symbols, with_fti}
 use Rattle.reception.specs.Walks.{readings_of}
 use Rattle.reception.specs.Answer.{clash}
 use Rattle.reception.proofs.Within.{within}
 use Rattle.decoder.specs.Answers.{answer_value}
-use Rattle.decoder.specs.Decoded.{Answers, Stand}
-use Rattle.decoder.specs.PlacesOf.{ArePlacedOf}
+use Rattle.decoder.specs.Decoded.{Answers}
+use Rattle.decoder.specs.PlacesOf.{AreIndexedOf, ArePlacedOf}
 use Rattle.decoder.specs.InFile.{held_in, AllStandIn}
 use Rattle.decoder.specs.Received.{came_at}
-use Rattle.decoder.specs.Unsolvable.{HaveBytes}
-use Rattle.decoder.proofs.Answering.{stand_of}
 use Rattle.decoder.proofs.FromFile.{told_is, told_if, enough_same, some_any, file_fault_of}
 use Rattle.decoder.proofs.GatheredSymbols.{answer_of}
-use Rattle.decoder.proofs.BytesOfSymbols.{have_bytes}
+use Rattle.decoder.proofs.Placed.{indexed_bytes, indexed_stand}
 use Rattle.decoder.proofs.Unsound.{full_of_enough}
 use Rattle.decoder.proofs.file_gathering.count_places.Goals as goal
 
-pub short_verdict-requires-clause-range : goal.short_verdict-requires-clause-range
-short_verdict-requires-clause-range g c = c.requires.range (held_in (unwrap_or (g.F.ReadAt.content c.args.file.now) []))
-
-pub short_verdict-requires-clause-stand : goal.short_verdict-requires-clause-stand
-short_verdict-requires-clause-stand g c = λ told.
+pub invariant_of-coded : goal.invariant_of-coded
+invariant_of-coded g c =
     let content = g.F.ReadAt.content c.args.file.now in
-    let s = c.args.indexed.symbols in
-    let f = c.args.indexed.fti in
-    let who = c.args.indexed.identity in
-    let w = c.requires.told told.0 told.1 in
-    subst (λ (y : List ℕ). Stand c.args.indexed.fti (came_at (held_in y) c.args.indexed.symbols)) (sym (told_is content told.0 told.1))
-    (stand_of who w.0 f (came_at (held_in told.0) s) w.2.received)
-
-pub short_verdict-requires-clause-bytes : goal.short_verdict-requires-clause-bytes
-short_verdict-requires-clause-bytes g c = λ told.
-    let content = g.F.ReadAt.content c.args.file.now in
-    let s = c.args.indexed.symbols in
-    let f = c.args.indexed.fti in
-    let who = c.args.indexed.identity in
-    let w = c.requires.told told.0 told.1 in
-    subst (λ (y : List ℕ). HaveBytes (came_at (held_in y) c.args.indexed.symbols)) (sym (told_is content told.0 told.1))
-    (have_bytes who w.0 (came_at (held_in told.0) s) w.2.read w.2.received.index)
+    let s = c.args.indexed in
+    let of : (x : List ℕ) → content ≡ Some x → (who : Identity) × (ds : List (List ℕ)) × AreIndexedOf who ds x s = λ x told. (let w = c.requires.told x told in (s.identity, w.0, w.2)) in
+    record {
+      code = ∣ c.in_ok-codes.ensures ∣₁;
+      range = c.requires.range (held_in (unwrap_or content []));
+      stand = λ told. ∣ indexed_stand content s of told ∣₁;
+      bytes = indexed_bytes content s of;
+    }
 
 pub returns-in_err-answer-clause-fault : goal.returns-in_err-answer-clause-fault
 returns-in_err-answer-clause-fault g c =

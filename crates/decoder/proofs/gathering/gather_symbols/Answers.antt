@@ -3,8 +3,11 @@ use Rattle.decoder.specs.Received.{bytes_at}
 use Rattle.decoder.proofs.Answering.{are_within, in_range}
 use Rattle.decoder.proofs.gathering.gather_symbols.Goals as goal
 
-pub verdict-requires-clause-range : goal.verdict-requires-clause-range
-verdict-requires-clause-range c = in_range c.args.received.fti (bytes_at c.args.received.symbols) (are_within c.args.received.fti (bytes_at c.args.received.symbols) c.requires.stand)
+pub invariant_of-coded : goal.invariant_of-coded
+invariant_of-coded c =
+    let f = c.args.received.fti in
+    let at = bytes_at c.args.received.symbols in
+    record { code = ∣ c.in_ok-codes.ensures ∣₁; range = in_range f at (are_within f at c.requires.stand); stand = λ _. ∣ c.requires.stand ∣₁; bytes = λ _. c.requires.bytes }
 
 pub returns-in-Ok-Some : goal.returns-in-Ok-Some
 returns-in-Ok-Some c = ((rw c.in-Ok-Some.field-0-is at c.in-Ok-Some.ensures.told) tt, rw c.in-Ok-Some.field-0-is at c.in-Ok-Some.ensures.none)

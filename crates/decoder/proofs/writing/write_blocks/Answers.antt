@@ -2,7 +2,9 @@ use Rattle.std.proofs.Common.{◌≡◌, ◌≤◌, ◌<◌, ◌+◌, ◌*◌, �
 use Rattle.partition.specs.Fti.{IsValidFti, block_count, source_count, start_of, block_bytes}
 use Rattle.partition.proofs.Laws.{some_block, some_source, start_step, in_object}
 use Rattle.session.proofs.Writes.{then_appends, then_some}
+use Rattle.decoder.proofs.Answering.{within_of}
 use Rattle.decoder.proofs.Beginnings.{begins, begins_whole}
+use Rattle.decoder.proofs.OneCode.{code_of}
 use Rattle.decoder.proofs.ObjectSoFar.{nothing_yet, has_bytes, one_more_block, object_answers}
 use Rattle.decoder.proofs.Beginnings.{appends_nothing, on_err}
 use Rattle.decoder.proofs.writing.write_blocks.Goals as goal
@@ -12,17 +14,17 @@ loop-b-init g c =
     let many = rw c.fti-fti.ensures at c.block_count-count.ensures.value in
     record {
       object = [];
-      so_far = λ told. nothing_yet (g.S.Source.known c.args.source.now) (g.S.Source.at c.args.source.now) (omega (arith, c.block_count-count.ensures.some, many));
+      so_far = λ told. nothing_yet (g.S.Source.known c.args.coded.now.source.now) (g.S.Source.at c.args.coded.now.source.now) (omega (arith, c.block_count-count.ensures.some, many));
       written = appends_nothing _;
       few = omega arith;
       room = omega arith;
-      fits = c.in_ok-workspace.ensures c.args.codes.now;
+      fits = c.in_ok-workspace.ensures c.args.coded.now.codes.now;
     }
 
 pub returns-in_err-workspace-clause-front : goal.returns-in_err-workspace-clause-front
 returns-in_err-workspace-clause-front g c = λ told.
-    let f = g.S.Source.known c.args.source.now in
-    let at = g.S.Source.at c.args.source.now in
+    let f = g.S.Source.known c.args.coded.now.source.now in
+    let at = g.S.Source.at c.args.coded.now.source.now in
     let valid = subst IsValidFti c.fti-fti.ensures c.block_count-count.ensures.valid in
     let some = some_block f valid in
     on_err _ _ (begins_whole f valid at 0 [] (nothing_yet f at some) (omega (arith, some)) _ _ (appends_nothing _))
@@ -32,6 +34,14 @@ rows-requires-clause-number g c =
     let many = rw c.fti-fti.ensures at c.block_count-count.ensures.value in
     omega (arith, many, c.loop-b-test.true)
 
+pub rows-requires-clause-codes : goal.rows-requires-clause-codes
+rows-requires-clause-codes g c =
+    code_of (g.S.Source.known c.args.coded.now.source.now) (subst IsValidFti c.fti-fti.ensures c.block_count-count.ensures.valid) c.args.coded.now.codes.now c.args.coded.now.code
+
+pub rows-requires-clause-within : goal.rows-requires-clause-within
+rows-requires-clause-within g c = λ told.
+    within_of (g.S.Source.known c.args.coded.now.source.now) (g.S.Source.at c.args.coded.now.source.now) (c.args.coded.now.stand told)
+
 pub rows-requires-clause-enough : goal.rows-requires-clause-enough
 rows-requires-clause-enough g c =
     let many = rw c.fti-fti.ensures at c.block_count-count.ensures.value in
@@ -40,25 +50,25 @@ rows-requires-clause-enough g c =
 pub rows-requires-clause-sound : goal.rows-requires-clause-sound
 rows-requires-clause-sound g c = λ sound told.
     let many = rw c.fti-fti.ensures at c.block_count-count.ensures.value in
-    let hb : c.loop-b.b < block_count (g.S.Source.known c.args.source.now) = omega (arith, many, c.loop-b-test.true) in
+    let hb : c.loop-b.b < block_count (g.S.Source.known c.args.coded.now.source.now) = omega (arith, many, c.loop-b-test.true) in
     c.requires.sound sound told c.loop-b.b hb (c.requires.enough c.loop-b.b hb)
 
 pub returns-in_err-rows-clause-front : goal.returns-in_err-rows-clause-front
 returns-in_err-rows-clause-front g c = λ told.
     let i = c.loop-b.invariant in
     let many = rw c.fti-fti.ensures at c.block_count-count.ensures.value in
-    on_err _ _ (begins_whole (g.S.Source.known c.args.source.now) (subst IsValidFti c.fti-fti.ensures c.block_count-count.ensures.valid) (g.S.Source.at c.args.source.now) c.loop-b.b i.object (i.so_far told)
+    on_err _ _ (begins_whole (g.S.Source.known c.args.coded.now.source.now) (subst IsValidFti c.fti-fti.ensures c.block_count-count.ensures.valid) (g.S.Source.at c.args.coded.now.source.now) c.loop-b.b i.object (i.so_far told)
     (omega (arith, many)) _ _ i.written)
 
 pub returns-in_default-write_all-clause-front : goal.returns-in_default-write_all-clause-front
 returns-in_default-write_all-clause-front g c = λ told.
     let i = c.loop-b.invariant in
-    let f = g.S.Source.known c.args.source.now in
-    let at = g.S.Source.at c.args.source.now in
+    let f = g.S.Source.known c.args.coded.now.source.now in
+    let at = g.S.Source.at c.args.coded.now.source.now in
     let many = rw c.fti-fti.ensures at c.block_count-count.ensures.value in
     let valid = subst IsValidFti c.fti-fti.ensures c.block_count-count.ensures.valid in
     let front : List ℕ = take c.min-used.result c.deref.result.now in
-    let hb : c.loop-b.b < block_count (g.S.Source.known c.args.source.now) = omega (arith, many) in
+    let hb : c.loop-b.b < block_count (g.S.Source.known c.args.coded.now.source.now) = omega (arith, many) in
     let made = rw c.in-Some.is at (c.in_ok-rows.ensures.rows told) in
     let more : c.len.result ≡ length c.in-Some.rows.bytes.items = c.len.ensures ∙ sym c.deref.ensures.len ∙ ap length c.deref.ensures.value in
     let bytes : c.block_bytes.result ≡ block_bytes f c.loop-b.b = rw c.fti-fti.ensures at c.block_bytes.ensures.value in
@@ -70,12 +80,12 @@ returns-in_default-write_all-clause-front g c = λ told.
 pub loop-b-preserved : goal.loop-b-preserved
 loop-b-preserved g c =
     let i = c.loop-b.invariant in
-    let f = g.S.Source.known c.args.source.now in
-    let at = g.S.Source.at c.args.source.now in
+    let f = g.S.Source.known c.args.coded.now.source.now in
+    let at = g.S.Source.at c.args.coded.now.source.now in
     let many = rw c.fti-fti.ensures at c.block_count-count.ensures.value in
     let valid = subst IsValidFti c.fti-fti.ensures c.block_count-count.ensures.valid in
     let front : List ℕ = take c.min-used.result c.deref.result.now in
-    let hb : c.loop-b.b < block_count (g.S.Source.known c.args.source.now) = omega (arith, many) in
+    let hb : c.loop-b.b < block_count (g.S.Source.known c.args.coded.now.source.now) = omega (arith, many) in
     let more : c.len.result ≡ length c.in-Some.rows.bytes.items = c.len.ensures ∙ sym c.deref.ensures.len ∙ ap length c.deref.ensures.value in
     let bytes : c.block_bytes.result ≡ block_bytes f c.loop-b.b = rw c.fti-fti.ensures at c.block_bytes.ensures.value in
     let within : c.min-used.result ≤ length c.deref.result.now = omega (arith, c.min-used.ensures, more, ap length c.deref.ensures.value) in
@@ -99,10 +109,10 @@ loop-b-preserved g c =
 pub returns-in_default-write_all-clause-full : goal.returns-in_default-write_all-clause-full
 returns-in_default-write_all-clause-full g c = λ _.
     let i = c.loop-b.invariant in
-    let f = g.S.Source.known c.args.source.now in
+    let f = g.S.Source.known c.args.coded.now.source.now in
     let many = rw c.fti-fti.ensures at c.block_count-count.ensures.value in
     let valid = subst IsValidFti c.fti-fti.ensures c.block_count-count.ensures.valid in
-    let hb : c.loop-b.b < block_count (g.S.Source.known c.args.source.now) = omega (arith, many) in
+    let hb : c.loop-b.b < block_count (g.S.Source.known c.args.coded.now.source.now) = omega (arith, many) in
     let more : c.len.result ≡ length c.in-Some.rows.bytes.items = c.len.ensures ∙ sym c.deref.ensures.len ∙ ap length c.deref.ensures.value in
     let bytes : c.block_bytes.result ≡ block_bytes f c.loop-b.b = rw c.fti-fti.ensures at c.block_bytes.ensures.value in
     let within : c.min-used.result ≤ length c.deref.result.now = omega (arith, c.min-used.ensures, more, ap length c.deref.ensures.value) in
@@ -115,10 +125,10 @@ returns-clause-whole g c = λ told _.
     let i = c.loop-b.invariant in
     let many = rw c.fti-fti.ensures at c.block_count-count.ensures.value in
     let valid = subst IsValidFti c.fti-fti.ensures c.block_count-count.ensures.valid in
-    let end : c.loop-b.b ≡ block_count (g.S.Source.known c.args.source.now) = omega (arith, c.loop-b-test.false, c.loop-b.auto.b-end, many) in
+    let end : c.loop-b.b ≡ block_count (g.S.Source.known c.args.coded.now.source.now) = omega (arith, c.loop-b-test.false, c.loop-b.auto.b-end, many) in
     record {
       object = i.object;
       count = (i.so_far told).whole end;
-      answers = object_answers (g.S.Source.known c.args.source.now) valid (g.S.Source.at c.args.source.now) c.loop-b.b i.object (i.so_far told) end c.requires.enough;
+      answers = object_answers (g.S.Source.known c.args.coded.now.source.now) valid (g.S.Source.at c.args.coded.now.source.now) c.loop-b.b i.object (i.so_far told) end c.requires.enough;
       gained = i.written;
     }

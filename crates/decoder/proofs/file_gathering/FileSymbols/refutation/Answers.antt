@@ -1,17 +1,20 @@
-use Rattle.decoder.proofs.Placed.{placed_bytes, placed_enough, placed_object, placed_range, placed_refuted, placed_stand}
+use Rattle.decoder.proofs.Placed.{indexed_bytes, indexed_stand, placed_enough, placed_object, placed_of, placed_range, placed_refuted}
 use Rattle.decoder.proofs.file_gathering.FileSymbols.refutation.Goals as goal
 
-pub first_of_no_object-requires-clause-range : goal.first_of_no_object-requires-clause-range
-first_of_no_object-requires-clause-range g c = placed_range (g.F.ReadAt.content c.args.file.now) c.args.self.now c.requires
+pub invariant_of-coded : goal.invariant_of-coded
+invariant_of-coded g c =
+    let content = g.F.ReadAt.content c.args.file.now in
+    let s = c.args.self.now in
+    let of = placed_of content s c.requires in
+    record {
+      code = ∣ c.requires.0.codes ∣₁;
+      range = placed_range content s c.requires.0;
+      stand = λ told. ∣ indexed_stand content s.indexed of told ∣₁;
+      bytes = indexed_bytes content s.indexed of;
+    }
 
-pub first_of_no_object-requires-clause-stand : goal.first_of_no_object-requires-clause-stand
-first_of_no_object-requires-clause-stand g c = placed_stand (g.F.ReadAt.content c.args.file.now) c.args.self.now c.requires
-
-pub first_of_no_object-requires-clause-enough : goal.first_of_no_object-requires-clause-enough
-first_of_no_object-requires-clause-enough g c = placed_enough (g.F.ReadAt.content c.args.file.now) c.args.self.now c.requires
-
-pub first_of_no_object-requires-clause-bytes : goal.first_of_no_object-requires-clause-bytes
-first_of_no_object-requires-clause-bytes g c = placed_bytes (g.F.ReadAt.content c.args.file.now) c.args.self.now c.requires
+pub first_of_no_object-requires : goal.first_of_no_object-requires
+first_of_no_object-requires g c = placed_enough (g.F.ReadAt.content c.args.file.now) c.args.self.now c.requires.0
 
 pub returns-clause-answer : goal.returns-clause-answer
 returns-clause-answer g c = λ ds x told are.

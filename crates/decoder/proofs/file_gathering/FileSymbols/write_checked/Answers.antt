@@ -1,23 +1,23 @@
 use Rattle.std.proofs.Common.{sym}
 use Rattle.reception.specs.Answer as value
 use Rattle.decoder.specs.Answers.{answer_value}
-use Rattle.decoder.proofs.Placed.{placed_answer, placed_bytes, placed_enough, placed_range, placed_stand, placed_within}
+use Rattle.decoder.proofs.Placed.{indexed_bytes, indexed_stand, placed_answer, placed_enough, placed_of, placed_range}
 use Rattle.decoder.proofs.file_gathering.FileSymbols.write_checked.Goals as goal
 
-pub write_blocks-requires-clause-within : goal.write_blocks-requires-clause-within
-write_blocks-requires-clause-within g c = placed_within (g.F.ReadAt.content c.args.file.now) c.args.self.now c.requires
+pub invariant_of-coded : goal.invariant_of-coded
+invariant_of-coded g c =
+    let content = g.F.ReadAt.content c.args.file.now in
+    let s = c.args.self.now in
+    let of = placed_of content s c.requires in
+    record {
+      code = ∣ c.requires.0.codes ∣₁;
+      range = placed_range content s c.requires.0;
+      stand = λ told. ∣ indexed_stand content s.indexed of told ∣₁;
+      bytes = indexed_bytes content s.indexed of;
+    }
 
 pub write_blocks-requires-clause-enough : goal.write_blocks-requires-clause-enough
-write_blocks-requires-clause-enough g c = placed_enough (g.F.ReadAt.content c.args.file.now) c.args.self.now c.requires
-
-pub unsound_answer-requires-clause-range : goal.unsound_answer-requires-clause-range
-unsound_answer-requires-clause-range g c = placed_range (g.F.ReadAt.content c.args.file.now) c.args.self.now c.requires
-
-pub unsound_answer-requires-clause-stand : goal.unsound_answer-requires-clause-stand
-unsound_answer-requires-clause-stand g c = placed_stand (g.F.ReadAt.content c.args.file.now) c.args.self.now c.requires
-
-pub unsound_answer-requires-clause-bytes : goal.unsound_answer-requires-clause-bytes
-unsound_answer-requires-clause-bytes g c = placed_bytes (g.F.ReadAt.content c.args.file.now) c.args.self.now c.requires
+write_blocks-requires-clause-enough g c = placed_enough (g.F.ReadAt.content c.args.file.now) c.args.self.now c.requires.0
 
 pub returns-in-Ok-true-clause-written : goal.returns-in-Ok-true-clause-written
 returns-in-Ok-true-clause-written g c = λ ds x told are _.

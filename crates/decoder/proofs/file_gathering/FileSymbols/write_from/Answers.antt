@@ -1,28 +1,30 @@
-use Rattle.std.specs.Option.{unwrap_or}
-use Rattle.std.proofs.Common.{◌∙◌, ℕ, List, [], sym, subst, arith}
+use Rattle.std.proofs.Common.{◌∙◌, ℕ, List, sym, subst, arith}
 use Rattle.reception.specs.Answer as value
-use Rattle.decoder.specs.Decoded.{AreWithin, Answers}
+use Rattle.decoder.specs.Decoded.{Answers}
 use Rattle.decoder.specs.InFile.{held_in}
 use Rattle.decoder.specs.Received.{came_at}
 use Rattle.decoder.specs.Unsolvable.{AreSound, SomeUnsound}
 use Rattle.decoder.specs.Written.{BeginsObject}
-use Rattle.decoder.proofs.Answering.{are_within, stand_of}
 use Rattle.decoder.proofs.FromFile.{told_if, told_is}
 use Rattle.decoder.proofs.Unsound.{sound_not_unsound}
 use Rattle.decoder.proofs.GatheredSymbols.{answer_of, begun_of, object_length}
+use Rattle.decoder.proofs.Placed.{gathered_of, indexed_bytes, indexed_stand, placed_enough, placed_range}
 use Rattle.decoder.proofs.file_gathering.FileSymbols.write_from.Goals as goal
 
-pub write_blocks-requires-clause-within : goal.write_blocks-requires-clause-within
-write_blocks-requires-clause-within g c = λ told.
+pub invariant_of-coded : goal.invariant_of-coded
+invariant_of-coded g c =
     let content = g.F.ReadAt.content c.args.file.now in
-    let s = c.args.self.now.indexed.symbols in
-    let f = c.args.self.now.indexed.fti in
-    let w = rw told.1 at c.requires.1 in
-    subst (λ (y : List ℕ). AreWithin c.args.self.now.indexed.fti (came_at (held_in y) c.args.self.now.indexed.symbols)) (sym (told_is content told.0 told.1))
-    (are_within f (came_at (held_in told.0) s) (stand_of w.0 w.1 f (came_at (held_in told.0) s) w.2.indexed.received))
+    let s = c.args.self.now in
+    let of = gathered_of content s c.requires in
+    record {
+      code = ∣ c.requires.0.codes ∣₁;
+      range = placed_range content s c.requires.0;
+      stand = λ told. ∣ indexed_stand content s.indexed of told ∣₁;
+      bytes = indexed_bytes content s.indexed of;
+    }
 
 pub write_blocks-requires-clause-enough : goal.write_blocks-requires-clause-enough
-write_blocks-requires-clause-enough g c = c.requires.0.enough (held_in (unwrap_or (g.F.ReadAt.content c.args.file.now) []))
+write_blocks-requires-clause-enough g c = placed_enough (g.F.ReadAt.content c.args.file.now) c.args.self.now c.requires.0
 
 pub write_blocks-requires-clause-sound : goal.write_blocks-requires-clause-sound
 write_blocks-requires-clause-sound g c = λ _ told.

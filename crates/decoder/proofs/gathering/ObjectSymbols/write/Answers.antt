@@ -1,16 +1,24 @@
 use Rattle.std.proofs.Common.{◌∙◌, sym, arith}
 use Rattle.reception.specs.Answer.{Object}
 use Rattle.decoder.specs.Received.{bytes_at}
-use Rattle.decoder.proofs.Answering.{are_within, stand_of}
+use Rattle.decoder.proofs.Answering.{are_within, in_range, stand_of}
+use Rattle.decoder.proofs.BytesOfSymbols.{have_bytes}
 use Rattle.decoder.proofs.GatheredSymbols.{answer_of, begun_of, object_length}
 use Rattle.decoder.proofs.Unsound.{sound_not_unsound}
 use Rattle.decoder.proofs.gathering.ObjectSymbols.write.Goals as goal
 
-pub write_blocks-requires-clause-within : goal.write_blocks-requires-clause-within
-write_blocks-requires-clause-within g c = λ told.
-    let r = c.args.self.now.received in
+pub invariant_of-coded : goal.invariant_of-coded
+invariant_of-coded g c =
+    let f = c.args.self.now.received.fti in
+    let at = bytes_at c.args.self.now.received.symbols in
     let of = c.requires.2 in
-    are_within r.fti (bytes_at r.symbols) (stand_of c.requires.0 c.requires.1 r.fti (bytes_at r.symbols) of.received)
+    let stand = stand_of c.requires.0 c.requires.1 f at of.received in
+    record {
+      code = ∣ of.enough.codes ∣₁;
+      range = in_range f at (are_within f at stand);
+      stand = λ _. ∣ stand ∣₁;
+      bytes = λ _. have_bytes c.requires.0 c.requires.1 at of.read of.received.index;
+    }
 
 pub returns-in-Ok-true-clause-written : goal.returns-in-Ok-true-clause-written
 returns-in-Ok-true-clause-written g c = λ who ds are.
