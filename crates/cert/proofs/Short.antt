@@ -26,7 +26,7 @@ use Rattle.cert.proofs.Judging.{read_all, are_certified, nothing_found}
 use Rattle.reception.proofs.OneAnswer.{same_readings}
 use Rattle.cert.proofs.Promise.{fits_sound}
 use Rattle.cert.proofs.Undecided.{held_self}
-use Rattle.cert.specs.TwinBytes.{esi_in}
+use Rattle.cert.specs.TwinPieces.{esi_in}
 
 -- the ESIs of a block that came are those among its ESIs
 pub among_held : (b j : ℕ) (arrivals : List Symbol) → is_among (esis_of b arrivals) j ≡ has_arrived arrivals b j

@@ -17,9 +17,9 @@ use Rattle.partition.specs.Fti.{Fti, IsValidFti, block_bytes, block_count, sourc
 use Rattle.partition.proofs.Laws.{begins_within, counts, in_object}
 use Rattle.reception.specs.Symbols.{IsObject}
 use Rattle.cert.specs.Twins.{different_esis, root_value, IsTwin}
-use Rattle.cert.specs.TwinBytes.{byte_with_value, is_first_of, twin_bytes}
+use Rattle.cert.specs.TwinBytes.{AppendsAny, IsTwinFault, is_first_of, twin_bytes}
 use Rattle.cert.proofs.TwinObject.{is_twin, same_twin}
-use Rattle.cert.specs.TwinPieces.{AppendsAny, IsTwinFault}
+use Rattle.cert.specs.TwinPieces.{byte_with_value}
 use Rattle.cert.specs.declared.twins.TwinFault.{TwinFault}
 use Rattle.cert.specs.declared.twins.TwinFault.TheVariants.{Object, Write, NoMemory}
 use Rattle.cert.proofs.Adding.{added}

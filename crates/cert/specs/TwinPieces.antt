@@ -1,15 +1,20 @@
--- A twin that is written a piece at a time.
-use Rattle.std.specs.Prelude.{◌≡◌, ◌≤◌, ◌*◌, Bool, false, true, ℕ, List, length, slice_index, take}
-use Rattle.std.specs.Prelude.{drop, Option, Some, ⊤}
+-- A block of a twin, by its bytes.
+use Rattle.std.specs.Prelude.{◌≡◌, ◌*◌, ◌/◌, ◌==◌, if◌then◌else◌, ℕ, List, [], ◌∷◌, length, slice_index}
+use Rattle.std.specs.Prelude.{take, drop, Option}
 use Rattle.std.specs.Io.KnownBytes.{Appends}
-use Rattle.partition.specs.Fti.{Fti, block_bytes, start_of}
-use Rattle.cert.specs.TwinBytes.{byte_with_value}
-use Rattle.cert.specs.declared.twins.TwinFault.{TwinFault}
-use Rattle.cert.specs.declared.twins.TwinFault.TheVariants.{Object, Write, NoMemory}
+use Rattle.gf256.specs.Arithmetic.{sum_of, point}
+use Rattle.poly.specs.Polynomial.{value}
+use Rattle.partition.specs.Fti.{Fti, block_bytes, source_count, start_of}
+use Rattle.reception.specs.Symbols.{Symbol}
+use Rattle.cert.specs.TwinBytes.{is_first_of}
 
--- some bytes were written
-abbrev pub AppendsAny : Option (List ℕ) → Option (List ℕ) → Type 0
-AppendsAny old new = (bytes : List ℕ) × Appends old new bytes
+-- the byte at place x of block b of an object, and a polynomial's value added to it where it is the
+-- first of a source symbol
+abbrev pub byte_with_value : Fti → ℕ → List ℕ → List ℕ → ℕ → ℕ
+byte_with_value f b polynomial bytes x =
+    if is_first_of f.symbol_length 0 (source_count f b) x
+    then sum_of (slice_index bytes x) (value polynomial (point (x / f.symbol_length)))
+    else slice_index bytes x
 
 -- the bytes of block b of an object were written, with a polynomial's values added
 pub record AppendsBlock (f : Fti) (b : ℕ) (polynomial object : List ℕ)
@@ -20,10 +25,6 @@ pub record AppendsBlock (f : Fti) (b : ℕ) (polynomial object : List ℕ)
       (take (block_bytes f b) (drop (start_of f b * f.symbol_length) object)) x
   pub gained : Appends old new bytes
 
--- why an object's first bytes, so many, aren't all written: its file has failed or isn't so long,
--- or the writer has failed, or there is no memory
-abbrev pub IsTwinFault : ℕ → Option (List ℕ) → Bool → Bool → TwinFault → Type 0
-IsTwinFault size content reliable failed Object =
-    (o : List ℕ) → content ≡ Some o → size ≤ length o → reliable ≡ false
-IsTwinFault size content reliable failed Write = failed ≡ true
-IsTwinFault size content reliable failed NoMemory = ⊤
+-- the ESI of a symbol of this block
+abbrev pub esi_in : ℕ → Symbol → List ℕ
+esi_in b s = if s.block == b then s.esi ∷ [] else []

@@ -24,8 +24,9 @@
 //! keeps those that datagrams are compared with, and `runs` tells how many pay where they aren't
 //! kept. `differing` finds the first byte in which two rows differ, which is how a column is told.
 //! `twins` makes the object that can't be told from the true one where a block is short
-//! (`specs/Twins`), or writes it a piece at a time (`specs/TwinPieces`). `laws` says of the definitions which bytes are a certificate, that there is one
-//! verdict, and which reason and which column it has.
+//! (`specs/Twins`), or writes it a piece at a time (`specs/TwinBytes`). `laws` says of the
+//! definitions which bytes are a certificate, that there is one verdict, and which reason and which
+//! column it has.
 //!
 //! Nothing is solved here: a check evaluates polynomials and compares bytes. What a yes promises of
 //! every selection is `reception`'s `specs/Headline`; the theorems behind it stand in

@@ -10,8 +10,8 @@ ghost use Rattle.reception.specs.Reception.{counted, symbols};
 ghost use Rattle.reception.specs.Walks.{readings_of};
 ghost use Rattle.cert.specs.Verdict.{reception_to};
 ghost use Rattle.cert.specs.Twins.{different_esis, esis_of, IsTwin, IsShortIn, IsTwinOfSession};
-ghost use Rattle.cert.specs.TwinBytes.{byte_with_value, twin_bytes};
-ghost use Rattle.cert.specs.TwinPieces.{AppendsAny, AppendsBlock, IsTwinFault};
+ghost use Rattle.cert.specs.TwinBytes.{AppendsAny, IsTwinFault, twin_bytes};
+ghost use Rattle.cert.specs.TwinPieces.{AppendsBlock, byte_with_value};
 
 use crate::certificate::Certificate;
 use gf256::{Field, Gf, point};

@@ -1,75 +1,35 @@
 -- What a twin is made of, by the tally that finds a block short.
-use Rattle.std.proofs.Common.{◌≡◌, ◌∙◌, ◌<◌, ◌++◌, ℕ, false, true, List, Option, Some, None, length, map, refl, sym, ap, subst, arith}
+use Rattle.std.proofs.Common.{◌≡◌, ◌∙◌, ◌++◌, ℕ, true, List, Option, Some, None, map, sym, ap, subst}
 use Rattle.std.specs.Io.KnownBytes.{Consumes, IsAtEnd}
 use Rattle.std.proofs.lemmas.List.{append-nil}
 use Rattle.losses.specs.Groups.{Group, groups_of, group_at}
 use Rattle.losses.specs.declared.groups.Member.{Member}
-use Rattle.losses.proofs.GroupFigures.{count_of}
 use Rattle.partition.specs.Fti.{Fti}
 use Rattle.session.specs.Frames.{frames, AreDatagrams, IsFramed}
 use Rattle.session.proofs.OneSession.{only}
 use Rattle.reception.specs.declared.scope.Identity.{Identity}
-use Rattle.reception.specs.declared.scope.PlaceFault.{PlaceFault}
-use Rattle.reception.specs.declared.scope.PlaceFault.TheVariants as fault
-use Rattle.reception.specs.Reception.{counted, symbols, Faulty}
+use Rattle.reception.specs.Reception.{counted, symbols}
 use Rattle.reception.specs.Symbols.{IsObject}
 use Rattle.reception.specs.Walks.{readings_of}
 use Rattle.cert.specs.Certificate.{Certificate, IsCertificate, is_for}
 use Rattle.cert.specs.Scan.{IsFirstShortGroup, IsNoReport, IsShortWhereThin}
 use Rattle.cert.specs.Twins.{IsTwinOfSession, esis_of}
-use Rattle.cert.specs.Verdict.{GivesObject, reason_at}
+use Rattle.cert.specs.Verdict.{GivesObject}
 use Rattle.cert.specs.declared.tally.Tally.{Tally}
 use Rattle.cert.specs.declared.verdict.Reason.{Reason}
-use Rattle.cert.specs.declared.verdict.Reason.TheVariants.{OtherCertificate, ObjectLength, NotObject, Empty, Packet, OtherFti, SymbolLength, Range, Symbol, Thin, NoCarrier}
+use Rattle.cert.specs.declared.verdict.Reason.TheVariants.{Thin}
 use Rattle.cert.specs.declared.verdict.Verdict.TheVariants.{No}
 use Rattle.cert.specs.declared.walk.NoReport.TheVariants.{Reason as ByReason}
 use Rattle.cert.proofs.HeldEsis.{held_esis, few_in_group}
 use Rattle.cert.proofs.Judging.{read_all, refused}
 use Rattle.cert.proofs.Short.{twin_of_session}
 use Rattle.file_check.specs.Checked.{IsSomeTally, IsWholeTally}
-use Rattle.file_check.specs.Shortness.{IsShortFound, MakesTwins, is_thin}
+use Rattle.file_check.specs.Shortness.{IsShortFound, MakesTwins}
 use Rattle.file_check.specs.declared.checking.ShortBlock.{ShortBlock}
-
--- a fault at a place isn't that a block is short
-pub not_thin : (place : ℕ) (e : PlaceFault) → is_thin (reason_at place (Faulty e)) ≡ false
-not_thin place (fault.NoPacket r) = refl
-not_thin place fault.OtherFti = refl
-not_thin place fault.SymbolLength = refl
-not_thin place fault.Range = refl
-
--- where no block is short, none is told
-pub none_found : (r : Reason) → is_thin r ≡ false → IsShortFound (No r) None
-none_found OtherCertificate e = tt
-none_found ObjectLength e = tt
-none_found (NotObject b c i) e = tt
-none_found Empty e = tt
-none_found (Packet i x) e = tt
-none_found (OtherFti i) e = tt
-none_found (SymbolLength i) e = tt
-none_found (Range i) e = tt
-none_found (Symbol i c) e = tt
-none_found (Thin b have need) e = absurd (cc)
-none_found NoCarrier e = tt
-
-pub none_made : (who : Identity) (x o : List ℕ) (z : Certificate) (r : Reason) → MakesTwins who x o z (No r) None
-none_made who x o z OtherCertificate = tt
-none_made who x o z ObjectLength = tt
-none_made who x o z (NotObject b c i) = tt
-none_made who x o z Empty = tt
-none_made who x o z (Packet i e) = tt
-none_made who x o z (OtherFti i) = tt
-none_made who x o z (SymbolLength i) = tt
-none_made who x o z (Range i) = tt
-none_made who x o z (Symbol i c) = tt
-none_made who x o z (Thin b have need) = tt
-none_made who x o z NoCarrier = tt
 
 -- the group that is short
 pub is_short : (groups : List Group) (r : Reason) (b have need : ℕ) → r ≡ Thin b have need → IsShortWhereThin groups (ByReason r) → IsFirstShortGroup groups b have need
 is_short groups r b have need e h = subst (λ (x : Reason). IsShortWhereThin groups (ByReason x)) e h
-
-pub is_inside : (tally : Tally) (b have need : ℕ) → IsFirstShortGroup (groups_of tally.groups.items) b have need → b < length tally.groups.items
-is_inside tally b have need h = let n = count_of tally.groups.items in let l = h.block in omega (arith, n, l)
 
 -- all frames of a file were read
 framed_by : (x : List ℕ) (left : Option (List ℕ)) (ds : List (List ℕ)) → Consumes (Some x) left (frames ds) → IsAtEnd left → AreDatagrams ds → IsFramed ds x

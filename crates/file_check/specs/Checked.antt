@@ -1,5 +1,5 @@
 -- Why a check of files tells no report.
-use Rattle.std.specs.Prelude.{◌≡◌, ℕ, Bool, false, List, Option, Some, ⊤}
+use Rattle.std.specs.Prelude.{◌≡◌, ℕ, Bool, true, false, List, Option, Some, ⊤}
 use Rattle.std.specs.Io.KnownBytes.{Consumes, IsAtEnd}
 use Rattle.partition.specs.Fti.{Fti}
 use Rattle.session.specs.Frames.{frames, AreDatagrams}
@@ -9,13 +9,13 @@ use Rattle.cert.specs.FromReader.{IsCheckedFrom}
 use Rattle.cert.specs.NotGiven.{IsFirstInBlock, IsNotGiven}
 use Rattle.cert.specs.Tallying.{IsTally, by_certificate, nothing}
 use Rattle.cert.specs.declared.tally.Tally.{Tally}
-use Rattle.cert.specs.declared.verdict.Reason.TheVariants.{NotObject}
+use Rattle.cert.specs.declared.verdict.Reason.{Reason}
+use Rattle.cert.specs.declared.verdict.Reason.TheVariants.{NotObject, Thin}
 use Rattle.cert.specs.declared.verdict.Verdict.TheVariants.{No}
 use Rattle.file_check.specs.declared.checking.Stop.{Stop}
 use Rattle.file_check.specs.declared.checking.Stop.TheVariants as stop
 use Rattle.file_check.specs.Files.{IsCertificateFault, IsFileFault, IsFaultOfFrames, IsNoVerdict}
 use Rattle.file_check.specs.Files.{Reliable}
-use Rattle.file_check.specs.Shortness.{is_thin}
 
 -- why a block isn't compared to its end: the certificate doesn't give the object there, or a file
 -- has failed
@@ -46,6 +46,11 @@ IsCertificateStop content reliable (stop.ByFault fault) = IsCertificateFault con
 abbrev pub IsFrameStop : Bool → Stop → Type 0
 IsFrameStop reliable (stop.ByReason reason) = ⊤
 IsFrameStop reliable (stop.ByFault fault) = IsFaultOfFrames reliable fault
+
+-- whether the reason is that a block is short
+abbrev pub is_thin : Reason → Bool
+is_thin (Thin b have need) = true
+is_thin _ = false
 
 -- no block is told as short before all datagrams are tallied
 abbrev pub IsEarlyStop : Stop → Type 0

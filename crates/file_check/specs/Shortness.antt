@@ -1,22 +1,16 @@
 -- What is told of a block that is short, of which a twin of the object is made.
-use Rattle.std.specs.Prelude.{◌≡◌, ◌<◌, ℕ, Bool, true, false, List, length, Option, Some, None, ⊤}
+use Rattle.std.specs.Prelude.{◌≡◌, ◌<◌, ℕ, List, length, Option, Some, None, ⊤}
 use Rattle.partition.specs.Fti.{block_count, source_count}
 use Rattle.session.specs.Frames.{IsFramed}
 use Rattle.reception.specs.declared.scope.Identity.{Identity}
 use Rattle.cert.specs.Certificate.{Certificate}
 use Rattle.cert.specs.FromReader.{IsCheckedFrom}
 use Rattle.cert.specs.Twins.{IsTwin, IsTwinOfSession, different_esis}
-use Rattle.cert.specs.declared.verdict.Reason.{Reason}
 use Rattle.cert.specs.declared.verdict.Reason.TheVariants.{Thin}
 use Rattle.cert.specs.declared.verdict.Verdict.{Verdict}
 use Rattle.cert.specs.declared.verdict.Verdict.TheVariants.{No}
 use Rattle.file_check.specs.Files.{IsTextOf}
 use Rattle.file_check.specs.declared.checking.ShortBlock.{ShortBlock}
-
--- whether the reason is that a block is short
-abbrev pub is_thin : Reason → Bool
-is_thin (Thin b have need) = true
-is_thin _ = false
 
 -- the numbers of a short block are these, and a twin can be made for what came of it
 pub record IsShortBlock (b have need : ℕ) (short : ShortBlock) : Type 0 where

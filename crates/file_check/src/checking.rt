@@ -12,7 +12,7 @@ ghost use Rattle.cert.specs.Tallying.{tallied_of};
 ghost use Rattle.cert.specs.Verdict.{GivesObject};
 ghost use Rattle.cert.specs.declared.verdict.Reason.TheVariants.{Thin};
 ghost use Rattle.file_check.specs.Checked.{IsBlockStop, IsBlocksStop, IsCertificateStop};
-ghost use Rattle.file_check.specs.Checked.{IsEarlyStop, IsFrameStop, IsStop};
+ghost use Rattle.file_check.specs.Checked.{IsEarlyStop, IsFrameStop, IsStop, is_thin};
 ghost use Rattle.file_check.specs.Files.{IsCertificateFault, IsFilesFault, IsFaultOfFrames};
 ghost use Rattle.file_check.specs.Files.{IsNoCertificate, IsNoVerdict};
 ghost use Rattle.file_check.specs.Checked.{IsSomeTally, IsWholeTally};
@@ -20,7 +20,7 @@ ghost use Rattle.file_check.specs.Compared.{AreCompared, IsCompared};
 ghost use Rattle.file_check.specs.Files.{IsSurveyIn, IsSurveyOnSome, IsVerdictIn};
 ghost use Rattle.file_check.specs.Files.{IsVerdictOnSome, WhereTold};
 ghost use Rattle.file_check.specs.Indexed.{IsIndexOf};
-ghost use Rattle.file_check.specs.Shortness.{IsShortFound, IsTwinnedIn, MakesTwins, is_thin};
+ghost use Rattle.file_check.specs.Shortness.{IsShortFound, IsTwinnedIn, MakesTwins};
 
 use crate::blocks::{Wrong, first_not_given, make_symbols, read_source};
 use crate::index::{End, Index, index_session};

@@ -1,6 +1,6 @@
 use Rattle.std.proofs.Common.{◌≡◌, ◌-◌, ◌≤◌, ℕ, List, Some, take, drop}
 use Rattle.std.specs.Io.KnownBytes.{Appends}
-use Rattle.cert.specs.TwinPieces.{AppendsAny}
+use Rattle.cert.specs.TwinBytes.{AppendsAny}
 use Rattle.cert.proofs.twins.copy_part.Given as goal
 
 abbrev pub invariant-loop-at : goal.invariant-loop-at
