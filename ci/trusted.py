@@ -5,7 +5,8 @@ promise.
 A public contract is one of a `pub fn`, of a method of a public trait or type, or of a public type's
 model. From the names that it cites the list goes through the definitions of `specs/` that these
 stand on, but not into a relation that these calls only hand on to one another, as what a receiver
-stands for; and not from what the decoder offers to the receiver alone. All other definitions of
+stands for; and not from what the decoder offers to the receiver alone, nor from what `cert` offers
+to `file_check` alone. All other definitions of
 `specs/` are the vocabulary of such contracts, of private ones and of proofs, and need no trust.
 They stand in files of their own.
 
@@ -464,8 +465,8 @@ def listing(modules, wanted):
         "",
         "The definitions that public contracts speak of, from the field up, in the order to read",
         "them. The rest of `specs/` is the vocabulary of private contracts, of what the decoder",
-        "offers to the receiver alone, and of proofs. `ci/trusted.py` makes this list, and the",
-        "gate compares it.",
+        "offers to the receiver alone, and `cert` to `file_check` alone, and of proofs.",
+        "`ci/trusted.py` makes this list, and the gate compares it.",
         "",
         f"{len(wanted)} of {everything} definitions, {lines_of(files, wanted)} lines.",
         "",
