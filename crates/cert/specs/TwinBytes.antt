@@ -1,7 +1,7 @@
 -- The bytes of a twin, and why they aren't all written.
 use Rattle.std.specs.Prelude.{◌≡◌, ◌≤◌, ◌+◌, ◌-◌, ◌/◌, ◌%◌, ◌==◌, ◌&&◌, Bool, false, true, nat_le}
-use Rattle.std.specs.Prelude.{nat_lt, if◌then◌else◌, ℕ, List, slice_index, length, map, Option, Some}
-use Rattle.std.specs.Prelude.{⊤}
+use Rattle.std.specs.Prelude.{nat_lt, if◌then◌else◌, ℕ, List, slice_index, length, map, Option}
+use Rattle.std.specs.Prelude.{Some, ⊤}
 use Rattle.std.specs.Io.KnownBytes.{Appends}
 use Rattle.gf256.specs.Arithmetic.{sum_of, point}
 use Rattle.lists.specs.Below.{below}

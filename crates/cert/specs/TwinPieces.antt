@@ -1,6 +1,6 @@
 -- A block of a twin, by its bytes.
-use Rattle.std.specs.Prelude.{◌≡◌, ◌*◌, ◌/◌, ◌==◌, if◌then◌else◌, ℕ, List, [], ◌∷◌, length, slice_index}
-use Rattle.std.specs.Prelude.{take, drop, Option}
+use Rattle.std.specs.Prelude.{◌≡◌, ◌*◌, ◌/◌, ◌==◌, if◌then◌else◌, ℕ, List, [], ◌∷◌, length}
+use Rattle.std.specs.Prelude.{slice_index, take, drop, Option}
 use Rattle.std.specs.Io.KnownBytes.{Appends}
 use Rattle.gf256.specs.Arithmetic.{sum_of, point}
 use Rattle.poly.specs.Polynomial.{value}

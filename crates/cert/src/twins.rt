@@ -1,6 +1,7 @@
 //! Another object that agrees with all that came, where a block is short.
-ghost use Rattle.std.specs.Prelude.{◌≡◌, ◌<◌, ◌≤◌, ◌+◌, ◌-◌, ◌*◌, ℕ, Bool, List, Option, Some, length};
-ghost use Rattle.std.specs.Prelude.{map, take, drop, slice_index, IfOk, IfErr, IfSome, OnOk};
+ghost use Rattle.std.specs.Prelude.{◌≡◌, ◌<◌, ◌≤◌, ◌+◌, ◌-◌, ◌*◌, ℕ, Bool, List, Option, Some};
+ghost use Rattle.std.specs.Prelude.{length, map, take, drop, slice_index, IfOk, IfErr, IfSome};
+ghost use Rattle.std.specs.Prelude.{OnOk};
 ghost use Rattle.std.specs.Io.KnownBytes.{Appends};
 ghost use Rattle.streams.specs.Offsets.{StandsAt};
 ghost use Rattle.lists.specs.Bytes.{AreBytes};

@@ -1,7 +1,7 @@
 //! The check of files: their datagrams' headers first, and then block by block the object and the
 //! symbols.
-ghost use Rattle.std.specs.Prelude.{◌≡◌, ◌<◌, ◌*◌, ℕ, List, Option, Some, true, false, length, OnOk};
-ghost use Rattle.std.specs.Prelude.{IfOk, IfErr, IfSome, IsNone};
+ghost use Rattle.std.specs.Prelude.{◌≡◌, ◌<◌, ◌*◌, ℕ, List, Option, Some, true, false, length};
+ghost use Rattle.std.specs.Prelude.{OnOk, IfOk, IfErr, IfSome, IsNone};
 ghost use Rattle.partition.specs.Fti.{Fti as FtiValue, block_count, source_count, encoding_count};
 ghost use Rattle.reception.specs.Symbols.{IsObject};
 ghost use Rattle.cert.specs.Certificate.{is_for, named_in};
