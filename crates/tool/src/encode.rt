@@ -91,25 +91,76 @@ fn send_read<'a, R: Read, W: WriteAt>(
     ensures writing { IfErr result (λ e. e ≡ Unwritten.Writing
         → W.failed writer.new ≡ true) }
 {
+    match request.sending.order {
+        Order::Blocks => send_blocks(alloc, reader, fti, request, writer),
+        Order::Rounds => {
+            if writer.is_seekable() {
+                send_rounds(alloc, reader, fti, request, writer)
+            } else {
+                send_whole(alloc, reader, fti, request, writer)
+            }
+        }
+    }
+}
+
+fn send_blocks<'a, R: Read, W: Write>(
+    alloc: Global,
+    reader: &mut R,
+    fti: &Fti,
+    request: &EncodeRequest<'a>,
+    writer: &mut W,
+) -> Result<u64, Unwritten<'a>>
+    requires order { request.now.sending.order ≡ Blocks }
+    ensures sent { IfOk result (λ count. ReadsObject fti.now (R.remaining reader.old)
+        (λ object. WritesSession object fti.now request.now.sending count
+        (W.contents writer.old) (W.contents writer.new))) }
+    ensures fault { IfErr result (IsUnsentFrom fti.now (R.remaining reader.old)
+        (R.sound reader.old) request.now.object.now) }
+    ensures writing { IfErr result (λ e. e ≡ Unwritten.Writing
+        → W.failed writer.new ≡ true) }
+{
     fti.is_valid();
     let Sending {
         identity,
         fti_every,
-        order,
         ..
     } = request.sending;
     let (tsi, toi) = (identity.tsi as u32, identity.toi as u32);
-    let every = u32::from(fti_every);
-    let sent = match order {
-        Order::Blocks => encoder::encode_from(alloc, reader, tsi, toi, fti, every, writer),
-        Order::Rounds => {
-            if !writer.is_seekable() {
-                return send_whole(alloc, reader, fti, request, writer);
-            }
-            encoder::encode_rounds_from(alloc, reader, tsi, toi, fti, every, writer)
+    match encoder::encode_from(alloc, reader, tsi, toi, fti, u32::from(fti_every), writer) {
+        Ok(count) => Ok(count),
+        Err(SendFromFault::Object(_)) => Err(Unwritten::Fault(Fault::File(request.object))),
+        Err(SendFromFault::SymbolTooLong) => {
+            Err(Unwritten::Fault(Fault::Send(SendFault::SymbolTooLong)))
         }
-    };
-    match sent {
+        Err(SendFromFault::NoMemory) => Err(Unwritten::Fault(Fault::Memory)),
+        Err(SendFromFault::Write) => Err(Unwritten::Writing),
+    }
+}
+
+fn send_rounds<'a, R: Read, W: WriteAt>(
+    alloc: Global,
+    reader: &mut R,
+    fti: &Fti,
+    request: &EncodeRequest<'a>,
+    writer: &mut W,
+) -> Result<u64, Unwritten<'a>>
+    requires order { request.now.sending.order ≡ Rounds }
+    ensures sent { IfOk result (λ count. ReadsObject fti.now (R.remaining reader.old)
+        (λ object. WritesSession object fti.now request.now.sending count
+        (emptied (W.contents writer.old)) (W.contents writer.new))) }
+    ensures fault { IfErr result (IsUnsentFrom fti.now (R.remaining reader.old)
+        (R.sound reader.old) request.now.object.now) }
+    ensures writing { IfErr result (λ e. e ≡ Unwritten.Writing
+        → W.failed writer.new ≡ true) }
+{
+    fti.is_valid();
+    let Sending {
+        identity,
+        fti_every,
+        ..
+    } = request.sending;
+    let (tsi, toi) = (identity.tsi as u32, identity.toi as u32);
+    match encoder::encode_rounds_from(alloc, reader, tsi, toi, fti, u32::from(fti_every), writer) {
         Ok(count) => Ok(count),
         Err(SendFromFault::Object(_)) => Err(Unwritten::Fault(Fault::File(request.object))),
         Err(SendFromFault::SymbolTooLong) => {
