@@ -52,7 +52,7 @@ module _ (w : World) (name : Bor (List ℕ)) (content : Option (List ℕ)) (reli
   lost (inl none) = inl (untold_then w.files name.now content given.bytes none)
   lost (inr fails) = given.fails fails
 
-  no_certificate : (e : CertFault) → IsNoCertificate content reliable e → IsUnread w (ACertificate name.now) (told_as.Certificate e)
+  pub no_certificate : (e : CertFault) → IsNoCertificate content reliable e → IsUnread w (ACertificate name.now) (told_as.Certificate e)
   no_certificate certificate_fault.Magic h = holds_told w.files name.now content (λ x. text_fault x ≡ Some certificate_fault.Magic) given.bytes h.0
   no_certificate (certificate_fault.Fti f) h = holds_told w.files name.now content (λ x. text_fault x ≡ Some (certificate_fault.Fti f)) given.bytes h.0
   no_certificate certificate_fault.Size h = holds_told w.files name.now content (λ x. text_fault x ≡ Some certificate_fault.Size) given.bytes h.0

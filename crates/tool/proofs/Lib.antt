@@ -11,6 +11,7 @@ mod Conversions
 mod Decoded
 mod DecodedFiles
 mod CheckedFiles
+mod TwinnedFiles
 mod Dropped
 mod Followed
 mod Delivered

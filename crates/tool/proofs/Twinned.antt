@@ -65,7 +65,7 @@ module _ (files : Option Files) (r : TwinRequest) (inputs : Inputs) (given : Giv
 
   pub gives_twin : (twin : Vec ℕ Global) → TellsTwin r.identity inputs (record { line = line; other = Some twin })
       → (verdict : Verdict) × IsVerdict r.identity inputs.session inputs.object.items inputs.certificate verdict
-      × GivesTwin r.identity verdict inputs.certificate.fti inputs.session inputs.object.items (record { text = line; status = 0; output = Some twin.items })
+      × GivesTwin (λ block other. IsTwinOfSession r.identity inputs.certificate.fti block inputs.session inputs.object.items other) verdict (record { text = line; status = 0; output = Some twin.items })
   gives_twin twin (No (Thin block have need), judged, (spelled, found, same, is)) = (
     No (Thin block have need),
     judged,
@@ -96,7 +96,7 @@ module _ (files : Option Files) (r : TwinRequest) (inputs : Inputs) (given : Giv
   -- without one
   pub gives_none : TellsTwin r.identity inputs (record { line = line; other = None })
       → (verdict : Verdict) × IsVerdict r.identity inputs.session inputs.object.items inputs.certificate verdict
-      × GivesTwin r.identity verdict inputs.certificate.fti inputs.session inputs.object.items (record { text = line; status = 1; output = None })
+      × GivesTwin (λ block other. IsTwinOfSession r.identity inputs.certificate.fti block inputs.session inputs.object.items other) verdict (record { text = line; status = 1; output = None })
   gives_none (No (Thin block have need), judged, (spelled, found, same, is)) = absurd (cc)
   gives_none (Yes report, judged, (spelled, none)) = (Yes report, judged, (spelled, refl, refl))
   gives_none (No OtherCertificate, judged, (spelled, none)) = (No OtherCertificate, judged, (spelled, refl, refl))

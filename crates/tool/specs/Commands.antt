@@ -1,7 +1,7 @@
 -- What each command gives of what it reads.
 use Rattle.std.specs.Prelude.{◌≡◌, ◌⊎◌, ◌<◌, ℕ, Bool, true, false, List, []}
 use Rattle.std.specs.Prelude.{◌∷◌, ◌++◌, Option, Some, None, IsSome, IfSome, length, map}
-use Rattle.std.specs.Prelude.{option_map, codes, Ok, Err}
+use Rattle.std.specs.Prelude.{option_map, codes, Ok, Err, ⊤}
 use Rattle.std.specs.Borrow.{Bor}
 use Rattle.lists.specs.Selection.{rest}
 use Rattle.partition.specs.Fti.{Fti, IsValidFti, fti_from, block_count}
@@ -127,15 +127,13 @@ abbrev pub IsDrawn : Option (Bor (List ℕ)) → Verdict → Option (List ℕ) �
 IsDrawn (Some name) (Yes report) output = IsSome output
 IsDrawn picture verdict output = output ≡ None
 
--- where a block is short, another object that agrees with all datagrams
-abbrev pub GivesTwin : Identity → Verdict → Fti → List (List ℕ) → List ℕ → Outcome → Type 0
-GivesTwin who (Yes report) f datagrams object outcome =
-    IsOutcome (line_of (codes "no twin")) 1 None outcome
-GivesTwin who (No (Thin block have need)) f datagrams object outcome =
-    (other : List ℕ) × IsTwinOfSession who f block datagrams object other
+-- where a block is short, another object, which is such
+abbrev pub GivesTwin : (ℕ → List ℕ → Type 0) → Verdict → Outcome → Type 0
+GivesTwin Is (Yes report) outcome = IsOutcome (line_of (codes "no twin")) 1 None outcome
+GivesTwin Is (No (Thin block have need)) outcome =
+    (other : List ℕ) × Is block other
     × IsOutcome (line_of (short_text (codes "twin block") block have need)) 0 (Some other) outcome
-GivesTwin who (No reason) f datagrams object outcome =
-    IsOutcome (verdict_text (No reason)) 1 None outcome
+GivesTwin Is (No reason) outcome = IsOutcome (verdict_text (No reason)) 1 None outcome
 
 abbrev pub shown_status : List Reading → ℕ
 shown_status [] = 0
@@ -226,7 +224,10 @@ Gives (Check r) (Opened session ∷ Opened object ∷ Opened certificate ∷ [])
     × (outcome.status ≡ status_of verdict) × IsDrawn r.picture verdict outcome.output
 Gives (Twin r) (Datagrams datagrams ∷ Bytes object ∷ Polynomials z ∷ []) outcome =
     (verdict : Verdict) × IsVerdict r.identity datagrams object z verdict
-    × GivesTwin r.identity verdict z.fti datagrams object outcome
+    × GivesTwin (λ block other. IsTwinOfSession r.identity z.fti block datagrams object other)
+    verdict outcome
+Gives (Twin r) (Opened session ∷ Opened object ∷ Opened certificate ∷ []) outcome =
+    (verdict : Verdict) × GivesTwin (λ block other. ⊤) verdict outcome
 Gives (Show r) (Datagrams datagrams ∷ []) outcome =
     (readings : List Reading) × ReadAll datagrams readings
     × TellsDatagrams r.summary readings outcome.text

@@ -31,20 +31,6 @@ pub(crate) fn open<'a, H: Host>(host: &H, name: &'a str) -> Result<H::Input, Fau
     }
 }
 
-/// The session in a file.
-pub(crate) fn read_session<'a, H: Host>(
-    alloc: Global,
-    host: &H,
-    name: &'a str,
-) -> Result<Session, Fault<'a>>
-    ensures ok { IfOk result (λ session.
-        HasValue (H.world host.now).files (ASession name.now) (Datagrams session)) }
-    ensures fault { IfErr result (IsUnread (H.world host.now) (ASession name.now)) }
-{
-    let mut input = open(host, name)?;
-    session_in(alloc, host, name, &mut input)
-}
-
 /// The session that an input gives, which was opened under this name.
 pub(crate) fn session_in<'a, H: Host>(
     alloc: Global,
