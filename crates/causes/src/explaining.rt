@@ -372,12 +372,14 @@ impl<'a, R: Files> Case<'a, R> {
         }
     }
 
-    // Whether the line blames the session's file, which is read twice where it is checked or
-    // decoded.
+    // Whether the line blames the session's file, which is read twice by these commands.
     fn has_changed(&self) -> bool {
         match self.request {
             Request::Check(request) => {
                 self.blames(request.session) && request.picture != Some(request.session)
+            }
+            Request::Twin(request) => {
+                self.blames(request.session) && request.session != request.output.name
             }
             Request::Decode(request) => {
                 self.blames(request.session) && request.session != request.output.name
