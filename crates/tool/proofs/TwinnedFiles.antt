@@ -3,7 +3,7 @@ use Rattle.std.proofs.Common.{◌≡◌, ◌⊎◌, ◌∙◌, ◌≤◌, ◌+�
 use Rattle.std.specs.Prelude.{IfErr, IfSome, OnOk, ⊤}
 use Rattle.std.specs.Io.KnownBytes.{Appends, Consumes}
 use Rattle.std.proofs.lemmas.List.{append-nil}
-use Rattle.partition.specs.Fti.{Fti, block_count}
+use Rattle.partition.specs.Fti.{Fti}
 use Rattle.session.specs.Extents.{AreFrames}
 use Rattle.session.specs.Frames.{frame, frames, AreDatagrams, AreShort, IsFramed, IsSessionFault, StopsAt}
 use Rattle.session.specs.declared.frame.FrameFault.{FrameFault}
@@ -30,7 +30,7 @@ use Rattle.file_check.specs.declared.checking.ShortBlock.{ShortBlock}
 use Rattle.request.specs.declared.requests.TwinRequest.{TwinRequest}
 use Rattle.request.specs.declared.requests.Request.TheVariants.{Twin}
 use Rattle.host.specs.World.{Files, GivesFile, Holds, IsFree, MayFail, Replaces, World, one_more}
-use Rattle.tool.specs.Inputs.{ACertificate, AnObject, ASession, Bytes, Datagrams, Opened, Polynomials, HasValue, HaveValues, IsUnopened, IsUnread, Value}
+use Rattle.tool.specs.Inputs.{ASession, Bytes, Datagrams, Opened, Polynomials, HasValue, HaveValues, IsUnopened, IsUnread, Value}
 use Rattle.tool.specs.Lines.{line_of, short_text}
 use Rattle.tool.specs.Commands.{Gives, GivesTwin, Outcome, inputs_of}
 use Rattle.tool.specs.Outcomes.{IsBecause, MayCreate}
