@@ -81,7 +81,9 @@ def make_files():
     run(["encode", "note.txt", "vast.session", *OF_NOTE, *numbers])
     length = len(read("note.txt")).to_bytes(6, "big")
     vast = datagrams("vast.session")[0].replace(length, (1 << 47).to_bytes(6, "big"), 1)
-    session("vast.session", [vast])
+    # Its block is one behind the longest file of a file system. Its number stands before the ESI.
+    front, block = vast[:-65475 - 4], (8_000_000).to_bytes(3, "big")
+    session("vast.session", [front + block + vast[-65475 - 1:]])
     os.mkdir("folder")
     write("bad\nname.session", read("cut.session"))
     write("-", b"no session, as it is called -")
