@@ -19,6 +19,8 @@ import tempfile
 from trying import BEFORE, COMMANDS, OF_BULLETIN, PROGRAM, Rooms, build, in_turn, make_inputs
 
 ERRORS = {"EIO": 5, "EINTR": 4}
+# The commands that go over a session's frames, and then read its symbols again.
+CHECKING = ["check", "twin"]
 SIZES = ["--symbol", "1000", "--block", "50", "--max", "60"]
 
 # More than what stands between the program and a file.
@@ -214,8 +216,8 @@ class Call:
             return [f"fault open {self.file}"]
         place = words[1:].index(self.file)
         told = [INPUTS[words[0]][place].format(self.file)]
-        # A symbol that `check` reads again, where it stands.
-        is_again = words[0] == "check" and place == 0 and self.name.startswith("pread")
+        # A symbol that `check` or `twin` reads again, where it stands.
+        is_again = words[0] in CHECKING and place == 0 and self.name.startswith("pread")
         return told + [OBJECT.format(self.file)] * is_again
 
 
@@ -230,7 +232,8 @@ def tries_of(words, calls):
 
 def is_read_behind(words, call, whole):
     """Whether a call may read frames behind the reason of a no."""
-    is_frame = words[:1] == ["check"] and call.name.startswith("pread") and call.file == words[1]
+    is_check = bool(words) and words[0] in CHECKING
+    is_frame = is_check and call.name.startswith("pread") and call.file == words[1]
     return is_frame and whole[1].startswith(b"no ")
 
 
@@ -312,7 +315,7 @@ def main():
                 # no answer.
                 if place > printed and ran == whole:
                     continue
-                # Behind the reason of a no `check` still goes over frames: that changes no answer.
+                # Behind the reason of a no a check still goes over frames: that changes no answer.
                 if ran == whole and is_read_behind(words, call, whole):
                     continue
                 if not is_told(words, call, whole, ran) and not (error == "EINTR" and ran == whole):
