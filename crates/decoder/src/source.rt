@@ -1,6 +1,6 @@
 //! Where the symbols of an object are had from, block by block.
-ghost use Rattle.std.specs.Prelude.{◌≡◌, ◌<◌, ◌≤◌, ◌^◌, ℕ, Bool, List, Option, true, length, filter};
-ghost use Rattle.std.specs.Prelude.{is_some, slice_index, ⊤, IfOk, IfErr, IfSome, IsNone};
+ghost use Rattle.std.specs.Prelude.{◌≡◌, ◌<◌, ◌≤◌, ◌^◌, ℕ, Bool, List, Option, true, length};
+ghost use Rattle.std.specs.Prelude.{filter, is_some, slice_index, ⊤, IfOk, IfErr, IfSome, IsNone};
 ghost use Rattle.lists.specs.Below.{below};
 ghost use Rattle.partition.specs.Fti.{Fti as FtiValue, block_count};
 ghost use Rattle.block_code.specs.Codes.{EachBlockHas};
