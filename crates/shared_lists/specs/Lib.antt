@@ -1,1 +1,2 @@
 pub mod SharedLists
+pub mod Totals
