@@ -1,7 +1,7 @@
-use Rattle.std.proofs.Common.{◌∙◌, ◌++◌, ◌∷◌, [], ℕ, List, get_or, map, sym, ap, arith, below_more}
+use Rattle.std.proofs.Common.{◌∙◌, ◌++◌, ◌∷◌, [], ℕ, List, map, sym, ap, arith, below_more}
 use Rattle.std.proofs.lemmas.Grind.{common_steps}
 use Rattle.lists.specs.Below.{below}
-use Rattle.losses.specs.Groups.{Group, groups_of, group_at, different}
+use Rattle.losses.specs.Groups.{groups_of, group_at}
 use Rattle.cert.specs.Scan.{line_in}
 use Rattle.cert.proofs.Bridge.{map_below_more}
 use Rattle.cert.proofs.tally.block_lines.Goals as goal

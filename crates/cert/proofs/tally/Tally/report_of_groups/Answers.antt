@@ -1,9 +1,8 @@
-use Rattle.std.proofs.Common.{◌≡◌, ◌≢◌, ◌∙◌, ℕ, List, true, false, arith, ap, length, map, sym, subst}
+use Rattle.std.proofs.Common.{◌≡◌, ◌≢◌, ◌∙◌, ℕ, List, true, false, arith, ap, length, sym, subst}
 use Rattle.std.specs.Prelude.{◌-◌, ◌==◌, nat_lt}
 use Rattle.std.specs.List.{list_any, sum_by}
 use Rattle.std.proofs.lemmas.Bool.{eqb-true, eqb-false, lt-ltb, le-ltb}
 use Rattle.std.proofs.lemmas.Grind.{common_steps}
-use Rattle.lists.specs.Below.{below}
 use Rattle.losses.specs.Groups.{groups_of, AreCarriers}
 use Rattle.losses.proofs.CarrierPlaces.{are_carriers}
 use Rattle.partition.specs.Fti.{Fti}
@@ -13,7 +12,6 @@ use Rattle.reception.specs.Walks.{readings_of}
 use Rattle.cert.specs.Certificate.{Certificate}
 use Rattle.cert.specs.Tallying.{IsTally, Says, by_certificate, tallied_of}
 use Rattle.cert.specs.declared.tally.Tally.{Tally}
-use Rattle.cert.specs.Scan.{line_in}
 use Rattle.cert.specs.Verdict.{AreCertified}
 use Rattle.cert.proofs.Judging.{read_all, are_certified, none_came, some_came, no_reason}
 use Rattle.cert.proofs.DatagramSteps.{all_sound, passed_on}

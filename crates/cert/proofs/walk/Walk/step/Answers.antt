@@ -1,4 +1,4 @@
-use Rattle.std.proofs.Common.{Err, refl, arith}
+use Rattle.std.proofs.Common.{Err, refl}
 use Rattle.losses.specs.Groups.{groups_of}
 use Rattle.reception.specs.Reception.{Faulty}
 use Rattle.cert.specs.Tallying.{by_certificate, tallied_of}

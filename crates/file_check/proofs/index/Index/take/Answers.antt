@@ -1,4 +1,4 @@
-use Rattle.std.proofs.Common.{arith, refl}
+use Rattle.std.proofs.Common.{refl}
 use Rattle.losses.specs.Groups.{groups_of}
 use Rattle.cert.specs.Tallying.{nothing, tallied_of}
 use Rattle.reception.proofs.Looks.{never_early}
