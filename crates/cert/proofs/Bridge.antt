@@ -1,18 +1,17 @@
 -- Symbols that came, as groups of places.
-use Rattle.std.proofs.Common.{◌≡◌, ◌≢◌, ℕ, zero, suc, ◌+◌, ◌<◌, ◌≤◌, Bool, true, false, cond, ◌&&◌, ◌||◌, List, [], ◌∷◌, ◌++◌, None, Ok, Err, length, map, get_or, set, refl, sym, ap, subst, ◌∙◌, arith, append_assoc}
+use Rattle.std.proofs.Common.{◌≡◌, ◌≢◌, ℕ, zero, suc, ◌+◌, ◌<◌, ◌≤◌, Bool, true, false, cond, ◌&&◌, ◌||◌, List, [], ◌∷◌, ◌++◌, None, Ok, Err, length, map, get_or, refl, sym, ap, subst, ◌∙◌, arith, append_assoc}
 use Rattle.std.specs.Prelude.{◌==◌, if◌then◌else◌}
 use Rattle.std.specs.List.{list_any}
-use Rattle.std.proofs.lemmas.Bool.{le-leb, lt-leb, eqb-true, eqb-false, eq-eqb}
-use Rattle.std.proofs.lemmas.List.{map-append, append-nil, length-set, get_or-set_same, get_or-set_other}
+use Rattle.std.proofs.lemmas.Bool.{le-leb, lt-leb, eqb-true, eq-eqb}
+use Rattle.std.proofs.lemmas.List.{map-append, append-nil, length-map, get_or-map}
 use Rattle.lists.specs.Below.{below}
 use Rattle.lists.specs.Selection.{rest_from}
 use Rattle.lists.proofs.Lists.{filter_same}
 use Rattle.lists.proofs.Below.{all_below}
 use Rattle.losses.specs.declared.groups.Member.{Member}
 use Rattle.losses.specs.Members.{has_esi}
-use Rattle.losses.specs.declared.groups.Group.{Group as GroupOf}
-use Rattle.losses.specs.Groups.{Group, group_at, groups_of, different}
-use Rattle.losses.proofs.GroupFigures.{seen, count_of}
+use Rattle.losses.specs.Groups.{Group, group_at, group_without, no_group, different, with_member}
+use Rattle.losses.proofs.SharedGroups.{count_with, need_with, members_with, others_with}
 use Rattle.losses.proofs.Link.{is_left}
 use Rattle.partition.specs.Fti.{Fti, block_count, source_count}
 use Rattle.alc.specs.Reading.{Reading}
@@ -64,38 +63,25 @@ module _ (f : Fti) (xs : List Placed) (i : ℕ) (s : Symbol) (r : Reading) (is :
         ∙ sym (members_more b xs (record { place = i; reading = r } ∷ []));
   }
 
--- a group with one member more, put back
-pub put_is : (gs : List GroupOf) (place : ℕ) (s : Symbol) (d g : GroupOf) → s.block < length gs → g.need ≡ (get_or gs s.block d).need
-    → g.members.items ≡ (get_or gs s.block d).members.items ++ record { place = place; esi = s.esi } ∷ []
-    → IsPut (groups_of gs) place s (groups_of (set gs s.block g))
-put_is gs place s d g l need members =
-    let before = count_of gs in
-    let after = count_of (set gs s.block g) in
-    let same = length-set gs s.block g in
+-- groups with the blocks' needs and no members yet
+pub are_empty : (f : Fti) (needs : List ℕ) → length needs ≡ block_count f → ((b : ℕ) → b < block_count f → get_or needs b 0 ≡ source_count f b) → AreGroupsOf f [] (map group_without needs)
+are_empty f needs count are =
+    let at : (b : ℕ) → b < block_count f → group_at (map group_without needs) b ≡ group_without (get_or needs b 0) = λ b l. get_or-map group_without needs b 0 no_group (omega (arith, l, count)) in
     record {
-      count = after ∙ same ∙ sym before;
-      need = λ b lb. (
-          let inside : b < length gs = omega (arith, lb, before) in
-          let within : b < length (set gs s.block g) = omega (arith, inside, same) in
-          ap (λ (x : Group). x.need) (seen (set gs s.block g) b d within)
-          ∙ (elim (b == s.block) as (λ v. (b == s.block) ≡ v → (get_or (set gs s.block g) b d).need ≡ (get_or gs b d).need) [
-            | true ↦ λ e.
-                (let is = eqb-true b s.block e in
-                rw is (ap (λ (x : GroupOf). x.need) (get_or-set_same gs s.block g d l) ∙ need))
-            | false ↦ λ e. ap (λ (x : GroupOf). x.need) (get_or-set_other gs s.block b g d (eqb-false b s.block e))
-          ] refl)
-          ∙ sym (ap (λ (x : Group). x.need) (seen gs b d inside)));
-      here =
-          let within : s.block < length (set gs s.block g) = omega (arith, l, same) in
-          ap (λ (x : Group). x.members) (seen (set gs s.block g) s.block d within)
-          ∙ ap (λ (x : GroupOf). x.members.items) (get_or-set_same gs s.block g d l) ∙ members
-          ∙ sym (ap (λ (x : Group). x.members ++ record { place = place; esi = s.esi } ∷ []) (seen gs s.block d l));
-      elsewhere = λ b lb ne. (
-          let inside : b < length gs = omega (arith, lb, before) in
-          let within : b < length (set gs s.block g) = omega (arith, inside, same) in
-          ap (λ (x : Group). x.members) (seen (set gs s.block g) b d within)
-          ∙ ap (λ (x : GroupOf). x.members.items) (get_or-set_other gs s.block b g d ne)
-          ∙ sym (ap (λ (x : Group). x.members) (seen gs b d inside)));
+      count = length-map needs group_without ∙ count;
+      need = λ b l. ap (λ (g : Group). g.need) (at b l) ∙ are b l;
+      members = λ b l. ap (λ (g : Group). g.members) (at b l);
+    }
+
+-- a group with one member more
+pub put_is : (groups : List Group) (place : ℕ) (s : Symbol) → s.block < length groups → IsPut groups place s (with_member groups s.block (record { place = place; esi = s.esi }))
+put_is groups place s l =
+    let q : Member = record { place = place; esi = s.esi } in
+    record {
+      count = count_with groups s.block q;
+      need = λ b lb. need_with groups s.block q b;
+      here = members_with groups s.block q l;
+      elsewhere = λ b lb ne. others_with groups s.block q b ne;
     }
 
 -- ---- what is held

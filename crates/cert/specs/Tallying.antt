@@ -51,7 +51,7 @@ tallied_of tally = record {
   scope = tally.scope;
   count = tally.count;
   taken = tally.taken;
-  groups = groups_of tally.groups.items;
+  groups = groups_of tally.groups;
   carriers = tally.carriers.items;
 }
 

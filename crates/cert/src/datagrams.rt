@@ -12,7 +12,7 @@ use crate::differing::first_difference;
 use crate::source::source_symbol;
 use crate::verdict::Reason;
 use alc::Packet;
-use losses::{Group, Member};
+use losses::{Groups, Member};
 use partition::Fti;
 use reception::PlaceFault;
 use std::alloc::{AllocError, Global};
@@ -51,43 +51,25 @@ pub fn reason_of(place: usize, fault: PlaceFault) -> Reason
 }
 
 /// A group for each block, with no symbols yet.
-pub(crate) fn empty_groups(alloc: Global, fti: &Fti) -> Result<Vec<Group>, AllocError>
-    ensures { IfOk result (λ v. AreGroupsOf fti.now [] (groups_of v.items)) }
+pub(crate) fn empty_groups(alloc: Global, fti: &Fti) -> Result<Groups, AllocError>
+    ensures { IfOk result (λ groups. AreGroupsOf fti.now [] (groups_of groups)) }
 {
-    let mut groups = Vec::with_capacity(alloc, fti.block_count() as usize)?;
+    let mut needs = Vec::with_capacity(alloc, fti.block_count() as usize)?;
     for block in 0..fti.block_count() {
-        let need = fti.k(block);
-        let members = Vec::new(alloc);
-        groups.push(Group { need, members })?;
+        needs.push(fti.k(block) as u8)?;
     }
-    Ok(groups)
-}
-
-// Puts a member behind the others. Where there is no room for one more, makes room for it and for a
-// quarter of those that are there: twice as much would be more than all else that is held of them.
-fn push_member(members: &mut Vec<Member>, member: Member) -> Result<(), AllocError>
-    ensures { OnOk result (members.new.items ≡ members.old.items ++ member ∷ []) }
-{
-    if members.len() == members.capacity() {
-        members.reserve_exact(members.len() / 4 + 1)?;
-    }
-    members.push(member)?;
-    Ok(())
+    Groups::new(alloc, needs, fti.k(0))
 }
 
 /// Puts the symbol of the packet at a place into its block's group.
-pub(crate) fn put(groups: &mut [Group], place: usize, packet: &Packet<'_>) -> Result<(), AllocError>
-    requires { packet.now.sbn < length groups.old }
+pub(crate) fn put(groups: &mut Groups, place: usize, packet: &Packet<'_>) -> Result<(), AllocError>
+    requires { packet.now.sbn < length (groups_of groups.old) }
     ensures { OnOk result
         (IsPut (groups_of groups.old) place (symbol_of (packet_of packet.now))
         (groups_of groups.new)) }
 {
     let esi = packet.esi;
-    push_member(
-        &mut groups[packet.sbn as usize].members,
-        Member { place, esi },
-    )?;
-    Ok(())
+    groups.push(packet.sbn, Member { place, esi })
 }
 
 /// Puts the place of a packet behind those of the carriers, where it carries an FTI.

@@ -21,7 +21,7 @@ use crate::datagrams::{empty_groups, put, put_carrier};
 use crate::verdict::{Reason, Report, Survey};
 use crate::walk::NoReport;
 use alc::Packet;
-use losses::{Figures, Group, Member, figures_of, runs_of};
+use losses::{Figures, Groups, Member, figures_of, runs_of};
 use partition::Fti;
 use reception::{Identity, Look, PlaceFault, Scope};
 use std::alloc::{AllocError, Global};
@@ -31,7 +31,7 @@ use std::alloc::{AllocError, Global};
 #[derive(Drop)]
 pub struct Tally {
     pub scope: Scope,
-    pub groups: Vec<Group>,
+    pub groups: Groups,
     pub carriers: Vec<usize>,
     /// How many datagrams came.
     pub count: usize,
@@ -86,12 +86,12 @@ impl Tally {
 
     /// Takes the next datagram, a packet in range.
     pub fn put(&mut self, packet: &Packet<'_>) -> Result<(), AllocError>
-        requires { packet.now.sbn < length self.old.groups.items }
+        requires { packet.now.sbn < length (groups_of self.old.groups) }
         ensures scope { self.new.scope ≡ self.old.scope }
         ensures count { OnOk result (self.new.count ≡ self.old.count + 1) }
         ensures taken { OnOk result (self.new.taken ≡ self.old.taken + 1) }
-        ensures put { OnOk result (IsPut (groups_of self.old.groups.items) self.old.count
-            (symbol_of (packet_of packet.now)) (groups_of self.new.groups.items)) }
+        ensures put { OnOk result (IsPut (groups_of self.old.groups) self.old.count
+            (symbol_of (packet_of packet.now)) (groups_of self.new.groups)) }
         ensures carriers { OnOk result (self.new.carriers.items
             ≡ with_carrier self.old.carriers.items self.old.count packet.now.fti) }
     {
@@ -115,7 +115,7 @@ impl Tally {
         ensures no_report { (z : CertificateValue) (datagrams : List (List ℕ))
             → IsTally (by_certificate z) z.fti self.now datagrams
             → IfErr result (IsNoReport self.now.scope.identity datagrams z) }
-        ensures short { IfErr result (IsShortWhereThin (groups_of self.now.groups.items)) }
+        ensures short { IfErr result (IsShortWhereThin (groups_of self.now.groups)) }
     {
         self.report_of_groups(alloc)
     }
@@ -151,11 +151,11 @@ impl Tally {
 
     /// The ESIs of a block's symbols, as they came.
     pub fn esis(&self, alloc: Global, block: u32) -> Result<Vec<u8>, AllocError>
-        requires { block < length self.now.groups.items }
+        requires { block < length (groups_of self.now.groups) }
         ensures { IfOk result (λ v. v.items
-            ≡ map (λ q. q.esi) (group_at (groups_of self.now.groups.items) block).members) }
+            ≡ map (λ q. q.esi) (group_at (groups_of self.now.groups) block).members) }
     {
-        esis_of_members(alloc, self.groups[block as usize].members.as_slice())
+        esis_of_members(alloc, self.groups.members(block as usize))
     }
 
     // The report, whose burst is that of the groups and the carriers.
@@ -166,9 +166,9 @@ impl Tally {
             → AreDatagrams datagrams → IsTally says f self.now datagrams
             → IfOk result (IsReport self.now.scope.identity datagrams f) }
         ensures burst { IfOk result (λ report.
-            InEachList (groups_of self.now.groups.items) self.now.carriers.items
+            InEachList (groups_of self.now.groups) self.now.carriers.items
             (λ blocks xs. IsBurst blocks xs report.burst)) }
-        ensures enough { OnOk result (AreEnough (groups_of self.now.groups.items)) }
+        ensures enough { OnOk result (AreEnough (groups_of self.now.groups)) }
         ensures carrier { (says : Says) (f : FtiValue) (datagrams : List (List ℕ))
             → IsTally says f self.now datagrams → OnOk result
             (list_any (is_carrier self.now.scope.identity) (readings_of datagrams) ≡ true) }
@@ -178,7 +178,7 @@ impl Tally {
         ensures no_report { (z : CertificateValue) (datagrams : List (List ℕ))
             → IsTally (by_certificate z) z.fti self.now datagrams
             → IfErr result (IsNoReport self.now.scope.identity datagrams z) }
-        ensures short { IfErr result (IsShortWhereThin (groups_of self.now.groups.items)) }
+        ensures short { IfErr result (IsShortWhereThin (groups_of self.now.groups)) }
     {
         if self.taken == 0 {
             return Err(NoReport::Reason(Reason::Empty));
@@ -223,17 +223,17 @@ fn without_different(taken: usize, blocks: &[(usize, usize)]) -> usize
 
 // For each block its source symbols and its different ESIs, or the reason of the least block that
 // has too few.
-fn block_lines(alloc: Global, groups: &[Group]) -> Result<Vec<(usize, usize)>, NoReport>
-    requires { length groups.now ≤ 2 ^ 24 }
+fn block_lines(alloc: Global, groups: &Groups) -> Result<Vec<(usize, usize)>, NoReport>
+    requires { length (groups_of groups.now) ≤ 2 ^ 24 }
     ensures lines { IfOk result (λ v.
-        v.items ≡ map (line_in (groups_of groups.now)) (below (length groups.now))) }
+        v.items ≡ map (line_in (groups_of groups.now)) (below (length (groups_of groups.now)))) }
     ensures enough { OnOk result (AreEnough (groups_of groups.now)) }
     ensures no_report { IfErr result (IsShortGroup (groups_of groups.now)) }
 {
     let mut blocks = Vec::new(alloc);
     for block in 0..groups.len() {
-        let need = groups[block].need;
-        let have = groups[block].different();
+        let need = groups.need(block);
+        let have = groups.different(block);
         if have < need {
             let block = block as u32;
             return Err(NoReport::Reason(Reason::Thin { block, have, need }));

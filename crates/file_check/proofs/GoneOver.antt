@@ -3,9 +3,7 @@ use Rattle.std.proofs.Common.{◌≡◌, ℕ, ◌+◌, ◌<◌, ◌≤◌, List,
 use Rattle.std.specs.Prelude.{IfSome}
 use Rattle.std.proofs.lemmas.Bool.{cases_lt}
 use Rattle.losses.specs.declared.groups.Member.{Member}
-use Rattle.losses.specs.declared.groups.Group.{Group}
 use Rattle.losses.specs.Groups.{group_at}
-use Rattle.losses.proofs.GroupFigures.{members_seen}
 use Rattle.partition.specs.Fti.{Fti, block_count, encoding_count}
 use Rattle.session.specs.Extents.{datagram_in}
 use Rattle.session.specs.declared.extent.Extent.{Extent}
@@ -52,11 +50,9 @@ module _ (content : Option (List ℕ)) (index : Index) (b : ℕ) (symbols : List
   }
 
   -- a member as the code has it
-  pub member_seen : (d : Group) (items : List Member) → b < length index.tally.groups.items → d ≡ get_or index.tally.groups.items b d → items ≡ d.members.items
+  pub member_seen : (items : List Member) → items ≡ (group_at t.groups b).members
       → (k : ℕ) → k < length items → (k < length (group_at t.groups b).members) × (get_or items k (record { place = 0; esi = 0 }) ≡ member_at t b k)
-  member_seen d items inside at is k l =
-      let same : items ≡ (group_at t.groups b).members = is ∙ ap (λ (g : Group). g.members.items) at ∙ sym (members_seen index.tally.groups.items b d inside) in
-      (rw same at l, ap (λ (ms : List Member). get_or ms k (record { place = 0; esi = 0 })) same)
+  member_seen items same k l = (rw same at l, ap (λ (ms : List Member). get_or ms k (record { place = 0; esi = 0 })) same)
 
   -- the known FTI is that of the datagrams
   module _ (f : Fti) (known : index.tally.scope.fti ≡ Some f) (within : b < block_count f) where

@@ -37,11 +37,11 @@ framed_by x None ds p end each = absurd p
 framed_by x (Some y) ds p end each = record { whole = p ∙ ap (λ (l : List ℕ). frames ds ++ l) end ∙ append-nil (frames ds); each = λ i. (each i).short }
 
 -- fewer different ESIs came than the block needs
-pub short_found : (who : Identity) (f : Fti) (tally : Tally) → IsSomeTally who f tally → (r : Reason) (b have need : ℕ) → r ≡ Thin b have need → IsFirstShortGroup (groups_of tally.groups.items) b have need
+pub short_found : (who : Identity) (f : Fti) (tally : Tally) → IsSomeTally who f tally → (r : Reason) (b have need : ℕ) → r ≡ Thin b have need → IsFirstShortGroup (groups_of tally.groups) b have need
     → (short : ShortBlock) → short.block ≡ b → short.have ≡ have → short.need ≡ need → short.fti ≡ f
-    → short.arrived_esis.items ≡ map (λ (q : Member). q.esi) (group_at (groups_of tally.groups.items) b).members → IsShortFound (No r) (Some short)
+    → short.arrived_esis.items ≡ map (λ (q : Member). q.esi) (group_at (groups_of tally.groups) b).members → IsShortFound (No r) (Some short)
 short_found who f tally s r b have need e h short block_is have_is need_is fti esis =
-    let few = few_in_group tally.scope.identity f s.datagrams (groups_of tally.groups.items) s.tallied.tallied.grouped b have need h in
+    let few = few_in_group tally.scope.identity f s.datagrams (groups_of tally.groups) s.tallied.tallied.grouped b have need h in
     subst (λ (x : Reason). IsShortFound (No x) (Some short)) (sym e)
     (record {
       block = block_is;
@@ -54,15 +54,15 @@ short_found who f tally s r b have need e h short block_is have_is need_is fti e
 module _ (who : Identity) (x o : List ℕ) (z : Certificate) (valid : IsCertificate z) (name : is_for who z.name ≡ true) (form : IsObject z.fti o) (gives : GivesObject o z) (tally : Tally)
     (w : IsWholeTally who x z tally) where
   -- a twin made for what came is one of the session
-  pub twins_made : (r : Reason) (b have need : ℕ) → r ≡ Thin b have need → IsFirstShortGroup (groups_of tally.groups.items) b have need → IsNoReport who w.datagrams z (ByReason r)
-      → (short : ShortBlock) → short.fti ≡ z.fti → short.arrived_esis.items ≡ map (λ (q : Member). q.esi) (group_at (groups_of tally.groups.items) b).members
+  pub twins_made : (r : Reason) (b have need : ℕ) → r ≡ Thin b have need → IsFirstShortGroup (groups_of tally.groups) b have need → IsNoReport who w.datagrams z (ByReason r)
+      → (short : ShortBlock) → short.fti ≡ z.fti → short.arrived_esis.items ≡ map (λ (q : Member). q.esi) (group_at (groups_of tally.groups) b).members
       → MakesTwins who x o z (No r) (Some short)
   twins_made r b have need e h against short fti esis =
       let ds = w.datagrams in
       let grouped = rw w.identity at w.tallied.tallied.grouped in
-      let inside = (few_in_group who z.fti w.datagrams (groups_of tally.groups.items) grouped b have need h).0 in
+      let inside = (few_in_group who z.fti w.datagrams (groups_of tally.groups) grouped b have need h).0 in
       let came : short.arrived_esis.items ≡ esis_of b (symbols (counted who (readings_of w.datagrams))) =
-      esis ∙ held_esis z.fti (counted who (readings_of w.datagrams)) (groups_of tally.groups.items) b grouped inside in
+      esis ∙ held_esis z.fti (counted who (readings_of w.datagrams)) (groups_of tally.groups) b grouped inside in
       let thin = subst (λ (y : Reason). IsNoReport who w.datagrams z (ByReason y)) e against in
       subst (λ (y : Reason). MakesTwins who x o z (No y) (Some short)) (sym e) (
         fti,

@@ -2,6 +2,7 @@
 //! symbols.
 ghost use Rattle.std.specs.Prelude.{◌≡◌, ◌<◌, ◌*◌, ℕ, List, Option, Some, true, false, length};
 ghost use Rattle.std.specs.Prelude.{OnOk, IfOk, IfErr, IfSome, IsNone};
+ghost use Rattle.losses.specs.Groups.{groups_of};
 ghost use Rattle.partition.specs.Fti.{Fti as FtiValue, block_count, source_count, encoding_count};
 ghost use Rattle.reception.specs.Symbols.{IsObject};
 ghost use Rattle.cert.specs.Certificate.{is_for, named_in};
@@ -145,7 +146,7 @@ fn compare_block<S: ReadAt, O: ReadAt, C: ReadAt>(
     before: Option<Wrong>,
 ) -> Result<Option<Wrong>, Stop>
     requires block { block < block_count files.now.certificate.fti }
-    requires groups { length index.now.tally.groups.items
+    requires groups { length (groups_of index.now.tally.groups)
         ≡ block_count files.now.certificate.fti }
     requires known { index.now.tally.scope.fti ≡ Some files.now.certificate.fti }
     requires same { session.old.file.now ≡ files.now.session.now }
@@ -210,7 +211,7 @@ fn compare_blocks<S: ReadAt, O: ReadAt, C: ReadAt>(
     files: &NamedFiles<'_, S, O, C>,
     index: &Index,
 ) -> Result<Option<Wrong>, Stop>
-    requires groups { length index.now.tally.groups.items
+    requires groups { length (groups_of index.now.tally.groups)
         ≡ block_count files.now.certificate.fti }
     requires known { index.now.tally.scope.fti ≡ Some files.now.certificate.fti }
     ensures compared { WhereTold (S.content files.now.session.now)

@@ -2,6 +2,7 @@
 ghost use Rattle.std.specs.Prelude.{◌≡◌, ◌<◌, ◌≤◌, ◌+◌, ◌*◌, ◌↔◌, IsTrue, ℕ, List, Some, Ok, false};
 ghost use Rattle.std.specs.Prelude.{length};
 ghost use Rattle.std.specs.Prelude.{IfOk, IfSome, OnErr};
+ghost use Rattle.losses.specs.Groups.{groups_of};
 ghost use Rattle.partition.specs.Fti.{Fti as FtiValue, block_count, encoding_count};
 ghost use Rattle.session.specs.Extents.{datagram_in};
 ghost use Rattle.alc.specs.Computed.{read_of};
@@ -102,7 +103,7 @@ pub(crate) fn first_wrong<S: ReadAt>(
     before: Option<Wrong>,
 ) -> Result<Option<Wrong>, Failed>
     requires room { length datagram.old ≡ ROOM }
-    requires block { made.block < length index.now.tally.groups.items }
+    requires block { made.block < length (groups_of index.now.tally.groups) }
     requires known { (f : FtiValue) × (index.now.tally.scope.fti ≡ Some f)
         × (made.block < block_count f)
         × (length made.symbols.now ≡ encoding_count f made.block * f.symbol_length) }
@@ -128,7 +129,7 @@ pub(crate) fn first_wrong<S: ReadAt>(
     ensures len { length datagram.new ≡ ROOM }
 {
     let mut first = before;
-    for member in &index.tally.groups[made.block as usize].members {
+    for member in index.tally.groups.members(made.block as usize) {
         if is_behind(first, member.place) {
             continue;
         }

@@ -1,6 +1,5 @@
 -- The computed figures of groups are those over all losses.
-use Rattle.std.proofs.lemmas.List.{get_or-map, length-map}
-use Rattle.std.specs.Prelude.{slice_index_or, ◌≡◌, ℕ, ◌+◌, ◌-◌, ◌<◌, ◌≤◌, Bool, true, false, not, nat_le, List, [], length, filter, min, refl}
+use Rattle.std.specs.Prelude.{◌≡◌, ℕ, ◌+◌, ◌-◌, ◌<◌, ◌≤◌, Bool, true, false, not, nat_le, List, [], length, filter, min, refl}
 use Rattle.std.specs.List.{AllByRecursion, list_any}
 use Rattle.std.proofs.Common.{◌∙◌, sym, ap, subst, arith, leb-true}
 use Rattle.std.proofs.lemmas.Bool.{leb-false, lt-leb}
@@ -15,8 +14,7 @@ use Rattle.losses.specs.Windows.{ArePlaced, IsLeastGap, IsShortWindow, members, 
 use Rattle.losses.specs.Costs.{IsWeighed, cheap_places}
 use Rattle.losses.specs.Losses.{Blocks, IsBefore, is_enough, esis_in, taken_wholly}
 use Rattle.losses.proofs.BlockLosses.{IsBlockKill, IsBlockMargin, IsBlockBurst}
-use Rattle.losses.specs.declared.groups.Group.{Group as GroupOf}
-use Rattle.losses.specs.Groups.{Group, group_of, groups_of, no_group, group_at, places, is_at, blocks_of_groups}
+use Rattle.losses.specs.Groups.{Group, group_at, places, is_at, blocks_of_groups}
 use Rattle.losses.specs.Lightest.{IsHeavyGroup, IsWideGroup, IsNarrowGroup}
 use Rattle.losses.proofs.Copies.{HasByteEsi}
 use Rattle.lists.proofs.Lists.{filter_same, all_of}
@@ -167,19 +165,6 @@ module _ {X : Type 0} (these : Blocks X) (xs : List X) (ps : ℕ → List Number
         }
 
 -- ---- from the weights of groups, as they are computed, to the figures
-
--- a group, as the code sees it
-pub seen : (gs : List GroupOf) (b : ℕ) (d : GroupOf) → b < length gs → group_at (groups_of gs) b ≡ group_of (slice_index_or gs b d)
-seen gs b d l = get_or-map group_of gs b d no_group l
-
-pub members_seen : (gs : List GroupOf) (b : ℕ) (d : GroupOf) → b < length gs → (group_at (groups_of gs) b).members ≡ (slice_index_or gs b d).members.items
-members_seen gs b d l = ap (λ (g : Group). g.members) (seen gs b d l)
-
-pub need_seen : (gs : List GroupOf) (b : ℕ) (d : GroupOf) → b < length gs → (group_at (groups_of gs) b).need ≡ (slice_index_or gs b d).need
-need_seen gs b d l = ap (λ (g : Group). g.need) (seen gs b d l)
-
-pub count_of : (gs : List GroupOf) → length (groups_of gs) ≡ length gs
-count_of gs = length-map gs group_of
 
 -- one group more
 module _ (groups : List Group) (n : ℕ) where

@@ -25,3 +25,4 @@ pub mod Ordering
 pub mod Starts
 pub mod LongestRuns
 pub mod FirstBurst
+pub mod SharedGroups

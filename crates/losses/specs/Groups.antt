@@ -1,14 +1,16 @@
 -- Groups of places: what a list can lose, by the places of each group's symbols and those of the
 -- carriers. A place can be in several groups, or in none.
 use Rattle.std.specs.Prelude.{ℕ, zero, suc, ◌+◌, ◌<◌, ◌≤◌, Bool, ◌&&◌, ◌==◌, List, [], ◌∷◌, length}
-use Rattle.std.specs.Prelude.{filter, map, slice_index_or}
+use Rattle.std.specs.Prelude.{◌++◌, filter, map, slice_index_or}
 use Rattle.std.specs.List.{AllByRecursion, list_any}
 use Rattle.lists.specs.Below.{below}
 use Rattle.lists.specs.Places.{ArePlaces}
 use Rattle.lists.specs.Selection.{is_among}
+use Rattle.shared_lists.specs.SharedLists.{list_at, share_of, index_of}
+use Rattle.shared_lists.specs.declared.shared_lists.SharedLists.{SharedLists}
 use Rattle.losses.specs.Losses.{Blocks}
 use Rattle.losses.specs.declared.groups.Member.{Member}
-use Rattle.losses.specs.declared.groups.Group.{Group as GroupOf}
+use Rattle.losses.specs.declared.groups.Groups.{Groups}
 
 -- how many different symbols a group needs, and its members: the place and the number of the symbol
 -- there, places rising
@@ -16,11 +18,34 @@ pub record Group : Type 0 where
   pub need : ℕ
   pub members : List Member
 
-abbrev pub group_of : GroupOf → Group
-group_of g = record { need = g.need; members = g.members.items }
+-- the list at this index of the lists that share this allocation
+abbrev pub shared_at : List (SharedLists Member) → ℕ → ℕ → List Member
+shared_at [] share index = []
+shared_at (lists ∷ shares) zero index = list_at lists index
+shared_at (lists ∷ shares) (suc share) index = shared_at shares share index
 
-abbrev pub groups_of : List GroupOf → List Group
-groups_of gs = map group_of gs
+-- groups with these needs, whose first is number b of those whose members are given
+abbrev pub groups_from : (ℕ → List Member) → ℕ → List ℕ → List Group
+groups_from members b [] = []
+groups_from members b (need ∷ needs) =
+    record { need = need; members = members b } ∷ groups_from members (b + 1) needs
+
+abbrev pub members_in : Groups → ℕ → List Member
+members_in groups b =
+    shared_at groups.shares.items (share_of groups.sharing b) (index_of groups.sharing b)
+
+abbrev pub groups_of : Groups → List Group
+groups_of groups = groups_from (members_in groups) 0 groups.needs.items
+
+abbrev pub group_without : ℕ → Group
+group_without need = record { need = need; members = [] }
+
+-- group b has one member more, behind the others
+abbrev pub with_member : List Group → ℕ → Member → List Group
+with_member [] b q = []
+with_member (g ∷ groups) zero q =
+    record { need = g.need; members = g.members ++ q ∷ [] } ∷ groups
+with_member (g ∷ groups) (suc b) q = g ∷ with_member groups b q
 
 abbrev pub no_group : Group
 no_group = record { need = 0; members = [] }

@@ -12,7 +12,7 @@ ghost use Rattle.losses.specs.Runs.{run_at, AreRuns, IsLeastLength};
 ghost use Rattle.losses.specs.Starts.{shorter, AreMarked, AreSpread, AreFilled};
 ghost use Rattle.losses.specs.Windows.{ArePlaced, place_at};
 
-use crate::groups::{Group, Member};
+use crate::groups::{Groups, Member};
 use crate::window::Window;
 use std::alloc::{AllocError, Global};
 
@@ -83,7 +83,7 @@ fn spread(runs: &mut [Option<Run>])
 }
 
 // Puts in at each place the longest harmless run from there on.
-fn fill(runs: &mut [Option<Run>], groups: &[Group], carriers: &[usize])
+fn fill(runs: &mut [Option<Run>], groups: &Groups, carriers: &[usize])
     requires empty { (s : ℕ) → run_at runs.old s ≡ None }
     requires small { length runs.old < 2 ^ 64 }
     requires groups { AreGroups (groups_of groups.now) (length runs.old) }
@@ -91,7 +91,7 @@ fn fill(runs: &mut [Option<Run>], groups: &[Group], carriers: &[usize])
     ensures { AreFilled (groups_of groups.now) carriers.now (length runs.old) runs.new }
 {
     for block in 0..groups.len() {
-        mark(runs, block, &groups[block].members, groups[block].need);
+        mark(runs, block, groups.members(block), groups.need(block));
     }
     // The narrowest run that takes all carriers goes from the first to the last.
     let first = carriers[0];
@@ -108,7 +108,7 @@ fn fill(runs: &mut [Option<Run>], groups: &[Group], carriers: &[usize])
 /// are those of the list, as [`crate::figures_of`] asks. Want of memory is the only error.
 pub fn runs_of(
     alloc: Global,
-    groups: &[Group],
+    groups: &Groups,
     carriers: &[usize],
     count: usize,
 ) -> Result<Vec<Option<Run>>, AllocError>

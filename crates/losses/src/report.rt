@@ -7,7 +7,7 @@ ghost use Rattle.losses.specs.Lightest.{IsLightest, IsNarrowest};
 ghost use Rattle.losses.specs.Runs.{IsFirstBurst, Lacks};
 ghost use Rattle.lists.specs.Selection.{rest, is_among};
 
-use crate::groups::Group;
+use crate::groups::Groups;
 use crate::pricing::Threshold;
 use crate::weighing::{doomed_places, weigh};
 use crate::window::Gap;
@@ -43,19 +43,19 @@ struct Lightest {
     gap_at: usize,
 }
 
-fn weigh_all(alloc: Global, groups: &[Group]) -> Result<Lightest, AllocError>
-    requires some { 0 < length groups.now }
+fn weigh_all(alloc: Global, groups: &Groups) -> Result<Lightest, AllocError>
+    requires some { 0 < length (groups_of groups.now) }
     requires groups { (n : ℕ) × AreOrdered (groups_of groups.now) n }
     ensures lightest { IfOk result (IsLightest (groups_of groups.now)) }
     ensures narrowest { IfOk result (IsNarrowest (groups_of groups.now)) }
 {
-    let first = weigh(alloc, &groups[0].members, groups[0].need)?;
+    let first = weigh(alloc, groups.members(0), groups.need(0))?;
     let mut at = 0;
     let mut threshold = first.threshold;
     let mut gap = first.gap;
     let mut gap_at = 0;
     for block in 1..groups.len() {
-        let weight = weigh(alloc, &groups[block].members, groups[block].need)?;
+        let weight = weigh(alloc, groups.members(block), groups.need(block))?;
         if weight.threshold.cost < threshold.cost {
             threshold = weight.threshold;
             at = block;
@@ -76,12 +76,8 @@ fn weigh_all(alloc: Global, groups: &[Group]) -> Result<Lightest, AllocError>
 /// The figures of groups and of the places of carriers, of each one at least, in any list that has
 /// their places. A group has the symbols that it needs: at least one, and no more than there are
 /// different ones among the group's. The carriers' places rise. Want of memory is the only error.
-pub fn figures_of(
-    alloc: Global,
-    groups: &[Group],
-    carriers: &[usize],
-) -> Result<Figures, AllocError>
-    requires some { 0 < length groups.now }
+pub fn figures_of(alloc: Global, groups: &Groups, carriers: &[usize]) -> Result<Figures, AllocError>
+    requires some { 0 < length (groups_of groups.now) }
     requires groups { AreOfAList (groups_of groups.now) carriers.now }
     ensures margin { IfOk result (λ r. InEachList (groups_of groups.now) carriers.now
         (λ blocks xs. IsMargin blocks xs r.margin)) }
@@ -117,7 +113,7 @@ pub fn figures_of(
             burst_block,
         });
     }
-    let kill = doomed_places(alloc, &groups[block.at].members, block.threshold)?;
+    let kill = doomed_places(alloc, groups.members(block.at), block.threshold)?;
     Ok(Figures {
         margin: block.threshold.cost - 1,
         kill,

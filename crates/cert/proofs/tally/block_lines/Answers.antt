@@ -1,9 +1,7 @@
-use Rattle.std.proofs.Common.{◌∙◌, ◌++◌, ◌∷◌, [], ℕ, List, get_or, map, sym, ap, arith, below_more}
+use Rattle.std.proofs.Common.{◌∙◌, ◌++◌, ◌∷◌, [], ℕ, List, map, sym, ap, arith, below_more}
 use Rattle.std.proofs.lemmas.Grind.{common_steps}
 use Rattle.lists.specs.Below.{below}
-use Rattle.losses.specs.Groups.{Group, groups_of, group_at, different}
-use Rattle.losses.specs.declared.groups.Group.{Group as GroupOf}
-use Rattle.losses.proofs.GroupFigures.{seen}
+use Rattle.losses.specs.Groups.{groups_of, group_at}
 use Rattle.cert.specs.Scan.{line_in}
 use Rattle.cert.proofs.Bridge.{map_below_more}
 use Rattle.cert.proofs.tally.block_lines.Goals as goal
@@ -15,12 +13,12 @@ loop-block-init c = record { lines = c.new-blocks.ensures.items; enough = λ b l
 pub loop-block-preserved : goal.loop-block-preserved
 loop-block-preserved c =
     let gs = groups_of c.args.groups.now in
-    let need = ap (λ (g : Group). g.need) (seen c.args.groups.now c.loop-block.block c.index-groups-block.result c.loop-block-test.true) in
-    let have = c.different-have.ensures ∙ ap (λ (g : GroupOf). different g.members.items) c.index-groups-block-in-loop-block.is ∙ sym (ap (λ (g : Group). different g.members) (seen c.args.groups.now c.loop-block.block c.index-groups-block-in-loop-block.result c.loop-block-test.true)) in
+    let need = sym c.need-need.ensures in
+    let have = c.different-have.ensures in
     record {
       lines =
           c.in-Ok.ensures.items
-          ∙ ap (λ (ls : List (ℕ × ℕ)). ls ++ ((get_or c.args.groups.now c.loop-block.block c.index-groups-block.result).need, c.different-have.result) ∷ []) c.loop-block.invariant.lines
+          ∙ ap (λ (ls : List (ℕ × ℕ)). ls ++ (c.need-need.result, c.different-have.result) ∷ []) c.loop-block.invariant.lines
           ∙ ap (λ (n : ℕ). map (line_in (groups_of c.args.groups.now)) (below c.loop-block.block) ++ (n, c.different-have.result) ∷ []) (sym need)
           ∙ ap (λ (n : ℕ). map (line_in (groups_of c.args.groups.now)) (below c.loop-block.block) ++ ((group_at (groups_of c.args.groups.now) c.loop-block.block).need, n) ∷ []) have
           ∙ sym (map_below_more (line_in (groups_of c.args.groups.now)) c.loop-block.block);

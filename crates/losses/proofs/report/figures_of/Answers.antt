@@ -1,5 +1,4 @@
-use Rattle.std.proofs.Common.{◌≡◌, false, ◌<◌, ◌+◌, ◌-◌, ℕ, List, length, get_or, ap, sym, ◌∙◌, arith, subst}
-use Rattle.std.proofs.lemmas.Grind.{common_steps}
+use Rattle.std.proofs.Common.{◌≡◌, false, ◌+◌, ◌-◌, ℕ, List, length, get_or, ap, sym, ◌∙◌, subst}
 use Rattle.losses.specs.Costs.{cheap_places}
 use Rattle.losses.specs.Losses.{IsKill, is_enough}
 use Rattle.losses.specs.declared.groups.Member.{Member}
@@ -7,7 +6,7 @@ use Rattle.losses.specs.Groups.{groups_of, places, blocks_of_groups}
 use Rattle.std.specs.List.{list_any}
 use Rattle.lists.specs.Selection.{rest, is_among}
 use Rattle.losses.proofs.CarrierPlaces.{none_taken}
-use Rattle.losses.proofs.GroupFigures.{members_seen, count_of, some, kill_short}
+use Rattle.losses.proofs.GroupFigures.{some, kill_short}
 use Rattle.losses.proofs.CarrierGroup.{span, span_fits, margin_blocks, margin_carriers, kill_blocks, kill_carriers, burst_blocks, burst_carriers}
 use Rattle.losses.proofs.FirstBurst.{before_yes, before_no, first_of_blocks, first_of_carriers}
 use Rattle.losses.proofs.Ordering.{carriers_ordered, groups_ordered}
@@ -75,8 +74,7 @@ returns-clause-kill c = λ n told came.
     let w = c.in_ok-block.ensures.lightest in
     let l = c.in_ok-block.block in
     let gs = c.args.groups.now in
-    let within : l.at < length c.args.groups.now = (let h = w.within in let k = count_of c.args.groups.now in omega (arith, h, k)) in
-    let is = c.deref.ensures.value ∙ sym (members_seen gs l.at c.index-groups-block.result within) in
+    let is = c.members.ensures in
     let places_are = c.in_ok-kill.ensures ∙ ap (λ (qs : List Member). cheap_places qs l.threshold.most_copies l.threshold.last_esi) is in
     subst (λ (ps : List ℕ). IsKill (blocks_of_groups (groups_of gs) c.args.carriers.now) (places 0 n) (c.in_ok-block.block.threshold.cost - 1 + 1) ps) (sym places_are)
     (kill_blocks (groups_of gs) c.args.carriers.now n are carriers l.at l.threshold.cost l.threshold.most_copies l.threshold.last_esi w.within w.weighed w.heavy c.if-carriers-block.false)
@@ -87,8 +85,7 @@ returns-clause-kill_block c = λ n told came.
     let w = c.in_ok-block.ensures.lightest in
     let l = c.in_ok-block.block in
     let gs = c.args.groups.now in
-    let within : l.at < length c.args.groups.now = (let h = w.within in let k = count_of c.args.groups.now in omega (arith, h, k)) in
-    let is = c.deref.ensures.value ∙ sym (members_seen gs l.at c.index-groups-block.result within) in
+    let is = c.members.ensures in
     let places_are = c.in_ok-kill.ensures ∙ ap (λ (qs : List Member). cheap_places qs l.threshold.most_copies l.threshold.last_esi) is in (
       w.within,
       subst (λ (ps : List ℕ). is_enough (blocks_of_groups (groups_of c.args.groups.now) c.args.carriers.now) (rest (is_among ps) (places 0 n)) c.in_ok-block.block.at ≡ false) (sym places_are)
@@ -109,12 +106,6 @@ returns-clause-burst c = λ n told came.
           (let o = before_no (span c.args.carriers.now) l.gap.length (get_or c.args.carriers.now 0 0) l.gap.place (sym c.is_before.ensures ∙ b.if-is_before.false) in
           rw b.gap-is (burst_blocks (groups_of c.args.groups.now) c.args.carriers.now n are carriers l.gap.length w.narrow w.wide o.0))
     ]
-
-pub offset_bounds-groups-block : goal.offset_bounds-groups-block
-offset_bounds-groups-block c = grind (arith, common_steps) steps 2000000
-
-pub bounds-groups-block : goal.bounds-groups-block
-bounds-groups-block c = grind (arith, common_steps) steps 2000000
 
 pub weigh_all-requires-clause-groups : goal.weigh_all-requires-clause-groups
 weigh_all-requires-clause-groups c =

@@ -7,7 +7,7 @@ use Rattle.losses.specs.Groups.{groups_of, group_at}
 use Rattle.losses.specs.Lightest.{AreLeast, AreNarrowest, IsHeavyGroup, IsWideGroup}
 use Rattle.losses.specs.Starts.{IsFirstGap}
 use Rattle.losses.proofs.FirstBurst.{before_yes, before_no, narrowest_first, narrowest_new, narrowest_same}
-use Rattle.losses.proofs.GroupFigures.{members_seen, need_seen, count_of, placed_of, heavy_new, heavy_same, wide_new, wide_same, narrow_more}
+use Rattle.losses.proofs.GroupFigures.{placed_of, heavy_new, heavy_same, wide_new, wide_same, narrow_more}
 use Rattle.losses.proofs.report.weigh_all.Goals as goal
 use Rattle.losses.proofs.report.weigh_all.Goals.{then-weight-threshold, else-weight-threshold, then-is_before, else-is_before}
 
@@ -23,30 +23,30 @@ first_as {qs} {rs} {k} {m} {place} {gap} e f w = subst (λ (x : ℕ). IsFirstGap
 pub weigh-requires-clause-placed : goal.weigh-requires-clause-placed
 weigh-requires-clause-placed c =
     let gs = c.args.groups.now in
-    let is = c.deref.ensures.value ∙ sym (members_seen gs 0 c.index-groups-0.result c.requires.some) in
-    subst (λ (qs : List Member). ArePlaced qs) (sym is) (placed_of (groups_of gs) c.requires.groups.0 c.requires.groups.1 0 (omega (arith, c.requires.some, count_of gs)))
+    let is = c.members.ensures in
+    subst (λ (qs : List Member). ArePlaced qs) (sym is) (placed_of (groups_of gs) c.requires.groups.0 c.requires.groups.1 0 c.requires.some)
 
 pub weigh-requires-clause-some : goal.weigh-requires-clause-some
 weigh-requires-clause-some c =
     let gs = c.args.groups.now in
-    let n = need_seen gs 0 c.index-groups-0-2.result c.requires.some in
-    let s = c.requires.groups.1.some 0 (omega (arith, c.requires.some, count_of gs)) in
+    let n = sym c.need.ensures in
+    let s = c.requires.groups.1.some 0 c.requires.some in
     omega (arith, n, s)
 
 pub weigh-requires-clause-enough : goal.weigh-requires-clause-enough
 weigh-requires-clause-enough c =
     let gs = c.args.groups.now in
-    let n = need_seen gs 0 c.index-groups-0-2.result c.requires.some in
-    let is = c.deref.ensures.value ∙ sym (members_seen gs 0 c.index-groups-0.result c.requires.some) in
-    let e = c.requires.groups.1.enough 0 (omega (arith, c.requires.some, count_of gs)) in
+    let n = sym c.need.ensures in
+    let is = c.members.ensures in
+    let e = c.requires.groups.1.enough 0 c.requires.some in
     let d = ap (λ (qs : List Member). different_outside qs 0 0) is in
     omega (arith, n, e, d)
 
 pub loop-block-init : goal.loop-block-init
 loop-block-init c =
     let gs = c.args.groups.now in
-    let n = need_seen gs 0 c.index-groups-0-2.result c.requires.some in
-    let is = c.deref.ensures.value ∙ sym (members_seen gs 0 c.index-groups-0.result c.requires.some) in
+    let n = sym c.need.ensures in
+    let is = c.members.ensures in
     let w = c.in_ok-first.first in
     let cut : IsWeighed (group_at (groups_of gs) 0).members (group_at (groups_of gs) 0).need w.threshold.cost w.threshold.most_copies w.threshold.last_esi =
     weighed_as is (sym n) c.in_ok-first.ensures.cut in
@@ -67,22 +67,22 @@ loop-block-init c =
 pub weigh-requires-in-loop-block-clause-placed : goal.weigh-requires-in-loop-block-clause-placed
 weigh-requires-in-loop-block-clause-placed c =
     let gs = c.args.groups.now in
-    let is = c.deref-in-loop-block.ensures.value ∙ sym (members_seen gs c.loop-block.block c.index-groups-block.result c.loop-block-test.true) in
-    subst (λ (qs : List Member). ArePlaced qs) (sym is) (placed_of (groups_of gs) c.requires.groups.0 c.requires.groups.1 c.loop-block.block (omega (arith, c.loop-block-test.true, count_of gs)))
+    let is = c.members-in-loop-block.ensures in
+    subst (λ (qs : List Member). ArePlaced qs) (sym is) (placed_of (groups_of gs) c.requires.groups.0 c.requires.groups.1 c.loop-block.block (omega (arith, c.loop-block-test.true, c.len-block-end.ensures)))
 
 pub weigh-requires-in-loop-block-clause-some : goal.weigh-requires-in-loop-block-clause-some
 weigh-requires-in-loop-block-clause-some c =
     let gs = c.args.groups.now in
-    let n = need_seen gs c.loop-block.block c.index-groups-block-in-loop-block.result c.loop-block-test.true in
-    let s = c.requires.groups.1.some c.loop-block.block (omega (arith, c.loop-block-test.true, count_of gs)) in
+    let n = sym c.need-in-loop-block.ensures in
+    let s = c.requires.groups.1.some c.loop-block.block (omega (arith, c.loop-block-test.true, c.len-block-end.ensures)) in
     omega (arith, n, s)
 
 pub weigh-requires-in-loop-block-clause-enough : goal.weigh-requires-in-loop-block-clause-enough
 weigh-requires-in-loop-block-clause-enough c =
     let gs = c.args.groups.now in
-    let n = need_seen gs c.loop-block.block c.index-groups-block-in-loop-block.result c.loop-block-test.true in
-    let is = c.deref-in-loop-block.ensures.value ∙ sym (members_seen gs c.loop-block.block c.index-groups-block.result c.loop-block-test.true) in
-    let e = c.requires.groups.1.enough c.loop-block.block (omega (arith, c.loop-block-test.true, count_of gs)) in
+    let n = sym c.need-in-loop-block.ensures in
+    let is = c.members-in-loop-block.ensures in
+    let e = c.requires.groups.1.enough c.loop-block.block (omega (arith, c.loop-block-test.true, c.len-block-end.ensures)) in
     let d = ap (λ (qs : List Member). different_outside qs 0 0) is in
     omega (arith, n, e, d)
 
@@ -92,8 +92,8 @@ loop-block-preserved c =
     let gs = c.args.groups.now in
     let groups = groups_of gs in
     let here : c.loop-block.at < c.loop-block.block = i.within in
-    let n = need_seen gs c.loop-block.block c.index-groups-block-in-loop-block.result c.loop-block-test.true in
-    let is = c.deref-in-loop-block.ensures.value ∙ sym (members_seen gs c.loop-block.block c.index-groups-block.result c.loop-block-test.true) in
+    let n = sym c.need-in-loop-block.ensures in
+    let is = c.members-in-loop-block.ensures in
     let w = c.in_ok-weight.weight in
     let cut : IsWeighed (group_at (groups_of c.args.groups.now) c.loop-block.block).members (group_at (groups_of c.args.groups.now) c.loop-block.block).need w.threshold.cost w.threshold.most_copies w.threshold.last_esi =
     weighed_as is (sym n) c.in_ok-weight.ensures.cut in
@@ -146,7 +146,7 @@ loop-block-preserved c =
 
 pub returns : goal.returns
 returns c =
-    let end : c.loop-block.block ≡ length (groups_of c.args.groups.now) = (let l = c.requires.some in let k = count_of c.args.groups.now in omega (arith, l, k)) in
+    let end : c.loop-block.block ≡ length (groups_of c.args.groups.now) = (let l = c.requires.some in let k = c.len-block-end.ensures in omega (arith, l, k)) in
     record {
       lightest = subst (λ (n : ℕ). AreLeast (groups_of c.args.groups.now) n c.loop-block.at c.loop-block.threshold.cost c.loop-block.threshold.most_copies c.loop-block.threshold.last_esi c.loop-block.gap.length) end
           c.loop-block.invariant.lightest;

@@ -1,12 +1,9 @@
-use Rattle.std.proofs.Common.{◌≡◌, ◌≢◌, ◌∙◌, ℕ, List, true, false, arith, ap, length, map, sym, subst}
+use Rattle.std.proofs.Common.{◌≡◌, ◌≢◌, ◌∙◌, ℕ, List, true, false, arith, ap, length, sym, subst}
 use Rattle.std.specs.Prelude.{◌-◌, ◌==◌, nat_lt}
 use Rattle.std.specs.List.{list_any, sum_by}
 use Rattle.std.proofs.lemmas.Bool.{eqb-true, eqb-false, lt-ltb, le-ltb}
 use Rattle.std.proofs.lemmas.Grind.{common_steps}
-use Rattle.lists.specs.Below.{below}
-use Rattle.losses.specs.declared.groups.Group.{Group as GroupOf}
 use Rattle.losses.specs.Groups.{groups_of, AreCarriers}
-use Rattle.losses.proofs.GroupFigures.{count_of}
 use Rattle.losses.proofs.CarrierPlaces.{are_carriers}
 use Rattle.partition.specs.Fti.{Fti}
 use Rattle.partition.proofs.Laws.{some_block}
@@ -15,7 +12,6 @@ use Rattle.reception.specs.Walks.{readings_of}
 use Rattle.cert.specs.Certificate.{Certificate}
 use Rattle.cert.specs.Tallying.{IsTally, Says, by_certificate, tallied_of}
 use Rattle.cert.specs.declared.tally.Tally.{Tally}
-use Rattle.cert.specs.Scan.{line_in}
 use Rattle.cert.specs.Verdict.{AreCertified}
 use Rattle.cert.proofs.Judging.{read_all, are_certified, none_came, some_came, no_reason}
 use Rattle.cert.proofs.DatagramSteps.{all_sound, passed_on}
@@ -57,29 +53,27 @@ pub returns-in_err-blocks-clause-no_report : goal.returns-in_err-blocks-clause-n
 returns-in_err-blocks-clause-no_report c = λ z datagrams h. (
     let who = c.args.self.now.scope.identity in
     let some = some_came (symbols (counted c.args.self.now.scope.identity (readings_of datagrams))) c.args.self.now.taken h.tallied.counts c.if-self-eq0.false in
-    let refused = counts_refused who z datagrams (groups_of c.args.self.now.groups.items) h.tallied.grouped c.in_err-blocks.field-0.0 (no_reason _ h.tallied.clean) some
-    (rw c.deref.ensures.value at c.in_err-blocks.ensures.no_report) in
+    let refused = counts_refused who z datagrams (groups_of c.args.self.now.groups) h.tallied.grouped c.in_err-blocks.field-0.0 (no_reason _ h.tallied.clean) some
+    c.in_err-blocks.ensures.no_report in
     passed_on c.from_residual.result c.in_err-blocks.field-0.0 _ c.from_residual.ensures.1 refused)
 
 pub returns-then-is_empty-clause-no_report : goal.returns-then-is_empty-clause-no_report
 returns-then-is_empty-clause-no_report c = λ z datagrams h. (
     let who = c.args.self.now.scope.identity in
-    let enough = rw c.deref.ensures.value at c.in_ok-blocks.ensures.enough in (
+    let enough = c.in_ok-blocks.ensures.enough in (
       no_reason _ h.tallied.clean,
       some_came (symbols (counted c.args.self.now.scope.identity (readings_of datagrams))) c.args.self.now.taken h.tallied.counts c.if-self-eq0.false,
-      enough_full who z.fti (readings_of datagrams) (groups_of c.args.self.now.groups.items) h.tallied.grouped enough,
+      enough_full who z.fti (readings_of datagrams) (groups_of c.args.self.now.groups) h.tallied.grouped enough,
       no_carrier (by_certificate z) z.fti c.args.self.now datagrams h (sym c.is_empty.ensures ∙ c.if-is_empty.true),
     ))
 
 pub figures_of-requires-clause-some : goal.figures_of-requires-clause-some
 figures_of-requires-clause-some c =
-    let n = count_of c.args.self.now.groups.items in
     let f = c.requires.1 in
     let h = c.requires.3 in
     let g = h.tallied.grouped.count in
-    let d = ap (λ (gs : List GroupOf). length gs) c.deref-2.ensures.value in
     let s = some_block f h.valid in
-    omega (arith, n, g, d, s)
+    omega (arith, g, s)
 
 pub figures_of-requires-clause-groups : goal.figures_of-requires-clause-groups
 figures_of-requires-clause-groups c =
@@ -87,10 +81,10 @@ figures_of-requires-clause-groups c =
     let h = c.requires.3 in
     let rs = readings_of c.requires.2 in
     let all = all_sound c.requires.0 f (tallied_of c.args.self.now) c.requires.2 h.tallied in
-    let enough = rw c.deref.ensures.value at c.in_ok-blocks.ensures.enough in
-    rw (c.deref-2.ensures.value, c.deref-3.ensures.value) (
+    let enough = c.in_ok-blocks.ensures.enough in
+    rw c.deref.ensures.value (
       length rs,
-      are_groups c.args.self.now.scope.identity f h.valid rs all (groups_of c.args.self.now.groups.items) h.tallied.grouped enough,
+      are_groups c.args.self.now.scope.identity f h.valid rs all (groups_of c.args.self.now.groups) h.tallied.grouped enough,
       carriers_are c.requires.0 c.requires.1 c.args.self.now c.requires.2 h (sym c.is_empty.ensures ∙ c.if-is_empty.false),
     )
 
@@ -100,24 +94,23 @@ returns-clause-report c = λ says f datagrams each h. (
     let valid = h.valid in
     let all = all_sound says f (tallied_of c.args.self.now) datagrams h.tallied in
     let rs = readings_of datagrams in
-    let groups = groups_of c.args.self.now.groups.items in
-    let n = count_of c.args.self.now.groups.items in
-    let lines = rw c.deref.ensures.value at c.in_ok-blocks.ensures.lines in
-    let enough = rw c.deref.ensures.value at c.in_ok-blocks.ensures.enough in
+    let groups = groups_of c.args.self.now.groups in
+    let lines = c.in_ok-blocks.ensures.lines in
+    let enough = c.in_ok-blocks.ensures.enough in
     let are = are_groups who f valid rs all groups h.tallied.grouped enough in
     let carriers = rw h.tallied.placed at (carriers_are says f c.args.self.now datagrams h (sym c.is_empty.ensures ∙ c.if-is_empty.false)) in
-    let margin = rw (c.deref-2.ensures.value, c.deref-3.ensures.value, h.tallied.placed) at c.in_ok-margin.ensures.margin in
-    let kill = rw (c.deref-2.ensures.value, c.deref-3.ensures.value, h.tallied.placed) at c.in_ok-margin.ensures.kill in
-    let kill_block = rw (c.deref-2.ensures.value, c.deref-3.ensures.value, h.tallied.placed) at c.in_ok-margin.ensures.kill_block in
-    let burst = rw (c.deref-2.ensures.value, c.deref-3.ensures.value, h.tallied.placed) at c.in_ok-margin.ensures.burst in
-    let first = rw (c.deref-2.ensures.value, c.deref-3.ensures.value, h.tallied.placed) at c.in_ok-margin.ensures.first in
+    let margin = rw (c.deref.ensures.value, h.tallied.placed) at c.in_ok-margin.ensures.margin in
+    let kill = rw (c.deref.ensures.value, h.tallied.placed) at c.in_ok-margin.ensures.kill in
+    let kill_block = rw (c.deref.ensures.value, h.tallied.placed) at c.in_ok-margin.ensures.kill_block in
+    let burst = rw (c.deref.ensures.value, h.tallied.placed) at c.in_ok-margin.ensures.burst in
+    let first = rw (c.deref.ensures.value, h.tallied.placed) at c.in_ok-margin.ensures.first in
     record {
       readings = rs;
       read = read_all datagrams each;
-      blocks = lines ∙ ap (λ (m : ℕ). map (line_in (groups_of c.args.self.now.groups.items)) (below m)) (sym n) ∙ lines_are who f rs groups h.tallied.grouped;
+      blocks = lines ∙ lines_are who f rs groups h.tallied.grouped;
       carriers = c.len.ensures ∙ c.args.self.now.carriers.ok.0 ∙ ap (λ (ps : List ℕ). length ps) h.tallied.placed ∙ places_counted (is_carrier who) 0 rs;
       repeats =
-          c.without_different-repeats.ensures ∙ ap (λ (bs : List (ℕ × ℕ)). c.args.self.now.taken - sum_by (λ counts. counts.1) bs) c.deref-4.ensures.value
+          c.without_different-repeats.ensures ∙ ap (λ (bs : List (ℕ × ℕ)). c.args.self.now.taken - sum_by (λ counts. counts.1) bs) c.deref-2.ensures.value
           ∙ ap (λ (m : ℕ). m - sum_by (λ counts. counts.1) c.in_ok-blocks.blocks.items) (sym h.tallied.counts);
       margin = margin_told who f valid rs all groups h.tallied.grouped _ (margin (length rs) are carriers);
       kill = kill_told who f valid rs all groups h.tallied.grouped _ _ (kill (length rs) are carriers);
@@ -129,10 +122,10 @@ returns-clause-report c = λ says f datagrams each h. (
 pub returns-clause-certified : goal.returns-clause-certified
 returns-clause-certified c = λ z datagrams h. (
     let all = all_certified c.args.self.now z datagrams h c.if-self-eq0.false in
-    let enough = rw c.deref.ensures.value at c.in_ok-blocks.ensures.enough in
+    let enough = c.in_ok-blocks.ensures.enough in
     record {
       all = all;
-      full = enough_full c.args.self.now.scope.identity z.fti (readings_of datagrams) (groups_of c.args.self.now.groups.items) h.tallied.grouped enough;
+      full = enough_full c.args.self.now.scope.identity z.fti (readings_of datagrams) (groups_of c.args.self.now.groups) h.tallied.grouped enough;
       carrier = carrier_came (by_certificate z) z.fti c.args.self.now datagrams h (sym c.is_empty.ensures ∙ c.if-is_empty.false);
     })
 
@@ -145,4 +138,4 @@ returns-clause-carrier c = λ says f datagrams h. carrier_came says f c.args.sel
 pub returns-in_err-blocks-clause-short : goal.returns-in_err-blocks-clause-short
 returns-in_err-blocks-clause-short c =
     passed_on c.from_residual.result c.in_err-blocks.field-0.0 _ c.from_residual.ensures.1
-    (where_thin (groups_of c.args.self.now.groups.items) c.in_err-blocks.field-0.0 (rw c.deref.ensures.value at c.in_err-blocks.ensures.no_report))
+    (where_thin (groups_of c.args.self.now.groups) c.in_err-blocks.field-0.0 c.in_err-blocks.ensures.no_report)

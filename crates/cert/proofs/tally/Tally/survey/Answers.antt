@@ -17,15 +17,15 @@ use Rattle.cert.proofs.Losing.{are_groups, runs_told}
 use Rattle.cert.proofs.tally.Tally.survey.Goals as goal
 
 -- the groups' and the carriers' places are those of so many datagrams
-module _ (says : Says) (f : Fti) (tally : Tally) (datagrams : List (List ℕ)) (h : IsTally says f tally datagrams) (enough : AreEnough (groups_of tally.groups.items))
+module _ (says : Says) (f : Fti) (tally : Tally) (datagrams : List (List ℕ)) (h : IsTally says f tally datagrams) (enough : AreEnough (groups_of tally.groups))
     (carrier : list_any (is_carrier tally.scope.identity) (readings_of datagrams) ≡ true) where
   many : length (readings_of datagrams) ≡ tally.count
   many = length-map datagrams read_of ∙ h.tallied.many
 
-  groups_there : AreGroups (groups_of tally.groups.items) tally.count
+  groups_there : AreGroups (groups_of tally.groups) tally.count
   groups_there =
-      subst (λ (n : ℕ). AreGroups (groups_of tally.groups.items) n) many
-      (are_groups tally.scope.identity f h.valid (readings_of datagrams) (all_sound says f (tallied_of tally) datagrams h.tallied) (groups_of tally.groups.items) h.tallied.grouped enough)
+      subst (λ (n : ℕ). AreGroups (groups_of tally.groups) n) many
+      (are_groups tally.scope.identity f h.valid (readings_of datagrams) (all_sound says f (tallied_of tally) datagrams h.tallied) (groups_of tally.groups) h.tallied.grouped enough)
 
   carriers_there : AreCarriers tally.carriers.items tally.count
   carriers_there =
@@ -35,12 +35,12 @@ module _ (says : Says) (f : Fti) (tally : Tally) (datagrams : List (List ℕ)) (
 pub runs_of-requires-clause-groups : goal.runs_of-requires-clause-groups
 runs_of-requires-clause-groups c =
     let h = c.requires.3 in
-    rw c.deref.ensures.value (groups_there c.requires.0 c.requires.1 c.args.self.now c.requires.2 h c.in_ok-report.ensures.enough (c.in_ok-report.ensures.carrier c.requires.0 c.requires.1 c.requires.2 h))
+    (groups_there c.requires.0 c.requires.1 c.args.self.now c.requires.2 h c.in_ok-report.ensures.enough (c.in_ok-report.ensures.carrier c.requires.0 c.requires.1 c.requires.2 h))
 
 pub runs_of-requires-clause-carriers : goal.runs_of-requires-clause-carriers
 runs_of-requires-clause-carriers c =
     let h = c.requires.3 in
-    rw c.deref-2.ensures.value (carriers_there c.requires.0 c.requires.1 c.args.self.now c.requires.2 h c.in_ok-report.ensures.enough (c.in_ok-report.ensures.carrier c.requires.0 c.requires.1 c.requires.2 h))
+    rw c.deref.ensures.value (carriers_there c.requires.0 c.requires.1 c.args.self.now c.requires.2 h c.in_ok-report.ensures.enough (c.in_ok-report.ensures.carrier c.requires.0 c.requires.1 c.requires.2 h))
 
 pub returns-clause-survey : goal.returns-clause-survey
 returns-clause-survey c = λ says f datagrams each h. (
@@ -51,13 +51,13 @@ returns-clause-survey c = λ says f datagrams each h. (
     let groups = groups_there says f c.args.self.now datagrams h enough carrier in
     let carriers = carriers_there says f c.args.self.now datagrams h enough carrier in
     let n = many says f c.args.self.now datagrams h enough carrier in
-    let runs = rw (c.deref.ensures.value, c.deref-2.ensures.value, h.tallied.placed, sym n) at c.in_ok-runs.ensures.runs in
-    let burst = rw (c.deref.ensures.value, c.deref-2.ensures.value) at c.in_ok-runs.ensures.burst in
+    let runs = rw (c.deref.ensures.value, h.tallied.placed, sym n) at c.in_ok-runs.ensures.runs in
+    let burst = rw c.deref.ensures.value at c.in_ok-runs.ensures.burst in
     record {
       readings = rs;
       read = read_all datagrams each;
       datagrams = sym h.tallied.many;
-      carriers = c.in_ok-carriers.ensures.items_if_clones_equal (λ x y e. e) ∙ c.deref-3.ensures.value ∙ h.tallied.placed;
-      runs = runs_told who f h.valid rs (all_sound says f (tallied_of c.args.self.now) datagrams h.tallied) (groups_of c.args.self.now.groups.items) h.tallied.grouped _ runs;
+      carriers = c.in_ok-carriers.ensures.items_if_clones_equal (λ x y e. e) ∙ c.deref-2.ensures.value ∙ h.tallied.placed;
+      runs = runs_told who f h.valid rs (all_sound says f (tallied_of c.args.self.now) datagrams h.tallied) (groups_of c.args.self.now.groups) h.tallied.grouped _ runs;
       burst = burst _ (c.in_ok-report.ensures.burst c.args.self.now.count groups carriers);
     })

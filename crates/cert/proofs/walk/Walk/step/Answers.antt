@@ -1,6 +1,5 @@
-use Rattle.std.proofs.Common.{Err, refl, arith}
+use Rattle.std.proofs.Common.{Err, refl}
 use Rattle.losses.specs.Groups.{groups_of}
-use Rattle.losses.proofs.GroupFigures.{count_of}
 use Rattle.reception.specs.Reception.{Faulty}
 use Rattle.cert.specs.Tallying.{by_certificate, tallied_of}
 use Rattle.cert.proofs.DatagramSteps.{refuses, packet_in_range, symbol_long, block_there, passes, passes_over, not_early, refuses_symbol, passed_on}
@@ -27,7 +26,7 @@ pub put-requires : goal.put-requires
 put-requires c =
     let l = block_there (by_certificate c.args.self.now.symbols) c.args.self.now.symbols.fti (tallied_of c.args.self.now.tally) c.requires.0 c.requires.1
     c.args.datagram.now c.in-Ok-InRange.packet (rw (c.in-Ok-InRange.is, c.in-Ok-InRange.field-0-is) at c.look.ensures) in
-    rw c.compare.ensures.tally (omega (arith, l, count_of c.args.self.now.tally.groups.items))
+    rw c.compare.ensures.tally l
 
 pub unreachable-requires : goal.unreachable-requires
 unreachable-requires c =
@@ -41,7 +40,7 @@ returns-in_ok-put-in-Ok-InRange-clause-passed c = λ datagrams h. (
     rw (c.compare.ensures.certificate, c.in_ok-put-in-Ok-InRange.ensures.scope, c.in_ok-put-in-Ok-InRange.ensures.count, c.in_ok-put-in-Ok-InRange.ensures.taken, c.compare.ensures.tally)
     (passes (by_certificate c.args.self.now.symbols) c.args.self.now.symbols.fti (tallied_of c.args.self.now.tally) datagrams h
     c.args.datagram.now c.in-Ok-InRange.packet (rw (c.in-Ok-InRange.is, c.in-Ok-InRange.field-0-is) at c.look.ensures)
-    (groups_of c.put.new.self.groups.items) c.put.new.self.carriers.items c.in_ok-compare-in-Ok-InRange.ensures.certified put carriers))
+    (groups_of c.put.new.self.groups) c.put.new.self.carriers.items c.in_ok-compare-in-Ok-InRange.ensures.certified put carriers))
 
 pub returns-in_ok-pass_over-in-Ok-Other-clause-passed : goal.returns-in_ok-pass_over-in-Ok-Other-clause-passed
 returns-in_ok-pass_over-in-Ok-Other-clause-passed c = λ datagrams h. (

@@ -17,7 +17,7 @@ twin-requires-clause-few c =
     let z = walk.symbols in
     let object = cow_slice_items walk.object in
     let s = shortness who r.0 object z c.args.block r.1 r.3 in
-    let in_group = held_esis z.fti (counted who (readings_of r.0)) (groups_of walk.tally.groups.items) c.args.block r.2.grouped s.4.in_range in
+    let in_group = held_esis z.fti (counted who (readings_of r.0)) (groups_of walk.tally.groups) c.args.block r.2.grouped s.4.in_range in
     let esis : c.as_slice-2.result.now ≡ esis_of c.args.block (symbols (counted who (readings_of r.0))) =
     c.as_slice-2.ensures.value ∙ c.in_ok-arrived_esis.ensures ∙ in_group in
     rw (esis, c.fti-fti.ensures.value) (few_arrived who r.0 object z c.args.block r.1 r.3)
@@ -29,7 +29,7 @@ returns c = λ ds each walked short.
     let z = walk.symbols in
     let object = cow_slice_items walk.object in
     let s = shortness who ds object z c.args.block each short in
-    let in_group = held_esis z.fti (counted who (readings_of ds)) (groups_of walk.tally.groups.items) c.args.block walked.grouped s.4.in_range in
+    let in_group = held_esis z.fti (counted who (readings_of ds)) (groups_of walk.tally.groups) c.args.block walked.grouped s.4.in_range in
     let esis : c.as_slice-2.result.now ≡ esis_of c.args.block (symbols (counted who (readings_of ds))) =
     c.as_slice-2.ensures.value ∙ c.in_ok-arrived_esis.ensures ∙ in_group in
     IfOk-weaker c.twin.result _ _

@@ -1,6 +1,5 @@
-use Rattle.std.proofs.Common.{arith, refl}
+use Rattle.std.proofs.Common.{refl}
 use Rattle.losses.specs.Groups.{groups_of}
-use Rattle.losses.proofs.GroupFigures.{count_of}
 use Rattle.cert.specs.Tallying.{nothing, tallied_of}
 use Rattle.reception.proofs.Looks.{never_early}
 use Rattle.cert.proofs.DatagramSteps.{block_there, fti_holds, passes, passes_over}
@@ -8,9 +7,8 @@ use Rattle.file_check.proofs.index.Index.take.Goals as goal
 
 pub put-requires : goal.put-requires
 put-requires c =
-    let l = block_there nothing c.requires.tallied.0 (tallied_of c.args.self.now.tally) c.requires.tallied.1 c.requires.tallied.2
-    c.args.datagram.now c.in-Ok-InRange.packet (rw (c.in-Ok-InRange.is, c.in-Ok-InRange.field-0-is) at c.look.ensures) in
-    omega (arith, l, count_of c.args.self.now.tally.groups.items)
+    block_there nothing c.requires.tallied.0 (tallied_of c.args.self.now.tally) c.requires.tallied.1 c.requires.tallied.2
+    c.args.datagram.now c.in-Ok-InRange.packet (rw (c.in-Ok-InRange.is, c.in-Ok-InRange.field-0-is) at c.look.ensures)
 
 pub returns-in_ok-push-in-Ok-InRange-clause-taken : goal.returns-in_ok-push-in-Ok-InRange-clause-taken
 returns-in_ok-push-in-Ok-InRange-clause-taken c = λ f ds h none. (
@@ -18,7 +16,7 @@ returns-in_ok-push-in-Ok-InRange-clause-taken c = λ f ds h none. (
     rw (e.scope, e.count, e.taken)
     (passes nothing f (tallied_of c.args.self.now.tally) ds h
     c.args.datagram.now c.in-Ok-InRange.packet (rw (c.in-Ok-InRange.is, c.in-Ok-InRange.field-0-is) at c.look.ensures)
-    (groups_of c.put.new.self.groups.items) c.put.new.self.carriers.items refl e.put e.carriers))
+    (groups_of c.put.new.self.groups) c.put.new.self.carriers.items refl e.put e.carriers))
 
 pub returns-in_ok-push-in-Ok-Other-clause-taken : goal.returns-in_ok-push-in-Ok-Other-clause-taken
 returns-in_ok-push-in-Ok-Other-clause-taken c = λ f ds h none. (
