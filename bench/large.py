@@ -4,9 +4,10 @@ most memory that each held, in MiB.
 
 The object is random bytes, 4 GiB of them by default, with 128 source symbols of 1,024 bytes in a
 block, and 160 encoding symbols. `drop` leaves a thousand places out, by chance, and `decode` and
-`follow` read what it wrote. What they write is compared with the object. All files stand in one
-folder, which needs seven times the object's size; the folder's file system decides how long reading
-and writing take. The table goes to standard output, the seconds to standard error as they come.
+`follow` read what it wrote. What they write is compared with the object. `twin` reads a session in
+which the first block is short. All files stand in one folder, which needs seven times the object's
+size; the folder's file system decides how long reading and writing take. The table goes to standard
+output, the seconds to standard error as they come.
 """
 import argparse
 import filecmp
@@ -35,7 +36,17 @@ def commands_of(case, order):
         "drop": ["session", "thin", *places],
         "decode": ["thin", "decoded", *IDENTIFIERS],
         "follow": ["thin", "decoded", *IDENTIFIERS],
+        "twin": ["short", "object", "certificate", "decoded", *IDENTIFIERS],
     }
+
+
+def write_short(case, order, folder):
+    """The session without as many symbols of the first block as leave it one short."""
+    blocks = case.blocks()
+    k, n = blocks[0]
+    between = len(blocks) if order == "rounds" else 1
+    places = (str(esi * between) for esi in range(n - k + 1))
+    run("drop", ["session", "short", *places], folder)
 
 
 def measure(case, order, wanted, folder):
@@ -44,12 +55,15 @@ def measure(case, order, wanted, folder):
     for command, words in commands_of(case, order).items():
         if command not in wanted and command not in ("encode", "certify", "drop"):
             continue
+        if command == "twin":
+            os.remove(os.path.join(folder, "thin"))
+            write_short(case, order, folder)
         result = results[command] = run(command, words, folder)
         print(f"{order}, {command}: {result[0]:.1f} s", file=sys.stderr, flush=True)
-        if command in ("decode", "follow"):
+        if command in ("decode", "follow", "twin"):
             path = [os.path.join(folder, name) for name in ("object", "decoded")]
-            if not filecmp.cmp(*path, shallow=False):
-                sys.exit(f"{command} didn't give the object")
+            if filecmp.cmp(*path, shallow=False) != (command != "twin"):
+                sys.exit(f"{command} didn't give what it should")
             os.remove(path[1])
     return results
 
