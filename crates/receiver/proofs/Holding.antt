@@ -14,7 +14,7 @@ use Rattle.receiver.specs.Holds.{Holds, HoldsIn, IsSound, kept_of, has_solved, s
 use Rattle.alc.specs.declared.reading.Packet.{Packet}
 use Rattle.receiver.specs.Fed.{HoldsFor, FedOutcome}
 use Rattle.receiver.specs.Putting.{MayStand, IsPutFault, Outcome, StoreOutcome}
-use Rattle.receiver.specs.Stored.{IsStored, is_solved}
+use Rattle.receiver.specs.Stored.{IsOf, IsStored, is_solved}
 use Rattle.receiver.specs.declared.put_fault.PutFault.{PutFault}
 use Rattle.receiver.specs.declared.store.Store.{Store}
 use Rattle.receiver.proofs.Told.{unless}
@@ -101,6 +101,14 @@ module _ (old new : Store) (fti : new.fti ≡ old.fti) (b : ℕ) (others : (a : 
           (blocks_same old.fti at b (kept_of old) (kept_of new) x now.bytes held.blocks others now.others now.has a);
     },
   )
+
+-- where one block's ESIs change, each block's are still its own
+pub each_still : (old new : Store) (b : ℕ) → ((a : ℕ) → b ≢ a → kept_of new a ≡ kept_of old a) → IsOf old.fti b (kept_of new b) → ((a : ℕ) → IsOf old.fti a (kept_of old a))
+    → (a : ℕ) → IsOf old.fti a (kept_of new a)
+each_still old new b others own each a = elim (cases_eq b a) [
+  | inl e ↦ subst (λ (k : ℕ). IsOf old.fti k (kept_of new k)) e own
+  | inr ne ↦ subst (λ (l : List ℕ). IsOf old.fti a l) (sym (others a ne)) (each a)
+]
 
 -- ---- how many blocks are solved
 
