@@ -1,5 +1,5 @@
 -- The symbols of a block that stand in its bytes one behind the other.
-use Rattle.std.specs.Prelude.{filter, slice_index}
+use Rattle.std.specs.Prelude.{filter, is_some, slice_index}
 use Rattle.std.proofs.Math.Seq.{drop-append_seam, take-append_seam}
 use Rattle.std.proofs.Common.{◌≡◌, ◌≢◌, ℕ, zero, suc, ◌+◌, ◌*◌, ◌<◌, ◌≤◌, ◌==◌, ◌||◌, true, false, List, [], ◌∷◌, ◌++◌, Option, Some, None, length, take, drop, refl, sym, ap, ◌∙◌, inl, inr, arith, length-append}
 use Rattle.std.proofs.lemmas.Bool.{cases_Bool, cases_eq, cases_lt, or_parts, or_left, or_right, eqb-false, eq-eqb, ne_eqb}
@@ -11,8 +11,7 @@ use Rattle.lists.proofs.Lists.{at_old, at_end}
 use Rattle.partition.specs.Fti.{Fti, source_count, encoding_count}
 use Rattle.decoder.specs.Arrivals.{with_esi}
 use Rattle.decoder.proofs.Kept.{with_here, with_other, count_more, count_none}
-use Rattle.receiver.specs.Stored.{is_among, symbol_in, AreSymbols, IsPending, IsPendingOf}
-use Rattle.receiver.specs.declared.stored.Pending.{Pending}
+use Rattle.receiver.specs.Stored.{is_among, symbol_in, AreSymbols, IsOf, IsPending, IsStored}
 use Rattle.receiver.proofs.Pending.{among_place}
 
 -- ---- among ESIs
@@ -33,6 +32,13 @@ among_more [] e j = refl
 among_more (x ∷ esis) e j = elim (cases_Bool (x == j)) [
   | inl here ↦ (or_left (x == j) (is_among (esis ++ e ∷ []) j) here ∙ sym (or_right (e == j) (x == j || is_among esis j) (or_left (x == j) (is_among esis j) here)))
   | inr other ↦ rw (other, among_more esis e j) refl
+]
+
+-- with a symbol at an ESI, that ESI is among those at which one stands
+pub among_with : (at : ℕ → Option (List ℕ)) (esis : List ℕ) (e : ℕ) (y : List ℕ) → ((j : ℕ) → is_some (at j) ≡ is_among esis j) → (j : ℕ) → is_among (esis ++ e ∷ []) j ≡ is_some (with_esi at e y j)
+among_with at esis e y is j = among_more esis e j ∙ elim (cases_eq e j) [
+  | inl same ↦ (or_left (e == j) (is_among esis j) (eq-eqb e j same) ∙ sym (ap is_some (with_here at e j y same)))
+  | inr ne ↦ (rw (ne_eqb e j ne) refl ∙ sym (is j) ∙ sym (ap is_some (with_other at e j y ne)))
 ]
 
 -- ---- in the bytes
@@ -130,46 +136,33 @@ among_one_more esis n e le free =
     count_more (is_among esis) (is_among (esis ++ e ∷ [])) n e le free (among_more esis e e ∙ or_left (e == e) (is_among esis e) (eq-eqb e e refl))
     (λ i ne. among_more esis e i ∙ rw (ne_eqb e i ne) refl)
 
--- a block is one of its own with one ESI more
-pub of_more : (f : Fti) (b : ℕ) (p q : Pending) (e : ℕ) → IsPendingOf f b p → q.need ≡ p.need → q.esis.items ≡ p.esis.items ++ e ∷ [] → e < encoding_count f b → is_among p.esis.items e ≡ false
-    → IsPendingOf f b q
-of_more f b p q e h need is le free = record {
-  need = need ∙ h.need;
-  esis = rw is (All-append (λ (x : ℕ). x < encoding_count f b) p.esis.items (e ∷ []) h.esis (λ k d lk. let z : k ≡ 0 = omega (arith, lk) in rw z le));
-  once = ap length is ∙ length-append p.esis.items (e ∷ []) ∙ ap (λ (n : ℕ). n + 1) h.once
-      ∙ sym (among_one_more p.esis.items (encoding_count f b) e le free)
-      ∙ ap (λ (l : List ℕ). length (filter (is_among l) (below (encoding_count f b)))) (sym is);
+-- a block's ESIs with one more
+pub of_more : (f : Fti) (b : ℕ) (esis : List ℕ) (e : ℕ) → IsOf f b esis → e < encoding_count f b → is_among esis e ≡ false → IsOf f b (esis ++ e ∷ [])
+of_more f b esis e h le free = record {
+  within = All-append (λ (x : ℕ). x < encoding_count f b) esis (e ∷ []) h.within (λ k d lk. let z : k ≡ 0 = omega (arith, lk) in rw z le);
+  once = length-append esis (e ∷ []) ∙ ap (λ (n : ℕ). n + 1) h.once ∙ sym (among_one_more esis (encoding_count f b) e le free);
 }
 
-pub of_same : (f : Fti) (b : ℕ) (p q : Pending) → IsPendingOf f b p → q.need ≡ p.need → q.esis.items ≡ p.esis.items → IsPendingOf f b q
-of_same f b p q h need is = record { need = need ∙ h.need; esis = rw is h.esis; once = rw is h.once }
-
-pub pending_more : (f : Fti) (b : ℕ) (p q : Pending) (x y s : List ℕ) (at : ℕ → Option (List ℕ)) (e : ℕ) → IsPending f b x p at → IsPendingOf f b q → q.esis.items ≡ p.esis.items ++ e ∷ [] → is_among p.esis.items e ≡ false
-    → length s ≡ f.symbol_length → take (length p.esis.items * f.symbol_length + length s) y ≡ take (length p.esis.items * f.symbol_length) x ++ s → IsPending f b y q (with_esi at e s)
-pending_more f b p q x y s at e h of is free len put = record {
-  of = of;
-  symbols = rw is (symbols_more f.symbol_length p.esis.items at x y s e free len put h.symbols);
+pub pending_more : (f : Fti) (b : ℕ) (esis x y s : List ℕ) (at : ℕ → Option (List ℕ)) (e : ℕ) → IsPending f b x esis at → e < encoding_count f b → is_among esis e ≡ false → length esis + 1 < source_count f b
+    → length s ≡ f.symbol_length → take (length esis * f.symbol_length + length s) y ≡ take (length esis * f.symbol_length) x ++ s → IsPending f b y (esis ++ e ∷ []) (with_esi at e s)
+pending_more f b esis x y s at e h le free few len put = record {
+  of = of_more f b esis e h.of le free;
+  few = let n = length-append esis (e ∷ []) in omega (arith, n, few);
+  symbols = symbols_more f.symbol_length esis at x y s e free len put h.symbols;
 }
 
-pub pending_same : (f : Fti) (b : ℕ) (p q : Pending) (x y : List ℕ) (at : ℕ → Option (List ℕ)) → IsPending f b x p at → IsPendingOf f b q → q.esis.items ≡ p.esis.items
-    → take (length p.esis.items * f.symbol_length) y ≡ take (length p.esis.items * f.symbol_length) x → IsPending f b y q at
-pending_same f b p q x y at h of is same = record {
-  of = of;
-  symbols = rw is (symbols_same f.symbol_length p.esis.items at x y same h.symbols);
+-- of a block of which nothing came
+pub of_none : (f : Fti) (b : ℕ) → IsOf f b []
+of_none f b = record {
+  within = λ k d lk. absurd (omega (arith, lk));
+  once = sym (count_none (is_among []) (encoding_count f b) (λ j. refl));
 }
 
--- a block of which nothing came
-pub of_none : (f : Fti) (b : ℕ) (p : Pending) → p.need ≡ source_count f b → p.esis.items ≡ [] → IsPendingOf f b p
-of_none f b p need is = record {
-  need = need;
-  esis = rw is (λ k d lk. absurd (omega (arith, lk)));
-  once = ap length is ∙ sym (count_none (is_among p.esis.items) (encoding_count f b) (λ j. ap (λ (l : List ℕ). is_among l j) is));
-}
-
-pub pending_none : (f : Fti) (b : ℕ) (p : Pending) (x : List ℕ) (at : ℕ → Option (List ℕ)) → p.need ≡ source_count f b → p.esis.items ≡ [] → ((j : ℕ) → at j ≡ None) → IsPending f b x p at
-pending_none f b p x at need is none = record {
-  of = of_none f b p need is;
-  symbols = rw is record { whole = omega arith; came = λ i li. absurd (omega (arith, li)); others = λ j _. none j };
+pub stored_none : (f : Fti) (b : ℕ) (x : List ℕ) (at : ℕ → Option (List ℕ)) → 1 ≤ source_count f b → ((j : ℕ) → at j ≡ None) → IsStored f b x [] at
+stored_none f b x at some none = inl record {
+  of = of_none f b;
+  few = omega (arith, some);
+  symbols = record { whole = omega arith; came = λ i li. absurd (omega (arith, li)); others = λ j _. none j };
 }
 
 -- a symbol's place in memory

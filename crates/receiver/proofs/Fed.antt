@@ -1,14 +1,14 @@
 -- A receiver that stands for a list of datagrams, and one datagram more.
 use Rattle.std.specs.Prelude.{if◌then◌else◌, not, filter, option_map, is_some, IfSome, IsSome, Result, Ok, Err}
 use Rattle.std.specs.List.{AllByRecursion}
-use Rattle.std.proofs.Common.{◌≡◌, ◌≢◌, ℕ, zero, suc, ◌+◌, ◌<◌, ◌≤◌, Bool, true, false, List, [], ◌∷◌, ◌++◌, Option, Some, None, length, take, get_or, refl, sym, ap, subst, ◌∙◌, inl, inr, arith, length-append, ltb-true, leb-true}
+use Rattle.std.proofs.Common.{◌≡◌, ◌≢◌, ℕ, zero, suc, ◌+◌, ◌<◌, ◌≤◌, Bool, true, false, List, [], ◌∷◌, ◌++◌, Option, Some, None, length, take, get_or, refl, sym, ap, subst, ◌∙◌, inl, inr, arith, length-append, ltb-true, leb-true, leb-false}
 use Rattle.std.proofs.lemmas.Bool.{cases_Bool, cases_eq, le-leb, eq-eqb}
 use Rattle.lists.specs.Bytes.{AreBytes}
 use Rattle.lists.specs.Below.{below}
 use Rattle.lists.proofs.Below.{one_missing}
 use Rattle.lists.proofs.Lists.{at_end, both}
 use Rattle.partition.specs.Fti.{Fti, IsValidFti, block_count, source_count, encoding_count}
-use Rattle.partition.proofs.Laws.{counts as block_counts}
+use Rattle.partition.proofs.Laws.{counts as block_counts, some_source}
 use Rattle.alc.specs.Reading.{Reading, Reads}
 use Rattle.alc.specs.Computed.{read_of}
 use Rattle.alc.specs.Views.{packet_of}
@@ -41,27 +41,26 @@ use Rattle.reception.proofs.Within.{within}
 use Rattle.decoder.specs.Columns.{ColumnExplained}
 use Rattle.decoder.specs.Decoded.{IsEnoughAt}
 use Rattle.decoder.specs.Arrivals.{with_symbol}
-use Rattle.receiver.specs.Holds.{HoldsIn, kept_of, is_solved, solved_count}
+use Rattle.receiver.specs.Holds.{HoldsIn, kept_of, has_solved, solved_count}
 use Rattle.receiver.specs.Putting.{MayStand, IsClash, IsNoCode, IsPutFault, UnlessFailed}
-use Rattle.receiver.specs.declared.stored.PutFault.{PutFault}
-use Rattle.receiver.specs.declared.stored.PutFault.TheVariants as put_fault
+use Rattle.receiver.specs.declared.put_fault.PutFault.{PutFault}
+use Rattle.receiver.specs.declared.put_fault.PutFault.TheVariants as put_fault
 use Rattle.decoder.specs.Received.{IsIndex, AreReceived}
-use Rattle.receiver.specs.Stored.{IsStored}
+use Rattle.receiver.specs.Stored.{IsStored, is_solved}
 use Rattle.receiver.specs.Taking.{AllSolved}
 use Rattle.receiver.specs.Stands.{StandsWith, Keeps, IsSoundIn}
 use Rattle.receiver.specs.Fed.{HoldsFor, put_refusal}
 use Rattle.receiver.specs.Receiving.{LeaveNoneShort, IfRefused, IsUnfedOf, with_datagram, ComesEarly}
-use Rattle.receiver.specs.declared.stored.Stored.TheVariants as stored
 use Rattle.receiver.specs.declared.receiving.Receiving.{Receiving}
 use Rattle.receiver.specs.declared.store.Store.{Store}
-use Rattle.receiver.specs.declared.stored.Stored.{Stored}
 use Rattle.decoder.proofs.Counts.{held_is, one_more_held, none_more_held}
 use Rattle.receiver.proofs.Holding.{with_own, with_apart}
 use Rattle.decoder.proofs.Index.{pointwise_same, clash_none, clash_some}
 use Rattle.decoder.proofs.Receiving.{Scanned, empty_index, clashed, no_clash as unclashed_judge, receives, received}
 use Rattle.decoder.proofs.Solving.{solvable_from, solvable_gives}
-use Rattle.receiver.proofs.Pending.{pending_count}
-use Rattle.receiver.proofs.Taken.{full_explained, nothing_count, no_fti, keeps, all_within, arrived_is, none_short, here_full, full_solvable}
+use Rattle.receiver.proofs.Among.{stored_none}
+use Rattle.receiver.proofs.Pending.{kept_count}
+use Rattle.receiver.proofs.Taken.{full_explained, no_fti, keeps, all_within, arrived_is, none_short, here_full, full_solvable}
 use Rattle.decoder.proofs.Those.{few_pass}
 use Rattle.std.specs.Str.{bytes_eq as same}
 
@@ -119,14 +118,14 @@ module _ (f : Fti) (told : Told) (at : ℕ → ℕ → Option (List ℕ)) where
   keeps_now None arrivals holds some index = absurd (cc)
   keeps_now (Some s) arrivals holds some index = (holds.0, record { at = at; index = index; holds = holds.1 })
 
--- what is kept of a block, if there is a store
-abbrev entry : Option Store → ℕ → Option Stored
-entry None b = None
+-- the ESIs that came of a block, if there is a store
+abbrev entry : Option Store → ℕ → List ℕ
+entry None b = []
 entry (Some s) b = kept_of s b
 
-entries : (f : Fti) (told : Told) (o : Option Store) (at : ℕ → ℕ → Option (List ℕ)) → HoldsFor f told o at → (x : ℕ → List ℕ) × ((b : ℕ) → IsStored f b (x b) (entry o b) (at b))
-entries f told None at h = (λ b. [], h.0)
-entries f told (Some s) at h = (h.1.0, λ b. subst (λ (g : Fti). IsStored g b (h.1.0 b) (kept_of s b) (at b)) h.0 (h.1.2.blocks b))
+entries : (f : Fti) → IsValidFti f → (told : Told) (o : Option Store) (at : ℕ → ℕ → Option (List ℕ)) → HoldsFor f told o at → (x : ℕ → List ℕ) × ((b : ℕ) → IsStored f b (x b) (entry o b) (at b))
+entries f valid told None at h = (λ b. [], λ b. stored_none f b [] (at b) (some_source f valid b) (h.0 b))
+entries f valid told (Some s) at h = (h.1.0, λ b. subst (λ (g : Fti). IsStored g b (h.1.0 b) (kept_of s b) (at b)) h.0 (h.1.2.blocks b))
 
 module _ (f : Fti) (valid : IsValidFti f) (told : Told) (o : Option Store) (at : ℕ → ℕ → Option (List ℕ)) (holds : HoldsFor f told o at) (b j : ℕ) (y : List ℕ) (hb : b < block_count f)
     (none : IsNoCode f b (at b) j y) (arrivals : List Symbol) (index : IsIndex arrivals (with_symbol at b j y)) (all_within : AllByRecursion (IsWithin f) arrivals) where
@@ -151,9 +150,9 @@ module _ (f : Fti) (valid : IsValidFti f) (told : Told) (o : Option Store) (at :
       let ha : a < block_count f = omega (arith, la, hb) in
       let same : put a ≡ at a = with_apart at b j y a (λ e. omega (arith, e, la)) in
       let enough : IsEnoughAt f a (put a) = omega (arith, leb-true (source_count f a) (arrived_count arrivals a) full, arrived a ha) in
-      let w = entries f told o at holds in
+      let w = entries f valid told o at holds in
       let own : IsStored f a (w.0 a) (entry o a) (put a) = subst (λ (g : ℕ → Option (List ℕ)). IsStored f a (w.0 a) (entry o a) g) (sym same) (w.1 a) in
-      solvable_from f arrivals put index a (full_explained f a (w.0 a) (entry o a) (put a) (block_counts f valid a ha).0 own enough)
+      solvable_from f arrivals put index a (full_explained f a (w.0 a) (entry o a) (put a) own enough)
 
   first_unsolvable : IsFirstUnsolvable f arrivals b
   first_unsolvable = record { in_range = hb; full = full_here; unsolvable = unsolvable_here; least = solvable_before }
@@ -415,10 +414,8 @@ all_pass t (suc n) all j lj = elim (cases_Bool (t n)) [
 ]
 
 -- a block that isn't solved has too few symbols
-unsolved_short : (f : Fti) (b : ℕ) (x : List ℕ) (o : Option Stored) (at : ℕ → Option (List ℕ)) → 1 ≤ source_count f b → IsStored f b x o at → is_solved o ≡ false → IsEnoughAt f b at → ⊥
-unsolved_short f b x None at some h unsolved enough = omega (arith, some, enough, nothing_count f b x at h)
-unsolved_short f b x (Some (stored.Pending p)) at some h unsolved enough = omega (arith, enough, pending_count f b x p at h, p.few, h.of.need)
-unsolved_short f b x (Some (stored.Solved s)) at some h unsolved enough = absurd (cc)
+unsolved_short : (f : Fti) (b : ℕ) (x esis : List ℕ) (at : ℕ → Option (List ℕ)) → IsStored f b x esis at → is_solved f b esis ≡ false → IsEnoughAt f b at → ⊥
+unsolved_short f b x esis at h unsolved enough = omega (arith, leb-false (source_count f b) (length esis) unsolved, enough, kept_count f b x esis at h)
 
 module _ (r : Receiving) (told : Told) (ds : List (List ℕ)) (stands : StandsWith r told ds) (store : Store) (is : r.store ≡ Some store) (valid : IsValidFti store.fti) where
   counted_solved : store.solved ≡ solved_count store
@@ -426,10 +423,10 @@ module _ (r : Receiving) (told : Told) (ds : List (List ℕ)) (stands : StandsWi
 
   -- where as many blocks are solved as there are, none is short
   pub all_solved : store.solved ≡ block_count store.fti → LeaveNoneShort r.identity ds
-  all_solved all = none_short r told ds stands store is valid (all_pass (λ b. is_solved (kept_of store b)) (block_count store.fti) (sym counted_solved ∙ all))
+  all_solved all = none_short r told ds stands store is valid (all_pass (has_solved store) (block_count store.fti) (sym counted_solved ∙ all))
 
   -- where none is short each block is solved
-  not_unsolved : (b : ℕ) → b < block_count store.fti → is_solved (kept_of store b) ≡ false → LeaveNoneShort r.identity ds → ⊥
+  not_unsolved : (b : ℕ) → b < block_count store.fti → has_solved store b ≡ false → LeaveNoneShort r.identity ds → ⊥
   not_unsolved b hb unsolved none =
       let k = keeps r told ds stands store is in
       let known = (here_full r told ds stands none).0 in
@@ -438,11 +435,11 @@ module _ (r : Receiving) (told : Told) (ds : List (List ℕ)) (stands : StandsWi
       let full : is_full store.fti (reception_of r.identity (readings_of ds)).symbols b ≡ true =
       subst (λ (f : Fti). (a : ℕ) → a < block_count f → is_full f (reception_of r.identity (readings_of ds)).symbols a ≡ true) same_fti (here_full r told ds stands none).1 b hb in
       let arrived_at = arrived_is store valid k.1.holds.0 k.1.at k.1.holds.2 (reception_of r.identity (readings_of ds)).symbols k.1.index (all_within r told ds stands store is) b hb in
-      unsolved_short store.fti b (k.1.holds.0 b) (kept_of store b) (k.1.at b) (block_counts store.fti valid b hb).0 (k.1.holds.2.blocks b) unsolved
+      unsolved_short store.fti b (k.1.holds.0 b) (kept_of store b) (k.1.at b) (k.1.holds.2.blocks b) unsolved
       (omega (arith, leb-true (source_count store.fti b) (arrived_count (reception_of r.identity (readings_of ds)).symbols b) full, arrived_at))
 
   pub each_solved : LeaveNoneShort r.identity ds → AllSolved store
-  each_solved none b hb = elim (cases_Bool (is_solved (kept_of store b))) [
+  each_solved none b hb = elim (cases_Bool (has_solved store b)) [
     | inl solved ↦ solved
     | inr unsolved ↦ absurd (not_unsolved b hb unsolved none)
   ]
@@ -452,8 +449,8 @@ module _ (r : Receiving) (told : Told) (ds : List (List ℕ)) (stands : StandsWi
   some_unsolved other none =
       let n = block_count store.fti in
       let counted_is = counted_solved in
-      let most = few_pass (λ b. is_solved (kept_of store b)) (block_count store.fti) in
-      let w = one_missing (λ b. is_solved (kept_of store b)) n n (omega arith) (omega (arith, other, counted_is, most)) in
+      let most = few_pass (has_solved store) (block_count store.fti) in
+      let w = one_missing (has_solved store) n n (omega arith) (omega (arith, other, counted_is, most)) in
       not_unsolved w.0 w.1 w.2 none
 
 -- the answer to them is no fault

@@ -10,13 +10,12 @@ use Rattle.decoder.specs.Arrivals.{with_esi, with_symbol}
 use Rattle.decoder.proofs.Kept.{count_more, count_same}
 use Rattle.decoder.proofs.Those.{few_pass}
 use Rattle.receiver.specs.Bytes.{Becomes}
-use Rattle.receiver.specs.Holds.{Holds, HoldsIn, IsSound, kept_of, is_solved, solved_count}
+use Rattle.receiver.specs.Holds.{Holds, HoldsIn, IsSound, kept_of, has_solved, solved_count}
 use Rattle.alc.specs.declared.reading.Packet.{Packet}
 use Rattle.receiver.specs.Fed.{HoldsFor, FedOutcome}
 use Rattle.receiver.specs.Putting.{MayStand, IsPutFault, Outcome, StoreOutcome}
-use Rattle.receiver.specs.Stored.{IsStored}
-use Rattle.receiver.specs.declared.stored.PutFault.{PutFault}
-use Rattle.receiver.specs.declared.stored.Stored.{Stored}
+use Rattle.receiver.specs.Stored.{IsOf, IsStored, is_solved}
+use Rattle.receiver.specs.declared.put_fault.PutFault.{PutFault}
 use Rattle.receiver.specs.declared.store.Store.{Store}
 use Rattle.receiver.proofs.Told.{unless}
 
@@ -32,12 +31,12 @@ with_own at b j y = fun_ext (λ i. rw (eq-eqb b b refl) refl)
 pub with_apart : (at : ℕ → ℕ → Option (List ℕ)) (b j : ℕ) (y : List ℕ) (a : ℕ) → b ≢ a → with_symbol at b j y a ≡ at a
 with_apart at b j y a ne = fun_ext (λ i. rw (ne_eqb b a ne) refl)
 
-module _ (f : Fti) (at : ℕ → ℕ → Option (List ℕ)) (b : ℕ) (old new : ℕ → Option Stored) (x y : ℕ → List ℕ) (held : (a : ℕ) → IsStored f a (x a) (old a) (at a))
+module _ (f : Fti) (at : ℕ → ℕ → Option (List ℕ)) (b : ℕ) (old new : ℕ → List ℕ) (x y : ℕ → List ℕ) (held : (a : ℕ) → IsStored f a (x a) (old a) (at a))
     (others : (a : ℕ) → b ≢ a → new a ≡ old a) (bytes : (a : ℕ) → b ≢ a → y a ≡ x a) where
   block_apart : (a : ℕ) → b ≢ a → IsStored f a (y a) (new a) (at a)
   block_apart a ne =
       subst (λ (l : List ℕ). IsStored f a l (new a) (at a)) (sym (bytes a ne))
-      (subst (λ (o : Option Stored). IsStored f a (x a) o (at a)) (sym (others a ne)) (held a))
+      (subst (λ (o : List ℕ). IsStored f a (x a) o (at a)) (sym (others a ne)) (held a))
 
   -- each block is kept, where one has a symbol more
   blocks_more : (j : ℕ) (s : List ℕ) → IsStored f b (y b) (new b) (with_esi (at b) j s) → (a : ℕ) → IsStored f a (y a) (new a) (with_symbol at b j s a)
@@ -103,31 +102,42 @@ module _ (old new : Store) (fti : new.fti ≡ old.fti) (b : ℕ) (others : (a : 
     },
   )
 
+-- where one block's ESIs change, each block's are still its own
+pub each_still : (old new : Store) (b : ℕ) → ((a : ℕ) → b ≢ a → kept_of new a ≡ kept_of old a) → IsOf old.fti b (kept_of new b) → ((a : ℕ) → IsOf old.fti a (kept_of old a))
+    → (a : ℕ) → IsOf old.fti a (kept_of new a)
+each_still old new b others own each a = elim (cases_eq b a) [
+  | inl e ↦ subst (λ (k : ℕ). IsOf old.fti k (kept_of new k)) e own
+  | inr ne ↦ subst (λ (l : List ℕ). IsOf old.fti a l) (sym (others a ne)) (each a)
+]
+
 -- ---- how many blocks are solved
 
 few_solved : (store : Store) → solved_count store ≤ block_count store.fti
-few_solved store = few_pass (λ b. is_solved (kept_of store b)) (block_count store.fti)
+few_solved store = few_pass (has_solved store) (block_count store.fti)
 
 pub counts_few : (store : Store) → IsSound store → store.solved ≤ block_count store.fti
 counts_few store sound = let e = sound.solved in let l = few_solved store in omega (arith, e, l)
 
 module _ (old new : Store) (sound : IsSound old) (fti : new.fti ≡ old.fti) (b : ℕ) (others : (a : ℕ) → b ≢ a → kept_of new a ≡ kept_of old a) where
-  now_count : solved_count new ≡ length (filter (λ a. is_solved (kept_of new a)) (below (block_count old.fti)))
-  now_count = ap (λ (f : Fti). length (filter (λ a. is_solved (kept_of new a)) (below (block_count f)))) fti
+  abbrev now : ℕ → Bool
+  now a = is_solved old.fti a (kept_of new a)
+
+  now_count : solved_count new ≡ length (filter now (below (block_count old.fti)))
+  now_count = ap (λ (f : Fti). length (filter (λ a. is_solved f a (kept_of new a)) (below (block_count f)))) fti
 
   -- no block more
-  pub count_stays : new.solved ≡ old.solved → is_solved (kept_of new b) ≡ is_solved (kept_of old b) → new.solved ≡ solved_count new
+  pub count_stays : new.solved ≡ old.solved → is_solved old.fti b (kept_of new b) ≡ is_solved old.fti b (kept_of old b) → new.solved ≡ solved_count new
   count_stays count here =
-      count ∙ sound.solved ∙ sym (now_count ∙ count_same (λ a. is_solved (kept_of new a)) (λ a. is_solved (kept_of old a)) (block_count old.fti)
+      count ∙ sound.solved ∙ sym (now_count ∙ count_same now (has_solved old) (block_count old.fti)
       (λ a la. elim (cases_eq b a) [
-        | inl e ↦ subst (λ (k : ℕ). is_solved (kept_of new k) ≡ is_solved (kept_of old k)) e here
-        | inr ne ↦ ap is_solved (others a ne)
+        | inl e ↦ subst (λ (k : ℕ). is_solved old.fti k (kept_of new k) ≡ is_solved old.fti k (kept_of old k)) e here
+        | inr ne ↦ ap (is_solved old.fti a) (others a ne)
       ]))
 
   -- one block more
-  pub one_more_solved : b < block_count old.fti → (is_solved (kept_of old b) ≡ false) × (is_solved (kept_of new b) ≡ true) → solved_count new ≡ old.solved + 1
+  pub one_more_solved : b < block_count old.fti → (is_solved old.fti b (kept_of old b) ≡ false) × (is_solved old.fti b (kept_of new b) ≡ true) → solved_count new ≡ old.solved + 1
   one_more_solved hb solves =
-      now_count ∙ count_more (λ a. is_solved (kept_of old a)) (λ a. is_solved (kept_of new a)) (block_count old.fti) b hb solves.0 solves.1 (λ a ne. ap is_solved (others a ne))
+      now_count ∙ count_more (has_solved old) now (block_count old.fti) b hb solves.0 solves.1 (λ a ne. ap (is_solved old.fti a) (others a ne))
       ∙ ap (λ (n : ℕ). n + 1) (sym sound.solved)
 
 -- ---- a store that there is, or a new one

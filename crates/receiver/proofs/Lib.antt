@@ -3,6 +3,7 @@ pub mod Taken
 mod Amount
 mod Held
 mod Among
+mod Noted
 mod Told
 mod Solving
 mod Seen

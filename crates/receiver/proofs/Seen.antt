@@ -1,18 +1,17 @@
--- Which symbols of a solved block were seen.
+-- Which symbols came of a solved block.
 use Rattle.std.specs.Prelude.{is_some, filter, drop}
-use Rattle.std.proofs.Common.{◌≡◌, ◌≢◌, ℕ, ◌+◌, ◌*◌, ◌<◌, ◌≤◌, Bool, true, false, List, Option, Some, None, length, set, take, refl, sym, ap, subst, ◌∙◌, inl, inr, arith, get_or-set_other, get_or-set_same}
-use Rattle.std.proofs.lemmas.Bool.{cases_Bool, cases_eq}
-use Rattle.std.proofs.lemmas.List.{length-set}
+use Rattle.std.proofs.Common.{◌≡◌, ℕ, ◌+◌, ◌*◌, ◌<◌, ◌≤◌, true, false, List, [], ◌∷◌, ◌++◌, Option, Some, None, length, length-append, take, refl, sym, ap, subst, ◌∙◌, inl, inr, arith}
 use Rattle.lists.specs.Below.{below}
 use Rattle.partition.specs.Fti.{Fti, source_count, encoding_count}
 use Rattle.decoder.specs.Decoded.{IsEnoughAt, AreRows}
 use Rattle.decoder.specs.Giving.{GivesSymbol}
-use Rattle.decoder.specs.Arrivals.{seen_at, seen_count, with_esi}
+use Rattle.decoder.specs.Arrivals.{with_esi}
 use Rattle.decoder.proofs.GivenSymbols.{gives_one, gives_arrived, rows_with, unexplained_with}
-use Rattle.decoder.proofs.Kept.{with_here, with_other, count_more, count_same}
+use Rattle.decoder.proofs.Kept.{with_here, with_other, with_same, count_more}
 use Rattle.receiver.specs.Putting.{MayStand, IsClash, IsNoCode}
-use Rattle.receiver.specs.Stored.{IsSolved, IsSolvedOf}
-use Rattle.receiver.specs.declared.stored.Solved.{Solved}
+use Rattle.receiver.specs.Stored.{is_among, IsSolved}
+use Rattle.receiver.proofs.Among.{among_with, of_more}
+use Rattle.receiver.proofs.Pending.{enough_count}
 
 -- with a symbol at a free ESI, one more stands
 one_more_stands : (at : ℕ → Option (List ℕ)) (n j : ℕ) (y : List ℕ) → j < n → at j ≡ None
@@ -25,43 +24,6 @@ one_more_stands at n j y lj free =
 enough_more : (f : Fti) (b : ℕ) (at : ℕ → Option (List ℕ)) (j : ℕ) (y : List ℕ) → j < encoding_count f b → at j ≡ None → IsEnoughAt f b at → IsEnoughAt f b (with_esi at j y)
 enough_more f b at j y lj free enough = omega (arith, enough, one_more_stands at (encoding_count f b) j y lj free)
 
--- as many were seen as stand
-seen_is : (f : Fti) (b : ℕ) (at : ℕ → Option (List ℕ)) (seen : List Bool) → length seen ≡ encoding_count f b → ((j : ℕ) → seen_at seen j ≡ is_some (at j))
-    → seen_count seen ≡ length (filter (λ i. is_some (at i)) (below (encoding_count f b)))
-seen_is f b at seen len is =
-    ap (λ (n : ℕ). length (filter (seen_at seen) (below n))) len ∙ count_same (seen_at seen) (λ i. is_some (at i)) (encoding_count f b) (λ i li. is i)
-
--- an ESI that is seen now
-seen_set_here : (seen : List Bool) (j i : ℕ) → j < length seen → j ≡ i → seen_at (set seen j true) i ≡ true
-seen_set_here seen j i lj e = subst (λ (x : ℕ). seen_at (set seen j true) x ≡ true) e (get_or-set_same seen j true false lj)
-
-seen_set_other : (seen : List Bool) (j i : ℕ) → j ≢ i → seen_at (set seen j true) i ≡ seen_at seen i
-seen_set_other seen j i ne = get_or-set_other seen j i true false (λ e. ne (sym e))
-
-seen_with : (at : ℕ → Option (List ℕ)) (seen : List Bool) (j : ℕ) (y : List ℕ) → j < length seen → ((i : ℕ) → seen_at seen i ≡ is_some (at i))
-    → (i : ℕ) → seen_at (set seen j true) i ≡ is_some (with_esi at j y i)
-seen_with at seen j y lj is i = elim (cases_eq j i) [
-  | inl e ↦ (seen_set_here seen j i lj e ∙ sym (ap is_some (with_here at j i y e)))
-  | inr ne ↦ (seen_set_other seen j i ne ∙ is i ∙ sym (ap is_some (with_other at j i y ne)))
-]
-
--- no fewer are seen
-pub seen_no_fewer : (seen : List Bool) (j n : ℕ) → j < length seen → n ≤ seen_count seen → n ≤ seen_count (set seen j true)
-seen_no_fewer seen j n lj few =
-    let more = set seen j true in
-    let len : seen_count more ≡ length (filter (seen_at more) (below (length seen))) = ap (λ (x : ℕ). length (filter (seen_at more) (below x))) (length-set seen j true) in
-    elim (cases_Bool (seen_at seen j)) [
-      | inl was ↦
-          (let same = count_same (seen_at more) (seen_at seen) (length seen) (λ i li. elim (cases_eq j i) [
-            | inl e ↦ (seen_set_here seen j i lj e ∙ sym (ap (seen_at seen) (sym e) ∙ was))
-            | inr ne ↦ seen_set_other seen j i ne
-          ]) in
-          omega (arith, few, len, same))
-      | inr free ↦
-          (let one = count_more (seen_at seen) (seen_at more) (length seen) j lj free (seen_set_here seen j j lj refl) (λ i ne. seen_set_other seen j i ne) in
-          omega (arith, few, len, one))
-    ]
-
 may_stand : (at : ℕ → Option (List ℕ)) (j : ℕ) (y : List ℕ) (o : Option (List ℕ)) → at j ≡ o → ((z : List ℕ) → at j ≡ Some z → z ≡ y) → MayStand at j y
 may_stand at j y None is one = inl is
 may_stand at j y (Some z) is one = inr (is ∙ ap Some (one z is))
@@ -70,6 +32,10 @@ clashes : (at : ℕ → Option (List ℕ)) (j : ℕ) (y : List ℕ) (o : Option 
 clashes at j y None is some other = absurd (cc)
 clashes at j y (Some z) is some other = record { other = z; stands = is; differs = λ e. other (is ∙ ap Some e) }
 
+some_of : (o : Option (List ℕ)) → is_some o ≡ true → (y : List ℕ) × (o ≡ Some y)
+some_of None e = absurd (cc)
+some_of (Some y) e = (y, refl)
+
 none_of : (o : Option (List ℕ)) → is_some o ≡ false → o ≡ None
 none_of None e = refl
 none_of (Some y) e = absurd (cc)
@@ -77,7 +43,7 @@ none_of (Some y) e = absurd (cc)
 -- ---- a block
 
 -- its rows, as they were read
-module _ (f : Fti) (b : ℕ) (x : List ℕ) (s : Solved) (at : ℕ → Option (List ℕ)) (h : IsSolved f b x s at) (rows : List ℕ)
+module _ (f : Fti) (b : ℕ) (x esis : List ℕ) (at : ℕ → Option (List ℕ)) (h : IsSolved f b x esis at) (rows : List ℕ)
     (len : length rows ≡ source_count f b * f.symbol_length) (read : rows ≡ take (length rows) (drop 0 x)) (few : source_count f b ≤ 255) (j : ℕ) (y : List ℕ) where
   are : AreRows f b at rows
   are =
@@ -89,27 +55,35 @@ module _ (f : Fti) (b : ℕ) (x : List ℕ) (s : Solved) (at : ℕ → Option (L
   given_may lengths size gives =
       may_stand at j y (at j) refl (λ z some. gives_one f b few rows j z y (lengths j z some) size (gives_arrived f b at rows are j z some) gives)
 
-  -- and is seen then
-  pub given_now : (t : Solved) (m : ℕ) → IsSolvedOf f b t → t.seen.items ≡ set s.seen.items m true → m ≡ j → j < encoding_count f b → GivesSymbol f b rows j y → IsSolved f b x t (with_esi at j y)
-  given_now t m of is e lj gives = record {
-    of = of;
+  -- so it does where its ESI came
+  pub given_same : ((i : ℕ) (z : List ℕ) → at i ≡ Some z → length z ≡ f.symbol_length) → length y ≡ f.symbol_length → GivesSymbol f b rows j y → is_among esis j ≡ true
+      → IsSolved f b x esis (with_esi at j y)
+  given_same lengths size gives came =
+      let some = some_of (at j) (sym (h.seen j) ∙ came) in
+      let is : some.0 ≡ y = gives_one f b few rows j some.0 y (lengths j some.0 some.1) size (gives_arrived f b at rows are j some.0 some.1) gives in
+      subst (λ (g : ℕ → Option (List ℕ)). IsSolved f b x esis g) (sym (with_same at j y (some.1 ∙ ap Some is))) h
+
+  -- and is noted where it didn't
+  pub given_now : is_among esis j ≡ false → j < encoding_count f b → GivesSymbol f b rows j y → IsSolved f b x (esis ++ j ∷ []) (with_esi at j y)
+  given_now free lj gives = record {
+    of = of_more f b esis j h.of lj free;
+    enough = let n = length-append esis (j ∷ []) in omega (arith, n, h.enough);
     rows =
         (let own : rows ≡ take (source_count f b * f.symbol_length) x = sym (ap (λ (k : ℕ). take k x) (sym len) ∙ sym read) in
         subst (λ (l : List ℕ). AreRows f b (with_esi at j y) l) own
         (rows_with f b at rows are j y (with_esi at j y) (with_here at j j y refl) (λ i ne. with_other at j i y (λ z. ne (sym z))) few gives));
-    seen = λ i. ap (λ (l : List Bool). seen_at l i) (is ∙ ap (λ (n : ℕ). set s.seen.items n true) e)
-        ∙ seen_with at s.seen.items j y (omega (arith, lj, h.of.esis)) h.seen i;
+    seen = among_with at esis j y (λ i. sym (h.seen i));
   }
 
   -- one that they don't give clashes with the one that came
-  pub seen_clash : seen_at s.seen.items j ≡ true → (GivesSymbol f b rows j y → ⊥) → IsClash at j y
+  pub seen_clash : is_among esis j ≡ true → (GivesSymbol f b rows j y → ⊥) → IsClash at j y
   seen_clash seen other = clashes at j y (at j) refl (sym (h.seen j) ∙ seen) (λ here. other (gives_arrived f b at rows are j y here))
 
   -- or is of no code
-  pub unseen_no_code : encoding_count f b ≤ 255 → j < encoding_count f b → s.need ≤ seen_count s.seen.items → seen_at s.seen.items j ≡ false → (GivesSymbol f b rows j y → ⊥) → IsNoCode f b at j y
-  unseen_no_code most lj enough_seen unseen other =
+  pub unseen_no_code : encoding_count f b ≤ 255 → j < encoding_count f b → is_among esis j ≡ false → (GivesSymbol f b rows j y → ⊥) → IsNoCode f b at j y
+  unseen_no_code most lj unseen other =
       let free : at j ≡ None = none_of (at j) (sym (h.seen j) ∙ unseen) in
-      let enough : IsEnoughAt f b at = omega (arith, enough_seen, h.of.need, seen_is f b at s.seen.items h.of.esis h.seen) in
+      let enough : IsEnoughAt f b at = omega (arith, h.enough, enough_count f b x esis at h) in
       record {
         free = free;
         enough = enough_more f b at j y lj free enough;

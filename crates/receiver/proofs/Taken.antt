@@ -22,9 +22,8 @@ use Rattle.reception.proofs.Within.{within}
 use Rattle.decoder.specs.Columns.{ColumnExplained}
 use Rattle.decoder.specs.Decoded.{IsEnoughAt, AreRows, Answers, IsShort}
 use Rattle.decoder.specs.Received.{IsIndex, AreReceived}
-use Rattle.decoder.specs.Arrivals.{seen_at}
-use Rattle.receiver.specs.Stored.{IsStored}
-use Rattle.receiver.specs.Holds.{Holds, kept_of, is_solved}
+use Rattle.receiver.specs.Stored.{IsSolved, IsStored, is_solved}
+use Rattle.receiver.specs.Holds.{Holds, kept_of, has_solved}
 use Rattle.receiver.specs.Stands.{StandsWith, Keeps, HoldsSymbols}
 use Rattle.receiver.specs.Receiving.{LeaveNoneShort}
 use Rattle.receiver.specs.Taking.{IsShortBlock, AllSolved}
@@ -32,15 +31,12 @@ use Rattle.receiver.specs.Parts.{part_of, object_below, object_in}
 use Rattle.decoder.specs.declared.counting.Short.{Short}
 use Rattle.receiver.specs.declared.receiving.Receiving.{Receiving}
 use Rattle.receiver.specs.declared.store.Store.{Store}
-use Rattle.receiver.specs.declared.stored.Stored.{Stored}
-use Rattle.receiver.specs.declared.stored.Stored.TheVariants as stored
 use Rattle.decoder.proofs.Answering.{answered}
 use Rattle.decoder.proofs.Counts.{held_is}
-use Rattle.decoder.proofs.Kept.{count_none, count_same}
 use Rattle.decoder.proofs.ObjectSoFar.{SoFar, nothing_yet, one_more_block, object_answers}
 use Rattle.decoder.proofs.Solving.{solvable_from}
 use Rattle.decoder.proofs.Unsound.{rows_explain}
-use Rattle.receiver.proofs.Pending.{pending_count}
+use Rattle.receiver.proofs.Pending.{solved_of, kept_count}
 use Rattle.alc.specs.Reading.{Reading}
 
 pub if_some : {A : Type 0} (P Q : A → Type 0) (o : Option A) → ((a : A) → P a → Q a) → IfSome o P → IfSome o Q
@@ -49,30 +45,18 @@ if_some P Q None f h = tt
 
 -- ---- one block
 
--- nothing stands at the ESIs of a block that isn't kept
-pub nothing_count : (f : Fti) (b : ℕ) (bytes : List ℕ) (at : ℕ → Option (List ℕ)) → IsStored f b bytes None at → length (filter (λ j. is_some (at j)) (below (encoding_count f b))) ≡ 0
-nothing_count f b bytes at h = count_none (λ j. is_some (at j)) (encoding_count f b) (λ j. ap is_some (h j))
+pub solved_is : (f : Fti) (b : ℕ) (bytes esis : List ℕ) (at : ℕ → Option (List ℕ)) → IsStored f b bytes esis at → is_solved f b esis ≡ true → IsSolved f b bytes esis at
+solved_is f b bytes esis at h solved = solved_of f b bytes esis at (leb-true (source_count f b) (length esis) solved) h
 
-pub solved_enough : (f : Fti) (b : ℕ) (bytes : List ℕ) (o : Option Stored) (at : ℕ → Option (List ℕ)) → IsStored f b bytes o at → is_solved o ≡ true → IsEnoughAt f b at
-solved_enough f b bytes None at h solved = absurd (cc)
-solved_enough f b bytes (Some (stored.Pending p)) at h solved = absurd (cc)
-solved_enough f b bytes (Some (stored.Solved s)) at h solved =
-    let seen = ap (λ (n : ℕ). length (filter (seen_at s.seen.items) (below n))) h.of.esis
-    ∙ count_same (seen_at s.seen.items) (λ j. is_some (at j)) (encoding_count f b) (λ j lj. h.seen j) in
-    omega (arith, s.enough, seen, h.of.need)
-
-pub solved_rows : (f : Fti) (b : ℕ) (bytes : List ℕ) (o : Option Stored) (at : ℕ → Option (List ℕ)) → IsStored f b bytes o at → is_solved o ≡ true
-    → AreRows f b at (take (source_count f b * f.symbol_length) bytes)
-solved_rows f b bytes None at h solved = absurd (cc)
-solved_rows f b bytes (Some (stored.Pending p)) at h solved = absurd (cc)
-solved_rows f b bytes (Some (stored.Solved s)) at h solved = h.rows
+pub solved_enough : (f : Fti) (b : ℕ) (bytes esis : List ℕ) (at : ℕ → Option (List ℕ)) → IsStored f b bytes esis at → is_solved f b esis ≡ true → IsEnoughAt f b at
+solved_enough f b bytes esis at h solved = omega (arith, leb-true (source_count f b) (length esis) solved, kept_count f b bytes esis at h)
 
 -- a block with enough symbols is explained
-pub full_explained : (f : Fti) (b : ℕ) (bytes : List ℕ) (o : Option Stored) (at : ℕ → Option (List ℕ)) → 1 ≤ source_count f b → IsStored f b bytes o at → IsEnoughAt f b at
-    → (c : ℕ) → c < f.symbol_length → ColumnExplained f b at c
-full_explained f b bytes None at some h enough = absurd (omega (arith, some, enough, nothing_count f b bytes at h))
-full_explained f b bytes (Some (stored.Pending p)) at some h enough = absurd (omega (arith, enough, pending_count f b bytes p at h, p.few, h.of.need))
-full_explained f b bytes (Some (stored.Solved s)) at some h enough = rows_explain f b at (take (source_count f b * f.symbol_length) bytes) h.rows
+pub full_explained : (f : Fti) (b : ℕ) (bytes esis : List ℕ) (at : ℕ → Option (List ℕ)) → IsStored f b bytes esis at → IsEnoughAt f b at → (c : ℕ) → c < f.symbol_length → ColumnExplained f b at c
+full_explained f b bytes esis at h enough =
+    let many = kept_count f b bytes esis at h in
+    let solved : IsSolved f b bytes esis at = solved_of f b bytes esis at (omega (arith, enough, many)) h in
+    rows_explain f b at (take (source_count f b * f.symbol_length) bytes) solved.rows
 
 -- the object's bytes in a block, by as many rows as the block has
 part_cut : (f : Fti) (bytes : ℕ → List ℕ) (b : ℕ) → part_of f bytes b ≡ take (block_bytes f b) (take (source_count f b * f.symbol_length) (bytes b))
@@ -137,7 +121,7 @@ length_within f bytes b n lt =
 -- ---- all blocks
 
 module _ (store : Store) (valid : IsValidFti store.fti) (bytes : ℕ → List ℕ) (at : ℕ → ℕ → Option (List ℕ)) (holds : Holds store bytes at) where
-  enough_at : (b : ℕ) → is_solved (kept_of store b) ≡ true → IsEnoughAt store.fti b (at b)
+  enough_at : (b : ℕ) → has_solved store b ≡ true → IsEnoughAt store.fti b (at b)
   enough_at b solved = solved_enough store.fti b (bytes b) (kept_of store b) (at b) (holds.blocks b) solved
 
   module _ (arrivals : List Symbol) (index : IsIndex arrivals at) (all_within : AllByRecursion (IsWithin store.fti) arrivals) where
@@ -145,7 +129,7 @@ module _ (store : Store) (valid : IsValidFti store.fti) (bytes : ℕ → List �
     arrived_is b hb = held_is store.fti arrivals at b index all_within (counts store.fti valid b hb).2
 
     -- a solved block is full
-    full_where_solved : (b : ℕ) → b < block_count store.fti → is_solved (kept_of store b) ≡ true → is_full store.fti arrivals b ≡ true
+    full_where_solved : (b : ℕ) → b < block_count store.fti → has_solved store b ≡ true → is_full store.fti arrivals b ≡ true
     full_where_solved b hb solved = le-leb (source_count store.fti b) (arrived_count arrivals b) (omega (arith, enough_at b solved, arrived_is b hb))
 
     pub all_full : AllSolved store → AllFull store.fti arrivals
@@ -154,9 +138,9 @@ module _ (store : Store) (valid : IsValidFti store.fti) (bytes : ℕ → List �
     pub full_solvable : FullSolvable store.fti arrivals
     full_solvable b hb full =
         let enough : IsEnoughAt store.fti b (at b) = omega (arith, leb-true _ _ full, arrived_is b hb) in
-        solvable_from store.fti arrivals at index b (full_explained store.fti b (bytes b) (kept_of store b) (at b) (counts store.fti valid b hb).0 (holds.blocks b) enough)
+        solvable_from store.fti arrivals at index b (full_explained store.fti b (bytes b) (kept_of store b) (at b) (holds.blocks b) enough)
 
-    first_is_short : (b : ℕ) → b < block_count store.fti → ((a : ℕ) → a < b → is_solved (kept_of store a) ≡ true) → (s : Short) → IsShortBlock store.fti b (at b) s
+    first_is_short : (b : ℕ) → b < block_count store.fti → ((a : ℕ) → a < b → has_solved store a ≡ true) → (s : Short) → IsShortBlock store.fti b (at b) s
         → IsFirstShort store.fti arrivals b × (s.have ≡ arrived_count arrivals b) × (s.need ≡ source_count store.fti b)
     first_is_short b hb before s short =
         let have : s.have ≡ arrived_count arrivals b = short.have ∙ sym (arrived_is b hb) in (
@@ -170,7 +154,7 @@ module _ (store : Store) (valid : IsValidFti store.fti) (bytes : ℕ → List �
         )
 
   -- the first block that isn't solved is the first that is short
-  pub is_short : (b : ℕ) → b < block_count store.fti → ((a : ℕ) → a < b → is_solved (kept_of store a) ≡ true) → (s : Short) → IsShortBlock store.fti b (at b) s → IsShort store.fti at s
+  pub is_short : (b : ℕ) → b < block_count store.fti → ((a : ℕ) → a < b → has_solved store a ≡ true) → (s : Short) → IsShortBlock store.fti b (at b) s → IsShort store.fti at s
   is_short b hb before s short arrivals index all_within =
       subst (λ (x : ℕ). IsFirstShort store.fti arrivals x × (s.have ≡ arrived_count arrivals x) × (s.need ≡ source_count store.fti x)) (sym short.block)
       (first_is_short arrivals index all_within b hb before s short)
@@ -187,7 +171,7 @@ module _ (store : Store) (valid : IsValidFti store.fti) (bytes : ℕ → List �
         let before = so_far n (omega (arith, most)) in
         let hb : n < block_count store.fti = omega (arith, most) in
         let rows = take (source_count store.fti n * store.fti.symbol_length) (bytes n) in
-        let are = solved_rows store.fti n (bytes n) (kept_of store n) (at n) (holds.blocks n) (all n hb) in
+        let are = (solved_is store.fti n (bytes n) (kept_of store n) (at n) (holds.blocks n) (all n hb)).rows in
         let next : n + 1 ≡ suc n = omega arith in
         subst (λ (m : ℕ). SoFar store.fti at m (object_below store.fti bytes m)) next
         (subst (SoFar store.fti at (n + 1)) (sym (part_more store.fti bytes n))

@@ -6,8 +6,8 @@ use lib.Pointwise.{pointwise}
 use Rattle.alc.proofs.Chosen.{same_self}
 use Rattle.decoder.proofs.Index.{pointwise_same}
 use Rattle.receiver.specs.Putting.{UnlessFailed}
-use Rattle.receiver.specs.declared.stored.PutFault.{PutFault}
-use Rattle.receiver.specs.declared.stored.PutFault.TheVariants as put
+use Rattle.receiver.specs.declared.put_fault.PutFault.{PutFault}
+use Rattle.receiver.specs.declared.put_fault.PutFault.TheVariants as put
 use Rattle.receiver.specs.Bytes.{StandIn, Becomes, Puts}
 
 -- what is told is one

@@ -6,8 +6,8 @@ use Rattle.decoder.specs.Arrivals.{with_symbol}
 use Rattle.receiver.specs.Holds.{HoldsIn}
 use Rattle.receiver.specs.Putting.{MayStand, IsPutFault, Outcome}
 use Rattle.decoder.specs.declared.answer.DecodeFault.TheVariants as fault
-use Rattle.receiver.specs.declared.stored.PutFault.{PutFault}
-use Rattle.receiver.specs.declared.stored.PutFault.TheVariants as put
+use Rattle.receiver.specs.declared.put_fault.PutFault.{PutFault}
+use Rattle.receiver.specs.declared.put_fault.PutFault.TheVariants as put
 use Rattle.receiver.specs.declared.store.Store.{Store}
 use Rattle.receiver.specs.declared.receiver.FeedFault.TheVariants.{Fault, NoMemory}
 use Rattle.receiver.specs.declared.receiving.Unfed.{Unfed}

@@ -1,37 +1,32 @@
 -- What is kept of an object, for the symbols that stand at its blocks and ESIs.
-use Rattle.std.specs.Prelude.{◌≡◌, ℕ, Bool, true, false, List, length, filter, Option, Some, None}
+use Rattle.std.specs.Prelude.{◌≡◌, ℕ, Bool, true, false, List, length, filter, Option, Some}
 use Rattle.std.specs.Prelude.{Result, Ok, Err}
-use Rattle.std.specs.BTreeMap.{get}
-use Rattle.std.specs.Ordering.{nat_cmp}
 use Rattle.lists.specs.Below.{below}
-use Rattle.partition.specs.Fti.{block_count}
+use Rattle.partition.specs.Fti.{Fti, block_count}
 use Rattle.block_code.specs.Codes.{EachBlockHas}
 use Rattle.block_code.specs.CodesOf.{IsCodeOf}
 use Rattle.decoder.specs.Decoded.{AreWithin}
 use Rattle.decoder.specs.Recoveries.{IsKeptOf}
-use Rattle.receiver.specs.Stored.{IsOf, IsStored}
-use Rattle.receiver.specs.declared.stored.PutFault.{PutFault}
-use Rattle.receiver.specs.declared.stored.Stored.{Stored}
-use Rattle.receiver.specs.declared.stored.Stored.TheVariants as stored
+use Rattle.receiver.specs.Esis.{esis_of}
+use Rattle.receiver.specs.Stored.{IsOf, IsStored, is_solved}
+use Rattle.receiver.specs.declared.put_fault.PutFault.{PutFault}
 use Rattle.receiver.specs.declared.store.Store.{Store}
 
--- what is kept of a block, if something is
-abbrev pub kept_of : Store → ℕ → Option Stored
-kept_of store b = get nat_cmp store.blocks b
+-- the ESIs that came of a block
+abbrev pub kept_of : Store → ℕ → List ℕ
+kept_of store b = esis_of store.esis b
 
--- whether a block is solved
-abbrev pub is_solved : Option Stored → Bool
-is_solved None = false
-is_solved (Some (stored.Pending p)) = false
-is_solved (Some (stored.Solved s)) = true
+-- whether a block has as many symbols as it needs
+abbrev pub has_solved : Store → ℕ → Bool
+has_solved store b = is_solved store.fti b (kept_of store b)
 
 -- how many blocks are solved
 abbrev pub solved_count : Store → ℕ
 solved_count store =
-    length (filter (λ b. is_solved (kept_of store b)) (below (block_count store.fti)))
+    length (filter (has_solved store) (below (block_count store.fti)))
 
--- the codes are the FTI's, and what is kept of each block is of that block; how many are solved
--- isn't said
+-- the codes are the FTI's, and the ESIs that came of each block are the block's; how many blocks
+-- are solved isn't said
 pub record HasParts (store : Store) : Type 0 where
   pub codes : EachBlockHas (IsCodeOf store.fti) store.fti store.codes
   pub recovery : IsKeptOf store.codes store.scratch.recovery
@@ -51,8 +46,8 @@ pub record Holds (store : Store) (bytes : ℕ → List ℕ) (at : ℕ → ℕ �
 abbrev pub HoldsIn : Store → Option (ℕ → List ℕ) → (ℕ → ℕ → Option (List ℕ)) → Type 0
 HoldsIn store told at = (bytes : ℕ → List ℕ) × (told ≡ Some bytes) × Holds store bytes at
 
--- whether a block is solved now, and wasn't
-abbrev pub Solves : Result Bool PutFault → Option Stored → Option Stored → Type 0
-Solves (Ok true) old new = (is_solved old ≡ false) × (is_solved new ≡ true)
-Solves (Ok false) old new = is_solved new ≡ is_solved old
-Solves (Err e) old new = is_solved new ≡ is_solved old
+-- whether a block is solved now, and wasn't, by the ESIs that came before and now
+abbrev pub Solves : Fti → ℕ → Result Bool PutFault → List ℕ → List ℕ → Type 0
+Solves f b (Ok true) old new = (is_solved f b old ≡ false) × (is_solved f b new ≡ true)
+Solves f b (Ok false) old new = is_solved f b new ≡ is_solved f b old
+Solves f b (Err e) old new = is_solved f b new ≡ is_solved f b old

@@ -1,5 +1,6 @@
 pub mod Bytes
 pub mod Held
+pub mod Esis
 pub mod Stored
 pub mod Holds
 pub mod Stands

@@ -15,8 +15,8 @@ use Rattle.receiver.specs.Holds.{HoldsIn}
 use Rattle.receiver.specs.declared.block_bytes.BlockBytes.{Ghosts}
 use Rattle.receiver.specs.declared.scratch.Scratch.{Scratch}
 use Rattle.receiver.specs.declared.store.Store.{Store}
-use Rattle.receiver.specs.declared.stored.PutFault.{PutFault}
-use Rattle.receiver.specs.declared.stored.PutFault.TheVariants.{Clash, NotCode, NoMemory, Failed}
+use Rattle.receiver.specs.declared.put_fault.PutFault.{PutFault}
+use Rattle.receiver.specs.declared.put_fault.PutFault.TheVariants.{Clash, NotCode, NoMemory, Failed}
 
 -- the FTI has the packet, the codes are the FTI's, and what recovered a block is of one of them
 pub record MayPut (f : Fti) (codes : BlockCodes) (p : Packet) (scratch : Scratch) : Type 0 where

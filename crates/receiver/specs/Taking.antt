@@ -2,7 +2,7 @@
 use Rattle.std.specs.Prelude.{◌≡◌, ℕ, ◌<◌, true, List, length, filter, Option, is_some}
 use Rattle.lists.specs.Below.{below}
 use Rattle.partition.specs.Fti.{Fti, block_count, source_count, encoding_count}
-use Rattle.receiver.specs.Holds.{kept_of, is_solved}
+use Rattle.receiver.specs.Holds.{has_solved}
 use Rattle.decoder.specs.declared.counting.Short.{Short}
 use Rattle.receiver.specs.declared.store.Store.{Store}
 
@@ -15,4 +15,4 @@ pub record IsShortBlock (f : Fti) (b : ℕ) (at : ℕ → Option (List ℕ)) (s 
 
 -- each block is solved
 abbrev pub AllSolved : Store → Type 0
-AllSolved store = (b : ℕ) → b < block_count store.fti → is_solved (kept_of store b) ≡ true
+AllSolved store = (b : ℕ) → b < block_count store.fti → has_solved store b ≡ true

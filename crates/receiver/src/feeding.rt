@@ -13,10 +13,10 @@ ghost use Rattle.receiver.specs.Receiving.{HasNoFaultBefore, ComesEarly, IfRefus
 ghost use Rattle.receiver.specs.Fed.{HoldsFor, FedOutcome, put_refusal};
 
 use crate::block_bytes::BlockBytes;
+use crate::put_fault::PutFault;
 use crate::receiver::{FeedFault, Progress, Receiver};
 use crate::receiving::{Receiving, Unfed};
 use crate::store::Store;
-use crate::stored::PutFault;
 use alc::Packet;
 use decoder::{DecodeFault, fault_at};
 use lists::are_bytes;

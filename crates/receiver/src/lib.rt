@@ -14,22 +14,24 @@
 //!   `blocks` says where there;
 //! - `feeding` takes one datagram more, and `taking` gives the answer, or writes the object block
 //!   by block; `storing` tells how much is kept;
-//! - `store`: what it keeps of an object beside bytes, and `stored`: of a block. While too few
-//!   symbols of a block came, its bytes are these, one behind the other, and their ESIs are kept
-//!   (`pending_block`). From then on its bytes are its source symbols, and which ESIs came is kept
+//! - `store`: what it keeps of an object beside bytes. Of each block these are the ESIs that came
+//!   (`esis`), and nothing else. While they are too few, the block's bytes are their symbols, one
+//!   behind the other (`pending_block`). From then on these are its source symbols
 //!   (`solved_block`). So a block has no more bytes than its source symbols. `putting` puts a
-//!   symbol where it goes, and walks neither over the blocks nor over what came, but for its
-//!   block's symbols when that is solved. One that comes later is compared with what the source
-//!   symbols give. `scratch` is used again from block to block.
+//!   symbol where it goes, and walks not over the blocks. One that comes when the block is solved
+//!   is compared with what the source symbols give. `put_fault` says why one isn't put. `scratch`
+//!   is used again from block to block.
 #![tactic(auto)]
 
 mod block_bytes;
 mod blocks;
+mod esis;
 mod feeding;
 mod file_blocks;
 mod file_receiver;
 mod held_blocks;
 mod pending_block;
+mod put_fault;
 mod putting;
 mod receiver;
 mod receiving;
@@ -37,7 +39,6 @@ mod recent;
 mod scratch;
 mod solved_block;
 mod store;
-mod stored;
 mod storing;
 mod taking;
 

@@ -1,25 +1,27 @@
 //! A block that has fewer symbols than it needs.
-ghost use Rattle.std.specs.Prelude.{◌≡◌, ◌<◌, ◌≤◌, ◌+◌, ◌*◌, ◌==◌, ◌||◌, ℕ, List, Option, Some};
-ghost use Rattle.std.specs.Prelude.{Err, [], false, length, is_some, option_map, slice_index};
-ghost use Rattle.std.specs.Prelude.{IfOk, IfSome};
-ghost use Rattle.partition.specs.Fti.{block_count, encoding_count};
+ghost use Rattle.std.specs.Prelude.{◌≡◌, ◌≢◌, ◌<◌, ◌≤◌, ◌+◌, ◌*◌, ◌++◌, ◌∷◌, ◌==◌, ◌||◌, ℕ, List};
+ghost use Rattle.std.specs.Prelude.{Option, Some, [], false, length, is_some, option_map};
+ghost use Rattle.std.specs.Prelude.{slice_index, IfOk, IfSome, OnOk, OnErr};
+ghost use Rattle.partition.specs.Fti.{block_count, source_count, encoding_count};
 ghost use Rattle.decoder.specs.Blocks.{bytes_of_esi, HaveLength};
-ghost use Rattle.decoder.specs.Arrivals.{with_esi, seen_at};
+ghost use Rattle.decoder.specs.Arrivals.{with_esi};
+ghost use Rattle.receiver.specs.Esis.{esis_of};
+ghost use Rattle.receiver.specs.Holds.{Solves};
 ghost use Rattle.receiver.specs.Putting.{MayPut, IsPutFault, Outcome, BlockOutcome, bytes_change};
-ghost use Rattle.receiver.specs.Stored.{IsPendingOf, IsSolvedOf, IsPending, IsSolved, AreSymbols};
-ghost use Rattle.receiver.specs.Stored.{is_among, IsNow};
+ghost use Rattle.receiver.specs.Stored.{IsOf, IsPending, IsSolved, IsStored, AreSymbols, is_among};
 
 use crate::block_bytes::{BlockBytes, BytesFault};
+use crate::esis::Esis;
+use crate::put_fault::PutFault;
 use crate::scratch::Scratch;
-use crate::stored::{Pending, PutFault, Solved};
 use alc::Packet;
 use block_code::BlockCodes;
 use decoder::block_rows;
 use partition::Fti;
 use std::alloc::{AllocError, Global};
 
-// At which place an ESI stands among others.
-fn place_of(esis: &[u8], esi: u8) -> Option<usize>
+/// At which place an ESI stands among others.
+pub(crate) fn place_of(esis: &[u8], esi: u8) -> Option<usize>
     ensures found { IfSome result (λ i.
         (i < length esis.now) × (slice_index esis.now i ≡ esi)) }
     ensures among { is_some result ≡ is_among esis.now esi }
@@ -82,71 +84,43 @@ fn symbols_with<'a>(
     Ok(symbols)
 }
 
-impl Pending {
-    /// A block of which nothing came: how many symbols it needs.
-    pub(crate) fn new(alloc: Global, need: usize) -> Pending
-        requires { 0 < need }
-        ensures need { result.need ≡ need }
-        ensures none { result.esis.items ≡ [] }
-    {
-        Pending {
-            esis: Vec::new(alloc),
-            need,
-        }
-    }
-
-    // Compares the packet's symbol with the one that came, at a place among those that did.
-    fn compare<B: BlockBytes>(
-        &self,
-        alloc: Global,
-        fti: &Fti,
-        packet: &Packet<'_>,
-        place: usize,
-        bytes: &mut B,
-    ) -> Result<(), PutFault>
-        requires number { packet.now.sbn < block_count fti.now }
-        requires symbol { length packet.now.symbol.now ≡ fti.now.symbol_length }
-        requires place { (place < length self.now.esis.items)
-            × (slice_index self.now.esis.items place ≡ packet.now.esi) }
-        requires of { IsPendingOf fti.now packet.now.sbn self.now }
-        ensures outcome { (x : ℕ → List ℕ) (at : ℕ → Option (List ℕ))
-            → B.kept bytes.old fti.now ≡ Some x
-            → IsPending fti.now packet.now.sbn (x packet.now.sbn) self.now at
-            → Outcome (B.failed bytes.new) result
-            (λ _. at packet.now.esi ≡ Some packet.now.symbol.now)
-            (IsPutFault fti.now packet.now.sbn at packet.now.esi packet.now.symbol.now) }
-        ensures stays { B.kept bytes.new ≡ B.kept bytes.old }
-    {
-        let size = usize::from(fti.symbol_length());
-        let Ok(mut symbol) = vec![in alloc; 0u8; size] else {
-            return Err(PutFault::NoMemory);
-        };
-        let Ok(()) = bytes.read(fti, packet.sbn, place * size, &mut symbol) else {
-            return Err(PutFault::Failed);
-        };
-        if symbol.as_slice() == packet.symbol {
-            Ok(())
-        } else {
-            Err(PutFault::Clash)
-        }
-    }
-}
-
-// Whether each of these symbols came.
-fn seen_in(alloc: Global, symbols: &[Option<&[u8]>]) -> Result<Vec<bool>, AllocError>
-    ensures len { IfOk result (λ v. length v.items ≡ length symbols.now) }
-    ensures seen { IfOk result (λ v. (j : ℕ)
-        → seen_at v.items j ≡ is_some (bytes_of_esi symbols.now j)) }
+// Compares the packet's symbol with the one that came, at a place among those that did.
+fn compare<B: BlockBytes>(
+    alloc: Global,
+    fti: &Fti,
+    packet: &Packet<'_>,
+    esis: &[u8],
+    place: usize,
+    bytes: &mut B,
+) -> Result<(), PutFault>
+    requires number { packet.now.sbn < block_count fti.now }
+    requires symbol { length packet.now.symbol.now ≡ fti.now.symbol_length }
+    requires place { (place < length esis.now) × (slice_index esis.now place ≡ packet.now.esi) }
+    requires few { length esis.now < source_count fti.now packet.now.sbn }
+    ensures outcome { (x : ℕ → List ℕ) (at : ℕ → Option (List ℕ))
+        → B.kept bytes.old fti.now ≡ Some x
+        → IsPending fti.now packet.now.sbn (x packet.now.sbn) esis.now at
+        → Outcome (B.failed bytes.new) result
+        (λ _. at packet.now.esi ≡ Some packet.now.symbol.now)
+        (IsPutFault fti.now packet.now.sbn at packet.now.esi packet.now.symbol.now) }
+    ensures stays { B.kept bytes.new ≡ B.kept bytes.old }
 {
-    let mut seen = Vec::with_capacity(alloc, symbols.len())?;
-    for symbol in symbols {
-        seen.push(symbol.is_some())?;
+    let size = usize::from(fti.symbol_length());
+    let Ok(mut symbol) = vec![in alloc; 0u8; size] else {
+        return Err(PutFault::NoMemory);
+    };
+    let Ok(()) = bytes.read(fti, packet.sbn, place * size, &mut symbol) else {
+        return Err(PutFault::Failed);
+    };
+    if symbol.as_slice() == packet.symbol {
+        Ok(())
+    } else {
+        Err(PutFault::Clash)
     }
-    Ok(seen)
 }
 
-impl Pending {
-    // Keeps the packet's symbol, where it isn't the last that is needed.
+impl Esis {
+    // Keeps the packet's symbol, where it isn't the last that its block needs.
     fn keep<B: BlockBytes>(
         &mut self,
         alloc: Global,
@@ -155,69 +129,81 @@ impl Pending {
         bytes: &mut B,
     ) -> Result<(), PutFault>
         requires number { packet.now.sbn < block_count fti.now }
-        requires esi { packet.now.esi < encoding_count fti.now packet.now.sbn }
         requires symbol { length packet.now.symbol.now ≡ fti.now.symbol_length }
-        requires few { length self.old.esis.items + 1 < self.old.need }
-        requires of { IsPendingOf fti.now packet.now.sbn self.old }
-        requires free { is_among self.old.esis.items packet.now.esi ≡ false }
-        ensures of { IsPendingOf fti.now packet.now.sbn self.new }
+        requires esi { packet.now.esi < encoding_count fti.now packet.now.sbn }
+        requires few { length (esis_of self.old packet.now.sbn) + 1
+            < source_count fti.now packet.now.sbn }
+        requires free { is_among (esis_of self.old packet.now.sbn) packet.now.esi ≡ false }
+        ensures kept { OnOk result (esis_of self.new packet.now.sbn
+            ≡ esis_of self.old packet.now.sbn ++ packet.now.esi ∷ []) }
+        ensures same { OnErr result
+            (esis_of self.new packet.now.sbn ≡ esis_of self.old packet.now.sbn) }
+        ensures others { (a : ℕ) → packet.now.sbn ≢ a → esis_of self.new a ≡ esis_of self.old a }
         ensures outcome { (x : ℕ → List ℕ) (at : ℕ → Option (List ℕ))
             → B.kept bytes.old fti.now ≡ Some x
-            → IsPending fti.now packet.now.sbn (x packet.now.sbn) self.old at
+            → IsPending fti.now packet.now.sbn (x packet.now.sbn)
+            (esis_of self.old packet.now.sbn) at
             → BlockOutcome fti.now packet.now at
             (bytes_change B.BlockBytes fti.now x bytes.new) result
-            (λ _ y. IsPending fti.now packet.now.sbn y self.new)
-            (λ y. IsPending fti.now packet.now.sbn y self.new at) }
+            (λ _ y. IsPending fti.now packet.now.sbn y (esis_of self.new packet.now.sbn))
+            (λ y. IsPending fti.now packet.now.sbn y (esis_of self.new packet.now.sbn) at) }
     {
-        let from = self.esis.len() * usize::from(fti.symbol_length());
+        let from = self.get(packet.sbn).len() * usize::from(fti.symbol_length());
+        let Ok(()) = self.reserve(alloc, packet.sbn) else {
+            return Err(PutFault::NoMemory);
+        };
         match bytes.write(alloc, fti, packet.sbn, from, packet.symbol) {
             Ok(()) => {}
             Err(BytesFault::NoMemory) => return Err(PutFault::NoMemory),
             Err(BytesFault::Failed) => return Err(PutFault::Failed),
         }
-        match self.esis.push(packet.esi) {
-            Ok(()) => Ok(()),
-            Err(_) => Err(PutFault::NoMemory),
-        }
+        self.push(packet.sbn, packet.esi);
+        Ok(())
     }
 
-    // The block solved, by the symbols that came and this one, which is the last that it needs.
+    // Solves the packet's block, by the symbols that came and this one, which is the last that it
+    // needs. Room for its ESI is made first: where the source symbols are written, it is noted.
     fn solve<B: BlockBytes>(
-        &self,
+        &mut self,
         alloc: Global,
         fti: &Fti,
         codes: &BlockCodes,
         packet: &Packet<'_>,
         scratch: &mut Scratch,
         bytes: &mut B,
-    ) -> Result<Solved, PutFault>
+    ) -> Result<(), PutFault>
         requires given { MayPut fti.now codes.now packet.now scratch.old }
-        requires of { IsPendingOf fti.now packet.now.sbn self.now }
-        requires free { is_among self.now.esis.items packet.now.esi ≡ false }
-        requires last { self.now.need ≤ length self.now.esis.items + 1 }
+        requires of { IsOf fti.now packet.now.sbn (esis_of self.old packet.now.sbn) }
+        requires few { length (esis_of self.old packet.now.sbn)
+            < source_count fti.now packet.now.sbn }
+        requires free { is_among (esis_of self.old packet.now.sbn) packet.now.esi ≡ false }
+        requires last { source_count fti.now packet.now.sbn
+            ≤ length (esis_of self.old packet.now.sbn) + 1 }
         ensures keeps { MayPut fti.now codes.now packet.now scratch.new }
-        ensures of { IfOk result (IsSolvedOf fti.now packet.now.sbn) }
+        ensures kept { OnOk result (esis_of self.new packet.now.sbn
+            ≡ esis_of self.old packet.now.sbn ++ packet.now.esi ∷ []) }
+        ensures same { OnErr result
+            (esis_of self.new packet.now.sbn ≡ esis_of self.old packet.now.sbn) }
+        ensures others { (a : ℕ) → packet.now.sbn ≢ a → esis_of self.new a ≡ esis_of self.old a }
         ensures outcome { (x : ℕ → List ℕ) (at : ℕ → Option (List ℕ))
             → B.kept bytes.old fti.now ≡ Some x
-            → IsPending fti.now packet.now.sbn (x packet.now.sbn) self.now at
+            → IsPending fti.now packet.now.sbn (x packet.now.sbn)
+            (esis_of self.old packet.now.sbn) at
             → BlockOutcome fti.now packet.now at
             (bytes_change B.BlockBytes fti.now x bytes.new) result
-            (λ s y. IsSolved fti.now packet.now.sbn y s)
-            (λ y. IsPending fti.now packet.now.sbn y self.now at) }
+            (λ _ y. IsSolved fti.now packet.now.sbn y (esis_of self.new packet.now.sbn))
+            (λ y. IsPending fti.now packet.now.sbn y (esis_of self.new packet.now.sbn) at) }
     {
         let n = fti.n(packet.sbn);
         let size = usize::from(fti.symbol_length());
-        let Ok(mut came) = vec![in alloc; 0u8; self.esis.len() * size] else {
+        let esis = self.get(packet.sbn);
+        let Ok(mut came) = vec![in alloc; 0u8; esis.len() * size] else {
             return Err(PutFault::NoMemory);
         };
         let Ok(()) = bytes.read(fti, packet.sbn, 0, &mut came) else {
             return Err(PutFault::Failed);
         };
-        let Ok(symbols) = symbols_with(alloc, &self.esis, &came, packet.esi, packet.symbol, n)
-        else {
-            return Err(PutFault::NoMemory);
-        };
-        let Ok(seen) = seen_in(alloc, &symbols) else {
+        let Ok(symbols) = symbols_with(alloc, esis, &came, packet.esi, packet.symbol, n) else {
             return Err(PutFault::NoMemory);
         };
         let recovery = &mut scratch.recovery;
@@ -226,23 +212,22 @@ impl Pending {
             Ok(None) => return Err(PutFault::NotCode),
             Err(_) => return Err(PutFault::NoMemory),
         };
+        let Ok(()) = self.reserve(alloc, packet.sbn) else {
+            return Err(PutFault::NoMemory);
+        };
         match bytes.write(alloc, fti, packet.sbn, 0, &rows.bytes) {
             Ok(()) => {}
             Err(BytesFault::NoMemory) => return Err(PutFault::NoMemory),
             Err(BytesFault::Failed) => return Err(PutFault::Failed),
         }
         scratch.rows = Some(rows);
-        Ok(Solved {
-            need: self.need,
-            seen,
-        })
+        self.push(packet.sbn, packet.esi);
+        Ok(())
     }
-}
 
-impl Pending {
-    /// Puts the packet's symbol. `Some` is the block solved, if the symbol is the last that it
-    /// needs.
-    pub(crate) fn put<B: BlockBytes>(
+    /// Puts the packet's symbol to a block that has too few, and answers whether it solved the
+    /// block: whether it is the last that the block needs.
+    pub(crate) fn put_to_pending<B: BlockBytes>(
         &mut self,
         alloc: Global,
         fti: &Fti,
@@ -250,29 +235,35 @@ impl Pending {
         packet: &Packet<'_>,
         scratch: &mut Scratch,
         bytes: &mut B,
-    ) -> Result<Option<Solved>, PutFault>
+    ) -> Result<bool, PutFault>
         requires given { MayPut fti.now codes.now packet.now scratch.old }
-        requires of { IsPendingOf fti.now packet.now.sbn self.old }
+        requires of { IsOf fti.now packet.now.sbn (esis_of self.old packet.now.sbn) }
+        requires few { length (esis_of self.old packet.now.sbn)
+            < source_count fti.now packet.now.sbn }
         ensures keeps { MayPut fti.now codes.now packet.now scratch.new }
-        ensures of { IsPendingOf fti.now packet.now.sbn self.new }
-        ensures solved_of { IfOk result (λ o. IfSome o (IsSolvedOf fti.now packet.now.sbn)) }
+        ensures of { IsOf fti.now packet.now.sbn (esis_of self.new packet.now.sbn) }
+        ensures others { (a : ℕ) → packet.now.sbn ≢ a → esis_of self.new a ≡ esis_of self.old a }
+        ensures solves { Solves fti.now packet.now.sbn result (esis_of self.old packet.now.sbn)
+            (esis_of self.new packet.now.sbn) }
         ensures outcome { (x : ℕ → List ℕ) (at : ℕ → Option (List ℕ))
             → B.kept bytes.old fti.now ≡ Some x
-            → IsPending fti.now packet.now.sbn (x packet.now.sbn) self.old at
+            → IsPending fti.now packet.now.sbn (x packet.now.sbn)
+            (esis_of self.old packet.now.sbn) at
             → BlockOutcome fti.now packet.now at
             (bytes_change B.BlockBytes fti.now x bytes.new) result
-            (IsNow fti.now packet.now.sbn self.new)
-            (λ y. IsPending fti.now packet.now.sbn y self.new at) }
+            (λ _ y. IsStored fti.now packet.now.sbn y (esis_of self.new packet.now.sbn))
+            (λ y. IsPending fti.now packet.now.sbn y (esis_of self.new packet.now.sbn) at) }
     {
-        if let Some(place) = place_of(&self.esis, packet.esi) {
-            self.compare(alloc, fti, packet, place, bytes)?;
-            return Ok(None);
+        let esis = self.get(packet.sbn);
+        if let Some(place) = place_of(esis, packet.esi) {
+            compare(alloc, fti, packet, esis, place, bytes)?;
+            return Ok(false);
         }
-        if self.esis.len() + 1 < self.need {
+        if esis.len() + 1 < fti.k(packet.sbn) {
             self.keep(alloc, fti, packet, bytes)?;
-            return Ok(None);
+            return Ok(false);
         }
-        let solved = self.solve(alloc, fti, codes, packet, scratch, bytes)?;
-        Ok(Some(solved))
+        self.solve(alloc, fti, codes, packet, scratch, bytes)?;
+        Ok(true)
     }
 }

@@ -1,22 +1,24 @@
 //! Putting a symbol to what is kept of an object.
-ghost use Rattle.std.specs.Prelude.{◌≡◌, ◌≢◌, ◌<◌, ℕ, List, Option, Some, None, length};
+ghost use Rattle.std.specs.Prelude.{◌≡◌, ◌≢◌, ◌<◌, ℕ, List, Option, Some, length};
 ghost use Rattle.partition.specs.Fti.{block_count, encoding_count};
 ghost use Rattle.decoder.specs.Blocks.{HaveLength};
-ghost use Rattle.receiver.specs.Holds.{HasParts, IsSound, HoldsIn, Solves, kept_of};
+ghost use Rattle.receiver.specs.Esis.{esis_of};
+ghost use Rattle.receiver.specs.Holds.{IsSound, HoldsIn, Solves};
 ghost use Rattle.receiver.specs.Putting.{MayPut, BlockOutcome, bytes_change, StoreOutcome};
 ghost use Rattle.receiver.specs.Stored.{IsOf, IsStored};
 
 use crate::block_bytes::BlockBytes;
+use crate::esis::Esis;
+use crate::put_fault::PutFault;
 use crate::scratch::Scratch;
 use crate::store::Store;
-use crate::stored::{Pending, PutFault, Stored};
 use alc::Packet;
 use block_code::BlockCodes;
 use partition::Fti;
 use std::alloc::Global;
 
-impl Stored {
-    // Puts the packet's symbol, and answers whether it solved the block.
+impl Esis {
+    // Puts the packet's symbol to its block, and answers whether it solved the block.
     fn put<B: BlockBytes>(
         &mut self,
         alloc: Global,
@@ -27,100 +29,31 @@ impl Stored {
         bytes: &mut B,
     ) -> Result<bool, PutFault>
         requires given { MayPut fti.now codes.now packet.now scratch.old }
-        requires of { IsOf fti.now packet.now.sbn (Some self.old) }
+        requires of { IsOf fti.now packet.now.sbn (esis_of self.old packet.now.sbn) }
         ensures keeps { MayPut fti.now codes.now packet.now scratch.new }
-        ensures of { IsOf fti.now packet.now.sbn (Some self.new) }
-        ensures solves { Solves result (Some self.old) (Some self.new) }
+        ensures of { IsOf fti.now packet.now.sbn (esis_of self.new packet.now.sbn) }
+        ensures others { (a : ℕ) → packet.now.sbn ≢ a → esis_of self.new a ≡ esis_of self.old a }
+        ensures solves { Solves fti.now packet.now.sbn result (esis_of self.old packet.now.sbn)
+            (esis_of self.new packet.now.sbn) }
         ensures outcome { (x : ℕ → List ℕ) (at : ℕ → Option (List ℕ))
             → B.kept bytes.old fti.now ≡ Some x
-            → IsStored fti.now packet.now.sbn (x packet.now.sbn) (Some self.old) at
+            → IsStored fti.now packet.now.sbn (x packet.now.sbn)
+            (esis_of self.old packet.now.sbn) at
             → HaveLength fti.now.symbol_length at
             → BlockOutcome fti.now packet.now at
             (bytes_change B.BlockBytes fti.now x bytes.new) result
-            (λ _ y. IsStored fti.now packet.now.sbn y (Some self.new))
-            (λ y. IsStored fti.now packet.now.sbn y (Some self.new) at) }
+            (λ _ y. IsStored fti.now packet.now.sbn y (esis_of self.new packet.now.sbn))
+            (λ y. IsStored fti.now packet.now.sbn y (esis_of self.new packet.now.sbn) at) }
     {
-        let solved = match self {
-            Stored::Pending(pending) => {
-                let Some(solved) = pending.put(alloc, fti, codes, packet, scratch, bytes)? else {
-                    return Ok(false);
-                };
-                solved
-            }
-            Stored::Solved(solved) => {
-                solved.put(alloc, fti, codes, packet, scratch, bytes)?;
-                return Ok(false);
-            }
-        };
-        *self = Stored::Solved(solved);
-        Ok(true)
+        if self.get(packet.sbn).len() < fti.k(packet.sbn) {
+            return self.put_to_pending(alloc, fti, codes, packet, scratch, bytes);
+        }
+        self.put_to_solved(alloc, fti, codes, packet, scratch, bytes)?;
+        Ok(false)
     }
 }
 
 impl Store {
-    // Puts the first symbol of a block, and answers whether it solved the block.
-    fn begin<B: BlockBytes>(
-        &mut self,
-        alloc: Global,
-        packet: &Packet<'_>,
-        bytes: &mut B,
-    ) -> Result<bool, PutFault>
-        requires parts { HasParts self.old }
-        requires number { packet.now.sbn < block_count self.old.fti }
-        requires esi { packet.now.esi < encoding_count self.old.fti packet.now.sbn }
-        requires symbol { length packet.now.symbol.now ≡ self.old.fti.symbol_length }
-        requires new { kept_of self.old packet.now.sbn ≡ None }
-        ensures fti { self.new.fti ≡ self.old.fti }
-        ensures count { self.new.solved ≡ self.old.solved }
-        ensures parts { HasParts self.new }
-        ensures solves { Solves result (kept_of self.old packet.now.sbn)
-            (kept_of self.new packet.now.sbn) }
-        ensures others { (a : ℕ) → packet.now.sbn ≢ a
-            → kept_of self.new a ≡ kept_of self.old a }
-        ensures outcome { (at : ℕ → ℕ → Option (List ℕ))
-            → HoldsIn self.old (B.kept bytes.old self.old.fti) at
-            → StoreOutcome self.old.fti (B.kept bytes.new self.old.fti) (B.failed bytes.new) at
-            packet.now result self.new }
-    {
-        let mut stored = Stored::Pending(Pending::new(alloc, self.fti.k(packet.sbn)));
-        let scratch = &mut self.scratch;
-        let solved = stored.put(alloc, &self.fti, &self.codes, packet, scratch, bytes)?;
-        let Ok(_) = self.blocks.insert(packet.sbn, stored) else {
-            return Err(PutFault::NoMemory);
-        };
-        Ok(solved)
-    }
-
-    // Puts the packet's symbol to its block, and answers whether it solved the block.
-    fn put_to_block<B: BlockBytes>(
-        &mut self,
-        alloc: Global,
-        packet: &Packet<'_>,
-        bytes: &mut B,
-    ) -> Result<bool, PutFault>
-        requires parts { HasParts self.old }
-        requires number { packet.now.sbn < block_count self.old.fti }
-        requires esi { packet.now.esi < encoding_count self.old.fti packet.now.sbn }
-        requires symbol { length packet.now.symbol.now ≡ self.old.fti.symbol_length }
-        ensures fti { self.new.fti ≡ self.old.fti }
-        ensures count { self.new.solved ≡ self.old.solved }
-        ensures parts { HasParts self.new }
-        ensures solves { Solves result (kept_of self.old packet.now.sbn)
-            (kept_of self.new packet.now.sbn) }
-        ensures others { (a : ℕ) → packet.now.sbn ≢ a
-            → kept_of self.new a ≡ kept_of self.old a }
-        ensures outcome { (at : ℕ → ℕ → Option (List ℕ))
-            → HoldsIn self.old (B.kept bytes.old self.old.fti) at
-            → StoreOutcome self.old.fti (B.kept bytes.new self.old.fti) (B.failed bytes.new) at
-            packet.now result self.new }
-    {
-        let scratch = &mut self.scratch;
-        match self.blocks.get_mut(&packet.sbn) {
-            Some(stored) => stored.put(alloc, &self.fti, &self.codes, packet, scratch, bytes),
-            None => self.begin(alloc, packet, bytes),
-        }
-    }
-
     /// Puts the packet's symbol, which the FTI has.
     pub(crate) fn put<B: BlockBytes>(
         &mut self,
@@ -140,7 +73,11 @@ impl Store {
             packet.now result self.new }
     {
         self.fti.is_valid();
-        if self.put_to_block(alloc, packet, bytes)? {
+        let scratch = &mut self.scratch;
+        if self
+            .esis
+            .put(alloc, &self.fti, &self.codes, packet, scratch, bytes)?
+        {
             self.solved += 1;
         }
         Ok(())

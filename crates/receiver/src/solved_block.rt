@@ -1,21 +1,26 @@
 //! A block that has as many symbols as it needs.
-ghost use Rattle.std.specs.Prelude.{◌≡◌, ℕ, List, Option, Some, Err, false};
+ghost use Rattle.std.specs.Prelude.{◌≡◌, ◌≢◌, ◌≤◌, ℕ, List, Option, Some, length};
+ghost use Rattle.partition.specs.Fti.{source_count};
 ghost use Rattle.decoder.specs.Blocks.{HaveLength};
+ghost use Rattle.receiver.specs.Esis.{esis_of};
 ghost use Rattle.receiver.specs.Putting.{MayPut, BlockOutcome, bytes_change};
-ghost use Rattle.receiver.specs.Stored.{IsSolvedOf, IsSolved};
+ghost use Rattle.receiver.specs.Stored.{IsOf, IsSolved};
 
 use crate::block_bytes::BlockBytes;
+use crate::esis::Esis;
+use crate::pending_block::place_of;
+use crate::put_fault::PutFault;
 use crate::scratch::Scratch;
-use crate::stored::{PutFault, Solved};
 use alc::Packet;
 use block_code::BlockCodes;
 use decoder::gives;
 use partition::Fti;
 use std::alloc::Global;
 
-impl Solved {
-    /// Puts the packet's symbol: it is compared with the one that the source symbols give.
-    pub(crate) fn put<B: BlockBytes>(
+impl Esis {
+    /// Puts the packet's symbol to a block that is solved: it is compared with the one that the
+    /// source symbols give. That it came is noted where it is that one.
+    pub(crate) fn put_to_solved<B: BlockBytes>(
         &mut self,
         alloc: Global,
         fti: &Fti,
@@ -25,21 +30,27 @@ impl Solved {
         bytes: &mut B,
     ) -> Result<(), PutFault>
         requires given { MayPut fti.now codes.now packet.now scratch.old }
-        requires of { IsSolvedOf fti.now packet.now.sbn self.old }
+        requires of { IsOf fti.now packet.now.sbn (esis_of self.old packet.now.sbn) }
+        requires enough { source_count fti.now packet.now.sbn
+            ≤ length (esis_of self.old packet.now.sbn) }
         ensures keeps { MayPut fti.now codes.now packet.now scratch.new }
-        ensures of { IsSolvedOf fti.now packet.now.sbn self.new }
+        ensures of { IsOf fti.now packet.now.sbn (esis_of self.new packet.now.sbn) }
+        ensures enough { source_count fti.now packet.now.sbn
+            ≤ length (esis_of self.new packet.now.sbn) }
+        ensures others { (a : ℕ) → packet.now.sbn ≢ a → esis_of self.new a ≡ esis_of self.old a }
         ensures outcome { (x : ℕ → List ℕ) (at : ℕ → Option (List ℕ))
             → B.kept bytes.old fti.now ≡ Some x
-            → IsSolved fti.now packet.now.sbn (x packet.now.sbn) self.old at
+            → IsSolved fti.now packet.now.sbn (x packet.now.sbn)
+            (esis_of self.old packet.now.sbn) at
             → HaveLength fti.now.symbol_length at
             → BlockOutcome fti.now packet.now at
             (bytes_change B.BlockBytes fti.now x bytes.new) result
-            (λ _ y. IsSolved fti.now packet.now.sbn y self.new)
-            (λ y. IsSolved fti.now packet.now.sbn y self.new at) }
+            (λ _ y. IsSolved fti.now packet.now.sbn y (esis_of self.new packet.now.sbn))
+            (λ y. IsSolved fti.now packet.now.sbn y (esis_of self.new packet.now.sbn) at) }
     {
         fti.is_valid();
         let size = usize::from(fti.symbol_length());
-        let Ok(mut rows) = scratch.room(alloc, self.need, size) else {
+        let Ok(mut rows) = scratch.room(alloc, fti.k(packet.sbn), size) else {
             return Err(PutFault::NoMemory);
         };
         let Ok(()) = bytes.read(fti, packet.sbn, 0, &mut rows.bytes) else {
@@ -50,15 +61,21 @@ impl Solved {
             return Err(PutFault::NoMemory);
         };
         scratch.rows = Some(rows);
-        let place = usize::from(esi);
-        if given {
-            self.seen[place] = true;
+        let came = place_of(self.get(packet.sbn), esi).is_some();
+        if !given {
+            return Err(if came {
+                PutFault::Clash
+            } else {
+                PutFault::NotCode
+            });
+        }
+        if came {
             return Ok(());
         }
-        if self.seen[place] {
-            Err(PutFault::Clash)
-        } else {
-            Err(PutFault::NotCode)
-        }
+        let Ok(()) = self.reserve(alloc, packet.sbn) else {
+            return Err(PutFault::NoMemory);
+        };
+        self.push(packet.sbn, esi);
+        Ok(())
     }
 }

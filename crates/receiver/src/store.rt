@@ -1,18 +1,18 @@
 //! What is kept of an object.
+use crate::esis::Esis;
 use crate::scratch::Scratch;
-use crate::stored::Stored;
 use block_code::{BlockCodes, Kind};
 use partition::Fti;
 use std::alloc::{AllocError, Global};
-use std::collections::BTreeMap;
 
 /// What is kept of an object whose FTI is known, beside the bytes of its blocks.
 #[derive(Drop)]
 pub(crate) struct Store {
     pub(crate) fti: Fti,
     pub(crate) codes: BlockCodes,
-    /// By source block number what is kept of a block. Of the others nothing came.
-    pub(crate) blocks: BTreeMap<u32, Stored>,
+    /// Which symbols came. A block of which as many did as it needs is solved: its bytes are its
+    /// source symbols. Those of another are the symbols that came, in the order in which they did.
+    pub(crate) esis: Esis,
     /// How many blocks are solved.
     pub(crate) solved: u32,
     pub(crate) scratch: Scratch,
@@ -29,11 +29,12 @@ impl Store {
         ensures holds { (bytes : ℕ → List ℕ)
             → IfOk result (λ s. Holds s bytes (λ b j. None)) }
     {
+        fti.is_valid();
         let codes = BlockCodes::new(alloc, Kind::Generator, &fti)?;
         Ok(Store {
             fti,
             codes,
-            blocks: BTreeMap::new(alloc),
+            esis: Esis::new(alloc, fti.n(0)),
             solved: 0,
             scratch: Scratch::new(),
         })

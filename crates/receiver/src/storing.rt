@@ -11,7 +11,6 @@ ghost use Rattle.receiver.specs.Receiving.{stored_count};
 
 use crate::receiver::Receiver;
 use crate::store::Store;
-use crate::stored::Stored;
 
 impl Store {
     // How many symbols of a block are kept.
@@ -22,11 +21,10 @@ impl Store {
             (length (filter (λ j. is_some (at block j))
             (below (encoding_count self.now.fti block)))) }
     {
-        match self.blocks.get(&block) {
-            None => 0,
-            Some(Stored::Pending(pending)) => pending.esis.len(),
-            Some(Stored::Solved(solved)) => solved.need,
+        if block >= self.fti.block_count() {
+            return 0;
         }
+        self.esis.get(block).len().min(self.fti.k(block))
     }
 }
 

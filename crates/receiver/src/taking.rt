@@ -8,7 +8,7 @@ ghost use Rattle.partition.specs.Fti.{block_count};
 ghost use Rattle.reception.specs.Answer.{Object, IsAnswer};
 ghost use Rattle.decoder.specs.Answers.{answer_value, IsNoFault};
 ghost use Rattle.decoder.specs.Decoded.{IsShort};
-ghost use Rattle.receiver.specs.Holds.{Holds, kept_of, is_solved};
+ghost use Rattle.receiver.specs.Holds.{Holds, has_solved};
 ghost use Rattle.receiver.specs.Held.{held_of};
 ghost use Rattle.partition.specs.Fti.{Fti as FtiValue};
 ghost use Rattle.receiver.specs.Filed.{IsLack};
@@ -22,7 +22,6 @@ use crate::held_blocks::HeldBlocks;
 use crate::receiver::Receiver;
 use crate::receiving::Receiving;
 use crate::store::Store;
-use crate::stored::Stored;
 use decoder::{Answer, Short};
 use partition::Fti;
 use session::{Failed, Write, write_all};
@@ -35,20 +34,18 @@ impl Store {
         ensures short { (bytes : ℕ → List ℕ) (at : ℕ → ℕ → Option (List ℕ))
             → Holds self.now bytes at
             → IfSome result (IsShortBlock self.now.fti b (at b)) }
-        ensures none { IsNone result → is_solved (kept_of self.now b) ≡ true }
+        ensures none { IsNone result → has_solved self.now b ≡ true }
     {
-        match self.blocks.get(&b) {
-            None => Some(Short {
+        let have = self.esis.get(b).len();
+        let need = self.fti.k(b);
+        if have < need {
+            Some(Short {
                 block: b,
-                have: 0,
-                need: self.fti.k(b),
-            }),
-            Some(Stored::Pending(pending)) => Some(Short {
-                block: b,
-                have: pending.esis.len(),
-                need: pending.need,
-            }),
-            Some(Stored::Solved(_)) => None,
+                have,
+                need,
+            })
+        } else {
+            None
         }
     }
 

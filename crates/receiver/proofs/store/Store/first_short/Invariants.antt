@@ -1,6 +1,6 @@
 use Rattle.std.proofs.Common.{◌≡◌, ◌<◌, ℕ, true}
-use Rattle.receiver.specs.Holds.{kept_of, is_solved}
+use Rattle.receiver.specs.Holds.{has_solved}
 use Rattle.receiver.proofs.store.Store.first_short.Given as goal
 
 abbrev pub invariant-loop-b : goal.invariant-loop-b
-invariant-loop-b l = (a : ℕ) → a < l.b → is_solved (kept_of l.self a) ≡ true
+invariant-loop-b l = (a : ℕ) → a < l.b → has_solved l.self a ≡ true

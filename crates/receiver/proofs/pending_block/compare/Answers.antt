@@ -4,14 +4,14 @@ use Rattle.partition.proofs.Laws.{counts}
 use Rattle.receiver.specs.Stored.{symbol_in}
 use Rattle.receiver.proofs.Among.{place_fits}
 use Rattle.receiver.proofs.Told.{told_bytes, differ, all_of}
-use Rattle.receiver.proofs.stored.Pending.compare.Goals as goal
+use Rattle.receiver.proofs.pending_block.compare.Goals as goal
 
 pub overflow_mul-place : goal.overflow_mul-place
 overflow_mul-place g c =
     let f = c.args.fti.now in
-    let few = c.args.self.now.few in
+    let few = c.requires.few in
     let most = (counts f c.symbol_length.ensures.valid c.args.packet.now.sbn c.requires.number).1 in
-    let w = place_fits c.args.place c.from-size.result (omega (arith, few, most, c.requires.of.need, c.requires.place.0))
+    let w = place_fits c.args.place c.from-size.result (omega (arith, few, most, c.requires.place.0))
     (omega (arith, c.from-size.ensures, c.symbol_length.type_inv)) in
     omega (arith, w)
 

@@ -1,0 +1,79 @@
+use Rattle.std.proofs.Common.{◌≡◌, ◌∙◌, ◌+◌, ◌++◌, ◌∷◌, [], Some, List, ℕ, Option, length, length-append, ap, sym, subst, rules, arith, inl, inr, le-leb}
+use Rattle.std.proofs.lemmas.Bool.{lt-leb}
+use Rattle.partition.specs.Fti.{Fti, source_count}
+use Rattle.decoder.specs.Arrivals.{with_esi}
+use Rattle.decoder.proofs.Kept.{with_same}
+use Rattle.receiver.specs.Bytes.{Becomes}
+use Rattle.receiver.specs.Esis.{esis_of}
+use Rattle.receiver.specs.Putting.{IsPutFault, UnlessFailed}
+use Rattle.receiver.specs.Stored.{IsOf, IsPending, IsStored, is_among}
+use Rattle.receiver.proofs.Among.{of_more}
+use Rattle.receiver.proofs.Told.{becomes_same, becomes_then, unless}
+use Rattle.receiver.proofs.esis.Esis.put_to_pending.Goals as goal
+
+pub returns-in_err-compare-clause-outcome : goal.returns-in_err-compare-clause-outcome
+returns-in_err-compare-clause-outcome g c = λ x at told h.
+    let f = c.args.fti.now in
+    let k = c.args.packet.now in
+    let own : IsPending f k.sbn (x k.sbn) c.get-esis.result.now at = subst (λ (l : List ℕ). IsPending f k.sbn (x k.sbn) l at) (sym c.get-esis.ensures) h in
+    let now = becomes_same x _ k.sbn (λ y. IsPending f k.sbn y (esis_of c.args.self.now k.sbn) at) (ap (λ (t : Fti → Option (ℕ → List ℕ)). t f) c.in_err-compare.ensures.stays ∙ told) h in
+    let d : UnlessFailed (g.B.BlockBytes.failed c.compare.new.bytes) c.in_err-compare.field-0.0 (IsPutFault f k.sbn at k.esi k.symbol.now c.in_err-compare.field-0.0
+    × Becomes x (g.B.BlockBytes.kept c.compare.new.bytes f) k.sbn (λ y. IsPending f k.sbn y (esis_of c.args.self.now k.sbn) at)) =
+    unless (g.B.BlockBytes.failed c.compare.new.bytes) c.in_err-compare.field-0.0 _ _ (λ fault. (fault, now)) (c.in_err-compare.ensures.outcome x at told own).1 in
+    (search rules, search rules)
+
+pub returns-in-Some-clause-outcome : goal.returns-in-Some-clause-outcome
+returns-in-Some-clause-outcome g c = λ x at told h.
+    let f = c.args.fti.now in
+    let k = c.args.packet.now in
+    let own : IsPending f k.sbn (x k.sbn) c.get-esis.result.now at = subst (λ (l : List ℕ). IsPending f k.sbn (x k.sbn) l at) (sym c.get-esis.ensures) h in
+    let stands : at k.esi ≡ Some k.symbol.now = (c.in_ok-compare.ensures.outcome x at told own).0 in
+    let now = becomes_same x _ k.sbn (λ y. IsStored f k.sbn y (esis_of c.args.self.now k.sbn) at) (ap (λ (t : Fti → Option (ℕ → List ℕ)). t f) c.in_ok-compare.ensures.stays ∙ told) (inl h) in
+    ((inr stands, rw (with_same at k.esi k.symbol.now stands) now), tt)
+
+pub returns-in_err-keep-clause-outcome : goal.returns-in_err-keep-clause-outcome
+returns-in_err-keep-clause-outcome g c = λ x at told h.
+    let d = (c.in_err-keep.ensures.outcome x at told h).1 in
+    (search rules, search rules)
+
+pub returns-then-esis-k-clause-of : goal.returns-then-esis-k-clause-of
+returns-then-esis-k-clause-of g c =
+    let k = c.args.packet.now in
+    let free = sym (c.in_default.ensures.among ∙ ap (λ (l : List ℕ). is_among l k.esi) c.get-esis.ensures) in
+    subst (λ (l : List ℕ). IsOf c.args.fti.now k.sbn l) (sym c.in_ok-keep.ensures.kept)
+    (of_more c.args.fti.now k.sbn (esis_of c.args.self.now k.sbn) k.esi c.requires.of c.requires.given.esi free)
+
+pub returns-then-esis-k-clause-outcome : goal.returns-then-esis-k-clause-outcome
+returns-then-esis-k-clause-outcome g c = λ x at told h.
+    let k = c.args.packet.now in
+    let d = (c.in_ok-keep.ensures.outcome x at told h).0 in
+    ((d.0, becomes_then x _ k.sbn _ _ (λ y pending. inl pending) d.1), tt)
+
+pub returns-in_err-solve-clause-outcome : goal.returns-in_err-solve-clause-outcome
+returns-in_err-solve-clause-outcome g c = λ x at told h.
+    let d = (c.in_err-solve.ensures.outcome x at told h).1 in
+    (search rules, search rules)
+
+pub returns-clause-of : goal.returns-clause-of
+returns-clause-of g c =
+    let k = c.args.packet.now in
+    let free = sym (c.in_default.ensures.among ∙ ap (λ (l : List ℕ). is_among l k.esi) c.get-esis.ensures) in
+    subst (λ (l : List ℕ). IsOf c.args.fti.now k.sbn l) (sym c.in_ok-solve.ensures.kept)
+    (of_more c.args.fti.now k.sbn (esis_of c.args.self.now k.sbn) k.esi c.requires.of c.requires.given.esi free)
+
+pub returns-clause-solves : goal.returns-clause-solves
+returns-clause-solves g c =
+    let f = c.args.fti.now in
+    let k = c.args.packet.now in
+    let esis = esis_of c.args.self.now k.sbn in
+    let more : length (esis_of c.solve.new.self k.sbn) ≡ length esis + 1 = ap length c.in_ok-solve.ensures.kept ∙ length-append esis (k.esi ∷ []) in
+    let last = ap length c.get-esis.ensures in (
+      lt-leb (source_count f k.sbn) (length esis) c.requires.few,
+      le-leb (source_count f k.sbn) (length (esis_of c.solve.new.self k.sbn)) (omega (arith, more, last, c.if-esis-k.false, c.k.ensures.value)),
+    )
+
+pub returns-clause-outcome : goal.returns-clause-outcome
+returns-clause-outcome g c = λ x at told h.
+    let k = c.args.packet.now in
+    let d = (c.in_ok-solve.ensures.outcome x at told h).0 in
+    ((d.0, becomes_then x _ k.sbn _ _ (λ y solved. inr solved) d.1), tt)
