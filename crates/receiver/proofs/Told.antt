@@ -56,3 +56,8 @@ is_broken failed put.Clash P h is = absurd (cc)
 is_broken failed put.NotCode P h is = absurd (cc)
 is_broken failed put.NoMemory P h is = absurd (cc)
 is_broken failed put.Failed P h is = h
+
+-- what is so of a block's bytes where a symbol isn't put is so of what follows
+pub unless_then : (failed : Bool) (fault : PutFault) (P : Type 0) (x : ℕ → List ℕ) (new : Option (ℕ → List ℕ)) (b : ℕ) (Q R : List ℕ → Type 0) → ((y : List ℕ) → Q y → R y)
+    → UnlessFailed failed fault (P × Becomes x new b Q) → UnlessFailed failed fault (P × Becomes x new b R)
+unless_then failed fault P x new b Q R f = unless failed fault (P × Becomes x new b Q) (P × Becomes x new b R) (λ h. (h.0, becomes_then x new b Q R f h.1))

@@ -14,13 +14,13 @@
 //!   `blocks` says where there;
 //! - `feeding` takes one datagram more, and `taking` gives the answer, or writes the object block
 //!   by block; `storing` tells how much is kept;
-//! - `store`: what it keeps of an object beside bytes. Of each block these are the ESIs that came
-//!   (`esis`), and nothing else. While they are too few, the block's bytes are their symbols, one
+//! - `store`: what it keeps of an object beside bytes. Of each block these are the ESIs that came,
+//!   and nothing else (`esis`). While they are too few, the block's bytes are their symbols, one
 //!   behind the other (`pending_block`). From then on these are its source symbols
 //!   (`solved_block`). So a block has no more bytes than its source symbols. `putting` puts a
-//!   symbol where it goes, and walks not over the blocks. One that comes when the block is solved
-//!   is compared with what the source symbols give. `put_fault` says why one isn't put. `scratch`
-//!   is used again from block to block.
+//!   symbol where it goes. It walks over what came of the block, and not over the blocks. A symbol
+//!   that comes to a solved block is compared with what the source symbols give. `put_fault` says
+//!   why one isn't put. `scratch` is used again from block to block.
 #![tactic(auto)]
 
 mod block_bytes;

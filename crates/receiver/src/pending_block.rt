@@ -6,9 +6,8 @@ ghost use Rattle.partition.specs.Fti.{block_count, source_count, encoding_count}
 ghost use Rattle.decoder.specs.Blocks.{bytes_of_esi, HaveLength};
 ghost use Rattle.decoder.specs.Arrivals.{with_esi};
 ghost use Rattle.receiver.specs.Esis.{esis_of};
-ghost use Rattle.receiver.specs.Holds.{Solves};
 ghost use Rattle.receiver.specs.Putting.{MayPut, IsPutFault, Outcome, BlockOutcome, bytes_change};
-ghost use Rattle.receiver.specs.Stored.{IsOf, IsPending, IsSolved, IsStored, AreSymbols, is_among};
+ghost use Rattle.receiver.specs.Stored.{IsOf, IsPending, IsSolved, AreSymbols, is_among};
 
 use crate::block_bytes::{BlockBytes, BytesFault};
 use crate::esis::Esis;
@@ -84,8 +83,8 @@ fn symbols_with<'a>(
     Ok(symbols)
 }
 
-// Compares the packet's symbol with the one that came, at a place among those that did.
-fn compare<B: BlockBytes>(
+/// Compares the packet's symbol with the one that came, at a place among those that did.
+pub(crate) fn compare<B: BlockBytes>(
     alloc: Global,
     fti: &Fti,
     packet: &Packet<'_>,
@@ -120,19 +119,21 @@ fn compare<B: BlockBytes>(
 }
 
 impl Esis {
-    // Keeps the packet's symbol, where it isn't the last that its block needs.
-    fn keep<B: BlockBytes>(
+    /// Keeps the packet's symbol behind those that came of its block, so many, where it isn't the
+    /// last that the block needs.
+    pub(crate) fn keep<B: BlockBytes>(
         &mut self,
         alloc: Global,
         fti: &Fti,
         packet: &Packet<'_>,
+        have: usize,
         bytes: &mut B,
     ) -> Result<(), PutFault>
+        requires have { have ≡ length (esis_of self.old packet.now.sbn) }
         requires number { packet.now.sbn < block_count fti.now }
         requires symbol { length packet.now.symbol.now ≡ fti.now.symbol_length }
         requires esi { packet.now.esi < encoding_count fti.now packet.now.sbn }
-        requires few { length (esis_of self.old packet.now.sbn) + 1
-            < source_count fti.now packet.now.sbn }
+        requires few { have + 1 < source_count fti.now packet.now.sbn }
         requires free { is_among (esis_of self.old packet.now.sbn) packet.now.esi ≡ false }
         ensures kept { OnOk result (esis_of self.new packet.now.sbn
             ≡ esis_of self.old packet.now.sbn ++ packet.now.esi ∷ []) }
@@ -148,7 +149,7 @@ impl Esis {
             (λ _ y. IsPending fti.now packet.now.sbn y (esis_of self.new packet.now.sbn))
             (λ y. IsPending fti.now packet.now.sbn y (esis_of self.new packet.now.sbn) at) }
     {
-        let from = self.get(packet.sbn).len() * usize::from(fti.symbol_length());
+        let from = have * usize::from(fti.symbol_length());
         let Ok(()) = self.reserve(alloc, packet.sbn) else {
             return Err(PutFault::NoMemory);
         };
@@ -161,9 +162,9 @@ impl Esis {
         Ok(())
     }
 
-    // Solves the packet's block, by the symbols that came and this one, which is the last that it
-    // needs. Room for its ESI is made first: where the source symbols are written, it is noted.
-    fn solve<B: BlockBytes>(
+    /// Solves the packet's block, by the symbols that came and this one, which is the last that it
+    /// needs. Room for its ESI is made first: where the source symbols are written, it is noted.
+    pub(crate) fn solve<B: BlockBytes>(
         &mut self,
         alloc: Global,
         fti: &Fti,
@@ -223,47 +224,5 @@ impl Esis {
         scratch.rows = Some(rows);
         self.push(packet.sbn, packet.esi);
         Ok(())
-    }
-
-    /// Puts the packet's symbol to a block that has too few, and answers whether it solved the
-    /// block: whether it is the last that the block needs.
-    pub(crate) fn put_to_pending<B: BlockBytes>(
-        &mut self,
-        alloc: Global,
-        fti: &Fti,
-        codes: &BlockCodes,
-        packet: &Packet<'_>,
-        scratch: &mut Scratch,
-        bytes: &mut B,
-    ) -> Result<bool, PutFault>
-        requires given { MayPut fti.now codes.now packet.now scratch.old }
-        requires of { IsOf fti.now packet.now.sbn (esis_of self.old packet.now.sbn) }
-        requires few { length (esis_of self.old packet.now.sbn)
-            < source_count fti.now packet.now.sbn }
-        ensures keeps { MayPut fti.now codes.now packet.now scratch.new }
-        ensures of { IsOf fti.now packet.now.sbn (esis_of self.new packet.now.sbn) }
-        ensures others { (a : ℕ) → packet.now.sbn ≢ a → esis_of self.new a ≡ esis_of self.old a }
-        ensures solves { Solves fti.now packet.now.sbn result (esis_of self.old packet.now.sbn)
-            (esis_of self.new packet.now.sbn) }
-        ensures outcome { (x : ℕ → List ℕ) (at : ℕ → Option (List ℕ))
-            → B.kept bytes.old fti.now ≡ Some x
-            → IsPending fti.now packet.now.sbn (x packet.now.sbn)
-            (esis_of self.old packet.now.sbn) at
-            → BlockOutcome fti.now packet.now at
-            (bytes_change B.BlockBytes fti.now x bytes.new) result
-            (λ _ y. IsStored fti.now packet.now.sbn y (esis_of self.new packet.now.sbn))
-            (λ y. IsPending fti.now packet.now.sbn y (esis_of self.new packet.now.sbn) at) }
-    {
-        let esis = self.get(packet.sbn);
-        if let Some(place) = place_of(esis, packet.esi) {
-            compare(alloc, fti, packet, esis, place, bytes)?;
-            return Ok(false);
-        }
-        if esis.len() + 1 < fti.k(packet.sbn) {
-            self.keep(alloc, fti, packet, bytes)?;
-            return Ok(false);
-        }
-        self.solve(alloc, fti, codes, packet, scratch, bytes)?;
-        Ok(true)
     }
 }

@@ -9,6 +9,7 @@ ghost use Rattle.receiver.specs.Stored.{IsOf, IsStored};
 
 use crate::block_bytes::BlockBytes;
 use crate::esis::Esis;
+use crate::pending_block::{compare, place_of};
 use crate::put_fault::PutFault;
 use crate::scratch::Scratch;
 use crate::store::Store;
@@ -45,11 +46,23 @@ impl Esis {
             (λ _ y. IsStored fti.now packet.now.sbn y (esis_of self.new packet.now.sbn))
             (λ y. IsStored fti.now packet.now.sbn y (esis_of self.new packet.now.sbn) at) }
     {
-        if self.get(packet.sbn).len() < fti.k(packet.sbn) {
-            return self.put_to_pending(alloc, fti, codes, packet, scratch, bytes);
+        let esis = self.get(packet.sbn);
+        let have = esis.len();
+        let need = fti.k(packet.sbn);
+        if need <= have {
+            self.put_to_solved(alloc, fti, codes, packet, scratch, bytes)?;
+            return Ok(false);
         }
-        self.put_to_solved(alloc, fti, codes, packet, scratch, bytes)?;
-        Ok(false)
+        if let Some(place) = place_of(esis, packet.esi) {
+            compare(alloc, fti, packet, esis, place, bytes)?;
+            return Ok(false);
+        }
+        if have + 1 < need {
+            self.keep(alloc, fti, packet, have, bytes)?;
+            return Ok(false);
+        }
+        self.solve(alloc, fti, codes, packet, scratch, bytes)?;
+        Ok(true)
     }
 }
 
