@@ -20,7 +20,7 @@ use Rattle.reception.specs.Answer as value
 use Rattle.reception.proofs.OneAnswer.{one_answer, same_readings}
 use Rattle.reception.proofs.Within.{within}
 use Rattle.decoder.specs.Columns.{ColumnExplained}
-use Rattle.decoder.specs.Decoded.{IsEnoughAt, AreRows, Answers, IsShort}
+use Rattle.decoder.specs.Decoded.{IsEnoughAt, Answers, IsShort}
 use Rattle.decoder.specs.Received.{IsIndex, AreReceived}
 use Rattle.receiver.specs.Stored.{IsSolved, IsStored, is_solved}
 use Rattle.receiver.specs.Holds.{Holds, kept_of, has_solved}

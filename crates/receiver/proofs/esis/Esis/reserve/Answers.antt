@@ -1,7 +1,4 @@
-use Rattle.std.specs.BTreeMap.{get}
-use Rattle.std.specs.Ordering.{nat_cmp}
-use Rattle.std.proofs.Common.{◌≡◌, ◌∙◌, Some, sym, ap, subst, rules}
-use Rattle.receiver.specs.Esis.{HasRoomFor}
+use Rattle.std.proofs.Common.{rules}
 use Rattle.receiver.proofs.Noted.{on_ok, room_for}
 use Rattle.receiver.proofs.esis.Esis.reserve.Goals as goal
 

@@ -1,4 +1,4 @@
-use Rattle.std.proofs.Common.{◌≡◌, ◌<◌, ℕ, List, None, length, refl, sym, ap, subst, arith}
+use Rattle.std.proofs.Common.{◌<◌, ℕ, List, None, length, refl, sym, ap, subst, arith}
 use Rattle.std.proofs.lemmas.Bool.{lt-leb}
 use Rattle.partition.specs.Fti.{block_count, source_count}
 use Rattle.partition.proofs.Laws.{some_block, some_source}

@@ -1,4 +1,4 @@
-use Rattle.std.proofs.Common.{◌≡◌, ◌≢◌, ◌∙◌, ◌+◌, ℕ, refl, sym, ap, arith, rules}
+use Rattle.std.proofs.Common.{◌+◌, refl, sym, arith, rules}
 use Rattle.receiver.specs.Holds.{HoldsIn}
 use Rattle.receiver.specs.Putting.{IsPutFault, UnlessFailed}
 use Rattle.receiver.specs.declared.store.Store.{Store}

@@ -1,4 +1,4 @@
-use Rattle.std.proofs.Common.{◌≡◌, ◌∙◌, ap, sym, arith, length}
+use Rattle.std.proofs.Common.{ap, arith, length}
 use Rattle.partition.specs.Fti.{encoding_count}
 use Rattle.receiver.specs.Holds.{kept_of}
 use Rattle.receiver.proofs.Pending.{kept_count, none_past}
