@@ -13,7 +13,8 @@ esis_in (Some lists) i = list_at lists i
 
 -- those of a block
 abbrev pub esis_of : Esis → ℕ → List ℕ
-esis_of esis b = esis_in (get nat_cmp esis.shares (share_of esis.sharing b)) (index_of esis.sharing b)
+esis_of esis b =
+    esis_in (get nat_cmp esis.shares (share_of esis.sharing b)) (index_of esis.sharing b)
 
 -- one more of a block can be noted without memory
 pub record HasRoomFor (esis : Esis) (b : ℕ) : Type 0 where
