@@ -1,7 +1,6 @@
 -- Symbols that came of a block, and where they stand.
-use Rattle.std.specs.Prelude.{◌==◌, ◌&&◌, ℕ, Bool, false, if◌then◌else◌, List, [], ◌∷◌, length}
-use Rattle.std.specs.Prelude.{filter, slice_index_or, Option, Some, None}
-use Rattle.lists.specs.Below.{below}
+use Rattle.std.specs.Prelude.{◌==◌, ◌&&◌, ℕ, Bool, false, if◌then◌else◌, List, [], ◌∷◌}
+use Rattle.std.specs.Prelude.{slice_index_or, Option, Some, None}
 use Rattle.decoder.specs.declared.arrivals.Arrival.{Arrival}
 
 -- with one symbol more of a block
@@ -21,10 +20,6 @@ arrived_at held arrivals = with_arrived held (λ j. None) arrivals
 -- whether the symbol at an ESI was seen
 abbrev pub seen_at : List Bool → ℕ → Bool
 seen_at seen j = slice_index_or seen j false
-
--- how many ESIs were seen
-abbrev pub seen_count : List Bool → ℕ
-seen_count seen = length (filter (seen_at seen) (below (length seen)))
 
 -- with one symbol more
 abbrev pub with_symbol : (ℕ → ℕ → Option (List ℕ)) → ℕ → ℕ → List ℕ → ℕ → ℕ → Option (List ℕ)
