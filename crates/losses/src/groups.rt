@@ -32,8 +32,8 @@ impl Groups {
     ghost use Rattle.losses.specs.Groups.{different as different_of, group_at, groups_of};
     ghost use Rattle.losses.specs.Groups.{group_without, with_member};
 
-    /// A group for each need, without members. The lengths say about how many members a group will
-    /// have.
+    /// A group for each need, without members. By about how many members each will have it is chosen
+    /// how many groups share an allocation.
     pub fn new(alloc: Global, needs: Vec<u8>, lengths: usize) -> Result<Groups, AllocError>
         requires { length needs.items < 2 ^ 32 }
         ensures { IfOk result (λ groups. groups_of groups ≡ map group_without needs.items) }
