@@ -21,7 +21,7 @@ pub struct Member {
 pub struct Groups {
     // How many symbols of different ESIs each block needs.
     needs: Vec<u8>,
-    // Members of neighbouring groups share an allocation: most groups may have a single one.
+    // Their members. Those of neighbouring groups share an allocation.
     sharing: Sharing,
     shares: Vec<SharedLists<Member>>,
     ghost few: { length needs.items < 2 ^ 32 },
