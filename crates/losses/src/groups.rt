@@ -32,7 +32,7 @@ impl Groups {
     ghost use Rattle.losses.specs.Groups.{different as different_of, group_at, groups_of};
     ghost use Rattle.losses.specs.Groups.{group_without, with_member};
 
-    /// A group for each need, without members. By about how many members each will have it is chosen
+    /// A group for each need, without members. By about how many members each will have it's chosen
     /// how many groups share an allocation.
     pub fn new(alloc: Global, needs: Vec<u8>, lengths: usize) -> Result<Groups, AllocError>
         requires { length needs.items < 2 ^ 32 }
