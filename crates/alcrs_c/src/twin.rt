@@ -201,7 +201,8 @@ pub extern "C" fn alcrs_twin(
         × (text_fault certificate.now ≡ Some e) × (fault.new ≡ told_certificate e) }
     ensures stays { result ≢ ok → twin.new ≡ twin.old }
     ensures sizeless { result ≢ ok → result ≢ no_room → size.new ≡ size.old }
-    ensures silent { IsOneOf (none_short ∷ no_memory ∷ []) result → fault.new ≡ fault.old }
+    ensures silent { IsOneOf (none_short ∷ no_memory ∷ []) result
+        → fault.new ≡ fault.old }
     ensures statuses { IsOneOf
         (ok ∷ no ∷ no_session ∷ no_certificate ∷ no_room ∷ no_memory ∷ none_short ∷ [])
         result }

@@ -11,10 +11,13 @@ use Rattle.std.proofs.lemmas.Grind.{get_or-set_at}
 use Rattle.std.proofs.lemmas.List.{take_more, get_or-set_other}
 use Rattle.decoder.specs.Blocks.{bytes_of_esi}
 use Rattle.decoder.specs.Arrivals.{with_esi, with_arrived, arrived_at, seen_at}
-use Rattle.decoder.specs.Received.{arrived_of, came_at}
+use Rattle.shared_lists.specs.SharedLists.{list_at, share_of, index_of}
+use Rattle.shared_lists.specs.declared.sharing.Sharing.{Sharing}
+use Rattle.shared_lists.proofs.Numbers.{apart}
+use Rattle.decoder.specs.Received.{came_at, listed}
 use Rattle.decoder.specs.declared.symbols.Symbols.{Symbols}
 use Rattle.decoder.specs.declared.arrivals.Arrival.{Arrival}
-use Rattle.decoder.specs.declared.block_arrivals.BlockArrivals.{BlockArrivals}
+use Rattle.decoder.specs.declared.shared_arrivals.SharedArrivals.{SharedArrivals}
 use Rattle.decoder.proofs.Index.{number_eq}
 use Rattle.decoder.proofs.Kept.{with_here, with_other}
 
@@ -117,18 +120,36 @@ arrived_or {S} held s b None d came is empty none some j =
     ap (λ (l : List (Arrival S)). arrived_at held l j) (ap (λ (x : Bor (List (Arrival S))). x.now) is ∙ empty) ∙ sym (none refl held j)
 arrived_or {S} held s b (Some v) d came is empty none some j = ap (λ (x : Bor (List (Arrival S))). arrived_at held x.now j) is ∙ some held j
 
--- in a map in which a block has one symbol more, all else is as before
-pub more_elsewhere : {S : Type 0} (held : S → List ℕ) (m new : BTreeMap ℕ (BlockArrivals S)) (block : ℕ) (v w : BlockArrivals S) (a : Arrival S) → get nat_cmp m block ≡ Some v
-    → get nat_cmp new block ≡ Some w
-    → ((q : ℕ) → is_eq (nat_cmp block q) ≡ false → get nat_cmp new q ≡ get nat_cmp m q) → w.list.items ≡ v.list.items ++ a ∷ []
-    → (b j : ℕ) → (block == b && a.esi == j) ≡ false → arrived_of held (get nat_cmp new b) j ≡ arrived_of held (get nat_cmp m b) j
-more_elsewhere {S} held m new block v w a was is others items b j other = elim (cases_eq block b) [
-  | inr ne ↦ ap (λ (o : Option (BlockArrivals S)). arrived_of held o j) (others b (sym (number_eq block b) ∙ ne_eqb block b ne))
+-- where one block has one symbol more, all else is as before
+pub more_elsewhere : {S : Type 0} (held : S → List ℕ) (old new : ℕ → List (Arrival S)) (block : ℕ) (a : Arrival S) → new block ≡ old block ++ a ∷ []
+    → ((b : ℕ) → (block == b) ≡ false → new b ≡ old b) → (b j : ℕ) → (block == b && a.esi == j) ≡ false → arrived_at held (new b) j ≡ arrived_at held (old b) j
+more_elsewhere {S} held old new block a more others b j other = elim (cases_eq block b) [
+  | inr ne ↦ ap (λ (l : List (Arrival S)). arrived_at held l j) (others b (ne_eqb block b ne))
   | inl same ↦ elim (cases_eq a.esi j) [
     | inl e ↦ absurd (let t = rw (eq-eqb block b same, eq-eqb a.esi j e) at other in cc)
-    | inr ne ↦ rw (← same, was, is) (
-        ap (λ (l : List (Arrival S)). arrived_at held l j) items
-        ∙ ap (λ (g : ℕ → Option (List ℕ)). g j) (arrived_more held v.list.items a)
-        ∙ with_other (arrived_at held v.list.items) a.esi j (held a.symbol) ne)
+    | inr ne ↦ rw (← same) (
+        ap (λ (l : List (Arrival S)). arrived_at held l j) more
+        ∙ ap (λ (g : ℕ → Option (List ℕ)). g j) (arrived_more held (old block) a)
+        ∙ with_other (arrived_at held (old block)) a.esi j (held a.symbol) ne)
   ]
 ]
+
+-- what a symbol changes that is put among those of the blocks that share an allocation
+module _ {S : Type 0} (sharing : Sharing) (m new : BTreeMap ℕ (SharedArrivals S)) (block share index : ℕ) (at_share : share ≡ share_of sharing block) (at_index : index ≡ index_of sharing block)
+    (w : SharedArrivals S) (old : ℕ → List (Arrival S)) (a : Arrival S) (was : (i : ℕ) → listed (get nat_cmp m share) i ≡ old i) (is : get nat_cmp new share ≡ Some w)
+    (others : (q : ℕ) → is_eq (nat_cmp share q) ≡ false → get nat_cmp new q ≡ get nat_cmp m q) (pushed : list_at w.lists index ≡ old index ++ a ∷ [])
+    (kept : (i : ℕ) → index ≢ i → list_at w.lists i ≡ old i) where
+  pub list_more : listed (get nat_cmp new (share_of sharing block)) (index_of sharing block) ≡ listed (get nat_cmp m (share_of sharing block)) (index_of sharing block) ++ a ∷ []
+  list_more = rw (← at_share, ← at_index) (
+      ap (λ (o : Option (SharedArrivals S)). listed o index) is ∙ pushed ∙ ap (λ (l : List (Arrival S)). l ++ a ∷ []) (sym (was index)))
+
+  pub list_others : (b : ℕ) → (block == b) ≡ false
+      → listed (get nat_cmp new (share_of sharing b)) (index_of sharing b) ≡ listed (get nat_cmp m (share_of sharing b)) (index_of sharing b)
+  list_others b other = elim (cases_eq share (share_of sharing b)) [
+    | inr ne ↦ ap (λ (o : Option (SharedArrivals S)). listed o (index_of sharing b)) (others (share_of sharing b) (sym (number_eq share (share_of sharing b)) ∙ ne_eqb share (share_of sharing b) ne))
+    | inl same ↦
+        (let differs : block ≢ b = λ e. let t = rw (eq-eqb block b e) at other in cc in
+        let away : index ≢ index_of sharing b = λ e. apart sharing block b differs (sym at_share ∙ same) (sym at_index ∙ e) in
+        rw (← same) (
+        ap (λ (o : Option (SharedArrivals S)). listed o (index_of sharing b)) is ∙ kept (index_of sharing b) away ∙ sym (was (index_of sharing b))))
+  ]

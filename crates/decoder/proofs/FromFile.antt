@@ -2,8 +2,6 @@
 use Rattle.std.specs.Prelude.{is_some, IfSome, IsNone, Result, Ok, Err, IfOk}
 use Rattle.std.specs.Option.{unwrap_or}
 use Rattle.std.specs.Borrow.{Bor}
-use Rattle.std.specs.BTreeMap.{get}
-use Rattle.std.specs.Ordering.{nat_cmp}
 use Rattle.std.proofs.Common.{◌≡◌, ℕ, ◌<◌, ◌≤◌, Bool, List, [], ◌∷◌, Option, Some, None, length, refl, sym, ap, subst, ◌∙◌, inl, inr, arith}
 use Rattle.std.proofs.lemmas.Bool.{cases_eq}
 use Rattle.lists.specs.Below.{below}
@@ -32,9 +30,8 @@ use Rattle.reception.specs.Walks.{readings_of}
 use Rattle.decoder.specs.Arrivals.{with_esi, with_arrived}
 use Rattle.decoder.specs.Blocks.{bytes_of_esi, HaveLength}
 use Rattle.decoder.specs.Decoded.{IsEnoughAt}
-use Rattle.decoder.specs.Received.{arrived_of, came_at}
+use Rattle.decoder.specs.Received.{came_at, list_of}
 use Rattle.decoder.specs.declared.arrivals.Arrival.{Arrival}
-use Rattle.decoder.specs.declared.block_arrivals.BlockArrivals.{BlockArrivals}
 use Rattle.decoder.specs.declared.symbols.Symbols.{Symbols}
 use Rattle.decoder.proofs.Answering.{read_all}
 use Rattle.decoder.proofs.BlockRows.{stands_within}
@@ -56,12 +53,8 @@ with_any h k (x ∷ xs) a b same j = with_any h k xs (with_esi a x.esi (h x.symb
   | inr ne ↦ (ap is_some (with_other a x.esi i (h x.symbol) ne) ∙ same i ∙ sym (ap is_some (with_other b x.esi i (k x.symbol) ne)))
 ]) j
 
-of_any : {S : Type 0} (h k : S → List ℕ) (o : Option (BlockArrivals S)) (j : ℕ) → is_some (arrived_of h o j) ≡ is_some (arrived_of k o j)
-of_any h k None j = refl
-of_any h k (Some v) j = with_any h k v.list.items (λ i. None) (λ i. None) (λ i. refl) j
-
 pub some_any : {S : Type 0} (h k : S → List ℕ) (s : Symbols S) (b j : ℕ) → is_some (came_at h s b j) ≡ is_some (came_at k s b j)
-some_any h k s b j = of_any h k (get nat_cmp s.blocks b) j
+some_any h k s b j = with_any h k (list_of s b) (λ i. None) (λ i. None) (λ i. refl) j
 
 module _ (f : Fti) (b : ℕ) (again : ℕ → Option (List ℕ)) (received : List (Option (Bor (List ℕ)))) (len : length received ≡ encoding_count f b)
     (same : (j : ℕ) → j < length received → bytes_of_esi received j ≡ again j) where

@@ -13,7 +13,7 @@ use Rattle.decoder.specs.Decoded.{AreWithin, AreRows, IsEnoughAt, Stand}
 use Rattle.decoder.specs.Received.{IsIndex}
 use Rattle.decoder.specs.Unsolvable.{AreSound, IsSound, IsUnsound, SomeUnsound}
 use Rattle.decoder.proofs.Counts.{held_is, none_more_held}
-use Rattle.decoder.proofs.Listing.{Stands}
+use Rattle.decoder.specs.Listed.{Stands}
 use Rattle.decoder.proofs.Solving.{solvable_from, solvable_gives}
 use Rattle.decoder.proofs.Those.{none_below}
 

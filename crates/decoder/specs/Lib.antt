@@ -21,5 +21,6 @@ pub mod Enough
 pub mod Indexing
 pub mod GatheringIn
 pub mod FileFaults
+pub mod Listed
 pub mod PlacesOf
 pub mod ReadAgain

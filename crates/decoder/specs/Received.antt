@@ -4,6 +4,7 @@ use Rattle.std.specs.Borrow.{Bor}
 use Rattle.std.specs.BTreeMap.{get}
 use Rattle.std.specs.List.{AllByRecursion}
 use Rattle.std.specs.Ordering.{nat_cmp}
+use Rattle.shared_lists.specs.SharedLists.{list_at, share_of, index_of}
 use Rattle.partition.specs.Fti.{Fti}
 use Rattle.reception.specs.declared.scope.Identity.{Identity}
 use Rattle.reception.specs.Symbols.{Symbol, is_of, has_arrived}
@@ -12,26 +13,21 @@ use Rattle.reception.specs.Walks.{readings_of}
 use Rattle.reception.specs.Answer.{Empty, AnswerTo, reception_of}
 use Rattle.decoder.specs.Arrivals.{arrived_at}
 use Rattle.decoder.specs.declared.arrivals.Arrival.{Arrival}
-use Rattle.decoder.specs.declared.block_arrivals.BlockArrivals.{BlockArrivals}
+use Rattle.decoder.specs.declared.shared_arrivals.SharedArrivals.{SharedArrivals}
 use Rattle.decoder.specs.declared.symbols.Symbols.{Symbols}
 
--- the bytes of the symbol that came of a block at an ESI, if one did, by what each symbol holds
-abbrev pub arrived_of : {S : Type 0} → (S → List ℕ) → Option (BlockArrivals S) → ℕ
-    → Option (List ℕ)
-arrived_of held None j = None
-arrived_of held (Some v) j = arrived_at held v.list.items j
+-- the symbols of a block, in the order in which they came, among those of the blocks that share an
+-- allocation with it
+abbrev pub listed : {S : Type 0} → Option (SharedArrivals S) → ℕ → List (Arrival S)
+listed None index = []
+listed (Some v) index = list_at v.lists index
+
+abbrev pub list_of : {S : Type 0} → Symbols S → ℕ → List (Arrival S)
+list_of s b = listed (get nat_cmp s.shares (share_of s.sharing b)) (index_of s.sharing b)
 
 -- the bytes that stand at a block and an ESI, by what each symbol holds
 abbrev pub came_at : {S : Type 0} → (S → List ℕ) → Symbols S → ℕ → ℕ → Option (List ℕ)
-came_at held s b j = arrived_of held (get nat_cmp s.blocks b) j
-
--- the symbols of a block, in the order in which they came
-abbrev pub listed : {S : Type 0} → Option (BlockArrivals S) → List (Arrival S)
-listed None = []
-listed (Some v) = v.list.items
-
-abbrev pub list_of : {S : Type 0} → Symbols S → ℕ → List (Arrival S)
-list_of s b = listed (get nat_cmp s.blocks b)
+came_at held s b j = arrived_at held (list_of s b) j
 
 -- the bytes of slices
 abbrev pub bytes_at : Symbols (Bor (List ℕ)) → ℕ → ℕ → Option (List ℕ)

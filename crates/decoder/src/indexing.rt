@@ -281,7 +281,7 @@ fn index_frames<R: Read, F: ReadAt>(
     ensures whole { OnOk result (AreFrames (F.content file.now)) }
     ensures unindexed { IfErr result (IsUnindexed (F.content file.now) (F.reliable file.now)) }
 {
-    let mut symbols = Symbols::new(alloc);
+    let mut symbols = Symbols::new(alloc, usize::from(fti.max_symbols()));
     let mut position = Position::new();
     let mut room = Vec::new(alloc);
     loop {

@@ -2,7 +2,7 @@
 //!
 //! - `answer`: what a decoder answers;
 //! - `arrivals`: the symbols that came of a block, as slices of their datagrams, as copies or as
-//!   places in a file; `block_arrivals`: the same, with a bound on their ESIs;
+//!   places in a file; `shared_arrivals`: those of neighbouring blocks, with a bound on their ESIs;
 //! - `symbols`: what came, by block and ESI; `received`: that of a list of datagrams, or the first
 //!   fault at a place, by the FTI of the first carrier, which is found before; `counting`: how many
 //!   symbols each block has;
@@ -26,7 +26,6 @@
 mod answer;
 mod arrivals;
 mod block;
-mod block_arrivals;
 mod blocks;
 mod coded_source;
 mod counting;
@@ -45,6 +44,7 @@ mod recovery;
 mod rereading;
 mod rows;
 mod selecting;
+mod shared_arrivals;
 mod source;
 mod symbols;
 mod unsolvable;

@@ -87,6 +87,16 @@ fn keep<'a>(
     Ok(())
 }
 
+// How many encoding symbols each block has at most, where the FTI is known.
+fn most_symbols(scope: &Scope) -> u8
+    ensures { IfSome scope.now.fti (λ f. result ≡ f.max_symbols) }
+{
+    match &scope.fti {
+        Some(fti) => fti.max_symbols(),
+        None => 0,
+    }
+}
+
 /// The symbols of the identity's packets, if a carrier came, or the first fault at the least place
 /// that has one. The FTI of the first carrier is found before any fault is looked for: it may stand
 /// behind a packet that has a fault by it.
@@ -104,7 +114,7 @@ pub(crate) fn receive<'a>(
     ensures refusal { IfErr result (IsRefusal identity (map (λ d. d.now) datagrams.now)) }
 {
     let mut scope = Scope::found_in(identity, datagrams);
-    let mut symbols = Symbols::new(alloc);
+    let mut symbols = Symbols::new(alloc, usize::from(most_symbols(&scope)));
     for place in 0..datagrams.len() {
         let packet = match scope.look(datagrams[place]) {
             Ok(Look::InRange(packet)) => packet,

@@ -1,6 +1,6 @@
 //! Where the symbols of an object are had from, block by block.
-ghost use Rattle.std.specs.Prelude.{◌≡◌, ◌<◌, ◌≤◌, ℕ, Bool, List, Option, true, length, filter};
-ghost use Rattle.std.specs.Prelude.{is_some, slice_index, ⊤, IfOk, IfErr, IfSome, IsNone};
+ghost use Rattle.std.specs.Prelude.{◌≡◌, ◌<◌, ◌≤◌, ◌^◌, ℕ, Bool, List, Option, true, length};
+ghost use Rattle.std.specs.Prelude.{filter, is_some, slice_index, ⊤, IfOk, IfErr, IfSome, IsNone};
 ghost use Rattle.lists.specs.Below.{below};
 ghost use Rattle.partition.specs.Fti.{Fti as FtiValue, block_count};
 ghost use Rattle.block_code.specs.Codes.{EachBlockHas};
@@ -81,7 +81,8 @@ pub(crate) trait Source {
 
     /// The source blocks of which something came.
     fn blocks(&self, alloc: Global) -> Result<Vec<u32>, AllocError>
-        ensures all { IfOk result (λ v. (b j : ℕ) → is_some (at self.now b j) ≡ true
+        ensures all { IfOk result (λ v. (b j : ℕ) → b < 2 ^ 32
+            → is_some (at self.now b j) ≡ true
             → (i : ℕ) × (i < length v.items) × (slice_index v.items i ≡ b)) }
         ensures some { IfOk result (λ v. (i : ℕ) → i < length v.items
             → (j : ℕ) × (is_some (at self.now (slice_index v.items i) j) ≡ true)) };

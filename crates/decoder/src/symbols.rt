@@ -5,25 +5,29 @@ ghost use Rattle.decoder.specs.Arrivals.{arrived_at};
 ghost use Rattle.decoder.specs.Received.{bytes_at, came_at, list_of};
 
 use crate::arrivals::{Arrival, symbol_at};
-use crate::block_arrivals::BlockArrivals;
+use crate::shared_arrivals::SharedArrivals;
+use shared_lists::Sharing;
 use std::alloc::{AllocError, Global};
 use std::collections::BTreeMap;
 
 /// The symbols of a session: by source block number those of a block, in the order in which they
-/// came.
+/// came. Those of neighbouring blocks that have few share an allocation.
 #[derive(Drop)]
 pub(crate) struct Symbols<S> {
-    pub(crate) blocks: BTreeMap<u32, BlockArrivals<S>>,
+    pub(crate) sharing: Sharing,
+    /// By the number that `sharing` gives the allocation.
+    pub(crate) shares: BTreeMap<u32, SharedArrivals<S>>,
 }
 
 impl<S: Drop> Symbols<S> {
-    /// Nothing came.
-    pub(crate) fn new(alloc: Global) -> Symbols<S>
+    /// Nothing came of an object whose blocks have so many encoding symbols, or fewer.
+    pub(crate) fn new(alloc: Global, most: usize) -> Symbols<S>
         ensures none { (held : S → List ℕ) (b j : ℕ) → came_at held result b j ≡ None }
         ensures empty { (b : ℕ) → list_of result b ≡ [] }
     {
         Symbols {
-            blocks: BTreeMap::new(alloc),
+            sharing: Sharing::of_lengths(most),
+            shares: BTreeMap::new(alloc),
         }
     }
 
@@ -36,8 +40,8 @@ impl<S: Drop> Symbols<S> {
         ensures list { IfSome result (λ v. v.now ≡ list_of self.now block) }
         ensures empty { IsNone result → list_of self.now block ≡ [] }
     {
-        match self.blocks.get(&block) {
-            Some(arrivals) => Some(arrivals.as_slice()),
+        match self.shares.get(&self.sharing.share(block)) {
+            Some(arrivals) => Some(arrivals.get(self.sharing.index(block))),
             None => None,
         }
     }
@@ -51,8 +55,10 @@ impl<S: Drop> Symbols<S> {
             → arrived_at held v.now esi ≡ came_at held self.now block esi) }
         ensures list { IfSome result (λ v. v.now ≡ list_of self.now block) }
     {
-        match self.blocks.get(&block) {
-            Some(arrivals) if arrivals.may_have(esi) => Some(arrivals.as_slice()),
+        match self.shares.get(&self.sharing.share(block)) {
+            Some(arrivals) if arrivals.may_have(esi) => {
+                Some(arrivals.get(self.sharing.index(block)))
+            }
             _ => None,
         }
     }
@@ -89,15 +95,17 @@ impl<S: Drop> Symbols<S> {
             → list_of self.new b ≡ list_of self.old b) }
     {
         let arrival = Arrival { esi, symbol };
-        match self.blocks.get_mut(&block) {
+        let share = self.sharing.share(block);
+        let index = self.sharing.index(block);
+        match self.shares.get_mut(&share) {
             Some(arrivals) => {
-                arrivals.push(arrival)?;
+                arrivals.push(index, arrival)?;
                 Ok(())
             }
             None => {
-                let mut arrivals = BlockArrivals::new(alloc);
-                arrivals.push(arrival)?;
-                self.blocks.insert(block, arrivals)?;
+                let mut arrivals = SharedArrivals::new(alloc);
+                arrivals.push(index, arrival)?;
+                self.shares.insert(share, arrivals)?;
                 Ok(())
             }
         }

@@ -1,6 +1,6 @@
 -- Lists that stand one behind the other, and which of many share an allocation.
-use Rattle.std.specs.Prelude.{ℕ, zero, suc, ◌+◌, ◌/◌, ◌%◌, ◌^◌, ◌<◌, ◌≤◌, List, [], ◌∷◌, length, take, drop}
-use Rattle.std.specs.Prelude.{slice_index_or}
+use Rattle.std.specs.Prelude.{ℕ, zero, suc, ◌+◌, ◌/◌, ◌%◌, ◌^◌, ◌<◌, ◌≤◌, List, [], ◌∷◌, length}
+use Rattle.std.specs.Prelude.{take, drop, slice_index_or}
 use Rattle.std.specs.Vec.{vec_capacity}
 use Rattle.shared_lists.specs.declared.shared_lists.SharedLists.{SharedLists}
 use Rattle.shared_lists.specs.declared.sharing.Sharing.{Sharing}

@@ -54,11 +54,7 @@ impl<T: Drop> SharedLists<T> {
     }
 
     // How many values the list at an index has.
-    #[tactic(auto, using(
-        crate::proofs::Lists::one_list,
-        crate::proofs::Lists::rest_list,
-        crate::proofs::Lists::size_within
-    ))]
+    #[tactic(auto, using(crate::proofs::Lists::one_list, crate::proofs::Lists::rest_list, crate::proofs::Lists::size_within))]
     fn size(&self, index: usize) -> usize
         requires { index ≤ length self.now.lengths.items }
         ensures most { total (take index self.now.lengths.items) + result
@@ -124,14 +120,7 @@ impl<T: Drop> SharedLists<T> {
     }
 
     /// Puts a value behind those of the list at an index. Want of memory is the only error.
-    #[tactic(auto, using(
-        crate::proofs::Lists::put_here,
-        crate::proofs::Lists::put_others,
-        crate::proofs::Lists::last_at,
-        crate::proofs::Lists::last_others,
-        crate::proofs::Lists::total_set,
-        crate::proofs::Lists::size_within
-    ))]
+    #[tactic(auto, using(crate::proofs::Lists::put_here, crate::proofs::Lists::put_others, crate::proofs::Lists::last_at, crate::proofs::Lists::last_others, crate::proofs::Lists::total_set, crate::proofs::Lists::size_within))]
     pub fn push(&mut self, index: usize, value: T) -> Result<(), AllocError>
         ensures pushed { OnOk result
             (list_at self.new index ≡ list_at self.old index ++ value ∷ []) }

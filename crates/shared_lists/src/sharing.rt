@@ -1,5 +1,6 @@
 //! Which of many numbered lists share an allocation.
-ghost use Rattle.std.specs.Prelude.{◌≡◌, ◌<◌, ◌/◌, ◌%◌, max, min};
+ghost use Rattle.std.specs.Prelude.{◌≡◌, ◌<◌, ◌≤◌, ◌+◌, ◌*◌, ◌/◌, ◌%◌, ◌^◌, max, min};
+ghost use Rattle.std.specs.Prelude.{IfSome, IsNone};
 
 /// How many lists whose numbers follow each other share an allocation.
 #[derive(Clone, Copy)]
@@ -23,6 +24,10 @@ impl Sharing {
     pub fn share(&self, number: u32) -> u32
         ensures { result ≡ number / self.now.lists }
     {
+        // A division takes as long as a look at a packet's header.
+        if self.lists == 1 {
+            return number;
+        }
         number / self.lists
     }
 
@@ -30,6 +35,24 @@ impl Sharing {
     pub fn index(&self, number: u32) -> usize
         ensures { result ≡ number % self.now.lists }
     {
+        if self.lists == 1 {
+            return 0;
+        }
         (number % self.lists) as usize
+    }
+
+    /// How many lists share an allocation.
+    pub fn lists(&self) -> u32
+        ensures { result ≡ self.now.lists }
+    {
+        self.lists
+    }
+
+    /// The number of the list at an index of an allocation; `None` where no list has it.
+    pub fn number(&self, share: u32, index: u32) -> Option<u32>
+        ensures number { IfSome result (λ n. n ≡ share * self.now.lists + index) }
+        ensures none { IsNone result → 2 ^ 32 ≤ share * self.now.lists + index }
+    {
+        share.checked_mul(self.lists)?.checked_add(index)
     }
 }

@@ -404,7 +404,8 @@ fn write_other<'a, O: ReadAt, W: Write>(
     ensures some { AppendsAny (W.contents writer.old) (W.contents writer.new) }
     ensures fault { IfErr result (IsUntwinned short.now.fti.transfer_length
         (O.content object.now) (O.reliable object.now) name.now) }
-    ensures writing { IfErr result (λ e. e ≡ Unwritten.Writing → W.failed writer.new ≡ true) }
+    ensures writing { IfErr result
+        (λ e. e ≡ Unwritten.Writing → W.failed writer.new ≡ true) }
 {
     let esis = short.arrived_esis.as_slice();
     match write_twin(alloc, object, &short.fti, short.block, esis, writer) {

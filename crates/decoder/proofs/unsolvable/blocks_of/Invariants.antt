@@ -1,6 +1,10 @@
 use Rattle.std.proofs.Common.{ℕ, List}
+use Rattle.decoder.specs.Listed.{HaveSome}
 use Rattle.decoder.proofs.Listing.{AreListed}
 use Rattle.decoder.proofs.unsolvable.blocks_of.Given as goal
 
-abbrev pub invariant-loop-block : goal.invariant-loop-block
-invariant-loop-block g l = (held : g.row.S.Denot → List ℕ) → AreListed held l.symbols l.block-iterator l.blocks.items
+abbrev pub invariant-loop-share : goal.invariant-loop-share
+invariant-loop-share g l = record {
+  listed : (held : g.row.S.Denot → List ℕ) → AreListed held l.symbols l.share-iterator l.blocks.items;
+  some : (held : g.row.S.Denot → List ℕ) → HaveSome held l.symbols l.blocks.items;
+}

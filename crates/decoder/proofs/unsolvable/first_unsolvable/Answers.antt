@@ -2,7 +2,7 @@ use Rattle.std.proofs.Common.{◌≡◌, ◌∙◌, ℕ, List, true, is_some, re
 use Rattle.std.specs.Prelude.{not}
 use Rattle.partition.specs.Fti.{IsValidFti}
 use Rattle.decoder.proofs.Answering.{within_of}
-use Rattle.decoder.proofs.Listing.{Stands}
+use Rattle.decoder.specs.Listed.{Stands}
 use Rattle.decoder.proofs.OneCode.{code_of}
 use Rattle.decoder.proofs.Unsound.{LeastSoFar, least_stays, least_falls, sound_short, enough_counted, some_explain, none_gives, some_gives}
 use Rattle.decoder.proofs.unsolvable.first_unsolvable.Goals as goal
@@ -94,7 +94,10 @@ loop-b-preserved g c = record {
 pub returns-clause-none : goal.returns-clause-none
 returns-clause-none g c = λ told.
     let at = g.S.Source.at c.args.coded.now.source.now in
-    let all : (b j : ℕ) → is_some (at b j) ≡ true → Stands c.deref-b-items.result.now b = λ b j h. rw c.deref-b-items.ensures.value (c.in_ok-blocks.ensures.all b j h) in
+    let all : (b j : ℕ) → is_some (at b j) ≡ true → Stands c.deref-b-items.result.now b = λ b j h.
+    let few = (subst IsValidFti c.fti-fti.ensures c.is_valid.ensures).blocks in
+    let below = c.args.coded.now.range.block b j h in
+    rw c.deref-b-items.ensures.value (c.in_ok-blocks.ensures.all b j (omega (arith, few, below)) h) in
     let end : c.loop-b.b-index ≡ length c.deref-b-items.result.now = omega (arith, c.loop-b-test.false, c.loop-b.auto.b-index-end) in
     none_gives (g.S.Source.known c.args.coded.now.source.now) (subst IsValidFti c.fti-fti.ensures c.is_valid.ensures) at c.deref-b-items.result.now all c.loop-b.least
     (subst (λ (n : ℕ). LeastSoFar (g.S.Source.known c.args.coded.now.source.now) (g.S.Source.at c.args.coded.now.source.now) c.deref-b-items.result.now n c.loop-b.least) end (c.loop-b.invariant.least told))
@@ -102,7 +105,10 @@ returns-clause-none g c = λ told.
 pub returns-clause-some : goal.returns-clause-some
 returns-clause-some g c = λ told.
     let at = g.S.Source.at c.args.coded.now.source.now in
-    let all : (b j : ℕ) → is_some (at b j) ≡ true → Stands c.deref-b-items.result.now b = λ b j h. rw c.deref-b-items.ensures.value (c.in_ok-blocks.ensures.all b j h) in
+    let all : (b j : ℕ) → is_some (at b j) ≡ true → Stands c.deref-b-items.result.now b = λ b j h.
+    let few = (subst IsValidFti c.fti-fti.ensures c.is_valid.ensures).blocks in
+    let below = c.args.coded.now.range.block b j h in
+    rw c.deref-b-items.ensures.value (c.in_ok-blocks.ensures.all b j (omega (arith, few, below)) h) in
     let end : c.loop-b.b-index ≡ length c.deref-b-items.result.now = omega (arith, c.loop-b-test.false, c.loop-b.auto.b-index-end) in
     some_gives (g.S.Source.known c.args.coded.now.source.now) (subst IsValidFti c.fti-fti.ensures c.is_valid.ensures) at c.deref-b-items.result.now all c.loop-b.least
     (subst (λ (n : ℕ). LeastSoFar (g.S.Source.known c.args.coded.now.source.now) (g.S.Source.at c.args.coded.now.source.now) c.deref-b-items.result.now n c.loop-b.least) end (c.loop-b.invariant.least told))
