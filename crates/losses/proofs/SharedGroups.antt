@@ -1,12 +1,12 @@
 -- Groups whose members share allocations, as a list of groups.
-use Rattle.std.proofs.Common.{◌≡◌, ◌≢◌, ℕ, zero, suc, ◌+◌, ◌-◌, ◌/◌, ◌<◌, ◌≤◌, true, false, ◌==◌, List, [], ◌∷◌, ◌++◌, length, map, get_or, set, refl, sym, ap, ◌∙◌, subst, arith, take, count_by}
+use Rattle.std.proofs.Common.{◌≡◌, ◌≢◌, ℕ, zero, suc, ◌+◌, ◌-◌, ◌/◌, ◌<◌, ◌≤◌, true, false, ◌==◌, List, [], ◌∷◌, ◌++◌, length, map, get_or, set, refl, sym, ap, ◌∙◌, subst, arith, take, drop, count_by}
 use Rattle.std.specs.Prelude.{filter}
 use Rattle.std.specs.Global.{Vec}
 use Rattle.std.proofs.Math.Nat.{div-mul-le_self}
-use Rattle.std.proofs.Math.Seq.{take-suc}
+use Rattle.std.proofs.Math.Seq.{take-suc, get_or-append_seam}
 use Rattle.std.proofs.lemmas.Nat.{le-div}
 use Rattle.std.proofs.lemmas.Bool.{eqb-true, eqb-false, eq-eqb, ne_eqb}
-use Rattle.std.proofs.lemmas.List.{map-append, append-nil, length-map, length-take-le}
+use Rattle.std.proofs.lemmas.List.{map-append, append-nil, length-map, length-append, length-take-le, take-append-drop, drop_more}
 use Rattle.std.proofs.lemmas.List.Sums.{count_by-le-length, length-filter}
 use Rattle.std.proofs.lemmas.List.Elements.{filter-append}
 use Rattle.shared_lists.specs.SharedLists.{share_of}
@@ -40,6 +40,27 @@ next_own b es i d l is = among_next b es i d l ∙ ap (λ (qs : List Member). me
 pub next_other : (b : ℕ) (es : List Entry) (i : ℕ) (d : Entry) → i < length es → (get_or es i d).group ≢ b → members_among b (take (i + 1) es) ≡ members_among b (take i es)
 next_other b es i d l ne =
     among_next b es i d l ∙ ap (λ (qs : List Member). members_among b (take i es) ++ qs) (among_other b (get_or es i d) ne) ∙ append-nil (members_among b (take i es))
+
+-- the member of an entry stands behind those of the entries before it
+pub own_at : (b : ℕ) (es : List Entry) (i : ℕ) (d : Entry) (q : Member) → i < length es → (get_or es i d).group ≡ b
+    → (length (members_among b (take i es)) < length (members_among b es)) × (get_or (members_among b es) (length (members_among b (take i es))) q ≡ member_of (get_or es i d))
+own_at b es i d q l is =
+    let before : List Member = members_among b (take i es) in
+    let own : Member = member_of (get_or es i d) in
+    let behind : List Member = members_among b (drop (i + 1) es) in
+    let all : members_among b es ≡ before ++ own ∷ behind =
+    ap (members_among b) (sym (take-append-drop i es)) ∙ among_more b (take i es) (drop i es)
+    ∙ ap (λ (qs : List Member). before ++ qs)
+    (ap (members_among b) (drop_more es i d l) ∙ among_more b (get_or es i d ∷ []) (drop (i + 1) es) ∙ ap (λ (qs : List Member). qs ++ behind) (among_own b (get_or es i d) is)) in
+    let n = ap (λ (qs : List Member). length qs) all ∙ length-append before (own ∷ behind) in (
+      omega (arith, n),
+      ap (λ (qs : List Member). get_or qs (length before) q) all ∙ get_or-append_seam before own behind q,
+    )
+
+pub next_length : (b : ℕ) (es : List Entry) (i : ℕ) (d : Entry) → i < length es → (get_or es i d).group ≡ b → length (members_among b (take (i + 1) es)) ≡ length (members_among b (take i es)) + 1
+next_length b es i d l is =
+    ap (λ (qs : List Member). length qs) (next_own b es i d l is)
+    ∙ length-append (members_among b (take i es)) (member_of (get_or es i d) ∷ [])
 
 -- copies of a symbol, no more of them than entries
 pub copies_up : (b j : ℕ) (es : List Entry) (i : ℕ) → i ≤ length es → count_by (has_esi j) (members_among b (take i es)) ≤ i
