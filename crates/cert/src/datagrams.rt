@@ -58,7 +58,7 @@ pub(crate) fn empty_groups(alloc: Global, fti: &Fti) -> Result<Groups, AllocErro
     for block in 0..fti.block_count() {
         needs.push(fti.k(block) as u8)?;
     }
-    Groups::new(alloc, needs, fti.k(0))
+    Groups::new(alloc, needs, usize::from(fti.max_symbols()))
 }
 
 /// Puts the symbol of the packet at a place into its block's group.

@@ -155,7 +155,9 @@ impl Tally {
         ensures { IfOk result (λ v. v.items
             ≡ map (λ q. q.esi) (group_at (groups_of self.now.groups) block).members) }
     {
-        esis_of_members(alloc, self.groups.members(block as usize))
+        let mut members = Vec::new(alloc);
+        self.groups.copy_members(block as usize, &mut members)?;
+        esis_of_members(alloc, &members)
     }
 
     // The report, whose burst is that of the groups and the carriers.

@@ -1,9 +1,12 @@
 -- A block's members, gone over one by one, and the first of them that has a wrong symbol.
-use Rattle.std.proofs.Common.{◌≡◌, ℕ, ◌+◌, ◌<◌, ◌≤◌, List, Option, Some, None, Ok, length, get_or, refl, sym, ap, subst, ◌∙◌, inl, inr, arith}
+use Rattle.std.proofs.Common.{◌≡◌, ℕ, ◌+◌, ◌<◌, ◌≤◌, List, Option, Some, None, Ok, length, get_or, refl, sym, ap, subst, take, ◌∙◌, inl, inr, arith}
 use Rattle.std.specs.Prelude.{IfSome}
 use Rattle.std.proofs.lemmas.Bool.{cases_lt}
+use Rattle.std.proofs.lemmas.List.{take_all}
+use Rattle.losses.specs.declared.groups.Entry.{Entry}
 use Rattle.losses.specs.declared.groups.Member.{Member}
-use Rattle.losses.specs.Groups.{group_at}
+use Rattle.losses.specs.Groups.{group_at, member_of, members_among}
+use Rattle.losses.proofs.SharedGroups.{own_at, next_length}
 use Rattle.partition.specs.Fti.{Fti, block_count, encoding_count}
 use Rattle.session.specs.Extents.{datagram_in}
 use Rattle.session.specs.declared.extent.Extent.{Extent}
@@ -21,6 +24,9 @@ use Rattle.file_check.specs.Indexed.{IsIndexOf, extents_of}
 use Rattle.file_check.specs.Standing.{no_extent}
 use Rattle.file_check.specs.declared.index.Index.{Index}
 use Rattle.file_check.specs.declared.blocks.Wrong.{Wrong}
+
+abbrev pub no_entry : Entry
+no_entry = record { place = 0; group = 0; esi = 0 }
 
 module _ (content : Option (List ℕ)) (index : Index) (b : ℕ) (symbols : List ℕ) where
   abbrev t : Tallied
@@ -49,10 +55,28 @@ module _ (content : Option (List ℕ)) (index : Index) (b : ℕ) (symbols : List
     earlier = λ x f ds of. omega arith;
   }
 
-  -- a member as the code has it
-  pub member_seen : (items : List Member) → items ≡ (group_at t.groups b).members
-      → (k : ℕ) → k < length items → (k < length (group_at t.groups b).members) × (get_or items k (record { place = 0; esi = 0 }) ≡ member_at t b k)
-  member_seen items same k l = (rw same at l, ap (λ (ms : List Member). get_or ms k (record { place = 0; esi = 0 })) same)
+  -- the member of an entry of the block
+  pub entry_seen : (entries : List Entry) → members_among b entries ≡ (group_at t.groups b).members
+      → (i : ℕ) → i < length entries → (get_or entries i no_entry).group ≡ b
+      → let k : ℕ = length (members_among b (take i entries)) in
+      (k < length (group_at t.groups b).members) × ((get_or entries i no_entry).place ≡ (member_at t b k).place) × ((get_or entries i no_entry).esi ≡ (member_at t b k).esi)
+  entry_seen entries same i l own =
+      let k : ℕ = length (members_among b (take i entries)) in
+      let none : Member = record { place = 0; esi = 0 } in
+      let at = own_at b entries i no_entry none l own in
+      let is : member_of (get_or entries i no_entry) ≡ member_at t b k = sym at.1 ∙ ap (λ (ms : List Member). get_or ms k none) same in
+      (rw same at at.0, ap (λ (q : Member). q.place) is, ap (λ (q : Member). q.esi) is)
+
+  -- one entry of the block more
+  pub entry_gone : (before first : Option Wrong) (entries : List Entry) (i : ℕ) → i < length entries → (get_or entries i no_entry).group ≡ b
+      → AreGoneOver before (length (members_among b (take i entries)) + 1) first → AreGoneOver before (length (members_among b (take (i + 1) entries))) first
+  entry_gone before first entries i l own h = subst (λ (n : ℕ). AreGoneOver before n first) (sym (next_length b entries i no_entry l own)) h
+
+  -- all members, where all entries were seen
+  pub all_gone : (before first : Option Wrong) (entries : List Entry) → members_among b entries ≡ (group_at t.groups b).members
+      → (i : ℕ) → length entries ≤ i → AreGoneOver before (length (members_among b (take i entries))) first → AreGoneOver before (length (group_at t.groups b).members) first
+  all_gone before first entries same i end h =
+      subst (λ (n : ℕ). AreGoneOver before n first) (ap (λ (es : List Entry). length (members_among b es)) (take_all i entries end) ∙ ap (λ (ms : List Member). length ms) same) h
 
   -- the known FTI is that of the datagrams
   module _ (f : Fti) (known : index.tally.scope.fti ≡ Some f) (within : b < block_count f) where

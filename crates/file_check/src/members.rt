@@ -129,18 +129,22 @@ pub(crate) fn first_wrong<S: ReadAt>(
     ensures len { length datagram.new ≡ ROOM }
 {
     let mut first = before;
-    for member in index.tally.groups.members(made.block as usize) {
-        if is_behind(first, member.place) {
+    let entries = index.tally.groups.entries_near(made.block as usize);
+    for entry in entries {
+        if entry.group != made.block {
             continue;
         }
-        let Some(extent) = index.extents.get(member.place) else {
+        if is_behind(first, entry.place) {
+            continue;
+        }
+        let Some(extent) = index.extents.get(entry.place) else {
             return Err(Failed);
         };
         let scope = &index.tally.scope;
-        match wrong_column(session, scope, extent, member.esi, made, datagram)? {
+        match wrong_column(session, scope, extent, entry.esi, made, datagram)? {
             Some(column) => {
                 first = Some(Wrong {
-                    place: member.place,
+                    place: entry.place,
                     column,
                 });
             }

@@ -1,15 +1,76 @@
 -- Groups whose members share allocations, as a list of groups.
-use Rattle.std.proofs.Common.{◌≡◌, ◌≢◌, ℕ, zero, suc, ◌+◌, ◌-◌, ◌/◌, ◌<◌, ◌≤◌, true, false, ◌==◌, List, [], ◌∷◌, ◌++◌, length, map, get_or, set, refl, sym, ap, ◌∙◌, subst, arith}
+use Rattle.std.proofs.Common.{◌≡◌, ◌≢◌, ℕ, zero, suc, ◌+◌, ◌-◌, ◌/◌, ◌<◌, ◌≤◌, true, false, ◌==◌, List, [], ◌∷◌, ◌++◌, length, map, get_or, set, refl, sym, ap, ◌∙◌, subst, arith, take, drop, count_by}
+use Rattle.std.specs.Prelude.{filter}
+use Rattle.std.specs.Global.{Vec}
 use Rattle.std.proofs.Math.Nat.{div-mul-le_self}
+use Rattle.std.proofs.Math.Seq.{take-suc, get_or-append_seam}
 use Rattle.std.proofs.lemmas.Nat.{le-div}
-use Rattle.std.proofs.lemmas.Bool.{eqb-true, eqb-false}
-use Rattle.shared_lists.specs.SharedLists.{list_at, share_of, index_of}
-use Rattle.shared_lists.specs.declared.shared_lists.SharedLists.{SharedLists}
+use Rattle.std.proofs.lemmas.Bool.{eqb-true, eqb-false, eq-eqb, ne_eqb}
+use Rattle.std.proofs.lemmas.List.{map-append, append-nil, length-map, length-append, length-take-le, take-append-drop, drop_more}
+use Rattle.std.proofs.lemmas.List.Sums.{count_by-le-length, length-filter}
+use Rattle.std.proofs.lemmas.List.Elements.{filter-append}
+use Rattle.shared_lists.specs.SharedLists.{share_of}
 use Rattle.shared_lists.specs.declared.sharing.Sharing.{Sharing}
-use Rattle.shared_lists.proofs.Numbers.{apart}
+use Rattle.losses.specs.declared.groups.Entry.{Entry}
 use Rattle.losses.specs.declared.groups.Member.{Member}
 use Rattle.losses.specs.declared.groups.Groups.{Groups}
-use Rattle.losses.specs.Groups.{Group, group_at, group_without, groups_from, groups_of, members_in, shared_at, with_member}
+use Rattle.losses.specs.Members.{has_esi}
+use Rattle.losses.specs.Groups.{Group, entries_at, group_at, group_without, groups_from, groups_of, is_of, member_of, members_among, members_in, with_member}
+
+-- ---- entries
+
+pub among_more : (b : ℕ) (es fs : List Entry) → members_among b (es ++ fs) ≡ members_among b es ++ members_among b fs
+among_more b es fs = ap (map member_of) (filter-append (is_of b) es fs) ∙ map-append member_of _ _
+
+pub among_own : (b : ℕ) (e : Entry) → e.group ≡ b → members_among b (e ∷ []) ≡ member_of e ∷ []
+among_own b e is = rw (eq-eqb e.group b is) refl
+
+pub among_other : (b : ℕ) (e : Entry) → e.group ≢ b → members_among b (e ∷ []) ≡ []
+among_other b e ne = rw (ne_eqb e.group b ne) refl
+
+-- one entry more
+pub among_next : (b : ℕ) (es : List Entry) (i : ℕ) (d : Entry) → i < length es → members_among b (take (i + 1) es) ≡ members_among b (take i es) ++ members_among b (get_or es i d ∷ [])
+among_next b es i d l =
+    let e : i + 1 ≡ suc i = omega arith in
+    ap (λ (n : ℕ). members_among b (take n es)) e ∙ ap (members_among b) (take-suc es i d l) ∙ among_more b (take i es) (get_or es i d ∷ [])
+
+pub next_own : (b : ℕ) (es : List Entry) (i : ℕ) (d : Entry) → i < length es → (get_or es i d).group ≡ b → members_among b (take (i + 1) es) ≡ members_among b (take i es) ++ member_of (get_or es i d) ∷ []
+next_own b es i d l is = among_next b es i d l ∙ ap (λ (qs : List Member). members_among b (take i es) ++ qs) (among_own b (get_or es i d) is)
+
+pub next_other : (b : ℕ) (es : List Entry) (i : ℕ) (d : Entry) → i < length es → (get_or es i d).group ≢ b → members_among b (take (i + 1) es) ≡ members_among b (take i es)
+next_other b es i d l ne =
+    among_next b es i d l ∙ ap (λ (qs : List Member). members_among b (take i es) ++ qs) (among_other b (get_or es i d) ne) ∙ append-nil (members_among b (take i es))
+
+-- the member of an entry stands behind those of the entries before it
+pub own_at : (b : ℕ) (es : List Entry) (i : ℕ) (d : Entry) (q : Member) → i < length es → (get_or es i d).group ≡ b
+    → (length (members_among b (take i es)) < length (members_among b es)) × (get_or (members_among b es) (length (members_among b (take i es))) q ≡ member_of (get_or es i d))
+own_at b es i d q l is =
+    let before : List Member = members_among b (take i es) in
+    let own : Member = member_of (get_or es i d) in
+    let behind : List Member = members_among b (drop (i + 1) es) in
+    let all : members_among b es ≡ before ++ own ∷ behind =
+    ap (members_among b) (sym (take-append-drop i es)) ∙ among_more b (take i es) (drop i es)
+    ∙ ap (λ (qs : List Member). before ++ qs)
+    (ap (members_among b) (drop_more es i d l) ∙ among_more b (get_or es i d ∷ []) (drop (i + 1) es) ∙ ap (λ (qs : List Member). qs ++ behind) (among_own b (get_or es i d) is)) in
+    let n = ap (λ (qs : List Member). length qs) all ∙ length-append before (own ∷ behind) in (
+      omega (arith, n),
+      ap (λ (qs : List Member). get_or qs (length before) q) all ∙ get_or-append_seam before own behind q,
+    )
+
+pub next_length : (b : ℕ) (es : List Entry) (i : ℕ) (d : Entry) → i < length es → (get_or es i d).group ≡ b → length (members_among b (take (i + 1) es)) ≡ length (members_among b (take i es)) + 1
+next_length b es i d l is =
+    ap (λ (qs : List Member). length qs) (next_own b es i d l is)
+    ∙ length-append (members_among b (take i es)) (member_of (get_or es i d) ∷ [])
+
+-- copies of a symbol, no more of them than entries
+pub copies_up : (b j : ℕ) (es : List Entry) (i : ℕ) → i ≤ length es → count_by (has_esi j) (members_among b (take i es)) ≤ i
+copies_up b j es i l =
+    let c = count_by-le-length (has_esi j) (members_among b (take i es)) in
+    let m = length-map (filter (is_of b) (take i es)) member_of in
+    let f = length-filter (is_of b) (take i es) in
+    let n = count_by-le-length (is_of b) (take i es) in
+    let t = length-take-le i es l in
+    omega (arith, c, m, f, n, t)
 
 -- ---- allocations
 
@@ -19,30 +80,30 @@ share_up s a b l =
     let m = div-mul-le_self a s.lists in
     le-div (a / s.lists) b s.lists s.some (omega (arith, l, m))
 
-pub shared_is : (shares : List (SharedLists Member)) (a i : ℕ) (d : SharedLists Member) → a < length shares → shared_at shares a i ≡ list_at (get_or shares a d) i
-shared_is [] a i d l = absurd (omega (arith, l))
-shared_is (x ∷ shares) zero i d l = refl
-shared_is (x ∷ shares) (suc a) i d l = shared_is shares a i d (omega (arith, l))
+pub entries_are : (shares : List (Vec Entry)) (a : ℕ) (d : Vec Entry) → a < length shares → entries_at shares a ≡ (get_or shares a d).items
+entries_are [] a d l = absurd (omega (arith, l))
+entries_are (x ∷ shares) zero d l = refl
+entries_are (x ∷ shares) (suc a) d l = entries_are shares a d (omega (arith, l))
 
 -- after a write to one of them
-pub shared_set : (shares : List (SharedLists Member)) (a i : ℕ) (x : SharedLists Member) → a < length shares → shared_at (set shares a x) a i ≡ list_at x i
-shared_set [] a i x l = absurd (omega (arith, l))
-shared_set (y ∷ shares) zero i x l = refl
-shared_set (y ∷ shares) (suc a) i x l = shared_set shares a i x (omega (arith, l))
+pub entries_set : (shares : List (Vec Entry)) (a : ℕ) (x : Vec Entry) → a < length shares → entries_at (set shares a x) a ≡ x.items
+entries_set [] a x l = absurd (omega (arith, l))
+entries_set (y ∷ shares) zero x l = refl
+entries_set (y ∷ shares) (suc a) x l = entries_set shares a x (omega (arith, l))
 
-pub shared_other : (shares : List (SharedLists Member)) (a b i : ℕ) (x : SharedLists Member) → b ≢ a → shared_at (set shares a x) b i ≡ shared_at shares b i
-shared_other [] a b i x ne = refl
-shared_other (y ∷ shares) zero zero i x ne = absurd (ne refl)
-shared_other (y ∷ shares) zero (suc b) i x ne = refl
-shared_other (y ∷ shares) (suc a) zero i x ne = refl
-shared_other (y ∷ shares) (suc a) (suc b) i x ne = shared_other shares a b i x (λ e. ne (ap suc e))
+pub entries_other : (shares : List (Vec Entry)) (a b : ℕ) (x : Vec Entry) → b ≢ a → entries_at (set shares a x) b ≡ entries_at shares b
+entries_other [] a b x ne = refl
+entries_other (y ∷ shares) zero zero x ne = absurd (ne refl)
+entries_other (y ∷ shares) zero (suc b) x ne = refl
+entries_other (y ∷ shares) (suc a) zero x ne = refl
+entries_other (y ∷ shares) (suc a) (suc b) x ne = entries_other shares a b x (λ e. ne (ap suc e))
 
--- one more, which has no members
-pub shared_more : (shares : List (SharedLists Member)) (x : SharedLists Member) → ((a i : ℕ) → shared_at shares a i ≡ []) → ((i : ℕ) → list_at x i ≡ []) → (a i : ℕ) → shared_at (shares ++ x ∷ []) a i ≡ []
-shared_more [] x h e zero i = e i
-shared_more [] x h e (suc a) i = refl
-shared_more (y ∷ shares) x h e zero i = h 0 i
-shared_more (y ∷ shares) x h e (suc a) i = shared_more shares x (λ a i. h (suc a) i) e a i
+-- one more, which has no entries
+pub entries_more : (shares : List (Vec Entry)) (x : Vec Entry) → ((a : ℕ) → entries_at shares a ≡ []) → x.items ≡ [] → (a : ℕ) → entries_at (shares ++ x ∷ []) a ≡ []
+entries_more [] x h e zero = e
+entries_more [] x h e (suc a) = refl
+entries_more (y ∷ shares) x h e zero = h 0
+entries_more (y ∷ shares) x h e (suc a) = entries_more shares x (λ a. h (suc a)) e a
 
 -- ---- groups
 
@@ -101,53 +162,50 @@ need_of groups b d l = need_from (members_in groups) 0 groups.needs.items b d l
 pub share_there : (groups : Groups) (b : ℕ) → b < length (groups_of groups) → share_of groups.sharing b < length groups.shares.items
 share_there groups b l = groups.shared b (omega (arith, l, count_of groups))
 
--- ---- a write to the list at index i of allocation a, which has the members of group b
+-- ---- a write to the allocation which has the entries of this one's group
 
-module _ (old : Groups) (b a i : ℕ) (x d : SharedLists Member) (l : b < length (groups_of old)) (share : a ≡ share_of old.sharing b) (index : i ≡ index_of old.sharing b)
-    (at : d ≡ get_or old.shares.items a d) where
+module _ (old : Groups) (a : ℕ) (entry : Entry) (x d : Vec Entry) (l : entry.group < length (groups_of old)) (share : a ≡ share_of old.sharing entry.group) (at : d ≡ get_or old.shares.items a d) where
+  abbrev entries_now : ℕ → List Entry
+  entries_now j = entries_at (set old.shares.items a x) (share_of old.sharing j)
+
   abbrev written : ℕ → List Member
-  written j = shared_at (set old.shares.items a x) (share_of old.sharing j) (index_of old.sharing j)
+  written j = members_among j (entries_now j)
 
   there : a < length old.shares.items
-  there = let s = share_there old b l in omega (arith, share, s)
+  there = let s = share_there old entry.group l in omega (arith, share, s)
 
-  was : (j : ℕ) → shared_at old.shares.items a j ≡ list_at d j
-  was j = shared_is old.shares.items a j d there ∙ ap (λ (y : SharedLists Member). list_at y j) (sym at)
+  -- what they are now of those that were there
+  here : (j : ℕ) (more : List Entry) → x.items ≡ d.items ++ more → share_of old.sharing j ≡ a → written j ≡ members_in old j ++ members_among j more
+  here j more is e =
+      ap (members_among j)
+      (ap (entries_at (set old.shares.items a x)) e ∙ entries_set old.shares.items a x there ∙ is
+      ∙ ap (λ (v : Vec Entry). v.items ++ more) at
+      ∙ ap (λ (es : List Entry). es ++ more) (sym (entries_are old.shares.items a d there) ∙ ap (entries_at old.shares.items) (sym e)))
+      ∙ among_more j (entries_at old.shares.items (share_of old.sharing j)) more
 
-  here : written b ≡ list_at x i
-  here = ap (λ (y : ℕ). shared_at (set old.shares.items a x) y (index_of old.sharing b)) (sym share) ∙ shared_set old.shares.items a (index_of old.sharing b) x there ∙ ap (λ (j : ℕ). list_at x j) (sym index)
+  elsewhere : (j : ℕ) → share_of old.sharing j ≢ a → written j ≡ members_in old j
+  elsewhere j ne = ap (members_among j) (entries_other old.shares.items a (share_of old.sharing j) x ne)
 
-  here_before : members_in old b ≡ list_at d i
-  here_before = ap (λ (y : ℕ). shared_at old.shares.items y (index_of old.sharing b)) (sym share) ∙ was (index_of old.sharing b) ∙ ap (λ (j : ℕ). list_at d j) (sym index)
+  -- unchanged where none of what is new is of the group
+  unchanged : (j : ℕ) (more : List Entry) → x.items ≡ d.items ++ more → members_among j more ≡ [] → written j ≡ members_in old j
+  unchanged j more is none =
+      elim (share_of old.sharing j == a) as (λ v. (share_of old.sharing j == a) ≡ v → written j ≡ members_in old j) [
+        | true ↦ λ e. here j more is (eqb-true (share_of old.sharing j) a e) ∙ ap (λ (qs : List Member). members_in old j ++ qs) none ∙ append-nil (members_in old j)
+        | false ↦ λ e. elsewhere j (eqb-false (share_of old.sharing j) a e)
+      ] refl
 
-  module _ (others : (j : ℕ) → i ≢ j → list_at x j ≡ list_at d j) where
-    elsewhere : (j : ℕ) → j ≢ b → written j ≡ members_in old j
-    elsewhere j ne =
-        elim (share_of old.sharing j == a) as (λ v. (share_of old.sharing j == a) ≡ v → written j ≡ members_in old j) [
-          | true ↦ λ e.
-              (let is = eqb-true (share_of old.sharing j) a e in
-              let far = apart old.sharing b j (λ h. ne (sym h)) (sym share ∙ sym is) in
-              ap (λ (y : ℕ). shared_at (set old.shares.items a x) y (index_of old.sharing j)) is
-              ∙ shared_set old.shares.items a (index_of old.sharing j) x there
-              ∙ others (index_of old.sharing j) (λ h. far (sym index ∙ h))
-              ∙ sym (was (index_of old.sharing j))
-              ∙ ap (λ (y : ℕ). shared_at old.shares.items y (index_of old.sharing j)) (sym is))
-          | false ↦ λ e. shared_other old.shares.items a (share_of old.sharing j) (index_of old.sharing j) x (eqb-false (share_of old.sharing j) a e)
-        ] refl
+  pub put_in : x.items ≡ d.items ++ entry ∷ [] → groups_from written 0 old.needs.items ≡ with_member (groups_of old) entry.group (member_of entry)
+  put_in is =
+      let e : 0 + entry.group ≡ entry.group = omega arith in
+      with_from (members_in old) written 0 old.needs.items entry.group (member_of entry) (omega (arith, l, count_of old))
+      (subst (λ (y : ℕ). written y ≡ members_in old y ++ member_of entry ∷ []) (sym e)
+      (here entry.group (entry ∷ []) is (sym share) ∙ ap (λ (qs : List Member). members_in old entry.group ++ qs) (among_own entry.group entry refl)))
+      (λ j ne. unchanged j (entry ∷ []) is (among_other j entry (λ h. ne (sym h ∙ sym e))))
 
-    pub put_in : (q : Member) → list_at x i ≡ list_at d i ++ q ∷ [] → groups_from written 0 old.needs.items ≡ with_member (groups_of old) b q
-    put_in q more =
-        let e : b ≡ 0 + b = omega arith in
-        with_from (members_in old) written 0 old.needs.items b q (omega (arith, l, count_of old))
-        (subst (λ (y : ℕ). written y ≡ members_in old y ++ q ∷ []) e (here ∙ more ∙ ap (λ (ms : List Member). ms ++ q ∷ []) (sym here_before))) (λ j ne. elsewhere j (λ h. ne (h ∙ e)))
-
-    pub not_put_in : list_at x i ≡ list_at d i → groups_from written 0 old.needs.items ≡ groups_of old
-    not_put_in same =
-        same_from written (members_in old) 0 old.needs.items (λ j m.
-        (elim (j == b) as (λ v. (j == b) ≡ v → written j ≡ members_in old j) [
-          | true ↦ λ e. subst (λ (y : ℕ). written y ≡ members_in old y) (sym (eqb-true j b e)) (here ∙ same ∙ sym here_before)
-          | false ↦ λ e. elsewhere j (eqb-false j b e)
-        ] refl))
+  pub not_put_in : x.items ≡ d.items → groups_from written 0 old.needs.items ≡ groups_of old
+  not_put_in same =
+      same_from written (members_in old) 0 old.needs.items
+      (λ j m. unchanged j [] (same ∙ sym (append-nil d.items)) refl)
 
 -- ---- new groups
 

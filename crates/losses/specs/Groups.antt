@@ -2,13 +2,14 @@
 -- carriers. A place can be in several groups, or in none.
 use Rattle.std.specs.Prelude.{ℕ, zero, suc, ◌+◌, ◌<◌, ◌≤◌, Bool, ◌&&◌, ◌==◌, List, [], ◌∷◌, length}
 use Rattle.std.specs.Prelude.{◌++◌, filter, map, slice_index_or}
+use Rattle.std.specs.Global.{Vec}
 use Rattle.std.specs.List.{AllByRecursion, list_any}
 use Rattle.lists.specs.Below.{below}
 use Rattle.lists.specs.Places.{ArePlaces}
 use Rattle.lists.specs.Selection.{is_among}
-use Rattle.shared_lists.specs.SharedLists.{list_at, share_of, index_of}
-use Rattle.shared_lists.specs.declared.shared_lists.SharedLists.{SharedLists}
+use Rattle.shared_lists.specs.SharedLists.{share_of}
 use Rattle.losses.specs.Losses.{Blocks}
+use Rattle.losses.specs.declared.groups.Entry.{Entry}
 use Rattle.losses.specs.declared.groups.Member.{Member}
 use Rattle.losses.specs.declared.groups.Groups.{Groups}
 
@@ -18,11 +19,22 @@ pub record Group : Type 0 where
   pub need : ℕ
   pub members : List Member
 
--- the list at this index of the lists that share this allocation
-abbrev pub shared_at : List (SharedLists Member) → ℕ → ℕ → List Member
-shared_at [] share index = []
-shared_at (lists ∷ shares) zero index = list_at lists index
-shared_at (lists ∷ shares) (suc share) index = shared_at shares share index
+-- the entries of a group, and the member of an entry
+abbrev pub is_of : ℕ → Entry → Bool
+is_of b entry = entry.group == b
+
+abbrev pub member_of : Entry → Member
+member_of entry = record { place = entry.place; esi = entry.esi }
+
+-- the members of a group among entries
+abbrev pub members_among : ℕ → List Entry → List Member
+members_among b entries = map member_of (filter (is_of b) entries)
+
+-- the entries that share this allocation
+abbrev pub entries_at : List (Vec Entry) → ℕ → List Entry
+entries_at [] share = []
+entries_at (entries ∷ shares) zero = entries.items
+entries_at (entries ∷ shares) (suc share) = entries_at shares share
 
 -- groups with these needs, whose first is number b of those whose members are given
 abbrev pub groups_from : (ℕ → List Member) → ℕ → List ℕ → List Group
@@ -32,7 +44,7 @@ groups_from members b (need ∷ needs) =
 
 abbrev pub members_in : Groups → ℕ → List Member
 members_in groups b =
-    shared_at groups.shares.items (share_of groups.sharing b) (index_of groups.sharing b)
+    members_among b (entries_at groups.shares.items (share_of groups.sharing b))
 
 abbrev pub groups_of : Groups → List Group
 groups_of groups = groups_from (members_in groups) 0 groups.needs.items

@@ -1,9 +1,10 @@
 //! Groups of places.
-ghost use Rattle.std.specs.Prelude.{◌≡◌, ◌<◌, ◌^◌, ℕ, length, map, IfOk, OnOk, OnErr};
+ghost use Rattle.std.specs.Prelude.{◌≡◌, ◌<◌, ◌^◌, ◌++◌, ◌∷◌, [], ℕ, length, map};
+ghost use Rattle.std.specs.Prelude.{IfOk, OnOk, OnErr};
 ghost use Rattle.shared_lists.specs.SharedLists.{share_of};
 
-use crate::counting::{copies_of, different};
-use shared_lists::{SharedLists, Sharing};
+use crate::counting::{copies_among, different};
+use shared_lists::Sharing;
 use std::alloc::{AllocError, Global};
 
 /// A place of a list, counted from 0, and the encoding symbol ID of the symbol there.
@@ -15,25 +16,49 @@ pub struct Member {
     pub esi: u8,
 }
 
+/// A member and the number of its group.
+#[derive(Clone, Copy, PartialEq, Eq, Debug)]
+pub struct Entry {
+    /// The member's place.
+    pub place: usize,
+    /// The group's number.
+    pub group: u32,
+    /// The member's encoding symbol ID.
+    pub esi: u8,
+}
+
 /// For each block how many different symbols it needs, at least one where figures are asked for,
 /// and the places of a list that hold its symbols, which rise there.
 #[derive(Drop)]
 pub struct Groups {
     // How many symbols of different ESIs each block needs.
     needs: Vec<u8>,
-    // Members of neighbouring groups share an allocation: most groups may have a single one.
+    // Their members, as they were put in. Those of neighbouring groups share an allocation.
     sharing: Sharing,
-    shares: Vec<SharedLists<Member>>,
+    shares: Vec<Vec<Entry>>,
     ghost few: { length needs.items < 2 ^ 32 },
     ghost shared: { (b : ℕ) → b < length needs.items → share_of sharing b < length shares.items },
 }
 
+// Puts a value behind the others. Where there is no room for it, makes room for it and for a
+// quarter of the others: room for as many again is much where there are many.
+fn put_behind<T: Drop>(values: &mut Vec<T>, value: T) -> Result<(), AllocError>
+    ensures put { OnOk result (values.new.items ≡ values.old.items ++ value ∷ []) }
+    ensures stays { OnErr result (values.new.items ≡ values.old.items) }
+{
+    if values.len() == values.capacity() {
+        values.reserve_exact(values.len() / 4 + 1)?;
+    }
+    values.push(value)?;
+    Ok(())
+}
+
 impl Groups {
     ghost use Rattle.losses.specs.Groups.{different as different_of, group_at, groups_of};
-    ghost use Rattle.losses.specs.Groups.{group_without, with_member};
+    ghost use Rattle.losses.specs.Groups.{group_without, members_among, with_member};
 
-    /// A group for each need, without members. The lengths say about how many members a group will
-    /// have.
+    /// A group for each need, without members. By about how many members each will have it's chosen
+    /// how many groups share an allocation.
     pub fn new(alloc: Global, needs: Vec<u8>, lengths: usize) -> Result<Groups, AllocError>
         requires { length needs.items < 2 ^ 32 }
         ensures { IfOk result (λ groups. groups_of groups ≡ map group_without needs.items) }
@@ -45,7 +70,7 @@ impl Groups {
         };
         let mut shares = Vec::with_capacity(alloc, count)?;
         for _ in 0..count {
-            shares.push(SharedLists::new(alloc))?;
+            shares.push(Vec::new(alloc))?;
         }
         Ok(Groups {
             needs,
@@ -69,14 +94,31 @@ impl Groups {
         usize::from(self.needs[group])
     }
 
-    /// The members of a group, as they were put in.
-    pub fn members(&self, group: usize) -> &[Member]
+    /// The members of a group and those of its neighbours, as they were put in.
+    pub fn entries_near(&self, group: usize) -> &[Entry]
         requires { group < length (groups_of self.now) }
-        ensures { result.now ≡ (group_at (groups_of self.now) group).members }
+        ensures { members_among group result.now ≡ (group_at (groups_of self.now) group).members }
     {
-        let number = group as u32;
-        let share = self.sharing.share(number) as usize;
-        self.shares[share].get(self.sharing.index(number))
+        let share = self.sharing.share(group as u32) as usize;
+        self.shares[share].as_slice()
+    }
+
+    /// Makes a list that of the members of a group, as they were put in. Want of memory is the only
+    /// error, and leaves the first of them.
+    pub fn copy_members(&self, group: usize, members: &mut Vec<Member>) -> Result<(), AllocError>
+        requires { group < length (groups_of self.now) }
+        ensures { OnOk result
+            (members.new.items ≡ (group_at (groups_of self.now) group).members) }
+    {
+        members.clear();
+        let entries = self.entries_near(group);
+        for entry in entries {
+            if entry.group as usize == group {
+                let Entry { place, esi, .. } = *entry;
+                put_behind(members, Member { place, esi })?;
+            }
+        }
+        Ok(())
     }
 
     /// How many different symbols a group has: how many ESIs stand among its members, at most 256.
@@ -84,7 +126,7 @@ impl Groups {
         requires { group < length (groups_of self.now) }
         ensures { result ≡ different_of (group_at (groups_of self.now) group).members }
     {
-        different(&copies_of(self.members(group)))
+        different(&copies_among(group, self.entries_near(group)))
     }
 
     /// Puts a member behind those of a group. Want of memory is the only error.
@@ -94,8 +136,8 @@ impl Groups {
             (groups_of self.new ≡ with_member (groups_of self.old) group member) }
         ensures stays { OnErr result (groups_of self.new ≡ groups_of self.old) }
     {
+        let Member { place, esi } = member;
         let share = self.sharing.share(group) as usize;
-        let index = self.sharing.index(group);
-        self.shares[share].push(index, member)
+        put_behind(&mut self.shares[share], Entry { place, group, esi })
     }
 }

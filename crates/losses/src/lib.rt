@@ -25,6 +25,6 @@ mod report;
 mod weighing;
 mod window;
 
-pub use groups::{Groups, Member};
+pub use groups::{Entry, Groups, Member};
 pub use longest::{Run, runs_of};
 pub use report::{Figures, figures_of};

@@ -4,7 +4,7 @@
 //! a run that is shorter by one is put at the first place of each window, and goes on to the places
 //! before it where none that ends earlier stands there.
 ghost use Rattle.std.specs.Prelude.{◌≡◌, ℕ, ◌+◌, ◌<◌, ◌≤◌, ◌^◌, Some, None, IfOk, length};
-ghost use Rattle.std.specs.Prelude.{slice_set};
+ghost use Rattle.std.specs.Prelude.{slice_set, OnOk};
 ghost use Rattle.losses.specs.Groups.{groups_of, AreGroups, AreCarriers, blocks_of_groups, places};
 ghost use Rattle.losses.specs.Losses.{IsBurst};
 ghost use Rattle.losses.specs.Members.{different_outside};
@@ -83,15 +83,23 @@ fn spread(runs: &mut [Option<Run>])
 }
 
 // Puts in at each place the longest harmless run from there on.
-fn fill(runs: &mut [Option<Run>], groups: &Groups, carriers: &[usize])
+fn fill(
+    alloc: Global,
+    runs: &mut [Option<Run>],
+    groups: &Groups,
+    carriers: &[usize],
+) -> Result<(), AllocError>
     requires empty { (s : ℕ) → run_at runs.old s ≡ None }
     requires small { length runs.old < 2 ^ 64 }
     requires groups { AreGroups (groups_of groups.now) (length runs.old) }
     requires carriers { AreCarriers carriers.now (length runs.old) }
-    ensures { AreFilled (groups_of groups.now) carriers.now (length runs.old) runs.new }
+    ensures { OnOk result
+        (AreFilled (groups_of groups.now) carriers.now (length runs.old) runs.new) }
 {
+    let mut members = Vec::new(alloc);
     for block in 0..groups.len() {
-        mark(runs, block, groups.members(block), groups.need(block));
+        groups.copy_members(block, &mut members)?;
+        mark(runs, block, &members, groups.need(block));
     }
     // The narrowest run that takes all carriers goes from the first to the last.
     let first = carriers[0];
@@ -101,6 +109,7 @@ fn fill(runs: &mut [Option<Run>], groups: &Groups, carriers: &[usize])
     };
     put(runs, first, run);
     spread(runs);
+    Ok(())
 }
 
 /// For each place of a list of `count` places the longest harmless run from there on, or `None`
@@ -122,6 +131,6 @@ pub fn runs_of(
         → IsLeastLength runs.items burst) }
 {
     let mut runs = vec![in alloc; None; count]?;
-    fill(&mut runs, groups, carriers);
+    fill(alloc, &mut runs, groups, carriers)?;
     Ok(runs)
 }

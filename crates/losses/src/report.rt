@@ -49,13 +49,16 @@ fn weigh_all(alloc: Global, groups: &Groups) -> Result<Lightest, AllocError>
     ensures lightest { IfOk result (IsLightest (groups_of groups.now)) }
     ensures narrowest { IfOk result (IsNarrowest (groups_of groups.now)) }
 {
-    let first = weigh(alloc, groups.members(0), groups.need(0))?;
+    let mut members = Vec::new(alloc);
+    groups.copy_members(0, &mut members)?;
+    let first = weigh(alloc, &members, groups.need(0))?;
     let mut at = 0;
     let mut threshold = first.threshold;
     let mut gap = first.gap;
     let mut gap_at = 0;
     for block in 1..groups.len() {
-        let weight = weigh(alloc, groups.members(block), groups.need(block))?;
+        groups.copy_members(block, &mut members)?;
+        let weight = weigh(alloc, &members, groups.need(block))?;
         if weight.threshold.cost < threshold.cost {
             threshold = weight.threshold;
             at = block;
@@ -113,7 +116,9 @@ pub fn figures_of(alloc: Global, groups: &Groups, carriers: &[usize]) -> Result<
             burst_block,
         });
     }
-    let kill = doomed_places(alloc, groups.members(block.at), block.threshold)?;
+    let mut members = Vec::new(alloc);
+    groups.copy_members(block.at, &mut members)?;
+    let kill = doomed_places(alloc, &members, block.threshold)?;
     Ok(Figures {
         margin: block.threshold.cost - 1,
         kill,

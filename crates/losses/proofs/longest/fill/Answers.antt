@@ -1,4 +1,4 @@
-use Rattle.std.proofs.Common.{◌≡◌, ℕ, ◌+◌, ◌-◌, ◌<◌, List, length, get_or, ap, sym, arith, subst}
+use Rattle.std.proofs.Common.{◌≡◌, ℕ, ◌+◌, ◌-◌, ◌<◌, ◌∙◌, List, length, get_or, ap, sym, arith, subst}
 use Rattle.losses.specs.declared.groups.Member.{Member}
 use Rattle.losses.specs.Groups.{groups_of, group_at}
 use Rattle.losses.specs.Members.{different_outside}
@@ -14,7 +14,7 @@ pub mark-requires-clause-placed : goal.mark-requires-clause-placed
 mark-requires-clause-placed c =
     let gs = c.args.groups.now in
     let l = c.loop-block-test.true in
-    let is = sym c.members.ensures in
+    let is = sym (c.deref.ensures.value ∙ c.in_ok-copy_members.ensures) in
     subst (λ (qs : List Member). ArePlaced qs) is
     (placed_of (groups_of c.args.groups.now) (length c.args.runs.now) (groups_ordered (groups_of c.args.groups.now) (length c.args.runs.now) c.requires.groups) c.loop-block.block (omega (arith, l, c.len-block-end.ensures)))
 
@@ -22,7 +22,7 @@ pub mark-requires-clause-within : goal.mark-requires-clause-within
 mark-requires-clause-within c =
     let gs = c.args.groups.now in
     let l = c.loop-block-test.true in
-    let is = sym c.members.ensures in
+    let is = sym (c.deref.ensures.value ∙ c.in_ok-copy_members.ensures) in
     let n = c.loop-block.invariant.count in
     subst (λ (qs : List Member). (i : ℕ) → i < length qs → place_at qs i < length c.loop-block.runs) is
     (λ i g. (let b = member_below 0 (length c.args.runs.now) i (group_at (groups_of c.args.groups.now) c.loop-block.block).members
@@ -40,7 +40,7 @@ pub mark-requires-clause-enough : goal.mark-requires-clause-enough
 mark-requires-clause-enough c =
     let gs = c.args.groups.now in
     let l = c.loop-block-test.true in
-    let is = sym c.members.ensures in
+    let is = sym (c.deref.ensures.value ∙ c.in_ok-copy_members.ensures) in
     let n = sym c.need.ensures in
     let e = (groups_ordered (groups_of c.args.groups.now) (length c.args.runs.now) c.requires.groups).enough c.loop-block.block (omega (arith, l, c.len-block-end.ensures)) in
     let d = ap (λ (qs : List Member). different_outside qs 0 0) is in
@@ -50,10 +50,10 @@ pub loop-block-preserved : goal.loop-block-preserved
 loop-block-preserved c =
     let gs = c.args.groups.now in
     let l = c.loop-block-test.true in
-    let is = sym c.members.ensures in
+    let is = sym (c.deref.ensures.value ∙ c.in_ok-copy_members.ensures) in
     let n = sym c.need.ensures in
     let marked = subst (λ (qs : List Member). AreMarked qs (group_at (groups_of c.args.groups.now) c.loop-block.block).need c.loop-block.block (length qs) c.loop-block.runs c.mark.new.runs) (sym is)
-    (subst (λ (k : ℕ). AreMarked c.members.result.now k c.loop-block.block (length c.members.result.now) c.loop-block.runs c.mark.new.runs) (sym n) c.mark.ensures) in
+    (subst (λ (k : ℕ). AreMarked c.deref.result.now k c.loop-block.block (length c.deref.result.now) c.loop-block.runs c.mark.new.runs) (sym n) c.mark.ensures) in
     group_more (groups_of c.args.groups.now) c.args.carriers.now (length c.args.runs.now) c.loop-block.block c.loop-block.runs c.mark.new.runs (omega (arith, l, c.len-block-end.ensures)) c.loop-block.invariant marked
 
 pub overflow_sub-run-2 : goal.overflow_sub-run-2

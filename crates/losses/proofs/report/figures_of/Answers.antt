@@ -74,7 +74,7 @@ returns-clause-kill c = λ n told came.
     let w = c.in_ok-block.ensures.lightest in
     let l = c.in_ok-block.block in
     let gs = c.args.groups.now in
-    let is = c.members.ensures in
+    let is = c.deref.ensures.value ∙ c.in_ok-copy_members.ensures in
     let places_are = c.in_ok-kill.ensures ∙ ap (λ (qs : List Member). cheap_places qs l.threshold.most_copies l.threshold.last_esi) is in
     subst (λ (ps : List ℕ). IsKill (blocks_of_groups (groups_of gs) c.args.carriers.now) (places 0 n) (c.in_ok-block.block.threshold.cost - 1 + 1) ps) (sym places_are)
     (kill_blocks (groups_of gs) c.args.carriers.now n are carriers l.at l.threshold.cost l.threshold.most_copies l.threshold.last_esi w.within w.weighed w.heavy c.if-carriers-block.false)
@@ -85,7 +85,7 @@ returns-clause-kill_block c = λ n told came.
     let w = c.in_ok-block.ensures.lightest in
     let l = c.in_ok-block.block in
     let gs = c.args.groups.now in
-    let is = c.members.ensures in
+    let is = c.deref.ensures.value ∙ c.in_ok-copy_members.ensures in
     let places_are = c.in_ok-kill.ensures ∙ ap (λ (qs : List Member). cheap_places qs l.threshold.most_copies l.threshold.last_esi) is in (
       w.within,
       subst (λ (ps : List ℕ). is_enough (blocks_of_groups (groups_of c.args.groups.now) c.args.carriers.now) (rest (is_among ps) (places 0 n)) c.in_ok-block.block.at ≡ false) (sym places_are)

@@ -23,7 +23,7 @@ first_as {qs} {rs} {k} {m} {place} {gap} e f w = subst (λ (x : ℕ). IsFirstGap
 pub weigh-requires-clause-placed : goal.weigh-requires-clause-placed
 weigh-requires-clause-placed c =
     let gs = c.args.groups.now in
-    let is = c.members.ensures in
+    let is = c.deref.ensures.value ∙ c.in_ok-copy_members.ensures in
     subst (λ (qs : List Member). ArePlaced qs) (sym is) (placed_of (groups_of gs) c.requires.groups.0 c.requires.groups.1 0 c.requires.some)
 
 pub weigh-requires-clause-some : goal.weigh-requires-clause-some
@@ -37,7 +37,7 @@ pub weigh-requires-clause-enough : goal.weigh-requires-clause-enough
 weigh-requires-clause-enough c =
     let gs = c.args.groups.now in
     let n = sym c.need.ensures in
-    let is = c.members.ensures in
+    let is = c.deref.ensures.value ∙ c.in_ok-copy_members.ensures in
     let e = c.requires.groups.1.enough 0 c.requires.some in
     let d = ap (λ (qs : List Member). different_outside qs 0 0) is in
     omega (arith, n, e, d)
@@ -46,7 +46,7 @@ pub loop-block-init : goal.loop-block-init
 loop-block-init c =
     let gs = c.args.groups.now in
     let n = sym c.need.ensures in
-    let is = c.members.ensures in
+    let is = c.deref.ensures.value ∙ c.in_ok-copy_members.ensures in
     let w = c.in_ok-first.first in
     let cut : IsWeighed (group_at (groups_of gs) 0).members (group_at (groups_of gs) 0).need w.threshold.cost w.threshold.most_copies w.threshold.last_esi =
     weighed_as is (sym n) c.in_ok-first.ensures.cut in
@@ -67,7 +67,7 @@ loop-block-init c =
 pub weigh-requires-in-loop-block-clause-placed : goal.weigh-requires-in-loop-block-clause-placed
 weigh-requires-in-loop-block-clause-placed c =
     let gs = c.args.groups.now in
-    let is = c.members-in-loop-block.ensures in
+    let is = c.deref-in-loop-block.ensures.value ∙ c.in_ok-copy_members-2.ensures in
     subst (λ (qs : List Member). ArePlaced qs) (sym is) (placed_of (groups_of gs) c.requires.groups.0 c.requires.groups.1 c.loop-block.block (omega (arith, c.loop-block-test.true, c.len-block-end.ensures)))
 
 pub weigh-requires-in-loop-block-clause-some : goal.weigh-requires-in-loop-block-clause-some
@@ -81,7 +81,7 @@ pub weigh-requires-in-loop-block-clause-enough : goal.weigh-requires-in-loop-blo
 weigh-requires-in-loop-block-clause-enough c =
     let gs = c.args.groups.now in
     let n = sym c.need-in-loop-block.ensures in
-    let is = c.members-in-loop-block.ensures in
+    let is = c.deref-in-loop-block.ensures.value ∙ c.in_ok-copy_members-2.ensures in
     let e = c.requires.groups.1.enough c.loop-block.block (omega (arith, c.loop-block-test.true, c.len-block-end.ensures)) in
     let d = ap (λ (qs : List Member). different_outside qs 0 0) is in
     omega (arith, n, e, d)
@@ -93,7 +93,7 @@ loop-block-preserved c =
     let groups = groups_of gs in
     let here : c.loop-block.at < c.loop-block.block = i.within in
     let n = sym c.need-in-loop-block.ensures in
-    let is = c.members-in-loop-block.ensures in
+    let is = c.deref-in-loop-block.ensures.value ∙ c.in_ok-copy_members-2.ensures in
     let w = c.in_ok-weight.weight in
     let cut : IsWeighed (group_at (groups_of c.args.groups.now) c.loop-block.block).members (group_at (groups_of c.args.groups.now) c.loop-block.block).need w.threshold.cost w.threshold.most_copies w.threshold.last_esi =
     weighed_as is (sym n) c.in_ok-weight.ensures.cut in

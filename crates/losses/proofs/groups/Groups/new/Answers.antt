@@ -1,9 +1,9 @@
 use Rattle.std.proofs.Common.{◌≡◌, ◌+◌, ◌∙◌, ℕ, List, [], length, ap, subst, sym, arith}
+use Rattle.std.specs.Global.{Vec}
 use Rattle.std.proofs.lemmas.List.{length_push}
-use Rattle.shared_lists.specs.declared.shared_lists.SharedLists.{SharedLists}
-use Rattle.losses.specs.declared.groups.Member.{Member}
-use Rattle.losses.specs.Groups.{shared_at}
-use Rattle.losses.proofs.SharedGroups.{share_made, shared_more, without_from}
+use Rattle.losses.specs.declared.groups.Entry.{Entry}
+use Rattle.losses.specs.Groups.{entries_at, members_among}
+use Rattle.losses.proofs.SharedGroups.{share_made, entries_more, without_from}
 use Rattle.losses.proofs.groups.Groups.new.Goals as goal
 use Rattle.losses.proofs.groups.Groups.new.Goals.{in-0, in_default}
 
@@ -11,8 +11,8 @@ pub loop-preserved : goal.loop-preserved
 loop-preserved c =
     let items = c.in_ok-push.ensures.items in
     record {
-      size = (let more = ap (λ (xs : List (SharedLists Member)). length xs) items in let one = length_push c.loop.shares.items c.new.result in let size = c.loop.invariant.size in omega (arith, more, one, size));
-      empty = subst (λ (xs : List (SharedLists Member)). (a i : ℕ) → shared_at xs a i ≡ []) (sym items) (shared_more c.loop.shares.items c.new.result c.loop.invariant.empty c.new.ensures);
+      size = (let more = ap (λ (xs : List (Vec Entry)). length xs) items in let one = length_push c.loop.shares.items c.new.result in let size = c.loop.invariant.size in omega (arith, more, one, size));
+      empty = subst (λ (xs : List (Vec Entry)). (a : ℕ) → entries_at xs a ≡ []) (sym items) (entries_more c.loop.shares.items c.new.result c.loop.invariant.empty c.new.ensures.items);
     }
 
 pub invariant_of-result-clause-shared : goal.invariant_of-result-clause-shared
@@ -27,4 +27,4 @@ invariant_of-result-clause-shared c = λ b l.
     ]
 
 pub returns : goal.returns
-returns c = without_from _ 0 c.args.needs.items (λ i. c.loop.invariant.empty _ _)
+returns c = without_from _ 0 c.args.needs.items (λ i. ap (λ (es : List Entry). members_among i es) (c.loop.invariant.empty _))

@@ -8,14 +8,12 @@ index_mut-requires c = let there = share_there c.args.self.now c.args.group c.re
 
 pub returns-clause-pushed : goal.returns-clause-pushed
 returns-clause-pushed c =
-    let e = c.push.ensures in
-    on_ok_weaker c.push.result
-    (put_in c.args.self.now c.args.group c.share-share.result c.index-index.result c.push.new.self c.index_mut.result.now c.requires c.share-share.ensures c.index-index.ensures c.index_mut.ensures.value e.others c.args.member)
-    e.pushed
+    on_ok_weaker c.put_behind.result
+    (put_in c.args.self.now c.share-share.result _ c.put_behind.new.values c.index_mut.result.now c.requires c.share-share.ensures c.index_mut.ensures.value)
+    c.put_behind.ensures.put
 
 pub returns-clause-stays : goal.returns-clause-stays
 returns-clause-stays c =
-    let e = c.push.ensures in
-    on_err_weaker c.push.result
-    (not_put_in c.args.self.now c.args.group c.share-share.result c.index-index.result c.push.new.self c.index_mut.result.now c.requires c.share-share.ensures c.index-index.ensures c.index_mut.ensures.value e.others)
-    e.stays
+    on_err_weaker c.put_behind.result
+    (not_put_in c.args.self.now c.share-share.result (record { place = c.args.member.place; group = c.args.group; esi = c.args.member.esi }) c.put_behind.new.values c.index_mut.result.now c.requires c.share-share.ensures c.index_mut.ensures.value)
+    c.put_behind.ensures.stays
