@@ -37,10 +37,6 @@ among_next b es i d l =
 pub next_own : (b : ℕ) (es : List Entry) (i : ℕ) (d : Entry) → i < length es → (get_or es i d).group ≡ b → members_among b (take (i + 1) es) ≡ members_among b (take i es) ++ member_of (get_or es i d) ∷ []
 next_own b es i d l is = among_next b es i d l ∙ ap (λ (qs : List Member). members_among b (take i es) ++ qs) (among_own b (get_or es i d) is)
 
-pub next_other : (b : ℕ) (es : List Entry) (i : ℕ) (d : Entry) → i < length es → (get_or es i d).group ≢ b → members_among b (take (i + 1) es) ≡ members_among b (take i es)
-next_other b es i d l ne =
-    among_next b es i d l ∙ ap (λ (qs : List Member). members_among b (take i es) ++ qs) (among_other b (get_or es i d) ne) ∙ append-nil (members_among b (take i es))
-
 -- the member of an entry stands behind those of the entries before it
 pub own_at : (b : ℕ) (es : List Entry) (i : ℕ) (d : Entry) (q : Member) → i < length es → (get_or es i d).group ≡ b
     → (length (members_among b (take i es)) < length (members_among b es)) × (get_or (members_among b es) (length (members_among b (take i es))) q ≡ member_of (get_or es i d))
