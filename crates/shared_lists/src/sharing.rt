@@ -1,6 +1,5 @@
 //! Which of many numbered lists share an allocation.
-ghost use Rattle.std.specs.Prelude.{◌≡◌, ◌<◌, ◌≤◌, ◌+◌, ◌*◌, ◌/◌, ◌%◌, ◌^◌, max, min};
-ghost use Rattle.std.specs.Prelude.{IfSome, IsNone};
+ghost use Rattle.std.specs.Prelude.{◌<◌};
 
 /// How many lists whose numbers follow each other share an allocation.
 #[derive(Clone, Copy)]
@@ -10,6 +9,9 @@ pub struct Sharing {
 }
 
 impl Sharing {
+    ghost use Rattle.std.specs.Prelude.{◌≡◌, ◌≤◌, ◌+◌, ◌*◌, ◌/◌, ◌^◌, max, min, IfSome, IsNone};
+    ghost use Rattle.shared_lists.specs.SharedLists.{share_of, index_of};
+
     /// Of lists of so many values each, or fewer, as many share an allocation as have some sixty
     /// values together: at least one, and 32 at most.
     pub fn of_lengths(length: usize) -> Sharing
@@ -22,7 +24,7 @@ impl Sharing {
 
     /// The number of the allocation in which the list of a number is.
     pub fn share(&self, number: u32) -> u32
-        ensures { result ≡ number / self.now.lists }
+        ensures { result ≡ share_of self.now number }
     {
         // A division takes as long as a look at a packet's header.
         if self.lists == 1 {
@@ -33,7 +35,7 @@ impl Sharing {
 
     /// The list's index there.
     pub fn index(&self, number: u32) -> usize
-        ensures { result ≡ number % self.now.lists }
+        ensures { result ≡ index_of self.now number }
     {
         if self.lists == 1 {
             return 0;
