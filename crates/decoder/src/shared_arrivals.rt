@@ -11,7 +11,7 @@ use std::alloc::{AllocError, Global};
 #[derive(Drop)]
 pub(crate) struct SharedArrivals<S> {
     lists: SharedLists<Arrival<S>>,
-    // Above each ESI. Where ESIs rise, none of a list needs to be looked at for the next one.
+    // Above each ESI. Where ESIs rise over all these blocks, no list is searched for the next one.
     limit: u16,
     ghost below: { (i : ℕ) → All (λ a. a.esi < limit) (list_at lists i) },
 }

@@ -57,8 +57,8 @@ impl Groups {
     ghost use Rattle.losses.specs.Groups.{different as different_of, group_at, groups_of};
     ghost use Rattle.losses.specs.Groups.{group_without, members_among, with_member};
 
-    /// A group for each need, without members. By about how many members each will have it's chosen
-    /// how many groups share an allocation.
+    /// A group for each need, without members. `lengths` says about how many members each will
+    /// have, and so how many groups share an allocation.
     pub fn new(alloc: Global, needs: Vec<u8>, lengths: usize) -> Result<Groups, AllocError>
         requires { length needs.items < 2 ^ 32 }
         ensures { IfOk result (λ groups. groups_of groups ≡ map group_without needs.items) }
@@ -103,8 +103,8 @@ impl Groups {
         self.shares[share].as_slice()
     }
 
-    /// Makes a list that of the members of a group, as they were put in. Want of memory is the only
-    /// error, and leaves the first of them.
+    /// Replaces what a list has by the members of a group, as they were put in. Want of memory is
+    /// the only error.
     pub fn copy_members(&self, group: usize, members: &mut Vec<Member>) -> Result<(), AllocError>
         requires { group < length (groups_of self.now) }
         ensures { OnOk result

@@ -8,7 +8,7 @@
 //! group more (`proofs/Carried`), which needs one symbol and has one, of which each carrier is a
 //! copy.
 //!
-//! - `groups`: the places of a block's symbols.
+//! - `groups`: the places of each block's symbols.
 //! - `counting`: how often each ESI stands among them, and how many different ones do.
 //! - `pricing`: the symbols of a block that go with the fewest copies.
 //! - `window`: the narrowest run of places whose loss leaves a block short.

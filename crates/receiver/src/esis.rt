@@ -9,7 +9,7 @@ use std::collections::BTreeMap;
 pub(crate) struct Esis {
     // Which blocks share one.
     pub(crate) sharing: Sharing,
-    // By its number what is in it. Of blocks whose share isn't there nothing came.
+    // The lists of each share, by its number. Nothing came of blocks whose share isn't there.
     pub(crate) shares: BTreeMap<u32, SharedLists<u8>>,
 }
 
@@ -17,7 +17,7 @@ impl Esis {
     ghost use Rattle.std.specs.Prelude.{◌≡◌, ◌≢◌, ◌∷◌, ◌++◌, ℕ, [], OnOk};
     ghost use Rattle.receiver.specs.Esis.{esis_of, HasRoomFor};
 
-    /// None of any block. Of no block come more than so many.
+    /// None of any block. No block has more than so many.
     pub(crate) fn new(alloc: Global, most: usize) -> Esis
         ensures { (b : ℕ) → esis_of result b ≡ [] }
     {

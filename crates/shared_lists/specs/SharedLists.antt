@@ -19,7 +19,7 @@ list_at lists i = list_in lists.lengths.items lists.values.items i
 -- room for one value more in the list at an index
 pub record HasRoom {T : Type 0} (lists : SharedLists T) (index : ℕ) : Type 0 where
   pub begun : index ≤ length lists.lengths.items
-  pub counts : slice_index_or lists.lengths.items index 0 + 1 < 2 ^ 32
+  pub counts : slice_index_or lists.lengths.items index 0 + 1 < 2 ^ 16
   pub free : length lists.values.items < vec_capacity lists.values
 
 -- the number of the allocation in which the list of a number is, and its index there

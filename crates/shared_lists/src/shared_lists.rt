@@ -4,25 +4,26 @@ ghost use Rattle.shared_lists.specs.Totals.{total};
 
 use std::alloc::{AllocError, Global};
 
-/// Lists with the indices 0, 1, 2 and so on. One to which nothing was pushed is empty.
+/// Lists with the indices 0, 1, 2 and so on. One to which nothing was pushed is empty. No list but
+/// the last has more than 65,535 values: for more there is no memory.
 #[derive(Drop)]
 pub struct SharedLists<T> {
     // The lists' values, one list behind the other.
     values: Vec<T>,
     // The length of each list but the last to which something was pushed. It has the other values.
-    lengths: Vec<u32>,
+    lengths: Vec<u16>,
     ghost within: { total lengths.items ≤ length values.items },
 }
 
 // How many values lists of these lengths have.
 #[tactic(auto, using(crate::proofs::Lists::total_more, crate::proofs::Lists::total_front))]
-fn count(lengths: &[u32]) -> usize
+fn count(lengths: &[u16]) -> usize
     requires { total lengths.now < 2 ^ 64 }
     ensures { result ≡ total lengths.now }
 {
     let mut count = 0;
     for length in lengths {
-        count += *length as usize;
+        count += usize::from(*length);
     }
     count
 }
@@ -64,7 +65,7 @@ impl<T: Drop> SharedLists<T> {
             self.now.values.items) }
     {
         match self.lengths.get(index) {
-            Some(length) => *length as usize,
+            Some(length) => usize::from(*length),
             None => self.values.len() - self.front(index),
         }
     }
@@ -91,7 +92,7 @@ impl<T: Drop> SharedLists<T> {
         ensures same { (i : ℕ) → list_at self.new i ≡ list_at self.old i }
     {
         let rest = self.values.len() - self.front(self.lengths.len());
-        let Ok(length) = u32::try_from(rest) else {
+        let Ok(length) = u16::try_from(rest) else {
             return Err(AllocError);
         };
         self.lengths.push(length)?;
@@ -108,7 +109,7 @@ impl<T: Drop> SharedLists<T> {
             self.close()?;
         }
         match self.lengths.get(index) {
-            Some(length) if *length == u32::MAX => return Err(AllocError),
+            Some(length) if *length == u16::MAX => return Err(AllocError),
             _ => {}
         }
         // Room for a quarter of the values: for as many again it would be more than many short
@@ -136,7 +137,7 @@ impl<T: Drop> SharedLists<T> {
         let Some(more) = length.checked_add(1) else {
             return Err(AllocError);
         };
-        let behind = self.front(index) + *length as usize;
+        let behind = self.front(index) + usize::from(*length);
         self.values.insert(behind, value)?;
         self.lengths[index] = more;
         Ok(())

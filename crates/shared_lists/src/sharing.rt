@@ -12,8 +12,8 @@ impl Sharing {
     ghost use Rattle.std.specs.Prelude.{◌≡◌, ◌≤◌, ◌+◌, ◌*◌, ◌/◌, ◌^◌, max, min, IfSome, IsNone};
     ghost use Rattle.shared_lists.specs.SharedLists.{share_of, index_of};
 
-    /// Of lists of so many values each, or fewer, as many share an allocation as have some sixty
-    /// values together: at least one, and 32 at most.
+    /// How many lists share an allocation if each has up to so many values: as many as have some
+    /// sixty values together, at least one and at most 32.
     pub fn of_lengths(length: usize) -> Sharing
         ensures { result.lists ≡ max 1 (min 32 (64 / max 1 length)) }
     {
@@ -50,7 +50,8 @@ impl Sharing {
         self.lists
     }
 
-    /// The number of the list at an index of an allocation; `None` where no list has it.
+    /// The number of the list at an index of an allocation, which is below `lists`. `None` says that
+    /// it would be 2^32 or more.
     pub fn number(&self, share: u32, index: u32) -> Option<u32>
         ensures number { IfSome result (λ n. n ≡ share * self.now.lists + index) }
         ensures none { IsNone result → 2 ^ 32 ≤ share * self.now.lists + index }
