@@ -50,8 +50,8 @@ impl Sharing {
         self.lists
     }
 
-    /// The number of the list at an index of an allocation, which is below `lists`. `None` says that
-    /// it would be 2^32 or more.
+    /// The number of the list at an index of an allocation, which is below `lists`. `None` says
+    /// that it would be 2^32 or more.
     pub fn number(&self, share: u32, index: u32) -> Option<u32>
         ensures number { IfSome result (λ n. n ≡ share * self.now.lists + index) }
         ensures none { IsNone result → 2 ^ 32 ≤ share * self.now.lists + index }
