@@ -96,6 +96,13 @@ def repeats():
     put("s", get("s") * 166_667)
 
 
+def neighbours():
+    """32 blocks of one symbol, whose members share an allocation, and a million repeats of one."""
+    send(32, (1, 1, 1), "blocks")
+    session = get("s")
+    put("s", session + session[: len(session) // 32] * 1_000_000)
+
+
 def one_repeated():
     """One datagram a million times."""
     send(29, (8, 8, 12), "blocks")
@@ -172,6 +179,7 @@ ROWS = [
     (small_blocks, ["decode", "follow"]),
     (many_blocks, ["check", "decode", "follow", "twin"]),
     (repeats, ["check", "decode", "follow", "show", "drop"]),
+    (neighbours, ["check", "decode", "follow"]),
     (one_repeated, ["check", "decode", "follow", "twin"]),
     (empty_datagrams, ["check", "decode", "follow", "show", "drop"]),
     (last_column, ["check"]),
