@@ -37,7 +37,8 @@ pub struct Groups {
     sharing: Sharing,
     shares: Vec<Vec<Entry>>,
     ghost few: { length needs.items < 2 ^ 32 },
-    ghost shared: { (b : ℕ) → b < length needs.items → share_of sharing b < length shares.items },
+    ghost shared: { (b : ℕ) → b < length needs.items
+        → share_of sharing b < length shares.items },
 }
 
 // Puts a value behind the others. Where there is no room for it, makes room for it and for a

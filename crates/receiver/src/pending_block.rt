@@ -139,7 +139,8 @@ impl Esis {
             ≡ esis_of self.old packet.now.sbn ++ packet.now.esi ∷ []) }
         ensures same { OnErr result
             (esis_of self.new packet.now.sbn ≡ esis_of self.old packet.now.sbn) }
-        ensures others { (a : ℕ) → packet.now.sbn ≢ a → esis_of self.new a ≡ esis_of self.old a }
+        ensures others { (a : ℕ) → packet.now.sbn ≢ a
+            → esis_of self.new a ≡ esis_of self.old a }
         ensures outcome { (x : ℕ → List ℕ) (at : ℕ → Option (List ℕ))
             → B.kept bytes.old fti.now ≡ Some x
             → IsPending fti.now packet.now.sbn (x packet.now.sbn)
@@ -185,7 +186,8 @@ impl Esis {
             ≡ esis_of self.old packet.now.sbn ++ packet.now.esi ∷ []) }
         ensures same { OnErr result
             (esis_of self.new packet.now.sbn ≡ esis_of self.old packet.now.sbn) }
-        ensures others { (a : ℕ) → packet.now.sbn ≢ a → esis_of self.new a ≡ esis_of self.old a }
+        ensures others { (a : ℕ) → packet.now.sbn ≢ a
+            → esis_of self.new a ≡ esis_of self.old a }
         ensures outcome { (x : ℕ → List ℕ) (at : ℕ → Option (List ℕ))
             → B.kept bytes.old fti.now ≡ Some x
             → IsPending fti.now packet.now.sbn (x packet.now.sbn)

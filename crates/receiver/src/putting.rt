@@ -33,7 +33,8 @@ impl Esis {
         requires of { IsOf fti.now packet.now.sbn (esis_of self.old packet.now.sbn) }
         ensures keeps { MayPut fti.now codes.now packet.now scratch.new }
         ensures of { IsOf fti.now packet.now.sbn (esis_of self.new packet.now.sbn) }
-        ensures others { (a : ℕ) → packet.now.sbn ≢ a → esis_of self.new a ≡ esis_of self.old a }
+        ensures others { (a : ℕ) → packet.now.sbn ≢ a
+            → esis_of self.new a ≡ esis_of self.old a }
         ensures solves { Solves fti.now packet.now.sbn result (esis_of self.old packet.now.sbn)
             (esis_of self.new packet.now.sbn) }
         ensures outcome { (x : ℕ → List ℕ) (at : ℕ → Option (List ℕ))

@@ -37,7 +37,8 @@ impl Esis {
         ensures of { IsOf fti.now packet.now.sbn (esis_of self.new packet.now.sbn) }
         ensures enough { source_count fti.now packet.now.sbn
             ≤ length (esis_of self.new packet.now.sbn) }
-        ensures others { (a : ℕ) → packet.now.sbn ≢ a → esis_of self.new a ≡ esis_of self.old a }
+        ensures others { (a : ℕ) → packet.now.sbn ≢ a
+            → esis_of self.new a ≡ esis_of self.old a }
         ensures outcome { (x : ℕ → List ℕ) (at : ℕ → Option (List ℕ))
             → B.kept bytes.old fti.now ≡ Some x
             → IsSolved fti.now packet.now.sbn (x packet.now.sbn)
