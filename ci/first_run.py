@@ -1,10 +1,11 @@
 #!/usr/bin/env python3
-"""Tries ./alcrs as it is run the first time, with a stub in place of `rt` that proves nothing.
+"""Tries ./alcrs as it is run the first time, with a stub in place of the toolchain.
 
-The stub takes a while for each crate. It notes where a library below isn't there, and where two of
-it work in one folder. Tried are: a run from nothing; a second call meanwhile, which has to wait; a
-source that is newer; a proof that fails once, and one that fails again; and Ctrl-C, after which
-nothing may run on, and what was proved may not be proved again.
+The stub proves nothing, and takes a while for each crate. It notes where a library below isn't
+there. Tried are: a run from nothing; a second call meanwhile, which has to wait; a source that is
+newer, with other text and with the same; a proof that fails once, and one that fails again; Ctrl-C,
+after which nothing may run on, and what was proved may not be proved again; and a toolchain whose
+`rattle` lacks a flag, in which `rt` has to do it all.
 """
 import os
 import shutil
@@ -17,42 +18,38 @@ from pathlib import Path
 
 ROOT = Path(__file__).resolve().parent.parent
 STUB = r'''#!/usr/bin/env python3
-import fcntl, os, pathlib, shutil, sys, time
-here = pathlib.Path.cwd()
-name, top, tree = here.name, here.parent, os.environ["TREE"]
-below = {}
-for line in (top.parent / "crates.txt").read_text().splitlines():
-    head, colon, names = line.partition(":")
-    if colon and not line.startswith("#"):
-        below[head.split()[0]] = names.split()
+import os, pathlib, shutil, sys, time
+words, tree = sys.argv, os.environ["TREE"]
+kit = pathlib.Path(__file__).parent.parent
+def note(*said):
+    print(*said, file=open(f"{tree}/said", "a"))
+def after(flag):
+    return [it for at, it in enumerate(words) if words[at - 1] == flag]
+if words[0].endswith("rt"):
+    os.makedirs("out", exist_ok=True)
+    shutil.copy("/bin/true", "out/alcrs")
+    sys.exit(note("rt", *words[1:]))
+if words[0].endswith("rattle-link"):
+    assert words[-3].endswith(".o") and pathlib.Path(words[-3]).is_file()
+    sys.exit(shutil.copy("/bin/true", after("-o")[0]) and 0)
+if words[1:] == ["build", "--help"]:
+    sys.exit(os.environ.get("LACKS") or print("    --statements"))
+name, made = after("--crate-name")[0], pathlib.Path(after("-o")[0])
+for it in after("--extern"):
+    crate, _, path = it.partition("=")
+    if not (path.startswith(f"{kit}/rlibs/") or pathlib.Path(path).is_dir()):
+        note(name, "lacks", crate)
+below = [it for it in after("-L") if not it.endswith("/rlibs")]
 for it in below:
-    if not (top / it / "src").is_dir():
-        sys.exit(f"crates.txt: there is no folder {it}")
-def under(name):
-    own = [it for it in below[name] if it in below]
-    return set(own).union(*map(under, own))
-held = []
-for it in [name, *under(name)]:
-    held.append(os.open(top / it, os.O_RDONLY))
-    try:
-        fcntl.flock(held[-1], fcntl.LOCK_EX | fcntl.LOCK_NB)
-    except BlockingIOError:
-        print("another works in", it, file=open(f"{tree}/said", "a"))
-for it in under(name):
-    if not (top / it / "out/rlib/stamp").is_file():
-        print(name, "lacks", it, file=open(f"{tree}/said", "a"))
+    folder = pathlib.Path(it.partition("=")[2])
+    if not (folder / f"{folder.parent.parent.name}.rlib").is_dir():
+        note(name, "lacks", folder)
 print(name, file=open(f"{tree}/started", "a"))
 time.sleep(float(os.environ["SLEEP"]))
 failing = os.environ.get("FAILING", "").split()
 if name in failing and open(f"{tree}/started").read().split().count(name) <= len(failing):
     sys.exit("no")
-if sys.argv[1] == "run":
-    shutil.copy("/bin/true", "out/alcrs")
-else:
-    os.makedirs(f"out/rlib/{name}.rlib", exist_ok=True)
-    os.makedirs("out/incremental", exist_ok=True)
-    pathlib.Path(f"out/rlib/{name}.rlib/format").write_text(name)
-    pathlib.Path("out/rlib/stamp").write_text(name)
+made.write_text(name) if made.suffix == ".o" else made.mkdir()
 '''
 
 
@@ -67,8 +64,9 @@ class Tree:
         for source in ROOT.glob("crates/*/src"):
             shutil.copytree(source, self.folder / source.relative_to(ROOT))
         (self.folder / "bin").mkdir()
-        (self.folder / "bin" / "rt").write_text(STUB)
-        (self.folder / "bin" / "rt").chmod(0o755)
+        for name in ("rt", "rattle", "rattle-link"):
+            (self.folder / "bin" / name).write_text(STUB)
+            (self.folder / "bin" / name).chmod(0o755)
 
     def start(self, sleep="0.02", **settings):
         path = f"{self.folder / 'bin'}:{os.environ['PATH']}"
@@ -96,14 +94,14 @@ class Tree:
         self.started()
 
     def is_left(self):
-        """Whether a copy is left, or a stub runs."""
+        """Whether a stub runs."""
         for link in Path("/proc").glob("[0-9]*/cwd"):
             try:
                 if os.readlink(link).startswith(str(self.folder)):
                     return True
             except OSError:
                 pass
-        return (self.folder / "crates/alcrs/out/beside").exists()
+        return False
 
 
 def expect(what, holds, told=""):
@@ -122,9 +120,15 @@ def main():
         expect("it tells how far it is", f"of {len(every)} crates, about" in said, said)
         status, said = tree.run()
         expect("nothing is done again", (status, said, tree.started()) == (0, "", []), said)
-        os.utime(tree.folder / "crates/tool/src/lib.rt")
+        changed = tree.folder / "crates/tool/src/lib.rt"
+        changed.write_bytes(changed.read_bytes() + b"\n")
         status, said = tree.run()
         expect("what is newer is proved", tree.started() == ["tool", "alcrs"], said)
+        time.sleep(0.05)
+        os.utime(changed)
+        status, said = tree.run()
+        again = tree.started()
+        expect("what is the same isn't", again == ["alcrs"], (status, again, said))
 
         tree.clear()
         first, second = tree.start(sleep="0.1"), None
@@ -155,7 +159,11 @@ def main():
         again = set(begun) & set(tree.started())
         expect("what was proved is kept", status == 0 and len(again) < max(2, len(begun)), again)
         said = tree.folder / "said"
-        expect("no two in one folder", not said.exists(), said.exists() and said.read_text())
+        expect("no library lacks", not said.exists(), said.exists() and said.read_text())
+
+        tree.clear()
+        status, _ = tree.run(LACKS="no such flag")
+        expect("rt does it where rattle can't", status == 0 and not tree.started())
     print(f"first_run.py: ./alcrs over a stub, {len(every)} crates: as it has to be")
     return 0
 
