@@ -1,11 +1,12 @@
 #!/usr/bin/env python3
-"""Fails where a line of code, of a comment, of a definition or of a script is wider than 100
-characters, and prints it.
+"""Fails where a line of code, of a comment, of a definition, of a script or of a document's text is
+wider than 100 characters, and prints it.
 
-It looks into src/ and specs/ of each crate, the scripts, and the files for C and Python. The lines
-that begin with `#[tactic(` or `#![` may be wider, as `rt fmt` says how they are broken. What is in
-the proofs/ of a crate is for the prover, and the completions are made by ci/manual.py: neither is
-looked at. Nor are documents, whose paragraphs a reader's program breaks.
+It looks into src/ and specs/ of each crate, the scripts, the files for C and Python, and the
+documents. The lines that begin with `#[tactic(` or `#![` may be wider, as `rt fmt` says how they
+are broken. So may those of a document that can't be broken: what is in a block of code, the rows of
+tables, headings and pictures. What is in the proofs/ of a crate is for the prover, and the
+completions are made by ci/manual.py: neither is looked at.
 """
 import sys
 from pathlib import Path
@@ -17,18 +18,27 @@ SCRIPTS = [
     "alcrs", "do", "install", ".ci/*", "ci/*", "scripts/*", "bench/*", "packaging/*",
     "mutants/try", "capi/*", "capi/*/*",
 ]
+DOCUMENTS = ["*.md", "docs/*.md", "*/README.md", "crates/*/*.md"]
 LAID_OUT = ("#[tactic(", "#![")
+UNBROKEN = ("|", "#", "![")
 
 
 def wide_lines(path):
+    is_text, may_be_wider = path.suffix == ".md", LAID_OUT
     for number, line in enumerate(path.read_text(encoding="utf-8").splitlines(), 1):
-        if len(line) > WIDTH and not line.lstrip().startswith(LAID_OUT):
+        if path.suffix == ".md":
+            may_be_wider = UNBROKEN
+            if line.lstrip().startswith("```"):
+                is_text = not is_text
+            elif not is_text:
+                continue
+        if len(line) > WIDTH and not line.lstrip().startswith(may_be_wider):
             yield number, line
 
 
 def main():
-    paths = {path for pattern in CRATES + SCRIPTS for path in ROOT.glob(pattern)}
-    paths = sorted(path for path in paths if path.is_file() and path.suffix not in (".md", ".pyc"))
+    paths = {path for pattern in CRATES + SCRIPTS + DOCUMENTS for path in ROOT.glob(pattern)}
+    paths = sorted(path for path in paths if path.is_file() and path.suffix != ".pyc")
     count = 0
     for path in paths:
         for number, line in wide_lines(path):
