@@ -25,8 +25,12 @@ def text_of(name):
     return (ROOT / name).read_text(encoding="utf-8")
 
 
+WORDS = ("none one two three four five six seven eight nine ten eleven twelve thirteen fourteen "
+         "fifteen sixteen").split()
+
+
 def number(text):
-    return int(text.replace(",", ""))
+    return WORDS.index(text) if text in WORDS else int(text.replace(",", ""))
 
 
 def length_of(name, list_name):
@@ -38,9 +42,9 @@ def length_of(name, list_name):
 
 
 def commands():
-    """The commands of the transcripts, but of the one that is wrong."""
-    paths = [it for it in ROOT.glob("crates/transcripts/data/*.txt") if it.name != "wrong.txt"]
-    return sum(it.read_text(encoding="utf-8").count("\n$ alcrs") for it in paths)
+    """The commands of the transcripts, but of the one that is wrong, as they are counted there."""
+    told = re.findall(r"^\w+\.txt: (\d+) commands as", text_of("crates/transcripts/stdout"), re.M)
+    return sum(map(int, told))
 
 
 def random_sessions():
@@ -97,6 +101,55 @@ def constants():
     products = constant("crates/evaluation/src/values.rt", r"MOST_PRODUCTS: usize = (\d+);")
     yield "docs/DECISIONS.md", r"Up to ([\d,]+) products of rows", [products]
     yield "docs/BENCHMARKS.md", r"it is used above ([\d,]+)\.", [products]
+    yield from constants_of_sums()
+    yield from constants_of_files(batch, group)
+
+
+def constants_of_sums():
+    """Limits by which sums of products and lists are made one way or another."""
+    name = "crates/gf256/src/products.rt"
+    few, many, some, wide, most = (
+        constant(name, rf"^const {it}: usize = (\d+);")
+        for it in ("FEW_SOURCES", "MANY_ROWS", "SOME_ROWS", "WIDE_BYTES", "MOST_ROWS")
+    )
+    yield "docs/DECISIONS.md", r"these above (\d+) sources from (\d+) outputs on", [few, many]
+    yield "docs/DECISIONS.md", r"from (\d+) in rows of (\d+) bytes or more", [some, wide]
+    yield "docs/DECISIONS.md", r"Up to (\d+) outputs are made of it", [most]
+    lists, values = re.search(r"max 1 \(min (\d+) \((\d+) / max 1 length\)\)",
+                              text_of("crates/shared_lists/src/sharing.rt")).groups()
+    yield "docs/DECISIONS.md", r"where all come, and (\d+) at most;", [int(lists)]
+    yield "docs/DECISIONS.md", r"are moved: (\d+) at most, as", [int(values) - 2]
+
+
+def constants_of_files(batch, group):
+    """Sizes of what is read, written and kept at once."""
+    shift = r"^const {}: usize = 1 << (\d+);"
+    ahead = constant("crates/streams/src/ahead.rt", shift.format("AHEAD"))
+    kept = constant("crates/alcrs/src/words.rt", shift.format("KEPT_BYTES"))
+    buffer = constant(
+        "crates/program_host/src/program.rt", r"^pub const BUFFER_SIZE: usize = ([\d_]+);"
+    )
+    runs = constant("crates/encoder/src/rounds_from.rt", r"^const LONG_RUN_BLOCKS: usize = (\d+);")
+    for name in ("docs/ARCHITECTURE.md", "docs/DECISIONS.md"):
+        yield name, r"are read (\d+) KiB at once", [2 ** ahead >> 10]
+    yield "docs/ARCHITECTURE.md", r"`rounds\.rt`\), where (\d+) MiB hold them", [batch]
+    for words in ("many rounds as take", "two rounds take more than", "a pass over it for every"):
+        yield "docs/DECISIONS.md", rf"{words} (\d+) MiB", [batch]
+    yield "docs/ARCHITECTURE.md", r"1\.25 to (\d+) MiB of encoding", [group]
+    yield "docs/DECISIONS.md", r"never takes more than (\d+) MiB", [group]
+    yield "docs/DECISIONS.md", r"1\.25 MiB, or (\d+) blocks", [runs]
+    yield "docs/DECISIONS.md", r"The program takes (\d+) MiB once", [2 ** kept >> 20]
+    yield "docs/DECISIONS.md", r"have a buffer of (\d+) KiB", [buffer >> 10]
+    room = constant("ci/claims.py", r"^ROOM = (\d+) << 20$")
+    yield "docs/ASSURANCE.md", r"as its inputs and (\d+) MiB", [room]
+    memory = constant("scripts/build.py", r"^MEMORY = (\d+) << 30$")
+    yield "README.md", r"there are (\d+) GiB of free memory", [memory]
+    head = dict(re.findall(r"^header_size (None|\(Some f\)) = (\d+)$",
+                           text_of("crates/alc/specs/Written.antt"), re.M))
+    bare, carrier = int(head["None"]), int(head["(Some f)"])
+    yield "docs/THEOREMS.md", r"a frame of (\d+) \+ E", [carrier + 2]
+    yield "docs/THEOREMS.md", r"and of (\d+) \+ E for each other", [bare + 2]
+    yield "README.md", r"has the FTI, which is (\d+) of", [carrier - bare]
 
 
 def definitions():
@@ -118,6 +171,12 @@ def counted():
     changes = int(re.search(r"else (\d+)\)$", text_of("ci/claims.py"), re.M).group(1))
     errors = constant("crates/transcripts/stdout", r"^wrong\.txt: \d+ commands, (\d+) wrong$")
     many = constant("ci/summaries.py", r"^MANY = ([\d_]+)$")
+    arguments = re.search(r"^enum Argument\b[^{]*\{(.*?)^\}", "".join(
+        text_of(it) for it in ROOT.glob("crates/request/src/*.rt")), re.M | re.S)
+    kinds = len(re.findall(r"^    [A-Z]\w*", arguments.group(1), re.M)) if arguments else 0
+    calls = len(re.findall(r'extern "C" fn alcrs_', "".join(
+        text_of(it) for it in ROOT.glob("crates/alcrs_c/src/*.rt"))))
+    gated_calls = len(list(ROOT.glob("crates/alcrs_c/must-fail/*.edit")))
     large = constant("ci/large_sessions.py", r"^LENGTH = (\d+) << 20$")
     held = constant("ci/large_sessions.py", r"^MOST_KIB = (\d+) << 10$")
     need, have = symbols_of("ci/large_sessions.py")
@@ -125,6 +184,9 @@ def counted():
     yield "README.md", r"(\d+) of them, in (\d+) lines, for the promise", [first, first_lines]
     yield "docs/MUTANTS.md", r"must-fail/` \| (\d+) \|", [gated]
     yield "docs/MUTANTS.md", r"mutants/CRATE/` \| (\d+) \|", [by_hand]
+    yield "docs/MUTANTS.md", r"of `alcrs_c` it has (\w+) for (\w+) calls", [gated_calls, calls]
+    yield "docs/THEOREMS.md", r"the (\w+) kinds of arguments", [kinds]
+    yield "docs/DECISIONS.md", r"An argument is one of (\w+) kinds", [kinds]
     yield "docs/ASSURANCE.md", r"the (\d+) that stand in `must-fail/`", [gated]
     yield "docs/ASSURANCE.md", r"(\d+) more stand in `mutants/`", [by_hand]
     yield "docs/ASSURANCE.md", r"no others: ([\d,]+) of ([\d,]+), in ([\d,]+) lines", [
