@@ -284,12 +284,13 @@ enum alcrs_status alcrs_checker_open(struct alcrs_checker *checker, const uint8_
  * ALCRS_OK          it was taken, and no datagram so far has a reason against it
  * ALCRS_NO          a datagram has a reason against it. *fault is the first such reason: N4, N6,
  *                   N7, N8 or N10. Its place is that among the datagrams that were fed. It is the
- *                   verdict, whatever follows: from then on each feed and verdict returns it.
+ *                   verdict, whatever follows: from then on each verdict returns it, and each feed
+ *                   of a datagram that isn't too long.
  * ALCRS_NO_SESSION  it has more than 65,507 bytes, so no session has it: *fault is S3. It isn't
  *                   counted, and the checker is as it was. This is told before all else but
  *                   ALCRS_NOT_OPEN.
- * ALCRS_NO_MEMORY   the check is over: from then on each feed and verdict returns this. Close the
- *                   checker, and begin again.
+ * ALCRS_NO_MEMORY   the check is over: from then on each verdict returns this, and each feed of a
+ *                   datagram that isn't too long. Close the checker, and begin again.
  * ALCRS_NOT_OPEN */
 enum alcrs_status alcrs_checker_feed(struct alcrs_checker *checker, const uint8_t *datagram,
                                      size_t datagram_size, struct alcrs_fault *fault);

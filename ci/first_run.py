@@ -4,8 +4,8 @@
 The stub proves nothing, and takes a while for each crate. It notes where a library below isn't
 there. Tried are: a run from nothing; a second call meanwhile, which has to wait; a source that is
 newer, with other text and with the same; a proof that fails once, and one that fails again; Ctrl-C,
-after which nothing may run on, and what was proved may not be proved again; and a toolchain whose
-`rattle` lacks a flag, in which `rt` has to do it all.
+after which nothing may run on, and what was proved may not be proved again; the libraries alone,
+for capi/archive; and a toolchain whose `rattle` lacks a flag, in which `rt` has to do it all.
 """
 import os
 import shutil
@@ -68,12 +68,14 @@ class Tree:
             (self.folder / "bin" / name).write_text(STUB)
             (self.folder / "bin" / name).chmod(0o755)
 
-    def start(self, sleep="0.02", **settings):
+    def settings(self, sleep, **settings):
         path = f"{self.folder / 'bin'}:{os.environ['PATH']}"
-        given = {**os.environ, "PATH": path, "TREE": str(self.folder), "SLEEP": sleep, **settings}
+        return {**os.environ, "PATH": path, "TREE": str(self.folder), "SLEEP": sleep, **settings}
+
+    def start(self, sleep="0.02", **settings):
         return subprocess.Popen(
-            [self.folder / "alcrs", "check"], env=given, start_new_session=True,
-            stderr=subprocess.PIPE, text=True,
+            [self.folder / "alcrs", "check"], env=self.settings(sleep, **settings),
+            start_new_session=True, stderr=subprocess.PIPE, text=True,
         )
 
     def run(self, **settings):
@@ -81,6 +83,14 @@ class Tree:
         run = self.start(**settings)
         said = run.communicate()[1]
         return run.returncode, said
+
+    def libraries(self):
+        """The status of proving the libraries alone."""
+        build, log = self.folder / "scripts" / "build.py", self.folder / "log"
+        return subprocess.run(
+            [sys.executable, build, log, "--libraries"], env=self.settings("0.02"),
+            stderr=subprocess.DEVNULL,
+        ).returncode
 
     def started(self):
         path = self.folder / "started"
@@ -160,6 +170,12 @@ def main():
         expect("what was proved is kept", status == 0 and len(again) < max(2, len(begun)), again)
         said = tree.folder / "said"
         expect("no library lacks", not said.exists(), said.exists() and said.read_text())
+
+        tree.clear()
+        status, started = tree.libraries(), sorted(tree.started())
+        expect("the libraries alone", status == 0 and started == sorted({*every} - {"alcrs"}))
+        status, said = tree.run()
+        expect("the program over them", tree.started() == ["alcrs"], said)
 
         tree.clear()
         status, _ = tree.run(LACKS="no such flag")

@@ -35,8 +35,9 @@ FILES = [
     ("SESSION", "A session file has its datagrams in the order in which they are sent, each behind "
      "its length in two bytes."),
     ("OBJECT", "An object is the file that is sent: any file that isn't empty."),
-    ("CERT", "A certificate has the TSI and TOI that it is for, the numbers by which the object "
-     "was cut, and for each block the coefficients of its polynomials."),
+    ("CERT", "A certificate has the TSI and TOI that it is for, unless it is of the older layout, "
+     "the numbers by which the object was cut, and for each block the coefficients of its "
+     "polynomials."),
     ("OUT", "An output is whole, or what it was before: it is written to `OUT.part`, which is "
      "renamed at the end. A pipe, a device or a link to no file is written straight."),
 ]

@@ -2,6 +2,9 @@
 """Proves the crates that the program stands on, several at a time, and builds it: for ./alcrs.
 
     scripts/build.py LOG [rattle's flags for the program]
+    scripts/build.py LOG --libraries
+
+The second proves the libraries alone, once no ./alcrs builds: for capi/archive.
 
 It calls `rattle`, the prover and compiler beside `rt`, as `rt ci` does: each library is proved in
 one go, and holds for the crates above it what it states, without its proofs (`--statements`). They
@@ -16,6 +19,8 @@ all processors, and the others what it leaves. What fails is tried once more by 
 What the prover says goes to LOG, and progress to standard error. Ctrl-C ends all that runs, and so
 does the end of whoever called.
 """
+import contextlib
+import fcntl
 import hashlib
 import os
 import resource
@@ -134,7 +139,7 @@ class Kit:
 
 
 class Build:
-    def __init__(self, kit, log, flags):
+    def __init__(self, kit, log, flags, takes_program):
         self.kit, self.log, self.flags = kit, log, flags
         self.parent, self.is_stopped = os.getppid(), False
         # The names of each crate's row, and all crates below it, from the field up.
@@ -150,7 +155,8 @@ class Build:
         for name in reversed(self.below):
             above = [self.chain[it] for it in self.chain if name in self.below[it]]
             self.chain[name] = self.lines[name] + max(above, default=0)
-        # What is proved; what runs, by name; what has failed once; what was proved in this run.
+        # What is wanted, and is proved; what runs, by name; what has failed once.
+        self.wanted = set(self.below) - (set() if takes_program else {PROGRAM})
         self.proved, self.running, self.failed = set(), {}, set()
         self.lines_done = FIRMLY
 
@@ -212,8 +218,8 @@ class Build:
     def start_all(self):
         """Starts what can be started. The program itself comes last, when all else is there."""
         ready = [
-            name for name, below in self.below.items()
-            if name not in self.proved and name not in self.running and below <= self.proved
+            name for name, below in self.below.items() if name in self.wanted - self.proved
+            and name not in self.running and below <= self.proved
         ]
         ready.sort(key=lambda name: -self.chain[name])
         for name in ready:
@@ -245,20 +251,20 @@ class Build:
             self.most = self.at_once
         self.lines_done += self.lines[name]
         if name != PROGRAM:
-            say(f"{len(self.proved)} of {len(self.below)} crates, {self.time_left()} ({name})")
+            say(f"{len(self.proved)} of {len(self.wanted)} crates, {self.time_left()} ({name})")
         return True
 
     def time_left(self):
         """About how long it takes, by what has taken how long of a processor."""
         spent = resource.getrusage(resource.RUSAGE_CHILDREN)
         rate = (FIRMLY * SECONDS + spent.ru_utime + spent.ru_stime) / self.lines_done
-        left = sum(self.lines[name] for name in self.below if name not in self.proved)
+        left = sum(self.lines[name] for name in self.wanted - self.proved)
         minutes = round((rate * left / self.most + LINKING) / 60)
         return f"about {minutes} minutes" if minutes > 1 else "about a minute"
 
     def run(self):
         self.find_proved()
-        while PROGRAM not in self.proved:
+        while not self.wanted <= self.proved:
             self.start_all()
             time.sleep(0.2)
             if self.is_stopped or os.getppid() != self.parent:
@@ -292,11 +298,17 @@ def main():
     def interrupted(*_):
         build.is_stopped = True
 
-    kit = Kit()
-    with open(sys.argv[1], "wb") as log:
+    kit, flags = Kit(), sys.argv[2:]
+    takes_program = flags != ["--libraries"]
+    with open(sys.argv[1], "wb") as log, contextlib.ExitStack() as held:
         if not kit.proves_statements():
-            return build_by_rt(log, sys.argv[2:])
-        build = Build(kit, log, sys.argv[2:])
+            return build_by_rt(log, flags) if takes_program else 1
+        if not takes_program:
+            # ./alcrs holds this lock while it builds.
+            out = CRATES / PROGRAM / "out"
+            out.mkdir(exist_ok=True)
+            fcntl.flock(held.enter_context(open(out / "lock", "ab")), fcntl.LOCK_EX)
+        build = Build(kit, log, flags, takes_program)
         for number in (signal.SIGINT, signal.SIGTERM, signal.SIGHUP):
             signal.signal(number, interrupted)
         try:
