@@ -13,8 +13,9 @@ leaves them in, as checks after an edit begin with them. Where `rattle` has no s
 there, `rt run` proves one crate after the other.
 
 Each library is in out/built of its crate, beside a sum of all that it was made of: a later run
-makes it anew where this sum has changed. The crate with the longest chain of crates above it gets
-all processors, and the others what it leaves. What fails is tried once more by itself.
+makes it anew where this sum has changed. The crate with the longest chain of crates above it has
+all processors, those with a chain nearly as long have half of them by what it leaves, and each of
+the others has one by what these leave. What fails is tried once more by itself.
 
 What the prover says goes to LOG, and progress to standard error. Ctrl-C ends all that runs, and so
 does the end of whoever called.
@@ -37,10 +38,11 @@ CRATES = ROOT / "crates"
 PROGRAM = "alcrs"
 # What a proof may take of memory, in bytes.
 MEMORY = 3 << 30
-# What a line is expected to take of a processor before anything is measured, and how firmly.
-SECONDS, FIRMLY = 0.04, 1000
-# What a line of a proof is, of one of code.
-PROOF = 1 / 8
+# What a line of code is expected to take of a processor before anything is measured, in seconds,
+# and how firmly, in lines.
+SECONDS, FIRMLY = 0.1, 1000
+# Which part of the longest chain is as good as it.
+NEARLY = 0.8
 # Behind the last proof: compiling and linking.
 LINKING = 60
 # The status where it was told to stop.
@@ -67,9 +69,7 @@ def sources(name):
 
 
 def lines_of(name):
-    """How many lines there are to prove, where a line of a proof counts for less."""
-    return sum(it.read_bytes().count(b"\n") * (1 if it.suffix == ".rt" else PROOF)
-               for it in sources(name))
+    return sum(it.read_bytes().count(b"\n") for it in sources(name) if it.suffix == ".rt")
 
 
 def library(name):
@@ -197,10 +197,8 @@ class Build:
         both = [words + ["-o", f"{program}.o"], self.kit.link(program)]
         return ["sh", "-c", " && ".join(shlex.join(map(str, it)) for it in both)]
 
-    def start(self, name, jobs, is_first):
-        words = self.words(name, jobs)
-        if not is_first:
-            words = ["nice", *words]
+    def start(self, name, jobs, nice):
+        words = ["nice", "-n", nice, *self.words(name, jobs)]
         out = library(name).parent
         shutil.rmtree(out, ignore_errors=True)
         out.mkdir(parents=True)
@@ -211,9 +209,12 @@ class Build:
             )
         self.running[name] = child
 
-    def decides(self, name):
-        """Whether no other crate that isn't proved has as long a chain from it on."""
-        return all(self.chain[it] <= self.chain[name] for it in self.below if it not in self.proved)
+    def share(self, name):
+        """How many processors a crate has, and how far it stands back, as `nice` takes it."""
+        longest = max(self.chain[it] for it in self.wanted - self.proved)
+        if self.chain[name] == longest:
+            return self.most, 0
+        return ((self.most + 1) // 2, 5) if self.chain[name] >= NEARLY * longest else (1, 10)
 
     def start_all(self):
         """Starts what can be started. The program itself comes last, when all else is there."""
@@ -225,9 +226,7 @@ class Build:
         for name in ready:
             if len(self.running) >= self.most:
                 return
-            is_first = self.decides(name)
-            free = self.most - len(self.running)
-            self.start(name, self.most if is_first else max(1, free // len(ready)), is_first)
+            self.start(name, *self.share(name))
 
     def end(self, name):
         """Notes how one has ended. Whether to go on."""
