@@ -55,6 +55,15 @@ def random_sessions():
     return int(orders) * len(objects)
 
 
+def disturbed_sessions():
+    """The sessions of which a check of files is compared with one of readers."""
+    text = text_of("crates/vectors/src/checked_file_tests.rt")
+    objects = re.findall(r"^        \((?:\d+, ){4}\d+\),$|assert!\(rt; same_in_all\(", text, re.M)
+    orders = constant("crates/vectors/src/receiver_tests.rt",
+                      r"^pub\(crate\) const ORDERS: usize = (\d+);")
+    return orders * len(objects)
+
+
 def constant(name, pattern):
     """A number that a source file has once."""
     [told] = re.findall(pattern, text_of(name), re.M)
@@ -70,6 +79,12 @@ def symbols_of(name):
 def constants():
     """Limits of the program that documents have, too."""
     symbol = constant("crates/request/src/requests.rt", r"MOST_SYMBOL_BYTES: u16 = ([\d_]+);")
+    most = {name: int(it) for name, it in re.findall(
+        r'Number \(codes "([\w-]+)"\) [01] (\d+)', text_of("crates/request/specs/Grammar.antt")
+    )}
+    yield "README.md", r"of the object in it, are 0 to (\d+)", [most["tsi"]]
+    yield "README.md", r"Both are 1 to (\d+), and `--max`", [most["block"]]
+    yield "README.md", r"`--fti-every` is 1 to (\d+);", [most["fti-every"]]
     yield "README.md", r"of an encoding symbol in bytes, 1 to ([\d,]+)", [symbol]
     yield "docs/FORMATS.md", r"`--symbol` is E in bytes, 1 to ([\d,]+)", [symbol]
     yield "docs/FORMATS.md", r"its length in two bytes, at most ([\d,]+)", [
@@ -171,12 +186,6 @@ def counted():
     changes = int(re.search(r"else (\d+)\)$", text_of("ci/claims.py"), re.M).group(1))
     errors = constant("crates/transcripts/stdout", r"^wrong\.txt: \d+ commands, (\d+) wrong$")
     many = constant("ci/summaries.py", r"^MANY = ([\d_]+)$")
-    arguments = re.search(r"^enum Argument\b[^{]*\{(.*?)^\}", "".join(
-        text_of(it) for it in ROOT.glob("crates/request/src/*.rt")), re.M | re.S)
-    kinds = len(re.findall(r"^    [A-Z]\w*", arguments.group(1), re.M)) if arguments else 0
-    calls = len(re.findall(r'extern "C" fn alcrs_', "".join(
-        text_of(it) for it in ROOT.glob("crates/alcrs_c/src/*.rt"))))
-    gated_calls = len(list(ROOT.glob("crates/alcrs_c/must-fail/*.edit")))
     large = constant("ci/large_sessions.py", r"^LENGTH = (\d+) << 20$")
     held = constant("ci/large_sessions.py", r"^MOST_KIB = (\d+) << 10$")
     need, have = symbols_of("ci/large_sessions.py")
@@ -184,9 +193,6 @@ def counted():
     yield "README.md", r"(\d+) of them, in (\d+) lines, for the promise", [first, first_lines]
     yield "docs/MUTANTS.md", r"must-fail/` \| (\d+) \|", [gated]
     yield "docs/MUTANTS.md", r"mutants/CRATE/` \| (\d+) \|", [by_hand]
-    yield "docs/MUTANTS.md", r"of `alcrs_c` it has (\w+) for (\w+) calls", [gated_calls, calls]
-    yield "docs/THEOREMS.md", r"the (\w+) kinds of arguments", [kinds]
-    yield "docs/DECISIONS.md", r"An argument is one of (\w+) kinds", [kinds]
     yield "docs/ASSURANCE.md", r"the (\d+) that stand in `must-fail/`", [gated]
     yield "docs/ASSURANCE.md", r"(\d+) more stand in `mutants/`", [by_hand]
     yield "docs/ASSURANCE.md", r"no others: ([\d,]+) of ([\d,]+), in ([\d,]+) lines", [
@@ -216,6 +222,28 @@ def counted():
         yield "docs/EMBEDDING.md", rf"`{name}` (\d+)", [int(size)]
 
 
+def counted_in_crates():
+    """What stands in the sources so many times."""
+    yield "docs/ASSURANCE.md", r"(\d+) disturbed sessions, each", [disturbed_sessions()]
+    kinds = re.search(r"^enum Argument\b[^{]*\{(.*?)^\}", text_of("crates/request/src/grammar.rt"),
+                      re.M | re.S).group(1)
+    kinds = len(re.findall(r"^    [A-Z]\w*", kinds, re.M))
+    yield "docs/THEOREMS.md", r"the (\w+) kinds of arguments", [kinds]
+    yield "docs/DECISIONS.md", r"An argument is one of (\w+) kinds", [kinds]
+    summary = text_of("crates/tool/specs/Summary.antt").partition("summary_text report weakest =")
+    yield "README.md", r"it prints (\w+) lines at a yes", [
+        len(re.findall(r"^    (?:\+\+ )?line_of", summary[2].partition("\n\n")[0], re.M))
+    ]
+    sources = sorted(ROOT.glob("crates/alcrs_c/src/*.rt"))
+    calls = sum(text_of(it).count('extern "C" fn alcrs_') for it in sources)
+    gated = len(list(ROOT.glob("crates/alcrs_c/must-fail/*.edit")))
+    yield "docs/MUTANTS.md", r"of `alcrs_c` it has (\w+) for (\w+) calls", [gated, calls]
+    unsafe = "".join(text_of(it) for it in sources if it.stem in ("held", "apart"))
+    yield "docs/DECISIONS.md", r"The (\w+) functions of `held\.rt` and `apart\.rt`", [
+        len(re.findall(r"^ *(?:pub(?:\(crate\))? )?fn ", unsafe, re.M))
+    ]
+
+
 def tens(numbers):
     """The least and the greatest of them, each to the next ten."""
     return [10 * round(it / 10) for it in (min(numbers), max(numbers))]
@@ -236,10 +264,13 @@ def measured():
     for name in ("README.md", "docs/OPERATING.md"):
         yield name, r"process (\d+) to (\d+) MB of object a second", tens(received)
         yield name, r"`drop` (\d+) to (\d+), with symbols", tens(sent)
-    builds = [float(it) for it in re.findall(r"\*\*([\d.]+) minutes\*\*", text)]
-    yield "README.md", r"takes (\d+) to (\d+) minutes on four cores", [
-        round(min(builds)), round(max(builds))
+    minutes = r"\*\*([\d.]+) minutes\*\* "
+    builds = [re.search(minutes + it, text).group(1) for it in (r"on\s+four", r"on\s+two")]
+    yield "README.md", r"takes (\d+) minutes on four cores of 2\.7 GHz, and (\d+) on two", [
+        round(float(it)) for it in builds
     ]
+    gate = re.search(minutes + r"in\s+one\s+run", text).group(1)
+    yield "README.md", r"takes (\d+) minutes on those four cores from nothing", [int(gate)]
 
 
 def blocks_of(symbols, block, most):
@@ -376,7 +407,8 @@ def crates_of_architecture():
 
 def main():
     wrong, count = [*wrong_losses(), *wrong_texts(), *wrong_commands(), *wrong_calls()], 0
-    for name, pattern, wanted in [*counted(), *constants(), *measured()]:
+    figures = [*counted(), *counted_in_crates(), *constants(), *measured()]
+    for name, pattern, wanted in figures:
         # A line of a document ends anywhere.
         found = re.findall(pattern.replace(" ", r"\s+"), text_of(name))
         count += 1
