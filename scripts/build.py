@@ -14,9 +14,8 @@ there, `rt run` proves one crate after the other.
 
 Each library is in out/built of its crate, beside a sum of all that it was made of: a later run
 makes it anew where this sum has changed. The crate with the longest chain of crates above it has
-all processors where there are more than two, those with a chain nearly as long have half of them by
-what it leaves, and each of the others has one by what these leave. What fails is tried once more by
-itself.
+all processors, those with a chain nearly as long have half of them by what it leaves, and each of
+the others has one by what these leave. What fails is tried once more by itself.
 
 What the prover says goes to LOG, and progress to standard error. Ctrl-C ends all that runs, and so
 does the end of whoever called.
@@ -210,12 +209,11 @@ class Build:
             )
         self.running[name] = child
 
-    def share(self, name, is_alone):
+    def share(self, name):
         """How many processors a crate has, and how far it stands back, as `nice` takes it."""
         longest = max(self.chain[it] for it in self.wanted - self.proved)
         if self.chain[name] == longest:
-            # Two processors are kept busy by two crates, and each job more costs some time.
-            return (self.most if self.most > 2 or is_alone else 1), 0
+            return self.most, 0
         return ((self.most + 1) // 2, 5) if self.chain[name] >= NEARLY * longest else (1, 10)
 
     def start_all(self):
@@ -228,8 +226,7 @@ class Build:
         for name in ready:
             if len(self.running) >= self.most:
                 return
-            is_alone = len(ready) == 1 and not self.running
-            self.start(name, *self.share(name, is_alone))
+            self.start(name, *self.share(name))
 
     def end(self, name):
         """Notes how one has ended. Whether to go on."""
