@@ -24,10 +24,10 @@ UNBROKEN = ("|", "#", "![")
 
 
 def wide_lines(path):
-    is_text, may_be_wider = path.suffix == ".md", LAID_OUT
+    is_text = True
+    may_be_wider = UNBROKEN if path.suffix == ".md" else LAID_OUT
     for number, line in enumerate(path.read_text(encoding="utf-8").splitlines(), 1):
         if path.suffix == ".md":
-            may_be_wider = UNBROKEN
             if line.lstrip().startswith("```"):
                 is_text = not is_text
             elif not is_text:

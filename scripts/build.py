@@ -177,13 +177,13 @@ class Build:
         return told.hexdigest()
 
     def find_proved(self):
+        """Notes which libraries are proved already. The program is built anew: `rt` may have put
+        another in its place."""
         for name, below in self.below.items():
             note = library(name).parent / "sum"
-            is_there = name == PROGRAM or library(name).is_dir()
-            if is_there and below <= self.proved and note.is_file():
+            if library(name).is_dir() and below <= self.proved and note.is_file():
                 if note.read_text(encoding="ascii") == self.sums[name]:
                     self.proved.add(name)
-        self.proved.discard(PROGRAM)
 
     def words(self, name, jobs):
         own = self.named[name]
