@@ -230,7 +230,8 @@ def counted_in_crates():
     kinds = len(re.findall(r"^    [A-Z]\w*", kinds, re.M))
     yield "docs/THEOREMS.md", r"the (\w+) kinds of arguments", [kinds]
     yield "docs/DECISIONS.md", r"An argument is one of (\w+) kinds", [kinds]
-    summary = text_of("crates/tool/specs/Summary.antt").partition("summary_text report weakest =")
+    told = text_of("crates/commands/specs/Summary.antt")
+    summary = told.partition("summary_text report weakest =")
     yield "README.md", r"it prints (\w+) lines at a yes", [
         len(re.findall(r"^    (?:\+\+ )?line_of", summary[2].partition("\n\n")[0], re.M))
     ]
@@ -321,7 +322,7 @@ def wrong_losses():
 def wrong_texts():
     """The texts of faults and reasons that docs/FORMATS.md lacks, or that no command prints."""
     text = re.compile(r"\b[NPFSZROG]\d+ [A-Z][A-Za-z]+")
-    printed = {it for path in ROOT.glob("crates/tool/specs/*.antt") for quoted in
+    printed = {it for path in ROOT.glob("crates/commands/specs/*.antt") for quoted in
                re.findall(r'"[^"]*"', path.read_text(encoding="utf-8"))
                for it in text.findall(quoted)}
     # It is among the library's faults, and docs/FORMATS.md says that no command prints it.

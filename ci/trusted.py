@@ -5,10 +5,10 @@ promise.
 A public contract is one of a `pub fn`, of a method of a public trait or type, or of a public type's
 model. From the names that it cites the list goes through the definitions of `specs/` that these
 stand on, but not into a relation that these calls only hand on to one another, as what a receiver
-stands for; and not from what the decoder offers to the receiver alone, nor from what `cert` offers
-to `file_check` alone. All other definitions of
-`specs/` are the vocabulary of such contracts, of private ones and of proofs, and need no trust.
-They stand in files of their own.
+stands for; and not from what the decoder offers to the receiver alone, `cert` to `file_check`
+alone, and the crates of the commands to `tool` alone. All other definitions of `specs/` are the
+vocabulary of such contracts, of private ones and of proofs, and need no trust. They stand in files
+of their own.
 
 docs/THEOREMS.md opens with a table of the promises, each with how many of the definitions have to
 be read to believe it, and ends with the list. Lines are those of definitions alone, without
@@ -48,6 +48,9 @@ HANDED_ON = {"Rattle.cert.specs.Fed", "Rattle.receiver.specs.Stands",
 INNER = {("decoder", call) for call in (
     "block_rows", "gives", "fault_at",
 )}
+
+# The crates of the program's commands offer what they have to the crate that runs them alone.
+INNER_CRATES = {"commands", "send_commands", "receive_commands", "check_commands"}
 
 # The files of what `cert` offers to `file_check` alone, in the same way.
 INNER_FILES = {("cert", file) for file in ("tally", "in_file", "datagrams", "differing")}
@@ -137,7 +140,7 @@ PROMISES = [
 # The crates that stand on the library and offer it further.
 ABOVE_THE_LIBRARY = {
     "request", "causes", "inventory", "host", "program_host", "tool", "alcrs", "alcrs_c",
-}
+} | INNER_CRATES
 
 
 class Module:
@@ -274,7 +277,7 @@ def roots(wanted=lambda crate, function, label: True):
     """The definitions that public clauses cite, of those that are wanted."""
     found = set()
     for path in sorted(CRATES.glob("*/src/*.rt")):
-        if (path.parts[-3], path.stem) in INNER_FILES:
+        if path.parts[-3] in INNER_CRATES or (path.parts[-3], path.stem) in INNER_FILES:
             continue
         uses, aliases = uses_of(path)
         texts = [

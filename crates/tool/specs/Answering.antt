@@ -8,7 +8,7 @@ use Rattle.request.specs.declared.requests.CommandLine.{CommandLine}
 use Rattle.request.specs.declared.usage.Usage.{Usage}
 use Rattle.request.specs.declared.usage.Usage.TheVariants.{Help, Line, Places, NoMemory}
 use Rattle.host.specs.World.{World, KeepsFiles}
-use Rattle.tool.specs.Outcomes.{IsRun}
+use Rattle.commands.specs.Outcomes.{IsRun}
 
 -- what the output for errors had before and has, where it is told, and whether it has failed
 pub record Errors : Type 0 where

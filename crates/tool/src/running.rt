@@ -2,26 +2,24 @@
 ghost use Rattle.std.specs.Prelude.{◌≡◌, ◌⊎◌, ◌≤◌, true, codes, IfOk, IfErr};
 ghost use Rattle.std.specs.Io.KnownBytes.{Appends};
 ghost use Rattle.host.specs.World.{KeepsFiles};
-ghost use Rattle.tool.specs.Lines.{TellsFault};
-ghost use Rattle.tool.specs.Doing.{IsUndone};
-ghost use Rattle.tool.specs.Outcomes.{IsRun, IsDone};
+ghost use Rattle.commands.specs.Lines.{TellsFault};
+ghost use Rattle.commands.specs.Doing.{IsUndone};
+ghost use Rattle.commands.specs.Outcomes.{IsRun, IsDone};
 
-use crate::certify::certify;
-use crate::check::check;
-use crate::convert::convert;
-use crate::decode::decode;
-use crate::drop::drop_places;
-use crate::encode::encode;
-use crate::fault::{Fault, Stop};
-use crate::follow::follow;
-use crate::join::join;
-use crate::salvage::salvage;
-use crate::show::show;
-use crate::telling::finish;
-use crate::twin::twin;
-use crate::wording::fault_line;
+use check_commands::check::check;
+use check_commands::twin::twin;
+use commands::{Fault, Stop, fault_line, finish};
 use host::Host;
+use receive_commands::decode::decode;
+use receive_commands::follow::follow;
+use receive_commands::show::show;
 use request::Request;
+use send_commands::certify::certify;
+use send_commands::convert::convert;
+use send_commands::drop::drop_places;
+use send_commands::encode::encode;
+use send_commands::join::join;
+use send_commands::salvage::salvage;
 use std::alloc::Global;
 
 /// What is printed where there is no memory.

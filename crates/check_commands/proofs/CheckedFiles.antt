@@ -1,0 +1,229 @@
+-- Files that were checked where they stand, by their parts.
+use Rattle.std.proofs.Common.{◌≡◌, ◌⊎◌, ℕ, Bool, false, List, [], ◌∷◌, Option, Some, None, Result, Ok, Err, inl, inr, refl, sym, subst}
+use Rattle.std.specs.Prelude.{IfErr, IfSome}
+use Rattle.check_commands.specs.declared.check.Answered.{Answered}
+use Rattle.std.specs.Borrow.{Bor}
+use Rattle.session.specs.declared.frame.FrameFault.{FrameFault}
+use Rattle.cert.specs.Certificate.{Certificate, text_fault}
+use Rattle.cert.specs.InFile.{IsLost}
+use Rattle.cert.specs.declared.certificate.CertFault.{CertFault}
+use Rattle.cert.specs.declared.certificate.CertFault.TheVariants as certificate_fault
+use Rattle.cert.specs.Report.{OnYes}
+use Rattle.cert.specs.declared.verdict.Survey.{Survey}
+use Rattle.cert.specs.declared.verdict.Verdict.{Verdict}
+use Rattle.cert.specs.declared.verdict.Verdict.TheVariants.{Yes, No}
+use Rattle.reception.specs.declared.scope.Identity.{Identity}
+use Rattle.file_check.specs.Files.{IsCertificateFault, IsFilesFault, IsNoCertificate, IsFaultOfFrames, IsSurveyIn, IsSurveyOnSome, IsVerdictIn, IsVerdictOnSome, Reliable, WhereTold}
+use Rattle.file_check.specs.declared.checking.FilesFault.{FilesFault}
+use Rattle.file_check.specs.declared.checking.FilesFault.TheVariants as files_fault
+use Rattle.request.specs.declared.requests.CheckRequest.{CheckRequest}
+use Rattle.request.specs.declared.requests.Request.TheVariants.{Check}
+use Rattle.host.specs.World.{Files, GivesFile, Holds, MayFail, World}
+use Rattle.commands.specs.Inputs.{ACertificate, AnObject, Bytes, HasValue, HaveValues, IsUnopened, IsUnread, Opened, Polynomials, Value}
+use Rattle.commands.specs.Commands.{Refuses, inputs_of}
+use Rattle.commands.specs.Outcomes.{IsBecause}
+use Rattle.commands.specs.Doing.{HasStopped}
+use Rattle.check_commands.specs.Checks.{IsNotChecked, OfFiles, fault_of}
+use Rattle.check_commands.specs.Drawing.{IsSurveyed}
+use Rattle.check_commands.specs.Summing.{CanBeSummed}
+use Rattle.commands.specs.declared.fault.Fault.{Fault}
+use Rattle.commands.specs.declared.fault.Fault.TheVariants as told_as
+use Rattle.check_commands.proofs.Pictured.{has_block}
+use Rattle.commands.proofs.Stopping.{by_refused, by_unread, stopped}
+use Rattle.commands.proofs.Holding.{holds_told}
+
+-- the files are told, or they aren't
+told_or_not : (files : Option Files) → (files ≡ None) ⊎ ((held : Files) × (files ≡ Some held))
+told_or_not None = inl refl
+told_or_not (Some held) = inr (held, refl)
+
+-- what was opened gives an object's bytes
+pub an_object : (files : Option Files) (name : List ℕ) (content : Option (List ℕ)) → Holds files name (λ bytes. content ≡ Some bytes) → (value : Value) × HasValue files (AnObject name) value
+an_object None name content h = (Bytes [], tt)
+an_object (Some held) name content h = (Bytes h.0, (h.0, h.1, refl))
+
+-- of a file of which nothing is told, the host tells nothing
+untold_then : (files : Option Files) (name : List ℕ) (content : Option (List ℕ)) → Holds files name (λ bytes. content ≡ Some bytes) → content ≡ None → files ≡ None
+untold_then None name content h e = refl
+untold_then (Some held) name content h e = absurd (let is = h.2 in cc)
+
+module _ (w : World) (name : Bor (List ℕ)) (content : Option (List ℕ)) (reliable : Bool) (given : GivesFile w name.now content reliable) where
+  lost : IsLost content reliable → MayFail w
+  lost (inl none) = inl (untold_then w.files name.now content given.bytes none)
+  lost (inr fails) = given.fails fails
+
+  pub no_certificate : (e : CertFault) → IsNoCertificate content reliable e → IsUnread w (ACertificate name.now) (told_as.Certificate e)
+  no_certificate certificate_fault.Magic h = holds_told w.files name.now content (λ x. text_fault x ≡ Some certificate_fault.Magic) given.bytes h.0
+  no_certificate (certificate_fault.Fti f) h = holds_told w.files name.now content (λ x. text_fault x ≡ Some (certificate_fault.Fti f)) given.bytes h.0
+  no_certificate certificate_fault.Size h = holds_told w.files name.now content (λ x. text_fault x ≡ Some certificate_fault.Size) given.bytes h.0
+  no_certificate certificate_fault.Io h = lost (h.1 refl)
+  no_certificate certificate_fault.NoMemory h = tt
+  no_certificate certificate_fault.OtherIdentity h = absurd h.0
+
+module _ (w : World) (r : CheckRequest) (session object text : Option (List ℕ)) (s o t : Bool) (gives_session : GivesFile w r.session.now session s) (gives_object : GivesFile w r.object.now object o)
+    (gives_text : GivesFile w r.certificate.now text t) where
+  abbrev reliable : Reliable
+  reliable = record { session = s; object = o; certificate = t }
+
+  -- what was told of the bytes, where the host tells them
+  module _ (held : Files) (told : w.files ≡ Some held) where
+    session_held : Holds (Some held) r.session.now (λ bytes. session ≡ Some bytes)
+    session_held = rw told at gives_session.bytes
+
+    object_held : Holds (Some held) r.object.now (λ bytes. object ≡ Some bytes)
+    object_held = rw told at gives_object.bytes
+
+    text_held : Holds (Some held) r.certificate.now (λ bytes. text ≡ Some bytes)
+    text_held = rw told at gives_text.bytes
+
+    where_told : (Fact : List ℕ → List ℕ → List ℕ → Type 0) → WhereTold session object text Fact → Fact session_held.0 object_held.0 text_held.0
+    where_told Fact h = h session_held.0 object_held.0 text_held.0 session_held.2 object_held.2 text_held.2
+
+  because_frame : (e : FrameFault) → IsFaultOfFrames s (files_fault.Frame e) → (w.files ≡ None) ⊎ ((held : Files) × (w.files ≡ Some held)) → WhereTold session object text (λ x y z. IsFilesFault r.identity reliable x y z (files_fault.Frame e))
+      → Refuses w (Check r) [] (told_as.Frame e)
+  because_frame e frame (inl none) h = (λ io. gives_session.fails (frame.1 io), inl (none, frame.0.0, frame.0.1))
+  because_frame e frame (inr (held, told)) h =
+      let fact = where_told held told (λ x y z. IsFilesFault r.identity reliable x y z (files_fault.Frame e)) h in
+      let x = session_held held told in
+      let y = object_held held told in
+      let z = text_held held told in (
+        λ io. gives_session.fails (fact.2.1 io),
+        inr (
+          Some x.0,
+          y.0,
+          fact.0,
+          fact.2.0.0,
+          fact.2.0.1,
+          subst (λ (files : Option Files). HaveValues files (inputs_of (Check r)) (Opened (Some x.0) ∷ Bytes y.0 ∷ Polynomials fact.0 ∷ [])) (sym told)
+              ((x.0, x.1, refl), ((y.0, y.1, refl), ((fact.1.0, (z.0, z.1, fact.1.1)), tt))),
+          fact.2.0.2,
+        ),
+      )
+
+  because_session : (w.files ≡ None) ⊎ ((held : Files) × (w.files ≡ Some held)) → WhereTold session object text (λ x y z. IsFilesFault r.identity reliable x y z files_fault.Session) → MayFail w
+  because_session (inl none) h = inl none
+  because_session (inr (held, told)) h = gives_session.fails (where_told held told (λ x y z. IsFilesFault r.identity reliable x y z files_fault.Session) h).2
+
+  because_object : (w.files ≡ None) ⊎ ((held : Files) × (w.files ≡ Some held)) → WhereTold session object text (λ x y z. IsFilesFault r.identity reliable x y z files_fault.Object) → MayFail w
+  because_object (inl none) h = inl none
+  because_object (inr (held, told)) h = gives_object.fails (where_told held told (λ x y z. IsFilesFault r.identity reliable x y z files_fault.Object) h).2
+
+  because_files : (fault : FilesFault) → IsCertificateFault text t fault → IsFaultOfFrames s fault → WhereTold session object text (λ x y z. IsFilesFault r.identity reliable x y z fault) → IsBecause w w (Check r) [] (fault_of r fault)
+  because_files (files_fault.Frame e) certificate frame h = by_refused w w (Check r) [] (told_as.Frame e) (because_frame e frame (told_or_not w.files) h)
+  because_files files_fault.Session certificate frame h = by_refused w w (Check r) [] (told_as.File r.session) (refl, because_session (told_or_not w.files) h)
+  because_files files_fault.Object certificate frame h =
+      by_unread w w (Check r) [] (told_as.File r.object) (inr (Opened session, gives_session.bytes, inl (refl, because_object (told_or_not w.files) h)))
+  because_files (files_fault.Certificate e) certificate frame h =
+      let value = an_object w.files r.object.now object gives_object.bytes in
+      by_unread w w (Check r) [] (told_as.Certificate e)
+      (inr (Opened session, gives_session.bytes, inr (value.0, value.1, inl (no_certificate w r.certificate text t gives_text e certificate))))
+  because_files files_fault.NoMemory certificate frame h = tt
+
+  pub unchecked : (fault : FilesFault) → IsCertificateFault text t fault → IsFaultOfFrames s fault → WhereTold session object text (λ x y z. IsFilesFault r.identity reliable x y z fault) → HasStopped w w (Check r) (fault_of r fault)
+  unchecked fault certificate frame h = stopped w (Check r) (fault_of r fault) (because_files fault certificate frame h)
+
+  of_files : (Fact : List ℕ → List ℕ → List ℕ → Type 0) → (files : Option Files) → files ≡ w.files → WhereTold session object text Fact → OfFiles files r Fact
+  of_files Fact None is h = tt
+  of_files Fact (Some held) is h =
+      let x = session_held held (sym is) in
+      let y = object_held held (sym is) in
+      let z = text_held held (sym is) in
+      (x.0, y.0, z.0, x.1, y.1, z.1, where_told held (sym is) Fact h)
+
+  pub is_of_files : (Fact : List ℕ → List ℕ → List ℕ → Type 0) → WhereTold session object text Fact → OfFiles w.files r Fact
+  is_of_files Fact h = of_files Fact w.files refl h
+
+  pub verdict_of_files : (o : Option Verdict) → WhereTold session object text (λ x y z. IfSome o (IsVerdictIn r.identity x y z)) → IfSome o (λ v. OfFiles w.files r (λ x y z. IsVerdictIn r.identity x y z v))
+  verdict_of_files None h = tt
+  verdict_of_files (Some v) h = is_of_files (λ x y z. IsVerdictIn r.identity x y z v) h
+
+  -- and with a survey
+  pub surveyed_of_files : (o : Option (Verdict × Option Survey)) → WhereTold session object text (λ x y z. IfSome o (λ found. IsSurveyIn r.identity x y z found.0 found.1))
+      → IfSome o (λ found. OfFiles w.files r (λ x y z. IsVerdictIn r.identity x y z found.0))
+  surveyed_of_files None h = tt
+  surveyed_of_files (Some found) h =
+      is_of_files (λ x y z. IsVerdictIn r.identity x y z found.0)
+      (λ x y z sx sy sz. (let is = h x y z sx sy sz in (is.0, is.1, is.2, is.3.checked)))
+
+-- ---- a verdict on some datagrams
+
+pub some_summed : (who : Identity) (verdict : Verdict) → IsVerdictOnSome who verdict → OnYes verdict CanBeSummed
+some_summed who (Yes report) (ds, f, valid, is) = has_block who ds f valid report is
+some_summed who (No reason) h = tt
+
+pub each_summed : (who : Identity) (o : Option Verdict) → IfSome o (IsVerdictOnSome who) → IfSome o (λ verdict. OnYes verdict CanBeSummed)
+each_summed who None h = tt
+each_summed who (Some verdict) h = some_summed who verdict h
+
+-- and with a survey
+some_verdict : (who : Identity) (verdict : Verdict) (survey : Option Survey) → IsSurveyOnSome who verdict survey → IsVerdictOnSome who verdict
+some_verdict who verdict survey (ds, f, valid, is, surveyed) = (ds, f, valid, is)
+
+pub each_on_some : (who : Identity) (o : Option (Verdict × Option Survey)) → IfSome o (λ found. IsSurveyOnSome who found.0 found.1) → IfSome o (λ found. IsVerdictOnSome who found.0)
+each_on_some who None h = tt
+each_on_some who (Some found) h = some_verdict who found.0 found.1 h
+
+pub each_surveyed_summed : (who : Identity) (o : Option (Verdict × Option Survey)) → IfSome o (λ found. IsSurveyOnSome who found.0 found.1) → IfSome o (λ found. OnYes found.0 CanBeSummed)
+each_surveyed_summed who None h = tt
+each_surveyed_summed who (Some found) h = some_summed who found.0 (some_verdict who found.0 found.1 h)
+
+is_surveyed : (who : Identity) (verdict : Verdict) (survey : Option Survey) → IsSurveyOnSome who verdict survey → IsSurveyed verdict survey
+is_surveyed who (Yes report) (Some survey) h = tt
+is_surveyed who (Yes report) None (ds, f, valid, is, none) = absurd none
+is_surveyed who (No reason) survey h = tt
+
+pub each_surveyed : (who : Identity) (o : Option (Verdict × Option Survey)) → IfSome o (λ found. IsSurveyOnSome who found.0 found.1) → IfSome o (λ found. IsSurveyed found.0 found.1)
+each_surveyed who None h = tt
+each_surveyed who (Some found) h = is_surveyed who found.0 found.1 h
+
+-- ---- a file that isn't opened
+
+pub object_unopened : (w : World) (name : List ℕ) (fault : Fault) → IsUnopened w name fault → IsUnread w (AnObject name) fault
+object_unopened w name (told_as.Open n) h = h
+object_unopened w name (told_as.File n) h = absurd h
+object_unopened w name told_as.Memory h = h
+object_unopened w name (told_as.Frame e) h = absurd h
+object_unopened w name (told_as.Certificate e) h = absurd h
+object_unopened w name (told_as.Fti e) h = absurd h
+object_unopened w name (told_as.Send e) h = absurd h
+object_unopened w name (told_as.NoPlace n) h = absurd h
+
+pub certificate_unopened : (w : World) (name : List ℕ) (fault : Fault) → IsUnopened w name fault → IsUnread w (ACertificate name) fault
+certificate_unopened w name (told_as.Open n) h = h
+certificate_unopened w name (told_as.File n) h = absurd h
+certificate_unopened w name told_as.Memory h = h
+certificate_unopened w name (told_as.Frame e) h = absurd h
+certificate_unopened w name (told_as.Certificate e) h = absurd h
+certificate_unopened w name (told_as.Fti e) h = absurd h
+certificate_unopened w name (told_as.Send e) h = absurd h
+certificate_unopened w name (told_as.NoPlace n) h = absurd h
+
+-- the second of a check's files isn't had, or the third
+pub object_unhad : (w : World) (r : CheckRequest) (session : Option (List ℕ)) → Holds w.files r.session.now (λ bytes. session ≡ Some bytes)
+    → (fault : Fault) → IsUnread w (AnObject r.object.now) fault → HasStopped w w (Check r) fault
+object_unhad w r session held fault why = stopped w (Check r) fault (by_unread w w (Check r) [] fault (inr (Opened session, held, inl why)))
+
+pub certificate_unhad : (w : World) (r : CheckRequest) (session : Option (List ℕ)) → Holds w.files r.session.now (λ bytes. session ≡ Some bytes)
+    → (value : Value) → HasValue w.files (AnObject r.object.now) value → (fault : Fault) → IsUnread w (ACertificate r.certificate.now) fault → HasStopped w w (Check r) fault
+certificate_unhad w r session held value has fault why =
+    stopped w (Check r) fault (by_unread w w (Check r) [] fault (inr (Opened session, held, inr (value, has, inl why))))
+
+-- of frames that come after the object and the certificate were read
+unchecked_frames : (w : World) (r : CheckRequest) (sound : Bool) (opened : Option (List ℕ)) (object : List ℕ) (z : Certificate)
+    → HaveValues w.files (inputs_of (Check r)) (Opened opened ∷ Bytes object ∷ Polynomials z ∷ []) → (sound ≡ false → MayFail w)
+    → (fault : Fault) → IsNotChecked r.identity sound opened object z fault → HasStopped w w (Check r) fault
+unchecked_frames w r sound opened object z have fails (told_as.Open n) h = absurd h
+unchecked_frames w r sound opened object z have fails (told_as.File n) h = absurd h
+unchecked_frames w r sound opened object z have fails told_as.Memory h = stopped w (Check r) told_as.Memory tt
+unchecked_frames w r sound opened object z have fails (told_as.Frame e) h =
+    stopped w (Check r) (told_as.Frame e) (by_refused w w (Check r) [] (told_as.Frame e) (λ io. fails (h.3 io), inr (opened, object, z, h.0, h.1, have, h.2)))
+unchecked_frames w r sound opened object z have fails (told_as.Certificate e) h = absurd h
+unchecked_frames w r sound opened object z have fails (told_as.Fti e) h = absurd h
+unchecked_frames w r sound opened object z have fails (told_as.Send e) h = absurd h
+unchecked_frames w r sound opened object z have fails (told_as.NoPlace n) h = absurd h
+
+pub frames_stopped : (w : World) (r : CheckRequest) (sound : Bool) (opened : Option (List ℕ)) (object : List ℕ) (z : Certificate)
+    → HaveValues w.files (inputs_of (Check r)) (Opened opened ∷ Bytes object ∷ Polynomials z ∷ []) → (sound ≡ false → MayFail w)
+    → (result : Result Answered Fault) → IfErr result (IsNotChecked r.identity sound opened object z) → IfErr result (HasStopped w w (Check r))
+frames_stopped w r sound opened object z have fails (Ok answered) h = tt
+frames_stopped w r sound opened object z have fails (Err fault) h = unchecked_frames w r sound opened object z have fails fault h

@@ -1,0 +1,4 @@
+mod Pictured
+mod CheckedFiles
+mod Twinned
+mod TwinnedFiles

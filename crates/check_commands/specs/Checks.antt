@@ -1,0 +1,85 @@
+-- What is told of frames that are checked, and why they aren't.
+use Rattle.std.specs.Prelude.{◌≡◌, ◌⊎◌, ℕ, Bool, false, List, [], ◌∷◌, Option, Some, None, ⊤}
+use Rattle.std.specs.Prelude.{IfSome}
+use Rattle.partition.specs.Fti.{Fti, IsValidFti}
+use Rattle.session.specs.declared.frame.FrameFault.TheVariants.{Io as FrameIo}
+use Rattle.reception.specs.declared.scope.Identity.{Identity}
+use Rattle.cert.specs.Certificate.{Certificate as CertificateValue}
+use Rattle.cert.specs.FromReader.{IsCheckedFrom, IsRefusedBehind}
+use Rattle.cert.specs.Report.{IsReport, OnYes}
+use Rattle.cert.specs.declared.verdict.Verdict.{Verdict}
+use Rattle.file_check.specs.declared.checking.FilesFault.{FilesFault}
+use Rattle.file_check.specs.declared.checking.FilesFault.TheVariants.{Frame as NoFrame, Session}
+use Rattle.file_check.specs.declared.checking.FilesFault.TheVariants.{Object, NoMemory}
+use Rattle.file_check.specs.declared.checking.FilesFault.TheVariants.{Certificate as NoCertificate}
+use Rattle.request.specs.declared.requests.CheckRequest.{CheckRequest}
+use Rattle.request.specs.declared.requests.Request.TheVariants.{Check}
+use Rattle.host.specs.World.{Files}
+use Rattle.commands.specs.Inputs.{Opened, Bytes, Polynomials, HaveValues}
+use Rattle.commands.specs.Commands.{inputs_of, status_of, TellsVerdict}
+use Rattle.check_commands.specs.declared.check.Answered.{Answered}
+use Rattle.commands.specs.Doing.{text_of}
+use Rattle.check_commands.specs.Drawing.{HasDrawn}
+use Rattle.commands.specs.declared.fault.Fault.{Fault}
+use Rattle.commands.specs.declared.fault.Fault.TheVariants.{File, Memory, Frame, Certificate}
+
+-- behind datagrams that have no reason against them comes no frame, or there is no memory
+abbrev pub IsNotChecked : Identity → Bool → Option (List ℕ) → List ℕ → CertificateValue → Fault
+    → Type 0
+IsNotChecked who sound opened object z (Frame fault) =
+    (left : Option (List ℕ)) × (failed : Bool)
+    × IsRefusedBehind who fault opened left failed object z
+    × (fault ≡ FrameIo → sound ≡ false)
+IsNotChecked who sound opened object z Memory = ⊤
+IsNotChecked who sound opened object z fault = ⊥
+
+-- the lines and the status of the verdict on the frames, and the picture
+pub record TellsCheck (r : CheckRequest) (old new : Option (List ℕ)) (object : List ℕ)
+    (z : CertificateValue) (answered : Answered) : Type 0 where
+  pub verdict : Verdict
+  pub checked : IsCheckedFrom r.identity old new object z verdict
+  pub text : TellsVerdict r.summary verdict (text_of answered.done.told)
+  pub status : answered.done.status ≡ status_of verdict
+  pub picture : HasDrawn r.picture verdict answered.picture
+
+-- the lines, the status and the picture of the verdict on what the files of a request hold
+pub record TellsHeld (files : Option Files) (r : CheckRequest) (answered : Answered) : Type 0 where
+  pub opened : Option (List ℕ)
+  pub left : Option (List ℕ)
+  pub object : List ℕ
+  pub z : CertificateValue
+  pub read : HaveValues files (inputs_of (Check r))
+      (Opened opened ∷ Bytes object ∷ Polynomials z ∷ [])
+  pub tells : TellsCheck r opened left object z answered
+
+-- and of a verdict on some datagrams, of which no more is said
+pub record TellsSome (r : CheckRequest) (answered : Answered) : Type 0 where
+  pub verdict : Verdict
+  pub datagrams : List (List ℕ)
+  pub fti : Fti
+  pub valid : IsValidFti fti
+  pub report : OnYes verdict (IsReport r.identity datagrams fti)
+  pub text : TellsVerdict r.summary verdict (text_of answered.done.told)
+  pub status : answered.done.status ≡ status_of verdict
+  pub picture : HasDrawn r.picture verdict answered.picture
+
+-- what is told of a request; of files whose bytes aren't told, of some datagrams
+abbrev pub TellsRequest : Option Files → CheckRequest → Answered → Type 0
+TellsRequest files r answered =
+    TellsHeld files r answered ⊎ ((files ≡ None) × TellsSome r answered)
+
+-- ---- files that are checked where they stand
+
+-- a fault of theirs, as it is told
+abbrev pub fault_of : CheckRequest → FilesFault → Fault
+fault_of r (NoFrame fault) = Frame fault
+fault_of r Session = File r.session
+fault_of r Object = File r.object
+fault_of r (NoCertificate fault) = Certificate fault
+fault_of r NoMemory = Memory
+
+-- a fact of what a request's files hold, where they tell it
+abbrev pub OfFiles : Option Files → CheckRequest → (List ℕ → List ℕ → List ℕ → Type 0) → Type 0
+OfFiles files r Fact = IfSome files (λ held. (session : List ℕ) × (object : List ℕ)
+    × (text : List ℕ) × (held r.session.now ≡ Some session) × (held r.object.now ≡ Some object)
+    × (held r.certificate.now ≡ Some text) × Fact session object text)

@@ -1,0 +1,18 @@
+-- The picture of a verdict.
+use Rattle.std.specs.Prelude.{◌≡◌, ℕ, List, Option, Some, None, ⊤}
+use Rattle.std.specs.Borrow.{Bor}
+use Rattle.cert.specs.declared.verdict.Survey.{Survey}
+use Rattle.cert.specs.declared.verdict.Verdict.{Verdict}
+use Rattle.cert.specs.declared.verdict.Verdict.TheVariants.{Yes}
+use Rattle.check_commands.specs.declared.drawing.Drawn.{Drawn}
+
+-- there is a survey at a yes
+abbrev pub IsSurveyed : Verdict → Option Survey → Type 0
+IsSurveyed (Yes report) None = ⊥
+IsSurveyed verdict survey = ⊤
+
+-- a picture was drawn under its name, where one is asked for and the answer is yes
+abbrev pub HasDrawn : Option (Bor (List ℕ)) → Verdict → Option Drawn → Type 0
+HasDrawn (Some name) (Yes report) (Some drawn) = drawn.name ≡ name
+HasDrawn (Some name) (Yes report) None = ⊥
+HasDrawn picture verdict drawn = drawn ≡ None

@@ -1,0 +1,132 @@
+-- What is read for a twin, and what is told of it.
+use Rattle.std.specs.Prelude.{◌≡◌, ◌≤◌, ℕ, Bool, false, List, [], ◌∷◌, length, Option, Some, None}
+use Rattle.std.specs.Prelude.{Vec, codes, IfSome, ⊤}
+use Rattle.std.specs.declared.alloc.Global.{Global}
+use Rattle.session.specs.Frames.{AreDatagrams, IsFramed, StopsAt}
+use Rattle.session.specs.declared.frame.FrameFault.TheVariants.{Io as FrameIo, NoSuchPlace}
+use Rattle.session.specs.declared.frame.FrameFault.TheVariants.{NoMemory as NoFrameMemory}
+use Rattle.reception.specs.declared.scope.Identity.{Identity}
+use Rattle.cert.specs.Certificate.{Certificate as CertificateValue}
+use Rattle.cert.specs.Twins.{IsTwinOfSession}
+use Rattle.cert.specs.Verdict.{IsVerdict}
+use Rattle.cert.specs.declared.verdict.Reason.TheVariants.{Thin}
+use Rattle.cert.specs.declared.verdict.Verdict.{Verdict}
+use Rattle.cert.specs.declared.verdict.Verdict.TheVariants.{Yes, No}
+use Rattle.file_check.specs.Shortness.{IsShortFound, MakesTwins}
+use Rattle.file_check.specs.declared.checking.FilesFault.{FilesFault}
+use Rattle.file_check.specs.declared.checking.FilesFault.TheVariants.{Frame as NoFrame, Session}
+use Rattle.file_check.specs.declared.checking.FilesFault.TheVariants.{Object}
+use Rattle.file_check.specs.declared.checking.FilesFault.TheVariants.{NoMemory as FilesNoMemory}
+use Rattle.file_check.specs.declared.checking.FilesFault.TheVariants.{Certificate as NoCertificate}
+use Rattle.file_check.specs.declared.checking.ShortBlock.{ShortBlock}
+use Rattle.request.specs.declared.requests.TwinRequest.{TwinRequest}
+use Rattle.request.specs.declared.requests.Request.TheVariants.{Twin}
+use Rattle.host.specs.World.{Files, Holds, World}
+use Rattle.commands.specs.Inputs.{Datagrams, Bytes, Polynomials, HaveValues, IsFirstUnread}
+use Rattle.commands.specs.Lines.{line_of, short_text, verdict_text}
+use Rattle.commands.specs.Commands.{inputs_of}
+use Rattle.commands.specs.declared.fault.Fault.{Fault}
+use Rattle.commands.specs.declared.fault.Fault.TheVariants.{File, Memory, Frame, Certificate}
+use Rattle.commands.specs.declared.output.Unwritten.{Unwritten}
+use Rattle.commands.specs.declared.output.Unwritten.TheVariants.{Writing, Fault as ByFault}
+use Rattle.check_commands.specs.declared.twin.Answered.{Answered}
+use Rattle.check_commands.specs.declared.twin.Inputs.{Inputs}
+use Rattle.check_commands.specs.declared.twin.OpenInputs.{OpenInputs}
+
+-- the files give them
+abbrev pub GivesInputs : Option Files → TwinRequest → Inputs → Type 0
+GivesInputs files r inputs =
+    HaveValues files (inputs_of (Twin r))
+    (Datagrams inputs.session ∷ Bytes inputs.object.items ∷ Polynomials inputs.certificate ∷ [])
+
+-- one of them doesn't, and those before it do
+abbrev pub AreUnread : World → TwinRequest → Fault → Type 0
+AreUnread world r fault = IsFirstUnread world (inputs_of (Twin r)) fault
+
+-- the line that a verdict gives, and the other object where a block is short
+abbrev pub IsToldOf : Identity → Verdict → Inputs → Answered → Type 0
+IsToldOf who (Yes report) inputs answered =
+    (answered.line ≡ line_of (codes "no twin")) × (answered.other ≡ None)
+IsToldOf who (No (Thin block have need)) inputs answered =
+    (answered.line ≡ line_of (short_text (codes "twin block") block have need))
+    × (twin : Vec ℕ Global) × (answered.other ≡ Some twin)
+    × IsTwinOfSession who inputs.certificate.fti block inputs.session inputs.object.items twin.items
+IsToldOf who (No reason) inputs answered =
+    (answered.line ≡ verdict_text (No reason)) × (answered.other ≡ None)
+
+-- those of the verdict on the inputs
+abbrev pub TellsTwin : Identity → Inputs → Answered → Type 0
+TellsTwin who inputs answered =
+    (verdict : Verdict)
+    × IsVerdict who inputs.session inputs.object.items inputs.certificate verdict
+    × IsToldOf who verdict inputs answered
+
+-- ---- inputs that are opened
+
+-- the file of a session holds frames
+abbrev pub HoldsFrames : Option Files → TwinRequest → Type 0
+HoldsFrames files r = Holds files r.session.now
+    (λ bytes. (datagrams : List (List ℕ)) × IsFramed datagrams bytes × AreDatagrams datagrams)
+
+-- Why a file isn't gone over to its end, all frames: what stands there is none, or the file has
+-- failed, or there is no memory.
+abbrev pub IsUnframed : Option (List ℕ) → Bool → Fault → Type 0
+IsUnframed content reliable (Frame FrameIo) = reliable ≡ false
+IsUnframed content reliable (Frame NoFrameMemory) = ⊤
+IsUnframed content reliable (Frame (NoSuchPlace place)) = ⊥
+IsUnframed content reliable (Frame fault) = IfSome content (StopsAt fault)
+IsUnframed content reliable Memory = ⊤
+IsUnframed content reliable fault = ⊥
+
+-- these are the files of a request that are opened
+pub record AreOpened {I : Type 0} (opened : OpenInputs I) (session object certificate : I)
+    : Type 0 where
+  pub session_is : session ≡ opened.session
+  pub object_is : opened.object ≡ Some object
+  pub certificate_is : opened.certificate ≡ Some certificate
+
+-- ---- files that are read at offsets
+
+-- a fault of theirs, as it is told
+abbrev pub fault_of_files : TwinRequest → FilesFault → Fault
+fault_of_files r (NoFrame fault) = Frame fault
+fault_of_files r Session = File r.session
+fault_of_files r Object = File r.object
+fault_of_files r (NoCertificate fault) = Certificate fault
+fault_of_files r FilesNoMemory = Memory
+
+-- the verdict is that on what the files hold, and where a block is short, each twin that is made
+-- for what came is one of the session
+pub record HasJudged (held : Files) (r : TwinRequest) (verdict : Verdict)
+    (short : Option ShortBlock) : Type 0 where
+  pub session : List ℕ
+  pub datagrams : List (List ℕ)
+  pub framed : IsFramed datagrams session
+  pub object : List ℕ
+  pub z : CertificateValue
+  pub read : HaveValues (Some held) (inputs_of (Twin r))
+      (Datagrams datagrams ∷ Bytes object ∷ Polynomials z ∷ [])
+  pub judged : IsVerdict r.identity datagrams object z verdict
+  pub twins : MakesTwins r.identity session object z verdict short
+
+-- where they are told
+abbrev pub IsJudged : Option Files → TwinRequest → Verdict → Option ShortBlock → Type 0
+IsJudged files r verdict short = IfSome files (λ held. HasJudged held r verdict short)
+
+-- what is found of a request's files
+abbrev pub IsFoundIn : Option Files → TwinRequest → Verdict → Option ShortBlock → Type 0
+IsFoundIn files r verdict short = IsShortFound verdict short × IsJudged files r verdict short
+
+-- the line of a verdict where no block is short
+abbrev pub TellsNoTwin : Verdict → List ℕ → Type 0
+TellsNoTwin (Yes report) line = line ≡ line_of (codes "no twin")
+TellsNoTwin (No reason) line = line ≡ verdict_text (No reason)
+
+-- why a twin isn't written: writing has failed, or there is no memory, or the object's file has
+-- failed or isn't so long
+abbrev pub IsUntwinned : ℕ → Option (List ℕ) → Bool → List ℕ → Unwritten → Type 0
+IsUntwinned size content reliable name (ByFault (File read)) = (read.now ≡ name)
+    × ((o : List ℕ) → content ≡ Some o → size ≤ length o → reliable ≡ false)
+IsUntwinned size content reliable name (ByFault Memory) = ⊤
+IsUntwinned size content reliable name (ByFault fault) = ⊥
+IsUntwinned size content reliable name Writing = ⊤

@@ -1,0 +1,423 @@
+//! The command `check`.
+ghost use Rattle.std.specs.Prelude.{◌≡◌, ◌≤◌, ◌++◌, decimal, IfOk, IfErr, IfSome, OnOk};
+ghost use Rattle.cert.specs.Certificate.{IsCertificate};
+ghost use Rattle.cert.specs.FromReader.{IsCheckedFrom};
+ghost use Rattle.cert.specs.Report.{OnYes};
+ghost use Rattle.cert.specs.declared.verdict.Verdict.TheVariants.{No};
+ghost use Rattle.request.specs.declared.requests.Request.TheVariants.{Check};
+ghost use Rattle.commands.specs.Commands.{TellsVerdict, status_of as verdict_status};
+ghost use Rattle.commands.specs.Doing.{HasMade, HasStopped, text_of};
+ghost use Rattle.host.specs.World.{GivesFile};
+ghost use Rattle.file_check.specs.Files.{IsVerdictIn, IsVerdictOnSome};
+ghost use Rattle.check_commands.specs.Checks.{IsNotChecked, OfFiles, TellsCheck, TellsRequest};
+ghost use Rattle.check_commands.specs.Checks.{fault_of};
+ghost use Rattle.check_commands.specs.Drawing.{IsSurveyed};
+ghost use Rattle.check_commands.specs.Summing.{CanBeSummed};
+ghost use Rattle.commands.specs.Lines.{named, block_text, kill_text, losses_text, report_text};
+ghost use Rattle.commands.specs.Lines.{reason_text, verdict_text as text_of_verdict};
+
+use crate::drawing::{Drawn, picture_of};
+use crate::summary::summary_lines;
+use cert::{Certificate, CheckFault, Reason, Report, Survey, Verdict, check_from, survey_from};
+use commands::{
+    Done, Fault, Text, Told, certificate_in, object_in, open, put_packet_fault, read_certificate,
+    write_output,
+};
+use file_check::{Files, FilesFault, check_files, survey_files};
+use host::Host;
+use reception::Identity;
+use request::{CheckRequest, Output};
+use session::{FrameFault, Read};
+use std::alloc::{AllocError, Global};
+
+/// What is told of a check, and the picture, where one is asked for and the answer is yes.
+#[derive(Drop)]
+struct Answered<'a> {
+    done: Done,
+    picture: Option<Drawn<'a>>,
+}
+
+/// The verdict. The session is opened first, but the object and the certificate are read before its
+/// frames. A picture is created once it and the lines are there.
+pub fn check<'a, H: Host>(
+    alloc: Global,
+    host: &mut H,
+    request: &CheckRequest<'a>,
+) -> Result<Done, Fault<'a>>
+    ensures ok { IfOk result
+        (HasMade (H.world host.old) (H.world host.new) (Check request.now)) }
+    ensures fault { IfErr result
+        (HasStopped (H.world host.old) (H.world host.new) (Check request.now)) }
+{
+    let Answered { done, picture } = read_and_answer(alloc, host, request)?;
+    match picture {
+        Some(drawn) => {
+            let output = Output {
+                name: drawn.name,
+                no_clobber: request.no_clobber,
+            };
+            let failure = Fault::File(drawn.name);
+            write_output(host, &output, drawn.text.as_bytes(), failure)?;
+            Ok(done)
+        }
+        None => Ok(done),
+    }
+}
+
+// What is told of the files of a request. Where none of them is a pipe or a device, and the
+// certificate has a name, they are checked where they stand.
+fn read_and_answer<'a, H: Host>(
+    alloc: Global,
+    host: &H,
+    request: &CheckRequest<'a>,
+) -> Result<Answered<'a>, Fault<'a>>
+    ensures ok { IfOk result (TellsRequest (H.world host.now).files request.now) }
+    ensures fault { IfErr result
+        (HasStopped (H.world host.now) (H.world host.now) (Check request.now)) }
+{
+    let mut session = open(host, request.session)?;
+    let mut object = open(host, request.object)?;
+    let (Some(_), Some(length)) = (host.length_of(&session), host.length_of(&object)) else {
+        let bytes = object_in(alloc, host, request.object, &mut object)?;
+        let certificate = read_certificate(alloc, host, request.certificate)?;
+        return answer_of(alloc, &mut session, bytes.as_slice(), &certificate, request);
+    };
+    let mut certificate = open(host, request.certificate)?;
+    if host.length_of(&certificate).is_some() {
+        let files = Files {
+            session: &session,
+            object: &object,
+            certificate: &certificate,
+        };
+        if let Some(answered) = answer_files(alloc, host, request, &files, length)? {
+            return Ok(answered);
+        }
+    }
+    let bytes = object_in(alloc, host, request.object, &mut object)?;
+    let certificate = certificate_in(alloc, host, request.certificate, &mut certificate)?;
+    answer_of(alloc, &mut session, bytes.as_slice(), &certificate, request)
+}
+
+// What is told of files that stand where they are, of an object of so many bytes. `None` where the
+// certificate has no name.
+fn answer_files<'a, H: Host>(
+    alloc: Global,
+    host: &H,
+    request: &CheckRequest<'a>,
+    files: &Files<'_, H::Input, H::Input, H::Input>,
+    object_length: u64,
+) -> Result<Option<Answered<'a>>, Fault<'a>>
+    requires session { GivesFile (H.world host.now) request.now.session.now
+        (H.Input.content files.now.session.now) (H.Input.reliable files.now.session.now) }
+    requires object { GivesFile (H.world host.now) request.now.object.now
+        (H.Input.content files.now.object.now) (H.Input.reliable files.now.object.now) }
+    requires certificate { GivesFile (H.world host.now) request.now.certificate.now
+        (H.Input.content files.now.certificate.now)
+        (H.Input.reliable files.now.certificate.now) }
+    ensures ok { IfOk result (λ o. IfSome o
+        (TellsRequest (H.world host.now).files request.now)) }
+    ensures fault { IfErr result
+        (HasStopped (H.world host.now) (H.world host.now) (Check request.now)) }
+{
+    if request.picture.is_none() {
+        let Some(verdict) = verdict_in(alloc, host, request, files)? else {
+            return Ok(None);
+        };
+        let done = told_of(alloc, request.summary, &verdict)?;
+        return Ok(Some(Answered {
+            done,
+            picture: None,
+        }));
+    }
+    let Some((verdict, survey)) = survey_in(alloc, host, request, files)? else {
+        return Ok(None);
+    };
+    let done = told_of(alloc, request.summary, &verdict)?;
+    let picture = picture_of(alloc, request, object_length, &verdict, &survey)?;
+    Ok(Some(Answered { done, picture }))
+}
+
+// The verdict on the files.
+fn verdict_in<'a, H: Host>(
+    alloc: Global,
+    host: &H,
+    request: &CheckRequest<'a>,
+    files: &Files<'_, H::Input, H::Input, H::Input>,
+) -> Result<Option<Verdict>, Fault<'a>>
+    requires session { GivesFile (H.world host.now) request.now.session.now
+        (H.Input.content files.now.session.now) (H.Input.reliable files.now.session.now) }
+    requires object { GivesFile (H.world host.now) request.now.object.now
+        (H.Input.content files.now.object.now) (H.Input.reliable files.now.object.now) }
+    requires certificate { GivesFile (H.world host.now) request.now.certificate.now
+        (H.Input.content files.now.certificate.now)
+        (H.Input.reliable files.now.certificate.now) }
+    ensures verdict { IfOk result (λ o. IfSome o (λ v. OfFiles
+        (H.world host.now).files request.now
+        (λ x o text. IsVerdictIn request.now.identity x o text v))) }
+    ensures some { IfOk result (λ o. IfSome o (IsVerdictOnSome request.now.identity)) }
+    ensures summed { IfOk result (λ o. IfSome o (λ v. OnYes v CanBeSummed)) }
+    ensures fault { IfErr result
+        (HasStopped (H.world host.now) (H.world host.now) (Check request.now)) }
+{
+    match check_files(alloc, files, request.identity) {
+        Ok(verdict) => Ok(verdict),
+        Err(fault) => Err(files_fault(request, fault)),
+    }
+}
+
+// The verdict on the files, and at a yes the survey.
+fn survey_in<'a, H: Host>(
+    alloc: Global,
+    host: &H,
+    request: &CheckRequest<'a>,
+    files: &Files<'_, H::Input, H::Input, H::Input>,
+) -> Result<Option<(Verdict, Option<Survey>)>, Fault<'a>>
+    requires session { GivesFile (H.world host.now) request.now.session.now
+        (H.Input.content files.now.session.now) (H.Input.reliable files.now.session.now) }
+    requires object { GivesFile (H.world host.now) request.now.object.now
+        (H.Input.content files.now.object.now) (H.Input.reliable files.now.object.now) }
+    requires certificate { GivesFile (H.world host.now) request.now.certificate.now
+        (H.Input.content files.now.certificate.now)
+        (H.Input.reliable files.now.certificate.now) }
+    ensures verdict { IfOk result (λ o. IfSome o (λ found.
+        OfFiles (H.world host.now).files request.now
+        (λ x o text. IsVerdictIn request.now.identity x o text found.0))) }
+    ensures some { IfOk result (λ o. IfSome o (λ found.
+        IsVerdictOnSome request.now.identity found.0)) }
+    ensures summed { IfOk result (λ o. IfSome o (λ found. OnYes found.0 CanBeSummed)) }
+    ensures surveyed { IfOk result (λ o. IfSome o (λ found. IsSurveyed found.0 found.1)) }
+    ensures fault { IfErr result
+        (HasStopped (H.world host.now) (H.world host.now) (Check request.now)) }
+{
+    match survey_files(alloc, files, request.identity) {
+        Ok(found) => Ok(found),
+        Err(fault) => Err(files_fault(request, fault)),
+    }
+}
+
+// A fault of files, as it is told.
+fn files_fault<'a>(request: &CheckRequest<'a>, fault: FilesFault) -> Fault<'a>
+    ensures { result ≡ fault_of request.now fault }
+{
+    match fault {
+        FilesFault::Frame(fault) => Fault::Frame(fault),
+        FilesFault::Session => Fault::File(request.session),
+        FilesFault::Object => Fault::File(request.object),
+        FilesFault::Certificate(fault) => Fault::Certificate(fault),
+        FilesFault::NoMemory => Fault::Memory,
+    }
+}
+
+// What is told of the frames that a reader has left.
+fn answer_of<'a, R: Read>(
+    alloc: Global,
+    frames: &mut R,
+    object: &[u8],
+    certificate: &Certificate,
+    request: &CheckRequest<'a>,
+) -> Result<Answered<'a>, Fault<'a>>
+    requires { IsCertificate certificate.now }
+    ensures ok { IfOk result (TellsCheck request.now (R.remaining frames.old)
+        (R.remaining frames.new) object.now certificate.now) }
+    ensures fault { IfErr result (IsNotChecked request.now.identity (R.sound frames.old)
+        (R.remaining frames.old) object.now certificate.now) }
+{
+    if request.picture.is_none() {
+        let verdict = verdict_of(alloc, frames, object, certificate, request.identity)?;
+        let done = told_of(alloc, request.summary, &verdict)?;
+        return Ok(Answered {
+            done,
+            picture: None,
+        });
+    }
+    let (verdict, survey) = survey_of(alloc, frames, object, certificate, request.identity)?;
+    let done = told_of(alloc, request.summary, &verdict)?;
+    let picture = picture_of(alloc, request, object.len() as u64, &verdict, &survey)?;
+    Ok(Answered { done, picture })
+}
+
+// What is told of a verdict, by whether a summary is asked for.
+fn told_of(alloc: Global, summary: bool, verdict: &Verdict) -> Result<Done, AllocError>
+    requires { OnYes verdict.now CanBeSummed }
+    ensures text { IfOk result (λ done. TellsVerdict summary verdict.now (text_of done.told)) }
+    ensures status { IfOk result (λ done. done.status ≡ verdict_status verdict.now) }
+{
+    Ok(Done {
+        told: Told::Lines(verdict_text(alloc, summary, verdict)?),
+        status: status_of(verdict),
+    })
+}
+
+fn status_of(verdict: &Verdict) -> u8
+    ensures value { result ≡ verdict_status verdict.now }
+    ensures small { result ≤ 3 }
+{
+    match verdict {
+        Verdict::Yes(_) => 0,
+        Verdict::No(_) => 1,
+    }
+}
+
+// The lines of a verdict: of a yes the summary, where one is asked for.
+fn verdict_text(alloc: Global, summary: bool, verdict: &Verdict) -> Result<Text, AllocError>
+    requires { OnYes verdict.now CanBeSummed }
+    ensures { IfOk result (TellsVerdict summary verdict.now) }
+{
+    match verdict {
+        Verdict::Yes(report) if summary => summary_lines(alloc, report),
+        Verdict::Yes(report) => report_lines(alloc, report),
+        Verdict::No(reason) => reason_line(alloc, *reason),
+    }
+}
+
+// The verdict on the frames that a reader has left, or why there is none.
+fn verdict_of<'a, R: Read>(
+    alloc: Global,
+    frames: &mut R,
+    object: &[u8],
+    certificate: &Certificate,
+    identity: Identity,
+) -> Result<Verdict, Fault<'a>>
+    requires { IsCertificate certificate.now }
+    ensures ok { IfOk result (IsCheckedFrom identity (R.remaining frames.old)
+        (R.remaining frames.new) object.now certificate.now) }
+    ensures summed { IfOk result (λ verdict. OnYes verdict CanBeSummed) }
+    ensures fault { IfErr result (IsNotChecked identity (R.sound frames.old)
+        (R.remaining frames.old) object.now certificate.now) }
+{
+    match check_from(alloc, frames, object, certificate, identity) {
+        Ok(verdict) => Ok(verdict),
+        Err(CheckFault::NoMemory | CheckFault::Frame(FrameFault::NoMemory)) => Err(Fault::Memory),
+        Err(CheckFault::Frame(fault)) => Err(Fault::Frame(fault)),
+    }
+}
+
+// The verdict on the frames that a reader has left, at a yes with a survey, or why there is none.
+fn survey_of<'a, R: Read>(
+    alloc: Global,
+    frames: &mut R,
+    object: &[u8],
+    certificate: &Certificate,
+    identity: Identity,
+) -> Result<(Verdict, Option<Survey>), Fault<'a>>
+    requires { IsCertificate certificate.now }
+    ensures ok { IfOk result (λ found. IsCheckedFrom identity (R.remaining frames.old)
+        (R.remaining frames.new) object.now certificate.now found.0) }
+    ensures summed { IfOk result (λ found. OnYes found.0 CanBeSummed) }
+    ensures surveyed { IfOk result (λ found. IsSurveyed found.0 found.1) }
+    ensures fault { IfErr result (IsNotChecked identity (R.sound frames.old)
+        (R.remaining frames.old) object.now certificate.now) }
+{
+    match survey_from(alloc, frames, object, certificate, identity) {
+        Ok(found) => Ok(found),
+        Err(CheckFault::NoMemory | CheckFault::Frame(FrameFault::NoMemory)) => Err(Fault::Memory),
+        Err(CheckFault::Frame(fault)) => Err(Fault::Frame(fault)),
+    }
+}
+
+// The line of a block: how many symbols it needs, and how many it has.
+pub(crate) fn block_line(
+    alloc: Global,
+    name: &str,
+    block: usize,
+    counts: (usize, usize),
+) -> Result<Text, AllocError>
+    ensures { IfOk result (λ line. line ≡ block_text name.now block counts) }
+{
+    let (need, have) = counts;
+    let mut line = Text::new(alloc);
+    line.named(name, block)?;
+    line.named(" need", need)?;
+    line.named(" have", have)?;
+    Ok(line)
+}
+
+fn kill_line(alloc: Global, places: &[usize]) -> Result<Text, AllocError>
+    ensures { IfOk result (λ line. line ≡ kill_text places.now) }
+{
+    let mut line = Text::new(alloc);
+    line.text("kill")?;
+    for place in places {
+        line.named("", *place)?;
+    }
+    Ok(line)
+}
+
+// The line of a number with its name.
+pub(crate) fn number_line(alloc: Global, name: &str, number: usize) -> Result<Text, AllocError>
+    ensures { IfOk result (λ line. line ≡ named name.now (decimal number)) }
+{
+    let mut line = Text::new(alloc);
+    line.named(name, number)?;
+    Ok(line)
+}
+
+// Puts the lines of the carriers and of what can be lost last.
+fn put_losses(alloc: Global, lines: &mut Text, report: &Report) -> Result<(), AllocError>
+    ensures { OnOk result (lines.new ≡ lines.old ++ losses_text report.now) }
+{
+    lines.put_line(&number_line(alloc, "carriers", report.carriers)?)?;
+    lines.put_line(&number_line(alloc, "margin", report.margin)?)?;
+    lines.put_line(&kill_line(alloc, report.kill.as_slice())?)?;
+    lines.put_line(&number_line(alloc, "burst", report.burst)?)
+}
+
+// The lines of a yes: they are printed together, so that want of memory leaves no yes behind.
+fn report_lines(alloc: Global, report: &Report) -> Result<Text, AllocError>
+    ensures { IfOk result (λ lines. lines ≡ report_text report.now) }
+{
+    let mut lines = Text::new(alloc);
+    lines.text("yes\n")?;
+    for (block, counts) in report.blocks.iter().enumerate() {
+        lines.put_line(&block_line(alloc, "block", block, *counts)?)?;
+    }
+    put_losses(alloc, &mut lines, report)?;
+    Ok(lines)
+}
+
+// Puts a reason last.
+fn put_reason(line: &mut Text, reason: Reason) -> Result<(), AllocError>
+    ensures { OnOk result (line.new ≡ line.old ++ reason_text reason) }
+{
+    match reason {
+        Reason::OtherCertificate => line.text("N12 OtherCertificate"),
+        Reason::ObjectLength => line.text("N1 ObjectLength"),
+        Reason::NotObject {
+            block,
+            column,
+            symbol,
+        } => {
+            line.named("N2 NotObject block", block)?;
+            line.named(" column", column)?;
+            line.named(" symbol", symbol)
+        }
+        Reason::Empty => line.text("N3 Empty"),
+        Reason::Packet(place, fault) => {
+            line.named("N4 Packet place", place)?;
+            line.text(" ")?;
+            put_packet_fault(line, fault)
+        }
+        Reason::OtherFti(place) => line.named("N6 OtherFti place", place),
+        Reason::SymbolLength(place) => line.named("N10 SymbolLength place", place),
+        Reason::Range(place) => line.named("N7 Range place", place),
+        Reason::Symbol(place, column) => {
+            line.named("N8 Symbol place", place)?;
+            line.named(" column", column)
+        }
+        Reason::Thin { block, have, need } => {
+            line.short_block("N9 Thin block", block, have, need)
+        }
+        Reason::NoCarrier => line.text("N11 NoCarrier"),
+    }
+}
+
+/// The line of a no.
+pub(crate) fn reason_line(alloc: Global, reason: Reason) -> Result<Text, AllocError>
+    ensures { IfOk result (λ line. line ≡ text_of_verdict (No reason)) }
+{
+    let mut line = Text::new(alloc);
+    line.text("no ")?;
+    put_reason(&mut line, reason)?;
+    line.end_line()?;
+    Ok(line)
+}

@@ -1,0 +1,488 @@
+//! The command `twin`.
+ghost use Rattle.std.specs.Prelude.{◌≡◌, ◌<◌, ℕ, List, Some, true, length, codes, IfOk, IfErr};
+ghost use Rattle.std.specs.Prelude.{IfSome, OnOk};
+ghost use Rattle.std.specs.Io.KnownBytes.{Appends};
+ghost use Rattle.partition.specs.Fti.{block_count, source_count};
+ghost use Rattle.session.specs.Extents.{AreFrames};
+ghost use Rattle.cert.specs.TwinBytes.{AppendsAny, twin_bytes};
+ghost use Rattle.cert.specs.Twins.{different_esis};
+ghost use Rattle.cert.specs.declared.verdict.Reason.TheVariants.{Thin};
+ghost use Rattle.cert.specs.declared.verdict.Verdict.TheVariants.{No};
+ghost use Rattle.request.specs.declared.requests.Request.TheVariants.{Twin};
+ghost use Rattle.host.specs.World.{GivesFile};
+ghost use Rattle.commands.specs.Doing.{HasMade, HasStopped};
+ghost use Rattle.commands.specs.Inputs.{ACertificate, AnObject, Bytes, Polynomials, HasValue};
+ghost use Rattle.commands.specs.Inputs.{IsUnread};
+ghost use Rattle.commands.specs.Lines.{line_of, short_text};
+ghost use Rattle.check_commands.specs.ShortBlocks.{short_of};
+ghost use Rattle.check_commands.specs.TwinsTold.{GivesInputs, AreOpened, AreUnread, HoldsFrames};
+ghost use Rattle.check_commands.specs.TwinsTold.{IsFoundIn};
+ghost use Rattle.check_commands.specs.TwinsTold.{IsUnframed, IsUntwinned, TellsNoTwin, TellsTwin};
+ghost use Rattle.check_commands.specs.TwinsTold.{fault_of_files};
+
+use crate::check::reason_line;
+use cert::{Certificate, Reason, TwinFault, Verdict, session_twin, write_twin};
+use commands::{
+    Done, Fault, Text, Told, Unwritten, certificate_in, commit, create, object_in, open,
+    read_certificate, read_object, session_in, write_output,
+};
+use file_check::{Files, FilesFault, ShortBlock, check_for_twin};
+use host::Host;
+use lists::are_bytes;
+use reception::Identity;
+use request::TwinRequest;
+use session::{FrameFault, Read, Session, Write, read_next_into};
+use std::alloc::{AllocError, Global};
+use streams::{Cursor, ReadAt};
+
+/// What a twin is made of, as the files hold it.
+#[derive(Drop)]
+struct Inputs {
+    session: Session,
+    object: Vec<u8>,
+    certificate: Certificate,
+}
+
+/// The inputs of a request, as far as they are opened.
+#[derive(Drop)]
+struct OpenInputs<I: Drop> {
+    session: I,
+    object: Option<I>,
+    certificate: Option<I>,
+}
+
+// Opens the inputs that can be read at offsets, and one more, if there is one: the session, and the
+// object once the session's frames were gone over, and then the certificate.
+fn open_inputs<'a, H: Host>(
+    alloc: Global,
+    host: &H,
+    request: &TwinRequest<'a>,
+) -> Result<OpenInputs<H::Input>, Fault<'a>>
+    ensures session { IfOk result (λ opened. GivesFile (H.world host.now) request.now.session.now
+        (H.Input.remaining opened.session) (H.Input.sound opened.session)) }
+    ensures session_content { IfOk result (λ opened. GivesFile (H.world host.now)
+        request.now.session.now (H.Input.content opened.session)
+        (H.Input.reliable opened.session)) }
+    ensures object { IfOk result (λ opened. IfSome opened.object (λ input.
+        GivesFile (H.world host.now) request.now.object.now
+        (H.Input.remaining input) (H.Input.sound input))) }
+    ensures object_content { IfOk result (λ opened. IfSome opened.object (λ input.
+        GivesFile (H.world host.now) request.now.object.now
+        (H.Input.content input) (H.Input.reliable input))) }
+    ensures certificate { IfOk result (λ opened. IfSome opened.certificate (λ input.
+        GivesFile (H.world host.now) request.now.certificate.now
+        (H.Input.remaining input) (H.Input.sound input))) }
+    ensures certificate_content { IfOk result (λ opened. IfSome opened.certificate (λ input.
+        GivesFile (H.world host.now) request.now.certificate.now
+        (H.Input.content input) (H.Input.reliable input))) }
+    ensures framed { IfOk result (λ opened. IfSome opened.object (λ input.
+        HoldsFrames (H.world host.now).files request.now)) }
+    ensures fault { IfErr result (AreUnread (H.world host.now) request.now) }
+{
+    let session = open(host, request.session)?;
+    if host.length_of(&session).is_none() {
+        return Ok(OpenInputs {
+            session,
+            object: None,
+            certificate: None,
+        });
+    }
+    pass_frames(alloc, &session)?;
+    let object = open(host, request.object)?;
+    if host.length_of(&object).is_none() {
+        return Ok(OpenInputs {
+            session,
+            object: Some(object),
+            certificate: None,
+        });
+    }
+    let certificate = open(host, request.certificate)?;
+    Ok(OpenInputs {
+        session,
+        object: Some(object),
+        certificate: Some(certificate),
+    })
+}
+
+// Goes over the frames of a session that is read at offsets, to its end.
+fn pass_frames<'a, F: ReadAt>(alloc: Global, file: &F) -> Result<(), Fault<'a>>
+    ensures framed { OnOk result (AreFrames (F.content file.now)) }
+    ensures fault { IfErr result (IsUnframed (F.content file.now) (F.reliable file.now)) }
+{
+    let mut frames = Cursor::new(file);
+    pass_rest(alloc, &mut frames)
+}
+
+// Goes over the frames that a reader has left, one datagram in the room of the one before.
+fn pass_rest<'a, R: Read>(alloc: Global, frames: &mut R) -> Result<(), Fault<'a>>
+    ensures framed { OnOk result (AreFrames (R.remaining frames.old)) }
+    ensures fault { IfErr result (IsUnframed (R.remaining frames.old) (R.sound frames.old)) }
+{
+    let mut room = Vec::new(alloc);
+    loop {
+        let datagram = match read_next_into(frames, room) {
+            Ok(Some(datagram)) => datagram,
+            Ok(None) => return Ok(()),
+            Err(FrameFault::NoMemory) => return Err(Fault::Memory),
+            Err(fault) => return Err(Fault::Frame(fault)),
+        };
+        are_bytes(datagram.as_slice());
+        room = datagram;
+    }
+}
+
+// The session, the object and the certificate of a request, read in this order.
+fn read_inputs<'a, H: Host>(
+    alloc: Global,
+    host: &H,
+    request: &TwinRequest<'a>,
+    opened: OpenInputs<H::Input>,
+) -> Result<Inputs, Fault<'a>>
+    requires session { GivesFile (H.world host.now) request.now.session.now
+        (H.Input.remaining opened.session) (H.Input.sound opened.session) }
+    requires object { IfSome opened.object (λ input. GivesFile (H.world host.now)
+        request.now.object.now (H.Input.remaining input) (H.Input.sound input)) }
+    requires certificate { IfSome opened.certificate (λ input. GivesFile (H.world host.now)
+        request.now.certificate.now (H.Input.remaining input) (H.Input.sound input)) }
+    ensures ok { IfOk result (GivesInputs (H.world host.now).files request.now) }
+    ensures fault { IfErr result (AreUnread (H.world host.now) request.now) }
+{
+    let OpenInputs {
+        session,
+        object,
+        certificate,
+    } = opened;
+    let mut session = session;
+    Ok(Inputs {
+        session: session_in(alloc, host, request.session, &mut session)?,
+        object: rest_of_object(alloc, host, request.object, object)?,
+        certificate: rest_of_certificate(alloc, host, request.certificate, certificate)?,
+    })
+}
+
+// The bytes of an object, which is opened or isn't.
+fn rest_of_object<'a, H: Host>(
+    alloc: Global,
+    host: &H,
+    name: &'a str,
+    opened: Option<H::Input>,
+) -> Result<Vec<u8>, Fault<'a>>
+    requires { IfSome opened (λ input. GivesFile (H.world host.now) name.now
+        (H.Input.remaining input) (H.Input.sound input)) }
+    ensures ok { IfOk result (λ v.
+        HasValue (H.world host.now).files (AnObject name.now) (Bytes v.items)) }
+    ensures fault { IfErr result (IsUnread (H.world host.now) (AnObject name.now)) }
+{
+    match opened {
+        Some(input) => {
+            let mut input = input;
+            object_in(alloc, host, name, &mut input)
+        }
+        None => read_object(alloc, host, name),
+    }
+}
+
+// The certificate, which is opened or isn't.
+fn rest_of_certificate<'a, H: Host>(
+    alloc: Global,
+    host: &H,
+    name: &'a str,
+    opened: Option<H::Input>,
+) -> Result<Certificate, Fault<'a>>
+    requires { IfSome opened (λ input. GivesFile (H.world host.now) name.now
+        (H.Input.remaining input) (H.Input.sound input)) }
+    ensures ok { IfOk result (λ z.
+        HasValue (H.world host.now).files (ACertificate name.now) (Polynomials z)) }
+    ensures fault { IfErr result (IsUnread (H.world host.now) (ACertificate name.now)) }
+{
+    match opened {
+        Some(input) => {
+            let mut input = input;
+            certificate_in(alloc, host, name, &mut input)
+        }
+        None => read_certificate(alloc, host, name),
+    }
+}
+
+/// The line that answers a twin's request, and the other object, where there is one.
+#[derive(Drop)]
+struct Answered {
+    line: Text,
+    other: Option<Vec<u8>>,
+}
+
+// What the verdict on the inputs gives.
+fn answer_of(alloc: Global, inputs: &Inputs, identity: Identity) -> Result<Answered, AllocError>
+    ensures { IfOk result (TellsTwin identity inputs.now) }
+{
+    match cert::check(
+        alloc,
+        &inputs.session,
+        inputs.object.as_slice(),
+        &inputs.certificate,
+        identity,
+    )? {
+        Verdict::Yes(_) => Ok(Answered {
+            line: no_twin_line(alloc)?,
+            other: None,
+        }),
+        Verdict::No(reason) => match short_block(reason) {
+            Some((block, have, need)) => Ok(Answered {
+                other: Some(session_twin(
+                    alloc,
+                    &inputs.session,
+                    inputs.object.as_slice(),
+                    &inputs.certificate,
+                    block,
+                    identity,
+                )?),
+                line: twin_line(alloc, block, have, need)?,
+            }),
+            None => Ok(Answered {
+                line: reason_line(alloc, reason)?,
+                other: None,
+            }),
+        },
+    }
+}
+
+// What is told of inputs that are held. The output is created once the other object and the line
+// are there.
+fn tell_held<'a, H: Host>(
+    alloc: Global,
+    host: &mut H,
+    request: &TwinRequest<'a>,
+    inputs: &Inputs,
+) -> Result<Done, Fault<'a>>
+    requires { GivesInputs (H.world host.old).files request.now inputs.now }
+    ensures ok { IfOk result
+        (HasMade (H.world host.old) (H.world host.new) (Twin request.now)) }
+    ensures fault { IfErr result
+        (HasStopped (H.world host.old) (H.world host.new) (Twin request.now)) }
+{
+    let Answered { line, other } = answer_of(alloc, inputs, request.identity)?;
+    let told = Told::Lines(line);
+    match other {
+        Some(other) => {
+            let failure = Fault::File(request.output.name);
+            write_output(host, &request.output, other.as_slice(), failure)?;
+            Ok(Done { told, status: 0 })
+        }
+        None => Ok(Done { told, status: 1 }),
+    }
+}
+
+// The files of a request, where all of them can be read at offsets.
+fn files_of<'a, H: Host>(
+    host: &H,
+    opened: &'a OpenInputs<H::Input>,
+) -> Option<Files<'a, H::Input, H::Input, H::Input>>
+    ensures { IfSome result (λ files. AreOpened opened.now files.session.now files.object.now
+        files.certificate.now) }
+{
+    let Some(object) = &opened.object else {
+        return None;
+    };
+    let Some(certificate) = &opened.certificate else {
+        return None;
+    };
+    if host.length_of(certificate).is_none() {
+        return None;
+    }
+    Some(Files {
+        session: &opened.session,
+        object,
+        certificate,
+    })
+}
+
+// The verdict on files, and the block that is short, if one is. `None` where the certificate has no
+// name.
+fn found_in<'a, H: Host>(
+    alloc: Global,
+    host: &H,
+    request: &TwinRequest<'a>,
+    files: &Files<'_, H::Input, H::Input, H::Input>,
+) -> Result<Option<(Verdict, Option<ShortBlock>)>, Fault<'a>>
+    requires session { GivesFile (H.world host.now) request.now.session.now
+        (H.Input.content files.now.session.now) (H.Input.reliable files.now.session.now) }
+    requires object { GivesFile (H.world host.now) request.now.object.now
+        (H.Input.content files.now.object.now) (H.Input.reliable files.now.object.now) }
+    requires certificate { GivesFile (H.world host.now) request.now.certificate.now
+        (H.Input.content files.now.certificate.now)
+        (H.Input.reliable files.now.certificate.now) }
+    requires framed { HoldsFrames (H.world host.now).files request.now }
+    ensures found { IfOk result (λ o. IfSome o (λ found.
+        IsFoundIn (H.world host.now).files request.now found.0 found.1)) }
+    ensures fault { IfErr result
+        (HasStopped (H.world host.now) (H.world host.now) (Twin request.now)) }
+{
+    match check_for_twin(alloc, files, request.identity) {
+        Ok(found) => Ok(found),
+        Err(fault) => Err(files_fault(request, fault)),
+    }
+}
+
+// A fault of files, as it is told.
+fn files_fault<'a>(request: &TwinRequest<'a>, fault: FilesFault) -> Fault<'a>
+    ensures { result ≡ fault_of_files request.now fault }
+{
+    match fault {
+        FilesFault::Frame(fault) => Fault::Frame(fault),
+        FilesFault::Session => Fault::File(request.session),
+        FilesFault::Object => Fault::File(request.object),
+        FilesFault::Certificate(fault) => Fault::Certificate(fault),
+        FilesFault::NoMemory => Fault::Memory,
+    }
+}
+
+// What is told of what was found.
+fn tell_found<'a, H: Host>(
+    alloc: Global,
+    host: &mut H,
+    request: &TwinRequest<'a>,
+    object: &H::Input,
+    verdict: &Verdict,
+    short: Option<ShortBlock>,
+) -> Result<Done, Fault<'a>>
+    requires object { GivesFile (H.world host.old) request.now.object.now
+        (H.Input.content object.now) (H.Input.reliable object.now) }
+    requires found { IsFoundIn (H.world host.old).files request.now verdict.now short }
+    ensures ok { IfOk result
+        (HasMade (H.world host.old) (H.world host.new) (Twin request.now)) }
+    ensures fault { IfErr result
+        (HasStopped (H.world host.old) (H.world host.new) (Twin request.now)) }
+{
+    match short {
+        Some(short) => write_short(alloc, host, request, object, &short),
+        None => {
+            let told = Told::Lines(untwinned_line(alloc, verdict)?);
+            Ok(Done { told, status: 1 })
+        }
+    }
+}
+
+// Writes a twin for a block that is short. The output is created once the line is there.
+fn write_short<'a, H: Host>(
+    alloc: Global,
+    host: &mut H,
+    request: &TwinRequest<'a>,
+    object: &H::Input,
+    short: &ShortBlock,
+) -> Result<Done, Fault<'a>>
+    requires object { GivesFile (H.world host.old) request.now.object.now
+        (H.Input.content object.now) (H.Input.reliable object.now) }
+    requires found { IsFoundIn (H.world host.old).files request.now
+        (No (Thin short.now.block short.now.have short.now.need)) (Some short.now) }
+    ensures ok { IfOk result
+        (HasMade (H.world host.old) (H.world host.new) (Twin request.now)) }
+    ensures fault { IfErr result
+        (HasStopped (H.world host.old) (H.world host.new) (Twin request.now)) }
+{
+    let told = Told::Lines(twin_line(alloc, short.block, short.have, short.need)?);
+    let mut file = create(host, &request.output)?;
+    let written = write_other(alloc, object, request.object, short, &mut file);
+    let failure = Fault::File(request.output.name);
+    commit(host, request.output.name, file, written, failure)?;
+    Ok(Done { told, status: 0 })
+}
+
+// Answers the number of bytes.
+fn write_other<'a, O: ReadAt, W: Write>(
+    alloc: Global,
+    object: &O,
+    name: &'a str,
+    short: &ShortBlock,
+    writer: &mut W,
+) -> Result<u64, Unwritten<'a>>
+    requires block { short.now.block < block_count short.now.fti }
+    requires few { length (different_esis short.now.arrived_esis.items)
+        < source_count short.now.fti short.now.block }
+    ensures written { (o : List ℕ) → O.content object.now ≡ Some o
+        → length o ≡ short.now.fti.transfer_length → OnOk result
+        (Appends (W.contents writer.old) (W.contents writer.new)
+        (twin_bytes short.now.fti short.now.block short.now.arrived_esis.items o)) }
+    ensures some { AppendsAny (W.contents writer.old) (W.contents writer.new) }
+    ensures fault { IfErr result (IsUntwinned short.now.fti.transfer_length
+        (O.content object.now) (O.reliable object.now) name.now) }
+    ensures writing { IfErr result
+        (λ e. e ≡ Unwritten.Writing → W.failed writer.new ≡ true) }
+{
+    let esis = short.arrived_esis.as_slice();
+    match write_twin(alloc, object, &short.fti, short.block, esis, writer) {
+        Ok(()) => Ok(short.fti.transfer_length()),
+        Err(TwinFault::Object) => Err(Unwritten::Fault(Fault::File(name))),
+        Err(TwinFault::NoMemory) => Err(Unwritten::Fault(Fault::Memory)),
+        Err(TwinFault::Write) => Err(Unwritten::Writing),
+    }
+}
+
+/// Writes another object that agrees with all datagrams of the session, where the check finds a
+/// block short. Inputs that can all be read at offsets aren't held, if the certificate has a name.
+pub fn twin<'a, H: Host>(
+    alloc: Global,
+    host: &mut H,
+    request: &TwinRequest<'a>,
+) -> Result<Done, Fault<'a>>
+    ensures ok { IfOk result
+        (HasMade (H.world host.old) (H.world host.new) (Twin request.now)) }
+    ensures fault { IfErr result
+        (HasStopped (H.world host.old) (H.world host.new) (Twin request.now)) }
+{
+    let opened = open_inputs(alloc, host, request)?;
+    if let Some(files) = files_of(host, &opened) {
+        if let Some((verdict, short)) = found_in(alloc, host, request, &files)? {
+            return tell_found(alloc, host, request, files.object, &verdict, short);
+        }
+    }
+    let inputs = read_inputs(alloc, host, request, opened)?;
+    tell_held(alloc, host, request, &inputs)
+}
+
+// The block that is too short, how many symbols it has and how many it needs, where that is the
+// reason.
+fn short_block(reason: Reason) -> Option<(u32, usize, usize)>
+    ensures { result ≡ short_of reason }
+{
+    match reason {
+        Reason::Thin { block, have, need } => Some((block, have, need)),
+        Reason::OtherCertificate
+        | Reason::ObjectLength
+        | Reason::NotObject { .. }
+        | Reason::Empty
+        | Reason::Packet(..)
+        | Reason::OtherFti(_)
+        | Reason::SymbolLength(_)
+        | Reason::Range(_)
+        | Reason::Symbol(..)
+        | Reason::NoCarrier => None,
+    }
+}
+
+fn no_twin_line(alloc: Global) -> Result<Text, AllocError>
+    ensures { IfOk result (λ line. line ≡ line_of (codes "no twin")) }
+{
+    let mut line = Text::new(alloc);
+    line.text("no twin\n")?;
+    Ok(line)
+}
+
+// The line of a verdict where no block is short.
+fn untwinned_line(alloc: Global, verdict: &Verdict) -> Result<Text, AllocError>
+    ensures { IfOk result (TellsNoTwin verdict.now) }
+{
+    match verdict {
+        Verdict::Yes(_) => no_twin_line(alloc),
+        Verdict::No(reason) => reason_line(alloc, *reason),
+    }
+}
+
+fn twin_line(alloc: Global, block: u32, have: usize, need: usize) -> Result<Text, AllocError>
+    ensures { IfOk result (λ line.
+        line ≡ line_of (short_text (codes "twin block") block have need)) }
+{
+    let mut line = Text::new(alloc);
+    line.short_block("twin block", block, have, need)?;
+    line.end_line()?;
+    Ok(line)
+}

@@ -1,0 +1,4 @@
+pub mod Gains
+pub mod Numbered
+pub mod Stopping
+pub mod Holding

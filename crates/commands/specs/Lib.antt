@@ -1,0 +1,10 @@
+pub mod Words
+pub mod Lines
+pub mod Inputs
+pub mod ReadingInputs
+pub mod Following
+pub mod Summary
+pub mod Totals
+pub mod Commands
+pub mod Outcomes
+pub mod Doing

@@ -1,0 +1,168 @@
+-- What a command does.
+use Rattle.std.specs.Prelude.{◌≡◌, ◌⊎◌, ℕ, true, List, [], Option, Some, None, ⊤}
+use Rattle.std.specs.Io.KnownBytes.{Appends}
+use Rattle.partition.specs.Fti.{Fti}
+use Rattle.session.specs.Frames.{IsFramed}
+use Rattle.alc.specs.Reading.{Reading}
+use Rattle.reception.specs.declared.scope.Identity.{Identity}
+use Rattle.reception.specs.Answer.{reception_of}
+use Rattle.reception.specs.Reception.{IsClean, ReadAll}
+use Rattle.reception.specs.Symbols.{AllFull}
+use Rattle.request.specs.declared.requests.Output.{Output}
+use Rattle.request.specs.declared.requests.Request.{Request}
+use Rattle.request.specs.declared.requests.Request.TheVariants.{Check, Twin, Show, Decode, Follow}
+use Rattle.request.specs.declared.requests.Request.TheVariants.{Drop, Join}
+use Rattle.host.specs.World.{Files, World, Holds, IsFree, IsToStay, MayFail, Replaces, one_more}
+use Rattle.commands.specs.Inputs.{AStream, Value, Opened, HasValue, HaveValues, AreThere}
+use Rattle.commands.specs.Inputs.{IsUnopened}
+use Rattle.commands.specs.Inputs.{IsFirstUnopened, IsFirstUnread}
+use Rattle.commands.specs.Lines.{TellsFault}
+use Rattle.commands.specs.Following.{IsHeardInPart, BringsCarrier}
+use Rattle.commands.specs.Commands.{inputs_of, place_inputs, output_of, IsWriteFault, Outcome}
+use Rattle.commands.specs.Commands.{AreReadAs, Gives, told_before, Refuses}
+use Rattle.commands.specs.declared.fault.Fault.{Fault}
+use Rattle.commands.specs.declared.fault.Fault.TheVariants.{Open, Memory}
+
+-- the output's bytes stand under its name, and one output was created; or there is none, and
+-- nothing has changed
+abbrev pub IsOutput : World → World → Option Output → Option (List ℕ) → Type 0
+IsOutput old new (Some output) (Some bytes) =
+    Replaces old.files new.files output.name.now bytes × (new.created ≡ one_more old.created)
+    × IsFree old.files output.name.now output.no_clobber
+IsOutput old new None (Some bytes) = ⊥
+IsOutput old new name None = (new.files ≡ old.files) × (new.created ≡ old.created)
+
+-- no datagram has a fault, a carrier came, and no block is short
+abbrev pub AreCleanAndFull : Identity → List (List ℕ) → Type 0
+AreCleanAndFull who datagrams = (readings : List Reading) × ReadAll datagrams readings × (f : Fti)
+    × IsClean (reception_of who readings) f × AllFull f (reception_of who readings).symbols
+
+-- the inputs give an output
+abbrev pub GivesOutput : Option Files → Request → Type 0
+GivesOutput files r =
+    (values : List Value) × (outcome : Outcome) × (bytes : List ℕ)
+    × HaveValues files (inputs_of r) values × Gives r values outcome × (outcome.output ≡ Some bytes)
+
+-- Whether an output may be created before a fault: of an object, once datagrams leave nothing out,
+-- or, of datagrams that are followed, once a carrier came; of a picture, where the answer is yes;
+-- of a session without some places, once it is there and the file of places is read; else once all
+-- inputs are there.
+abbrev pub MayCreate : Option Files → Request → Type 0
+MayCreate files (Check r) = GivesOutput files (Check r)
+MayCreate files (Show r) = ⊥
+MayCreate files (Twin r) = GivesOutput files (Twin r)
+MayCreate files (Decode r) = Holds files r.session.now
+    (λ bytes. (datagrams : List (List ℕ)) × IsFramed datagrams bytes
+    × AreCleanAndFull r.identity datagrams)
+MayCreate files (Follow r) =
+    Holds files r.session.now (λ bytes. BringsCarrier r.identity (Some bytes))
+MayCreate files (Drop r) = Holds files r.session.now (λ bytes. ⊤)
+    × ((values : List Value) × HaveValues files (place_inputs r.places_file) values)
+MayCreate files r = AreThere files (inputs_of r)
+
+-- What was made of an output's bytes. An object is written while its symbols come or are looked at:
+-- where they turn out to be too few or of none, its output may have been created, and is given up.
+abbrev pub IsMade : World → World → Request → Option (List ℕ) → Type 0
+IsMade old new (Decode r) None = (new.files ≡ old.files)
+    × ((new.created ≡ old.created)
+    ⊎ ((new.created ≡ one_more old.created) × MayCreate old.files (Decode r)
+    × IsFree old.files r.output.name.now r.output.no_clobber))
+IsMade old new (Follow r) None = (new.files ≡ old.files)
+    × ((new.created ≡ old.created)
+    ⊎ ((new.created ≡ one_more old.created) × MayCreate old.files (Follow r)
+    × IsFree old.files r.output.name.now r.output.no_clobber))
+IsMade old new r output = IsOutput old new (output_of r) output
+
+-- What the inputs give was done, but for what is printed.
+pub record Makes (old new : World) (r : Request) (outcome : Outcome) : Type 0 where
+  pub values : List Value
+  pub read : HaveValues old.files (inputs_of r) values
+  pub gives : Gives r values outcome
+  pub made : IsMade old new r outcome.output
+
+-- The request was done: its output is there, and its lines were printed; the status.
+pub record IsDone (old new : World) (r : Request) (status : ℕ) : Type 0 where
+  pub outcome : Outcome
+  pub makes : Makes old new r outcome
+  pub printed : Appends old.printed new.printed outcome.text
+  pub is_status : status ≡ outcome.status
+
+-- ---- faults
+
+-- The first input that can't be had, in their order. A session that is shown is only opened: what
+-- can't be read of it is told behind the lines of what was (`Refuses`). Sessions that are joined
+-- are opened before one is read. A session whose datagrams are dropped is opened before the file of
+-- places is read, and read behind it.
+abbrev pub IsUnhad : World → Request → Fault → Type 0
+IsUnhad world (Join r) fault =
+    IsFirstUnopened world (inputs_of (Join r)) fault
+    ⊎ (AreThere world.files (inputs_of (Join r)) × IsFirstUnread world (inputs_of (Join r)) fault)
+IsUnhad world (Drop r) fault =
+    IsUnopened world r.session.now fault
+    ⊎ (Holds world.files r.session.now (λ bytes. ⊤)
+    × IsFirstUnread world (inputs_of (Drop r)) fault)
+IsUnhad world (Show r) fault = IsUnopened world r.session.now fault
+IsUnhad world r fault = IsFirstUnread world (inputs_of r) fault
+
+-- The output isn't created, where it may be: a file is there that is to stay, or the host may fail.
+-- Or it was, and writing it has failed, where the host may fail.
+abbrev pub IsUnmade : World → World → Request → Fault → Type 0
+IsUnmade old new r (Open name) =
+    (output : Output) × (output_of r ≡ Some output) × (name.now ≡ output.name.now)
+    × (MayFail old ⊎ IsToStay old.files output.name.now output.no_clobber)
+    × MayCreate old.files r × (new.created ≡ old.created)
+IsUnmade old new r fault = MayFail old × IsWriteFault r fault × (new.created ≡ one_more old.created)
+
+-- Why the request wasn't done, by what was printed before: an input can't be had; or the request is
+-- refused; or its output isn't made; or there is no memory.
+abbrev pub IsBecause : World → World → Request → List ℕ → Fault → Type 0
+IsBecause old new r text Memory = ⊤
+IsBecause old new r text fault =
+    IsUnhad old r fault ⊎ Refuses old r text fault ⊎ IsUnmade old new r fault
+
+-- what may be printed before a fault: of datagrams that are shown the lines of the first that the
+-- file begins with, unless a summary is asked for; of those that are followed the lines of some,
+-- and that they gave the object
+abbrev pub BeginsText : Option Files → Request → List ℕ → Type 0
+BeginsText files (Show r) text =
+    (text ≡ []) ⊎ ((opened : Option (List ℕ)) × (left : Option (List ℕ)) × (readings : List Reading)
+    × HasValue files (AStream r.session.now) (Opened opened) × AreReadAs opened left readings
+    × (text ≡ told_before r.summary readings))
+BeginsText files (Follow r) text =
+    (text ≡ [])
+    ⊎ Holds files r.session.now (λ bytes. IsHeardInPart r.identity (Some bytes) text)
+BeginsText files r text = text ≡ []
+
+-- The request wasn't done, and the files are as before.
+pub record IsStopped (old new : World) (r : Request) (text : List ℕ) (fault : Fault) : Type 0 where
+  pub because : IsBecause old new r text fault
+  pub before : BeginsText old.files r text
+  pub files : new.files ≡ old.files
+  pub created : (new.created ≡ old.created)
+      ⊎ ((new.created ≡ one_more old.created) × MayCreate old.files r)
+
+-- an object isn't there, though the output for what was received was created
+abbrev pub IsGivenUp : World → World → Request → Type 0
+IsGivenUp old new (Follow r) = (new.files ≡ old.files) × (new.created ≡ one_more old.created)
+    × MayCreate old.files (Follow r) × IsFree old.files r.output.name.now r.output.no_clobber
+IsGivenUp old new r = ⊥
+
+-- Printing has failed: nothing was done, or all but what is printed; or an output was created for
+-- what was received, and no object is there, which can't be told.
+pub record IsUnprinted (old new : World) (r : Request) : Type 0 where
+  pub failed : new.failed ≡ true
+  pub done : ((new.files ≡ old.files) × (new.created ≡ old.created))
+      ⊎ ((outcome : Outcome) × Makes old new r outcome) ⊎ IsGivenUp old new r
+
+-- The request wasn't done, and behind what was printed before, the fault was told.
+pub record HasFault (old new : World) (r : Request) : Type 0 where
+  pub fault : Fault
+  pub text : List ℕ
+  pub between : World
+  pub printed : Appends old.printed between.printed text
+  pub stopped : IsStopped old between r text fault
+  pub told : TellsFault fault between new
+
+abbrev pub IsRun : World → World → Request → ℕ → Type 0
+IsRun old new r status =
+    IsDone old new r status ⊎ ((status ≡ 1) × (IsUnprinted old new r ⊎ HasFault old new r))

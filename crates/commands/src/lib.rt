@@ -1,0 +1,29 @@
+//! What the commands share: what each of them reads, gives and prints, and why it may not.
+//!
+//! - `input`, `output`: files that are read, and files that are made.
+//! - `print`, `wording`: lines, and the words of faults.
+//! - `done`, `telling`: what a command has done, and how it is told.
+//! - `fault`: why one wasn't done.
+//! - `sizes`: the FTI of an object, by the command line's numbers.
+#![tactic(auto)]
+
+mod done;
+mod fault;
+mod input;
+mod output;
+mod print;
+mod sizes;
+mod telling;
+mod wording;
+
+pub use done::{Done, Told};
+pub use fault::{Fault, Stop};
+pub use input::{
+    certificate_in, next_datagram, object_in, open, read_certificate, read_object, read_places,
+    read_rest, session_in,
+};
+pub use output::{Unwritten, commit, create, write_output};
+pub use print::{Text, print_count};
+pub use sizes::fti_of;
+pub use telling::finish;
+pub use wording::{fault_line, put_packet_fault};

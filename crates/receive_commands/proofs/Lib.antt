@@ -1,0 +1,6 @@
+mod Decoded
+mod DecodedFiles
+mod Showed
+mod Followed
+mod Delivered
+mod Totalled

@@ -1,0 +1,4 @@
+pub mod Decoding
+pub mod Listening
+pub mod Showing
+pub mod Totalling

@@ -1,0 +1,293 @@
+//! The command `decode`.
+ghost use Rattle.std.specs.Prelude.{◌≡◌, ◌≤◌, ◌++◌, ℕ, Bool, List, Option, Some, true, IfOk};
+ghost use Rattle.std.specs.Prelude.{IfErr, IfSome, IsNone, OnOk};
+ghost use Rattle.host.specs.World.{World, GivesFile};
+ghost use Rattle.decoder.specs.GatheringIn.{IsIndexedIn, IsFileFault};
+ghost use Rattle.decoder.specs.PlacesOf.{ArePlacedIn, ArePlacedOf};
+ghost use Rattle.decoder.specs.declared.file_gathering.GatheredFile.TheVariants.{Symbols};
+ghost use Rattle.commands.specs.Inputs.{ASession, IsUnread};
+ghost use Rattle.reception.specs.declared.scope.Identity.{Identity as IdentityValue};
+ghost use Rattle.request.specs.declared.requests.Request.TheVariants.{Decode};
+ghost use Rattle.decoder.specs.Answers.{answer_value, fault_value};
+ghost use Rattle.decoder.specs.Gathering.{IsNoObject, IsWrittenOf};
+ghost use Rattle.reception.specs.Answer.{IsAnswer};
+ghost use Rattle.decoder.specs.SymbolsOf.{AreSymbolsOf, AreGathered};
+ghost use Rattle.commands.specs.Commands.{answer_status};
+ghost use Rattle.commands.specs.Doing.{HasMade, HasStopped};
+ghost use Rattle.receive_commands.specs.Decoding.{IsToldOf, GivesSymbols, IsWriteBroken};
+ghost use Rattle.receive_commands.specs.Decoding.{IsWriteBrokenFrom};
+ghost use Rattle.commands.specs.Lines.{line_of, answer_text};
+
+use commands::{
+    Done, Fault, Text, Told, Unwritten, commit, create, open, put_packet_fault, session_in,
+};
+use decoder::{
+    Answer, DecodeFault, FileFault, FileSymbols, FileWriteFault, Gathered, GatheredFile,
+    ObjectSymbols, WriteFault, gather, index_file,
+};
+use host::Host;
+use request::DecodeRequest;
+use session::Write;
+use std::alloc::{AllocError, Global};
+use streams::{ReadAt, WriteAt};
+
+/// Writes the object that the identity's packets in the session give, block by block. A pipe or a
+/// device is held, and all is looked at before the output is created. A file isn't held: the output
+/// is created where no datagram has a fault and no block is short, and given up where the symbols
+/// turn out to be of no object.
+pub fn decode<'a, H: Host>(
+    alloc: Global,
+    host: &mut H,
+    request: &DecodeRequest<'a>,
+) -> Result<Done, Fault<'a>>
+    ensures ok { IfOk result
+        (HasMade (H.world host.old) (H.world host.new) (Decode request.now)) }
+    ensures fault { IfErr result
+        (HasStopped (H.world host.old) (H.world host.new) (Decode request.now)) }
+{
+    let mut input = open(host, request.session)?;
+    match host.length_of(&input) {
+        Some(_) => decode_file(alloc, host, request, &input),
+        None => decode_stream(alloc, host, request, &mut input),
+    }
+}
+
+// What the session that an input gives decodes to.
+fn decode_stream<'a, H: Host>(
+    alloc: Global,
+    host: &mut H,
+    request: &DecodeRequest<'a>,
+    input: &mut H::Input,
+) -> Result<Done, Fault<'a>>
+    requires { GivesFile (H.world host.old) request.now.session.now
+        (H.Input.remaining input.old) (H.Input.sound input.old) }
+    ensures ok { IfOk result
+        (HasMade (H.world host.old) (H.world host.new) (Decode request.now)) }
+    ensures fault { IfErr result
+        (HasStopped (H.world host.old) (H.world host.new) (Decode request.now)) }
+{
+    let session = session_in(alloc, host, request.session, input)?;
+    let datagrams = session.views(alloc)?;
+    match gather(alloc, &datagrams, request.identity)? {
+        Gathered::Answer(answer) => Ok(told_of(alloc, &answer)?),
+        Gathered::Symbols(symbols) => deliver(alloc, host, request, &symbols),
+    }
+}
+
+// What a session file decodes to. It is read at offsets, so that it isn't held.
+fn decode_file<'a, H: Host>(
+    alloc: Global,
+    host: &mut H,
+    request: &DecodeRequest<'a>,
+    input: &H::Input,
+) -> Result<Done, Fault<'a>>
+    requires { GivesFile (H.world host.old) request.now.session.now
+        (H.Input.content input.now) (H.Input.reliable input.now) }
+    ensures ok { IfOk result
+        (HasMade (H.world host.old) (H.world host.new) (Decode request.now)) }
+    ensures fault { IfErr result
+        (HasStopped (H.world host.old) (H.world host.new) (Decode request.now)) }
+{
+    match index_file(alloc, input, request.identity) {
+        Ok(GatheredFile::Answer(answer)) => Ok(told_of(alloc, &answer)?),
+        Ok(GatheredFile::Symbols(symbols)) => deliver_from(alloc, host, request, input, &symbols),
+        Err(fault) => Err(file_fault(request.session, fault)),
+    }
+}
+
+// A fault of a session file, as it is told.
+fn file_fault<'a>(session: &'a str, fault: FileFault) -> Fault<'a>
+    ensures { (world : World) (content : Option (List ℕ)) (reliable : Bool)
+        → GivesFile world session.now content reliable → IsFileFault content reliable fault
+        → IsUnread world (ASession session.now) result }
+{
+    match fault {
+        FileFault::Frame(fault) => Fault::Frame(fault),
+        FileFault::Changed => Fault::File(session),
+        FileFault::NoMemory => Fault::Memory,
+    }
+}
+
+// Writes the object whose symbols stand in a file. Where they turn out to be of none, the output is
+// given up.
+fn deliver_from<'a, H: Host>(
+    alloc: Global,
+    host: &mut H,
+    request: &DecodeRequest<'a>,
+    input: &H::Input,
+    symbols: &FileSymbols,
+) -> Result<Done, Fault<'a>>
+    requires file { GivesFile (H.world host.old) request.now.session.now
+        (H.Input.content input.now) (H.Input.reliable input.now) }
+    requires symbols { IsIndexedIn request.now.identity (H.Input.content input.now)
+        (Symbols symbols.now) }
+    ensures ok { IfOk result
+        (HasMade (H.world host.old) (H.world host.new) (Decode request.now)) }
+    ensures fault { IfErr result
+        (HasStopped (H.world host.old) (H.world host.new) (Decode request.now)) }
+{
+    let mut file = create(host, &request.output)?;
+    let name = request.output.name;
+    let failure = Fault::File(name);
+    match write_object_from(alloc, request.session, input, symbols, &mut file) {
+        Ok(None) => {
+            let length = commit(host, name, file, Ok(symbols.transfer_length()), failure)?;
+            Ok(Done::counted("object", length, " bytes"))
+        }
+        Ok(Some(answer)) => {
+            host.give_up(file);
+            Ok(told_of(alloc, &answer)?)
+        }
+        Err(unwritten) => match commit(host, name, file, Err(unwritten), failure) {
+            Ok(_) => unreachable!(),
+            Err(fault) => Err(fault),
+        },
+    }
+}
+
+// Writes the object, as long as the symbols are of one; else answers what the session's datagrams
+// give. What is written straight stays written, so all symbols are looked at before.
+fn write_object_from<'a, F: ReadAt, W: WriteAt>(
+    alloc: Global,
+    session: &'a str,
+    input: &F,
+    symbols: &FileSymbols,
+    writer: &mut W,
+) -> Result<Option<Answer>, Unwritten<'a>>
+    requires { ArePlacedIn (F.content input.now) symbols.now }
+    ensures written { (ds : List (List ℕ)) (x : List ℕ) → F.content input.now ≡ Some x
+        → ArePlacedOf symbols.now.indexed.identity ds x symbols.now
+        → IfOk result (λ o. IsNone o → IsWrittenOf
+        symbols.now.indexed.identity ds (W.contents writer.old) (W.contents writer.new)
+        symbols.now.indexed.fti.transfer_length) }
+    ensures answer { (ds : List (List ℕ)) (x : List ℕ) → F.content input.now ≡ Some x
+        → ArePlacedOf symbols.now.indexed.identity ds x symbols.now
+        → IfOk result (λ o. IfSome o (λ a.
+        IsAnswer symbols.now.indexed.identity ds (answer_value a))) }
+    ensures none { IfOk result (λ o. IfSome o IsNoObject) }
+    ensures fault { (world : World) → GivesFile world session.now (F.content input.now)
+        (F.reliable input.now) → IfErr result (IsWriteBrokenFrom world session.now) }
+    ensures writing { IfErr result (λ e. e ≡ Unwritten.Writing
+        → W.failed writer.new ≡ true) }
+{
+    if !writer.is_seekable() {
+        match symbols.refutation(alloc, input) {
+            Ok(None) => {}
+            Ok(Some(answer)) => return Ok(Some(answer)),
+            Err(fault) => return Err(Unwritten::Fault(file_fault(session, fault))),
+        }
+    }
+    match symbols.write_checked(alloc, input, writer) {
+        Ok(refuted) => Ok(refuted),
+        Err(FileWriteFault::Io) => Err(Unwritten::Writing),
+        Err(FileWriteFault::Unread(unread)) => {
+            Err(Unwritten::Fault(file_fault(session, FileFault::from(unread))))
+        }
+    }
+}
+
+// What is told of an answer without an object.
+pub(crate) fn told_of(alloc: Global, answer: &Answer) -> Result<Done, AllocError>
+    ensures { IfOk result (IsToldOf (answer_value answer.now)) }
+{
+    Ok(Done {
+        told: Told::Lines(answer_line(alloc, answer)?),
+        status: status_of(answer),
+    })
+}
+
+// Writes the object.
+fn deliver<'a, H: Host>(
+    alloc: Global,
+    host: &mut H,
+    request: &DecodeRequest<'a>,
+    symbols: &ObjectSymbols<'_>,
+) -> Result<Done, Fault<'a>>
+    requires { GivesSymbols (H.world host.old).files request.now symbols.now }
+    ensures ok { IfOk result
+        (HasMade (H.world host.old) (H.world host.new) (Decode request.now)) }
+    ensures fault { IfErr result
+        (HasStopped (H.world host.old) (H.world host.new) (Decode request.now)) }
+{
+    let mut file = create(host, &request.output)?;
+    let written = write_object(alloc, symbols, &mut file);
+    let failure = Fault::File(request.output.name);
+    let length = commit(host, request.output.name, file, written, failure)?;
+    Ok(Done::counted("object", length, " bytes"))
+}
+
+// Answers the object's length in bytes.
+fn write_object<'a, W: Write>(
+    alloc: Global,
+    symbols: &ObjectSymbols<'_>,
+    writer: &mut W,
+) -> Result<u64, Unwritten<'a>>
+    requires { AreGathered symbols.now }
+    ensures written { (who : IdentityValue) (ds : List (List ℕ))
+        → AreSymbolsOf who ds symbols.now
+        → IfOk result (IsWrittenOf who ds (W.contents writer.old) (W.contents writer.new)) }
+    ensures fault { IfErr result IsWriteBroken }
+    ensures writing { IfErr result (λ e. e ≡ Unwritten.Writing
+        → W.failed writer.new ≡ true) }
+{
+    match symbols.write(alloc, writer) {
+        Ok(length) => Ok(length),
+        Err(WriteFault::Io) => Err(Unwritten::Writing),
+        Err(WriteFault::NoMemory) => Err(Unwritten::Fault(Fault::Memory)),
+    }
+}
+
+fn status_of(answer: &Answer) -> u8
+    ensures value { result ≡ answer_status (answer_value answer.now) }
+    ensures small { result ≤ 3 }
+{
+    match answer {
+        Answer::Object(_) => 0,
+        Answer::Fault(_) => 1,
+        Answer::Empty | Answer::Missing { .. } => 3,
+    }
+}
+
+fn answer_line(alloc: Global, answer: &Answer) -> Result<Text, AllocError>
+    ensures { IfOk result (λ line. line ≡ line_of (answer_text (answer_value answer.now))) }
+{
+    let mut line = Text::new(alloc);
+    put_answer(&mut line, answer)?;
+    line.end_line()?;
+    Ok(line)
+}
+
+// Puts an answer last.
+fn put_answer(line: &mut Text, answer: &Answer) -> Result<(), AllocError>
+    ensures { OnOk result (line.new ≡ line.old ++ answer_text (answer_value answer.now)) }
+{
+    match answer {
+        Answer::Empty => line.text("empty"),
+        Answer::Fault(fault) => put_fault(line, *fault),
+        Answer::Missing { block, have, need } => {
+            line.short_block("missing block", *block, *have, *need)
+        }
+        Answer::Object(object) => {
+            line.named("object", object.len())?;
+            line.text(" bytes")
+        }
+    }
+}
+
+// Puts a fault last, with its place.
+fn put_fault(line: &mut Text, fault: DecodeFault) -> Result<(), AllocError>
+    ensures { OnOk result (line.new ≡ line.old ++ answer_text (fault_value fault)) }
+{
+    match fault {
+        DecodeFault::Packet(place, fault) => {
+            line.named("fault R1 Packet place", place)?;
+            line.text(" ")?;
+            put_packet_fault(line, fault)
+        }
+        DecodeFault::OtherFti(place) => line.named("fault R3 OtherFti place", place),
+        DecodeFault::SymbolLength(place) => line.named("fault R7 SymbolLength place", place),
+        DecodeFault::Range(place) => line.named("fault R4 Range place", place),
+        DecodeFault::Clash(place) => line.named("fault R5 Clash place", place),
+        DecodeFault::NotCode(block) => line.named("fault R6 NotCode block", block),
+    }
+}

@@ -1,0 +1,136 @@
+-- A session whose datagrams are dropped, and the places of a file.
+use Rattle.std.proofs.Common.{◌≡◌, ◌++◌, ◌∷◌, [], ℕ, Bool, List, Option, Some, None, Result, Err, IfErr, length, inl, inr, sym, subst}
+use Rattle.std.specs.Borrow.{Bor}
+use Rattle.streams.specs.Changes.{ReaderChange}
+use Rattle.session.specs.Ranges.{first_unhad}
+use Rattle.session.specs.Thinning.{IsUnthinned}
+use Rattle.session.specs.declared.range.PlaceRange.{PlaceRange}
+use Rattle.session.specs.declared.frame.FrameFault.{FrameFault}
+use Rattle.session.specs.declared.frame.FrameFault.TheVariants.{CutLength, CutDatagram, TooLong, Io, NoMemory, NoSuchPlace}
+use Rattle.request.specs.Places.{AreRanges, IsFirstWrong, words_of}
+use Rattle.request.specs.declared.requests.DropRequest.{DropRequest}
+use Rattle.request.specs.declared.requests.Request.TheVariants.{Drop}
+use Rattle.host.specs.World.{Files, World, Holds}
+use Rattle.commands.specs.declared.fault.Fault.{Fault}
+use Rattle.commands.specs.declared.fault.Fault.TheVariants.{Open, File, Memory, Frame, Certificate, Fti, Send, NoPlace}
+use Rattle.commands.specs.declared.output.Unwritten.{Unwritten}
+use Rattle.commands.specs.declared.output.Unwritten.TheVariants as unwritten
+use Rattle.commands.specs.Inputs.{AnObject, ASession, AStream, APlaces, Value, Bytes, Datagrams, Opened, Places, HasValue, HaveValues, IsUnread, IsFirstUnread}
+use Rattle.commands.specs.Commands.{place_inputs, Outcome, Gives, GivesOthers, IsUnhadPlace}
+use Rattle.send_commands.specs.Copying.{IsCutShort}
+use Rattle.commands.specs.Doing.{HasStopped}
+use Rattle.send_commands.specs.Dropping.{AreAll, IsUnplaced}
+use Rattle.commands.specs.Outcomes.{IsBecause, MayCreate}
+use Rattle.send_commands.proofs.Joins.{LacksPlace, unthinned}
+use Rattle.commands.proofs.Stopping.{by_unread, by_refused, stopped}
+use Rattle.commands.proofs.Holding.{is_there}
+
+-- ---- a file of places
+
+pub holds_places : (files : Option Files) (name text : List ℕ) (ranges : List PlaceRange) → HasValue files (AnObject name) (Bytes text) → AreRanges (words_of text) ranges
+    → HasValue files (APlaces name) (Places ranges)
+holds_places None name text ranges holds are = tt
+holds_places (Some held) name text ranges (bytes, there, is) are = (bytes, there, subst (λ (b : List ℕ). AreRanges (words_of b) ranges) (sym is) are)
+
+pub holds_wrong : (files : Option Files) (name text : List ℕ) (count : ℕ) (word : List ℕ) → HasValue files (AnObject name) (Bytes text) → IsFirstWrong (words_of text) count word
+    → Holds files name (λ bytes. (word : List ℕ) × IsFirstWrong (words_of bytes) count word)
+holds_wrong None name text count word holds wrong = tt
+holds_wrong (Some held) name text count word (bytes, there, is) wrong = (bytes, there, (word, subst (λ (b : List ℕ). IsFirstWrong (words_of b) count word) (sym is) wrong))
+
+pub unread_places : (w : World) (name : List ℕ) (fault : Fault) → IsUnread w (AnObject name) fault → IsUnread w (APlaces name) fault
+unread_places w name (Open n) why = why
+unread_places w name (File n) why = why
+unread_places w name Memory why = tt
+unread_places w name (Frame e) why = absurd why
+unread_places w name (Certificate e) why = absurd why
+unread_places w name (Fti e) why = absurd why
+unread_places w name (Send e) why = absurd why
+unread_places w name (NoPlace n) why = absurd why
+
+-- ---- inputs, with the file of places or without one
+
+pub places_there : (files : Option Files) (file : Option (Bor (List ℕ))) (given all : List PlaceRange) → AreAll files file given all
+    → (values : List Value) × HaveValues files (place_inputs file) values
+places_there files None given all are = ([], tt)
+places_there files (Some name) given all (more, listed, is) = (Places more ∷ [], (listed, tt))
+
+places_unread : (w : World) (file : Option (Bor (List ℕ))) (name : List ℕ) (fault : Fault) → IsFirstUnread w (place_inputs file) fault
+    → IsFirstUnread w (place_inputs file ++ ASession name ∷ []) fault
+places_unread w None name fault why = absurd why
+places_unread w (Some file) name fault (inl unread) = inl unread
+places_unread w (Some file) name fault (inr (value, has, none)) = absurd none
+
+session_unread : (w : World) (file : Option (Bor (List ℕ))) (given all : List PlaceRange) (name : List ℕ) (fault : Fault) → AreAll w.files file given all → IsUnread w (ASession name) fault
+    → IsFirstUnread w (place_inputs file ++ ASession name ∷ []) fault
+session_unread w None given all name fault are unread = inl unread
+session_unread w (Some file) given all name fault (more, listed, is) unread = inr (Places more, listed, inl unread)
+
+-- what comes of the places and the datagrams
+pub record AreHad (files : Option Files) (r : DropRequest) (file : Option (Bor (List ℕ))) (all : List PlaceRange) (datagrams : List (List ℕ)) : Type 0 where
+  pub values : List Value
+  pub have : HaveValues files (place_inputs file ++ ASession r.session.now ∷ []) values
+  pub gives : (outcome : Outcome) → GivesOthers all datagrams outcome → Gives (Drop r) values outcome
+  pub unhad : (place : ℕ) → first_unhad (length datagrams) all ≡ Some place → IsUnhadPlace r.places.items values place
+
+pub are_had : (files : Option Files) (r : DropRequest) (file : Option (Bor (List ℕ))) (all : List PlaceRange) (datagrams : List (List ℕ)) → AreAll files file r.places.items all
+    → HasValue files (ASession r.session.now) (Datagrams datagrams) → AreHad files r file all datagrams
+are_had files r None all datagrams are has = record {
+  values = Datagrams datagrams ∷ [];
+  have = (has, tt);
+  gives = λ outcome gives. subst (λ (ranges : List PlaceRange). GivesOthers ranges datagrams outcome) are gives;
+  unhad = λ place outside. subst (λ (ranges : List PlaceRange). first_unhad (length datagrams) ranges ≡ Some place) are outside;
+}
+are_had files r (Some name) all datagrams (more, listed, is) has = record {
+  values = Places more ∷ Datagrams datagrams ∷ [];
+  have = (listed, (has, tt));
+  gives = λ outcome gives. subst (λ (ranges : List PlaceRange). GivesOthers ranges datagrams outcome) is gives;
+  unhad = λ place outside. subst (λ (ranges : List PlaceRange). first_unhad (length datagrams) ranges ≡ Some place) is outside;
+}
+
+-- ---- why nothing is dropped
+
+module _ (old : World) (r : DropRequest) (opened : Option (List ℕ)) (held : HasValue old.files (AStream r.session.now) (Opened opened)) where
+  pub unplaced : (fault : Fault) → IsUnplaced old r.places_file fault → HasStopped old old (Drop r) fault
+  unplaced fault (inl memory) = stopped old (Drop r) fault (subst (λ (f : Fault). IsBecause old old (Drop r) [] f) (sym memory) tt)
+  unplaced fault (inr unread) =
+      stopped old (Drop r) fault
+      (by_unread old old (Drop r) [] fault (inr (is_there old.files r.session.now opened held, places_unread old r.places_file r.session.now fault unread)))
+
+  module _ (all : List PlaceRange) (are : AreAll old.files r.places_file r.places.items all) where
+    pub may_create : MayCreate old.files (Drop r)
+    may_create = (is_there old.files r.session.now opened held, places_there old.files r.places_file r.places.items all are)
+
+    module _ (new : World) where
+      no_place : (fault : FrameFault) → LacksPlace old.files r.session.now all fault → IsBecause old new (Drop r) [] (Frame fault)
+      no_place (NoSuchPlace p) (datagrams, has, outside) =
+          let had = are_had old.files r r.places_file all datagrams are has in
+          by_refused old new (Drop r) [] (Frame (NoSuchPlace p)) (had.values, had.have, had.unhad p outside)
+      no_place CutLength why = absurd why
+      no_place CutDatagram why = absurd why
+      no_place TooLong why = absurd why
+      no_place Io why = absurd why
+      no_place NoMemory why = absurd why
+
+      module _ (sound : Bool) (rest : Option (List ℕ)) (failed : Bool) (room : ℕ) (writer_failed : Bool) where
+        abbrev reader : ReaderChange
+        reader = record { before = opened; after = rest; sound = sound; failed = failed }
+
+        thin_fault : (f : Fault) → IsCutShort (λ e. IsUnthinned e all reader room writer_failed) (unwritten.Fault f) → IsBecause old new (Drop r) [] f
+        thin_fault (Open n) why = absurd why
+        thin_fault (File n) why = absurd why
+        thin_fault Memory why = tt
+        thin_fault (Frame e) why = elim (unthinned old r.session.now e all reader room writer_failed held why.0 why.1 why.2) [
+          | inl unread ↦
+              by_unread old new (Drop r) [] (Frame e)
+              (inr (is_there old.files r.session.now opened held, session_unread old r.places_file r.places.items all r.session.now (Frame e) are unread))
+          | inr outside ↦ no_place e outside
+        ]
+        thin_fault (Certificate e) why = absurd why
+        thin_fault (Fti e) why = absurd why
+        thin_fault (Send e) why = absurd why
+        thin_fault (NoPlace n) why = absurd why
+
+        pub because_unthinned : (w : Result ℕ Unwritten) → IfErr w (IsCutShort (λ e. IsUnthinned e all reader room writer_failed))
+            → (f : Fault) → w ≡ Err (unwritten.Fault f) → IsBecause old new (Drop r) [] f
+        because_unthinned w why f is =
+            thin_fault f (subst (λ (x : Result ℕ Unwritten). IfErr x (IsCutShort (λ e. IsUnthinned e all reader room writer_failed))) is why)

@@ -1,0 +1,5 @@
+mod Making
+mod Joins
+mod Conversions
+mod Dropped
+mod Salvaged

@@ -1,0 +1,261 @@
+//! The command `encode`.
+ghost use Rattle.std.specs.Prelude.{◌≡◌, true, length, IfOk, IfErr};
+ghost use Rattle.partition.specs.declared.order.Order.TheVariants.{Blocks, Rounds};
+ghost use Rattle.request.specs.declared.requests.Request.TheVariants.{Encode};
+ghost use Rattle.host.specs.World.{GivesFile, LeavesBytes};
+ghost use Rattle.commands.specs.Commands.{sized};
+ghost use Rattle.commands.specs.Doing.{HasMade, HasStopped};
+ghost use Rattle.commands.specs.Inputs.{AnObject, Bytes, HasValue};
+ghost use Rattle.encoder.specs.ObjectRead.{ReadsObject};
+ghost use Rattle.encoder.specs.SentInRounds.{emptied};
+ghost use Rattle.send_commands.specs.Sending.{WritesSession, IsUnsent, IsUnsentFrom, where_empty};
+
+use commands::{Done, Fault, Unwritten, commit, create, fti_of, open, read_rest};
+use encoder::{SendFault, SendFromFault};
+use host::Host;
+use lists::are_bytes;
+use partition::{Fti, Order};
+use request::{EncodeRequest, Sending};
+use session::{Read, Write};
+use std::alloc::Global;
+use streams::WriteAt;
+
+/// Writes the object's session. An object whose length is known beforehand is read block by block,
+/// where its session is written so, or to places.
+pub fn encode<'a, H: Host>(
+    alloc: Global,
+    host: &mut H,
+    request: &EncodeRequest<'a>,
+) -> Result<Done, Fault<'a>>
+    ensures ok { IfOk result
+        (HasMade (H.world host.old) (H.world host.new) (Encode request.now)) }
+    ensures fault { IfErr result
+        (HasStopped (H.world host.old) (H.world host.new) (Encode request.now)) }
+{
+    let mut input = open(host, request.object)?;
+    match host.length_of(&input) {
+        Some(length) => {
+            let fti = fti_of(&request.sending.sizes, length)?;
+            encode_read(alloc, host, &mut input, &fti, request)
+        }
+        None => {
+            let object = read_rest(alloc, &mut input, request.object)?;
+            let fti = fti_of(&request.sending.sizes, object.len() as u64)?;
+            encode_held(alloc, host, object.as_slice(), &fti, request)
+        }
+    }
+}
+
+// Writes the session of an object of this length that is read.
+fn encode_read<'a, H: Host>(
+    alloc: Global,
+    host: &mut H,
+    input: &mut H::Input,
+    fti: &Fti,
+    request: &EncodeRequest<'a>,
+) -> Result<Done, Fault<'a>>
+    requires opened { GivesFile (H.world host.old) request.now.object.now
+        (H.Input.remaining input.old) (H.Input.sound input.old) }
+    requires length { LeavesBytes (H.Input.remaining input.old) fti.now.transfer_length }
+    requires sizes { fti.now ≡ sized request.now.sending.sizes fti.now.transfer_length }
+    ensures ok { IfOk result
+        (HasMade (H.world host.old) (H.world host.new) (Encode request.now)) }
+    ensures fault { IfErr result
+        (HasStopped (H.world host.old) (H.world host.new) (Encode request.now)) }
+{
+    let mut file = create(host, &request.output)?;
+    let sent = send_read(alloc, input, fti, request, &mut file);
+    let failure = Fault::Send(SendFault::Io);
+    let count = commit(host, request.output.name, file, sent, failure)?;
+    Ok(Done::counted("encoded", count, " datagrams"))
+}
+
+// Sends an object that is read: by blocks as they come, or in rounds by groups of blocks, where the
+// writer's bytes have offsets. Else the object is held.
+fn send_read<'a, R: Read, W: WriteAt>(
+    alloc: Global,
+    reader: &mut R,
+    fti: &Fti,
+    request: &EncodeRequest<'a>,
+    writer: &mut W,
+) -> Result<u64, Unwritten<'a>>
+    ensures sent { IfOk result (λ count. ReadsObject fti.now (R.remaining reader.old)
+        (λ object. WritesSession object fti.now request.now.sending count
+        (where_empty (W.contents writer.old)) (W.contents writer.new))) }
+    ensures fault { IfErr result (IsUnsentFrom fti.now (R.remaining reader.old)
+        (R.sound reader.old) request.now.object.now) }
+    ensures writing { IfErr result (λ e. e ≡ Unwritten.Writing
+        → W.failed writer.new ≡ true) }
+{
+    match request.sending.order {
+        Order::Blocks => send_blocks(alloc, reader, fti, request, writer),
+        Order::Rounds => {
+            if writer.is_seekable() {
+                send_rounds(alloc, reader, fti, request, writer)
+            } else {
+                send_whole(alloc, reader, fti, request, writer)
+            }
+        }
+    }
+}
+
+fn send_blocks<'a, R: Read, W: Write>(
+    alloc: Global,
+    reader: &mut R,
+    fti: &Fti,
+    request: &EncodeRequest<'a>,
+    writer: &mut W,
+) -> Result<u64, Unwritten<'a>>
+    requires order { request.now.sending.order ≡ Blocks }
+    ensures sent { IfOk result (λ count. ReadsObject fti.now (R.remaining reader.old)
+        (λ object. WritesSession object fti.now request.now.sending count
+        (W.contents writer.old) (W.contents writer.new))) }
+    ensures fault { IfErr result (IsUnsentFrom fti.now (R.remaining reader.old)
+        (R.sound reader.old) request.now.object.now) }
+    ensures writing { IfErr result (λ e. e ≡ Unwritten.Writing
+        → W.failed writer.new ≡ true) }
+{
+    fti.is_valid();
+    let Sending {
+        identity,
+        fti_every,
+        ..
+    } = request.sending;
+    let (tsi, toi) = (identity.tsi as u32, identity.toi as u32);
+    match encoder::encode_from(alloc, reader, tsi, toi, fti, u32::from(fti_every), writer) {
+        Ok(count) => Ok(count),
+        Err(SendFromFault::Object(_)) => Err(Unwritten::Fault(Fault::File(request.object))),
+        Err(SendFromFault::SymbolTooLong) => {
+            Err(Unwritten::Fault(Fault::Send(SendFault::SymbolTooLong)))
+        }
+        Err(SendFromFault::NoMemory) => Err(Unwritten::Fault(Fault::Memory)),
+        Err(SendFromFault::Write) => Err(Unwritten::Writing),
+    }
+}
+
+fn send_rounds<'a, R: Read, W: WriteAt>(
+    alloc: Global,
+    reader: &mut R,
+    fti: &Fti,
+    request: &EncodeRequest<'a>,
+    writer: &mut W,
+) -> Result<u64, Unwritten<'a>>
+    requires order { request.now.sending.order ≡ Rounds }
+    ensures sent { IfOk result (λ count. ReadsObject fti.now (R.remaining reader.old)
+        (λ object. WritesSession object fti.now request.now.sending count
+        (emptied (W.contents writer.old)) (W.contents writer.new))) }
+    ensures fault { IfErr result (IsUnsentFrom fti.now (R.remaining reader.old)
+        (R.sound reader.old) request.now.object.now) }
+    ensures writing { IfErr result (λ e. e ≡ Unwritten.Writing
+        → W.failed writer.new ≡ true) }
+{
+    fti.is_valid();
+    let Sending {
+        identity,
+        fti_every,
+        ..
+    } = request.sending;
+    let (tsi, toi) = (identity.tsi as u32, identity.toi as u32);
+    match encoder::encode_rounds_from(alloc, reader, tsi, toi, fti, u32::from(fti_every), writer) {
+        Ok(count) => Ok(count),
+        Err(SendFromFault::Object(_)) => Err(Unwritten::Fault(Fault::File(request.object))),
+        Err(SendFromFault::SymbolTooLong) => {
+            Err(Unwritten::Fault(Fault::Send(SendFault::SymbolTooLong)))
+        }
+        Err(SendFromFault::NoMemory) => Err(Unwritten::Fault(Fault::Memory)),
+        Err(SendFromFault::Write) => Err(Unwritten::Writing),
+    }
+}
+
+// Reads all of the object, and sends it then.
+fn send_whole<'a, R: Read, W: Write>(
+    alloc: Global,
+    reader: &mut R,
+    fti: &Fti,
+    request: &EncodeRequest<'a>,
+    writer: &mut W,
+) -> Result<u64, Unwritten<'a>>
+    ensures sent { IfOk result (λ count. ReadsObject fti.now (R.remaining reader.old)
+        (λ object. WritesSession object fti.now request.now.sending count
+        (W.contents writer.old) (W.contents writer.new))) }
+    ensures fault { IfErr result (IsUnsentFrom fti.now (R.remaining reader.old)
+        (R.sound reader.old) request.now.object.now) }
+    ensures writing { IfErr result (λ e. e ≡ Unwritten.Writing
+        → W.failed writer.new ≡ true) }
+{
+    let object = match read_rest(alloc, reader, request.object) {
+        Ok(object) => object,
+        Err(fault) => return Err(Unwritten::Fault(fault)),
+    };
+    let bytes = object.as_slice();
+    if bytes.len() as u64 != fti.transfer_length() {
+        return Err(Unwritten::Fault(Fault::File(request.object)));
+    }
+    are_bytes(bytes);
+    send_held(alloc, bytes, fti, &request.sending, writer)
+}
+
+// Writes the session of an object of these bytes.
+fn encode_held<'a, H: Host>(
+    alloc: Global,
+    host: &mut H,
+    object: &[u8],
+    fti: &Fti,
+    request: &EncodeRequest<'a>,
+) -> Result<Done, Fault<'a>>
+    requires held { HasValue (H.world host.old).files (AnObject request.now.object.now)
+        (Bytes object.now) }
+    requires sizes { fti.now ≡ sized request.now.sending.sizes (length object.now) }
+    ensures ok { IfOk result
+        (HasMade (H.world host.old) (H.world host.new) (Encode request.now)) }
+    ensures fault { IfErr result
+        (HasStopped (H.world host.old) (H.world host.new) (Encode request.now)) }
+{
+    let mut file = create(host, &request.output)?;
+    let sent = send_held(alloc, object, fti, &request.sending, &mut file);
+    let failure = Fault::Send(SendFault::Io);
+    let count = commit(host, request.output.name, file, sent, failure)?;
+    Ok(Done::counted("encoded", count, " datagrams"))
+}
+
+fn send_held<'a, W: Write>(
+    alloc: Global,
+    object: &[u8],
+    fti: &Fti,
+    sending: &Sending,
+    writer: &mut W,
+) -> Result<u64, Unwritten<'a>>
+    requires { length object.now ≡ fti.now.transfer_length }
+    ensures sent { IfOk result (λ count. WritesSession object.now fti.now sending.now count
+        (W.contents writer.old) (W.contents writer.new)) }
+    ensures fault { IfErr result (IsUnsent fti.now) }
+    ensures writing { IfErr result (λ e. e ≡ Unwritten.Writing
+        → W.failed writer.new ≡ true) }
+{
+    fti.is_valid();
+    let Sending {
+        identity,
+        fti_every,
+        order,
+        ..
+    } = *sending;
+    let (tsi, toi) = (identity.tsi as u32, identity.toi as u32);
+    match encoder::encode(
+        alloc,
+        object,
+        tsi,
+        toi,
+        fti,
+        u32::from(fti_every),
+        order,
+        writer,
+    ) {
+        Ok(count) => Ok(count),
+        Err(SendFault::Length) => unreachable!(),
+        Err(SendFault::SymbolTooLong) => {
+            Err(Unwritten::Fault(Fault::Send(SendFault::SymbolTooLong)))
+        }
+        Err(SendFault::NoMemory) => Err(Unwritten::Fault(Fault::Memory)),
+        Err(SendFault::Io) => Err(Unwritten::Writing),
+    }
+}

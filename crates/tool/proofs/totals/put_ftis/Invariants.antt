@@ -1,6 +1,0 @@
-use Rattle.std.proofs.Common.{◌≡◌, ◌++◌, take}
-use Rattle.tool.specs.Totals.{fti_lines}
-use Rattle.tool.proofs.totals.put_ftis.Given as goal
-
-abbrev pub invariant-loop-counted : goal.invariant-loop-counted
-invariant-loop-counted l = l.lines ≡ l.initial.lines ++ fti_lines l.who (take l.counted-index l.ftis)
