@@ -5,10 +5,9 @@ promise.
 A public contract is one of a `pub fn`, of a method of a public trait or type, or of a public type's
 model. From the names that it cites the list goes through the definitions of `specs/` that these
 stand on, but not into a relation that these calls only hand on to one another, as what a receiver
-stands for; and not from what the decoder offers to the receiver alone, `cert` to `file_check`
-alone, and the crates of the commands to `tool` alone. All other definitions of `specs/` are the
-vocabulary of such contracts, of private ones and of proofs, and need no trust. They stand in files
-of their own.
+stands for; and not from what crates of the library offer to those above them alone, and the crates
+of the commands to `tool` alone. All other definitions of `specs/` are the vocabulary of such
+contracts, of private ones and of proofs, and need no trust. They stand in files of their own.
 
 docs/THEOREMS.md opens with a table of the promises, each with how many of the definitions have to
 be read to believe it, and ends with the list. Lines are those of definitions alone, without
@@ -41,19 +40,30 @@ WIDTH = 100
 # Relations that public calls only hand on to one another: what they say inside isn't needed to
 # trust the calls.
 HANDED_ON = {"Rattle.cert.specs.Fed", "Rattle.receiver.specs.Stands",
-             "Rattle.decoder.specs.SymbolsOf", "Rattle.decoder.specs.PlacesOf",
+             "Rattle.decoder.specs.SymbolsOf", "Rattle.file_decoder.specs.PlacesOf",
              "Rattle.inventory.specs.Tells"}
 
-# What the decoder offers to the receiver alone, which stands on it: no promise to callers.
-INNER = {("decoder", call) for call in (
-    "block_rows", "gives", "fault_at",
-)}
+# The crates that offer what they have to those above them in the library alone: no promise to
+# callers.
+INNER_LIBRARIES = {"block_recovery", "certified_symbols"}
 
 # The crates of the program's commands offer what they have to the crate that runs them alone.
-INNER_CRATES = {"commands", "send_commands", "receive_commands", "check_commands"}
+COMMANDS = {"commands", "send_commands", "receive_commands", "check_commands"}
 
-# The files of what `cert` offers to `file_check` alone, in the same way.
-INNER_FILES = {("cert", file) for file in ("tally", "in_file", "datagrams", "differing")}
+INNER_CRATES = INNER_LIBRARIES | COMMANDS
+
+# What `certificate` offers to `certified_symbols` alone.
+INNER = {("certificate", "rows")}
+
+# The files of what `cert` and `certificate` offer to `file_check` alone, and `decoder` to
+# `file_decoder`, in the same way.
+INNER_FILES = {
+    *(("cert", file) for file in ("tally", "datagrams")),
+    ("certificate", "in_file"),
+    *(("decoder", file) for file in (
+        "coded_source", "counting", "source", "verdict", "writing",
+    )),
+}
 
 
 # What the table tells: a short name, the promise, the clauses that say it (crate, function, labels;
@@ -87,7 +97,7 @@ PROMISES = [
         ("reception", "isolation", []),
         ("decoder", "one_answer", []),
         ("cert", "one_verdict", []),
-        ("cert", "one_certificate", []),
+        ("certificate", "one_certificate", []),
         ("cert", "own_name_changes_nothing", []),
         ("cert", "first_reason", []),
         ("cert", "reason_order", []),
@@ -105,8 +115,8 @@ PROMISES = [
     ("reading", "`check_from`: a check of what a reader gives", [
         ("cert", "check_from", []),
         ("cert", "check_view_from", []),
-        ("cert", "view", []),
-        ("cert", "into_view", []),
+        ("certificate", "view", []),
+        ("certificate", "into_view", []),
     ], ["headline", "verdict", "losses"]),
     ("feeding", "`Checker`: a check of one datagram at a time", [
         ("cert", "new", []),
@@ -140,7 +150,7 @@ PROMISES = [
 # The crates that stand on the library and offer it further.
 ABOVE_THE_LIBRARY = {
     "request", "causes", "inventory", "host", "program_host", "tool", "alcrs", "alcrs_c",
-} | INNER_CRATES
+} | COMMANDS
 
 
 class Module:
@@ -467,8 +477,8 @@ def listing(modules, wanted):
         HEADING,
         "",
         "The definitions that public contracts speak of, from the field up, in the order to read",
-        "them. The rest of `specs/` is the vocabulary of private contracts, of what the decoder",
-        "offers to the receiver alone, and `cert` to `file_check` alone, and of proofs.",
+        "them. The rest of `specs/` is the vocabulary of private contracts, of what crates of the",
+        "library offer to those above them alone, and of proofs.",
         "`ci/trusted.py` makes this list, and the gate compares it.",
         "",
         f"{len(wanted)} of {everything} definitions, {lines_of(files, wanted)} lines.",

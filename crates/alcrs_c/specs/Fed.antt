@@ -2,7 +2,7 @@
 use Rattle.std.specs.Prelude.{◌≡◌, ℕ, List, []}
 use Rattle.reception.specs.Headline.{DecodesWhereEnough, TwinWhereShort, TellsElse}
 use Rattle.reception.specs.declared.scope.Identity.{Identity}
-use Rattle.cert.specs.Certificate.{Certificate, IsCertificate, certificate_text}
+use Rattle.certificate.specs.Certificate.{Certificate, IsCertificate, certificate_text}
 use Rattle.cert.specs.Feeding.{IsNoToAll}
 use Rattle.cert.specs.Report.{IsReport}
 use Rattle.cert.specs.Verdict.{IsVerdict}

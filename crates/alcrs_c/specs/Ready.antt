@@ -2,7 +2,7 @@
 use Rattle.std.specs.Prelude.{◌≡◌, ℕ, true, List, [], None}
 use Rattle.reception.specs.declared.scope.Identity.{Identity}
 use Rattle.reception.specs.Symbols.{IsObject}
-use Rattle.cert.specs.Certificate.{Certificate, IsCertificate, certificate_text, is_for}
+use Rattle.certificate.specs.Certificate.{Certificate, IsCertificate, certificate_text, is_for}
 use Rattle.cert.specs.Fed.{IsFed, ended_of}
 use Rattle.cert.specs.Verdict.{GivesObject}
 use Rattle.cert.specs.declared.checker.Checker.{Checker}

@@ -2,7 +2,7 @@
 use Rattle.std.specs.Prelude.{◌≡◌, ℕ, List, Option, Some, None}
 use Rattle.session.specs.Frames.{IsFramed}
 use Rattle.reception.specs.declared.scope.Identity.{Identity}
-use Rattle.cert.specs.Certificate.{Certificate, IsCertificate, certificate_text}
+use Rattle.certificate.specs.Certificate.{Certificate, IsCertificate, certificate_text}
 use Rattle.cert.specs.Verdict.{IsVerdict}
 use Rattle.cert.specs.Twins.{IsTwinOfSession}
 use Rattle.cert.specs.declared.verdict.Verdict.{Verdict}

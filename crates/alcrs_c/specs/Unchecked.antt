@@ -1,7 +1,7 @@
 -- Why there is no verdict.
 use Rattle.std.specs.Prelude.{◌≡◌, ℕ, List, Some, ⊤}
 use Rattle.reception.specs.declared.scope.Identity.{Identity}
-use Rattle.cert.specs.Certificate.{text_fault}
+use Rattle.certificate.specs.Certificate.{text_fault}
 use Rattle.alcrs_c.specs.Checked.{IsCutOff}
 use Rattle.alcrs_c.specs.declared.check.Unchecked.{Unchecked}
 use Rattle.alcrs_c.specs.declared.check.Unchecked.TheVariants.{Session, Certificate, NoMemory}

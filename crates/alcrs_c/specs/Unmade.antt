@@ -1,7 +1,7 @@
 -- Why nothing was made.
 use Rattle.std.specs.Prelude.{◌≡◌, ◌<◌, ℕ, List, ⊤}
 use Rattle.reception.specs.declared.scope.Identity.{Identity}
-use Rattle.cert.specs.Certificate.{IsIdentity}
+use Rattle.certificate.specs.Certificate.{IsIdentity}
 use Rattle.encoder.specs.Sending.{most_symbol_bytes}
 use Rattle.alcrs_c.specs.Making.{IsNoFti}
 use Rattle.alcrs_c.specs.declared.making.Unmade.{Unmade}

@@ -1,7 +1,7 @@
 -- Why there is no checker.
 use Rattle.std.specs.Prelude.{◌≡◌, ℕ, List, Some, ⊤}
 use Rattle.reception.specs.declared.scope.Identity.{Identity}
-use Rattle.cert.specs.Certificate.{text_fault}
+use Rattle.certificate.specs.Certificate.{text_fault}
 use Rattle.alcrs_c.specs.Fed.{IsNoAtOnce}
 use Rattle.alcrs_c.specs.declared.checker.Unready.{Unready}
 use Rattle.alcrs_c.specs.declared.checker.Unready.TheVariants.{Reason, Certificate, NoMemory}

@@ -2,7 +2,7 @@
 use Rattle.std.specs.Prelude.{◌≡◌, ℕ, List, Some, None, ⊤}
 use Rattle.session.specs.Frames.{StopsAt}
 use Rattle.reception.specs.declared.scope.Identity.{Identity}
-use Rattle.cert.specs.Certificate.{Certificate, text_fault}
+use Rattle.certificate.specs.Certificate.{Certificate, text_fault}
 use Rattle.cert.specs.Verdict.{IsVerdict}
 use Rattle.cert.specs.declared.verdict.Report.{Report}
 use Rattle.cert.specs.declared.verdict.Verdict.TheVariants.{Yes, No as SaysNo}

@@ -1,9 +1,9 @@
 //! The check.
 ghost use Rattle.std.specs.Prelude.{◌≡◌, ◌≢◌, ◌∷◌, [], ℕ, List, Some, false, IfOk, IfErr, map};
 ghost use Rattle.session.specs.declared.frame.FrameFault.{FrameFault as FrameFaultValue};
-ghost use Rattle.cert.specs.Certificate.{text_fault};
+ghost use Rattle.certificate.specs.Certificate.{text_fault};
 ghost use Rattle.cert.specs.FromReader.{IsCheckedFrom, IsRefusedBehind, IsCheckFault};
-ghost use Rattle.cert.specs.declared.certificate.CertFault.{CertFault as CertFaultValue};
+ghost use Rattle.certificate.specs.declared.certificate.CertFault.{CertFault as CertFaultValue};
 ghost use Rattle.cert.specs.declared.verdict.Report.{Report as ReportValue};
 ghost use Rattle.cert.specs.declared.verdict.Reason.{Reason as ReasonValue};
 ghost use Rattle.alcrs_c.specs.Asked.{identity_of};
@@ -20,7 +20,8 @@ use crate::told::{
     AlcrsBlock, AlcrsFault, AlcrsReport, certificate_fault, frame_fault, put_blocks, put_kill,
     reason_fault, report_numbers,
 };
-use cert::{CertFault, CertificateView, CheckFault, Verdict, check_view_from};
+use cert::{CheckFault, Verdict, check_view_from};
+use certificate::{CertFault, CertificateView};
 use reception::Identity;
 use session::{FrameFault, Pieces};
 use std::alloc::Global;

@@ -4,10 +4,10 @@ ghost use Rattle.std.specs.Prelude.{None, length, map, IsNone, IfSome, IfOk, IfE
 ghost use Rattle.session.specs.Frames.{most_bytes};
 ghost use Rattle.session.specs.declared.frame.FrameFault.TheVariants.{TooLong};
 ghost use Rattle.reception.specs.declared.scope.Identity.{Identity as IdentityValue};
-ghost use Rattle.cert.specs.Certificate.{Certificate as CertificateValue, text_fault};
+ghost use Rattle.certificate.specs.Certificate.{Certificate as CertificateValue, text_fault};
 ghost use Rattle.cert.specs.Feeding.{IsNoToAll, IsReasonSoFar};
 ghost use Rattle.cert.specs.Verdict.{IsVerdict};
-ghost use Rattle.cert.specs.declared.certificate.CertFault.{CertFault as CertFaultValue};
+ghost use Rattle.certificate.specs.declared.certificate.CertFault.{CertFault as CertFaultValue};
 ghost use Rattle.cert.specs.declared.verdict.Reason.{Reason as ReasonValue};
 ghost use Rattle.cert.specs.declared.verdict.Report.{Report as ReportValue};
 ghost use Rattle.alcrs_c.specs.Asked.{identity_of};
@@ -28,7 +28,8 @@ use crate::told::{
     AlcrsBlock, AlcrsFault, AlcrsReport, certificate_fault, frame_fault, put_blocks, put_kill,
     reason_fault, report_numbers,
 };
-use cert::{CertFault, CheckFault, Checker, NoReport, Reason, Verdict};
+use cert::{CheckFault, Checker, NoReport, Reason, Verdict};
+use certificate::CertFault;
 use reception::Identity;
 use session::FrameFault;
 use std::alloc::Global;

@@ -1,9 +1,9 @@
 //! What C passes.
 ghost use Rattle.std.specs.Prelude.{◌≡◌, false, Some, IfOk, IfErr};
-ghost use Rattle.cert.specs.Certificate.{IsCertificate, certificate_text, IsCertFault};
+ghost use Rattle.certificate.specs.Certificate.{IsCertificate, certificate_text, IsCertFault};
 ghost use Rattle.alcrs_c.specs.Asked.{identity_of};
 
-use cert::{CertFault, Certificate};
+use certificate::{CertFault, Certificate};
 use reception::Identity;
 use session::Pieces;
 use std::alloc::Global;

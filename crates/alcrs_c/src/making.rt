@@ -2,7 +2,7 @@
 ghost use Rattle.std.specs.Prelude.{◌≡◌, ◌≢◌, ◌<◌, ◌++◌, ◌∷◌, [], ℕ, List, IfOk, IfErr, drop};
 ghost use Rattle.std.specs.Prelude.{length};
 ghost use Rattle.partition.specs.declared.FtiError.{FtiError as FtiErrorValue};
-ghost use Rattle.cert.specs.Certificate.{IsIdentity};
+ghost use Rattle.certificate.specs.Certificate.{IsIdentity};
 ghost use Rattle.encoder.specs.Sending.{most_symbol_bytes};
 ghost use Rattle.alcrs_c.specs.Asked.{identity_of};
 ghost use Rattle.alcrs_c.specs.Making.{IsEncoded, IsCertified, IsNoFti};

@@ -3,9 +3,9 @@ ghost use Rattle.std.specs.Prelude.{◌≡◌, ◌≢◌, ◌<◌, ◌↔◌, �
 ghost use Rattle.std.specs.Prelude.{length, IsNone, IfSome};
 ghost use Rattle.reception.specs.declared.scope.Identity.{Identity as IdentityValue};
 ghost use Rattle.reception.specs.Answer.{Empty, Missing, Object, IsAnswer};
-ghost use Rattle.decoder.specs.Answers.{fault_value};
+ghost use Rattle.block_recovery.specs.Faults.{fault_value};
 ghost use Rattle.receiver.specs.Receiving.{with_datagram, LeaveNoneShort, ComesEarly, HasNoFault};
-ghost use Rattle.decoder.specs.declared.answer.DecodeFault.{DecodeFault as DecodeFaultValue};
+ghost use Rattle.block_recovery.specs.declared.fault.DecodeFault.{DecodeFault as DecodeFaultValue};
 ghost use Rattle.alcrs_c.specs.Asked.{identity_of};
 ghost use Rattle.alcrs_c.specs.Handles.{IsHandle, IsOpen};
 ghost use Rattle.alcrs_c.specs.Statuses.{ok, missing, empty, refused, no_room, no_memory, is_open};

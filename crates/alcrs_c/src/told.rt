@@ -6,8 +6,9 @@ ghost use Rattle.alcrs_c.specs.Told.{told_reason, told_decode, told_missing, tol
 ghost use Rattle.alcrs_c.specs.Told.{told_certificate, told_block, told_report};
 
 use alc::PacketFault;
-use cert::{CertFault, Reason, Report};
-use decoder::DecodeFault;
+use block_recovery::DecodeFault;
+use cert::{Reason, Report};
+use certificate::CertFault;
 use partition::FtiError;
 use session::FrameFault;
 

@@ -19,7 +19,7 @@ use Rattle.reception.specs.Symbols.{Symbol, has_arrived, arrived_count, IsFirstS
 use Rattle.reception.specs.declared.scope.Identity.{Identity}
 use Rattle.reception.specs.Reception.{Placed, is_of_identity, placed_at, counted_from, counted, symbols, symbols_in, Suffices}
 use Rattle.reception.specs.Walks.{readings_of}
-use Rattle.cert.specs.Certificate.{Certificate}
+use Rattle.certificate.specs.Certificate.{Certificate}
 use Rattle.cert.specs.declared.verdict.Reason.{Reason}
 use Rattle.cert.specs.declared.verdict.Reason.TheVariants.{OtherCertificate, ObjectLength, NotObject, Empty, Packet as NoPacket, OtherFti, SymbolLength, Range, Symbol as Wrong, Thin, NoCarrier}
 use Rattle.cert.specs.declared.walk.NoReport.{NoReport}

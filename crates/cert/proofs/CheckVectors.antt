@@ -12,7 +12,7 @@ use Rattle.reception.specs.declared.scope.Identity.{Identity}
 use Rattle.reception.specs.Reception.{is_carrier}
 use Rattle.cert.specs.declared.verdict.Reason.{Reason}
 use Rattle.cert.specs.declared.verdict.Reason.TheVariants.{Packet as NoPacket, OtherFti, SymbolLength, Range, Symbol}
-use Rattle.cert.specs.Certificate.{Certificate, unnamed, polynomial}
+use Rattle.certificate.specs.Certificate.{Certificate, unnamed, polynomial}
 use Rattle.cert.specs.Verdict.{first_reason}
 use Rattle.cert.specs.Report.{blocks_of}
 

@@ -7,11 +7,12 @@ use Rattle.lists.specs.Below.{below}
 use Rattle.std.proofs.lemmas.Bool.{eqb-true, eqb-false, eq-eqb}
 use Rattle.reception.specs.Symbols.{Symbol}
 use Rattle.partition.specs.Fti.{block_count, source_count}
-use Rattle.cert.specs.Certificate.{Certificate, certified_byte}
-use Rattle.cert.specs.CoefficientRows.{IsSourceSymbol}
-use Rattle.cert.specs.CertifiedSymbol.{IsCertifiedSymbol}
-use Rattle.cert.specs.Columns.{IsFirstWrong, TellsFirstWrong}
-use Rattle.cert.specs.Differences.{AreSameBelow, IsFirstDifference}
+use Rattle.certificate.specs.Certificate.{Certificate, certified_byte}
+use Rattle.certificate.specs.CoefficientRows.{IsSourceSymbol}
+use Rattle.certified_symbols.specs.CertifiedSymbol.{IsCertifiedSymbol}
+use Rattle.cert.specs.Columns.{TellsFirstWrong}
+use Rattle.certified_symbols.specs.FirstWrong.{IsFirstWrong}
+use Rattle.certified_symbols.specs.Differences.{AreSameBelow, IsFirstDifference}
 use Rattle.cert.specs.Verdict.{GivesObject, uncertified}
 use Rattle.cert.specs.WrongColumns.{wrong_column}
 

@@ -1,6 +1,6 @@
 -- Datagrams that come one after the other, and what is told of them.
 use Rattle.std.proofs.Common.{◌≡◌, ℕ, ◌+◌, ◌<◌, Bool, true, false, cond, List, [], ◌∷◌, ◌++◌, Option, Some, None, Result, Ok, Err, length, get_or, refl, sym, ap, subst, ◌∙◌, arith}
-use Rattle.std.specs.Prelude.{option_map, OnOk, IfErr, IsErrAnd}
+use Rattle.std.specs.Prelude.{option_map, OnOk}
 use Rattle.std.proofs.lemmas.List.{map-append, length-append, length-map, append-nil}
 use Rattle.std.proofs.Math.Seq.{get_or-append_seam}
 use Rattle.std.proofs.lemmas.Bool.{ltb-true}
@@ -33,7 +33,7 @@ use Rattle.cert.specs.declared.verdict.Reason.{Reason}
 use Rattle.cert.specs.declared.verdict.Reason.TheVariants.{OtherCertificate, ObjectLength, NotObject, Empty, Packet as NoPacket, OtherFti, SymbolLength, Range, Symbol as NotCertified, Thin, NoCarrier}
 use Rattle.cert.specs.declared.walk.NoReport.{NoReport}
 use Rattle.cert.specs.declared.walk.NoReport.TheVariants.{Reason as ByReason, NoMemory}
-use Rattle.cert.specs.Certificate.{Certificate}
+use Rattle.certificate.specs.Certificate.{Certificate}
 use Rattle.cert.specs.DatagramWalk.{IsNotKept}
 use Rattle.cert.specs.Tallying.{AreTallied, IsAtLast, IsUnpassed, Says, Tallied, judge_by}
 use Rattle.cert.specs.Scan.{AreGroupsOf, IsPut, with_carrier}
@@ -46,11 +46,6 @@ use Rattle.cert.proofs.CarrierPlaces.{places_passed, places_with}
 pub four_ok : {A E P Q S T U : Type 0} (r : Result A E) → OnOk r P → OnOk r Q → OnOk r S → OnOk r T → (P → Q → S → T → U) → OnOk r U
 four_ok (Ok a) p q s t f = f p q s t
 four_ok (Err e) p q s t f = tt
-
--- an error that `?` passes on
-pub passed_on : {A E : Type 0} (r : Result A E) (e : E) (P : E → Type 0) → IsErrAnd r (λ x. x ≡ e) → P e → IfErr r P
-passed_on (Ok a) e P h p = tt
-passed_on (Err x) e P h p = subst P (sym h) p
 
 -- ---- one datagram more, to any judge who knows the FTI
 

@@ -11,7 +11,7 @@ use Rattle.cert.specs.declared.verdict.Report.{Report}
 use Rattle.cert.specs.declared.verdict.Verdict.TheVariants.{Yes, No}
 use Rattle.cert.specs.declared.walk.NoReport.TheVariants.{Reason as ByReason}
 use Rattle.cert.specs.declared.walk.Walk.{Walk}
-use Rattle.cert.specs.Certificate.{Certificate}
+use Rattle.certificate.specs.Certificate.{Certificate}
 use Rattle.cert.specs.NotBegun.{IsNotBegun}
 use Rattle.cert.specs.DatagramWalk.{IsNotPassed}
 use Rattle.cert.specs.Feeding.{HasNoReason, IsNoToAll}

@@ -16,7 +16,7 @@ use Rattle.cert.specs.Surveying.{IsSurvey, IsSurveyedFrom}
 use Rattle.cert.specs.declared.verdict.Verdict.TheVariants.{Yes, No}
 use Rattle.cert.specs.declared.walk.NoReport.{NoReport}
 use Rattle.cert.specs.declared.walk.NoReport.TheVariants.{Reason as ByReason, NoMemory}
-use Rattle.cert.specs.Certificate.{Certificate, IsCertificate, is_for}
+use Rattle.certificate.specs.Certificate.{Certificate, IsCertificate, is_for}
 use Rattle.cert.specs.NotBegun.{IsAgainstObject, IsNotBegun}
 use Rattle.cert.specs.DatagramWalk.{IsNotPassed, IsNo}
 use Rattle.cert.specs.Endings.{ending_of, IsEnding}

@@ -21,7 +21,7 @@ use Rattle.cert.specs.declared.verdict.Reason.{Reason}
 use Rattle.cert.specs.declared.verdict.Reason.TheVariants.{OtherCertificate, ObjectLength, NotObject, Empty, Packet as NoPacket, OtherFti, SymbolLength, Range, Symbol, Thin, NoCarrier}
 use Rattle.cert.specs.declared.verdict.Report.{Report}
 use Rattle.cert.specs.declared.verdict.Verdict.TheVariants.{Yes, No}
-use Rattle.cert.specs.Certificate.{Certificate, is_for}
+use Rattle.certificate.specs.Certificate.{Certificate, is_for}
 use Rattle.cert.specs.Verdict.{GivesObject, uncertified, reception_to, reason_at, IsCertifiedPacket, IsCertifiedReading, AreCertified, IsAgainst, VerdictOn}
 use Rattle.cert.specs.Scan.{AreEnoughCertified}
 use Rattle.cert.proofs.Columns.{certified_where_none}

@@ -13,7 +13,7 @@ use Rattle.reception.specs.Reception.{Placed, Judge, counted, reception_with, wi
 use Rattle.cert.specs.declared.verdict.Reason.TheVariants.{OtherCertificate, ObjectLength, NotObject, Empty, Packet as NoPacket, OtherFti, SymbolLength, Range, Symbol, Thin, NoCarrier}
 use Rattle.cert.specs.declared.verdict.Verdict.{Verdict}
 use Rattle.cert.specs.declared.verdict.Verdict.TheVariants.{Yes, No}
-use Rattle.cert.specs.Certificate.{Certificate, named_as, is_for, polynomial, certified_byte}
+use Rattle.certificate.specs.Certificate.{Certificate, named_as, is_for, polynomial, certified_byte}
 use Rattle.cert.specs.Verdict.{GivesObject, IsFirstNotGiven, uncertified, reason_at, first_reason, IsCertifiedReading, AreCertified, IsCertificateOf, VerdictOn, IsVerdict}
 use Rattle.cert.specs.WrongColumns.{wrong_column}
 use Rattle.cert.proofs.Columns.{found_is}

@@ -18,7 +18,7 @@ use Rattle.cert.specs.declared.verdict.Reason.{Reason}
 use Rattle.cert.specs.declared.verdict.Reason.TheVariants.{OtherCertificate, ObjectLength, NotObject, Empty, Packet as NoPacket, OtherFti, SymbolLength, Range, Symbol, Thin, NoCarrier}
 use Rattle.cert.specs.declared.verdict.Verdict.{Verdict}
 use Rattle.cert.specs.declared.verdict.Verdict.TheVariants.{Yes, No}
-use Rattle.cert.specs.Certificate.{Certificate, is_for}
+use Rattle.certificate.specs.Certificate.{Certificate, is_for}
 use Rattle.cert.specs.Verdict.{GivesObject, IsFirstNotGiven, uncertified, reception_to, first_reason, IsCertifiedPacket, IsCertifiedReading, AreCertified, IsCertificateOf, VerdictOn, IsVerdict, AreOneVerdict}
 use Rattle.cert.proofs.Columns.{none_is}
 use Rattle.cert.proofs.Judging.{no_reason}

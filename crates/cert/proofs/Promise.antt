@@ -22,12 +22,12 @@ use Rattle.reception.proofs.Walk.{identity_stays}
 use Rattle.reception.proofs.Stepping.{scope}
 use Rattle.reception.proofs.Carriers.{carrier_known}
 use Rattle.reception.proofs.Within.{no_fault}
-use Rattle.cert.specs.Certificate.{Certificate, IsCertificate, polynomial, certified_byte}
+use Rattle.certificate.specs.Certificate.{Certificate, IsCertificate, polynomial, certified_byte}
 use Rattle.cert.specs.Verdict.{GivesObject, IsCertifiedPacket, IsCertifiedReading, AreCertified, IsCertificateOf}
 use Rattle.lists.specs.Selection.{chosen}
 use Rattle.reception.specs.Headline.{DecodesWhereEnough}
 use Rattle.lists.proofs.Lists.{both, all_append}
-use Rattle.cert.proofs.Polynomials.{forms}
+use Rattle.certificate.proofs.Polynomials.{forms}
 use Rattle.reception.proofs.OneAnswer.{same_readings, one_answer}
 use Rattle.reception.proofs.Full.{fits_only}
 use Rattle.std.specs.Str.{bytes_eq as same}

@@ -10,7 +10,7 @@ use Rattle.reception.specs.declared.scope.Scope.{Scope}
 use Rattle.reception.specs.Walks.{readings_of, in_range}
 use Rattle.reception.proofs.Stepping.{stays}
 use Rattle.reception.proofs.Walking.{Walked}
-use Rattle.cert.specs.Certificate.{Certificate}
+use Rattle.certificate.specs.Certificate.{Certificate}
 use Rattle.cert.specs.Verdict.{uncertified}
 
 -- an ESI in range is below 255

@@ -15,7 +15,7 @@ use Rattle.partition.specs.Fti.{Fti, source_count}
 use Rattle.alc.specs.Reading.{Reading}
 use Rattle.reception.specs.declared.scope.Identity.{Identity}
 use Rattle.reception.specs.Symbols.{Symbol, has_arrived, arrived_count, IsObject, IsFirstShort, Agrees, Fits, AreTwins}
-use Rattle.cert.specs.Certificate.{Certificate, IsCertificate}
+use Rattle.certificate.specs.Certificate.{Certificate, IsCertificate}
 use Rattle.reception.specs.Reception.{ReadAll, counted, symbols}
 use Rattle.reception.specs.Walks.{readings_of}
 use Rattle.cert.specs.declared.verdict.Verdict.TheVariants.{No}

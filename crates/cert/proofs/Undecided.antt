@@ -15,7 +15,7 @@ use Rattle.alc.specs.Reading.{Reading}
 use Rattle.reception.specs.declared.scope.Identity.{Identity}
 use Rattle.reception.specs.Reception.{ReadAll, is_of_identity, is_carrier, counted_from, counted, symbols, Suffices}
 use Rattle.reception.specs.Answer.{Answer, Empty, Missing, IsAnswer}
-use Rattle.cert.specs.Certificate.{Certificate, IsCertificate}
+use Rattle.certificate.specs.Certificate.{Certificate, IsCertificate}
 use Rattle.cert.specs.Verdict.{IsCertificateOf}
 use Rattle.lists.specs.Selection.{chosen}
 use Rattle.reception.specs.Headline.{HasCarrier, TwinWhereShort, TellsWhatLacks, TellsElse}

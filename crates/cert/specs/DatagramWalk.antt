@@ -12,7 +12,7 @@ use Rattle.cert.specs.declared.walk.NoReport.{NoReport}
 use Rattle.cert.specs.declared.walk.NoReport.TheVariants.{Reason as ByReason, NoMemory}
 use Rattle.cert.specs.declared.verdict.Reason.TheVariants.{Symbol}
 use Rattle.cert.specs.declared.verdict.Verdict.TheVariants.{No}
-use Rattle.cert.specs.Certificate.{Certificate}
+use Rattle.certificate.specs.Certificate.{Certificate}
 use Rattle.cert.specs.Tallying.{AreTallied, IsUnpassed, Says, by_certificate, tallied_of}
 use Rattle.cert.specs.Verdict.{VerdictOn}
 

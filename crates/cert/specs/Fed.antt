@@ -3,7 +3,7 @@ use Rattle.std.specs.Prelude.{◌≡◌, ℕ, List, Option, Some, None, ⊤}
 use Rattle.std.specs.Cow.{cow_slice_items}
 use Rattle.session.specs.Frames.{AreDatagrams}
 use Rattle.reception.specs.declared.scope.Identity.{Identity}
-use Rattle.cert.specs.Certificate.{Certificate}
+use Rattle.certificate.specs.Certificate.{Certificate}
 use Rattle.cert.specs.DatagramWalk.{HasWalked}
 use Rattle.cert.specs.Feeding.{IsNoToAll}
 use Rattle.cert.specs.Twins.{IsShortIn}

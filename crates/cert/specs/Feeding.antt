@@ -6,7 +6,7 @@ use Rattle.session.specs.declared.frame.FrameFault.TheVariants.{TooLong}
 use Rattle.alc.specs.Reading.{Reading}
 use Rattle.reception.specs.declared.scope.Identity.{Identity}
 use Rattle.reception.specs.Reception.{ReadAll}
-use Rattle.cert.specs.Certificate.{Certificate}
+use Rattle.certificate.specs.Certificate.{Certificate}
 use Rattle.cert.specs.Verdict.{IsVerdict, first_reason}
 use Rattle.cert.specs.declared.from_reader.CheckFault.{CheckFault}
 use Rattle.cert.specs.declared.from_reader.CheckFault.TheVariants.{Frame, NoMemory}

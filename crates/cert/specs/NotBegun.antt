@@ -6,7 +6,7 @@ use Rattle.cert.specs.declared.walk.NoReport.TheVariants.{Reason as ByReason, No
 use Rattle.cert.specs.declared.verdict.Reason.{Reason}
 use Rattle.cert.specs.declared.verdict.Reason.TheVariants.{OtherCertificate, ObjectLength}
 use Rattle.cert.specs.declared.verdict.Reason.TheVariants.{NotObject}
-use Rattle.cert.specs.Certificate.{Certificate, is_for}
+use Rattle.certificate.specs.Certificate.{Certificate, is_for}
 use Rattle.cert.specs.Verdict.{IsFirstNotGiven}
 
 -- a reason against the certificate's name or the object, whatever datagrams come

@@ -12,7 +12,7 @@ use Rattle.reception.specs.Walks.{readings_of}
 use Rattle.cert.specs.declared.walk.NoReport.{NoReport}
 use Rattle.cert.specs.declared.walk.NoReport.TheVariants.{Reason as ByReason, NoMemory}
 use Rattle.cert.specs.declared.verdict.Reason.TheVariants.{Thin}
-use Rattle.cert.specs.Certificate.{Certificate}
+use Rattle.certificate.specs.Certificate.{Certificate}
 use Rattle.cert.specs.Verdict.{IsAgainst, AreCertified}
 use Rattle.lists.specs.Below.{below}
 

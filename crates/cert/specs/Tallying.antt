@@ -19,7 +19,7 @@ use Rattle.cert.specs.declared.walk.NoReport.TheVariants.{Reason as ByReason, No
 use Rattle.cert.specs.declared.verdict.Reason.{Reason}
 use Rattle.cert.specs.declared.verdict.Reason.TheVariants.{Packet as NoPacket, OtherFti}
 use Rattle.cert.specs.declared.verdict.Reason.TheVariants.{SymbolLength, Range, Symbol as NoSymbol}
-use Rattle.cert.specs.Certificate.{Certificate}
+use Rattle.certificate.specs.Certificate.{Certificate}
 use Rattle.cert.specs.Scan.{AreGroupsOf}
 use Rattle.cert.specs.Verdict.{reason_at, uncertified}
 

@@ -11,7 +11,7 @@ use Rattle.reception.specs.declared.scope.Identity.{Identity}
 use Rattle.cert.specs.declared.verdict.Verdict.TheVariants.{No}
 use Rattle.cert.specs.declared.verdict.Reason.TheVariants.{Thin}
 use Rattle.reception.specs.Symbols.{Symbol, Agrees, AreTwins, IsObject}
-use Rattle.cert.specs.Certificate.{Certificate}
+use Rattle.certificate.specs.Certificate.{Certificate}
 use Rattle.reception.specs.Reception.{ReadAll, counted, symbols}
 use Rattle.cert.specs.Verdict.{IsVerdict}
 

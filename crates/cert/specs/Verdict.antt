@@ -15,7 +15,7 @@ use Rattle.cert.specs.declared.verdict.Reason.TheVariants.{Thin, NoCarrier}
 use Rattle.reception.specs.declared.scope.Identity.{Identity}
 use Rattle.reception.specs.declared.scope.PlaceFault.TheVariants as fault
 use Rattle.reception.specs.Symbols.{arrived_count, IsFirstShort, IsObject}
-use Rattle.cert.specs.Certificate.{Certificate, is_for, certified_byte}
+use Rattle.certificate.specs.Certificate.{Certificate, is_for, certified_byte}
 use Rattle.reception.specs.Reception.{ReadAll, Judge, Wrong, Faulty, Judged, Reception, counted}
 use Rattle.reception.specs.Reception.{symbols, reception_with, with_fti, is_carrier, Suffices}
 use Rattle.lists.specs.Below.{below}

@@ -2,7 +2,7 @@
 use Rattle.std.specs.Prelude.{ℕ, zero, suc, ◌+◌, ◌==◌, if◌then◌else◌, slice_index, Option, Some}
 use Rattle.std.specs.Prelude.{None}
 use Rattle.reception.specs.Symbols.{Symbol}
-use Rattle.cert.specs.Certificate.{Certificate, certified_byte}
+use Rattle.certificate.specs.Certificate.{Certificate, certified_byte}
 
 -- the first of n columns, from column c on, in which the symbol isn't the certified one
 abbrev pub wrong_column : Certificate → Symbol → ℕ → ℕ → Option ℕ

@@ -6,7 +6,7 @@ ghost use Rattle.std.specs.Cow.{cow_slice_items};
 ghost use Rattle.session.specs.Frames.{most_bytes};
 ghost use Rattle.reception.specs.Headline.{DecodesWhereEnough, TwinWhereShort, TellsElse};
 ghost use Rattle.reception.specs.declared.scope.Identity.{Identity as IdentityValue};
-ghost use Rattle.cert.specs.Certificate.{Certificate as CertificateValue, is_for};
+ghost use Rattle.certificate.specs.Certificate.{Certificate as CertificateValue, is_for};
 ghost use Rattle.cert.specs.NotBegun.{IsNotBegun};
 ghost use Rattle.cert.specs.Fed.{IsFed, WasFed, IsFedShort, ended_of};
 ghost use Rattle.cert.specs.Feeding.{IsNoToAll, IsReasonSoFar, IsUnfed, IsToldAgain};
@@ -19,8 +19,8 @@ ghost use Rattle.reception.specs.Symbols.{IsObject};
 
 use crate::from_reader::CheckFault;
 use crate::verdict::{Reason, Verdict};
-use crate::view::CertificateView;
 use crate::walk::{NoReport, Walk};
+use certificate::CertificateView;
 use lists::are_bytes;
 use reception::Identity;
 use session::{FrameFault, MOST_BYTES};

@@ -2,14 +2,14 @@
 ghost use Rattle.std.specs.Prelude.{IfOk, IfErr, OnOk};
 ghost use Rattle.reception.specs.Headline.{DecodesWhereEnough, TwinWhereShort, TellsElse};
 ghost use Rattle.cert.specs.DatagramWalk.{IsNo};
-ghost use Rattle.cert.specs.Certificate.{IsCertificate};
+ghost use Rattle.certificate.specs.Certificate.{IsCertificate};
 ghost use Rattle.cert.specs.Report.{IsReport, OnYes};
 ghost use Rattle.cert.specs.Verdict.{IsCertificateOf, IsVerdict};
 ghost use Rattle.reception.specs.Walks.{readings_of};
 
-use crate::certificate::Certificate;
 use crate::verdict::{Report, Verdict};
 use crate::walk::{NoReport, Walk};
+use certificate::Certificate;
 use reception::Identity;
 use session::Session;
 use std::alloc::{AllocError, Global};

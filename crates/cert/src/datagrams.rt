@@ -1,17 +1,16 @@
 //! What is asked of one datagram, and where its symbol and its place go.
 ghost use Rattle.reception.specs.Walks.{in_range};
-ghost use Rattle.std.specs.Prelude.{◌≡◌, ◌<◌, ◌++◌, ◌∷◌, true, [], length, IfOk, OnOk};
+ghost use Rattle.std.specs.Prelude.{◌≡◌, ◌<◌, true, [], length, IfOk, OnOk};
 ghost use Rattle.alc.specs.Views.{packet_of};
 ghost use Rattle.reception.specs.Reception.{Faulty, symbol_of};
 ghost use Rattle.cert.specs.Verdict.{GivesObject, uncertified, reason_at};
 ghost use Rattle.cert.specs.Scan.{AreGroupsOf, IsPut, with_carrier};
 ghost use Rattle.losses.specs.Groups.{groups_of};
 
-use crate::certified_symbols::CertifiedSymbols;
-use crate::differing::first_difference;
 use crate::source::source_symbol;
 use crate::verdict::Reason;
 use alc::Packet;
+use certified_symbols::{CertifiedSymbols, first_difference};
 use losses::{Groups, Member};
 use partition::Fti;
 use reception::PlaceFault;

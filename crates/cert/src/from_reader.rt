@@ -4,10 +4,9 @@ ghost use Rattle.cert.specs.DatagramWalk.{IsWalkedFrom};
 ghost use Rattle.cert.specs.Endings.{IsEnding};
 ghost use Rattle.cert.specs.FromReader.{IsCheckedFrom, IsRefusedBehind, IsCheckFault};
 
-use crate::certificate::Certificate;
 use crate::verdict::{Reason, Report, Verdict};
-use crate::view::CertificateView;
 use crate::walk::{NoReport, Walk};
+use certificate::{Certificate, CertificateView};
 use lists::are_bytes;
 use reception::Identity;
 use session::{FrameFault, Read, read_next_into};

@@ -1,21 +1,14 @@
 //! Laws of the definitions, for callers to cite. They do nothing.
-ghost use Rattle.std.specs.Prelude.{◌≡◌, ◌↔◌, true, ℕ, List, None};
-ghost use Rattle.lists.specs.Bytes.{AreBytes};
+ghost use Rattle.std.specs.Prelude.{◌≡◌, ◌↔◌, true, ℕ, List};
 ghost use Rattle.reception.specs.declared.scope.Identity.{Identity};
 ghost use Rattle.reception.specs.Symbols.{Symbol};
 ghost use Rattle.reception.specs.Reception.{with_fti};
 ghost use Rattle.reception.specs.First.{TellsTheFirst};
 ghost use Rattle.reception.specs.Order.{TellsInOrder};
 ghost use Rattle.cert.specs.declared.verdict.Verdict.{Verdict as VerdictValue};
-ghost use Rattle.cert.specs.Certificate.{Certificate as CertificateValue, named_as, is_for};
-ghost use Rattle.cert.specs.Certificate.{text_fault, IsTextOfSome};
+ghost use Rattle.certificate.specs.Certificate.{Certificate as CertificateValue, named_as, is_for};
 ghost use Rattle.cert.specs.Verdict.{uncertified, IsVerdict, AreOneVerdict};
 ghost use Rattle.cert.specs.Columns.{TellsFirstWrong};
-
-/// Bytes have no fault exactly where they are the text of a certificate.
-pub fn texts_without_fault()
-    ensures { (x : List ℕ) → AreBytes x → (text_fault x ≡ None) ↔ IsTextOfSome x }
-{}
 
 /// An identity's packets in a session, an object and a certificate have one verdict: two that meet
 /// its definition are both yes, or both no for one reason. So `check` says yes exactly where the

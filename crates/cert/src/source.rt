@@ -1,12 +1,12 @@
 //! Whether the polynomials give the object.
 ghost use Rattle.std.specs.Prelude.{◌≡◌, ◌+◌, ◌<◌, ℕ, slice_index, IsNone, IfSome};
 ghost use Rattle.partition.specs.Fti.{block_count, source_count};
-ghost use Rattle.cert.specs.CoefficientRows.{IsSourceSymbol};
+ghost use Rattle.certificate.specs.CoefficientRows.{IsSourceSymbol};
 ghost use Rattle.cert.specs.Verdict.{GivesObject, GivesBlock};
 ghost use Rattle.cert.specs.NotGiven.{IsFirstInBlock, IsNotGiven};
 
-use crate::certified_symbols::CertifiedSymbols;
 use crate::verdict::Reason;
+use certified_symbols::CertifiedSymbols;
 use partition::Fti;
 
 // The object's bytes from a place on, `count` of them, or fewer where it ends.

@@ -4,9 +4,9 @@ ghost use Rattle.cert.specs.Endings.{IsEnding};
 ghost use Rattle.cert.specs.FromReader.{IsCheckedFrom, IsRefusedBehind, IsCheckFault};
 ghost use Rattle.cert.specs.Surveying.{IsSurveyedFrom};
 
-use crate::certificate::Certificate;
 use crate::from_reader::{CheckFault, Ending, walk_from};
 use crate::verdict::{Report, Survey, Verdict};
+use certificate::Certificate;
 use reception::Identity;
 use session::{FrameFault, Read};
 use std::alloc::Global;

@@ -11,7 +11,7 @@ ghost use Rattle.alc.specs.Views.{packet_of};
 ghost use Rattle.reception.specs.Reception.{is_carrier, symbol_of};
 ghost use Rattle.reception.specs.Step.{IsLook};
 ghost use Rattle.reception.specs.Walks.{readings_of};
-ghost use Rattle.cert.specs.Certificate.{Certificate as CertificateValue};
+ghost use Rattle.certificate.specs.Certificate.{Certificate as CertificateValue};
 ghost use Rattle.cert.specs.Report.{IsReport};
 ghost use Rattle.cert.specs.Surveying.{IsSurvey};
 ghost use Rattle.cert.specs.Scan.{line_in, with_carrier, AreEnough, AreEnoughCertified};

@@ -14,7 +14,7 @@ ghost use Rattle.cert.specs.Twins.{different_esis, esis_of, IsTwin, IsShortIn, I
 ghost use Rattle.cert.specs.TwinBytes.{AppendsAny, IsTwinFault, twin_bytes};
 ghost use Rattle.cert.specs.TwinPieces.{AppendsBlock, byte_with_value};
 
-use crate::certificate::Certificate;
+use certificate::Certificate;
 use gf256::{Field, Gf, point};
 use lists::are_bytes;
 use partition::Fti;

@@ -4,10 +4,10 @@ use Rattle.std.specs.Prelude.{IfErr, IfSome}
 use Rattle.check_commands.specs.declared.check.Answered.{Answered}
 use Rattle.std.specs.Borrow.{Bor}
 use Rattle.session.specs.declared.frame.FrameFault.{FrameFault}
-use Rattle.cert.specs.Certificate.{Certificate, text_fault}
-use Rattle.cert.specs.InFile.{IsLost}
-use Rattle.cert.specs.declared.certificate.CertFault.{CertFault}
-use Rattle.cert.specs.declared.certificate.CertFault.TheVariants as certificate_fault
+use Rattle.certificate.specs.Certificate.{Certificate, text_fault}
+use Rattle.certificate.specs.InFile.{IsLost}
+use Rattle.certificate.specs.declared.certificate.CertFault.{CertFault}
+use Rattle.certificate.specs.declared.certificate.CertFault.TheVariants as certificate_fault
 use Rattle.cert.specs.Report.{OnYes}
 use Rattle.cert.specs.declared.verdict.Survey.{Survey}
 use Rattle.cert.specs.declared.verdict.Verdict.{Verdict}

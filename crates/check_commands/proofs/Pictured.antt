@@ -8,7 +8,7 @@ use Rattle.partition.proofs.Laws.{some_block}
 use Rattle.reception.specs.Symbols.{arrived_count}
 use Rattle.reception.specs.Reception.{counted, symbols}
 use Rattle.reception.specs.declared.scope.Identity.{Identity}
-use Rattle.cert.specs.Certificate.{Certificate, IsCertificate}
+use Rattle.certificate.specs.Certificate.{Certificate, IsCertificate}
 use Rattle.cert.specs.FromReader.{IsCheckedFrom}
 use Rattle.cert.specs.Report.{IsReport, OnYes}
 use Rattle.cert.specs.Surveying.{IsSurveyedFrom}

@@ -13,7 +13,7 @@ use Rattle.session.proofs.OneFrame.{length_frame, one_frame}
 use Rattle.session.proofs.OneSession.{only}
 use Rattle.reception.specs.declared.scope.Identity.{Identity}
 use Rattle.reception.specs.Symbols.{IsObject}
-use Rattle.cert.specs.Certificate.{Certificate}
+use Rattle.certificate.specs.Certificate.{Certificate}
 use Rattle.cert.specs.FromReader.{IsCheckedFrom, IsKnown, read_for}
 use Rattle.cert.specs.TwinBytes.{AppendsAny, twin_bytes}
 use Rattle.cert.specs.Twins.{IsTwin, IsTwinOfSession}

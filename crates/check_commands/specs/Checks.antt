@@ -4,7 +4,7 @@ use Rattle.std.specs.Prelude.{IfSome}
 use Rattle.partition.specs.Fti.{Fti, IsValidFti}
 use Rattle.session.specs.declared.frame.FrameFault.TheVariants.{Io as FrameIo}
 use Rattle.reception.specs.declared.scope.Identity.{Identity}
-use Rattle.cert.specs.Certificate.{Certificate as CertificateValue}
+use Rattle.certificate.specs.Certificate.{Certificate as CertificateValue}
 use Rattle.cert.specs.FromReader.{IsCheckedFrom, IsRefusedBehind}
 use Rattle.cert.specs.Report.{IsReport, OnYes}
 use Rattle.cert.specs.declared.verdict.Verdict.{Verdict}

@@ -6,7 +6,7 @@ use Rattle.session.specs.Frames.{AreDatagrams, IsFramed, StopsAt}
 use Rattle.session.specs.declared.frame.FrameFault.TheVariants.{Io as FrameIo, NoSuchPlace}
 use Rattle.session.specs.declared.frame.FrameFault.TheVariants.{NoMemory as NoFrameMemory}
 use Rattle.reception.specs.declared.scope.Identity.{Identity}
-use Rattle.cert.specs.Certificate.{Certificate as CertificateValue}
+use Rattle.certificate.specs.Certificate.{Certificate as CertificateValue}
 use Rattle.cert.specs.Twins.{IsTwinOfSession}
 use Rattle.cert.specs.Verdict.{IsVerdict}
 use Rattle.cert.specs.declared.verdict.Reason.TheVariants.{Thin}

@@ -1,6 +1,6 @@
 //! The command `check`.
 ghost use Rattle.std.specs.Prelude.{◌≡◌, ◌≤◌, ◌++◌, decimal, IfOk, IfErr, IfSome, OnOk};
-ghost use Rattle.cert.specs.Certificate.{IsCertificate};
+ghost use Rattle.certificate.specs.Certificate.{IsCertificate};
 ghost use Rattle.cert.specs.FromReader.{IsCheckedFrom};
 ghost use Rattle.cert.specs.Report.{OnYes};
 ghost use Rattle.cert.specs.declared.verdict.Verdict.TheVariants.{No};
@@ -18,7 +18,8 @@ ghost use Rattle.commands.specs.Lines.{reason_text, verdict_text as text_of_verd
 
 use crate::drawing::{Drawn, picture_of};
 use crate::summary::summary_lines;
-use cert::{Certificate, CheckFault, Reason, Report, Survey, Verdict, check_from, survey_from};
+use cert::{CheckFault, Reason, Report, Survey, Verdict, check_from, survey_from};
+use certificate::Certificate;
 use commands::{
     Done, Fault, Text, Told, certificate_in, object_in, open, put_packet_fault, read_certificate,
     write_output,

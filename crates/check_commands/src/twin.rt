@@ -21,7 +21,8 @@ ghost use Rattle.check_commands.specs.TwinsTold.{IsUnframed, IsUntwinned, TellsN
 ghost use Rattle.check_commands.specs.TwinsTold.{fault_of_files};
 
 use crate::check::reason_line;
-use cert::{Certificate, Reason, TwinFault, Verdict, session_twin, write_twin};
+use cert::{Reason, TwinFault, Verdict, session_twin, write_twin};
+use certificate::Certificate;
 use commands::{
     Done, Fault, Text, Told, Unwritten, certificate_in, commit, create, object_in, open,
     read_certificate, read_object, session_in, write_output,

@@ -17,14 +17,15 @@ use Rattle.reception.specs.declared.scope.Identity.{Identity}
 use Rattle.reception.specs.Reception.{ReadAll}
 use Rattle.reception.specs.Answer.{Answer, Empty, Fault as WrongAt, NotCode, Missing, Object}
 use Rattle.reception.specs.Answer.{IsAnswer}
-use Rattle.cert.specs.Certificate.{Certificate, IsCertificate, is_for, named_as, certificate_text}
-use Rattle.cert.specs.Converting.{IsOfOther}
+use Rattle.certificate.specs.Certificate.{Certificate, IsCertificate, is_for, named_as}
+use Rattle.certificate.specs.Certificate.{certificate_text}
+use Rattle.certificate.specs.Converting.{IsOfOther}
 use Rattle.cert.specs.FromReader.{IsCheckedFrom, IsRefusedBehind}
 use Rattle.cert.specs.Report.{IsReport, OnYes}
 use Rattle.cert.specs.Twins.{IsTwinOfSession}
 use Rattle.cert.specs.Verdict.{IsVerdict, GivesObject}
-use Rattle.cert.specs.declared.certificate.CertFault.TheVariants.{Io as CertificateIo}
-use Rattle.cert.specs.declared.certificate.CertFault.TheVariants.{OtherIdentity}
+use Rattle.certificate.specs.declared.certificate.CertFault.TheVariants.{Io as CertificateIo}
+use Rattle.certificate.specs.declared.certificate.CertFault.TheVariants.{OtherIdentity}
 use Rattle.cert.specs.declared.verdict.Reason.TheVariants.{Thin}
 use Rattle.cert.specs.declared.verdict.Verdict.{Verdict}
 use Rattle.cert.specs.declared.verdict.Verdict.TheVariants.{Yes, No}

@@ -5,7 +5,7 @@ use Rattle.std.specs.Io.KnownBytes.{Consumes, IsAtEnd}
 use Rattle.session.specs.Frames.{frames, AreShort, HasRead}
 use Rattle.reception.specs.declared.scope.Identity.{Identity}
 use Rattle.reception.specs.Answer.{Answer, Object, IsAnswer}
-use Rattle.decoder.specs.Answers.{fault_value}
+use Rattle.block_recovery.specs.Faults.{fault_value}
 use Rattle.receiver.specs.Begun.{IsCarrierOf}
 use Rattle.receiver.specs.Receiving.{with_datagram, LeaveNoneShort, ComesEarly}
 use Rattle.receiver.specs.declared.receiver.FeedFault.{FeedFault}

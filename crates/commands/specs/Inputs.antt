@@ -4,10 +4,10 @@ use Rattle.session.specs.Frames.{IsFramed, StopsAt}
 use Rattle.session.specs.declared.frame.FrameFault.TheVariants.{Io as FrameIo}
 use Rattle.session.specs.declared.frame.FrameFault.TheVariants.{NoMemory as NoFrameMemory}
 use Rattle.session.specs.declared.frame.FrameFault.TheVariants.{NoSuchPlace}
-use Rattle.cert.specs.Certificate.{Certificate, IsCertificate, certificate_text, text_fault}
-use Rattle.cert.specs.declared.certificate.CertFault.TheVariants.{Io as CertificateIo}
-use Rattle.cert.specs.declared.certificate.CertFault.TheVariants.{NoMemory as NoCertificateMemory}
-use Rattle.cert.specs.declared.certificate.CertFault.TheVariants.{OtherIdentity}
+use Rattle.certificate.specs.Certificate.{Certificate, IsCertificate, certificate_text, text_fault}
+use Rattle.certificate.specs.declared.certificate.CertFault.TheVariants.{Io as CertificateIo}
+use Rattle.certificate.specs.declared.certificate.CertFault.TheVariants.{NoMemory as NoCertMemory}
+use Rattle.certificate.specs.declared.certificate.CertFault.TheVariants.{OtherIdentity}
 use Rattle.session.specs.declared.range.PlaceRange.{PlaceRange}
 use Rattle.request.specs.Places.{AreRanges, IsFirstWrong, words_of}
 use Rattle.host.specs.World.{Files, World, Holds, MayFail}
@@ -85,7 +85,7 @@ IsUnread world (ASession name) (Frame NoFrameMemory) = ⊤
 IsUnread world (ASession name) (Frame (NoSuchPlace place)) = ⊥
 IsUnread world (ASession name) (Frame fault) = Holds world.files name (StopsAt fault)
 IsUnread world (ACertificate name) (NoCertificate CertificateIo) = MayFail world
-IsUnread world (ACertificate name) (NoCertificate NoCertificateMemory) = ⊤
+IsUnread world (ACertificate name) (NoCertificate NoCertMemory) = ⊤
 IsUnread world (ACertificate name) (NoCertificate OtherIdentity) = ⊥
 IsUnread world (ACertificate name) (NoCertificate fault) =
     Holds world.files name (λ bytes. text_fault bytes ≡ Some fault)

@@ -16,7 +16,7 @@ use Rattle.reception.specs.Answer.{Answer, Empty as NothingCame, Fault as WrongA
 use Rattle.reception.specs.Answer.{Object, Clash, Clashes}
 use Rattle.reception.specs.Reception.{Wrong, Faulty, Judged}
 use Rattle.reception.specs.declared.scope.PlaceFault.TheVariants as place_fault
-use Rattle.decoder.specs.Answers.{fault_value}
+use Rattle.block_recovery.specs.Faults.{fault_value}
 use Rattle.receiver.specs.declared.receiver.FeedFault.{FeedFault}
 use Rattle.receiver.specs.declared.receiver.FeedFault.TheVariants.{Fault as NoObject, Full, Early}
 use Rattle.receiver.specs.declared.receiver.FeedFault.TheVariants.{NoMemory}

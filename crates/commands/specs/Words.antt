@@ -13,11 +13,12 @@ use Rattle.session.specs.declared.frame.FrameFault.TheVariants.{CutLength, CutDa
 use Rattle.session.specs.declared.frame.FrameFault.TheVariants.{Io as FrameIo}
 use Rattle.session.specs.declared.frame.FrameFault.TheVariants.{NoMemory as NoFrameMemory}
 use Rattle.session.specs.declared.frame.FrameFault.TheVariants.{NoSuchPlace}
-use Rattle.cert.specs.declared.certificate.CertFault.{CertFault}
-use Rattle.cert.specs.declared.certificate.CertFault.TheVariants.{Magic, Fti as WrongFti, Size}
-use Rattle.cert.specs.declared.certificate.CertFault.TheVariants.{Io as CertificateIo}
-use Rattle.cert.specs.declared.certificate.CertFault.TheVariants.{NoMemory as NoCertificateMemory}
-use Rattle.cert.specs.declared.certificate.CertFault.TheVariants.{OtherIdentity}
+use Rattle.certificate.specs.declared.certificate.CertFault.{CertFault}
+use Rattle.certificate.specs.declared.certificate.CertFault.TheVariants.{Magic, Fti as WrongFti}
+use Rattle.certificate.specs.declared.certificate.CertFault.TheVariants.{Size}
+use Rattle.certificate.specs.declared.certificate.CertFault.TheVariants.{Io as CertificateIo}
+use Rattle.certificate.specs.declared.certificate.CertFault.TheVariants.{NoMemory as NoCertMemory}
+use Rattle.certificate.specs.declared.certificate.CertFault.TheVariants.{OtherIdentity}
 use Rattle.encoder.specs.declared.sending.SendFault.{SendFault}
 use Rattle.encoder.specs.declared.sending.SendFault.TheVariants.{Length, SymbolTooLong}
 use Rattle.encoder.specs.declared.sending.SendFault.TheVariants.{Io as SendIo}
@@ -57,7 +58,7 @@ certificate_words Magic = codes "Z1 Magic"
 certificate_words (WrongFti fault) = codes "Z2 Fti " ++ fti_words fault
 certificate_words Size = codes "Z3 Size"
 certificate_words CertificateIo = codes "Z4 Io"
-certificate_words NoCertificateMemory = codes "memory"
+certificate_words NoCertMemory = codes "memory"
 certificate_words OtherIdentity = codes "Z6 OtherIdentity"
 
 abbrev pub send_words : SendFault → List ℕ

@@ -1,7 +1,7 @@
 //! Faults of a command.
 ghost use Rattle.std.specs.Prelude.{◌≡◌};
 
-use cert::CertFault;
+use certificate::CertFault;
 use encoder::SendFault;
 use partition::FtiError;
 use session::{Failed, FrameFault};

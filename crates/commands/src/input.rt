@@ -10,7 +10,7 @@ ghost use Rattle.commands.specs.ReadingInputs.{IsFrameUnread, IsRestUnread};
 ghost use Rattle.commands.specs.declared.fault.Fault.TheVariants.{Frame};
 
 use crate::fault::Fault;
-use cert::Certificate;
+use certificate::Certificate;
 use host::{FileFault, Host};
 use request::{PlaceFault, place_ranges};
 use session::{FrameFault, PlaceRange, Read, ReadFault, Session, read_next, read_to_end};

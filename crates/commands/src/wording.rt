@@ -7,7 +7,7 @@ ghost use Rattle.commands.specs.Words.{send_words};
 use crate::fault::Fault;
 use crate::print::Text;
 use alc::PacketFault;
-use cert::CertFault;
+use certificate::CertFault;
 use encoder::SendFault;
 use partition::FtiError;
 use session::FrameFault;

@@ -1,5 +1,5 @@
 -- The answer to datagrams, from what was received.
-use Rattle.std.specs.Prelude.{◌==◌, Result, Ok, Err, IfOk, IfSome, None, is_some}
+use Rattle.std.specs.Prelude.{◌==◌, None, is_some}
 use Rattle.std.specs.Borrow.{Bor}
 use Rattle.std.proofs.lemmas.List.{length-map}
 use Rattle.std.proofs.Math.Logic.{∥∥₁_elim}
@@ -21,10 +21,11 @@ use Rattle.std.proofs.lemmas.Bool.{and_from, eq-eqb}
 use Rattle.lists.proofs.Lists.{all_both}
 use Rattle.reception.proofs.Within.{within}
 use Rattle.reception.proofs.Full.{found}
-use Rattle.decoder.specs.Decoded.{AreWithin, IsEnoughAt, AnswerBy, Answers, Stand}
-use Rattle.decoder.specs.Received.{AreReceived}
-use Rattle.decoder.specs.Sources.{AreInRange}
-use Rattle.decoder.proofs.Counts.{held_is}
+use Rattle.block_recovery.specs.Decoded.{AreWithin, IsEnoughAt}
+use Rattle.decoder.specs.Answered.{AnswerBy, Answers, Stand}
+use Rattle.block_recovery.specs.Received.{AreReceived}
+use Rattle.block_recovery.specs.Decoded.{AreInRange}
+use Rattle.block_recovery.proofs.Counts.{held_is}
 
 some_is : {V : Type 0} (o : Option V) → is_some o ≡ true → (v : V) × (o ≡ Some v)
 some_is None some = absurd (cc)
@@ -90,14 +91,3 @@ pub answered : (who : Identity) (ds : List (List ℕ)) (f : Fti) (at : ℕ → �
 answered who ds f at v r h =
     answers_came (reception_of who (readings_of ds)) f v r.clean
     (h (symbols (counted who (readings_of ds))) r.index (within clash (asked who) (readings_of ds) f r.clean))
-
--- what is so of a result is so of what follows
-pub if_ok : {A E : Type 0} (P Q : A → Type 0) (r : Result A E) → ((a : A) → P a → Q a) → IfOk r P → IfOk r Q
-if_ok P Q (Ok a) f h = f a h
-if_ok P Q (Err e) f h = h
-
--- and of a value in it
-pub if_ok_some : {A E : Type 0} (P Q : A → Type 0) (r : Result (Option A) E) → ((a : A) → P a → Q a) → IfOk r (λ o. IfSome o P) → IfOk r (λ o. IfSome o Q)
-if_ok_some P Q (Ok (Some a)) f h = f a h
-if_ok_some P Q (Ok None) f h = tt
-if_ok_some P Q (Err e) f h = tt

@@ -13,7 +13,7 @@ use Rattle.lists.proofs.Lists.{all_both, all_to}
 use Rattle.partition.specs.Fti.{Fti, IsValidFti, block_count, source_count, start_of, source_place, source_byte}
 use Rattle.partition.proofs.Laws.{counts, in_object, start_step, rising_to}
 use Rattle.reception.specs.Symbols.{Symbol, Agrees, Fits}
-use Rattle.decoder.specs.Received.{IsIndex}
+use Rattle.block_recovery.specs.Received.{IsIndex}
 use Rattle.decoder.specs.Written.{BeginsObject}
 use Rattle.decoder.proofs.ObjectSoFar.{SoFar}
 use Rattle.decoder.proofs.Solving.{all_stand}

@@ -13,7 +13,7 @@ use Rattle.reception.specs.Symbols.{is_of}
 use Rattle.reception.specs.Reception.{ReadAll, counts, counted_from, counted, symbols_in, symbols}
 use Rattle.reception.specs.Walks.{readings_of}
 use Rattle.reception.proofs.Full.{found}
-use Rattle.decoder.specs.Received.{IsIndex}
+use Rattle.block_recovery.specs.Received.{IsIndex}
 use Rattle.decoder.specs.Unsolvable.{HaveBytes}
 
 packet_bytes : (d : List ℕ) (p : Packet) → IsPacket d p → AreBytes p.bytes

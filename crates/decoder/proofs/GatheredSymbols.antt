@@ -11,8 +11,8 @@ use Rattle.reception.specs.Answer as value
 use Rattle.reception.specs.Answer.{IsAnswer, AnswerTo, reception_of}
 use Rattle.reception.proofs.OneAnswer.{same_readings}
 use Rattle.decoder.specs.Answers.{answer_value}
-use Rattle.decoder.specs.Decoded.{Answers}
-use Rattle.decoder.specs.Received.{AreReceived}
+use Rattle.decoder.specs.Answered.{Answers}
+use Rattle.block_recovery.specs.Received.{AreReceived}
 use Rattle.decoder.specs.Gathering.{IsGathered}
 use Rattle.decoder.specs.Written.{Gathers, BeginsObject}
 use Rattle.decoder.specs.declared.gathering.Gathered.{Gathered}

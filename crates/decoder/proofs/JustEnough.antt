@@ -12,8 +12,8 @@ use Rattle.poly.specs.Polynomial.{value, IsPolynomial}
 use Rattle.partition.specs.Fti.{Fti, IsValidFti, block_count, source_count, encoding_count, start_of, source_place}
 use Rattle.partition.proofs.Laws.{counts, in_object, start_step}
 use Rattle.reception.proofs.Different.{different_below, different_filter}
-use Rattle.decoder.specs.Blocks.{byte_of}
-use Rattle.decoder.specs.Decoded.{AreWithin}
+use Rattle.block_recovery.specs.Blocks.{byte_of}
+use Rattle.block_recovery.specs.Decoded.{AreWithin}
 use Rattle.decoder.specs.Unsolvable.{HaveBytes, IsSound}
 use Rattle.decoder.proofs.Interpolated.{interpolated}
 

@@ -10,11 +10,12 @@ use Rattle.partition.proofs.Laws.{counts, in_object, start_step, start_end, risi
 use Rattle.reception.specs.Symbols.{Symbol, AllFull, IsObject}
 use Rattle.reception.specs.Within.{IsWithin}
 use Rattle.reception.specs.Answer as value_of
-use Rattle.decoder.specs.Columns.{BlockColumn}
-use Rattle.decoder.specs.Decoded.{IsEnoughAt, AreRows, IsUnexplained, Answers}
-use Rattle.decoder.specs.Received.{IsIndex}
-use Rattle.decoder.specs.Decoded.{row_byte}
-use Rattle.decoder.proofs.Counts.{held_is}
+use Rattle.block_recovery.specs.Columns.{BlockColumn}
+use Rattle.block_recovery.specs.Decoded.{IsEnoughAt, AreRows, IsUnexplained}
+use Rattle.decoder.specs.Answered.{Answers}
+use Rattle.block_recovery.specs.Received.{IsIndex}
+use Rattle.block_recovery.specs.Decoded.{row_byte}
+use Rattle.block_recovery.proofs.Counts.{held_is}
 use Rattle.decoder.proofs.Solving.{solvable_from, solvable_gives, all_solvable, fits_only_from}
 
 -- a block's rows have its bytes of the object

@@ -10,8 +10,8 @@ use Rattle.lists.proofs.Lists.{all_both, all_to}
 use Rattle.reception.specs.Symbols.{Symbol, is_of, has_arrived, IsObject, Agrees, Fits, Solvable, AllFull, FullSolvable, FitsOnly}
 use Rattle.reception.specs.Within.{IsWithin}
 use Rattle.reception.proofs.Full.{found, fits_only}
-use Rattle.decoder.specs.Received.{IsIndex}
-use Rattle.decoder.specs.Columns.{ColumnExplained, BlockColumn}
+use Rattle.block_recovery.specs.Received.{IsIndex}
+use Rattle.block_recovery.specs.Columns.{ColumnExplained, BlockColumn}
 
 -- what a list of symbols has of an index, and its tail too
 record IsIndexed (arrivals : List Symbol) (at : ℕ → ℕ → Option (List ℕ)) : Type 0 where

@@ -9,11 +9,12 @@ use Rattle.partition.specs.Fti.{Fti, IsValidFti, block_bytes, block_count, sourc
 use Rattle.partition.proofs.Laws.{some_block}
 use Rattle.reception.specs.Answer as value_of
 use Rattle.block_code.proofs.SourceRows.{row_of, length-row_of, get_or-row_of, bytes-row_of}
-use Rattle.decoder.specs.Columns.{ColumnExplained}
-use Rattle.decoder.specs.Decoded.{IsEnoughAt, row_byte, AreRows, Answers}
+use Rattle.block_recovery.specs.Columns.{ColumnExplained}
+use Rattle.block_recovery.specs.Decoded.{IsEnoughAt, row_byte, AreRows}
+use Rattle.decoder.specs.Answered.{Answers}
 use Rattle.decoder.specs.Unsolvable.{AreSound}
 use Rattle.decoder.proofs.ObjectSoFar.{SoFar, nothing_yet, one_more_block, object_answers}
-use Rattle.decoder.proofs.Words.{values_bytes}
+use Rattle.block_recovery.proofs.Words.{values_bytes}
 
 -- the rows of a block that polynomials explain
 module _ (f : Fti) (b : ℕ) (at : ℕ → Option (List ℕ)) (explained : (c : ℕ) → c < f.symbol_length → ColumnExplained f b at c) where

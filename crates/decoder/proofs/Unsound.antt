@@ -8,14 +8,15 @@ use Rattle.partition.specs.Fti.{Fti, IsValidFti, block_count, source_count, enco
 use Rattle.partition.proofs.Laws.{counts}
 use Rattle.reception.specs.Symbols.{Symbol, arrived_count, is_full, Solvable, FullSolvable, IsFirstUnsolvable}
 use Rattle.reception.specs.Within.{IsWithin}
-use Rattle.decoder.specs.Columns.{ColumnExplained}
-use Rattle.decoder.specs.Decoded.{AreWithin, AreRows, IsEnoughAt, Stand}
-use Rattle.decoder.specs.Received.{IsIndex}
+use Rattle.block_recovery.specs.Columns.{ColumnExplained}
+use Rattle.block_recovery.specs.Decoded.{AreWithin, AreRows, IsEnoughAt}
+use Rattle.decoder.specs.Answered.{Stand}
+use Rattle.block_recovery.specs.Received.{IsIndex}
 use Rattle.decoder.specs.Unsolvable.{AreSound, IsSound, IsUnsound, SomeUnsound}
-use Rattle.decoder.proofs.Counts.{held_is, none_more_held}
-use Rattle.decoder.specs.Listed.{Stands}
+use Rattle.block_recovery.proofs.Counts.{held_is, none_more_held}
+use Rattle.block_recovery.specs.Listed.{Stands}
 use Rattle.decoder.proofs.Solving.{solvable_from, solvable_gives}
-use Rattle.decoder.proofs.Those.{none_below}
+use Rattle.block_recovery.proofs.Those.{none_below}
 
 -- the polynomials of the rows' columns explain the block
 pub rows_explain : (f : Fti) (b : ℕ) (at : ℕ → Option (List ℕ)) (rows : List ℕ) → AreRows f b at rows → (c : ℕ) → c < f.symbol_length → ColumnExplained f b at c

@@ -1,15 +1,9 @@
 -- What came of an object, wherever it is had from.
-use Rattle.std.specs.Prelude.{◌≡◌, ℕ, ◌<◌, Bool, true, false, List, Option, is_some}
-use Rattle.partition.specs.Fti.{Fti, block_count, encoding_count}
+use Rattle.std.specs.Prelude.{◌≡◌, Bool, false}
 use Rattle.decoder.specs.declared.source.Unread.{Unread}
 use Rattle.decoder.specs.declared.source.Unread.TheVariants.{Io, Changed, NoMemory}
 use Rattle.decoder.specs.declared.writing.Unwritten.{Unwritten}
 use Rattle.decoder.specs.declared.writing.Unwritten.TheVariants as unwritten
-
--- something came only of blocks and at ESIs that the FTI has
-pub record AreInRange (f : Fti) (at : ℕ → ℕ → Option (List ℕ)) : Type 0 where
-  pub block : (b j : ℕ) → is_some (at b j) ≡ true → b < block_count f
-  pub esi : (b j : ℕ) → is_some (at b j) ≡ true → j < encoding_count f b
 
 -- Why symbols aren't given: reading has failed, which isn't reliable; what is there isn't what was
 -- told; or there is no memory.

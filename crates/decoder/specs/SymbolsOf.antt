@@ -6,8 +6,8 @@ use Rattle.block_code.specs.CodesOf.{IsCodeOf}
 use Rattle.reception.specs.declared.scope.Identity.{Identity}
 use Rattle.reception.specs.Reception.{ReadAll}
 use Rattle.reception.specs.Readings.{readings_of}
-use Rattle.decoder.specs.Decoded.{IsEnoughAt}
-use Rattle.decoder.specs.Received.{bytes_at, AreReceived}
+use Rattle.block_recovery.specs.Decoded.{IsEnoughAt}
+use Rattle.block_recovery.specs.Received.{bytes_at, AreReceived}
 use Rattle.decoder.specs.Unsolvable.{AreSound}
 use Rattle.decoder.specs.declared.gathering.ObjectSymbols.{ObjectSymbols}
 

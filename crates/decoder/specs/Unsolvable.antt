@@ -2,8 +2,8 @@
 use Rattle.std.specs.Prelude.{◌≡◌, ℕ, ◌<◌, List, Option, Some}
 use Rattle.lists.specs.Bytes.{AreBytes}
 use Rattle.partition.specs.Fti.{Fti, block_count}
-use Rattle.decoder.specs.Columns.{ColumnExplained}
-use Rattle.decoder.specs.Decoded.{IsEnoughAt, IsUnexplained}
+use Rattle.block_recovery.specs.Columns.{ColumnExplained}
+use Rattle.block_recovery.specs.Decoded.{IsEnoughAt, IsUnexplained}
 
 -- where enough symbols of the block came, polynomials explain them
 abbrev pub IsSound : Fti → (ℕ → ℕ → Option (List ℕ)) → ℕ → Type 0

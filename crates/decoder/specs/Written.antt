@@ -6,8 +6,8 @@ use Rattle.partition.specs.Fti.{Fti}
 use Rattle.reception.specs.Symbols.{Symbol, FitsOnly}
 use Rattle.reception.specs.Answer as value
 use Rattle.decoder.specs.Answers.{answer_value}
-use Rattle.decoder.specs.Decoded.{Answers}
-use Rattle.decoder.specs.Received.{bytes_at, IsIndex}
+use Rattle.decoder.specs.Answered.{Answers}
+use Rattle.block_recovery.specs.Received.{bytes_at, IsIndex}
 use Rattle.decoder.specs.Gathering.{IsNoObject}
 use Rattle.decoder.specs.SymbolsOf.{AreEnough}
 use Rattle.decoder.specs.Unsolvable.{AreSound}

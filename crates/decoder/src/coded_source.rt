@@ -1,8 +1,8 @@
 //! What came of an object, with the codes of its blocks.
 ghost use Rattle.block_code.specs.Codes.{EachBlockHas};
 ghost use Rattle.block_code.specs.CodesOf.{IsCodeOf};
-ghost use Rattle.decoder.specs.Decoded.{Stand};
-ghost use Rattle.decoder.specs.Sources.{AreInRange};
+ghost use Rattle.decoder.specs.Answered.{Stand};
+ghost use Rattle.block_recovery.specs.Decoded.{AreInRange};
 ghost use Rattle.decoder.specs.Unsolvable.{HaveBytes};
 
 use crate::source::Source;
@@ -11,9 +11,9 @@ use block_code::BlockCodes;
 /// What came of an object, and the codes of its blocks. All that came is of blocks and at ESIs that
 /// the FTI has; where it is told, it is what came of some list of symbols in range, and bytes.
 #[derive(Drop)]
-pub(crate) struct CodedSource<'a, S: Source> {
-    pub(crate) source: &'a S,
-    pub(crate) codes: &'a BlockCodes,
+pub struct CodedSource<'a, S: Source> {
+    pub source: &'a S,
+    pub codes: &'a BlockCodes,
     // A ghost field keeps no data: of the polynomials of a code, and of a list of symbols, it says
     // only that there are some (`∥ ∥₁`).
     ghost code: { ∥ EachBlockHas (IsCodeOf (S.known source.now)) (S.known source.now)

@@ -2,26 +2,15 @@
 ghost use Rattle.std.specs.Prelude.{◌≡◌, ◌<◌, ◌≤◌, ℕ, List, length, filter, is_some, IfSome};
 ghost use Rattle.std.specs.Prelude.{IfNone};
 ghost use Rattle.lists.specs.Below.{below};
-ghost use Rattle.decoder.specs.Decoded.{IsShort, NoneIsShort};
-ghost use Rattle.decoder.specs.Received.{came_at};
+ghost use Rattle.decoder.specs.Answered.{IsShort, NoneIsShort};
+ghost use Rattle.block_recovery.specs.Received.{came_at};
 
-use crate::arrivals::seen_of;
+use crate::answer::Short;
 use crate::source::Source;
-use crate::symbols::Symbols;
-
-/// A block that has fewer encoding symbols than it needs.
-#[derive(Clone, Copy)]
-pub struct Short {
-    /// Its source block number.
-    pub block: u32,
-    /// How many different ESIs of it came.
-    pub have: usize,
-    /// How many source symbols it has.
-    pub need: usize,
-}
+use block_recovery::{Symbols, seen_of};
 
 /// How many different ESIs below `n` came of a block.
-pub(crate) fn have<S: Drop>(symbols: &Symbols<S>, b: u32, n: usize) -> usize
+pub fn have<S: Drop>(symbols: &Symbols<S>, b: u32, n: usize) -> usize
     requires { n ≤ 255 }
     ensures { (held : S → List ℕ)
         → result ≡ length (filter (λ j. is_some (came_at held symbols.now b j)) (below n)) }

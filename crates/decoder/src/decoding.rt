@@ -1,25 +1,25 @@
 //! Decoding: the object that datagrams give, or why they give none.
-ghost use Rattle.std.specs.Prelude.{◌≡◌, ◌<◌, ℕ, [], length, map, slice_index_or, IfOk};
+ghost use Rattle.std.specs.Prelude.{◌<◌, ℕ, [], length, map, slice_index_or, IfOk};
 ghost use Rattle.std.specs.Prelude.{IfErr};
 ghost use Rattle.lists.specs.Bytes.{AreBytes};
 ghost use Rattle.block_code.specs.Codes.{EachBlockHas};
 ghost use Rattle.block_code.specs.CodesOf.{IsCodeOf};
 ghost use Rattle.reception.specs.Answer.{IsAnswer};
 ghost use Rattle.decoder.specs.Answers.{answer_value};
-ghost use Rattle.decoder.specs.Decoded.{AreWithin, Answers, IsShort, NoneIsShort, Stand};
+ghost use Rattle.block_recovery.specs.Decoded.{AreWithin};
+ghost use Rattle.decoder.specs.Answered.{Answers, IsShort, NoneIsShort, Stand};
 ghost use Rattle.decoder.specs.Gathering.{IsNoObject};
-ghost use Rattle.decoder.specs.Received.{bytes_at};
+ghost use Rattle.block_recovery.specs.Received.{bytes_at};
 ghost use Rattle.decoder.specs.Sources.{IsUnreadOf};
 ghost use Rattle.decoder.specs.Unsolvable.{HaveBytes};
 
-use crate::answer::{Answer, DecodeFault};
-use crate::blocks::received_rows;
+use crate::answer::{Answer, Short};
 use crate::coded_source::CodedSource;
-use crate::counting::{Short, first_short};
-use crate::received::{Received, Refusal, receive};
+use crate::counting::first_short;
 use crate::source::{Source, Unread};
 use crate::unsolvable::first_unsolvable;
 use block_code::{BlockCodes, Kind};
+use block_recovery::{DecodeFault, Received, Refusal, receive, received_rows};
 use lists::are_bytes;
 use reception::Identity;
 use std::alloc::{AllocError, Global};

@@ -1,26 +1,22 @@
 //! Decoding into a writer: the object is written block by block, so that it is never held.
-ghost use Rattle.std.specs.Prelude.{◌≡◌, ◌<◌, ℕ, List, true, length, map, IfOk, IfErr, OnOk, OnErr};
-ghost use Rattle.std.specs.Prelude.{MatchBool};
+ghost use Rattle.std.specs.Prelude.{◌≡◌, ◌<◌, ℕ, List, true, length, map, IfOk, IfErr, OnErr};
 ghost use Rattle.session.specs.Frames.{AppendsSome};
-ghost use Rattle.partition.specs.Fti.{block_count};
-ghost use Rattle.block_code.specs.Codes.{EachBlockHas};
-ghost use Rattle.block_code.specs.CodesOf.{IsCodeOf};
 ghost use Rattle.reception.specs.declared.scope.Identity.{Identity as IdentityValue};
 ghost use Rattle.reception.specs.Answer.{Object, IsAnswer};
-ghost use Rattle.decoder.specs.Decoded.{AreWithin, IsEnoughAt, Stand};
-ghost use Rattle.decoder.specs.Unsolvable.{AreSound, SomeUnsound, HaveBytes};
-ghost use Rattle.decoder.specs.Received.{bytes_at};
+ghost use Rattle.decoder.specs.Answered.{Stand};
+ghost use Rattle.decoder.specs.Unsolvable.{HaveBytes};
+ghost use Rattle.block_recovery.specs.Received.{bytes_at};
 ghost use Rattle.decoder.specs.SymbolsOf.{AreSymbolsOf, AreGathered};
 ghost use Rattle.decoder.specs.Gathering.{IsGathered, IsWrittenOf};
-ghost use Rattle.decoder.specs.Written.{Gathers, WritesObject, BeginsObject};
+ghost use Rattle.decoder.specs.Written.{Gathers};
 
-use crate::answer::{Answer, DecodeFault};
+use crate::answer::Answer;
 use crate::coded_source::CodedSource;
 use crate::decoding::all_are_bytes;
-use crate::received::{Received, Refusal, receive};
 use crate::verdict::verdict;
 use crate::writing::{Unwritten, write_blocks};
 use block_code::{BlockCodes, Kind};
+use block_recovery::{DecodeFault, Received, Refusal, receive};
 use reception::Identity;
 use session::Write;
 use std::alloc::{AllocError, Global};

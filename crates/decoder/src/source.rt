@@ -6,19 +6,15 @@ ghost use Rattle.partition.specs.Fti.{Fti as FtiValue, block_count};
 ghost use Rattle.block_code.specs.Codes.{EachBlockHas};
 ghost use Rattle.block_code.specs.CodesOf.{IsCodeOf};
 ghost use Rattle.block_code.specs.declared.codes.BlockCodes.{BlockCodes as BlockCodesValue};
-ghost use Rattle.decoder.specs.Columns.{ColumnExplained};
-ghost use Rattle.decoder.specs.Decoded.{AreWithin, IsEnoughAt, AreRows, IsUnexplained};
-ghost use Rattle.decoder.specs.Received.{bytes_at};
-ghost use Rattle.decoder.specs.Recoveries.{IsKeptOf};
+ghost use Rattle.block_recovery.specs.Columns.{ColumnExplained};
+ghost use Rattle.block_recovery.specs.Decoded.{AreWithin, IsEnoughAt, AreRows, IsUnexplained};
+ghost use Rattle.block_recovery.specs.Received.{bytes_at};
+ghost use Rattle.block_recovery.specs.Recoveries.{IsKeptOf};
 ghost use Rattle.decoder.specs.Sources.{IsUnreadOf};
 
-use crate::blocks::received_rows;
 use crate::counting::have;
-use crate::received::Received;
-use crate::recovery::Recovery;
-use crate::rows::Rows;
-use crate::unsolvable::blocks_of;
 use block_code::BlockCodes;
+use block_recovery::{Received, Recovery, Rows, blocks_of, received_rows};
 use partition::Fti;
 use std::alloc::{AllocError, Global};
 use thiserror::Error;
@@ -50,7 +46,7 @@ impl From<AllocError> for Unread {
 
 /// What came of an object. Which ESIs came of a block is known; their symbols are given where they
 /// can be had again.
-pub(crate) trait Source {
+pub trait Source {
     /// What is used again from block to block: what symbols are read with, and what is kept of a
     /// solution.
     type Workspace: Drop;

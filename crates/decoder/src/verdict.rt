@@ -1,18 +1,19 @@
 //! Whether symbols are those of an object, told without making it.
 ghost use Rattle.std.specs.Prelude.{IsNone, IfOk, IfErr, IfSome, MatchBool};
 ghost use Rattle.decoder.specs.Answers.{answer_value};
-ghost use Rattle.decoder.specs.Decoded.{Answers, NoneIsShort};
+ghost use Rattle.decoder.specs.Answered.{Answers, NoneIsShort};
 ghost use Rattle.decoder.specs.Gathering.{IsNoObject};
 ghost use Rattle.decoder.specs.Sources.{IsUnreadOf};
 ghost use Rattle.decoder.specs.Unsolvable.{AreSound, SomeUnsound};
 ghost use Rattle.decoder.specs.Written.{IsVerdict};
 
-use crate::answer::{Answer, DecodeFault};
+use crate::answer::Answer;
 use crate::coded_source::CodedSource;
 use crate::counting::first_short;
 use crate::decoding::short_answer;
 use crate::source::{Source, Unread};
 use crate::unsolvable::first_unsolvable;
+use block_recovery::DecodeFault;
 use std::alloc::Global;
 
 // Whether some block is of no object, where no block is short. Any `k` symbols of a block are those
@@ -46,7 +47,7 @@ fn has_unsolvable<S: Source>(alloc: Global, coded: &CodedSource<'_, S>) -> Resul
 }
 
 /// The answer to what came, where some block is of no object, and no block is short.
-pub(crate) fn unsound_answer<S: Source>(
+pub fn unsound_answer<S: Source>(
     alloc: Global,
     coded: &CodedSource<'_, S>,
 ) -> Result<Answer, Unread>
@@ -66,7 +67,7 @@ pub(crate) fn unsound_answer<S: Source>(
 }
 
 /// The answer to what came, where it is no object, and `None` where it is one; no block is short.
-pub(crate) fn first_of_no_object<S: Source>(
+pub fn first_of_no_object<S: Source>(
     alloc: Global,
     coded: &CodedSource<'_, S>,
 ) -> Result<Option<Answer>, Unread>
@@ -85,7 +86,7 @@ pub(crate) fn first_of_no_object<S: Source>(
 }
 
 /// The answer to what came, where a block is short, and `None` where none is.
-pub(crate) fn short_verdict<S: Source>(
+pub fn short_verdict<S: Source>(
     alloc: Global,
     coded: &CodedSource<'_, S>,
 ) -> Result<Option<Answer>, Unread>

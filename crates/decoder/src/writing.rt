@@ -1,6 +1,6 @@
 //! An object that is written block by block, so that it is never held.
 ghost use Rattle.std.specs.Prelude.{◌≡◌, ◌<◌, true, false, IfErr, IfOk, OnErr};
-ghost use Rattle.decoder.specs.Decoded.{NoneIsShort};
+ghost use Rattle.decoder.specs.Answered.{NoneIsShort};
 ghost use Rattle.decoder.specs.Sources.{IsUnwrittenOf};
 ghost use Rattle.decoder.specs.Unsolvable.{AreSound, SomeUnsound};
 ghost use Rattle.decoder.specs.Written.{WritesObject, BeginsObject};
@@ -12,7 +12,7 @@ use std::alloc::{AllocError, Global};
 
 /// Why the blocks weren't written.
 #[derive(Clone, Copy)]
-pub(crate) enum Unwritten {
+pub enum Unwritten {
     /// The writer has failed.
     Writer,
     /// Symbols weren't given.
@@ -44,7 +44,7 @@ impl From<AllocError> for Unwritten {
 
 /// Solves the blocks one by one, and writes each before the next, as long as they are of an object.
 /// Answers whether all are. `are_sound` says that this is known.
-pub(crate) fn write_blocks<S: Source, W: Write>(
+pub fn write_blocks<S: Source, W: Write>(
     alloc: Global,
     coded: &CodedSource<'_, S>,
     are_sound: bool,

@@ -12,10 +12,10 @@ use Rattle.poly.specs.Polynomial.{value}
 use Rattle.evaluation.specs.Columns.{IsColumn}
 use Rattle.partition.specs.Fti.{Fti, source_count, source_byte}
 use Rattle.elim.specs.Grid.{Grid, entry, row_product}
-use Rattle.cert.specs.Certificate.{Certificate, unnamed, polynomial}
-use Rattle.cert.specs.CoefficientRows.{AreRowsOf}
+use Rattle.certificate.specs.Certificate.{Certificate, unnamed, polynomial}
+use Rattle.certificate.specs.CoefficientRows.{AreRowsOf}
 use Rattle.cert.specs.Verdict.{GivesAt}
-use Rattle.cert.proofs.Polynomials.{length_polynomial, coefficient_at}
+use Rattle.certificate.proofs.Polynomials.{length_polynomial, coefficient_at}
 use Rattle.block_code.specs.Codes.{IsEncoder}
 use Rattle.block_code.proofs.SourceRows.{row_of, length-row_of, get_or-row_of, bytes-row_of, product_at}
 use Rattle.encoder.specs.AllValues.{IsExtended}

@@ -13,11 +13,11 @@ use Rattle.session.specs.Pieces.{AppendsSome}
 use Rattle.session.proofs.Writes.{then_appends, then_some, front_some}
 use Rattle.reception.specs.declared.scope.Identity.{Identity}
 use Rattle.reception.specs.Symbols.{IsObject}
-use Rattle.cert.specs.Certificate.{IsCertificate, unnamed, head_text}
-use Rattle.cert.specs.CoefficientRows.{AreRowsOf}
+use Rattle.certificate.specs.Certificate.{IsCertificate, unnamed, head_text}
+use Rattle.certificate.specs.CoefficientRows.{AreRowsOf}
 use Rattle.cert.specs.Verdict.{GivesObject, GivesBlock}
-use Rattle.cert.proofs.BlockByBlock.{next_start}
-use Rattle.cert.proofs.Flat.{appends_none}
+use Rattle.certificate.proofs.BlockByBlock.{next_start}
+use Rattle.certificate.proofs.Flat.{appends_none}
 use Rattle.encoder.specs.Certified.{AreFirstRows, BeginsRows, IsCertifiedTo}
 use Rattle.encoder.specs.RowsWritten.{RowsGive, WritesRows, WritesBlock, BeginsBlock}
 use Rattle.encoder.proofs.SessionReadings.{certifies_sent}

@@ -11,7 +11,7 @@ use Rattle.partition.proofs.Laws.{begins_within, start_end, symbols_bounds}
 use Rattle.alc.proofs.Bytes.{AreBytes-append}
 use Rattle.streams.proofs.Fills.{then_consumes}
 use Rattle.reception.specs.Symbols.{IsObject}
-use Rattle.cert.proofs.BlockByBlock.{next_start, nothing_read}
+use Rattle.certificate.proofs.BlockByBlock.{next_start, nothing_read}
 use Rattle.encoder.specs.declared.object.ObjectFault.{ObjectFault}
 use Rattle.encoder.specs.declared.object.ObjectFault.TheVariants.{Length, Io}
 use Rattle.encoder.specs.Rows.{AreSourcesOf}

@@ -11,9 +11,9 @@ use Rattle.partition.proofs.Laws.{start_step, rising_to}
 use Rattle.elim.specs.Grid.{Grid, entry, row_product}
 use Rattle.gf256.specs.Sums.{row_times}
 use Rattle.elim.proofs.RowProducts.{length-row_product}
-use Rattle.cert.specs.Certificate.{Certificate, unnamed, polynomial}
+use Rattle.certificate.specs.Certificate.{Certificate, unnamed, polynomial}
 use Rattle.cert.specs.Verdict.{GivesAt}
-use Rattle.cert.proofs.Polynomials.{length_polynomial, coefficient_at}
+use Rattle.certificate.proofs.Polynomials.{length_polynomial, coefficient_at}
 use Rattle.block_code.specs.Codes.{IsInterpolator}
 use Rattle.block_code.proofs.SourceRows.{row_of, length-row_of, get_or-row_of, bytes-row_of, product_at}
 

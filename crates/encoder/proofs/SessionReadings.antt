@@ -24,10 +24,10 @@ use Rattle.alc.proofs.Writes.{written_packet}
 use Rattle.reception.specs.Symbols.{Symbol, has_arrived, arrived_count, is_full, IsObject, Agrees}
 use Rattle.reception.specs.declared.scope.Identity.{Identity}
 use Rattle.reception.specs.Reception.{ReadAll, counts as reading_counts, counted_from, counted, symbols, is_carrier, Suffices}
-use Rattle.cert.specs.Certificate.{Certificate, IsCertificate, is_for, polynomial, certified_byte}
+use Rattle.certificate.specs.Certificate.{Certificate, IsCertificate, is_for, polynomial, certified_byte}
 use Rattle.cert.specs.Verdict.{GivesObject, IsCertifiedPacket, IsCertifiedReading, AreCertified}
 use Rattle.reception.proofs.Full.{same_source}
-use Rattle.cert.proofs.Polynomials.{forms}
+use Rattle.certificate.proofs.Polynomials.{forms}
 use Rattle.cert.proofs.Promise.{WhereCounted, placed_all}
 use Rattle.cert.proofs.Named.{named_granted}
 use Rattle.partition.specs.declared.order.Order.{Order}

@@ -7,8 +7,8 @@ use Rattle.partition.specs.Fti.{Fti, block_count, start_of}
 use Rattle.alc.specs.Reading.{Reading}
 use Rattle.reception.specs.declared.scope.Identity.{Identity}
 use Rattle.reception.specs.Reception.{ReadAll}
-use Rattle.cert.specs.Certificate.{Certificate, IsCertificate, unnamed, named_as, head_text}
-use Rattle.cert.specs.Certificate.{certificate_text}
+use Rattle.certificate.specs.Certificate.{Certificate, IsCertificate, unnamed, named_as, head_text}
+use Rattle.certificate.specs.Certificate.{certificate_text}
 use Rattle.cert.specs.declared.verdict.Verdict.{Verdict}
 use Rattle.cert.specs.Verdict.{GivesObject, IsCertificateOf, IsVerdict, IsYes, GivesBlock}
 use Rattle.session.specs.Pieces.{AppendsSome}

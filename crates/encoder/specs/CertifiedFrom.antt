@@ -3,7 +3,7 @@ use Rattle.std.specs.Prelude.{◌≡◌, ℕ, List, true, Option, Some}
 use Rattle.partition.specs.Fti.{Fti}
 use Rattle.streams.specs.Changes.{ReaderChange, WriterChange}
 use Rattle.reception.specs.declared.scope.Identity.{Identity}
-use Rattle.cert.specs.Certificate.{head_text}
+use Rattle.certificate.specs.Certificate.{head_text}
 use Rattle.encoder.specs.declared.certifying_from.CertifyFromFault.{CertifyFromFault}
 use Rattle.encoder.specs.declared.certifying_from.CertifyFromFault.TheVariants.{Object, Write}
 use Rattle.encoder.specs.declared.certifying_from.CertifyFromFault.TheVariants.{NoMemory}

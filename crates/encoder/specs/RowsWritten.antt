@@ -3,8 +3,8 @@ use Rattle.std.specs.Prelude.{◌≡◌, ℕ, ◌*◌, List, length, Bool, true,
 use Rattle.std.specs.Io.KnownBytes.{Appends}
 use Rattle.lists.specs.Bytes.{AreBytes}
 use Rattle.partition.specs.Fti.{Fti, source_count}
-use Rattle.cert.specs.Certificate.{unnamed}
-use Rattle.cert.specs.CoefficientRows.{AreRowsOf}
+use Rattle.certificate.specs.Certificate.{unnamed}
+use Rattle.certificate.specs.CoefficientRows.{AreRowsOf}
 use Rattle.cert.specs.Verdict.{GivesBlock}
 use Rattle.session.specs.Pieces.{AppendsSome}
 use Rattle.encoder.specs.declared.certifying_from.CertifyFromFault.{CertifyFromFault}

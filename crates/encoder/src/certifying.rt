@@ -3,7 +3,7 @@ ghost use Rattle.std.specs.Prelude.{◌≡◌, ◌<◌, ◌≤◌, ◌+◌, ◌*
 ghost use Rattle.std.specs.Prelude.{IfErr, OnOk, OnErr, length, slice_index};
 ghost use Rattle.lists.specs.Bytes.{AreBytes};
 ghost use Rattle.partition.specs.Fti.{block_count, source_count, start_of};
-ghost use Rattle.cert.specs.Certificate.{IsIdentity, coefficient_count, unnamed, head_text};
+ghost use Rattle.certificate.specs.Certificate.{IsIdentity, coefficient_count, unnamed, head_text};
 ghost use Rattle.cert.specs.Verdict.{GivesObject, GivesBlock};
 ghost use Rattle.block_code.specs.Codes.{EachBlockHas, IsInterpolator};
 ghost use Rattle.block_code.specs.CodesOf.{IsInterpolatorOf};
@@ -16,7 +16,7 @@ ghost use Rattle.encoder.specs.RowsWritten.{RowsGive, WritesRows, WritesBlock, B
 use crate::by_values::{certify_by_values, room};
 use crate::rows::{block_of, combine};
 use block_code::{BlockCodes, Code, Kind, LEAST_BY_VALUES};
-use cert::{Certificate, write_head};
+use certificate::{Certificate, write_head};
 use lists::are_bytes;
 use partition::Fti;
 use reception::Identity;

@@ -1,6 +1,6 @@
 //! What encoding, certifying and checking give together.
 ghost use Rattle.std.specs.Prelude.{ℕ, List};
-ghost use Rattle.cert.specs.Certificate.{Certificate};
+ghost use Rattle.certificate.specs.Certificate.{Certificate};
 ghost use Rattle.encoder.specs.Certified.{CertifiesSent, ChecksYes};
 
 /// A check says yes to what `encode` wrote of an object, whatever the TSI, the TOI, the order and

@@ -4,9 +4,9 @@ use Rattle.std.proofs.lemmas.Bool.{cases_lt}
 use Rattle.std.proofs.lemmas.Simd.{get_or-chunk}
 use Rattle.partition.specs.Fti.{IsValidFti, encoding_count, source_count}
 use Rattle.partition.proofs.Laws.{source_encoding}
-use Rattle.cert.specs.BlockSymbols.{AreSymbols}
-use Rattle.cert.specs.Certificate.{Certificate, certified_byte}
-use Rattle.cert.specs.Differences.{AreSameBelow, IsFirstDifference}
+use Rattle.certificate.specs.BlockSymbols.{AreSymbols}
+use Rattle.certificate.specs.Certificate.{Certificate, certified_byte}
+use Rattle.certified_symbols.specs.Differences.{AreSameBelow, IsFirstDifference}
 use Rattle.cert.specs.NotGiven.{IsFirstInBlock}
 use Rattle.cert.specs.Verdict.{GivesAt, GivesBlock}
 use Rattle.file_check.specs.Blocks.{AreSourceOf}

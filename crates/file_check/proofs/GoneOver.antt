@@ -14,8 +14,8 @@ use Rattle.alc.specs.Packet.{Packet}
 use Rattle.alc.specs.Computed.{read_of}
 use Rattle.alc.specs.Reading.{Reading}
 use Rattle.reception.specs.Reception.{InRange, look, symbol_of}
-use Rattle.cert.specs.BlockSymbols.{AreSymbols}
-use Rattle.cert.specs.Certificate.{Certificate, IsCertificate}
+use Rattle.certificate.specs.BlockSymbols.{AreSymbols}
+use Rattle.certificate.specs.Certificate.{Certificate, IsCertificate}
 use Rattle.cert.specs.Tallying.{IsPacketOf, SaysNothing, Tallied, by_certificate, nothing, reading_at, tallied_of}
 use Rattle.cert.proofs.DatagramSteps.{fti_holds}
 use Rattle.cert.proofs.Members.{member_is}

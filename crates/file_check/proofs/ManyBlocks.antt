@@ -2,7 +2,7 @@
 use Rattle.std.proofs.Common.{◌≡◌, ℕ, ◌+◌, ◌<◌, List, [], ◌∷◌, Option, None, length, sym, inl, inr, arith, below_more}
 use Rattle.losses.specs.Losses.{IsBefore}
 use Rattle.partition.specs.Fti.{block_count, source_count}
-use Rattle.cert.specs.Certificate.{Certificate}
+use Rattle.certificate.specs.Certificate.{Certificate}
 use Rattle.cert.specs.NotGiven.{IsFirstInBlock}
 use Rattle.cert.specs.Tallying.{Tallied}
 use Rattle.cert.specs.Verdict.{GivesAt, IsFirstNotGiven}

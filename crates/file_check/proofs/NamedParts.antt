@@ -1,7 +1,7 @@
 -- Why there is no verdict by the certificate of a text.
 use Rattle.std.proofs.Common.{List, ℕ}
 use Rattle.reception.specs.declared.scope.Identity.{Identity}
-use Rattle.cert.specs.Certificate.{Certificate}
+use Rattle.certificate.specs.Certificate.{Certificate}
 use Rattle.file_check.specs.Files.{Reliable, IsFilesFault, IsNoVerdict, IsTextOf}
 use Rattle.file_check.specs.declared.checking.FilesFault.{FilesFault}
 use Rattle.file_check.specs.declared.checking.FilesFault.TheVariants.{Frame, Session, Object, Certificate as NoCertificate, NoMemory}

@@ -21,11 +21,11 @@ use Rattle.alc.specs.declared.reading.Packet.{Packet as ReadPacket}
 use Rattle.lists.proofs.Lists.{both}
 use Rattle.reception.proofs.Looks.{fti_after, faultless_look, length_look}
 use Rattle.reception.specs.Step.{IsLook, looked}
-use Rattle.cert.specs.BlockSymbols.{AreSymbols}
-use Rattle.cert.specs.Certificate.{Certificate, certified_byte}
-use Rattle.cert.specs.CertifiedSymbol.{IsCertifiedSymbol}
-use Rattle.cert.specs.Columns.{IsFirstWrong}
-use Rattle.cert.specs.Differences.{AreSameBelow, IsFirstDifference}
+use Rattle.certificate.specs.BlockSymbols.{AreSymbols}
+use Rattle.certificate.specs.Certificate.{Certificate, certified_byte}
+use Rattle.certified_symbols.specs.CertifiedSymbol.{IsCertifiedSymbol}
+use Rattle.certified_symbols.specs.FirstWrong.{IsFirstWrong}
+use Rattle.certified_symbols.specs.Differences.{AreSameBelow, IsFirstDifference}
 use Rattle.cert.specs.Tallying.{by_certificate}
 use Rattle.cert.proofs.Columns.{is_uncertified}
 use Rattle.cert.proofs.Knowing.{look_known}

@@ -11,7 +11,7 @@ use Rattle.reception.specs.declared.scope.Identity.{Identity}
 use Rattle.reception.specs.Reception.{counted, symbols}
 use Rattle.reception.specs.Symbols.{IsObject}
 use Rattle.reception.specs.Walks.{readings_of}
-use Rattle.cert.specs.Certificate.{Certificate, IsCertificate, is_for}
+use Rattle.certificate.specs.Certificate.{Certificate, IsCertificate, is_for}
 use Rattle.cert.specs.Scan.{IsFirstShortGroup, IsNoReport, IsShortWhereThin}
 use Rattle.cert.specs.Twins.{IsTwinOfSession, esis_of}
 use Rattle.cert.specs.Verdict.{GivesObject}

@@ -14,7 +14,7 @@ use Rattle.reception.specs.declared.scope.PlaceFault.{PlaceFault}
 use Rattle.reception.specs.Reception.{Faulty}
 use Rattle.reception.specs.Symbols.{IsObject}
 use Rattle.reception.specs.Walks.{readings_of}
-use Rattle.cert.specs.Certificate.{Certificate, is_for}
+use Rattle.certificate.specs.Certificate.{Certificate, is_for}
 use Rattle.cert.specs.FromReader.{IsCheckedFrom, IsRefusedBehind}
 use Rattle.cert.specs.NotBegun.{IsAgainstObject}
 use Rattle.cert.specs.NotGiven.{IsNotGiven}

@@ -7,7 +7,7 @@ use Rattle.partition.specs.Fti.{Fti, source_count, source_byte}
 use Rattle.alc.specs.Packet.{Packet}
 use Rattle.reception.specs.Reception.{InRange, look, symbol_of}
 use Rattle.reception.specs.declared.scope.Scope.{Scope}
-use Rattle.cert.specs.Certificate.{Certificate}
+use Rattle.certificate.specs.Certificate.{Certificate}
 use Rattle.cert.specs.Tallying.{SaysNothing, Tallied, by_certificate, reading_at}
 use Rattle.file_check.specs.declared.blocks.Wrong.{Wrong}
 

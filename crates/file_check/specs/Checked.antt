@@ -4,7 +4,7 @@ use Rattle.std.specs.Io.KnownBytes.{Consumes, IsAtEnd}
 use Rattle.partition.specs.Fti.{Fti}
 use Rattle.session.specs.Frames.{frames, AreDatagrams}
 use Rattle.reception.specs.declared.scope.Identity.{Identity}
-use Rattle.cert.specs.Certificate.{Certificate}
+use Rattle.certificate.specs.Certificate.{Certificate}
 use Rattle.cert.specs.FromReader.{IsCheckedFrom}
 use Rattle.cert.specs.NotGiven.{IsFirstInBlock, IsNotGiven}
 use Rattle.cert.specs.Tallying.{IsTally, by_certificate, nothing}

@@ -1,6 +1,6 @@
 -- What comes of comparing blocks, where the files' bytes are told.
 use Rattle.std.specs.Prelude.{◌<◌, ◌≤◌, ℕ, List, Option, IfSome, length}
-use Rattle.cert.specs.Certificate.{Certificate}
+use Rattle.certificate.specs.Certificate.{Certificate}
 use Rattle.cert.specs.Tallying.{Tallied}
 use Rattle.cert.specs.Verdict.{GivesBlock}
 use Rattle.file_check.specs.Blocks.{AreSaid, IsWrong, limit_of}

@@ -4,13 +4,13 @@ use Rattle.partition.specs.Fti.{Fti, IsValidFti}
 use Rattle.session.specs.Frames.{IsReadFault}
 use Rattle.session.specs.declared.frame.FrameFault.TheVariants.{Io}
 use Rattle.reception.specs.declared.scope.Identity.{Identity}
-use Rattle.cert.specs.Certificate.{Certificate, IsCertificate, IsCertFault, certificate_text}
-use Rattle.cert.specs.InFile.{IsLost}
+use Rattle.certificate.specs.Certificate.{Certificate, IsCertificate, IsCertFault, certificate_text}
+use Rattle.certificate.specs.InFile.{IsLost}
 use Rattle.cert.specs.FromReader.{IsCheckedFrom, IsRefusedBehind}
 use Rattle.cert.specs.Report.{IsReport, OnYes}
 use Rattle.cert.specs.Surveying.{IsSurvey, IsSurveyedFrom, OnYesWith}
-use Rattle.cert.specs.declared.certificate.CertFault.{CertFault}
-use Rattle.cert.specs.declared.certificate.CertFault.TheVariants.{Io as CertificateIo}
+use Rattle.certificate.specs.declared.certificate.CertFault.{CertFault}
+use Rattle.certificate.specs.declared.certificate.CertFault.TheVariants.{Io as CertificateIo}
 use Rattle.cert.specs.declared.verdict.Survey.{Survey}
 use Rattle.cert.specs.declared.verdict.Verdict.{Verdict}
 use Rattle.file_check.specs.declared.checking.FilesFault.{FilesFault}

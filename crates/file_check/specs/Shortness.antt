@@ -3,7 +3,7 @@ use Rattle.std.specs.Prelude.{◌≡◌, ◌<◌, ℕ, List, length, Option, Som
 use Rattle.partition.specs.Fti.{block_count, source_count}
 use Rattle.session.specs.Frames.{IsFramed}
 use Rattle.reception.specs.declared.scope.Identity.{Identity}
-use Rattle.cert.specs.Certificate.{Certificate}
+use Rattle.certificate.specs.Certificate.{Certificate}
 use Rattle.cert.specs.FromReader.{IsCheckedFrom}
 use Rattle.cert.specs.Twins.{IsTwin, IsTwinOfSession, different_esis}
 use Rattle.cert.specs.declared.verdict.Reason.TheVariants.{Thin}

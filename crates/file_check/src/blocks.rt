@@ -1,21 +1,15 @@
 //! One block of a check: the object's bytes there beside the certificate's symbols.
-ghost use Rattle.std.specs.Prelude.{◌≡◌, ◌<◌, ◌≤◌, ◌+◌, ◌*◌, ◌⊎◌, ℕ, List, Some, Ok, None, false};
-ghost use Rattle.std.specs.Prelude.{length, IfOk, IfSome, IsNone, OnOk, OnErr};
-ghost use Rattle.partition.specs.Fti.{Fti as FtiValue, block_count, source_count, encoding_count};
-ghost use Rattle.session.specs.Extents.{datagram_in};
-ghost use Rattle.alc.specs.Computed.{read_of};
-ghost use Rattle.alc.specs.Packet.{Packet as PacketValue};
-ghost use Rattle.reception.specs.Reception.{InRange, look, symbol_of};
-ghost use Rattle.cert.specs.BlockSymbols.{AreSymbols};
-ghost use Rattle.cert.specs.Certificate.{Certificate as CertificateValue, IsCertificate};
-ghost use Rattle.cert.specs.CoefficientRows.{AreRowsOf};
-ghost use Rattle.cert.specs.InFile.{IsLost};
+ghost use Rattle.std.specs.Prelude.{◌≡◌, ◌<◌, ◌≤◌, ◌+◌, ◌*◌, ℕ, List, Some, Ok, None, false};
+ghost use Rattle.std.specs.Prelude.{length, IfSome, IsNone, OnOk, OnErr};
+ghost use Rattle.partition.specs.Fti.{block_count, source_count, encoding_count};
+ghost use Rattle.certificate.specs.BlockSymbols.{AreSymbols};
+ghost use Rattle.certificate.specs.Certificate.{Certificate as CertificateValue, IsCertificate};
+ghost use Rattle.certificate.specs.CoefficientRows.{AreRowsOf};
 ghost use Rattle.cert.specs.NotGiven.{IsFirstInBlock};
-ghost use Rattle.cert.specs.Tallying.{IsPacketOf, by_certificate};
 ghost use Rattle.cert.specs.Verdict.{GivesBlock};
 ghost use Rattle.file_check.specs.Blocks.{AreSourceOf};
 
-use cert::first_difference;
+use certified_symbols::first_difference;
 use evaluation::evaluate;
 use partition::Fti;
 use reception::{Look, Scope};

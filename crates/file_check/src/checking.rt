@@ -3,11 +3,11 @@
 ghost use Rattle.std.specs.Prelude.{◌≡◌, ◌<◌, ◌*◌, ℕ, List, Option, Some, true, false, length};
 ghost use Rattle.std.specs.Prelude.{OnOk, IfOk, IfErr, IfSome, IsNone};
 ghost use Rattle.losses.specs.Groups.{groups_of};
-ghost use Rattle.partition.specs.Fti.{Fti as FtiValue, block_count, source_count, encoding_count};
+ghost use Rattle.partition.specs.Fti.{block_count, source_count, encoding_count};
 ghost use Rattle.reception.specs.Symbols.{IsObject};
-ghost use Rattle.cert.specs.Certificate.{is_for, named_in};
+ghost use Rattle.certificate.specs.Certificate.{is_for, named_in};
 ghost use Rattle.cert.specs.FromReader.{IsCheckedFrom};
-ghost use Rattle.cert.specs.InFile.{IsUnnamed};
+ghost use Rattle.certificate.specs.InFile.{IsUnnamed};
 ghost use Rattle.cert.specs.Surveying.{IsSurveyedFrom};
 ghost use Rattle.cert.specs.Tallying.{tallied_of};
 ghost use Rattle.cert.specs.Verdict.{GivesObject};
@@ -26,7 +26,8 @@ ghost use Rattle.file_check.specs.Shortness.{IsShortFound, IsTwinnedIn, MakesTwi
 use crate::blocks::{Wrong, first_not_given, make_symbols, read_source};
 use crate::index::{End, Index, index_session};
 use crate::members::{Made, ROOM, first_wrong};
-use cert::{CertFault, NamedCertificate, NoReport, Reason, Survey, Tally, Verdict, reason_of};
+use cert::{NoReport, Reason, Survey, Tally, Verdict, reason_of};
+use certificate::{CertFault, NamedCertificate};
 use partition::Fti;
 use reception::Identity;
 use session::FrameFault;

@@ -7,7 +7,7 @@ use Rattle.decoder.specs.Answers.{answer_value}
 use Rattle.decoder.specs.Gathering.{IsNoObject}
 use Rattle.decoder.specs.declared.answer.Answer.{Answer}
 use Rattle.decoder.specs.declared.answer.Answer.TheVariants.{Empty, Fault, Missing, Object}
-use Rattle.decoder.specs.declared.answer.DecodeFault.TheVariants.{Packet, OtherFti, SymbolLength, Range, Clash, NotCode}
+use Rattle.block_recovery.specs.declared.fault.DecodeFault.TheVariants.{Packet, OtherFti, SymbolLength, Range, Clash, NotCode}
 use Rattle.request.specs.declared.requests.DecodeRequest.{DecodeRequest}
 use Rattle.request.specs.declared.requests.Request.TheVariants.{Decode}
 use Rattle.host.specs.World.{Files, IsFree, World, Replaces, one_more}

@@ -9,18 +9,18 @@ use Rattle.reception.specs.Answer as value
 use Rattle.reception.specs.Answer.{IsAnswer}
 use Rattle.decoder.specs.Answers.{answer_value}
 use Rattle.decoder.specs.Gathering.{IsNoObject, IsWrittenOf}
-use Rattle.decoder.specs.FileFaults.{IsFrameFault, IsNotAgain}
+use Rattle.file_decoder.specs.FileFaults.{IsFrameFault, IsNotAgain}
 use Rattle.decoder.specs.declared.source.Unread.{Unread}
 use Rattle.decoder.specs.declared.source.Unread.TheVariants as unread
 use Rattle.reception.specs.declared.scope.Identity.{Identity}
 use Rattle.std.specs.Prelude.{replicate}
 use Rattle.std.proofs.lemmas.List.{length-replicate}
-use Rattle.decoder.specs.PlacesOf.{ArePlacedOf}
-use Rattle.decoder.specs.GatheringIn.{IsFileFault, IsIndexedIn}
-use Rattle.decoder.specs.declared.file_gathering.GatheredFile.TheVariants as gathered
+use Rattle.file_decoder.specs.PlacesOf.{ArePlacedOf}
+use Rattle.file_decoder.specs.GatheringIn.{IsFileFault, IsIndexedIn}
+use Rattle.file_decoder.specs.declared.file_gathering.GatheredFile.TheVariants as gathered
 use Rattle.reception.specs.Readings.{readings_of}
-use Rattle.decoder.specs.ReadAgain.{fault_of}
-use Rattle.decoder.specs.declared.file_gathering.FileSymbols.{FileSymbols}
+use Rattle.file_decoder.specs.ReadAgain.{fault_of}
+use Rattle.file_decoder.specs.declared.file_gathering.FileSymbols.{FileSymbols}
 use Rattle.commands.proofs.Stopping.{kept_whole}
 use Rattle.decoder.specs.declared.answer.Answer.{Answer}
 use Rattle.request.specs.declared.requests.DecodeRequest.{DecodeRequest}

@@ -19,7 +19,7 @@ use Rattle.streams.specs.declared.io.Write.{Ghosts}
 use Rattle.decoder.specs.Answers.{answer_value}
 use Rattle.decoder.specs.declared.answer.Answer.{Answer}
 use Rattle.decoder.specs.declared.answer.Answer.TheVariants.{Empty, Fault as NoObject, Missing, Object}
-use Rattle.decoder.specs.declared.answer.DecodeFault.{DecodeFault}
+use Rattle.block_recovery.specs.declared.fault.DecodeFault.{DecodeFault}
 use Rattle.receiver.specs.Begun.{IsCarrierOf}
 use Rattle.receiver.specs.Filed.{Stands, IsLack, has_output}
 use Rattle.receiver.specs.Stands.{IsSoundIn}

@@ -2,13 +2,14 @@
 ghost use Rattle.std.specs.Prelude.{◌≡◌, ◌≤◌, ◌++◌, ℕ, Bool, List, Option, Some, true, IfOk};
 ghost use Rattle.std.specs.Prelude.{IfErr, IfSome, IsNone, OnOk};
 ghost use Rattle.host.specs.World.{World, GivesFile};
-ghost use Rattle.decoder.specs.GatheringIn.{IsIndexedIn, IsFileFault};
-ghost use Rattle.decoder.specs.PlacesOf.{ArePlacedIn, ArePlacedOf};
-ghost use Rattle.decoder.specs.declared.file_gathering.GatheredFile.TheVariants.{Symbols};
+ghost use Rattle.file_decoder.specs.GatheringIn.{IsIndexedIn, IsFileFault};
+ghost use Rattle.file_decoder.specs.PlacesOf.{ArePlacedIn, ArePlacedOf};
+ghost use Rattle.file_decoder.specs.declared.file_gathering.GatheredFile.TheVariants.{Symbols};
 ghost use Rattle.commands.specs.Inputs.{ASession, IsUnread};
 ghost use Rattle.reception.specs.declared.scope.Identity.{Identity as IdentityValue};
 ghost use Rattle.request.specs.declared.requests.Request.TheVariants.{Decode};
-ghost use Rattle.decoder.specs.Answers.{answer_value, fault_value};
+ghost use Rattle.decoder.specs.Answers.{answer_value};
+ghost use Rattle.block_recovery.specs.Faults.{fault_value};
 ghost use Rattle.decoder.specs.Gathering.{IsNoObject, IsWrittenOf};
 ghost use Rattle.reception.specs.Answer.{IsAnswer};
 ghost use Rattle.decoder.specs.SymbolsOf.{AreSymbolsOf, AreGathered};
@@ -18,13 +19,12 @@ ghost use Rattle.receive_commands.specs.Decoding.{IsToldOf, GivesSymbols, IsWrit
 ghost use Rattle.receive_commands.specs.Decoding.{IsWriteBrokenFrom};
 ghost use Rattle.commands.specs.Lines.{line_of, answer_text};
 
+use block_recovery::DecodeFault;
 use commands::{
     Done, Fault, Text, Told, Unwritten, commit, create, open, put_packet_fault, session_in,
 };
-use decoder::{
-    Answer, DecodeFault, FileFault, FileSymbols, FileWriteFault, Gathered, GatheredFile,
-    ObjectSymbols, WriteFault, gather, index_file,
-};
+use decoder::{Answer, Gathered, ObjectSymbols, WriteFault, gather};
+use file_decoder::{FileFault, FileSymbols, FileWriteFault, GatheredFile, index_file};
 use host::Host;
 use request::DecodeRequest;
 use session::Write;

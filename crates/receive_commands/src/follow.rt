@@ -3,7 +3,6 @@ ghost use Rattle.std.specs.Prelude.{◌≡◌, ◌≢◌, ◌≤◌, ◌++◌, �
 ghost use Rattle.std.specs.Prelude.{false, length, IfOk, IfErr, OnOk, OnErr};
 ghost use Rattle.std.specs.Io.KnownBytes.{Consumes, IsAtEnd};
 ghost use Rattle.session.specs.Frames.{frame, most_bytes};
-ghost use Rattle.decoder.specs.Answers.{answer_value};
 ghost use Rattle.receiver.specs.Begun.{Begins};
 ghost use Rattle.receiver.specs.Filed.{Stands, has_output};
 ghost use Rattle.receiver.specs.Receiving.{LeaveNoneShort};
@@ -20,15 +19,16 @@ ghost use Rattle.receive_commands.specs.Listening.{IsUnheard, IsHearing, IsEndin
 ghost use Rattle.receive_commands.specs.Listening.{IsWritten};
 ghost use Rattle.receive_commands.specs.Listening.{stopped_by};
 ghost use Rattle.commands.specs.Outcomes.{IsDone};
-ghost use Rattle.commands.specs.declared.fault.Fault.TheVariants.{File, Frame, Memory};
+ghost use Rattle.commands.specs.declared.fault.Fault.TheVariants.{File, Memory};
 ghost use Rattle.commands.specs.declared.output.Unwritten.TheVariants.{Writing};
 
 use crate::decode::told_of;
+use block_recovery::DecodeFault;
 use commands::{
     Fault, Stop, Text, Unwritten, commit, create, next_datagram, open, print_count,
     put_packet_fault,
 };
-use decoder::{Answer, DecodeFault};
+use decoder::Answer;
 use host::Host;
 use receiver::{FeedFault, FileReceiver, Progress, Unfed};
 use request::FollowRequest;

@@ -9,8 +9,8 @@ use Rattle.std.proofs.lemmas.Nat.{mul-lt}
 use Rattle.lists.specs.Below.{below}
 use Rattle.lists.proofs.Lists.{at_old, at_end}
 use Rattle.partition.specs.Fti.{Fti, source_count, encoding_count}
-use Rattle.decoder.specs.Arrivals.{with_esi}
-use Rattle.decoder.proofs.Kept.{with_here, with_other, count_more, count_none}
+use Rattle.block_recovery.specs.Arrivals.{with_esi}
+use Rattle.block_recovery.proofs.Kept.{with_here, with_other, count_more, count_none}
 use Rattle.receiver.specs.Stored.{is_among, symbol_in, AreSymbols, IsOf, IsPending, IsStored}
 use Rattle.receiver.proofs.Pending.{among_place}
 

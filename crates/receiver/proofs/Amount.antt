@@ -16,7 +16,7 @@ use Rattle.receiver.specs.Receiving.{stored_count}
 use Rattle.receiver.specs.Stands.{StandsWith}
 use Rattle.receiver.specs.declared.receiving.Receiving.{Receiving}
 use Rattle.receiver.specs.declared.store.Store.{Store}
-use Rattle.decoder.proofs.Counts.{held_is}
+use Rattle.block_recovery.proofs.Counts.{held_is}
 use Rattle.receiver.proofs.Taken.{no_fti, keeps, all_within}
 
 module _ (r : Receiving) (told : Fti → Option (ℕ → List ℕ)) (ds : List (List ℕ)) (rs : List Reading) (stands : StandsWith r told ds) (read : ReadAll ds rs) (block n : ℕ) where

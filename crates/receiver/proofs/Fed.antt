@@ -21,9 +21,9 @@ use Rattle.reception.specs.declared.scope.Look.TheVariants as look_at
 use Rattle.reception.specs.declared.scope.PlaceFault.{PlaceFault}
 use Rattle.reception.specs.declared.scope.Scope.{Scope}
 use Rattle.reception.specs.Symbols.{Symbol, is_full, arrived_count, Solvable, IsFirstUnsolvable}
-use Rattle.decoder.specs.Answers.{fault_value}
-use Rattle.decoder.specs.declared.answer.DecodeFault.{DecodeFault}
-use Rattle.decoder.specs.declared.answer.DecodeFault.TheVariants as fault
+use Rattle.block_recovery.specs.Faults.{fault_value}
+use Rattle.block_recovery.specs.declared.fault.DecodeFault.{DecodeFault}
+use Rattle.block_recovery.specs.declared.fault.DecodeFault.TheVariants as fault
 use Rattle.std.specs.Option.{option_or}
 use Rattle.reception.specs.Reception.{Wrong, ReadAll, Faulty, Judged, Other, Early, asked, counts, is_of_identity, learned, carried, symbol_of, counted, symbols, look_by, look as look_of}
 use Rattle.reception.specs.Nothing.{HasNoCarrier}
@@ -38,14 +38,14 @@ use Rattle.reception.proofs.Looks.{faultless_look, fti_after}
 use Rattle.reception.proofs.Walk.{identity_stays}
 use Rattle.reception.proofs.Walking.{Walked, came_before, one_behind, stops, goes_on, ends, came_all, symbols_passed, passed_counts, passed_scope, is_early}
 use Rattle.reception.proofs.Within.{within}
-use Rattle.decoder.specs.Columns.{ColumnExplained}
-use Rattle.decoder.specs.Decoded.{IsEnoughAt}
-use Rattle.decoder.specs.Arrivals.{with_symbol}
+use Rattle.block_recovery.specs.Columns.{ColumnExplained}
+use Rattle.block_recovery.specs.Decoded.{IsEnoughAt}
+use Rattle.block_recovery.specs.Arrivals.{with_symbol}
 use Rattle.receiver.specs.Holds.{HoldsIn, kept_of, has_solved, solved_count}
 use Rattle.receiver.specs.Putting.{MayStand, IsClash, IsNoCode, IsPutFault, UnlessFailed}
 use Rattle.receiver.specs.declared.put_fault.PutFault.{PutFault}
 use Rattle.receiver.specs.declared.put_fault.PutFault.TheVariants as put_fault
-use Rattle.decoder.specs.Received.{IsIndex, AreReceived}
+use Rattle.block_recovery.specs.Received.{IsIndex, AreReceived}
 use Rattle.receiver.specs.Stored.{IsStored, is_solved}
 use Rattle.receiver.specs.Taking.{AllSolved}
 use Rattle.receiver.specs.Stands.{StandsWith, Keeps, IsSoundIn}
@@ -53,15 +53,15 @@ use Rattle.receiver.specs.Fed.{HoldsFor, put_refusal}
 use Rattle.receiver.specs.Receiving.{LeaveNoneShort, IfRefused, IsUnfedOf, with_datagram, ComesEarly}
 use Rattle.receiver.specs.declared.receiving.Receiving.{Receiving}
 use Rattle.receiver.specs.declared.store.Store.{Store}
-use Rattle.decoder.proofs.Counts.{held_is, one_more_held, none_more_held}
+use Rattle.block_recovery.proofs.Counts.{held_is, one_more_held, none_more_held}
 use Rattle.receiver.proofs.Holding.{with_own, with_apart}
-use Rattle.decoder.proofs.Index.{pointwise_same, clash_none, clash_some}
-use Rattle.decoder.proofs.Receiving.{Scanned, empty_index, clashed, no_clash as unclashed_judge, receives, received}
+use Rattle.block_recovery.proofs.Index.{pointwise_same, clash_none, clash_some}
+use Rattle.block_recovery.proofs.Receiving.{Scanned, empty_index, clashed, no_clash as unclashed_judge, receives, received}
 use Rattle.decoder.proofs.Solving.{solvable_from, solvable_gives}
 use Rattle.receiver.proofs.Among.{stored_none}
 use Rattle.receiver.proofs.Pending.{kept_count}
 use Rattle.receiver.proofs.Taken.{full_explained, no_fti, keeps, all_within, arrived_is, none_short, here_full, full_solvable}
-use Rattle.decoder.proofs.Those.{few_pass}
+use Rattle.block_recovery.proofs.Those.{few_pass}
 use Rattle.std.specs.Str.{bytes_eq as same}
 
 -- whether a fault is told that is seen before the symbol

@@ -5,10 +5,10 @@ use Rattle.std.proofs.Math.Path.{fun_ext}
 use Rattle.std.proofs.lemmas.Bool.{cases_Bool, cases_eq, and_parts, eqb-true, eq-eqb, ne_eqb}
 use Rattle.lists.specs.Below.{below}
 use Rattle.partition.specs.Fti.{Fti, block_count, encoding_count}
-use Rattle.decoder.specs.Decoded.{AreWithin}
-use Rattle.decoder.specs.Arrivals.{with_esi, with_symbol}
-use Rattle.decoder.proofs.Kept.{count_more, count_same}
-use Rattle.decoder.proofs.Those.{few_pass}
+use Rattle.block_recovery.specs.Decoded.{AreWithin}
+use Rattle.block_recovery.specs.Arrivals.{with_esi, with_symbol}
+use Rattle.block_recovery.proofs.Kept.{count_more, count_same}
+use Rattle.block_recovery.proofs.Those.{few_pass}
 use Rattle.receiver.specs.Bytes.{Becomes}
 use Rattle.receiver.specs.Holds.{Holds, HoldsIn, IsSound, kept_of, has_solved, solved_count}
 use Rattle.alc.specs.declared.reading.Packet.{Packet}

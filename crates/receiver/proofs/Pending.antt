@@ -4,9 +4,9 @@ use Rattle.std.proofs.Common.{◌≡◌, ◌∙◌, ℕ, suc, ◌<◌, ◌≤◌
 use Rattle.std.proofs.lemmas.Bool.{cases_Bool, eqb-true}
 use Rattle.lists.specs.Below.{below}
 use Rattle.partition.specs.Fti.{Fti, block_count, source_count, encoding_count}
-use Rattle.decoder.specs.Decoded.{AreWithin}
+use Rattle.block_recovery.specs.Decoded.{AreWithin}
 use Rattle.receiver.specs.Stored.{is_among, AreSymbols, IsPending, IsSolved, IsStored}
-use Rattle.decoder.proofs.Kept.{count_none, count_same}
+use Rattle.block_recovery.proofs.Kept.{count_none, count_same}
 
 -- the place of an ESI that is among these
 pub among_place : (esis : List ℕ) (j : ℕ) → is_among esis j ≡ true → (i : ℕ) × (i < length esis) × (slice_index esis i ≡ j)

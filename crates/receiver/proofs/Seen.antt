@@ -3,11 +3,11 @@ use Rattle.std.specs.Prelude.{is_some, filter, drop}
 use Rattle.std.proofs.Common.{◌≡◌, ℕ, ◌+◌, ◌*◌, ◌<◌, ◌≤◌, true, false, List, [], ◌∷◌, ◌++◌, Option, Some, None, length, length-append, take, refl, sym, ap, subst, ◌∙◌, inl, inr, arith}
 use Rattle.lists.specs.Below.{below}
 use Rattle.partition.specs.Fti.{Fti, source_count, encoding_count}
-use Rattle.decoder.specs.Decoded.{IsEnoughAt, AreRows}
-use Rattle.decoder.specs.Giving.{GivesSymbol}
-use Rattle.decoder.specs.Arrivals.{with_esi}
-use Rattle.decoder.proofs.GivenSymbols.{gives_one, gives_arrived, rows_with, unexplained_with}
-use Rattle.decoder.proofs.Kept.{with_here, with_other, with_same, count_more}
+use Rattle.block_recovery.specs.Decoded.{IsEnoughAt, AreRows}
+use Rattle.block_recovery.specs.Giving.{GivesSymbol}
+use Rattle.block_recovery.specs.Arrivals.{with_esi}
+use Rattle.block_recovery.proofs.GivenSymbols.{gives_one, gives_arrived, rows_with, unexplained_with}
+use Rattle.block_recovery.proofs.Kept.{with_here, with_other, with_same, count_more}
 use Rattle.receiver.specs.Putting.{MayStand, IsClash, IsNoCode}
 use Rattle.receiver.specs.Stored.{is_among, IsSolved}
 use Rattle.receiver.proofs.Among.{among_with, of_more}

@@ -9,10 +9,10 @@ use Rattle.std.proofs.lemmas.Bool.{cases_Bool, cases_lt, eq-eqb, ne_eqb, or_left
 use Rattle.std.proofs.lemmas.List.{get_or_past}
 use Rattle.lists.specs.Below.{below}
 use Rattle.partition.specs.Fti.{Fti, source_count, encoding_count}
-use Rattle.decoder.specs.Arrivals.{with_esi}
-use Rattle.decoder.specs.Blocks.{bytes_of_esi}
-use Rattle.decoder.specs.Decoded.{IsEnoughAt, IsUnexplained, AreRows}
-use Rattle.decoder.proofs.Kept.{with_other, count_more, count_same}
+use Rattle.block_recovery.specs.Arrivals.{with_esi}
+use Rattle.block_recovery.specs.Blocks.{bytes_of_esi}
+use Rattle.block_recovery.specs.Decoded.{IsEnoughAt, IsUnexplained, AreRows}
+use Rattle.block_recovery.proofs.Kept.{with_other, count_more, count_same}
 use Rattle.receiver.specs.Putting.{IsNoCode}
 use Rattle.receiver.specs.Stored.{is_among, AreSymbols, IsOf, IsPending, IsSolved}
 use Rattle.receiver.proofs.Among.{among_with, of_more, symbols_same}

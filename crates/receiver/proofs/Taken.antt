@@ -19,20 +19,21 @@ use Rattle.reception.specs.Answer.{Empty, Missing, Object, IsAnswer, clash, rece
 use Rattle.reception.specs.Answer as value
 use Rattle.reception.proofs.OneAnswer.{one_answer, same_readings}
 use Rattle.reception.proofs.Within.{within}
-use Rattle.decoder.specs.Columns.{ColumnExplained}
-use Rattle.decoder.specs.Decoded.{IsEnoughAt, Answers, IsShort}
-use Rattle.decoder.specs.Received.{IsIndex, AreReceived}
+use Rattle.block_recovery.specs.Columns.{ColumnExplained}
+use Rattle.block_recovery.specs.Decoded.{IsEnoughAt}
+use Rattle.decoder.specs.Answered.{Answers, IsShort}
+use Rattle.block_recovery.specs.Received.{IsIndex, AreReceived}
 use Rattle.receiver.specs.Stored.{IsSolved, IsStored, is_solved}
 use Rattle.receiver.specs.Holds.{Holds, kept_of, has_solved}
 use Rattle.receiver.specs.Stands.{StandsWith, Keeps, HoldsSymbols}
 use Rattle.receiver.specs.Receiving.{LeaveNoneShort}
 use Rattle.receiver.specs.Taking.{IsShortBlock, AllSolved}
 use Rattle.receiver.specs.Parts.{part_of, object_below, object_in}
-use Rattle.decoder.specs.declared.counting.Short.{Short}
+use Rattle.decoder.specs.declared.answer.Short.{Short}
 use Rattle.receiver.specs.declared.receiving.Receiving.{Receiving}
 use Rattle.receiver.specs.declared.store.Store.{Store}
 use Rattle.decoder.proofs.Answering.{answered}
-use Rattle.decoder.proofs.Counts.{held_is}
+use Rattle.block_recovery.proofs.Counts.{held_is}
 use Rattle.decoder.proofs.ObjectSoFar.{SoFar, nothing_yet, one_more_block, object_answers}
 use Rattle.decoder.proofs.Solving.{solvable_from}
 use Rattle.decoder.proofs.Unsound.{rows_explain}

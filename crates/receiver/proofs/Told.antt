@@ -4,7 +4,7 @@ use Rattle.std.proofs.Math.Seq.{take-append_seam}
 use Rattle.std.specs.Prelude.{eqb, Bool}
 use lib.Pointwise.{pointwise}
 use Rattle.alc.proofs.Chosen.{same_self}
-use Rattle.decoder.proofs.Index.{pointwise_same}
+use Rattle.block_recovery.proofs.Index.{pointwise_same}
 use Rattle.receiver.specs.Putting.{UnlessFailed}
 use Rattle.receiver.specs.declared.put_fault.PutFault.{PutFault}
 use Rattle.receiver.specs.declared.put_fault.PutFault.TheVariants as put

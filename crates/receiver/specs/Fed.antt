@@ -2,10 +2,10 @@
 use Rattle.std.specs.Prelude.{◌≡◌, ℕ, Bool, true, List, Option, Some, None, is_some, Result}
 use Rattle.partition.specs.Fti.{Fti}
 use Rattle.alc.specs.declared.reading.Packet.{Packet}
-use Rattle.decoder.specs.Arrivals.{with_symbol}
+use Rattle.block_recovery.specs.Arrivals.{with_symbol}
 use Rattle.receiver.specs.Holds.{HoldsIn}
 use Rattle.receiver.specs.Putting.{MayStand, IsPutFault, Outcome}
-use Rattle.decoder.specs.declared.answer.DecodeFault.TheVariants as fault
+use Rattle.block_recovery.specs.declared.fault.DecodeFault.TheVariants as fault
 use Rattle.receiver.specs.declared.put_fault.PutFault.{PutFault}
 use Rattle.receiver.specs.declared.put_fault.PutFault.TheVariants as put
 use Rattle.receiver.specs.declared.store.Store.{Store}

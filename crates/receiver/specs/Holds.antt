@@ -5,8 +5,8 @@ use Rattle.lists.specs.Below.{below}
 use Rattle.partition.specs.Fti.{Fti, block_count}
 use Rattle.block_code.specs.Codes.{EachBlockHas}
 use Rattle.block_code.specs.CodesOf.{IsCodeOf}
-use Rattle.decoder.specs.Decoded.{AreWithin}
-use Rattle.decoder.specs.Recoveries.{IsKeptOf}
+use Rattle.block_recovery.specs.Decoded.{AreWithin}
+use Rattle.block_recovery.specs.Recoveries.{IsKeptOf}
 use Rattle.receiver.specs.Esis.{esis_of}
 use Rattle.receiver.specs.Stored.{IsOf, IsStored, is_solved}
 use Rattle.receiver.specs.declared.put_fault.PutFault.{PutFault}

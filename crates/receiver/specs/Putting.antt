@@ -7,9 +7,9 @@ use Rattle.alc.specs.declared.reading.Packet.{Packet}
 use Rattle.block_code.specs.Codes.{EachBlockHas}
 use Rattle.block_code.specs.CodesOf.{IsCodeOf}
 use Rattle.block_code.specs.declared.codes.BlockCodes.{BlockCodes}
-use Rattle.decoder.specs.Decoded.{IsEnoughAt, IsUnexplained}
-use Rattle.decoder.specs.Arrivals.{with_esi, with_symbol}
-use Rattle.decoder.specs.Recoveries.{IsKeptOf}
+use Rattle.block_recovery.specs.Decoded.{IsEnoughAt, IsUnexplained}
+use Rattle.block_recovery.specs.Arrivals.{with_esi, with_symbol}
+use Rattle.block_recovery.specs.Recoveries.{IsKeptOf}
 use Rattle.receiver.specs.Bytes.{Becomes}
 use Rattle.receiver.specs.Holds.{HoldsIn}
 use Rattle.receiver.specs.declared.block_bytes.BlockBytes.{Ghosts}

@@ -12,8 +12,8 @@ use Rattle.reception.specs.Reception.{Reception, Faulty, is_of_identity, ReadAll
 use Rattle.reception.specs.Nothing.{HasNoCarrier}
 use Rattle.reception.specs.Answer.{Clash, IsAnswer, reception_of}
 use Rattle.reception.specs.Answer as value
-use Rattle.decoder.specs.Answers.{fault_value}
-use Rattle.decoder.specs.declared.answer.DecodeFault.{DecodeFault}
+use Rattle.block_recovery.specs.Faults.{fault_value}
+use Rattle.block_recovery.specs.declared.fault.DecodeFault.{DecodeFault}
 use Rattle.receiver.specs.declared.receiver.Progress.{Progress}
 use Rattle.receiver.specs.declared.receiver.Progress.TheVariants.{More, Complete}
 use Rattle.receiver.specs.declared.receiver.FeedFault.{FeedFault}

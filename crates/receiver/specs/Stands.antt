@@ -5,7 +5,7 @@ use Rattle.reception.specs.Symbols.{Symbol}
 use Rattle.reception.specs.Reception.{ReadAll}
 use Rattle.reception.specs.Readings.{readings_of}
 use Rattle.reception.specs.Answer.{reception_of}
-use Rattle.decoder.specs.Received.{IsIndex}
+use Rattle.block_recovery.specs.Received.{IsIndex}
 use Rattle.receiver.specs.Bytes.{AreTold}
 use Rattle.receiver.specs.Holds.{HoldsIn, IsSound}
 use Rattle.receiver.specs.Held.{held_in}

@@ -6,7 +6,7 @@ use Rattle.std.specs.Prelude.{Option, Some, None, is_some}
 use Rattle.std.specs.List.{All}
 use Rattle.lists.specs.Below.{below}
 use Rattle.partition.specs.Fti.{Fti, source_count, encoding_count}
-use Rattle.decoder.specs.Decoded.{AreRows}
+use Rattle.block_recovery.specs.Decoded.{AreRows}
 
 -- whether an ESI is among these
 abbrev pub is_among : List ℕ → ℕ → Bool

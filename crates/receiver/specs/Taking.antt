@@ -3,7 +3,7 @@ use Rattle.std.specs.Prelude.{◌≡◌, ℕ, ◌<◌, true, List, length, filte
 use Rattle.lists.specs.Below.{below}
 use Rattle.partition.specs.Fti.{Fti, block_count, source_count, encoding_count}
 use Rattle.receiver.specs.Holds.{has_solved}
-use Rattle.decoder.specs.declared.counting.Short.{Short}
+use Rattle.decoder.specs.declared.answer.Short.{Short}
 use Rattle.receiver.specs.declared.store.Store.{Store}
 
 -- so many symbols stand at the block's ESIs, fewer than it needs

@@ -18,7 +18,7 @@ use crate::receiver::{FeedFault, Progress, Receiver};
 use crate::receiving::{Receiving, Unfed};
 use crate::store::Store;
 use alc::Packet;
-use decoder::{DecodeFault, fault_at};
+use block_recovery::{DecodeFault, fault_at};
 use lists::are_bytes;
 use partition::Fti;
 use reception::{Look, Scope};

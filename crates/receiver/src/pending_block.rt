@@ -3,8 +3,8 @@ ghost use Rattle.std.specs.Prelude.{◌≡◌, ◌≢◌, ◌<◌, ◌≤◌, �
 ghost use Rattle.std.specs.Prelude.{Option, Some, [], false, length, is_some, option_map};
 ghost use Rattle.std.specs.Prelude.{slice_index, IfOk, IfSome, OnOk, OnErr};
 ghost use Rattle.partition.specs.Fti.{block_count, source_count, encoding_count};
-ghost use Rattle.decoder.specs.Blocks.{bytes_of_esi, HaveLength};
-ghost use Rattle.decoder.specs.Arrivals.{with_esi};
+ghost use Rattle.block_recovery.specs.Blocks.{bytes_of_esi, HaveLength};
+ghost use Rattle.block_recovery.specs.Arrivals.{with_esi};
 ghost use Rattle.receiver.specs.Esis.{esis_of};
 ghost use Rattle.receiver.specs.Putting.{MayPut, IsPutFault, Outcome, BlockOutcome, bytes_change};
 ghost use Rattle.receiver.specs.Stored.{IsOf, IsPending, IsSolved, AreSymbols, is_among};
@@ -15,7 +15,7 @@ use crate::put_fault::PutFault;
 use crate::scratch::Scratch;
 use alc::Packet;
 use block_code::BlockCodes;
-use decoder::block_rows;
+use block_recovery::block_rows;
 use partition::Fti;
 use std::alloc::{AllocError, Global};
 

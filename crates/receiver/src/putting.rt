@@ -1,7 +1,7 @@
 //! Putting a symbol to what is kept of an object.
 ghost use Rattle.std.specs.Prelude.{◌≡◌, ◌≢◌, ◌<◌, ℕ, List, Option, Some, length};
 ghost use Rattle.partition.specs.Fti.{block_count, encoding_count};
-ghost use Rattle.decoder.specs.Blocks.{HaveLength};
+ghost use Rattle.block_recovery.specs.Blocks.{HaveLength};
 ghost use Rattle.receiver.specs.Esis.{esis_of};
 ghost use Rattle.receiver.specs.Holds.{IsSound, HoldsIn, Solves};
 ghost use Rattle.receiver.specs.Putting.{MayPut, BlockOutcome, bytes_change, StoreOutcome};

@@ -1,7 +1,7 @@
 //! A receiver of one datagram at a time.
 use crate::held_blocks::HeldBlocks;
 use crate::receiving::Receiving;
-use decoder::DecodeFault;
+use block_recovery::DecodeFault;
 use reception::Identity;
 use thiserror::Error;
 

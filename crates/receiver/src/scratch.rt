@@ -1,8 +1,8 @@
 //! What is used again from block to block.
 ghost use Rattle.std.specs.Prelude.{◌≡◌, ◌<◌, ◌^◌, IfOk};
-ghost use Rattle.decoder.specs.Rows.{HasSizes};
+ghost use Rattle.block_recovery.specs.Rows.{HasSizes};
 
-use decoder::{Recovery, Rows};
+use block_recovery::{Recovery, Rows};
 use std::alloc::{AllocError, Global};
 
 /// What is used again from block to block.

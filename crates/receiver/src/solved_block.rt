@@ -1,7 +1,7 @@
 //! A block that has as many symbols as it needs.
 ghost use Rattle.std.specs.Prelude.{◌≡◌, ◌≢◌, ◌≤◌, ℕ, List, Option, Some, length};
 ghost use Rattle.partition.specs.Fti.{source_count};
-ghost use Rattle.decoder.specs.Blocks.{HaveLength};
+ghost use Rattle.block_recovery.specs.Blocks.{HaveLength};
 ghost use Rattle.receiver.specs.Esis.{esis_of};
 ghost use Rattle.receiver.specs.Putting.{MayPut, BlockOutcome, bytes_change};
 ghost use Rattle.receiver.specs.Stored.{IsOf, IsSolved};
@@ -13,7 +13,7 @@ use crate::put_fault::PutFault;
 use crate::scratch::Scratch;
 use alc::Packet;
 use block_code::BlockCodes;
-use decoder::gives;
+use block_recovery::gives;
 use partition::Fti;
 use std::alloc::Global;
 

@@ -7,7 +7,7 @@ ghost use Rattle.session.specs.Frames.{AppendsSome};
 ghost use Rattle.partition.specs.Fti.{block_count};
 ghost use Rattle.reception.specs.Answer.{Object, IsAnswer};
 ghost use Rattle.decoder.specs.Answers.{answer_value, IsNoFault};
-ghost use Rattle.decoder.specs.Decoded.{IsShort};
+ghost use Rattle.decoder.specs.Answered.{IsShort};
 ghost use Rattle.receiver.specs.Holds.{Holds, has_solved};
 ghost use Rattle.receiver.specs.Held.{held_of};
 ghost use Rattle.partition.specs.Fti.{Fti as FtiValue};

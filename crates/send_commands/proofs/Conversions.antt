@@ -1,10 +1,10 @@
 -- Certificates that are converted.
 use Rattle.std.proofs.Common.{◌≡◌, ◌∙◌, ℕ, Bool, List, [], Option, Some, None, Result, Err, inl, refl, sym, subst}
 use Rattle.std.specs.Prelude.{IfSome, IfErr}
-use Rattle.cert.specs.Certificate.{Certificate, IsCertificate, certificate_text, text_fault}
-use Rattle.cert.specs.Converting.{IsOfOther, IsNameFault}
-use Rattle.cert.specs.declared.certificate.CertFault.{CertFault}
-use Rattle.cert.specs.declared.certificate.CertFault.TheVariants.{Magic, Fti as WrongFti, Size, Io, NoMemory, OtherIdentity}
+use Rattle.certificate.specs.Certificate.{Certificate, IsCertificate, certificate_text, text_fault}
+use Rattle.certificate.specs.Converting.{IsOfOther, IsNameFault}
+use Rattle.certificate.specs.declared.certificate.CertFault.{CertFault}
+use Rattle.certificate.specs.declared.certificate.CertFault.TheVariants.{Magic, Fti as WrongFti, Size, Io, NoMemory, OtherIdentity}
 use Rattle.request.specs.declared.requests.ConvertRequest.{ConvertRequest}
 use Rattle.request.specs.declared.requests.Request.TheVariants.{Convert}
 use Rattle.host.specs.World.{Files, World, MayFail, Holds, GivesFile}

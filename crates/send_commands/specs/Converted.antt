@@ -2,8 +2,8 @@
 use Rattle.std.specs.Prelude.{◌≡◌, ℕ, Bool, false, Option, List, ⊤}
 use Rattle.partition.specs.Fti.{Fti, block_count}
 use Rattle.reception.specs.declared.scope.Identity.{Identity}
-use Rattle.cert.specs.Converting.{IsConverted, IsNameFault}
-use Rattle.cert.specs.declared.certificate.CertFault.TheVariants.{Io}
+use Rattle.certificate.specs.Converting.{IsConverted, IsNameFault}
+use Rattle.certificate.specs.declared.certificate.CertFault.TheVariants.{Io}
 use Rattle.commands.specs.declared.fault.Fault.TheVariants.{Certificate}
 use Rattle.commands.specs.declared.output.Unwritten.{Unwritten}
 use Rattle.commands.specs.declared.output.Unwritten.TheVariants.{Writing, Fault}

@@ -1,6 +1,6 @@
 //! The command `certify`.
 ghost use Rattle.std.specs.Prelude.{◌≡◌, true, length, IfOk, IfErr};
-ghost use Rattle.cert.specs.Certificate.{IsIdentity};
+ghost use Rattle.certificate.specs.Certificate.{IsIdentity};
 ghost use Rattle.partition.specs.Fti.{block_count};
 ghost use Rattle.request.specs.declared.requests.Request.TheVariants.{Certify};
 ghost use Rattle.host.specs.World.{GivesFile, LeavesBytes};
@@ -11,7 +11,7 @@ ghost use Rattle.encoder.specs.ObjectRead.{ReadsObject};
 ghost use Rattle.send_commands.specs.Certifying.{WritesCertificate, IsUncertified};
 ghost use Rattle.send_commands.specs.Certifying.{IsUncertifiedFrom};
 
-use cert::CertFault;
+use certificate::CertFault;
 use commands::{Done, Fault, Unwritten, commit, create, fti_of, open, read_rest};
 use encoder::{CertifyFault, CertifyFromFault, certify_from, certify_to};
 use host::Host;

@@ -1,11 +1,11 @@
 //! The command `convert`.
 ghost use Rattle.std.specs.Prelude.{◌≡◌, true, IfOk, IfErr};
-ghost use Rattle.cert.specs.Certificate.{IsIdentity};
+ghost use Rattle.certificate.specs.Certificate.{IsIdentity};
 ghost use Rattle.request.specs.declared.requests.Request.TheVariants.{Convert};
 ghost use Rattle.commands.specs.Doing.{HasMade, HasStopped};
 ghost use Rattle.send_commands.specs.Converted.{Converts, IsUnconverted};
 
-use cert::{CertFault, ConvertFault};
+use certificate::{CertFault, ConvertFault};
 use commands::{Done, Fault, Unwritten, commit, create, open};
 use host::Host;
 use reception::Identity;
@@ -47,7 +47,7 @@ fn convert_file<'a, R: Read, W: Write>(
     ensures writing { IfErr result (λ e. e ≡ Unwritten.Writing
         → W.failed writer.new ≡ true) }
 {
-    match cert::convert(alloc, reader, writer, identity) {
+    match certificate::convert(alloc, reader, writer, identity) {
         Ok(fti) => Ok(u64::from(fti.block_count())),
         Err(ConvertFault::Write) => Err(Unwritten::Writing),
         Err(ConvertFault::Certificate(fault)) => {

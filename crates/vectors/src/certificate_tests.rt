@@ -1,9 +1,10 @@
 //! Certificates and twins. What is no certificate stands in transcripts.
 ghost use Rattle.std.specs.Prelude.{◌<◌};
-ghost use Rattle.cert.specs.Certificate.{IsIdentity};
+ghost use Rattle.certificate.specs.Certificate.{IsIdentity};
 
 use crate::{ONE, is_shown_as};
-use cert::{CertFault, Certificate, one_certificate, twin};
+use cert::twin;
+use certificate::{CertFault, Certificate, one_certificate};
 use partition::{Fti, FtiError};
 use reception::Identity;
 use session::{Pieces, Sink};

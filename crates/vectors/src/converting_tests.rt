@@ -3,7 +3,7 @@ ghost use Rattle.std.specs.Prelude.{◌<◌};
 
 use crate::ONE;
 use crate::certificate_tests::has_text;
-use cert::{CertFault, Certificate, ConvertFault, convert};
+use certificate::{CertFault, Certificate, ConvertFault, convert};
 use coder::{certify, certify_from, certify_to};
 use partition::{Fti, FtiError};
 use reception::Identity;

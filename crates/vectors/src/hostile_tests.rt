@@ -10,7 +10,8 @@ use crate::check_tests::{
 use crate::decoding_tests::{Said, decodes_to, says};
 use crate::session_tests::{breaking_between, is_session};
 use alc::{PacketFault, read};
-use cert::{CertFault, Certificate, Reason};
+use cert::Reason;
+use certificate::{CertFault, Certificate};
 use coder::{Answer, DecodeFault, FeedFault, Receiver, SendFault, decode, encode};
 use partition::{Fti, Order};
 use session::{Device, FrameFault, Pieces, Read, Session, Sink, Write};

@@ -3,7 +3,8 @@ ghost use Rattle.std.specs.Prelude.{◌≡◌, ◌<◌, ◌≤◌, length};
 
 use crate::ONE;
 use crate::certificate_tests::has_text;
-use cert::{Certificate, Verdict, check};
+use cert::{Verdict, check};
+use certificate::Certificate;
 use coder::{CertifyFault, SendFault, certify, encode};
 use elim::{Matrix, interpolator};
 use gf256::{Field, Gf, point};

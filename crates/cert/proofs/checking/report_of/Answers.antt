@@ -4,7 +4,7 @@ use Rattle.std.proofs.lemmas.Result.{IfErr-weaker, on_ok_weaker}
 use Rattle.cert.specs.declared.walk.Walk.{Walk}
 use Rattle.cert.specs.Scan.{AreEnoughCertified}
 use Rattle.cert.specs.DatagramWalk.{HasWalked, IsNotPassed, IsNo}
-use Rattle.cert.proofs.DatagramSteps.{passed_on}
+use Rattle.certificate.proofs.Results.{passed_on}
 use Rattle.cert.proofs.FromReader.{step_no, report_no}
 use Rattle.cert.proofs.checking.report_of.Goals as goal
 

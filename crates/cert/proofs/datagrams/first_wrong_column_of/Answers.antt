@@ -3,7 +3,7 @@ use Rattle.lists.proofs.Lists.{both}
 use Rattle.partition.specs.Fti.{Fti, block_count, source_count}
 use Rattle.alc.specs.Views.{packet_of}
 use Rattle.reception.specs.Reception.{symbol_of}
-use Rattle.cert.specs.CoefficientRows.{IsSourceSymbol}
+use Rattle.certificate.specs.CoefficientRows.{IsSourceSymbol}
 use Rattle.cert.proofs.Columns.{is_uncertified, none_from_part, some_from_part}
 use Rattle.cert.proofs.Scanning.{in_range_small}
 use Rattle.cert.proofs.datagrams.first_wrong_column_of.Goals as goal

@@ -1,5 +1,5 @@
 use Rattle.cert.specs.Endings.{ending_of}
-use Rattle.cert.proofs.DatagramSteps.{passed_on}
+use Rattle.certificate.proofs.Results.{passed_on}
 use Rattle.cert.proofs.FromReader.{no_report, yes_from}
 use Rattle.cert.proofs.from_reader.report_from.Goals as goal
 

@@ -4,7 +4,7 @@ use Rattle.session.proofs.Sessions.{datagrams_push}
 use Rattle.cert.specs.declared.from_reader.Ending.TheVariants.{Fault}
 use Rattle.cert.specs.declared.from_reader.CheckFault.TheVariants.{Frame}
 use Rattle.cert.specs.Endings.{ending_of}
-use Rattle.cert.proofs.DatagramSteps.{passed_on}
+use Rattle.certificate.proofs.Results.{passed_on}
 use Rattle.cert.proofs.FromReader.{consumes_none, consumes_one, not_begun, not_passed, not_read}
 use Rattle.cert.proofs.from_reader.walk_from.Goals as goal
 

@@ -1,5 +1,5 @@
 use Rattle.cert.specs.Endings.{ending_of}
-use Rattle.cert.proofs.DatagramSteps.{passed_on}
+use Rattle.certificate.proofs.Results.{passed_on}
 use Rattle.cert.proofs.FromReader.{no_report, survey_yes}
 use Rattle.cert.proofs.surveying.survey_of.Goals as goal
 

@@ -1,5 +1,5 @@
 use Rattle.std.proofs.Common.{◌≡◌, ◌+◌, ℕ, length, refl, length-take, length-drop, arith}
-use Rattle.cert.proofs.DatagramSteps.{passed_on}
+use Rattle.certificate.proofs.Results.{passed_on}
 use Rattle.cert.proofs.TwinParts.{any_more, fault_of_more, next_piece}
 use Rattle.cert.proofs.twins.copy_part.Goals as goal
 

@@ -1,5 +1,5 @@
 use Rattle.std.proofs.Common.{arith}
-use Rattle.cert.proofs.DatagramSteps.{passed_on}
+use Rattle.certificate.proofs.Results.{passed_on}
 use Rattle.cert.proofs.TwinParts.{always, fault_of_more, within}
 use Rattle.cert.proofs.twins.write_block.Goals as goal
 

@@ -7,7 +7,7 @@ use Rattle.poly.specs.Polynomial.{value, root_product_over}
 use Rattle.partition.specs.Fti.{block_bytes, start_of}
 use Rattle.partition.proofs.Laws.{counts}
 use Rattle.cert.specs.Twins.{different_esis, root_value}
-use Rattle.cert.proofs.DatagramSteps.{passed_on}
+use Rattle.certificate.proofs.Results.{passed_on}
 use Rattle.cert.proofs.TwinObject.{is_twin_bytes}
 use Rattle.cert.proofs.TwinParts.{always, any_more, fault_of_more, three_parts, whole_twin_bytes, within}
 use Rattle.cert.proofs.twins.write_twin.Goals as goal

@@ -1,7 +1,7 @@
 use Rattle.std.proofs.Common.{subst, arith, below_more}
 use Rattle.partition.specs.Fti.{IsValidFti}
-use Rattle.decoder.specs.Decoded.{IsEnoughAt}
-use Rattle.decoder.proofs.Counts.{counted_short}
+use Rattle.block_recovery.specs.Decoded.{IsEnoughAt}
+use Rattle.decoder.proofs.Shortest.{counted_short}
 use Rattle.decoder.proofs.Unsound.{enough_counted}
 use Rattle.decoder.proofs.counting.first_short.Goals as goal
 

@@ -1,5 +1,5 @@
 use Rattle.std.proofs.Common.{◌<◌, ℕ}
-use Rattle.decoder.specs.Decoded.{IsEnoughAt}
+use Rattle.block_recovery.specs.Decoded.{IsEnoughAt}
 use Rattle.decoder.proofs.counting.first_short.Given as goal
 
 abbrev pub invariant-loop-block : goal.invariant-loop-block

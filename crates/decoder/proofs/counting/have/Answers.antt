@@ -1,10 +1,10 @@
 use Rattle.std.specs.Prelude.{is_some, filter}
 use Rattle.std.proofs.Common.{◌≡◌, ◌∙◌, ◌+◌, ℕ, List, length, sym, ap, arith, add-one, refl}
 use Rattle.lists.specs.Below.{below}
-use Rattle.decoder.specs.Arrivals.{seen_at}
-use Rattle.decoder.specs.Received.{came_at}
-use Rattle.decoder.proofs.Counts.{one_more_held, none_more_held}
-use Rattle.decoder.proofs.Kept.{count_none}
+use Rattle.block_recovery.specs.Arrivals.{seen_at}
+use Rattle.block_recovery.specs.Received.{came_at}
+use Rattle.block_recovery.proofs.Counts.{one_more_held, none_more_held}
+use Rattle.block_recovery.proofs.Kept.{count_none}
 use Rattle.decoder.proofs.counting.have.Goals as goal
 use Rattle.decoder.proofs.counting.have.Goals.{then-seen-j, else-seen-j}
 

@@ -1,7 +1,7 @@
 use Rattle.std.proofs.Common.{◌≡◌, ◌≤◌, ℕ, List, length}
 use Rattle.std.specs.Prelude.{filter, is_some}
 use Rattle.lists.specs.Below.{below}
-use Rattle.decoder.specs.Received.{came_at}
+use Rattle.block_recovery.specs.Received.{came_at}
 use Rattle.decoder.proofs.counting.have.Given as goal
 
 abbrev pub invariant-loop-j : goal.invariant-loop-j

@@ -1,4 +1,4 @@
-use Rattle.decoder.specs.Received.{bytes_at}
+use Rattle.block_recovery.specs.Received.{bytes_at}
 use Rattle.decoder.proofs.Answering.{are_within, in_range}
 use Rattle.decoder.proofs.decoding.answer.Goals as goal
 

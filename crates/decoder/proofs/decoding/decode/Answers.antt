@@ -4,9 +4,10 @@ use Rattle.reception.specs.Answer.{IsAnswer}
 use Rattle.reception.specs.Walks.{readings_of}
 use Rattle.decoder.specs.declared.answer.Answer.{Answer}
 use Rattle.decoder.specs.Answers.{answer_value}
-use Rattle.decoder.specs.Decoded.{Answers}
-use Rattle.decoder.specs.Received.{bytes_at, AreReceived}
-use Rattle.decoder.proofs.Answering.{answered, bytes_of, read_all, stand_of, if_ok}
+use Rattle.decoder.specs.Answered.{Answers}
+use Rattle.block_recovery.specs.Received.{bytes_at, AreReceived}
+use Rattle.decoder.proofs.Answering.{answered, bytes_of, read_all, stand_of}
+use Rattle.block_recovery.proofs.Results.{if_ok}
 use Rattle.decoder.proofs.BytesOfSymbols.{have_bytes}
 use Rattle.decoder.proofs.decoding.decode.Goals as goal
 

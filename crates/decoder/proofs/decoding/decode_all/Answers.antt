@@ -1,5 +1,5 @@
 use Rattle.std.proofs.Common.{arith, refl}
-use Rattle.decoder.specs.Received.{bytes_at}
+use Rattle.block_recovery.specs.Received.{bytes_at}
 use Rattle.decoder.proofs.ObjectSoFar.{nothing_yet, one_more_block, object_answers, not_code_answers}
 use Rattle.decoder.proofs.decoding.decode_all.Goals as goal
 

@@ -1,5 +1,5 @@
-use Rattle.decoder.specs.Received.{bytes_at}
-use Rattle.decoder.specs.Recoveries.{IsKeptOf}
+use Rattle.block_recovery.specs.Received.{bytes_at}
+use Rattle.block_recovery.specs.Recoveries.{IsKeptOf}
 use Rattle.decoder.proofs.ObjectSoFar.{SoFar}
 use Rattle.decoder.proofs.decoding.decode_all.Given as goal
 

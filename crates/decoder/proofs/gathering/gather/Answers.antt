@@ -1,10 +1,11 @@
 use Rattle.std.proofs.Common.{ℕ, List, map, refl}
 use Rattle.std.specs.Borrow.{Bor}
 use Rattle.reception.specs.Walks.{readings_of}
-use Rattle.decoder.specs.Received.{bytes_at, AreReceived}
+use Rattle.block_recovery.specs.Received.{bytes_at, AreReceived}
 use Rattle.decoder.specs.Gathering.{IsGathered}
 use Rattle.decoder.specs.Written.{Gathers}
-use Rattle.decoder.proofs.Answering.{bytes_of, read_all, stand_of, if_ok}
+use Rattle.decoder.proofs.Answering.{bytes_of, read_all, stand_of}
+use Rattle.block_recovery.proofs.Results.{if_ok}
 use Rattle.decoder.proofs.GatheredSymbols.{gathered_of}
 use Rattle.decoder.proofs.BytesOfSymbols.{have_bytes}
 use Rattle.decoder.proofs.gathering.gather.Goals as goal

@@ -1,5 +1,5 @@
 use Rattle.std.proofs.Common.{refl}
-use Rattle.decoder.specs.Received.{bytes_at}
+use Rattle.block_recovery.specs.Received.{bytes_at}
 use Rattle.decoder.proofs.Answering.{are_within, in_range}
 use Rattle.decoder.proofs.gathering.gather_symbols.Goals as goal
 

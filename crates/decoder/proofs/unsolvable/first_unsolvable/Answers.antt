@@ -2,7 +2,7 @@ use Rattle.std.proofs.Common.{◌≡◌, ◌∙◌, ℕ, List, true, is_some, re
 use Rattle.std.specs.Prelude.{not}
 use Rattle.partition.specs.Fti.{IsValidFti}
 use Rattle.decoder.proofs.Answering.{within_of}
-use Rattle.decoder.specs.Listed.{Stands}
+use Rattle.block_recovery.specs.Listed.{Stands}
 use Rattle.decoder.proofs.OneCode.{code_of}
 use Rattle.decoder.proofs.Unsound.{LeastSoFar, least_stays, least_falls, sound_short, enough_counted, some_explain, none_gives, some_gives}
 use Rattle.decoder.proofs.unsolvable.first_unsolvable.Goals as goal

@@ -1,6 +1,6 @@
 use Rattle.std.proofs.Common.{◌≡◌, ◌∙◌, ℕ, List, length, drop, ap, sym, subst}
 use Rattle.reception.specs.Symbols.{IsObject}
-use Rattle.cert.specs.Certificate.{Certificate, unnamed}
+use Rattle.certificate.specs.Certificate.{Certificate, unnamed}
 use Rattle.cert.specs.Verdict.{GivesObject}
 use Rattle.block_code.proofs.SourceRows.{bytes_fit}
 use Rattle.encoder.proofs.SessionReadings.{certifies_sent}

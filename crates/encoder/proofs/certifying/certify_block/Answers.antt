@@ -1,5 +1,5 @@
 use Rattle.std.proofs.Common.{arith}
-use Rattle.cert.proofs.GreatestBlock.{most_source}
+use Rattle.certificate.proofs.GreatestBlock.{most_source}
 use Rattle.encoder.proofs.certifying.certify_block.Goals as goal
 
 pub certify_by_values-requires-clause-work : goal.certify_by_values-requires-clause-work

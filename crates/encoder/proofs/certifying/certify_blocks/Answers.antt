@@ -3,7 +3,7 @@ use Rattle.std.proofs.lemmas.Bool.{cases_eq}
 use Rattle.gf256.specs.Arithmetic.{point}
 use Rattle.poly.specs.Polynomial.{value}
 use Rattle.partition.specs.Fti.{source_count, block_count}
-use Rattle.cert.specs.Certificate.{unnamed}
+use Rattle.certificate.specs.Certificate.{unnamed}
 use Rattle.cert.specs.Verdict.{GivesAt}
 use Rattle.encoder.proofs.Places.{same_polynomial_at}
 use Rattle.encoder.proofs.certifying.certify_blocks.Goals as goal

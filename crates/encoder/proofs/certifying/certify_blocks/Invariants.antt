@@ -1,6 +1,6 @@
 use Rattle.std.proofs.Common.{◌≡◌, ◌<◌, ℕ, length}
 use Rattle.partition.specs.Fti.{source_count}
-use Rattle.cert.specs.Certificate.{unnamed}
+use Rattle.certificate.specs.Certificate.{unnamed}
 use Rattle.cert.specs.Verdict.{GivesAt}
 use Rattle.encoder.proofs.certifying.certify_blocks.Given as goal
 

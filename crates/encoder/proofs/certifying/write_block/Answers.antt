@@ -1,7 +1,7 @@
 use Rattle.std.proofs.Common.{◌≡◌, ◌≤◌, ◌*◌, ◌∙◌, length, arith, length-take-le, rules}
 use Rattle.std.proofs.lemmas.Grind.{common_steps}
 use Rattle.partition.specs.Fti.{source_count}
-use Rattle.cert.proofs.GreatestBlock.{rows_of_block}
+use Rattle.certificate.proofs.GreatestBlock.{rows_of_block}
 use Rattle.block_code.proofs.RowAdding.{products}
 use Rattle.encoder.proofs.FirstRows.{to_ok, to_err}
 use Rattle.encoder.proofs.certifying.write_block.Goals as goal

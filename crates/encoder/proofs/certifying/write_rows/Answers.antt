@@ -1,7 +1,7 @@
 use Rattle.std.proofs.Common.{◌<◌, arith}
 use Rattle.partition.specs.Fti.{block_count}
-use Rattle.cert.proofs.Flat.{on_err}
-use Rattle.cert.proofs.BlockByBlock.{less_room, room_left}
+use Rattle.certificate.proofs.Flat.{on_err}
+use Rattle.certificate.proofs.BlockByBlock.{less_room, room_left}
 use Rattle.block_code.proofs.SourceRows.{bytes_fit}
 use Rattle.encoder.proofs.FirstRows.{none_written, block_written, block_begun}
 use Rattle.encoder.proofs.certifying.write_rows.Goals as goal

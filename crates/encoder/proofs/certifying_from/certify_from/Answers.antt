@@ -1,7 +1,7 @@
 use Rattle.partition.proofs.Laws.{some_block}
 use Rattle.std.proofs.Common.{arith}
 use Rattle.partition.specs.Fti.{block_count}
-use Rattle.cert.proofs.DatagramSteps.{passed_on}
+use Rattle.certificate.proofs.Results.{passed_on}
 use Rattle.encoder.specs.declared.certifying_from.CertifyFromFault.TheVariants.{Object, Write}
 use Rattle.encoder.proofs.CertificateRead.{rows_fault}
 use Rattle.encoder.proofs.FirstRows.{certified, behind_head, head_begun, rows_begun}

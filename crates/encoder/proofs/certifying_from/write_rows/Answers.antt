@@ -1,9 +1,9 @@
 use Rattle.std.proofs.Common.{◌≡◌, ◌<◌, ◌≤◌, ◌∙◌, length, refl, arith, length-take-le}
 use Rattle.partition.specs.Fti.{block_count}
-use Rattle.cert.proofs.BlockByBlock.{less_room, room_left}
-use Rattle.cert.proofs.DatagramSteps.{passed_on}
-use Rattle.cert.proofs.Flat.{on_err}
-use Rattle.cert.proofs.GreatestBlock.{rows_of_block}
+use Rattle.certificate.proofs.BlockByBlock.{less_room, room_left}
+use Rattle.certificate.proofs.Results.{passed_on}
+use Rattle.certificate.proofs.Flat.{on_err}
+use Rattle.certificate.proofs.GreatestBlock.{rows_of_block}
 use Rattle.encoder.specs.declared.certifying_from.CertifyFromFault.TheVariants.{Object, Write}
 use Rattle.partition.specs.Fti.{block_bytes}
 use Rattle.encoder.proofs.FirstRows.{none_written, block_written, block_begun, rows_begun}

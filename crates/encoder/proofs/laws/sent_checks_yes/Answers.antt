@@ -4,7 +4,7 @@ use Rattle.reception.specs.declared.scope.Identity.{Identity}
 use Rattle.reception.proofs.OneAnswer.{same_readings}
 use Rattle.cert.specs.declared.verdict.Verdict.{Verdict}
 use Rattle.cert.specs.declared.verdict.Verdict.TheVariants.{Yes, No}
-use Rattle.cert.specs.Certificate.{Certificate, named_as}
+use Rattle.certificate.specs.Certificate.{Certificate, named_as}
 use Rattle.cert.specs.Verdict.{VerdictOn, IsVerdict, IsYes}
 use Rattle.cert.proofs.OneVerdict.{never_no}
 use Rattle.encoder.specs.Certified.{Certifies}

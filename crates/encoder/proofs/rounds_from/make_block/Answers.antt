@@ -2,7 +2,7 @@ use Rattle.std.proofs.Common.{◌≡◌, ◌<◌, ◌≤◌, ◌+◌, ◌*◌, �
 use Rattle.std.proofs.Math.Nat.{mul-le-mul_right}
 use Rattle.partition.specs.Fti.{encoding_count}
 use Rattle.reception.specs.Symbols.{Agrees}
-use Rattle.cert.proofs.GreatestBlock.{rows_of_block}
+use Rattle.certificate.proofs.GreatestBlock.{rows_of_block}
 use Rattle.block_code.proofs.RowAdding.{products}
 use Rattle.encoder.specs.Rows.{row_at}
 use Rattle.encoder.proofs.InPasses.{first_most}

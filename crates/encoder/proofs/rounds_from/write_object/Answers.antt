@@ -1,5 +1,5 @@
 use Rattle.std.proofs.Common.{◌∙◌, arith}
-use Rattle.cert.proofs.DatagramSteps.{passed_on}
+use Rattle.certificate.proofs.Results.{passed_on}
 use Rattle.encoder.specs.declared.sending_from.SendFromFault.TheVariants.{Object}
 use Rattle.encoder.proofs.RoundPlaces.{pairs_fit}
 use Rattle.encoder.proofs.ObjectBlocks.{object_read, end_fault, then_object}

@@ -3,9 +3,9 @@ use Rattle.std.specs.Prelude.{flat_map}
 use Rattle.lists.specs.Below.{below}
 use Rattle.std.proofs.Math.Nat.{mul-le-mul_right}
 use Rattle.partition.specs.Fti.{block_count, encoding_count}
-use Rattle.cert.proofs.DatagramSteps.{passed_on}
-use Rattle.cert.proofs.Flat.{on_err}
-use Rattle.cert.proofs.GreatestBlock.{rows_of_block}
+use Rattle.certificate.proofs.Results.{passed_on}
+use Rattle.certificate.proofs.Flat.{on_err}
+use Rattle.certificate.proofs.GreatestBlock.{rows_of_block}
 use Rattle.block_code.proofs.RowAdding.{products}
 use Rattle.encoder.specs.declared.sending_from.SendFromFault.TheVariants.{Object}
 use Rattle.partition.specs.Fti.{block_bytes}

@@ -2,7 +2,7 @@ use Rattle.std.proofs.Common.{[], sym}
 use Rattle.std.proofs.lemmas.List.{append-nil}
 use Rattle.partition.specs.Fti.{block_count}
 use Rattle.partition.specs.declared.order.Order.TheVariants.{Blocks}
-use Rattle.cert.proofs.DatagramSteps.{passed_on}
+use Rattle.certificate.proofs.Results.{passed_on}
 use Rattle.encoder.specs.declared.sending_from.SendFromFault.TheVariants.{Object}
 use Rattle.encoder.specs.Sending.{pairs}
 use Rattle.encoder.proofs.Sent.{sent_some}

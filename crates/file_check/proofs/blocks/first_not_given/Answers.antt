@@ -1,7 +1,7 @@
 use Rattle.std.proofs.Common.{rules, ◌≡◌, ◌∙◌, ◌*◌, ◌+◌, ◌≤◌, ◌<◌, ℕ, length, ap, sym, subst, arith}
 use Rattle.gf256.proofs.RowPlaces.{row_ends}
 use Rattle.partition.specs.Fti.{Fti, IsValidFti, encoding_count, source_count}
-use Rattle.cert.specs.BlockSymbols.{AreSymbols}
+use Rattle.certificate.specs.BlockSymbols.{AreSymbols}
 use Rattle.file_check.specs.Blocks.{AreSourceOf}
 use Rattle.file_check.proofs.Given.{AreCompared, none_compared, same_row, other_row, row_long, same_below, other_at, gives_block, first_in_block}
 use Rattle.file_check.proofs.blocks.first_not_given.Goals.{in-Some+then-column-right, in-Some+else-column-right, in_default}

@@ -1,7 +1,7 @@
 use Rattle.std.proofs.Common.{◌∙◌, ◌<◌, ap, sym, subst}
 use Rattle.partition.specs.Fti.{Fti, block_count, source_count}
-use Rattle.cert.specs.BlockSymbols.{AreSymbols}
-use Rattle.cert.proofs.BlockSymbols.{values_are}
+use Rattle.certificate.specs.BlockSymbols.{AreSymbols}
+use Rattle.certificate.proofs.BlockSymbols.{values_are}
 use Rattle.file_check.proofs.blocks.make_symbols.Goals as goal
 
 pub returns-clause-symbols : goal.returns-clause-symbols

@@ -1,6 +1,6 @@
 use Rattle.std.proofs.Common.{◌≡◌}
-use Rattle.cert.specs.Certificate.{named_in}
-use Rattle.cert.proofs.DatagramSteps.{passed_on}
+use Rattle.certificate.specs.Certificate.{named_in}
+use Rattle.certificate.proofs.Results.{passed_on}
 use Rattle.file_check.proofs.NamedParts.{no_verdict}
 use Rattle.file_check.proofs.checking.check_files.Goals as goal
 

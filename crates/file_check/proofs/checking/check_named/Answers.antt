@@ -1,6 +1,6 @@
 use Rattle.std.proofs.Common.{[], Some, false}
-use Rattle.cert.specs.Certificate.{IsCertificate}
-use Rattle.cert.specs.Certificate.{named_in}
+use Rattle.certificate.specs.Certificate.{IsCertificate}
+use Rattle.certificate.specs.Certificate.{named_in}
 use Rattle.cert.specs.Tallying.{by_certificate, nothing}
 use Rattle.cert.specs.declared.walk.NoReport.TheVariants.{Reason as ByReason}
 use Rattle.cert.proofs.FromReader.{no_report, yes_from}

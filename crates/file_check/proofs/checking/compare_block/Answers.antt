@@ -2,8 +2,8 @@ use Rattle.std.proofs.Common.{◌≡◌, ◌∙◌, ℕ, List, ◌++◌, length,
 use Rattle.std.proofs.Math.Seq.{take-append_seam}
 use Rattle.std.proofs.Math.Nat.{mul-le-mul_right}
 use Rattle.partition.proofs.Laws.{source_encoding}
-use Rattle.cert.specs.Certificate.{IsCertificate}
-use Rattle.cert.specs.Certificate.{named_in}
+use Rattle.certificate.specs.Certificate.{IsCertificate}
+use Rattle.certificate.specs.Certificate.{named_in}
 use Rattle.file_check.proofs.checking.compare_block.Goals as goal
 
 -- what was written into the whole of a vector

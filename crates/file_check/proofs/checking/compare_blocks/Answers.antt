@@ -1,9 +1,9 @@
 use Rattle.std.proofs.Common.{◌≡◌, ◌∙◌, ℕ, subst, arith}
 use Rattle.partition.specs.Fti.{block_count}
 use Rattle.partition.proofs.Laws.{some_block}
-use Rattle.cert.specs.Certificate.{named_in}
+use Rattle.certificate.specs.Certificate.{named_in}
 use Rattle.cert.specs.Tallying.{tallied_of}
-use Rattle.cert.proofs.DatagramSteps.{passed_on}
+use Rattle.certificate.proofs.Results.{passed_on}
 use Rattle.file_check.specs.Compared.{AreCompared}
 use Rattle.file_check.proofs.ManyBlocks.{none_yet, one_compared, stopped}
 use Rattle.file_check.proofs.checking.compare_blocks.Goals as goal

@@ -1,5 +1,5 @@
 use Rattle.std.proofs.Common.{◌≡◌, List, ℕ, length}
-use Rattle.cert.specs.Certificate.{named_in}
+use Rattle.certificate.specs.Certificate.{named_in}
 use Rattle.cert.specs.Tallying.{tallied_of}
 use Rattle.file_check.specs.Compared.{AreCompared}
 use Rattle.file_check.specs.Files.{WhereTold}

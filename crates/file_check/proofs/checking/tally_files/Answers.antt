@@ -1,9 +1,10 @@
 use Rattle.std.proofs.Common.{◌≡◌, ◌∙◌, None, length, sym}
 use Rattle.reception.specs.Symbols.{IsObject}
-use Rattle.cert.specs.Certificate.{named_in}
+use Rattle.certificate.specs.Certificate.{named_in}
 use Rattle.cert.specs.Tallying.{nothing, tallied_of}
 use Rattle.cert.specs.declared.verdict.Reason.TheVariants.{OtherCertificate, ObjectLength}
-use Rattle.cert.proofs.DatagramSteps.{fti_holds, passed_on}
+use Rattle.cert.proofs.DatagramSteps.{fti_holds}
+use Rattle.certificate.proofs.Results.{passed_on}
 use Rattle.file_check.proofs.WholeTallies.{before, equal, faulty, gives_object, index_of, not_equal, refused, stops, untold_fault, whole_tally, wrong_symbol}
 use Rattle.file_check.proofs.checking.tally_files.Goals as goal
 

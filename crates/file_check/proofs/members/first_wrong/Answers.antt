@@ -1,7 +1,7 @@
 use Rattle.std.proofs.Common.{◌≡◌, ◌∙◌, length, take, get_or, refl, sym, subst, arith}
 use Rattle.losses.specs.Groups.{members_among}
 use Rattle.cert.specs.Tallying.{IsPacketOf, tallied_of}
-use Rattle.cert.proofs.Flat.{on_err}
+use Rattle.certificate.proofs.Flat.{on_err}
 use Rattle.file_check.specs.Blocks.{member_at}
 use Rattle.file_check.specs.Indexed.{extents_of}
 use Rattle.file_check.specs.Standing.{no_extent}

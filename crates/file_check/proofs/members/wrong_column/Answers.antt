@@ -6,7 +6,7 @@ use Rattle.partition.specs.Fti.{Fti, encoding_count}
 use Rattle.reception.specs.Reception.{InRange, Other, look}
 use Rattle.reception.specs.Step.{looked}
 use Rattle.alc.specs.Computed.{read_of}
-use Rattle.cert.specs.CertifiedSymbol.{IsCertifiedSymbol}
+use Rattle.certified_symbols.specs.CertifiedSymbol.{IsCertifiedSymbol}
 use Rattle.file_check.proofs.Rereading.{whole, seen, is_known, row_is, row_inside, said_by_row}
 use Rattle.file_check.proofs.members.wrong_column.Goals as goal
 

@@ -3,7 +3,7 @@ use Rattle.reception.specs.declared.scope.Identity.{Identity}
 use Rattle.reception.specs.Answer.{IsAnswer}
 use Rattle.decoder.specs.Answers.{answer_value}
 use Rattle.decoder.specs.Gathering.{IsWrittenOf}
-use Rattle.decoder.specs.PlacesOf.{ArePlacedOf}
+use Rattle.file_decoder.specs.PlacesOf.{ArePlacedOf}
 use Rattle.request.specs.declared.requests.Request.TheVariants.{Decode}
 use Rattle.commands.specs.Doing.{text_of}
 use Rattle.commands.specs.declared.fault.Fault.TheVariants.{Memory}

@@ -1,6 +1,6 @@
 use Rattle.std.proofs.Common.{sym, subst}
-use Rattle.decoder.specs.GatheringIn.{IsFileFault}
-use Rattle.decoder.specs.declared.file_gathering.FileFault.{FileFault}
+use Rattle.file_decoder.specs.GatheringIn.{IsFileFault}
+use Rattle.file_decoder.specs.declared.file_gathering.FileFault.{FileFault}
 use Rattle.receive_commands.proofs.DecodedFiles.{again_fault}
 use Rattle.receive_commands.proofs.decode.write_object_from.Goals as goal
 

@@ -1,7 +1,7 @@
 use Rattle.std.specs.Prelude.{is_some, ◌==◌, ◌||◌}
 use Rattle.std.proofs.Common.{◌≡◌, ◌<◌, ℕ, List, Option, Some, length}
-use Rattle.decoder.specs.Arrivals.{with_esi}
-use Rattle.decoder.specs.Blocks.{bytes_of_esi}
+use Rattle.block_recovery.specs.Arrivals.{with_esi}
+use Rattle.block_recovery.specs.Blocks.{bytes_of_esi}
 use Rattle.receiver.specs.Stored.{is_among, AreSymbols}
 use Rattle.receiver.proofs.pending_block.symbols_with.Given as goal
 

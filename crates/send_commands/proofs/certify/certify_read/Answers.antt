@@ -1,6 +1,6 @@
 use Rattle.std.proofs.Common.{◌∙◌, ℕ, [], ◌∷◌, Some, refl, sym, ap, subst, codes}
 use Rattle.encoder.specs.ObjectRead.{ReadsObject}
-use Rattle.cert.specs.Certificate.{certificate_text, named_as}
+use Rattle.certificate.specs.Certificate.{certificate_text, named_as}
 use Rattle.partition.specs.Fti.{Fti}
 use Rattle.commands.specs.Inputs.{Bytes}
 use Rattle.commands.specs.Lines.{count_line}

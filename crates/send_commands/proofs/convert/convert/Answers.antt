@@ -1,12 +1,12 @@
 use Rattle.std.proofs.Common.{◌∙◌, ℕ, [], ◌∷◌, Some, refl, sym, ap, codes}
-use Rattle.cert.specs.Certificate.{certificate_text, named_as}
+use Rattle.certificate.specs.Certificate.{certificate_text, named_as}
 use Rattle.partition.specs.Fti.{block_count}
 use Rattle.request.specs.declared.requests.Request.TheVariants.{Convert}
 use Rattle.commands.specs.Inputs.{Polynomials}
 use Rattle.commands.specs.Lines.{count_line}
 use Rattle.send_commands.specs.Converted.{Converts}
 use Rattle.commands.specs.Doing.{text_of}
-use Rattle.cert.specs.declared.certificate.CertFault.TheVariants.{Io}
+use Rattle.certificate.specs.declared.certificate.CertFault.TheVariants.{Io}
 use Rattle.commands.specs.declared.fault.Fault.TheVariants.{Certificate as NoCertificate}
 use Rattle.send_commands.proofs.Conversions.{gives_certificate, because_unconverted}
 use Rattle.commands.proofs.Stopping.{kept_whole, passed_on, uncommitted}

@@ -1,7 +1,7 @@
 use Rattle.std.proofs.Common.{subst}
 use Rattle.std.specs.Cow.{cow_slice_items}
 use Rattle.cert.specs.NotBegun.{IsNotBegun}
-use Rattle.cert.proofs.DatagramSteps.{passed_on}
+use Rattle.certificate.proofs.Results.{passed_on}
 use Rattle.cert.proofs.Feeding.{not_begun}
 use Rattle.cert.proofs.checker.Checker.new.Goals as goal
 

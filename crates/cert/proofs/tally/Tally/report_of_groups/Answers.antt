@@ -9,12 +9,13 @@ use Rattle.partition.specs.Fti.{Fti}
 use Rattle.partition.proofs.Laws.{some_block}
 use Rattle.reception.specs.Reception.{counted, symbols, is_carrier}
 use Rattle.reception.specs.Walks.{readings_of}
-use Rattle.cert.specs.Certificate.{Certificate}
+use Rattle.certificate.specs.Certificate.{Certificate}
 use Rattle.cert.specs.Tallying.{IsTally, Says, by_certificate, tallied_of}
 use Rattle.cert.specs.declared.tally.Tally.{Tally}
 use Rattle.cert.specs.Verdict.{AreCertified}
 use Rattle.cert.proofs.Judging.{read_all, are_certified, none_came, some_came, no_reason}
-use Rattle.cert.proofs.DatagramSteps.{all_sound, passed_on}
+use Rattle.cert.proofs.DatagramSteps.{all_sound}
+use Rattle.certificate.proofs.Results.{passed_on}
 use Rattle.cert.proofs.Bridge.{lines_are, enough_full, counts_refused, where_thin}
 use Rattle.cert.proofs.CarrierPlaces.{any_place, places_counted}
 use Rattle.cert.proofs.Losing.{are_groups, margin_told, kill_told, lacks_told, burst_told, first_burst_told}

@@ -2,7 +2,8 @@ use Rattle.std.proofs.Common.{Err, refl}
 use Rattle.losses.specs.Groups.{groups_of}
 use Rattle.reception.specs.Reception.{Faulty}
 use Rattle.cert.specs.Tallying.{by_certificate, tallied_of}
-use Rattle.cert.proofs.DatagramSteps.{refuses, packet_in_range, symbol_long, block_there, passes, passes_over, not_early, refuses_symbol, passed_on}
+use Rattle.cert.proofs.DatagramSteps.{refuses, packet_in_range, symbol_long, block_there, passes, passes_over, not_early, refuses_symbol}
+use Rattle.certificate.proofs.Results.{passed_on}
 use Rattle.cert.proofs.walk.Walk.step.Goals as goal
 
 pub compare-requires-clause-range : goal.compare-requires-clause-range

@@ -1,6 +1,6 @@
 use Rattle.std.proofs.Common.{◌∙◌, sym, arith}
 use Rattle.reception.specs.Answer.{Object}
-use Rattle.decoder.specs.Received.{bytes_at}
+use Rattle.block_recovery.specs.Received.{bytes_at}
 use Rattle.decoder.proofs.Answering.{are_within, in_range, stand_of}
 use Rattle.decoder.proofs.BytesOfSymbols.{have_bytes}
 use Rattle.decoder.proofs.GatheredSymbols.{answer_of, begun_of, object_length}

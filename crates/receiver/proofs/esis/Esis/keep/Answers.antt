@@ -1,6 +1,6 @@
 use Rattle.std.proofs.Common.{◌≡◌, ◌∙◌, ◌+◌, ◌*◌, ◌++◌, ◌∷◌, [], ℕ, List, length, take, ap, sym, subst, arith, inl}
 use Rattle.partition.proofs.Laws.{counts}
-use Rattle.decoder.specs.Arrivals.{with_esi}
+use Rattle.block_recovery.specs.Arrivals.{with_esi}
 use Rattle.receiver.specs.Esis.{esis_of}
 use Rattle.receiver.specs.Stored.{IsPending}
 use Rattle.receiver.proofs.Among.{place_fits, pending_more}

@@ -1,7 +1,7 @@
 use Rattle.std.proofs.Common.{◌≡◌, ◌∙◌, ◌+◌, ◌∷◌, [], ◌≤◌, ◌<◌, Some, List, ℕ, Option, length, length-append, ap, sym, subst, rules, arith, inl, inr, le-leb}
 use Rattle.std.proofs.lemmas.Bool.{lt-leb}
 use Rattle.partition.specs.Fti.{Fti, source_count}
-use Rattle.decoder.proofs.Kept.{with_same}
+use Rattle.block_recovery.proofs.Kept.{with_same}
 use Rattle.receiver.specs.Bytes.{Becomes}
 use Rattle.receiver.specs.Esis.{esis_of}
 use Rattle.receiver.specs.Putting.{IsPutFault, UnlessFailed}

@@ -2,8 +2,8 @@ use Rattle.std.specs.Prelude.{IsTrue, Bool}
 use Rattle.std.proofs.Common.{◌≡◌, ◌∙◌, ◌*◌, ◌++◌, ◌∷◌, [], ℕ, List, Option, length, true, false, sym, ap, subst, rules, vec_len}
 use Rattle.partition.specs.Fti.{Fti, source_count}
 use Rattle.partition.proofs.Laws.{counts}
-use Rattle.decoder.specs.Arrivals.{with_esi}
-use Rattle.decoder.specs.Giving.{GivesSymbol}
+use Rattle.block_recovery.specs.Arrivals.{with_esi}
+use Rattle.block_recovery.specs.Giving.{GivesSymbol}
 use Rattle.receiver.specs.Esis.{esis_of}
 use Rattle.receiver.specs.Stored.{IsOf, IsSolved, is_among}
 use Rattle.receiver.proofs.Among.{of_more}

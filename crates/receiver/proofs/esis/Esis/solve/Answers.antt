@@ -1,9 +1,9 @@
 use Rattle.std.proofs.Common.{◌≡◌, ◌∙◌, ◌+◌, ◌*◌, ◌++◌, ◌∷◌, [], ◌<◌, Err, ◌==◌, ◌||◌, ℕ, List, Option, length, take, refl, sym, ap, subst, arith, inl}
 use Rattle.std.specs.Prelude.{is_some}
 use Rattle.partition.specs.Fti.{Fti, encoding_count}
-use Rattle.decoder.specs.Arrivals.{with_esi}
-use Rattle.decoder.specs.Blocks.{bytes_of_esi}
-use Rattle.decoder.specs.Decoded.{IsUnexplained, AreRows}
+use Rattle.block_recovery.specs.Arrivals.{with_esi}
+use Rattle.block_recovery.specs.Blocks.{bytes_of_esi}
+use Rattle.block_recovery.specs.Decoded.{IsUnexplained, AreRows}
 use Rattle.receiver.specs.Esis.{esis_of}
 use Rattle.receiver.specs.Stored.{is_among, AreSymbols, IsPending, IsSolved}
 use Rattle.receiver.proofs.Solving.{enough_of, read_symbols, no_code, solved_now, put_rows}

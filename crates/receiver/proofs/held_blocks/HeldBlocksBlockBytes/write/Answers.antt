@@ -2,7 +2,7 @@ use Rattle.std.specs.BTreeMap.{get}
 use Rattle.std.specs.Ordering.{nat_cmp}
 use Rattle.std.proofs.Common.{◌≡◌, ◌∙◌, Some, sym, rules}
 use Rattle.std.proofs.lemmas.Bool.{ne_eqb}
-use Rattle.decoder.proofs.Index.{number_eq}
+use Rattle.block_recovery.proofs.Index.{number_eq}
 use Rattle.receiver.proofs.Held.{was_in, put_in}
 use Rattle.receiver.proofs.held_blocks.HeldBlocksBlockBytes.write.Goals as goal
 

@@ -1,5 +1,5 @@
 use Rattle.std.proofs.Common.{arith}
-use Rattle.decoder.specs.Decoded.{IsShort}
+use Rattle.decoder.specs.Answered.{IsShort}
 use Rattle.receiver.specs.Taking.{IsShortBlock}
 use Rattle.receiver.proofs.Taken.{if_some, is_short}
 use Rattle.receiver.proofs.store.Store.first_short.Goals as goal

@@ -2,7 +2,7 @@ use Rattle.std.proofs.Common.{◌<◌, ℕ, List, None, length, refl, sym, ap, s
 use Rattle.std.proofs.lemmas.Bool.{lt-leb}
 use Rattle.partition.specs.Fti.{block_count, source_count}
 use Rattle.partition.proofs.Laws.{some_block, some_source}
-use Rattle.decoder.proofs.Kept.{count_none}
+use Rattle.block_recovery.proofs.Kept.{count_none}
 use Rattle.receiver.specs.Esis.{esis_of}
 use Rattle.receiver.specs.Stored.{IsOf, IsStored}
 use Rattle.receiver.proofs.Among.{of_none, stored_none}

@@ -1,0 +1,14 @@
+-- What is so of a result, and so of what follows.
+use Rattle.std.specs.Prelude.{Result, Ok, Err, IfOk, IfSome, None}
+use Rattle.std.proofs.Common.{Option, Some}
+
+-- what is so of a result is so of what follows
+pub if_ok : {A E : Type 0} (P Q : A → Type 0) (r : Result A E) → ((a : A) → P a → Q a) → IfOk r P → IfOk r Q
+if_ok P Q (Ok a) f h = f a h
+if_ok P Q (Err e) f h = h
+
+-- and of a value in it
+pub if_ok_some : {A E : Type 0} (P Q : A → Type 0) (r : Result (Option A) E) → ((a : A) → P a → Q a) → IfOk r (λ o. IfSome o P) → IfOk r (λ o. IfSome o Q)
+if_ok_some P Q (Ok (Some a)) f h = f a h
+if_ok_some P Q (Ok None) f h = tt
+if_ok_some P Q (Err e) f h = tt

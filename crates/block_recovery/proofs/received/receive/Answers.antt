@@ -1,0 +1,85 @@
+use Rattle.std.proofs.Common.{◌∙◌, ◌<◌, ℕ, length, map, List, Ok, Err, refl, sym, ap, subst, arith}
+use Rattle.std.proofs.lemmas.List.{length-map}
+use Rattle.std.specs.Borrow.{Bor}
+use Rattle.alc.specs.Views.{packet_of}
+use Rattle.reception.specs.Reception.{Faulty, Judged, Reception, symbol_of}
+use Rattle.reception.specs.Walks.{scope_in}
+use Rattle.reception.specs.declared.scope.Look.TheVariants as look_at
+use Rattle.reception.specs.declared.scope.Scope.{Scope}
+use Rattle.reception.specs.Answer.{Clash, Clashes, clash}
+use Rattle.reception.proofs.Heard.{borrowed_at, found_reception}
+use Rattle.reception.proofs.Walking.{stops, came_before}
+use Rattle.block_recovery.specs.Received.{bytes_at}
+use Rattle.block_recovery.proofs.Receiving.{Scanned, starts, clashed, receives, known_at_last, passes_other, passes_bare, all_received, nothing}
+use Rattle.block_recovery.proofs.received.receive.Goals as goal
+
+some_mapped : (xs : List (Bor (List ℕ))) (i : ℕ) → i < length xs → i < length (map (λ (d : Bor (List ℕ)). d.now) xs)
+some_mapped xs i l = omega (arith, l, length-map xs (λ (d : Bor (List ℕ)). d.now))
+
+pub loop-place-init : goal.loop-place-init
+loop-place-init c =
+    let ds = map (λ (d : Bor (List ℕ)). d.now) c.args.datagrams.now in
+    subst (λ (s : Scope). Scanned (scope_in c.args.identity ds) ds s (bytes_at c.new-symbols.result) 0) (sym (c.found_in-scope.ensures _ c.requires))
+    (starts (scope_in c.args.identity ds) ds (bytes_at c.new-symbols.result) (c.new-symbols.ensures.none (λ slice. slice.now)))
+
+pub loop-place-preserved-in-Ok-Other : goal.loop-place-preserved-in-Ok-Other
+loop-place-preserved-in-Ok-Other c =
+    let ds = map (λ (d : Bor (List ℕ)). d.now) c.args.datagrams.now in
+    let l : c.loop-place.place < length c.args.datagrams.now = omega arith in
+    passes_other (scope_in c.args.identity ds) ds c.loop-place.scope (bytes_at c.loop-place.symbols) c.loop-place.place c.loop-place.invariant _ c.look.new.self
+    (some_mapped c.args.datagrams.now _ l) (borrowed_at c.args.datagrams.now c.loop-place.place _ l) (rw (c.in-Ok-Other.is, c.in-Ok-Other.field-0-is) at c.look.ensures)
+
+pub loop-place-preserved-in-Ok-Early : goal.loop-place-preserved-in-Ok-Early
+loop-place-preserved-in-Ok-Early c =
+    let ds = map (λ (d : Bor (List ℕ)). d.now) c.args.datagrams.now in
+    let l : c.loop-place.place < length c.args.datagrams.now = omega arith in
+    passes_bare c.args.identity ds c.loop-place.scope (bytes_at c.loop-place.symbols) c.loop-place.place c.loop-place.invariant _ c.look.new.self
+    (some_mapped c.args.datagrams.now _ l) (borrowed_at c.args.datagrams.now c.loop-place.place _ l) (rw (c.in-Ok-Early.is, c.in-Ok-Early.field-0-is) at c.look.ensures)
+
+pub returns-in-Err-clause-refusal : goal.returns-in-Err-clause-refusal
+returns-in-Err-clause-refusal c =
+    let ds = map (λ (d : Bor (List ℕ)). d.now) c.args.datagrams.now in
+    let l : c.loop-place.place < length c.args.datagrams.now = omega arith in
+    rw c.fault_at.ensures
+    (ap (λ (r : Reception Clash). r.wrong) (sym (found_reception clash c.args.identity ds))
+    ∙ stops clash (scope_in c.args.identity ds) ds c.loop-place.place c.loop-place.scope c.loop-place.invariant.walked _ c.look.new.self (Err c.in-Err.fault)
+    (some_mapped c.args.datagrams.now _ l) (borrowed_at c.args.datagrams.now c.loop-place.place _ l) (rw c.in-Err.is at c.look.ensures) (Faulty c.in-Err.fault) refl)
+
+pub returns-in-Err-Clash-clause-refusal : goal.returns-in-Err-Clash-clause-refusal
+returns-in-Err-Clash-clause-refusal c =
+    let ds = map (λ (d : Bor (List ℕ)). d.now) c.args.datagrams.now in
+    let known = scope_in c.args.identity ds in
+    let l : c.loop-place.place < length c.args.datagrams.now = omega arith in
+    let at = rw (c.in-Ok-InRange.is, c.in-Ok-InRange.field-0-is) at c.look.ensures in
+    let inside = some_mapped c.args.datagrams.now _ l in
+    let here = borrowed_at c.args.datagrams.now c.loop-place.place _ l in
+    let before = came_before known.identity ds c.loop-place.place in
+    let k = known_at_last known ds c.loop-place.scope (bytes_at c.loop-place.symbols) c.loop-place.place c.loop-place.invariant _ c.look.new.self c.in-Ok-InRange.packet inside here at in
+    let says = c.in-Err-Clash.ensures.clash c.in-Err-Clash.field-0-is before (c.loop-place.invariant.index k.0 k.1) in
+    ap (λ (r : Reception Clash). r.wrong) (sym (found_reception clash c.args.identity ds))
+    ∙ stops clash known ds c.loop-place.place c.loop-place.scope c.loop-place.invariant.walked _ c.look.new.self (Ok (look_at.InRange c.in-Ok-InRange.packet))
+    inside here at (Judged Clashes) (clashed before (symbol_of (packet_of c.in-Ok-InRange.packet)) says)
+
+pub loop-place-preserved : goal.loop-place-preserved
+loop-place-preserved c =
+    let ds = map (λ (d : Bor (List ℕ)). d.now) c.args.datagrams.now in
+    let known = scope_in c.args.identity ds in
+    let l : c.loop-place.place < length c.args.datagrams.now = omega arith in
+    let at = rw (c.in-Ok-InRange.is, c.in-Ok-InRange.field-0-is) at c.look.ensures in
+    let inside = some_mapped c.args.datagrams.now _ l in
+    let here = borrowed_at c.args.datagrams.now c.loop-place.place _ l in
+    let before = came_before known.identity ds c.loop-place.place in
+    let k = known_at_last known ds c.loop-place.scope (bytes_at c.loop-place.symbols) c.loop-place.place c.loop-place.invariant _ c.look.new.self c.in-Ok-InRange.packet inside here at in
+    let says = c.in-Ok.ensures.none before (c.loop-place.invariant.index k.0 k.1) in
+    receives known ds c.loop-place.scope (bytes_at c.loop-place.symbols) c.loop-place.place c.loop-place.invariant _ c.look.new.self c.in-Ok-InRange.packet
+    inside here at (bytes_at c.keep.new.symbols) says c.in-Ok.ensures.here c.in-Ok.ensures.elsewhere
+
+pub returns-in-Some-clause-received : goal.returns-in-Some-clause-received
+returns-in-Some-clause-received c =
+    all_received c.args.identity _ c.loop-place.scope (bytes_at c.loop-place.symbols) c.loop-place.place c.loop-place.invariant
+    (let e = length-map c.args.datagrams.now (λ (d : Bor (List ℕ)). d.now) in omega (arith, e)) c.in-Some.fti c.in-Some.is
+
+pub returns-clause-nothing : goal.returns-clause-nothing
+returns-clause-nothing c = λ none.
+    nothing c.args.identity _ c.loop-place.scope (bytes_at c.loop-place.symbols) c.loop-place.place c.loop-place.invariant
+    (let e = length-map c.args.datagrams.now (λ (d : Bor (List ℕ)). d.now) in omega (arith, e)) c.in-None.is

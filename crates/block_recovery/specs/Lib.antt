@@ -1,0 +1,13 @@
+pub mod Rows
+pub mod Blocks
+pub mod Erasures
+pub mod Columns
+pub mod Received
+pub mod Decoded
+pub mod Refusals
+pub mod Recoveries
+pub mod Arrivals
+pub mod Giving
+pub mod Differences
+pub mod Faults
+pub mod Listed

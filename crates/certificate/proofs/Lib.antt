@@ -1,0 +1,17 @@
+pub mod Polynomials
+pub mod Texts
+pub mod Flat
+pub mod TextPlaces
+pub mod NamedTexts
+pub mod OneText
+pub mod RowsOfText
+pub mod TextsWithoutFault
+pub mod Consuming
+pub mod TextView
+pub mod BlockByBlock
+pub mod GivenName
+pub mod ConvertedBegun
+pub mod Vectors
+pub mod GreatestBlock
+pub mod BlockSymbols
+pub mod Results

@@ -1,0 +1,21 @@
+//! Certificates of sessions: for each block the polynomial of each byte column.
+//!
+//! `certificate` has the certificate, its file and the faults of one (`specs/Certificate`). `head`
+//! reads and writes what stands in the file before the coefficients, and `column_text` the
+//! coefficients of a certificate without a name, column by column. `converting` gives a file a
+//! name, block by block. `view` has a certificate whose coefficients may be borrowed, and `in_file`
+//! one with a name that stays in its file.
+#![tactic(auto)]
+
+mod certificate;
+mod column_text;
+mod converting;
+mod head;
+mod in_file;
+mod view;
+
+pub use certificate::{CertFault, Certificate, one_certificate, texts_without_fault};
+pub use converting::{ConvertFault, convert};
+pub use head::write_head;
+pub use in_file::NamedCertificate;
+pub use view::CertificateView;

@@ -1,0 +1,4 @@
+pub mod RepairSymbols
+pub mod Differences
+pub mod CertifiedSymbol
+pub mod FirstWrong

@@ -1,7 +1,0 @@
-use Rattle.std.specs.Prelude.{◌||◌, ◌==◌, is_some}
-use Rattle.decoder.specs.Blocks.{bytes_of_esi}
-use Rattle.decoder.specs.Erasures.{AreThose}
-use Rattle.decoder.proofs.padding.esis_with.Given as goal
-
-abbrev pub invariant-loop-j : goal.invariant-loop-j
-invariant-loop-j l = AreThose (λ j. is_some (bytes_of_esi l.arrivals j) || j == l.more) 0 l.j l.esis.items

@@ -1,5 +1,0 @@
-use Rattle.std.proofs.Common.{◌≡◌, ◌<◌, ℕ, slice_index}
-use Rattle.decoder.proofs.rows.is_zero.Given as goal
-
-abbrev pub invariant-loop-i : goal.invariant-loop-i
-invariant-loop-i l = (c : ℕ) → c < l.i → slice_index l.bytes c ≡ 0

@@ -1,0 +1,8 @@
+pub mod ReadAgain
+pub mod FileFaults
+pub mod FirstCarrier
+pub mod Indexed
+pub mod FromFile
+pub mod BelowEsi
+mod Placed
+pub mod Refuted

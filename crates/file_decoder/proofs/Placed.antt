@@ -1,0 +1,72 @@
+-- What places in a file tell of the symbols there, of which it isn't known whether they are of an object.
+use Rattle.std.specs.Prelude.{IfSome, IsNone}
+use Rattle.std.specs.Option.{unwrap_or}
+use Rattle.std.proofs.Common.{◌≡◌, ℕ, List, [], Option, Some, None, sym, subst}
+use Rattle.reception.specs.declared.scope.Identity.{Identity}
+use Rattle.reception.specs.Answer as value
+use Rattle.reception.specs.Answer.{IsAnswer}
+use Rattle.reception.specs.Reception.{with_fti}
+use Rattle.decoder.specs.Answers.{answer_value}
+use Rattle.decoder.specs.Answered.{Answers, NoneIsShort, Stand}
+use Rattle.file_decoder.specs.InFile.{held_in, file_at, AllStandIn}
+use Rattle.file_decoder.specs.PlacesOf.{AreEnoughPlaces, AreGatheredIn, AreIndexedOf, ArePlacedIn, ArePlacedOf, ArePlacesOf}
+use Rattle.block_recovery.specs.Received.{came_at}
+use Rattle.block_recovery.specs.Decoded.{AreInRange}
+use Rattle.decoder.specs.Unsolvable.{AreSound, HaveBytes}
+use Rattle.decoder.specs.Written.{IsVerdict}
+use Rattle.decoder.specs.declared.answer.Answer.{Answer}
+use Rattle.file_decoder.specs.declared.file_gathering.FileSymbols.{FileSymbols}
+use Rattle.file_decoder.specs.declared.file_source.Indexed.{Indexed}
+use Rattle.decoder.proofs.Answering.{stand_of}
+use Rattle.decoder.proofs.BytesOfSymbols.{have_bytes}
+use Rattle.file_decoder.proofs.FromFile.{told_is}
+use Rattle.decoder.proofs.GatheredSymbols.{answer_of}
+
+-- where the places in a file are those of some of its datagrams, where its bytes are told
+module _ (content : Option (List ℕ)) (s : Indexed) (of : (x : List ℕ) → content ≡ Some x → (who : Identity) × (ds : List (List ℕ)) × AreIndexedOf who ds x s) where
+  pub indexed_stand : AllStandIn content (with_fti s.identity s.fti) s.symbols → Stand s.fti (file_at content s.symbols)
+  indexed_stand told =
+      let w = of told.0 told.1 in
+      subst (λ (y : List ℕ). Stand s.fti (came_at (held_in y) s.symbols)) (sym (told_is content told.0 told.1))
+      (stand_of w.0 w.1 s.fti (came_at (held_in told.0) s.symbols) w.2.received)
+
+  pub indexed_bytes : AllStandIn content (with_fti s.identity s.fti) s.symbols → HaveBytes (file_at content s.symbols)
+  indexed_bytes told =
+      let w = of told.0 told.1 in
+      subst (λ (y : List ℕ). HaveBytes (came_at (held_in y) s.symbols)) (sym (told_is content told.0 told.1))
+      (have_bytes w.0 w.1 (came_at (held_in told.0) s.symbols) w.2.read w.2.received.index)
+
+module _ (content : Option (List ℕ)) (s : FileSymbols) where
+  pub placed_range : AreEnoughPlaces s → AreInRange s.indexed.fti (file_at content s.indexed.symbols)
+  placed_range places = places.range (held_in (unwrap_or content []))
+
+  pub placed_enough : AreEnoughPlaces s → NoneIsShort s.indexed.fti (file_at content s.indexed.symbols)
+  placed_enough places = places.enough (held_in (unwrap_or content []))
+
+  pub placed_of : ArePlacedIn content s → (x : List ℕ) → content ≡ Some x → (who : Identity) × (ds : List (List ℕ)) × AreIndexedOf who ds x s.indexed
+  placed_of placed x told = let w = rw told at placed.1 in (s.indexed.identity, w.0, w.1.indexed)
+
+  pub gathered_of : AreGatheredIn content s → (x : List ℕ) → content ≡ Some x → (who : Identity) × (ds : List (List ℕ)) × AreIndexedOf who ds x s.indexed
+  gathered_of gathered x told = let w = rw told at gathered.1 in (w.0, w.1, w.2.indexed)
+
+module _ (content : Option (List ℕ)) (s : FileSymbols) (ds : List (List ℕ)) (x : List ℕ) (told : content ≡ Some x) (are : ArePlacedOf s.indexed.identity ds x s) where
+  pub placed_answer : (answer : value.Answer) → Answers s.indexed.fti (file_at content s.indexed.symbols) answer → IsAnswer s.indexed.identity ds answer
+  placed_answer answer answers =
+      answer_of s.indexed.identity ds s.indexed.fti (came_at (held_in x) s.indexed.symbols) are.indexed.read are.indexed.received answer
+      (subst (λ (y : List ℕ). Answers s.indexed.fti (came_at (held_in y) s.indexed.symbols) answer) (told_is content x told) answers)
+
+  pub placed_sound : AreSound s.indexed.fti (file_at content s.indexed.symbols) → ArePlacesOf s.indexed.identity ds x s
+  placed_sound sound = record {
+    framed = are.framed;
+    indexed = are.indexed;
+    sound = subst (λ (y : List ℕ). AreSound s.indexed.fti (came_at (held_in y) s.indexed.symbols)) (told_is content x told) sound;
+  }
+
+  pub placed_refuted : (o : Option Answer) → IsVerdict s.indexed.fti (file_at content s.indexed.symbols) o → IfSome o (λ a. IsAnswer s.indexed.identity ds (answer_value a))
+  placed_refuted None h = tt
+  placed_refuted (Some a) h = placed_answer (answer_value a) h
+
+  pub placed_object : (o : Option Answer) → IsVerdict s.indexed.fti (file_at content s.indexed.symbols) o → IsNone o
+      → ArePlacesOf s.indexed.identity ds x s × (object : List ℕ) × IsAnswer s.indexed.identity ds (value.Object object)
+  placed_object None h none = (placed_sound h.0, h.1, placed_answer (value.Object h.1) h.2)
+  placed_object (Some a) h none = absurd (cc)

@@ -1,0 +1,278 @@
+use Rattle.std.proofs.Common.{◌≡◌, ◌∙◌, ◌+◌, ℕ, length, refl, sym, ap, subst, arith}
+use Rattle.std.proofs.lemmas.Result.{err_from_is_err_and}
+use Rattle.session.proofs.WholeFrames.{fault_behind}
+use Rattle.reception.specs.declared.scope.Look.TheVariants as look_at
+use Rattle.reception.specs.Reception.{with_fti}
+use Rattle.reception.specs.declared.scope.Scope.{Scope}
+use Rattle.reception.proofs.Looks.{faultless_look}
+use Rattle.file_decoder.specs.InFile.{held_in, AreSymbolsIn, IsSymbolIn}
+use Rattle.file_decoder.specs.FileFaults.{IsNotAgain}
+use Rattle.file_decoder.specs.declared.indexing.Unkept.TheVariants as unkept
+use Rattle.decoder.specs.declared.source.Unread.{Unread}
+use Rattle.block_recovery.specs.Received.{came_at}
+use Rattle.session.proofs.Passing.{Behind, at_start, read_more, is_next, stands, all_read, read_frames, rest_frames}
+use Rattle.file_decoder.proofs.FileFaults.{frame_fault_is, not_again}
+use Rattle.file_decoder.proofs.Indexed.{scan_starts, scan_ends, scan_passes, scan_stops, scan_clashes, scan_keeps, none_in_range, has_both}
+use Rattle.file_decoder.proofs.ReadAgain.{same_scope, symbol_moves}
+use Rattle.file_decoder.proofs.indexing.index_frames.Goals as goal
+
+pub loop-symbols-init : goal.loop-symbols-init
+loop-symbols-init g c = record {
+  behind = rw (c.requires.bytes, c.new-position.ensures.offset, c.new-position.ensures.place) (at_start (g.F.ReadAt.content c.args.file.now));
+  stays = refl;
+  scanned = λ x ds told framed known.
+      rw c.new-position.ensures.place
+      (scan_starts c.args.identity c.args.fti ds known (came_at (held_in x) c.new-symbols.result) (c.new-symbols.ensures.none (held_in x)));
+  placed = λ x told b k d l. absurd (let e = ap length (c.new-symbols.ensures.empty b) in omega (arith, e, l));
+  range = λ held. none_in_range c.args.fti (came_at held c.new-symbols.result) (c.new-symbols.ensures.none held);
+}
+
+pub returns-in_default-clause-received : goal.returns-in_default-clause-received
+returns-in_default-clause-received g c = λ x ds told framed known.
+    let i = c.loop-symbols.invariant in
+    scan_ends c.args.identity c.args.fti ds known (came_at (held_in x) c.loop-symbols.symbols) c.loop-symbols.position.place (i.scanned x ds told framed known)
+    (all_read (g.F.ReadAt.content c.args.file.now) (g.R.Read.remaining c.loop-symbols.reader) c.loop-symbols.position.offset c.loop-symbols.position.place i.behind
+    (c.in_ok-datagram.ensures.none c.in_default.is).0 x told ds framed)
+
+pub loop-symbols-preserved-in-Ok-Other : goal.loop-symbols-preserved-in-Ok-Other
+loop-symbols-preserved-in-Ok-Other g c =
+    let content = g.F.ReadAt.content c.args.file.now in
+    let left = g.R.Read.remaining c.loop-symbols.reader in
+    let new = g.R.Read.remaining c.read_next_into.new.reader in
+    let i = c.loop-symbols.invariant in
+    let d = c.in-Some.datagram.items in
+    let who = c.args.identity in
+    let f = c.args.fti in
+    let place = c.loop-symbols.position.place in
+    let reads = rw c.in-Some.is at c.in_ok-datagram.ensures.some in
+    let short = rw c.in-Some.is at c.in_ok-datagram.ensures.short in
+    let bytes = rw c.as_slice-bytes.ensures.value at c.are_bytes.ensures in
+    let look = rw (c.as_slice-bytes.ensures.value, c.with_fti-scope.ensures, c.in-Ok-Other.is, c.in-Ok-Other.field-0-is) at c.look.ensures in
+    record {
+      behind = subst (λ (n : ℕ). Behind (g.F.ReadAt.content c.args.file.now) (g.R.Read.remaining c.read_next_into.new.reader) c.in_ok-here.next.offset n) (sym c.in_ok-here.ensures.more)
+          (read_more content left c.loop-symbols.position.offset place i.behind new d reads short bytes c.in_ok-here.next.offset (omega (arith, c.in_ok-here.ensures.behind, ap length c.as_slice-bytes.ensures.value)));
+      stays = c.in_ok-datagram.ensures.stays ∙ i.stays;
+      scanned = λ x ds told framed known.
+          let n = is_next content left c.loop-symbols.position.offset place i.behind new d reads short x told ds framed in
+          rw c.in_ok-here.ensures.more
+          (scan_passes who f ds known (came_at (held_in x) c.loop-symbols.symbols) place (i.scanned x ds told framed known) d c.look.new.self n.0 n.1 look_at.Other look (λ p e. cc));
+      placed = i.placed;
+      range = i.range;
+    }
+
+pub loop-symbols-preserved-in-Ok-Early : goal.loop-symbols-preserved-in-Ok-Early
+loop-symbols-preserved-in-Ok-Early g c =
+    let content = g.F.ReadAt.content c.args.file.now in
+    let left = g.R.Read.remaining c.loop-symbols.reader in
+    let new = g.R.Read.remaining c.read_next_into.new.reader in
+    let i = c.loop-symbols.invariant in
+    let d = c.in-Some.datagram.items in
+    let who = c.args.identity in
+    let f = c.args.fti in
+    let place = c.loop-symbols.position.place in
+    let reads = rw c.in-Some.is at c.in_ok-datagram.ensures.some in
+    let short = rw c.in-Some.is at c.in_ok-datagram.ensures.short in
+    let bytes = rw c.as_slice-bytes.ensures.value at c.are_bytes.ensures in
+    let look = rw (c.as_slice-bytes.ensures.value, c.with_fti-scope.ensures, c.in-Ok-Early.is, c.in-Ok-Early.field-0-is) at c.look.ensures in
+    record {
+      behind = subst (λ (n : ℕ). Behind (g.F.ReadAt.content c.args.file.now) (g.R.Read.remaining c.read_next_into.new.reader) c.in_ok-here.next.offset n) (sym c.in_ok-here.ensures.more)
+          (read_more content left c.loop-symbols.position.offset place i.behind new d reads short bytes c.in_ok-here.next.offset (omega (arith, c.in_ok-here.ensures.behind, ap length c.as_slice-bytes.ensures.value)));
+      stays = c.in_ok-datagram.ensures.stays ∙ i.stays;
+      scanned = λ x ds told framed known.
+          let n = is_next content left c.loop-symbols.position.offset place i.behind new d reads short x told ds framed in
+          rw c.in_ok-here.ensures.more
+          (scan_passes who f ds known (came_at (held_in x) c.loop-symbols.symbols) place (i.scanned x ds told framed known) d c.look.new.self n.0 n.1 look_at.Early look (λ p e. cc));
+      placed = i.placed;
+      range = i.range;
+    }
+
+pub returns-in_err-read_rest-in-Err-clause-unindexed : goal.returns-in_err-read_rest-in-Err-clause-unindexed
+returns-in_err-read_rest-in-Err-clause-unindexed g c =
+    let content = g.F.ReadAt.content c.args.file.now in
+    let left = g.R.Read.remaining c.loop-symbols.reader in
+    let new = g.R.Read.remaining c.read_next_into.new.reader in
+    let i = c.loop-symbols.invariant in
+    let d = c.in-Some.datagram.items in
+    let who = c.args.identity in
+    let f = c.args.fti in
+    let place = c.loop-symbols.position.place in
+    let reads = rw c.in-Some.is at c.in_ok-datagram.ensures.some in
+    let short = rw c.in-Some.is at c.in_ok-datagram.ensures.short in
+    let bytes = rw c.as_slice-bytes.ensures.value at c.are_bytes.ensures in
+    let p = err_from_is_err_and c.from_residual-in_err-read_rest-in-Err.result c.from_residual-in_err-read_rest-in-Err.ensures.1 in
+    let b = read_more content left c.loop-symbols.position.offset place i.behind new d reads short bytes _ refl in
+    rw (p.1, p.2)
+    (frame_fault_is content (g.R.Read.failed c.read_rest.new.reader) (g.F.ReadAt.reliable c.args.file.now) c.in_err-read_rest-in-Err.field-0.0
+    (fault_behind c.in_err-read_rest-in-Err.field-0.0 content new (g.R.Read.failed c.read_rest.new.reader) b.read b.bytes b.short c.in_err-read_rest-in-Err.ensures.fault)
+    (λ io. sym c.requires.sound ∙ sym i.stays ∙ sym c.in_ok-datagram.ensures.stays ∙ c.in_err-read_rest-in-Err.ensures.unsound io))
+
+pub returns-in-Err-clause-fault : goal.returns-in-Err-clause-fault
+returns-in-Err-clause-fault g c = λ x ds told framed known.
+    let content = g.F.ReadAt.content c.args.file.now in
+    let left = g.R.Read.remaining c.loop-symbols.reader in
+    let new = g.R.Read.remaining c.read_next_into.new.reader in
+    let i = c.loop-symbols.invariant in
+    let d = c.in-Some.datagram.items in
+    let who = c.args.identity in
+    let f = c.args.fti in
+    let place = c.loop-symbols.position.place in
+    let reads = rw c.in-Some.is at c.in_ok-datagram.ensures.some in
+    let short = rw c.in-Some.is at c.in_ok-datagram.ensures.short in
+    let bytes = rw c.as_slice-bytes.ensures.value at c.are_bytes.ensures in
+    let look = rw (c.as_slice-bytes.ensures.value, c.with_fti-scope.ensures, c.in-Err.is) at c.look.ensures in
+    let n = is_next content left c.loop-symbols.position.offset place i.behind new d reads short x told ds framed in
+    rw c.fault_at.ensures
+    (scan_stops who f ds known (came_at (held_in x) c.loop-symbols.symbols) place (i.scanned x ds told framed known) d c.look.new.self n.0 n.1 c.in-Err.fault look)
+
+pub returns-in-Err-clause-unindexed : goal.returns-in-Err-clause-unindexed
+returns-in-Err-clause-unindexed g c =
+    let content = g.F.ReadAt.content c.args.file.now in
+    let left = g.R.Read.remaining c.loop-symbols.reader in
+    let new = g.R.Read.remaining c.read_next_into.new.reader in
+    let i = c.loop-symbols.invariant in
+    let d = c.in-Some.datagram.items in
+    let who = c.args.identity in
+    let f = c.args.fti in
+    let place = c.loop-symbols.position.place in
+    let reads = rw c.in-Some.is at c.in_ok-datagram.ensures.some in
+    let short = rw c.in-Some.is at c.in_ok-datagram.ensures.short in
+    let bytes = rw c.as_slice-bytes.ensures.value at c.are_bytes.ensures in
+    let b = read_more content left c.loop-symbols.position.offset place i.behind new d reads short bytes _ refl in
+    rest_frames content new _ (place + 1) b c.in_ok-read_rest-in-Err.ensures.whole
+
+pub keep-requires : goal.keep-requires
+keep-requires g c =
+    let content = g.F.ReadAt.content c.args.file.now in
+    let left = g.R.Read.remaining c.loop-symbols.reader in
+    let new = g.R.Read.remaining c.read_next_into.new.reader in
+    let i = c.loop-symbols.invariant in
+    let d = c.in-Some.datagram.items in
+    let who = c.args.identity in
+    let f = c.args.fti in
+    let place = c.loop-symbols.position.place in
+    let reads = rw c.in-Some.is at c.in_ok-datagram.ensures.some in
+    let short = rw c.in-Some.is at c.in_ok-datagram.ensures.short in
+    let bytes = rw c.as_slice-bytes.ensures.value at c.are_bytes.ensures in
+    let look = rw (c.as_slice-bytes.ensures.value, c.with_fti-scope.ensures) at c.look.ensures in
+    (f, ap (λ s. s.fti) (same_scope d (with_fti c.args.identity c.args.fti) c.look.new.self c.look.result look f refl))
+
+pub returns-in_err-read_rest-in-Err-Clash-clause-unindexed : goal.returns-in_err-read_rest-in-Err-Clash-clause-unindexed
+returns-in_err-read_rest-in-Err-Clash-clause-unindexed g c =
+    let content = g.F.ReadAt.content c.args.file.now in
+    let left = g.R.Read.remaining c.loop-symbols.reader in
+    let new = g.R.Read.remaining c.read_next_into.new.reader in
+    let i = c.loop-symbols.invariant in
+    let d = c.in-Some.datagram.items in
+    let who = c.args.identity in
+    let f = c.args.fti in
+    let place = c.loop-symbols.position.place in
+    let reads = rw c.in-Some.is at c.in_ok-datagram.ensures.some in
+    let short = rw c.in-Some.is at c.in_ok-datagram.ensures.short in
+    let bytes = rw c.as_slice-bytes.ensures.value at c.are_bytes.ensures in
+    let p = err_from_is_err_and c.from_residual-in_err-read_rest-in-Err-Clash.result c.from_residual-in_err-read_rest-in-Err-Clash.ensures.1 in
+    let b = read_more content left c.loop-symbols.position.offset place i.behind new d reads short bytes _ refl in
+    rw (p.1, p.2)
+    (frame_fault_is content (g.R.Read.failed c.read_rest-in-Err-Clash.new.reader) (g.F.ReadAt.reliable c.args.file.now) c.in_err-read_rest-in-Err-Clash.field-0.0
+    (fault_behind c.in_err-read_rest-in-Err-Clash.field-0.0 content new (g.R.Read.failed c.read_rest-in-Err-Clash.new.reader) b.read b.bytes b.short c.in_err-read_rest-in-Err-Clash.ensures.fault)
+    (λ io. sym c.requires.sound ∙ sym i.stays ∙ sym c.in_ok-datagram.ensures.stays ∙ c.in_err-read_rest-in-Err-Clash.ensures.unsound io))
+
+pub returns-in-Err-Clash-clause-fault : goal.returns-in-Err-Clash-clause-fault
+returns-in-Err-Clash-clause-fault g c = λ x ds told framed known.
+    let content = g.F.ReadAt.content c.args.file.now in
+    let left = g.R.Read.remaining c.loop-symbols.reader in
+    let new = g.R.Read.remaining c.read_next_into.new.reader in
+    let i = c.loop-symbols.invariant in
+    let d = c.in-Some.datagram.items in
+    let who = c.args.identity in
+    let f = c.args.fti in
+    let place = c.loop-symbols.position.place in
+    let reads = rw c.in-Some.is at c.in_ok-datagram.ensures.some in
+    let short = rw c.in-Some.is at c.in_ok-datagram.ensures.short in
+    let bytes = rw c.as_slice-bytes.ensures.value at c.are_bytes.ensures in
+    let look = rw (c.as_slice-bytes.ensures.value, c.with_fti-scope.ensures, c.in-Ok-InRange.is, c.in-Ok-InRange.field-0-is) at c.look.ensures in
+    let n = is_next content left c.loop-symbols.position.offset place i.behind new d reads short x told ds framed in
+    let same = same_scope d (with_fti who f) c.look.new.self _ look f refl in
+    let placed = subst (λ (s : Scope). AreSymbolsIn x s c.loop-symbols.symbols) (sym same) (i.placed x told) in
+    scan_clashes who f ds known (came_at (held_in x) c.loop-symbols.symbols) place (i.scanned x ds told framed known) d c.look.new.self n.0 n.1 c.in-Ok-InRange.packet look
+    (c.in-Err-Clash.ensures.clash x told placed c.in-Err-Clash.field-0-is)
+
+pub returns-in-Err-Clash-clause-unindexed : goal.returns-in-Err-Clash-clause-unindexed
+returns-in-Err-Clash-clause-unindexed g c =
+    let content = g.F.ReadAt.content c.args.file.now in
+    let left = g.R.Read.remaining c.loop-symbols.reader in
+    let new = g.R.Read.remaining c.read_next_into.new.reader in
+    let i = c.loop-symbols.invariant in
+    let d = c.in-Some.datagram.items in
+    let who = c.args.identity in
+    let f = c.args.fti in
+    let place = c.loop-symbols.position.place in
+    let reads = rw c.in-Some.is at c.in_ok-datagram.ensures.some in
+    let short = rw c.in-Some.is at c.in_ok-datagram.ensures.short in
+    let bytes = rw c.as_slice-bytes.ensures.value at c.are_bytes.ensures in
+    let b = read_more content left c.loop-symbols.position.offset place i.behind new d reads short bytes _ refl in
+    rest_frames content new _ (place + 1) b c.in_ok-read_rest-in-Err-Clash.ensures.whole
+
+pub returns-in-Err-Again-clause-unindexed : goal.returns-in-Err-Again-clause-unindexed
+returns-in-Err-Again-clause-unindexed g c =
+    let content = g.F.ReadAt.content c.args.file.now in
+    let left = g.R.Read.remaining c.loop-symbols.reader in
+    let new = g.R.Read.remaining c.read_next_into.new.reader in
+    let i = c.loop-symbols.invariant in
+    let d = c.in-Some.datagram.items in
+    let who = c.args.identity in
+    let f = c.args.fti in
+    let place = c.loop-symbols.position.place in
+    let reads = rw c.in-Some.is at c.in_ok-datagram.ensures.some in
+    let short = rw c.in-Some.is at c.in_ok-datagram.ensures.short in
+    let bytes = rw c.as_slice-bytes.ensures.value at c.are_bytes.ensures in
+    let look = rw (c.as_slice-bytes.ensures.value, c.with_fti-scope.ensures, c.in-Ok-InRange.is, c.in-Ok-InRange.field-0-is) at c.look.ensures in
+    let same = same_scope d (with_fti who f) c.look.new.self _ look f refl in
+    subst (λ (u : Unread). IsNotAgain (g.F.ReadAt.content c.args.file.now) (g.F.ReadAt.reliable c.args.file.now) u) (sym c.in-Err-Again.unread-is)
+    (not_again content (g.F.ReadAt.reliable c.args.file.now) c.in-Err-Again.unread
+    (λ e. c.in-Err-Again.ensures.io (c.in-Err-Again.field-0-is ∙ ap unkept.Again e))
+    (λ x told e. c.in-Err-Again.ensures.again x told (subst (λ (s : Scope). AreSymbolsIn x s c.loop-symbols.symbols) (sym same) (i.placed x told)) (c.in-Err-Again.field-0-is ∙ ap unkept.Again e)))
+
+pub loop-symbols-preserved : goal.loop-symbols-preserved
+loop-symbols-preserved g c =
+    let content = g.F.ReadAt.content c.args.file.now in
+    let left = g.R.Read.remaining c.loop-symbols.reader in
+    let new = g.R.Read.remaining c.read_next_into.new.reader in
+    let i = c.loop-symbols.invariant in
+    let d = c.in-Some.datagram.items in
+    let who = c.args.identity in
+    let f = c.args.fti in
+    let place = c.loop-symbols.position.place in
+    let reads = rw c.in-Some.is at c.in_ok-datagram.ensures.some in
+    let short = rw c.in-Some.is at c.in_ok-datagram.ensures.short in
+    let bytes = rw c.as_slice-bytes.ensures.value at c.are_bytes.ensures in
+    let look = rw (c.as_slice-bytes.ensures.value, c.with_fti-scope.ensures, c.in-Ok-InRange.is, c.in-Ok-InRange.field-0-is) at c.look.ensures in
+    let p = c.in-Ok-InRange.packet in
+    let same = same_scope d (with_fti who f) c.look.new.self _ look f refl in
+    let known_fti = ap (λ (s : Scope). s.fti) same in
+    let both = has_both f p.sbn p.esi (faultless_look d (with_fti who f) c.look.new.self p look f known_fti).range in
+    let long : c.in_ok-here.here.length ≡ length c.in-Some.datagram.items = omega (arith, c.in_ok-here.ensures.length, ap length c.as_slice-bytes.ensures.value) in
+    record {
+      behind = subst (λ (n : ℕ). Behind (g.F.ReadAt.content c.args.file.now) (g.R.Read.remaining c.read_next_into.new.reader) c.in_ok-here.next.offset n) (sym c.in_ok-here.ensures.more)
+          (read_more content left c.loop-symbols.position.offset place i.behind new d reads short bytes c.in_ok-here.next.offset (omega (arith, c.in_ok-here.ensures.behind, ap length c.as_slice-bytes.ensures.value)));
+      stays = c.in_ok-datagram.ensures.stays ∙ i.stays;
+      scanned = λ x ds told framed known.
+          let n = is_next content left c.loop-symbols.position.offset place i.behind new d reads short x told ds framed in
+          let stand = stands content left c.loop-symbols.position.offset place i.behind new d reads short x told c.in_ok-here.here c.in_ok-here.ensures.offset long in
+          let moved = symbol_moves d (with_fti who f) c.look.new.self p look f refl x c.in_ok-here.here stand.0 stand.1 in
+          let placed = subst (λ (s : Scope). AreSymbolsIn x s c.loop-symbols.symbols) (sym same) (i.placed x told) in
+          rw c.in_ok-here.ensures.more
+          (scan_keeps who f ds known (came_at (held_in x) c.loop-symbols.symbols) place (i.scanned x ds told framed known) d c.look.new.self n.0 n.1 p look (came_at (held_in x) c.keep.new.symbols)
+          (c.in-Ok.ensures.none x told placed) (c.in-Ok.ensures.here x told placed moved.0) (λ b j. c.in-Ok.ensures.elsewhere (held_in x) b j));
+      placed = λ x told.
+          let stand = stands content left c.loop-symbols.position.offset place i.behind new d reads short x told c.in_ok-here.here c.in_ok-here.ensures.offset long in
+          let moved = symbol_moves d (with_fti who f) c.look.new.self p look f refl x c.in_ok-here.here stand.0 stand.1 in
+          let placed = subst (λ (s : Scope). AreSymbolsIn x s c.loop-symbols.symbols) (sym same) (i.placed x told) in
+          subst (λ (s : Scope). AreSymbolsIn x s c.keep.new.symbols) same
+          (c.in-Ok.ensures.placed x placed (subst (λ (s : Scope). IsSymbolIn x s c.in-Ok-InRange.packet.sbn c.in-Ok-InRange.packet.esi c.in_ok-here.here) (sym same) moved.1));
+      range = λ held. c.in-Ok.ensures.range f both.0 both.1 held (i.range held);
+    }
+
+pub returns-in_default-clause-whole : goal.returns-in_default-clause-whole
+returns-in_default-clause-whole g c =
+    read_frames (g.F.ReadAt.content c.args.file.now) (g.R.Read.remaining c.loop-symbols.reader) c.loop-symbols.position.offset c.loop-symbols.position.place c.loop-symbols.invariant.behind
+    (c.in_ok-datagram.ensures.none c.in_default.is).0

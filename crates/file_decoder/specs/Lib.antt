@@ -1,0 +1,7 @@
+pub mod InFile
+pub mod Enough
+pub mod Indexing
+pub mod GatheringIn
+pub mod FileFaults
+pub mod PlacesOf
+pub mod ReadAgain

@@ -1,0 +1,63 @@
+-- The places that a session file's datagrams have of an object's symbols.
+use Rattle.std.specs.Prelude.{ℕ, ◌<◌, List, Option, IfSome}
+use Rattle.partition.specs.Fti.{block_count}
+use Rattle.block_code.specs.Codes.{EachBlockHas}
+use Rattle.block_code.specs.CodesOf.{IsCodeOf}
+use Rattle.session.specs.Frames.{IsFramed}
+use Rattle.reception.specs.declared.scope.Identity.{Identity}
+use Rattle.reception.specs.Reception.{ReadAll, with_fti}
+use Rattle.reception.specs.Answer.{reception_of}
+use Rattle.reception.specs.Readings.{readings_of}
+use Rattle.reception.specs.Symbols.{AllFull}
+use Rattle.block_recovery.specs.Decoded.{IsEnoughAt}
+use Rattle.file_decoder.specs.InFile.{held_in, AreSymbolsIn}
+use Rattle.block_recovery.specs.Received.{AreReceived, came_at}
+use Rattle.block_recovery.specs.Decoded.{AreInRange}
+use Rattle.decoder.specs.Unsolvable.{AreSound}
+use Rattle.file_decoder.specs.declared.file_source.Indexed.{Indexed}
+use Rattle.file_decoder.specs.declared.file_gathering.FileSymbols.{FileSymbols}
+use Rattle.session.specs.declared.extent.Extent.{Extent}
+
+-- what came of these datagrams of the file stands at its places
+pub record AreIndexedOf (who : Identity) (datagrams : List (List ℕ)) (x : List ℕ)
+    (s : Indexed) : Type 0 where
+  pub read : ReadAll datagrams (readings_of datagrams)
+  pub received : AreReceived who datagrams s.fti (came_at (held_in x) s.symbols)
+  pub placed : AreSymbolsIn x (with_fti s.identity s.fti) s.symbols
+
+-- whatever the file's bytes are, each block has a code, and as many places as it needs
+pub record AreEnoughPlaces (s : FileSymbols) : Type 0 where
+  pub codes : EachBlockHas (IsCodeOf s.indexed.fti) s.indexed.fti s.codes
+  pub range : (held : Extent → List ℕ) → AreInRange s.indexed.fti (came_at held s.indexed.symbols)
+  pub enough : (held : Extent → List ℕ) (b : ℕ) → b < block_count s.indexed.fti
+      → IsEnoughAt s.indexed.fti b (came_at held s.indexed.symbols b)
+
+-- at the places stand the symbols that these datagrams of the file have of an object, and
+-- polynomials explain them
+pub record ArePlacesOf (who : Identity) (datagrams : List (List ℕ)) (x : List ℕ)
+    (s : FileSymbols) : Type 0 where
+  pub framed : IsFramed datagrams x
+  pub indexed : AreIndexedOf who datagrams x s.indexed
+  pub sound : AreSound s.indexed.fti (came_at (held_in x) s.indexed.symbols)
+
+-- at the places stand the symbols that these datagrams of the file have, enough of each block,
+-- whatever they are of
+pub record ArePlacedOf (who : Identity) (datagrams : List (List ℕ)) (x : List ℕ)
+    (s : FileSymbols) : Type 0 where
+  pub framed : IsFramed datagrams x
+  pub indexed : AreIndexedOf who datagrams x s.indexed
+  pub full : AllFull s.indexed.fti (reception_of who (readings_of datagrams)).symbols
+
+-- of some datagrams of the file, where its bytes are told
+abbrev pub ArePlacedIn : Option (List ℕ) → FileSymbols → Type 0
+ArePlacedIn content s =
+    AreEnoughPlaces s
+    × IfSome content (λ x. (datagrams : List (List ℕ))
+    × ArePlacedOf s.indexed.identity datagrams x s)
+
+-- of some datagrams of the file, where its bytes are told
+abbrev pub AreGatheredIn : Option (List ℕ) → FileSymbols → Type 0
+AreGatheredIn content s =
+    AreEnoughPlaces s
+    × IfSome content (λ x. (who : Identity) × (datagrams : List (List ℕ))
+    × ArePlacesOf who datagrams x s)

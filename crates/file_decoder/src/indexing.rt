@@ -1,0 +1,342 @@
+//! The places of an object's packets in a session file, of which no more is held.
+//!
+//! The FTI of the first carrier is found in a pass of its own, which ends there, as it may stand
+//! behind a packet that has a fault by it. A fault of the frames is told before one at a place,
+//! wherever it stands: so behind a fault at a place the frames are read to their end.
+ghost use Rattle.std.specs.Prelude.{◌≡◌, ◌==◌, ◌&&◌, ◌<◌, ℕ, List, Some, true, false};
+ghost use Rattle.std.specs.Prelude.{option_map, IsNone, IfSome, IfOk, IfErr, OnOk};
+ghost use Rattle.std.specs.List.{Contains};
+ghost use Rattle.alc.specs.Views.{packet_of};
+ghost use Rattle.reception.specs.Symbols.{Symbol};
+ghost use Rattle.reception.specs.Reception.{symbol_of, with_fti};
+ghost use Rattle.reception.specs.Answer.{clashes};
+ghost use Rattle.reception.specs.Walks.{scope_in};
+ghost use Rattle.session.specs.Extents.{AreFrames};
+ghost use Rattle.session.specs.Frames.{IsFramed, IsSessionFault};
+ghost use Rattle.block_recovery.specs.Arrivals.{arrived_at};
+ghost use Rattle.file_decoder.specs.InFile.{held_in, AreSymbolsIn, IsSymbolIn};
+ghost use Rattle.file_decoder.specs.Indexing.{IsAlone, IsUnindexed, IsFaultAmong};
+ghost use Rattle.block_recovery.specs.Received.{AreReceived, IsIndex, IsNothing, came_at, list_of};
+ghost use Rattle.block_recovery.specs.Decoded.{AreInRange};
+ghost use Rattle.session.specs.declared.extent.Extent.{Extent as ExtentValue};
+ghost use Rattle.partition.specs.Fti.{Fti as FtiValue, block_count, encoding_count};
+
+use crate::rereading::read_alone;
+use alc::Packet;
+use block_recovery::{Arrival, DecodeFault, Symbols, fault_at};
+use decoder::Unread;
+use lists::are_bytes;
+use partition::Fti;
+use reception::{Identity, Look, Scope};
+use session::{Extent, FrameFault, Position, Read, read_next, read_next_into};
+use std::alloc::{AllocError, Global};
+use streams::{Cursor, ReadAt};
+
+/// Why nothing was made of a file.
+#[derive(Clone, Copy)]
+pub(crate) enum Unindexed {
+    /// The frames weren't read to their end.
+    Frame(FrameFault),
+    /// A datagram has a fault.
+    Fault(DecodeFault),
+    /// A symbol wasn't read again.
+    Again(Unread),
+}
+
+impl From<FrameFault> for Unindexed {
+    ghost use Rattle.std.specs.Prelude.{◌≡◌};
+    ghost use Rattle.file_decoder.specs.declared.indexing.Unindexed.TheVariants as unindexed;
+
+    ghost from_gives = { λ fault e. e ≡ unindexed.Frame fault };
+
+    fn from(fault: FrameFault) -> Self {
+        Unindexed::Frame(fault)
+    }
+}
+
+// Why a symbol's place wasn't kept.
+#[derive(Clone, Copy)]
+enum Unkept {
+    Clash,
+    Again(Unread),
+}
+
+impl From<AllocError> for Unkept {
+    ghost use Rattle.std.specs.Prelude.{◌≡◌};
+    ghost use Rattle.file_decoder.specs.declared.indexing.Unkept.TheVariants as unkept;
+    ghost use Rattle.decoder.specs.declared.source.Unread.TheVariants.{NoMemory};
+
+    ghost from_gives = { λ _ e. e ≡ unkept.Again NoMemory };
+
+    fn from(_: AllocError) -> Self {
+        Unkept::Again(Unread::NoMemory)
+    }
+}
+
+impl From<Unread> for Unkept {
+    ghost use Rattle.std.specs.Prelude.{◌≡◌};
+    ghost use Rattle.file_decoder.specs.declared.indexing.Unkept.TheVariants as unkept;
+
+    ghost from_gives = { λ unread e. e ≡ unkept.Again unread };
+
+    fn from(unread: Unread) -> Self {
+        Unkept::Again(unread)
+    }
+}
+
+// Reads the frames that are left.
+fn read_rest<R: Read>(alloc: Global, reader: &mut R) -> Result<(), FrameFault>
+    ensures whole { OnOk result (AreFrames (R.remaining reader.old)) }
+    ensures fault { IfErr result (λ e.
+        IsSessionFault e (R.remaining reader.old) (R.failed reader.new)) }
+    ensures unsound { IfErr result (λ e. e ≡ FrameFault.Io → R.sound reader.old ≡ false) }
+{
+    loop {
+        let Some(datagram) = read_next(alloc, reader)? else {
+            return Ok(());
+        };
+        are_bytes(datagram.as_slice());
+    }
+}
+
+// The FTI that a datagram of the identity carries, if it does, and its fault, if it has one, where
+// no FTI is known before.
+fn look_alone(
+    identity: Identity,
+    place: usize,
+    datagram: &[u8],
+) -> (Option<Fti>, Option<DecodeFault>)
+    ensures { IsAlone identity place datagram.now result.0 result.1 }
+{
+    let mut scope = Scope::new(identity);
+    match scope.look(datagram) {
+        Ok(_) => (scope.fti, None),
+        Err(fault) => (scope.fti, Some(fault_at(place, fault))),
+    }
+}
+
+// The FTI of the first carrier of the identity, if there is one. A fault is told where there is
+// none: the first datagram that is no packet.
+fn first_fti<R: Read>(
+    alloc: Global,
+    reader: &mut R,
+    identity: Identity,
+) -> Result<Option<Fti>, Unindexed>
+    ensures some { (x : List ℕ) (ds : List (List ℕ)) → R.remaining reader.old ≡ Some x
+        → IsFramed ds x → IfOk result (λ o. IfSome o (λ f.
+        scope_in identity ds ≡ with_fti identity f)) }
+    ensures none { (x : List ℕ) (ds : List (List ℕ)) → R.remaining reader.old ≡ Some x
+        → IsFramed ds x → IfOk result (λ o. IsNone o → IsNothing identity ds) }
+    ensures fault { (x : List ℕ) (ds : List (List ℕ)) → R.remaining reader.old ≡ Some x
+        → IsFramed ds x → IfErr result (IsFaultAmong identity ds) }
+    ensures whole { IfOk result (λ o. IsNone o → AreFrames (R.remaining reader.old)) }
+    ensures unindexed { IfErr result (IsUnindexed (R.remaining reader.old) (R.sound reader.old)) }
+{
+    let mut first = None;
+    let mut place = 0usize;
+    loop {
+        let Some(datagram) = read_next(alloc, reader)? else {
+            return match first {
+                Some(fault) => Err(Unindexed::Fault(fault)),
+                None => Ok(None),
+            };
+        };
+        let bytes = datagram.as_slice();
+        are_bytes(bytes);
+        let (carried, fault) = look_alone(identity, place, bytes);
+        if let Some(fti) = carried {
+            return Ok(Some(fti));
+        }
+        first = first.or(fault);
+        let Some(next) = place.checked_add(1) else {
+            return Err(Unindexed::Frame(FrameFault::NoMemory));
+        };
+        place = next;
+    }
+}
+
+/// The FTI of the first carrier of the identity in a file, if there is one. A fault is told where
+/// there is none: the first datagram that is no packet.
+pub(crate) fn find_fti<F: ReadAt>(
+    alloc: Global,
+    file: &F,
+    identity: Identity,
+) -> Result<Option<Fti>, Unindexed>
+    ensures some { (x : List ℕ) (ds : List (List ℕ)) → F.content file.now ≡ Some x
+        → IsFramed ds x → IfOk result (λ o. IfSome o (λ f.
+        scope_in identity ds ≡ with_fti identity f)) }
+    ensures none { (x : List ℕ) (ds : List (List ℕ)) → F.content file.now ≡ Some x
+        → IsFramed ds x → IfOk result (λ o. IsNone o → IsNothing identity ds) }
+    ensures fault { (x : List ℕ) (ds : List (List ℕ)) → F.content file.now ≡ Some x
+        → IsFramed ds x → IfErr result (IsFaultAmong identity ds) }
+    ensures whole { IfOk result (λ o. IsNone o → AreFrames (F.content file.now)) }
+    ensures unindexed { IfErr result (IsUnindexed (F.content file.now) (F.reliable file.now)) }
+{
+    let mut cursor = Cursor::new(file);
+    first_fti(alloc, &mut cursor, identity)
+}
+
+// The last of a block's places that has this ESI.
+fn last_place(arrivals: &[Arrival<Extent>], esi: u8) -> Option<Extent>
+    ensures at { (held : ExtentValue → List ℕ)
+        → option_map held result ≡ arrived_at held arrivals.now esi }
+    ensures listed { IfSome result (λ p.
+        Contains arrivals.now (record { esi = esi; symbol = p })) }
+{
+    let mut found = None;
+    for arrival in arrivals {
+        if arrival.esi == esi {
+            found = Some(arrival.symbol);
+        }
+    }
+    found
+}
+
+// Where the packet at a block and an ESI stands, if one came.
+fn place_of(symbols: &Symbols<Extent>, block: u32, esi: u8) -> Option<Extent>
+    ensures at { (held : ExtentValue → List ℕ)
+        → option_map held result ≡ came_at held symbols.now block esi }
+    ensures listed { IfSome result (λ p.
+        Contains (list_of symbols.now block) (record { esi = esi; symbol = p })) }
+{
+    last_place(symbols.among(block, esi)?, esi)
+}
+
+// Keeps the packet's place, unless an earlier packet of its block and ESI has other bytes.
+fn keep<F: ReadAt>(
+    alloc: Global,
+    file: &F,
+    scope: &Scope,
+    symbols: &mut Symbols<Extent>,
+    packet: &Packet<'_>,
+    extent: Extent,
+) -> Result<(), Unkept>
+    requires { (f : FtiValue) × (scope.now.fti ≡ Some f) }
+    ensures here { (x : List ℕ) → F.content file.now ≡ Some x
+        → AreSymbolsIn x scope.now symbols.old
+        → packet.now.symbol.now ≡ held_in x extent → OnOk result
+        (came_at (held_in x) symbols.new packet.now.sbn packet.now.esi
+        ≡ Some packet.now.symbol.now) }
+    ensures elsewhere { OnOk result ((held : ExtentValue → List ℕ) (b j : ℕ)
+        → (packet.now.sbn == b && packet.now.esi == j) ≡ false
+        → came_at held symbols.new b j ≡ came_at held symbols.old b j) }
+    ensures none { (x : List ℕ) → F.content file.now ≡ Some x
+        → AreSymbolsIn x scope.now symbols.old
+        → OnOk result ((earlier : List Symbol)
+        → IsIndex earlier (came_at (held_in x) symbols.old)
+        → clashes earlier (symbol_of (packet_of packet.now)) ≡ false) }
+    ensures clash { (x : List ℕ) → F.content file.now ≡ Some x
+        → AreSymbolsIn x scope.now symbols.old
+        → IfErr result (λ e. e ≡ Unkept.Clash → (earlier : List Symbol)
+        → IsIndex earlier (came_at (held_in x) symbols.old)
+        → clashes earlier (symbol_of (packet_of packet.now)) ≡ true) }
+    ensures placed { (x : List ℕ) → AreSymbolsIn x scope.now symbols.old
+        → IsSymbolIn x scope.now packet.now.sbn packet.now.esi extent
+        → OnOk result (AreSymbolsIn x scope.now symbols.new) }
+    ensures range { (f : FtiValue) → packet.now.sbn < block_count f
+        → packet.now.esi < encoding_count f packet.now.sbn → (held : ExtentValue → List ℕ)
+        → AreInRange f (came_at held symbols.old)
+        → OnOk result (AreInRange f (came_at held symbols.new)) }
+    ensures again { (x : List ℕ) → F.content file.now ≡ Some x
+        → AreSymbolsIn x scope.now symbols.old
+        → IfErr result (λ e. e ≡ Unkept.Again Unread.Changed → ⊥) }
+    ensures io { IfErr result (λ e. e ≡ Unkept.Again Unread.Io
+        → F.reliable file.now ≡ false) }
+{
+    let Some(earlier) = place_of(symbols, packet.sbn, packet.esi) else {
+        symbols.put(alloc, packet.sbn, packet.esi, extent)?;
+        return Ok(());
+    };
+    let symbol = read_alone(alloc, file, scope, packet.sbn, packet.esi, earlier)?;
+    if symbol.as_slice() != packet.symbol {
+        return Err(Unkept::Clash);
+    }
+    Ok(())
+}
+
+// The places of the identity's packets, where this is the FTI of the first carrier. The reader
+// gives the file's bytes.
+fn index_frames<R: Read, F: ReadAt>(
+    alloc: Global,
+    reader: &mut R,
+    file: &F,
+    identity: Identity,
+    fti: Fti,
+) -> Result<Symbols<Extent>, Unindexed>
+    requires bytes { R.remaining reader.old ≡ F.content file.now }
+    requires sound { R.sound reader.old ≡ F.reliable file.now }
+    ensures received { (x : List ℕ) (ds : List (List ℕ)) → F.content file.now ≡ Some x
+        → IsFramed ds x → scope_in identity ds ≡ with_fti identity fti → IfOk result (λ s.
+        AreReceived identity ds fti (came_at (held_in x) s)) }
+    ensures placed { (x : List ℕ) → F.content file.now ≡ Some x
+        → IfOk result (AreSymbolsIn x (with_fti identity fti)) }
+    ensures range { IfOk result (λ s. (held : ExtentValue → List ℕ)
+        → AreInRange fti (came_at held s)) }
+    ensures fault { (x : List ℕ) (ds : List (List ℕ)) → F.content file.now ≡ Some x
+        → IsFramed ds x → scope_in identity ds ≡ with_fti identity fti
+        → IfErr result (IsFaultAmong identity ds) }
+    ensures whole { OnOk result (AreFrames (F.content file.now)) }
+    ensures unindexed { IfErr result (IsUnindexed (F.content file.now) (F.reliable file.now)) }
+{
+    let mut symbols = Symbols::new(alloc, usize::from(fti.max_symbols()));
+    let mut position = Position::new();
+    let mut room = Vec::new(alloc);
+    loop {
+        let Some(datagram) = read_next_into(reader, room)? else {
+            return Ok(symbols);
+        };
+        let bytes = datagram.as_slice();
+        are_bytes(bytes);
+        let place = position.place;
+        let (here, next) = position.pass(bytes.len())?;
+        position = next;
+        let mut scope = Scope::with_fti(identity, fti);
+        let packet = match scope.look(bytes) {
+            Ok(Look::InRange(packet)) => packet,
+            Ok(Look::Other) => {
+                room = datagram;
+                continue;
+            }
+            Ok(Look::Early) => {
+                room = datagram;
+                continue;
+            }
+            Err(fault) => {
+                read_rest(alloc, reader)?;
+                return Err(Unindexed::Fault(fault_at(place, fault)));
+            }
+        };
+        match keep(alloc, file, &scope, &mut symbols, &packet, here) {
+            Ok(()) => room = datagram,
+            Err(Unkept::Clash) => {
+                read_rest(alloc, reader)?;
+                return Err(Unindexed::Fault(DecodeFault::Clash(place)));
+            }
+            Err(Unkept::Again(unread)) => return Err(Unindexed::Again(unread)),
+        }
+    }
+}
+
+/// The places of the identity's packets in a file, where this is the FTI of the first carrier.
+pub(crate) fn index<F: ReadAt>(
+    alloc: Global,
+    file: &F,
+    identity: Identity,
+    fti: Fti,
+) -> Result<Symbols<Extent>, Unindexed>
+    ensures received { (x : List ℕ) (ds : List (List ℕ)) → F.content file.now ≡ Some x
+        → IsFramed ds x → scope_in identity ds ≡ with_fti identity fti → IfOk result (λ s.
+        AreReceived identity ds fti (came_at (held_in x) s)) }
+    ensures placed { (x : List ℕ) → F.content file.now ≡ Some x
+        → IfOk result (AreSymbolsIn x (with_fti identity fti)) }
+    ensures range { IfOk result (λ s. (held : ExtentValue → List ℕ)
+        → AreInRange fti (came_at held s)) }
+    ensures fault { (x : List ℕ) (ds : List (List ℕ)) → F.content file.now ≡ Some x
+        → IsFramed ds x → scope_in identity ds ≡ with_fti identity fti
+        → IfErr result (IsFaultAmong identity ds) }
+    ensures whole { OnOk result (AreFrames (F.content file.now)) }
+    ensures unindexed { IfErr result (IsUnindexed (F.content file.now) (F.reliable file.now)) }
+{
+    let mut cursor = Cursor::new(file);
+    index_frames(alloc, &mut cursor, file, identity, fti)
+}
