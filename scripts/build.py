@@ -13,9 +13,11 @@ leaves them in, as checks after an edit begin with them. Where `rattle` has no s
 there, `rt run` proves one crate after the other.
 
 Each library is in out/built of its crate, beside a sum of all that it was made of: a later run
-makes it anew where this sum has changed. The crate with the longest chain of crates above it has
-all processors, those with a chain nearly as long have half of them by what it leaves, and each of
-the others has one by what these leave. What fails is tried once more by itself.
+makes it anew where this sum has changed. Where the lines that are left are more than the longest
+chain of crates has for each processor, each crate has one processor: several together spend more on
+it. Else the crate with the longest chain above it has all processors, those with a chain nearly as
+long have half of them by what it leaves, and each of the others has one by what these leave. What
+fails is tried once more by itself.
 
 What the prover says goes to LOG, and progress to standard error. Ctrl-C ends all that runs, and so
 does the end of whoever called.
@@ -211,7 +213,10 @@ class Build:
 
     def share(self, name):
         """How many processors a crate has, and how far it stands back, as `nice` takes it."""
-        longest = max(self.chain[it] for it in self.wanted - self.proved)
+        left = self.wanted - self.proved
+        longest = max(self.chain[it] for it in left)
+        if self.most * longest < sum(self.lines[it] for it in left):
+            return 1, 0
         if self.chain[name] == longest:
             return self.most, 0
         return ((self.most + 1) // 2, 5) if self.chain[name] >= NEARLY * longest else (1, 10)
