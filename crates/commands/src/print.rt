@@ -52,7 +52,7 @@ impl Text {
             .extend_from_slice(buffer.format(number).as_bytes())
     }
 
-    /// Puts a text, a space and a number last. After a fault the line has a beginning of them.
+    /// Puts a text, a space and a number last. Where memory lacks, nothing is promised of the text.
     pub fn named<I: Integer>(&mut self, name: &str, number: I) -> Result<(), AllocError>
         ensures { OnOk result (self.new ≡ self.old ++ named name.now (I.text number)) }
     {
@@ -61,7 +61,8 @@ impl Text {
         self.number(number)
     }
 
-    /// Puts a block last, how many symbols of it there are and how many it needs.
+    /// Puts a block last, how many symbols of it there are and how many it needs. Where memory
+    /// lacks, nothing is promised of the text.
     pub fn short_block(
         &mut self,
         name: &str,
@@ -76,7 +77,7 @@ impl Text {
         self.named(" need", need)
     }
 
-    /// Puts a line last, with its line feed. After a fault there may be the line alone.
+    /// Puts a line last, with its line feed. Where memory lacks, nothing is promised of the text.
     pub fn put_line(&mut self, line: &Text) -> Result<(), AllocError>
         ensures { OnOk result (self.new ≡ self.old ++ line_of line.now) }
     {
@@ -86,7 +87,8 @@ impl Text {
 
     /// Puts a line feed last.
     pub fn end_line(&mut self) -> Result<(), AllocError>
-        ensures { OnOk result (self.new ≡ line_of self.old) }
+        ensures ok { OnOk result (self.new ≡ line_of self.old) }
+        ensures err { OnErr result (self.new ≡ self.old) }
     {
         self.bytes.push(b'\n')?;
         Ok(())

@@ -4,7 +4,7 @@
 
 pub(crate) const ALCRS: &str =
     "Statuses: 0 done or yes, 1 no or a fault, 2 the command line is refused, 3 too little came.
-A sentence on standard error tells the cause. --quiet leaves it out.
+A sentence on standard error may tell the cause. --quiet leaves it out.
 `alcrs COMMAND --help` tells what a command prints. A command that fails prints `fault REASON`.
 
 Example: alcrs check bulletin.session bulletin.txt bulletin.rsc --tsi 7 --toi 1";
@@ -111,7 +111,7 @@ Example: cat bulletin.session | alcrs follow /dev/stdin received.txt --tsi 7 --t
 
 pub(crate) const TWIN: &str = "Prints one of these lines:
   twin block B have H need K  the other object was written: block B has H of K symbols
-  no twin                     no block is short
+  no twin                     check says yes
   no REASON                   `alcrs check` says no for another reason
 Blocks and places count from 0. Places are those of the whole session.
 Datagrams of another TSI or TOI are passed over.
