@@ -1,15 +1,10 @@
 -- What was written and kept.
-use Rattle.std.proofs.Common.{◌≡◌, ◌∙◌, ℕ, List, Option, Some, None, Result, Ok, Err, refl, [], ◌∷◌, sym, subst, length}
+use Rattle.std.proofs.Common.{◌≡◌, ◌∙◌, ℕ, List, Option, Some, None, Result, Ok, Err, refl, [], sym, subst, length}
 use Rattle.std.specs.Prelude.{IfSome, IfOk, replicate}
 use Rattle.std.proofs.lemmas.List.{length-replicate}
 use Rattle.host.specs.World.{Files, Holds, LeavesBytes}
 use Rattle.commands.specs.Inputs.{AnObject, Bytes, HasValue}
-use Rattle.std.specs.Io.KnownBytes.{Appends}
-use Rattle.partition.specs.Fti.{Fti}
-use Rattle.session.specs.Frames.{frames}
-use Rattle.encoder.specs.SentInRounds.{emptied}
-use Rattle.request.specs.declared.requests.Sending.{Sending}
-use Rattle.send_commands.specs.Sending.{WritesSession, where_empty}
+use Rattle.send_commands.specs.Sending.{where_empty}
 
 -- the object that was read is the file's
 pub gives_object : (files : Option Files) (name : List ℕ) (left : Option (List ℕ)) (object : List ℕ) → Holds files name (λ bytes. left ≡ Some bytes)
@@ -29,16 +24,6 @@ told_object (Some files) name left n (bytes, there, is) many =
     (bytes, (bytes, there, refl), subst (λ (o : Option (List ℕ)). IfSome o (λ (x : List ℕ). length x ≡ n)) is many)
 
 -- what was written, where the file was empty before
-pub where_told : (old new : Option (List ℕ)) (bytes : List ℕ) → Appends old new bytes → Appends (where_empty old) new bytes
-where_told None new bytes gained = tt
-where_told (Some []) new bytes gained = gained
-where_told (Some (x ∷ xs)) new bytes gained = tt
-
-pub where_emptied : (old new : Option (List ℕ)) (bytes : List ℕ) → Appends (emptied old) new bytes → Appends (where_empty old) new bytes
-where_emptied None new bytes gained = tt
-where_emptied (Some []) new bytes gained = gained
-where_emptied (Some (x ∷ xs)) new bytes gained = tt
-
 pub blank_where_empty : (files : Option Files) (contents : Option (List ℕ)) → IfSome files (λ held. contents ≡ Some []) → IfSome files (λ held. where_empty contents ≡ Some [])
 blank_where_empty None contents blank = tt
 blank_where_empty (Some held) contents blank = rw blank refl
@@ -47,14 +32,3 @@ blank_where_empty (Some held) contents blank = rw blank refl
 pub ok_more : {T E : Type 0} (r : Result T E) (P Q : T → Type 0) → ((x : T) → P x → Q x) → IfOk r P → IfOk r Q
 ok_more (Ok x) P Q more h = more x h
 ok_more (Err e) P Q more h = tt
-
-pub gains_more : (object : List ℕ) (f : Fti) (s : Sending) (count : ℕ) (old other new : Option (List ℕ)) → ((bytes : List ℕ) → Appends old new bytes → Appends other new bytes)
-    → WritesSession object f s count old new → WritesSession object f s count other new
-gains_more object f s count old other new more h = record {
-  valid = h.valid;
-  can = h.can;
-  datagrams = h.datagrams;
-  sent = h.sent;
-  gained = more (frames h.datagrams) h.gained;
-  counted = h.counted;
-}

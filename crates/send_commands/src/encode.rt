@@ -1,13 +1,11 @@
 //! The command `encode`.
 ghost use Rattle.std.specs.Prelude.{◌≡◌, true, length, IfOk, IfErr};
-ghost use Rattle.partition.specs.declared.order.Order.TheVariants.{Blocks, Rounds};
 ghost use Rattle.request.specs.declared.requests.Request.TheVariants.{Encode};
 ghost use Rattle.host.specs.World.{GivesFile, LeavesBytes};
 ghost use Rattle.commands.specs.Commands.{sized};
 ghost use Rattle.commands.specs.Doing.{HasMade, HasStopped};
 ghost use Rattle.commands.specs.Inputs.{AnObject, Bytes, HasValue};
 ghost use Rattle.encoder.specs.ObjectRead.{ReadsObject};
-ghost use Rattle.encoder.specs.SentInRounds.{emptied};
 ghost use Rattle.send_commands.specs.Sending.{WritesSession, IsUnsent, IsUnsentFrom, where_empty};
 
 use commands::{Done, Fault, Unwritten, commit, create, fti_of, open, read_rest};
@@ -87,76 +85,25 @@ fn send_read<'a, R: Read, W: WriteAt>(
     ensures writing { IfErr result (λ e. e ≡ Unwritten.Writing
         → W.failed writer.new ≡ true) }
 {
-    match request.sending.order {
-        Order::Blocks => send_blocks(alloc, reader, fti, request, writer),
+    fti.is_valid();
+    let Sending {
+        identity,
+        fti_every,
+        order,
+        ..
+    } = request.sending;
+    let (tsi, toi) = (identity.tsi as u32, identity.toi as u32);
+    let every = u32::from(fti_every);
+    let sent = match order {
+        Order::Blocks => encoder::encode_from(alloc, reader, tsi, toi, fti, every, writer),
         Order::Rounds => {
-            if writer.is_seekable() {
-                send_rounds(alloc, reader, fti, request, writer)
-            } else {
-                send_whole(alloc, reader, fti, request, writer)
+            if !writer.is_seekable() {
+                return send_whole(alloc, reader, fti, request, writer);
             }
+            encoder::encode_rounds_from(alloc, reader, tsi, toi, fti, every, writer)
         }
-    }
-}
-
-fn send_blocks<'a, R: Read, W: Write>(
-    alloc: Global,
-    reader: &mut R,
-    fti: &Fti,
-    request: &EncodeRequest<'a>,
-    writer: &mut W,
-) -> Result<u64, Unwritten<'a>>
-    requires order { request.now.sending.order ≡ Blocks }
-    ensures sent { IfOk result (λ count. ReadsObject fti.now (R.remaining reader.old)
-        (λ object. WritesSession object fti.now request.now.sending count
-        (W.contents writer.old) (W.contents writer.new))) }
-    ensures fault { IfErr result (IsUnsentFrom fti.now (R.remaining reader.old)
-        (R.sound reader.old) request.now.object.now) }
-    ensures writing { IfErr result (λ e. e ≡ Unwritten.Writing
-        → W.failed writer.new ≡ true) }
-{
-    fti.is_valid();
-    let Sending {
-        identity,
-        fti_every,
-        ..
-    } = request.sending;
-    let (tsi, toi) = (identity.tsi as u32, identity.toi as u32);
-    match encoder::encode_from(alloc, reader, tsi, toi, fti, u32::from(fti_every), writer) {
-        Ok(count) => Ok(count),
-        Err(SendFromFault::Object(_)) => Err(Unwritten::Fault(Fault::File(request.object))),
-        Err(SendFromFault::SymbolTooLong) => {
-            Err(Unwritten::Fault(Fault::Send(SendFault::SymbolTooLong)))
-        }
-        Err(SendFromFault::NoMemory) => Err(Unwritten::Fault(Fault::Memory)),
-        Err(SendFromFault::Write) => Err(Unwritten::Writing),
-    }
-}
-
-fn send_rounds<'a, R: Read, W: WriteAt>(
-    alloc: Global,
-    reader: &mut R,
-    fti: &Fti,
-    request: &EncodeRequest<'a>,
-    writer: &mut W,
-) -> Result<u64, Unwritten<'a>>
-    requires order { request.now.sending.order ≡ Rounds }
-    ensures sent { IfOk result (λ count. ReadsObject fti.now (R.remaining reader.old)
-        (λ object. WritesSession object fti.now request.now.sending count
-        (emptied (W.contents writer.old)) (W.contents writer.new))) }
-    ensures fault { IfErr result (IsUnsentFrom fti.now (R.remaining reader.old)
-        (R.sound reader.old) request.now.object.now) }
-    ensures writing { IfErr result (λ e. e ≡ Unwritten.Writing
-        → W.failed writer.new ≡ true) }
-{
-    fti.is_valid();
-    let Sending {
-        identity,
-        fti_every,
-        ..
-    } = request.sending;
-    let (tsi, toi) = (identity.tsi as u32, identity.toi as u32);
-    match encoder::encode_rounds_from(alloc, reader, tsi, toi, fti, u32::from(fti_every), writer) {
+    };
+    match sent {
         Ok(count) => Ok(count),
         Err(SendFromFault::Object(_)) => Err(Unwritten::Fault(Fault::File(request.object))),
         Err(SendFromFault::SymbolTooLong) => {
