@@ -265,20 +265,25 @@ impl<'a, R: Files> Case<'a, R> {
     fn fault(&self) -> Sentence {
         match self.word(1) {
             "open" | "file" | "S4" | "O3" | "Z4" => self.io(),
-            "S1" | "S2" | "S3" => self.broken(),
             "S6" => self.no_such_place(),
             "L1" => self.no_place(self.number(4)),
-            "Z1" | "Z2" | "Z3" => self.no_certificate(),
             "Z6" => self.say(OTHER_IDENTITY, &[]),
-            "F1" | "F2" | "F3" | "F4" | "F5" | "F6" => self.say(no_fti(self.word(1)), &[]),
             "R3" => self.two_ftis(self.number(4)),
-            "R1" | "R4" | "R5" | "R6" | "R7" => {
-                self.say(undecoded(self.word(1)), &[self.number(4)])
-            }
             "memory" => self.say(
                 "there is too little memory; an output that is a file is what it was before",
                 &[],
             ),
+            code => self.fault_by_letter(code),
+        }
+    }
+
+    // The other faults of a letter have one cause, or a text for each number.
+    fn fault_by_letter(&self, code: &str) -> Sentence {
+        match code.as_bytes().first() {
+            Some(b'S') => self.broken(),
+            Some(b'Z') => self.no_certificate(),
+            Some(b'F') => self.say(no_fti(code), &[]),
+            Some(b'R') => self.say(undecoded(code), &[self.number(4)]),
             _ => Ok(None),
         }
     }

@@ -28,19 +28,20 @@ pub(crate) struct Carrier {
     pub(crate) fti: Fti,
 }
 
-/// How many datagrams a session has, and where its frames stop, if they aren't whole. `None` where
-/// it can't be read again.
-pub(crate) fn walk<R: Files>(rt: &R, alloc: Global, name: &str) -> Option<(u64, Option<Break>)> {
+// A session from its first frame on, where a file that can be read again has its name.
+fn open_session<R: Files>(rt: &R, alloc: Global, name: &str) -> Option<Device<BufReader<R::File>>> {
     if !is_regular(rt, name) {
         return None;
     }
-    let Ok(file) = fs::open(rt, name) else {
-        return None;
-    };
-    let Ok(buffered) = BufReader::with_capacity(alloc, BUFFER_SIZE, file) else {
-        return None;
-    };
-    let mut reader = Device::new(buffered);
+    let file = fs::open(rt, name).ok()?;
+    let buffered = BufReader::with_capacity(alloc, BUFFER_SIZE, file).ok()?;
+    Some(Device::new(buffered))
+}
+
+/// How many datagrams a session has, and where its frames stop, if they aren't whole. `None` where
+/// it can't be read again.
+pub(crate) fn walk<R: Files>(rt: &R, alloc: Global, name: &str) -> Option<(u64, Option<Break>)> {
+    let mut reader = open_session(rt, alloc, name)?;
     let mut byte = 0u64;
     for place in 0..u64::MAX {
         match read_next(alloc, &mut reader) {
@@ -60,16 +61,7 @@ pub(crate) fn carrier_from<R: Files>(
     identity: (u64, u128),
     first: u64,
 ) -> Option<Carrier> {
-    if !is_regular(rt, name) {
-        return None;
-    }
-    let Ok(file) = fs::open(rt, name) else {
-        return None;
-    };
-    let Ok(buffered) = BufReader::with_capacity(alloc, BUFFER_SIZE, file) else {
-        return None;
-    };
-    let mut reader = Device::new(buffered);
+    let mut reader = open_session(rt, alloc, name)?;
     for place in 0..u64::MAX {
         let Ok(Some(datagram)) = read_next(alloc, &mut reader) else {
             return None;

@@ -1,6 +1,6 @@
 -- Files that were checked where they stand, by their parts.
-use Rattle.std.proofs.Common.{◌≡◌, ◌⊎◌, ℕ, Bool, false, List, [], ◌∷◌, Option, Some, None, Result, Ok, Err, inl, inr, refl, sym, subst}
-use Rattle.std.specs.Prelude.{IfErr, IfSome}
+use Rattle.std.proofs.Common.{◌≡◌, ◌∙◌, ◌⊎◌, ℕ, Bool, false, List, [], ◌∷◌, Option, Some, None, Result, Ok, Err, inl, inr, refl, sym, subst}
+use Rattle.std.specs.Prelude.{IfErr, IfOk, IfSome}
 use Rattle.check_commands.specs.declared.check.Answered.{Answered}
 use Rattle.std.specs.Borrow.{Bor}
 use Rattle.session.specs.declared.frame.FrameFault.{FrameFault}
@@ -24,7 +24,6 @@ use Rattle.commands.specs.Commands.{Refuses, inputs_of}
 use Rattle.commands.specs.Outcomes.{IsBecause}
 use Rattle.commands.specs.Doing.{HasStopped}
 use Rattle.check_commands.specs.Checks.{IsNotChecked, OfFiles, fault_of}
-use Rattle.check_commands.specs.Drawing.{IsSurveyed}
 use Rattle.check_commands.specs.Summing.{CanBeSummed}
 use Rattle.commands.specs.declared.fault.Fault.{Fault}
 use Rattle.commands.specs.declared.fault.Fault.TheVariants as told_as
@@ -159,22 +158,17 @@ each_summed who (Some verdict) h = some_summed who verdict h
 some_verdict : (who : Identity) (verdict : Verdict) (survey : Option Survey) → IsSurveyOnSome who verdict survey → IsVerdictOnSome who verdict
 some_verdict who verdict survey (ds, f, valid, is, surveyed) = (ds, f, valid, is)
 
-pub each_on_some : (who : Identity) (o : Option (Verdict × Option Survey)) → IfSome o (λ found. IsSurveyOnSome who found.0 found.1) → IfSome o (λ found. IsVerdictOnSome who found.0)
-each_on_some who None h = tt
-each_on_some who (Some found) h = some_verdict who found.0 found.1 h
-
 pub each_surveyed_summed : (who : Identity) (o : Option (Verdict × Option Survey)) → IfSome o (λ found. IsSurveyOnSome who found.0 found.1) → IfSome o (λ found. OnYes found.0 CanBeSummed)
 each_surveyed_summed who None h = tt
 each_surveyed_summed who (Some found) h = some_summed who found.0 (some_verdict who found.0 found.1 h)
 
-is_surveyed : (who : Identity) (verdict : Verdict) (survey : Option Survey) → IsSurveyOnSome who verdict survey → IsSurveyed verdict survey
-is_surveyed who (Yes report) (Some survey) h = tt
-is_surveyed who (Yes report) None (ds, f, valid, is, none) = absurd none
-is_surveyed who (No reason) survey h = tt
+-- ---- one of two results
 
-pub each_surveyed : (who : Identity) (o : Option (Verdict × Option Survey)) → IfSome o (λ found. IsSurveyOnSome who found.0 found.1) → IfSome o (λ found. IsSurveyed found.0 found.1)
-each_surveyed who None h = tt
-each_surveyed who (Some found) h = is_surveyed who found.0 found.1 h
+pub of_made : {A E : Type 0} (P : A → Type 0) (checked made : Result A E) (found : A) → checked ≡ Ok found → checked ≡ made → IfOk made P → P found
+of_made P checked made found is made_is h = subst (λ r. IfOk r P) (sym made_is ∙ is) h
+
+pub of_refused : {A E : Type 0} (P : E → Type 0) (checked made : Result A E) (fault : E) → checked ≡ Err fault → checked ≡ made → IfErr made P → P fault
+of_refused P checked made fault is made_is h = subst (λ r. IfErr r P) (sym made_is ∙ is) h
 
 -- ---- a file that isn't opened
 

@@ -11,9 +11,7 @@ use Rattle.reception.specs.declared.scope.Identity.{Identity}
 use Rattle.certificate.specs.Certificate.{Certificate, IsCertificate}
 use Rattle.cert.specs.FromReader.{IsCheckedFrom}
 use Rattle.cert.specs.Report.{IsReport, OnYes}
-use Rattle.cert.specs.Surveying.{IsSurveyedFrom}
 use Rattle.cert.specs.declared.verdict.Report.{Report}
-use Rattle.cert.specs.declared.verdict.Survey.{Survey}
 use Rattle.cert.specs.declared.verdict.Verdict.{Verdict}
 use Rattle.cert.specs.declared.verdict.Verdict.TheVariants.{Yes, No}
 use Rattle.request.specs.declared.requests.CheckRequest.{CheckRequest}
@@ -27,19 +25,12 @@ use Rattle.check_commands.specs.declared.check.Answered.{Answered}
 use Rattle.commands.specs.Commands.{Outcome, Gives, IsDrawn, TellsVerdict, inputs_of, output_of, status_of}
 use Rattle.commands.specs.Outcomes.{IsOutput, MayCreate}
 use Rattle.commands.specs.Doing.{text_of, HasMade}
-use Rattle.check_commands.specs.Drawing.{HasDrawn, IsSurveyed}
+use Rattle.check_commands.specs.Drawing.{HasDrawn}
 use Rattle.file_check.specs.Files.{IsVerdictIn, IsVerdictOnSome}
 use Rattle.std.specs.Prelude.{IfOk}
 use Rattle.commands.specs.declared.fault.Fault.{Fault}
 use Rattle.check_commands.specs.Checks.{OfFiles, TellsCheck, TellsRequest}
 use Rattle.check_commands.specs.Summing.{CanBeSummed}
-
--- at a yes there is a survey
-pub has_survey : (who : Identity) (old new : Option (List ℕ)) (object : List ℕ) (z : Certificate) (found : Verdict × Option Survey)
-    → IsSurveyedFrom who old new object z found.0 found.1 → IsSurveyed found.0 found.1
-has_survey who old new object z (Yes report, Some survey) h = tt
-has_survey who old new object z (Yes report, None) h = absurd h.surveyed
-has_survey who old new object z (No reason, survey) h = tt
 
 -- a report has a block
 pub has_block : (who : Identity) (ds : List (List ℕ)) (f : Fti) → IsValidFti f → (report : Report) → IsReport who ds f report → CanBeSummed report
@@ -159,10 +150,6 @@ told_there (Some held) r verdict answered (session, object, certificate, at_sess
       read = ((session, at_session, refl), ((object, at_object, refl), ((is_text.0, (certificate, at_certificate, is_text.1)), tt)));
       tells = record { verdict = verdict; checked = checked; text = text; status = status; picture = picture };
     })
-
--- no picture is drawn where none is asked for
-pub none_drawn : (p : Option (Bor (List ℕ))) (verdict : Verdict) → p ≡ None → HasDrawn p verdict None
-none_drawn p verdict none = rw none refl
 
 -- what is told of what is held
 pub held_told : (files : Option Files) (r : CheckRequest) (opened left : Option (List ℕ)) (object : List ℕ) (z : Certificate)

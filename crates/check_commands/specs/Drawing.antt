@@ -6,10 +6,10 @@ use Rattle.cert.specs.declared.verdict.Verdict.{Verdict}
 use Rattle.cert.specs.declared.verdict.Verdict.TheVariants.{Yes}
 use Rattle.check_commands.specs.declared.drawing.Drawn.{Drawn}
 
--- there is a survey at a yes
-abbrev pub IsSurveyed : Verdict → Option Survey → Type 0
-IsSurveyed (Yes report) None = ⊥
-IsSurveyed verdict survey = ⊤
+-- there is a survey at a yes, where a picture is asked for
+abbrev pub IsSurveyed : Option (Bor (List ℕ)) → Verdict → Option Survey → Type 0
+IsSurveyed (Some name) (Yes report) None = ⊥
+IsSurveyed picture verdict survey = ⊤
 
 -- a picture was drawn under its name, where one is asked for and the answer is yes
 abbrev pub HasDrawn : Option (Bor (List ℕ)) → Verdict → Option Drawn → Type 0

@@ -11,7 +11,7 @@ ghost use Rattle.host.specs.World.{GivesFile};
 ghost use Rattle.file_check.specs.Files.{IsVerdictIn, IsVerdictOnSome};
 ghost use Rattle.check_commands.specs.Checks.{IsNotChecked, OfFiles, TellsCheck, TellsRequest};
 ghost use Rattle.check_commands.specs.Checks.{fault_of};
-ghost use Rattle.check_commands.specs.Drawing.{IsSurveyed};
+ghost use Rattle.check_commands.specs.Drawing.{HasDrawn, IsSurveyed};
 ghost use Rattle.check_commands.specs.Summing.{CanBeSummed};
 ghost use Rattle.commands.specs.Lines.{named, block_text, kill_text, losses_text, report_text};
 ghost use Rattle.commands.specs.Lines.{reason_text, verdict_text as text_of_verdict};
@@ -120,54 +120,14 @@ fn answer_files<'a, H: Host>(
     ensures fault { IfErr result
         (HasStopped (H.world host.now) (H.world host.now) (Check request.now)) }
 {
-    if request.picture.is_none() {
-        let Some(verdict) = verdict_in(alloc, host, request, files)? else {
-            return Ok(None);
-        };
-        let done = told_of(alloc, request.summary, &verdict)?;
-        return Ok(Some(Answered {
-            done,
-            picture: None,
-        }));
-    }
-    let Some((verdict, survey)) = survey_in(alloc, host, request, files)? else {
+    let Some((verdict, survey)) = checked_in(alloc, host, request, files)? else {
         return Ok(None);
     };
-    let done = told_of(alloc, request.summary, &verdict)?;
-    let picture = picture_of(alloc, request, object_length, &verdict, &survey)?;
-    Ok(Some(Answered { done, picture }))
+    Ok(Some(told_and_drawn(alloc, request, object_length, &verdict, &survey)?))
 }
 
-// The verdict on the files.
-fn verdict_in<'a, H: Host>(
-    alloc: Global,
-    host: &H,
-    request: &CheckRequest<'a>,
-    files: &Files<'_, H::Input, H::Input, H::Input>,
-) -> Result<Option<Verdict>, Fault<'a>>
-    requires session { GivesFile (H.world host.now) request.now.session.now
-        (H.Input.content files.now.session.now) (H.Input.reliable files.now.session.now) }
-    requires object { GivesFile (H.world host.now) request.now.object.now
-        (H.Input.content files.now.object.now) (H.Input.reliable files.now.object.now) }
-    requires certificate { GivesFile (H.world host.now) request.now.certificate.now
-        (H.Input.content files.now.certificate.now)
-        (H.Input.reliable files.now.certificate.now) }
-    ensures verdict { IfOk result (λ o. IfSome o (λ v. OfFiles
-        (H.world host.now).files request.now
-        (λ x o text. IsVerdictIn request.now.identity x o text v))) }
-    ensures some { IfOk result (λ o. IfSome o (IsVerdictOnSome request.now.identity)) }
-    ensures summed { IfOk result (λ o. IfSome o (λ v. OnYes v CanBeSummed)) }
-    ensures fault { IfErr result
-        (HasStopped (H.world host.now) (H.world host.now) (Check request.now)) }
-{
-    match check_files(alloc, files, request.identity) {
-        Ok(verdict) => Ok(verdict),
-        Err(fault) => Err(files_fault(request, fault)),
-    }
-}
-
-// The verdict on the files, and at a yes the survey.
-fn survey_in<'a, H: Host>(
+// The verdict on the files, and at a yes the survey, where a picture is asked for.
+fn checked_in<'a, H: Host>(
     alloc: Global,
     host: &H,
     request: &CheckRequest<'a>,
@@ -186,11 +146,21 @@ fn survey_in<'a, H: Host>(
     ensures some { IfOk result (λ o. IfSome o (λ found.
         IsVerdictOnSome request.now.identity found.0)) }
     ensures summed { IfOk result (λ o. IfSome o (λ found. OnYes found.0 CanBeSummed)) }
-    ensures surveyed { IfOk result (λ o. IfSome o (λ found. IsSurveyed found.0 found.1)) }
+    ensures surveyed { IfOk result (λ o. IfSome o (λ found.
+        IsSurveyed request.now.picture found.0 found.1)) }
     ensures fault { IfErr result
         (HasStopped (H.world host.now) (H.world host.now) (Check request.now)) }
 {
-    match survey_files(alloc, files, request.identity) {
+    let checked = if request.picture.is_some() {
+        survey_files(alloc, files, request.identity)
+    } else {
+        match check_files(alloc, files, request.identity) {
+            Ok(Some(verdict)) => Ok(Some((verdict, None))),
+            Ok(None) => Ok(None),
+            Err(fault) => Err(fault),
+        }
+    };
+    match checked {
         Ok(found) => Ok(found),
         Err(fault) => Err(files_fault(request, fault)),
     }
@@ -223,18 +193,31 @@ fn answer_of<'a, R: Read>(
     ensures fault { IfErr result (IsNotChecked request.now.identity (R.sound frames.old)
         (R.remaining frames.old) object.now certificate.now) }
 {
-    if request.picture.is_none() {
-        let verdict = verdict_of(alloc, frames, object, certificate, request.identity)?;
-        let done = told_of(alloc, request.summary, &verdict)?;
-        return Ok(Answered {
-            done,
-            picture: None,
-        });
-    }
-    let (verdict, survey) = survey_of(alloc, frames, object, certificate, request.identity)?;
-    let done = told_of(alloc, request.summary, &verdict)?;
-    let picture = picture_of(alloc, request, object.len() as u64, &verdict, &survey)?;
-    Ok(Answered { done, picture })
+    let (verdict, survey) = checked_of(alloc, frames, object, certificate, request)?;
+    Ok(told_and_drawn(alloc, request, object.len() as u64, &verdict, &survey)?)
+}
+
+// What is told of a verdict, and the picture, where one is asked for.
+fn told_and_drawn<'a>(
+    alloc: Global,
+    request: &CheckRequest<'a>,
+    object_length: u64,
+    verdict: &Verdict,
+    survey: &Option<Survey>,
+) -> Result<Answered<'a>, AllocError>
+    requires summed { OnYes verdict.now CanBeSummed }
+    requires surveyed { IsSurveyed request.now.picture verdict.now survey.now }
+    ensures text { IfOk result (λ answered.
+        TellsVerdict request.now.summary verdict.now (text_of answered.done.told)) }
+    ensures status { IfOk result (λ answered.
+        answered.done.status ≡ verdict_status verdict.now) }
+    ensures picture { IfOk result (λ answered.
+        HasDrawn request.now.picture verdict.now answered.picture) }
+{
+    Ok(Answered {
+        done: told_of(alloc, request.summary, verdict)?,
+        picture: picture_of(alloc, request, object_length, verdict, survey)?,
+    })
 }
 
 // What is told of a verdict, by whether a summary is asked for.
@@ -271,45 +254,33 @@ fn verdict_text(alloc: Global, summary: bool, verdict: &Verdict) -> Result<Text,
     }
 }
 
-// The verdict on the frames that a reader has left, or why there is none.
-fn verdict_of<'a, R: Read>(
+// The verdict on the frames that a reader has left, and at a yes the survey, where a picture is
+// asked for; or why there is none.
+fn checked_of<'a, R: Read>(
     alloc: Global,
     frames: &mut R,
     object: &[u8],
     certificate: &Certificate,
-    identity: Identity,
-) -> Result<Verdict, Fault<'a>>
-    requires { IsCertificate certificate.now }
-    ensures ok { IfOk result (IsCheckedFrom identity (R.remaining frames.old)
-        (R.remaining frames.new) object.now certificate.now) }
-    ensures summed { IfOk result (λ verdict. OnYes verdict CanBeSummed) }
-    ensures fault { IfErr result (IsNotChecked identity (R.sound frames.old)
-        (R.remaining frames.old) object.now certificate.now) }
-{
-    match check_from(alloc, frames, object, certificate, identity) {
-        Ok(verdict) => Ok(verdict),
-        Err(CheckFault::NoMemory | CheckFault::Frame(FrameFault::NoMemory)) => Err(Fault::Memory),
-        Err(CheckFault::Frame(fault)) => Err(Fault::Frame(fault)),
-    }
-}
-
-// The verdict on the frames that a reader has left, at a yes with a survey, or why there is none.
-fn survey_of<'a, R: Read>(
-    alloc: Global,
-    frames: &mut R,
-    object: &[u8],
-    certificate: &Certificate,
-    identity: Identity,
+    request: &CheckRequest<'_>,
 ) -> Result<(Verdict, Option<Survey>), Fault<'a>>
     requires { IsCertificate certificate.now }
-    ensures ok { IfOk result (λ found. IsCheckedFrom identity (R.remaining frames.old)
-        (R.remaining frames.new) object.now certificate.now found.0) }
+    ensures ok { IfOk result (λ found. IsCheckedFrom request.now.identity
+        (R.remaining frames.old) (R.remaining frames.new) object.now certificate.now found.0) }
     ensures summed { IfOk result (λ found. OnYes found.0 CanBeSummed) }
-    ensures surveyed { IfOk result (λ found. IsSurveyed found.0 found.1) }
-    ensures fault { IfErr result (IsNotChecked identity (R.sound frames.old)
+    ensures surveyed { IfOk result (λ found.
+        IsSurveyed request.now.picture found.0 found.1) }
+    ensures fault { IfErr result (IsNotChecked request.now.identity (R.sound frames.old)
         (R.remaining frames.old) object.now certificate.now) }
 {
-    match survey_from(alloc, frames, object, certificate, identity) {
+    let checked = if request.picture.is_some() {
+        survey_from(alloc, frames, object, certificate, request.identity)
+    } else {
+        match check_from(alloc, frames, object, certificate, request.identity) {
+            Ok(verdict) => Ok((verdict, None)),
+            Err(fault) => Err(fault),
+        }
+    };
+    match checked {
         Ok(found) => Ok(found),
         Err(CheckFault::NoMemory | CheckFault::Frame(FrameFault::NoMemory)) => Err(Fault::Memory),
         Err(CheckFault::Frame(fault)) => Err(Fault::Frame(fault)),

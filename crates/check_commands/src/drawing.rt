@@ -23,7 +23,7 @@ pub(crate) fn picture_of<'a>(
     verdict: &Verdict,
     survey: &Option<Survey>,
 ) -> Result<Option<Drawn<'a>>, AllocError>
-    requires { IsSurveyed verdict.now survey.now }
+    requires { IsSurveyed request.now.picture verdict.now survey.now }
     ensures { IfOk result (HasDrawn request.now.picture verdict.now) }
 {
     let Some(name) = request.picture else {

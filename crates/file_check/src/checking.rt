@@ -301,43 +301,8 @@ fn tally_files<S: ReadAt, O: ReadAt, C: ReadAt>(
     }
 }
 
-// The check of files whose certificate has a name.
-fn check_named<S: ReadAt, O: ReadAt, C: ReadAt>(
-    alloc: Global,
-    files: &NamedFiles<'_, S, O, C>,
-    identity: Identity,
-) -> Result<Verdict, FilesFault>
-    ensures verdict { WhereTold (S.content files.now.session.now)
-        (O.content files.now.object.now) (C.content files.now.certificate.file.now)
-        (λ x o text. IfOk result (λ v. (left : Option (List ℕ))
-        × IsCheckedFrom identity (Some x) left o
-        (named_in text files.now.certificate.fti files.now.certificate.name) v)) }
-    ensures fault { WhereTold (S.content files.now.session.now)
-        (O.content files.now.object.now) (C.content files.now.certificate.file.now)
-        (λ x o text. IfErr result (IsNoVerdict identity
-        (record {
-          session = S.reliable files.now.session.now;
-          object = O.reliable files.now.object.now;
-          certificate = C.reliable files.now.certificate.file.now;
-        }) x o (named_in text files.now.certificate.fti files.now.certificate.name))) }
-    ensures some { IfOk result (IsVerdictOnSome identity) }
-    ensures certificate { IfErr result (IsCertificateFault
-        (C.content files.now.certificate.file.now) (C.reliable files.now.certificate.file.now)) }
-    ensures frame { IfErr result (IsFaultOfFrames (S.reliable files.now.session.now)) }
-{
-    let tally = match tally_files(alloc, files, identity) {
-        Ok(tally) => tally,
-        Err(Stop::ByReason(reason)) => return Ok(Verdict::No(reason)),
-        Err(Stop::ByFault(fault)) => return Err(fault),
-    };
-    match tally.report(alloc) {
-        Ok(report) => Ok(Verdict::Yes(report)),
-        Err(NoReport::Reason(reason)) => Ok(Verdict::No(reason)),
-        Err(NoReport::NoMemory) => Err(FilesFault::NoMemory),
-    }
-}
-
-// The check as [`check_named`] does it, and at a yes what a picture shows beside the report.
+// The check of files whose certificate has a name, and at a yes what a picture shows beside the
+// report.
 fn survey_named<S: ReadAt, O: ReadAt, C: ReadAt>(
     alloc: Global,
     files: &NamedFiles<'_, S, O, C>,
@@ -373,7 +338,8 @@ fn survey_named<S: ReadAt, O: ReadAt, C: ReadAt>(
     }
 }
 
-// The check as [`check_named`] does it, and the block that is short, where that is the reason.
+// The check of files whose certificate has a name, and the block that is short, where that is the
+// reason.
 fn twin_named<S: ReadAt, O: ReadAt, C: ReadAt>(
     alloc: Global,
     files: &NamedFiles<'_, S, O, C>,
@@ -503,11 +469,10 @@ pub fn check_files<S: ReadAt, O: ReadAt, C: ReadAt>(
           certificate = C.reliable files.now.certificate.now;
         }) x o text)) }
 {
-    match named(files) {
-        Ok(Some(named)) => Ok(Some(check_named(alloc, &named, identity)?)),
-        Ok(None) => Ok(None),
-        Err(fault) => Err(FilesFault::Certificate(fault)),
-    }
+    let Some((verdict, _)) = check_for_twin(alloc, files, identity)? else {
+        return Ok(None);
+    };
+    Ok(Some(verdict))
 }
 
 /// The check as [`check_files`] does it, and at a yes, and only there, what a picture shows beside
