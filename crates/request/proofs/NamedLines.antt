@@ -7,6 +7,7 @@ use Rattle.request.specs.declared.requests.Request.{Request}
 use Rattle.request.specs.declared.requests.Request.TheVariants.{Check, Twin, Show, Encode, Certify, Convert, Decode, Follow, Drop, Salvage, Join}
 use Rattle.request.specs.Matching.{IsAsked, IsTold}
 use Rattle.request.specs.Requests.{TellsPlaces, command_of}
+
 -- it is the line of this name, too, that another name for it asks for
 pub asked_at : (rows : List Row) (name word : Text) (line made : CommandLine) → name ≡ word → line ≡ made → IsAsked word rows made → IsAsked name rows line
 asked_at rows name word line made named is asked = subst (λ l. IsAsked name rows l) (sym is) (subst (λ n. IsAsked n rows made) (sym named) asked)

@@ -15,20 +15,22 @@ returns-in-Ok-clause-verdict g c =
     let w = g.H.Host.world c.args.host.now in
     let r = c.args.request.now in
     elim c.if-is_some.branch [
-    then-is_some b ↦ surveyed_of_files w r _ _ _ _ _ _ c.requires.session c.requires.object c.requires.certificate c.in-Ok.found (rw (sym b.checked-is ∙ c.in-Ok.is) at b.survey_files-checked.ensures.verdict)
-    | else-is_some+in-Ok-Some b ↦ of_made (λ o. IfSome o (λ found. OfFiles w.files r (λ x o text. IsVerdictIn r.identity x o text found.0))) _ _ c.in-Ok.found c.in-Ok.is b.checked-is
-    (verdict_of_files w r _ _ _ _ _ _ c.requires.session c.requires.object c.requires.certificate (Some b.in-Ok-Some.verdict) (rw b.in-Ok-Some.field-0-is at (rw b.in-Ok-Some.is at b.check_files.ensures.verdict)))
-    | else-is_some+in-Ok-None b ↦ of_made (λ o. IfSome o (λ found. OfFiles w.files r (λ x o text. IsVerdictIn r.identity x o text found.0))) _ _ c.in-Ok.found c.in-Ok.is b.checked-is tt
-    | else-is_some+in-Err b ↦ of_made (λ o. IfSome o (λ found. OfFiles w.files r (λ x o text. IsVerdictIn r.identity x o text found.0))) _ _ c.in-Ok.found c.in-Ok.is b.checked-is tt ]
+      | then-is_some b ↦ surveyed_of_files w r _ _ _ _ _ _ c.requires.session c.requires.object c.requires.certificate c.in-Ok.found (rw (sym b.checked-is ∙ c.in-Ok.is) at b.survey_files-checked.ensures.verdict)
+      | else-is_some+in-Ok-Some b ↦ of_made (λ o. IfSome o (λ found. OfFiles w.files r (λ x o text. IsVerdictIn r.identity x o text found.0))) _ _ c.in-Ok.found c.in-Ok.is b.checked-is
+          (verdict_of_files w r _ _ _ _ _ _ c.requires.session c.requires.object c.requires.certificate (Some b.in-Ok-Some.verdict) (rw b.in-Ok-Some.field-0-is at (rw b.in-Ok-Some.is at b.check_files.ensures.verdict)))
+      | else-is_some+in-Ok-None b ↦ of_made (λ o. IfSome o (λ found. OfFiles w.files r (λ x o text. IsVerdictIn r.identity x o text found.0))) _ _ c.in-Ok.found c.in-Ok.is b.checked-is tt
+      | else-is_some+in-Err b ↦ of_made (λ o. IfSome o (λ found. OfFiles w.files r (λ x o text. IsVerdictIn r.identity x o text found.0))) _ _ c.in-Ok.found c.in-Ok.is b.checked-is tt
+    ]
 
 pub returns-in-Ok-clause-summed : goal.returns-in-Ok-clause-summed
 returns-in-Ok-clause-summed g c =
     let who = c.args.request.now.identity in
     elim c.if-is_some.branch [
-    then-is_some b ↦ each_surveyed_summed who c.in-Ok.found (rw (sym b.checked-is ∙ c.in-Ok.is) at b.survey_files-checked.ensures.some)
-    | else-is_some+in-Ok-Some b ↦ of_made (λ o. IfSome o (λ found. OnYes found.0 CanBeSummed)) _ _ c.in-Ok.found c.in-Ok.is b.checked-is (each_summed who (Some b.in-Ok-Some.verdict) (rw b.in-Ok-Some.field-0-is at (rw b.in-Ok-Some.is at b.check_files.ensures.some)))
-    | else-is_some+in-Ok-None b ↦ of_made (λ o. IfSome o (λ found. OnYes found.0 CanBeSummed)) _ _ c.in-Ok.found c.in-Ok.is b.checked-is tt
-    | else-is_some+in-Err b ↦ of_made (λ o. IfSome o (λ found. OnYes found.0 CanBeSummed)) _ _ c.in-Ok.found c.in-Ok.is b.checked-is tt ]
+      | then-is_some b ↦ each_surveyed_summed who c.in-Ok.found (rw (sym b.checked-is ∙ c.in-Ok.is) at b.survey_files-checked.ensures.some)
+      | else-is_some+in-Ok-Some b ↦ of_made (λ o. IfSome o (λ found. OnYes found.0 CanBeSummed)) _ _ c.in-Ok.found c.in-Ok.is b.checked-is (each_summed who (Some b.in-Ok-Some.verdict) (rw b.in-Ok-Some.field-0-is at (rw b.in-Ok-Some.is at b.check_files.ensures.some)))
+      | else-is_some+in-Ok-None b ↦ of_made (λ o. IfSome o (λ found. OnYes found.0 CanBeSummed)) _ _ c.in-Ok.found c.in-Ok.is b.checked-is tt
+      | else-is_some+in-Err b ↦ of_made (λ o. IfSome o (λ found. OnYes found.0 CanBeSummed)) _ _ c.in-Ok.found c.in-Ok.is b.checked-is tt
+    ]
 
 pub returns-in-Err-checked-clause-fault : goal.returns-in-Err-checked-clause-fault
 returns-in-Err-checked-clause-fault g c =
@@ -37,9 +39,10 @@ returns-in-Err-checked-clause-fault g c =
     let e = c.in-Err-checked.fault in
     subst (λ (fault : Fault). HasStopped w w (Check r) fault) (sym c.files_fault.ensures)
     (elim c.if-is_some.branch [
-    then-is_some b ↦ (let is = sym b.checked-is ∙ c.in-Err-checked.is in let files = b.survey_files-checked.ensures in
-    unchecked w r _ _ _ _ _ _ c.requires.session c.requires.object c.requires.certificate e (rw is at files.certificate) (rw is at files.frame) (rw is at files.fault))
-    | else-is_some+in-Ok-Some b ↦ of_refused (λ fault. HasStopped w w (Check r) (fault_of r fault)) _ _ e c.in-Err-checked.is b.checked-is tt
-    | else-is_some+in-Ok-None b ↦ of_refused (λ fault. HasStopped w w (Check r) (fault_of r fault)) _ _ e c.in-Err-checked.is b.checked-is tt
-    | else-is_some+in-Err b ↦ of_refused (λ fault. HasStopped w w (Check r) (fault_of r fault)) _ _ e c.in-Err-checked.is b.checked-is
-    (unchecked w r _ _ _ _ _ _ c.requires.session c.requires.object c.requires.certificate _ (rw b.in-Err.is at b.check_files.ensures.certificate) (rw b.in-Err.is at b.check_files.ensures.frame) (rw b.in-Err.is at b.check_files.ensures.fault)) ])
+      | then-is_some b ↦ (let is = sym b.checked-is ∙ c.in-Err-checked.is in let files = b.survey_files-checked.ensures in
+          unchecked w r _ _ _ _ _ _ c.requires.session c.requires.object c.requires.certificate e (rw is at files.certificate) (rw is at files.frame) (rw is at files.fault))
+      | else-is_some+in-Ok-Some b ↦ of_refused (λ fault. HasStopped w w (Check r) (fault_of r fault)) _ _ e c.in-Err-checked.is b.checked-is tt
+      | else-is_some+in-Ok-None b ↦ of_refused (λ fault. HasStopped w w (Check r) (fault_of r fault)) _ _ e c.in-Err-checked.is b.checked-is tt
+      | else-is_some+in-Err b ↦ of_refused (λ fault. HasStopped w w (Check r) (fault_of r fault)) _ _ e c.in-Err-checked.is b.checked-is
+          (unchecked w r _ _ _ _ _ _ c.requires.session c.requires.object c.requires.certificate _ (rw b.in-Err.is at b.check_files.ensures.certificate) (rw b.in-Err.is at b.check_files.ensures.frame) (rw b.in-Err.is at b.check_files.ensures.fault))
+    ])

@@ -8,6 +8,7 @@ use Rattle.check_commands.proofs.check.checked_of.Goals.{then-is_some, else-is_s
 
 pub returns-in-Ok-checked-clause-summed : goal.returns-in-Ok-checked-clause-summed
 returns-in-Ok-checked-clause-summed g c = elim c.if-is_some.branch [
-    then-is_some b ↦ can_be_summed _ _ _ _ _ c.requires _ (rw (sym b.checked-is ∙ c.in-Ok-checked.is) at b.survey_from-checked.ensures.verdict)
-    | else-is_some+in-Ok b ↦ of_made (λ found. OnYes found.0 CanBeSummed) _ _ c.in-Ok-checked.found c.in-Ok-checked.is b.checked-is (can_be_summed _ _ _ _ _ c.requires _ (rw b.in-Ok.is at b.check_from.ensures.verdict))
-    | else-is_some+in-Err b ↦ of_made (λ found. OnYes found.0 CanBeSummed) _ _ c.in-Ok-checked.found c.in-Ok-checked.is b.checked-is tt ]
+  | then-is_some b ↦ can_be_summed _ _ _ _ _ c.requires _ (rw (sym b.checked-is ∙ c.in-Ok-checked.is) at b.survey_from-checked.ensures.verdict)
+  | else-is_some+in-Ok b ↦ of_made (λ found. OnYes found.0 CanBeSummed) _ _ c.in-Ok-checked.found c.in-Ok-checked.is b.checked-is (can_be_summed _ _ _ _ _ c.requires _ (rw b.in-Ok.is at b.check_from.ensures.verdict))
+  | else-is_some+in-Err b ↦ of_made (λ found. OnYes found.0 CanBeSummed) _ _ c.in-Ok-checked.found c.in-Ok-checked.is b.checked-is tt
+]
