@@ -26,7 +26,6 @@ use commands::{
 };
 use file_check::{Files, FilesFault, check_files, survey_files};
 use host::Host;
-use reception::Identity;
 use request::{CheckRequest, Output};
 use session::{FrameFault, Read};
 use std::alloc::{AllocError, Global};
@@ -120,14 +119,14 @@ fn answer_files<'a, H: Host>(
     ensures fault { IfErr result
         (HasStopped (H.world host.now) (H.world host.now) (Check request.now)) }
 {
-    let Some((verdict, survey)) = checked_in(alloc, host, request, files)? else {
+    let Some((verdict, survey)) = verdict_in(alloc, host, request, files)? else {
         return Ok(None);
     };
-    Ok(Some(told_and_drawn(alloc, request, object_length, &verdict, &survey)?))
+    Ok(Some(answer_verdict(alloc, request, object_length, &verdict, &survey)?))
 }
 
 // The verdict on the files, and at a yes the survey, where a picture is asked for.
-fn checked_in<'a, H: Host>(
+fn verdict_in<'a, H: Host>(
     alloc: Global,
     host: &H,
     request: &CheckRequest<'a>,
@@ -193,12 +192,12 @@ fn answer_of<'a, R: Read>(
     ensures fault { IfErr result (IsNotChecked request.now.identity (R.sound frames.old)
         (R.remaining frames.old) object.now certificate.now) }
 {
-    let (verdict, survey) = checked_of(alloc, frames, object, certificate, request)?;
-    Ok(told_and_drawn(alloc, request, object.len() as u64, &verdict, &survey)?)
+    let (verdict, survey) = verdict_of(alloc, frames, object, certificate, request)?;
+    Ok(answer_verdict(alloc, request, object.len() as u64, &verdict, &survey)?)
 }
 
 // What is told of a verdict, and the picture, where one is asked for.
-fn told_and_drawn<'a>(
+fn answer_verdict<'a>(
     alloc: Global,
     request: &CheckRequest<'a>,
     object_length: u64,
@@ -256,7 +255,7 @@ fn verdict_text(alloc: Global, summary: bool, verdict: &Verdict) -> Result<Text,
 
 // The verdict on the frames that a reader has left, and at a yes the survey, where a picture is
 // asked for; or why there is none.
-fn checked_of<'a, R: Read>(
+fn verdict_of<'a, R: Read>(
     alloc: Global,
     frames: &mut R,
     object: &[u8],

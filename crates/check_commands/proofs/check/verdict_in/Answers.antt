@@ -7,8 +7,8 @@ use Rattle.file_check.specs.Files.{IsVerdictIn}
 use Rattle.check_commands.specs.Checks.{OfFiles, fault_of}
 use Rattle.check_commands.specs.Summing.{CanBeSummed}
 use Rattle.check_commands.proofs.CheckedFiles.{each_summed, each_surveyed_summed, of_made, of_refused, surveyed_of_files, unchecked, verdict_of_files}
-use Rattle.check_commands.proofs.check.checked_in.Goals as goal
-use Rattle.check_commands.proofs.check.checked_in.Goals.{then-is_some, else-is_some+in-Ok-Some, else-is_some+in-Ok-None, else-is_some+in-Err}
+use Rattle.check_commands.proofs.check.verdict_in.Goals as goal
+use Rattle.check_commands.proofs.check.verdict_in.Goals.{then-is_some, else-is_some+in-Ok-Some, else-is_some+in-Ok-None, else-is_some+in-Err}
 
 pub returns-in-Ok-clause-verdict : goal.returns-in-Ok-clause-verdict
 returns-in-Ok-clause-verdict g c =

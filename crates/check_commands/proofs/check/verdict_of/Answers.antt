@@ -3,8 +3,8 @@ use Rattle.cert.specs.Report.{OnYes}
 use Rattle.check_commands.specs.Summing.{CanBeSummed}
 use Rattle.check_commands.proofs.CheckedFiles.{of_made}
 use Rattle.check_commands.proofs.Pictured.{can_be_summed}
-use Rattle.check_commands.proofs.check.checked_of.Goals as goal
-use Rattle.check_commands.proofs.check.checked_of.Goals.{then-is_some, else-is_some+in-Ok, else-is_some+in-Err}
+use Rattle.check_commands.proofs.check.verdict_of.Goals as goal
+use Rattle.check_commands.proofs.check.verdict_of.Goals.{then-is_some, else-is_some+in-Ok, else-is_some+in-Err}
 
 pub returns-in-Ok-checked-clause-summed : goal.returns-in-Ok-checked-clause-summed
 returns-in-Ok-checked-clause-summed g c = elim c.if-is_some.branch [
