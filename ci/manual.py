@@ -40,6 +40,7 @@ FILES = [
      "polynomials."),
     ("OUT", "An output is whole, or what it was before: it is written to `OUT.part`, which is "
      "renamed at the end. A pipe, a device or a link to no file is written straight."),
+    ("-", "As the name of an input this is standard input. As `OUT` it is the name of a file."),
 ]
 FILES_POINTER = (
     "docs/FORMATS.md of the source has the layout of each file, and every line that is printed."
