@@ -13,10 +13,11 @@
  *   initialised, outputs too;
  * - outputs overlap neither each other nor inputs. Inputs may overlap.
  *
- * Sizes are in bytes, rooms in members. A TOI has up to 112 bits: toi_high * 2^64 + toi_low. Places
- * of datagrams, blocks, columns and symbols count from 0. A status that a call can return is named
- * at the call, and so is each output that it writes at that status. Every other output stays as it
- * was.
+ * Sizes are in bytes, rooms in members. A TSI has up to 48 bits, and a TOI up to 112: toi_high *
+ * 2^64 + toi_low. Only alcrs_certify refuses greater ones; for the other calls no packet has them.
+ * Places of datagrams, blocks, columns and symbols count from 0. A status that a call can return is
+ * named at the call, and so is each output that it writes at that status. Every other output stays
+ * as it was.
  *
  * docs/EMBEDDING.md in the source has examples, and says what is proved of these calls. */
 #ifndef ALCRS_H
@@ -227,7 +228,7 @@ enum alcrs_status alcrs_receiver_open(struct alcrs_receiver *receiver, uint64_t 
  *                  there
  * ALCRS_MORE       it was accepted, and more are needed
  * ALCRS_REFUSED    with it the datagrams would be of no object: *fault, whose place is how many
- *                  were accepted before
+ *                  were accepted before; that of R6 is 0, and it has the block
  * ALCRS_EARLY
  * ALCRS_FULL
  * ALCRS_NO_MEMORY
