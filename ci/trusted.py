@@ -131,7 +131,7 @@ PROMISES = [
         [("cert", "twin", []), ("cert", "session_twin", [])],
         ["headline", "verdict"],
     ),
-    ("library", "every public call of the library", None, []),
+    ("library", "the library's public calls, but what is offered to crates above alone", None, []),
     ("embedding", "the calls for C", [
         ("alcrs_c", f"alcrs_{call}", []) for call in (
             "check", "object_length", "decode", "encode", "certify", "twin",
@@ -473,13 +473,18 @@ def entries(modules, wanted):
 def listing(modules, wanted):
     files = {module.path: module for module in modules.values()}
     everything = sum(len(module.definitions) for module in files.values())
+    handed_on = sorted("`{1}/specs/{3}`".format(*it.split(".")) for it in HANDED_ON)
+    about = (
+        "The definitions that public contracts speak of, from the field up, in the order to read "
+        "them. Left out are the files of relations that calls only hand on to one another: "
+        f"{', '.join(handed_on)}. The rest of `specs/` is the vocabulary of private contracts, of "
+        "what crates of the library offer to those above them alone, and of proofs. "
+        "`ci/trusted.py` makes this list, and the gate compares it."
+    )
     head = [
         HEADING,
         "",
-        "The definitions that public contracts speak of, from the field up, in the order to read",
-        "them. The rest of `specs/` is the vocabulary of private contracts, of what crates of the",
-        "library offer to those above them alone, and of proofs.",
-        "`ci/trusted.py` makes this list, and the gate compares it.",
+        *textwrap.wrap(about, WIDTH, break_long_words=False, break_on_hyphens=False),
         "",
         f"{len(wanted)} of {everything} definitions, {lines_of(files, wanted)} lines.",
         "",

@@ -1,4 +1,5 @@
-//! Worked vectors, made outside, against the public calls of the crates below sessions.
+//! Worked vectors, made outside, against the public calls of the crates up to `alc`, and of
+//! `losses`.
 #![tactic(auto)]
 
 #[cfg(test)]

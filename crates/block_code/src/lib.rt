@@ -1,5 +1,6 @@
-//! The code of each source block (RFC 5510, section 8.2): the matrix by which a row of its source
-//! symbols is multiplied.
+//! The code of each source block (RFC 5510, section 8.2): the matrix that makes encoding symbols of
+//! its source symbols, or the one that makes the coefficients of their polynomials. For a large
+//! block that one makes the values at all 255 points, of which `evaluation` makes the coefficients.
 //!
 //! - `code`: a matrix with its columns as rows of coefficients, the form in which rows of bytes are
 //!   multiplied;

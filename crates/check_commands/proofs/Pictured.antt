@@ -89,28 +89,28 @@ given files r answered (inl told) output is = (told.tells.verdict, told.left, to
 given files r answered (inr (none, some)) output is = (some.verdict, some.datagrams, some.fti, some.valid, some.report, some.text, some.status, is)
 
 module _ (old new : World) (r : CheckRequest) (done : Done) (drawn : Drawn) (tells : TellsRequest old.files r (record { done = done; picture = Some drawn })) where
-  abbrev answered : Answered
-  answered = record { done = done; picture = Some drawn }
+  abbrev told_of_yes : Answered
+  told_of_yes = record { done = done; picture = Some drawn }
 
   abbrev outcome : List ℕ → Outcome
   outcome bytes = record { text = text_of done.told; status = done.status; output = Some bytes }
 
   pub named : output_of (Check r) ≡ Some (output_named r.no_clobber drawn.name)
-  named = (asked r.picture r.no_clobber (verdict_of old.files r answered tells) drawn (drawn_of old.files r answered tells)).0
+  named = (asked r.picture r.no_clobber (verdict_of old.files r told_of_yes tells) drawn (drawn_of old.files r told_of_yes tells)).0
 
-  gives : (bytes : List ℕ) → Gives (Check r) (values old.files r answered tells) (outcome bytes)
-  gives bytes = given old.files r answered tells (Some bytes) ((asked r.picture r.no_clobber (verdict_of old.files r answered tells) drawn (drawn_of old.files r answered tells)).1 bytes)
+  gives : (bytes : List ℕ) → Gives (Check r) (values old.files r told_of_yes tells) (outcome bytes)
+  gives bytes = given old.files r told_of_yes tells (Some bytes) ((asked r.picture r.no_clobber (verdict_of old.files r told_of_yes tells) drawn (drawn_of old.files r told_of_yes tells)).1 bytes)
 
   pub may_draw : MayCreate old.files (Check r)
-  may_draw = (values old.files r answered tells, outcome [], [], have_values old.files r answered tells, gives [], refl)
+  may_draw = (values old.files r told_of_yes tells, outcome [], [], have_values old.files r told_of_yes tells, gives [], refl)
 
   pub pictured : (bytes : List ℕ) → Replaces old.files new.files drawn.name.now bytes → new.created ≡ one_more old.created → IsFree old.files drawn.name.now r.no_clobber → new.printed ≡ old.printed
       → HasMade old new (Check r) done
   pictured bytes replaced created free silent = record {
     outcome = outcome bytes;
     makes = record {
-      values = values old.files r answered tells;
-      read = have_values old.files r answered tells;
+      values = values old.files r told_of_yes tells;
+      read = have_values old.files r told_of_yes tells;
       gives = gives bytes;
       made = subst (λ (n : Option Output). IsOutput old new n (Some bytes)) (sym named) (replaced, created, free);
     };

@@ -2,6 +2,7 @@
 use Rattle.std.specs.Prelude.{IfSome, IsNone}
 use Rattle.std.specs.Option.{unwrap_or}
 use Rattle.std.proofs.Common.{◌≡◌, ℕ, List, [], Option, Some, None, sym, subst}
+use Rattle.session.specs.Frames.{IsFramed}
 use Rattle.reception.specs.declared.scope.Identity.{Identity}
 use Rattle.reception.specs.Answer as value
 use Rattle.reception.specs.Answer.{IsAnswer}
@@ -19,7 +20,7 @@ use Rattle.file_decoder.specs.declared.file_gathering.FileSymbols.{FileSymbols}
 use Rattle.file_decoder.specs.declared.file_source.Indexed.{Indexed}
 use Rattle.decoder.proofs.Answering.{stand_of}
 use Rattle.decoder.proofs.BytesOfSymbols.{have_bytes}
-use Rattle.file_decoder.proofs.FromFile.{told_is}
+use Rattle.file_decoder.proofs.FromFile.{told_if, told_is}
 use Rattle.decoder.proofs.GatheredSymbols.{answer_of}
 
 -- where the places in a file are those of some of its datagrams, where its bytes are told
@@ -45,6 +46,10 @@ module _ (content : Option (List ℕ)) (s : FileSymbols) where
 
   pub placed_of : ArePlacedIn content s → (x : List ℕ) → content ≡ Some x → (who : Identity) × (ds : List (List ℕ)) × AreIndexedOf who ds x s.indexed
   placed_of placed x told = let w = rw told at placed.1 in (s.indexed.identity, w.0, w.1.indexed)
+
+  pub placed_framed : ArePlacedIn content s → IfSome content (λ x. (datagrams : List (List ℕ)) × IsFramed datagrams x × ArePlacedOf s.indexed.identity datagrams x s)
+  placed_framed placed = told_if content (λ (x : List ℕ). (datagrams : List (List ℕ)) × IsFramed datagrams x × ArePlacedOf s.indexed.identity datagrams x s) (λ x told.
+      let w = rw told at placed.1 in (w.0, w.1.framed, w.1))
 
   pub gathered_of : AreGatheredIn content s → (x : List ℕ) → content ≡ Some x → (who : Identity) × (ds : List (List ℕ)) × AreIndexedOf who ds x s.indexed
   gathered_of gathered x told = let w = rw told at gathered.1 in (w.0, w.1, w.2.indexed)

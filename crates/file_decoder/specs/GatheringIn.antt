@@ -7,7 +7,7 @@ use Rattle.reception.specs.Answer.{IsAnswer}
 use Rattle.decoder.specs.Answers.{answer_value}
 use Rattle.file_decoder.specs.FileFaults.{IsFrameFault, IsNotAgain}
 use Rattle.decoder.specs.Gathering.{IsNoObject}
-use Rattle.file_decoder.specs.PlacesOf.{ArePlacesOf, ArePlacedIn, AreGatheredIn}
+use Rattle.file_decoder.specs.PlacesOf.{ArePlacesOf, ArePlacedOf, ArePlacedIn, AreGatheredIn}
 use Rattle.file_decoder.specs.declared.file_gathering.FileFault.{FileFault}
 use Rattle.file_decoder.specs.declared.file_gathering.FileFault.TheVariants as file_fault
 use Rattle.file_decoder.specs.declared.file_gathering.GatheredFile.{GatheredFile}
@@ -24,7 +24,8 @@ IsGatheredIn who content (gathered.Answer answer) =
     × IsAnswer who datagrams (answer_value answer))
 IsGatheredIn who content (gathered.Symbols s) =
     AreGatheredIn content s
-    × IfSome content (λ x. (datagrams : List (List ℕ)) × ArePlacesOf who datagrams x s
+    × IfSome content (λ x. (datagrams : List (List ℕ)) × IsFramed datagrams x
+    × ArePlacesOf who datagrams x s
     × (object : List ℕ) × IsAnswer who datagrams (value.Object object))
 
 -- the answer to the file's datagrams, which is no object; or the places of the symbols that they
@@ -36,6 +37,8 @@ IsIndexedIn who content (gathered.Answer answer) =
     × IsAnswer who datagrams (answer_value answer))
 IsIndexedIn who content (gathered.Symbols s) =
     (s.indexed.identity ≡ who) × ArePlacedIn content s
+    × IfSome content (λ x. (datagrams : List (List ℕ)) × IsFramed datagrams x
+    × ArePlacedOf who datagrams x s)
 
 -- why nothing was gathered: a fault of the frames, or the file isn't the same each time
 abbrev pub IsFileFault : Option (List ℕ) → Bool → FileFault → Type 0

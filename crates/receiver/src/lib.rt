@@ -1,5 +1,5 @@
-//! A receiver: the object that datagrams give which come one at a time, as a decoder answers to all
-//! of them.
+//! A receiver: it is fed datagrams one at a time, and gives the answer that a decoder gives to all
+//! that it accepted: the object, once they suffice.
 //!
 //! - `receiver`: the type. It stands for the list of the datagrams that it accepted
 //!   (`specs/Stands`). It accepts none with which `decode` would answer a fault to that list, and

@@ -1,5 +1,5 @@
-//! Worked vectors, made outside, against the public calls of `session` and the crates above it, up
-//! to `coder`.
+//! Worked vectors, made outside, against the public calls of `streams`, `session` and the crates
+//! above them, up to `coder`, `file_check` among them.
 #![tactic(auto)]
 
 #[cfg(test)]

@@ -9,13 +9,14 @@ use Rattle.reception.specs.Walks.{readings_of}
 use Rattle.reception.specs.Answer.{clash}
 use Rattle.reception.proofs.Within.{within}
 use Rattle.decoder.specs.Answers.{answer_value}
+use Rattle.file_decoder.specs.declared.file_gathering.FileSymbols.{FileSymbols}
 use Rattle.decoder.specs.Answered.{Answers}
-use Rattle.file_decoder.specs.PlacesOf.{AreIndexedOf, ArePlacedOf}
+use Rattle.file_decoder.specs.PlacesOf.{AreIndexedOf, ArePlacedIn, ArePlacedOf}
 use Rattle.file_decoder.specs.InFile.{held_in, AllStandIn}
 use Rattle.block_recovery.specs.Received.{came_at}
 use Rattle.file_decoder.proofs.FromFile.{told_is, told_if, enough_same, some_any, file_fault_of}
 use Rattle.decoder.proofs.GatheredSymbols.{answer_of}
-use Rattle.file_decoder.proofs.Placed.{indexed_bytes, indexed_stand}
+use Rattle.file_decoder.proofs.Placed.{indexed_bytes, indexed_stand, placed_framed}
 use Rattle.decoder.proofs.Unsound.{full_of_enough}
 use Rattle.file_decoder.proofs.file_gathering.count_places.Goals as goal
 
@@ -63,22 +64,22 @@ returns-in-None-clause-indexed g c =
     let s = c.args.indexed.symbols in
     let f = c.args.indexed.fti in
     let who = c.args.indexed.identity in
-    let enough = (rw c.in-None.is at c.in_ok-answer.ensures.enough) refl in (
-      refl,
-      (
-        record {
-          codes = c.in_ok-codes.ensures;
-          range = c.requires.range;
-          enough = λ held b hb. enough_same f b _ _ (λ j lj. some_any (held_in (unwrap_or content [])) held s b j) (enough b hb);
-        },
-        told_if content (λ (x : List ℕ). (ds : List (List ℕ)) × ArePlacedOf c.args.indexed.identity ds x (record { indexed = c.args.indexed; codes = c.in_ok-codes.codes })) (λ x told.
-            let w = c.requires.told x told in (
-              w.0,
-              record {
-                framed = w.1;
-                indexed = w.2;
-                full = λ b hb. full_of_enough f c.is_valid.ensures (symbols (counted who (readings_of w.0))) (came_at (held_in x) s) w.2.received.index (within clash (asked who) (readings_of w.0) f w.2.received.clean) b hb (enough_same f b _ _ (λ j lj. some_any (held_in (unwrap_or content [])) (held_in x) s b j) (enough b hb));
-              },
-            )),
-      ),
-    )
+    let enough = (rw c.in-None.is at c.in_ok-answer.ensures.enough) refl in
+    let found : FileSymbols = record { indexed = c.args.indexed; codes = c.in_ok-codes.codes } in
+    let placed : ArePlacedIn content found = (
+      record {
+        codes = c.in_ok-codes.ensures;
+        range = c.requires.range;
+        enough = λ held b hb. enough_same f b _ _ (λ j lj. some_any (held_in (unwrap_or content [])) held s b j) (enough b hb);
+      },
+      told_if content (λ (x : List ℕ). (ds : List (List ℕ)) × ArePlacedOf c.args.indexed.identity ds x found) (λ x told.
+          let w = c.requires.told x told in (
+            w.0,
+            record {
+              framed = w.1;
+              indexed = w.2;
+              full = λ b hb. full_of_enough f c.is_valid.ensures (symbols (counted who (readings_of w.0))) (came_at (held_in x) s) w.2.received.index (within clash (asked who) (readings_of w.0) f w.2.received.clean) b hb (enough_same f b _ _ (λ j lj. some_any (held_in (unwrap_or content [])) (held_in x) s b j) (enough b hb));
+            },
+          )),
+    ) in
+    (refl, placed, placed_framed content found placed)
