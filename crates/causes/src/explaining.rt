@@ -419,8 +419,8 @@ impl<'a, R: Files> Case<'a, R> {
             certificate_of(self.request),
             places_of(self.request),
         ] {
-            if let Some(text) = unread(self.rt, self.alloc, name.unwrap_or("/"))? {
-                if name.is_some() {
+            if let Some(name) = name {
+                if let Some(text) = unread(self.rt, self.alloc, name)? {
                     return Ok(Some(text));
                 }
             }
@@ -475,25 +475,20 @@ impl<'a, R: Files> Case<'a, R> {
 
     // The word of the file of places that is none, behind so many others.
     fn no_place(&self, count: u64) -> Sentence {
-        let name = places_of(self.request).unwrap_or("the file of places");
-        match word_behind(self.rt, self.alloc, name, count) {
+        let path = places_of(self.request).unwrap_or("the file of places");
+        let name = input_name(path);
+        let told = match word_behind(self.rt, self.alloc, path, count) {
             Some(Word { shown, line }) => {
-                let mut text = input_name(name).to_string(self.alloc)?;
                 let word = Name {
                     text: shown.as_str(),
                 };
-                let told = format!(in self.alloc;
-                    ": word {count}, {word}, in line {line}, is no place: {PLACES}"
-                )?;
-                text.push_str(told.as_str())?;
-                Ok(Some(text))
+                format!(in self.alloc;
+                    "{name}: word {count}, {word}, in line {line}, is no place: {PLACES}"
+                )
             }
-            None => {
-                let name = input_name(name);
-                let told = format!(in self.alloc; "{name}: word {count} is no place: {PLACES}")?;
-                Ok(Some(told))
-            }
-        }
+            None => format!(in self.alloc; "{name}: word {count} is no place: {PLACES}"),
+        };
+        Ok(Some(told?))
     }
 
     fn no_certificate(&self) -> Sentence {

@@ -93,17 +93,15 @@ pub(crate) fn unread<R: Files>(
     name: &str,
 ) -> Result<Option<String>, AllocError> {
     let shown = input_name(name);
-    match fs::metadata(rt, path_of(name)) {
+    let reason = match fs::metadata(rt, path_of(name)) {
         Ok(there) if there.is_dir() => return Ok(Some(format!(in alloc; "{shown} is a folder")?)),
-        Ok(_) => {}
-        Err(error) => return Ok(Some(format!(in alloc; "{shown}: {error}")?)),
-    }
-    if !is_regular(rt, name) {
-        return Ok(None);
-    }
-    match fs::open(rt, name) {
-        Ok(_file) => Ok(None),
-        Err(error) => Ok(Some(format!(in alloc; "{shown}: {error}")?)),
+        Ok(_) if is_regular(rt, name) => fs::open(rt, name).err(),
+        Ok(_) => None,
+        Err(error) => Some(error),
+    };
+    match reason {
+        Some(error) => Ok(Some(format!(in alloc; "{shown}: {error}")?)),
+        None => Ok(None),
     }
 }
 
