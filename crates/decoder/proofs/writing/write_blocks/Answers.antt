@@ -1,4 +1,5 @@
 use Rattle.std.proofs.Common.{◌≡◌, ◌≤◌, ◌<◌, ◌+◌, ◌*◌, ◌++◌, ◌∙◌, ℕ, suc, List, [], length, take, length-append, length-take-le, ap, sym, subst, refl, arith}
+use Rattle.std.specs.Option.{is_some}
 use Rattle.partition.specs.Fti.{IsValidFti, block_count, source_count, start_of, block_bytes}
 use Rattle.partition.proofs.Laws.{some_block, some_source, start_step, in_object}
 use Rattle.session.proofs.Writes.{then_appends, then_some}
@@ -132,3 +133,13 @@ returns-clause-whole g c = λ told _.
       answers = object_answers (g.S.Source.known c.args.coded.now.source.now) valid (g.S.Source.at c.args.coded.now.source.now) c.loop-b.b i.object (i.so_far told) end c.requires.enough;
       gained = i.written;
     }
+
+pub returns-in_default-clause-other : goal.returns-in_default-clause-other
+returns-in_default-clause-other g c = λ told _.
+    let many = rw c.fti-fti.ensures at c.block_count-count.ensures.value in
+    let hb : c.loop-b.b < block_count (g.S.Source.known c.args.coded.now.source.now) = omega (arith, many, c.loop-b-test.true) in
+    (c.loop-b.b, record {
+      in_range = hb;
+      enough = c.requires.enough c.loop-b.b hb;
+      unexplained = c.in_ok-rows.ensures.none told (ap is_some c.in_default.is);
+    })
