@@ -1,4 +1,4 @@
-use Rattle.std.proofs.Common.{◌≡◌, ◌<◌, ◌≤◌, ◌+◌, ◌++◌, ◌∙◌, ℕ, List, [], ◌∷◌, length, ap, sym, subst, arith}
+use Rattle.std.proofs.Common.{◌≡◌, ◌<◌, ◌≤◌, ◌+◌, ◌-◌, ◌*◌, ◌++◌, ◌∙◌, ℕ, List, [], ◌∷◌, length, ap, sym, subst, arith}
 use Rattle.std.proofs.lemmas.List.{append-nil}
 use Rattle.std.specs.Prelude.{flat_map}
 use Rattle.lists.specs.Below.{below}
@@ -6,7 +6,7 @@ use Rattle.partition.specs.Fti.{block_count, encoding_count}
 use Rattle.partition.specs.declared.order.Order.TheVariants.{Rounds}
 use Rattle.encoder.specs.Passes.{pairs_in}
 use Rattle.encoder.specs.Sending.{AreSent, Sends, SendsSome, items_from, session_bytes}
-use Rattle.encoder.proofs.RoundRows.{made_at}
+use Rattle.encoder.proofs.RoundRows.{made_at, row_of_earlier}
 use Rattle.encoder.proofs.Sent.{nothing_sent, behind_sends, behind_some, behind_room, behind_short, flat_next, flat_parts, if_err, length_next, one_frame, with_pair, without_pair}
 use Rattle.encoder.proofs.rounds.send_round.Goals.{then-from-n+in_ok-send_symbol, else-from-n}
 use Rattle.encoder.proofs.rounds.send_round.Goals as goal
@@ -98,3 +98,33 @@ loop-block-preserved g c =
             room = c.loop-block.invariant.room;
           }))
     ]
+
+pub returns-clause-sent : goal.returns-clause-sent
+returns-clause-sent g c =
+    let end : c.loop-block.block ≡ block_count c.args.t.now.fti = omega (arith, c.loop-block-test.false, c.loop-block.auto.block-end, c.block_count-block-end.ensures.value) in
+    rw end at c.loop-block.invariant.sent
+
+pub returns-clause-next : goal.returns-clause-next
+returns-clause-next g c =
+    let end : c.loop-block.block ≡ block_count c.args.t.now.fti = omega (arith, c.loop-block-test.false, c.loop-block.auto.block-end, c.block_count-block-end.ensures.value) in
+    rw end at c.loop-block.invariant.next
+
+pub returns-clause-fills : goal.returns-clause-fills
+returns-clause-fills g c =
+    let end : c.loop-block.block ≡ block_count c.args.t.now.fti = omega (arith, c.loop-block-test.false, c.loop-block.auto.block-end, c.block_count-block-end.ensures.value) in
+    rw end at c.loop-block.invariant.room
+
+pub returns-clause-few : goal.returns-clause-few
+returns-clause-few g c = omega (arith, c.loop-block.invariant.few, c.loop-block.auto.block-end, c.block_count-block-end.ensures.few)
+
+pub slice_bounds-symbol-end : goal.slice_bounds-symbol-end
+slice_bounds-symbol-end g c =
+    let f = c.args.t.now.fti in
+    let count : ℕ = c.args.batch.count in
+    let r : ℕ = c.from.result - c.args.batch.first in
+    let few : r < count = omega (arith, c.from.ensures, c.requires.first, c.requires.last) in
+    let hb : c.loop-block.block < block_count f = rw c.block_count-block-end.ensures.value at c.loop-block-test.true in
+    let ends = row_of_earlier c.loop-block.block (block_count f) count r c.from-size.result hb few in
+    let same : count * c.from-size.result ≡ count * f.symbol_length = ap (λ (v : ℕ). count * v) (c.from-size.ensures ∙ c.symbol_length.ensures.value) in
+    let all = ap (λ (n : ℕ). block_count f * n) same in
+    omega (arith, ends, all, c.requires.room)
