@@ -1,4 +1,4 @@
-use Rattle.std.proofs.Common.{◌≡◌, length, ap, arith, ◌∙◌, sym}
+use Rattle.std.proofs.Common.{◌≡◌, ◌≤◌, length, ap, arith, ◌∙◌, sym, mul-le-mul_right}
 use Rattle.std.proofs.lemmas.Grind.{common_steps}
 use Rattle.std.specs.Prelude.{flat_map}
 use Rattle.lists.specs.Below.{below}
@@ -58,3 +58,24 @@ slice_bounds-room-end-in-loop-block g c = grind (arith, common_steps) steps 2000
 
 pub send_symbols-requires-clause-symbols : goal.send_symbols-requires-clause-symbols
 send_symbols-requires-clause-symbols g c = grind (arith, common_steps) steps 2000000
+
+pub overflow_mul-room : goal.overflow_mul-room
+overflow_mul-room g c =
+    let most = encoding_most c.args.t.now.fti c.symbol_length.ensures.valid c.loop-block.block in
+    let few : c.run_in_pass-run.result.count ≤ 255 = omega (arith, c.run_in_pass-run.ensures.within, most, c.symbol_length.ensures.valid.max_below) in
+    record { fits = omega (arith, mul-le-mul_right c.from-size.result few, c.from-size.ensures, c.symbol_length.type_inv) }
+
+pub send_symbols-requires-clause-codes : goal.send_symbols-requires-clause-codes
+send_symbols-requires-clause-codes g c = c.requires.codes
+
+pub send_symbols-requires-clause-datagram : goal.send_symbols-requires-clause-datagram
+send_symbols-requires-clause-datagram g c = c.loop-block.auto.datagram ∙ c.requires.datagram
+
+pub send_symbols-requires-clause-within : goal.send_symbols-requires-clause-within
+send_symbols-requires-clause-within g c = rw c.run_in_pass-run.ensures.block c.run_in_pass-run.ensures.within
+
+pub send_symbols-requires-clause-place : goal.send_symbols-requires-clause-place
+send_symbols-requires-clause-place g c =
+    let most = encoding_most c.args.t.now.fti c.symbol_length.ensures.valid c.loop-block.block in
+    let few : c.run_in_pass-run.result.count ≤ 255 = omega (arith, c.run_in_pass-run.ensures.within, most, c.symbol_length.ensures.valid.max_below) in
+    omega (arith, few, c.loop-block.invariant.few, c.loop-block.auto.block-end, c.block_count-block-end.ensures.few, c.requires.place)
