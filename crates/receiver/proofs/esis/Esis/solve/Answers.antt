@@ -1,14 +1,26 @@
-use Rattle.std.proofs.Common.{◌≡◌, ◌∙◌, ◌+◌, ◌*◌, ◌++◌, ◌∷◌, [], ◌<◌, Err, ◌==◌, ◌||◌, ℕ, List, Option, length, take, refl, sym, ap, subst, arith, inl}
+use Rattle.std.proofs.Common.{◌≡◌, ◌∙◌, ◌+◌, ◌*◌, ◌++◌, ◌∷◌, [], ◌<◌, ◌≤◌, Err, ◌==◌, ◌||◌, ℕ, List, Option, length, take, refl, sym, ap, subst, arith, inl}
 use Rattle.std.specs.Prelude.{is_some}
 use Rattle.partition.specs.Fti.{Fti, encoding_count}
+use Rattle.alc.specs.declared.reading.Packet.{Packet}
+use Rattle.block_code.specs.declared.codes.BlockCodes.{BlockCodes}
+use Rattle.block_recovery.specs.Recoveries.{IsKeptOf}
 use Rattle.block_recovery.specs.Arrivals.{with_esi}
 use Rattle.block_recovery.specs.Blocks.{bytes_of_esi}
 use Rattle.block_recovery.specs.Decoded.{IsUnexplained, AreRows}
 use Rattle.receiver.specs.Esis.{esis_of}
 use Rattle.receiver.specs.Stored.{is_among, AreSymbols, IsPending, IsSolved}
+use Rattle.receiver.specs.Putting.{MayPut}
+use Rattle.receiver.specs.declared.scratch.Scratch.{Scratch}
 use Rattle.receiver.proofs.Solving.{enough_of, read_symbols, no_code, solved_now, put_rows}
 use Rattle.receiver.proofs.Told.{told_bytes, puts_at, becomes_same, becomes_then, all_of}
 use Rattle.receiver.proofs.esis.Esis.solve.Goals as goal
+
+from_start : (n k m : ℕ) → n ≡ k → k ≤ m → 0 + n ≤ m
+from_start n k m is le = omega arith
+
+-- what recovers a block is of one of the codes still
+kept_still : {f : Fti} {codes : BlockCodes} {p : Packet} {old new : Scratch} → MayPut f codes p old → IsKeptOf codes new.recovery → MayPut f codes p new
+kept_still may kept = record { number = may.number; esi = may.esi; symbol = may.symbol; codes_are = may.codes_are; recovery = kept }
 
 pub block_rows-requires-clause-enough : goal.block_rows-requires-clause-enough
 block_rows-requires-clause-enough g c =
@@ -85,3 +97,81 @@ returns-clause-outcome g c = λ x at told h.
       ),
       tt,
     )
+
+pub returns-in_default-clause-outcome : goal.returns-in_default-clause-outcome
+returns-in_default-clause-outcome g c = λ x at told h. (tt, (tt, becomes_same x _ c.args.packet.now.sbn _ told h))
+
+pub returns-in_default-read-clause-outcome : goal.returns-in_default-read-clause-outcome
+returns-in_default-read-clause-outcome g c = λ x at told h.
+    let esis = esis_of c.args.self.now c.args.packet.now.sbn in
+    let all : length c.get-esis.result.now * c.from-size.result ≡ length esis * c.args.fti.now.symbol_length =
+    ap (λ (l : List ℕ). length l * c.from-size.result) c.get-esis.ensures ∙ ap (λ (n : ℕ). length esis * n) (c.from-size.ensures ∙ c.symbol_length.ensures.value) in
+    let len : length c.deref_mut.result.now ≡ length c.get-esis.result.now * c.from-size.result = c.deref_mut.ensures.len ∙ c.in-Ok.ensures.len in
+    (tt, c.in_default-read.ensures.fails (x, told, from_start _ _ _ (len ∙ all) h.symbols.whole))
+
+pub returns-in_default-symbols_with-clause-outcome : goal.returns-in_default-symbols_with-clause-outcome
+returns-in_default-symbols_with-clause-outcome g c = λ x at told h.
+    (tt, (tt, becomes_same x _ c.args.packet.now.sbn _ (ap (λ (t : Fti → Option (ℕ → List ℕ)). t c.args.fti.now) c.in-Ok-read.ensures.stays ∙ told) h))
+
+pub returns-in-Err-clause-outcome : goal.returns-in-Err-clause-outcome
+returns-in-Err-clause-outcome g c = λ x at told h.
+    (tt, (tt, becomes_same x _ c.args.packet.now.sbn _ (ap (λ (t : Fti → Option (ℕ → List ℕ)). t c.args.fti.now) c.in-Ok-read.ensures.stays ∙ told) h))
+
+pub returns-in_default-reserve-clause-outcome : goal.returns-in_default-reserve-clause-outcome
+returns-in_default-reserve-clause-outcome g c = λ x at told h.
+    let k = c.args.packet.now in
+    let f = c.args.fti.now in (
+      tt,
+      (
+        tt,
+        becomes_same x _ k.sbn _ (ap (λ (t : Fti → Option (ℕ → List ℕ)). t f) c.in-Ok-read.ensures.stays ∙ told)
+            (subst (λ (l : List ℕ). IsPending f k.sbn (x k.sbn) l at) (sym (c.in_default-reserve.ensures.same k.sbn)) h),
+      ),
+    )
+
+pub returns-in-Err-Failed-clause-outcome : goal.returns-in-Err-Failed-clause-outcome
+returns-in-Err-Failed-clause-outcome g c = λ x at told h.
+    let is = ap (λ (t : Fti → Option (ℕ → List ℕ)). t c.args.fti.now) c.in-Ok-read.ensures.stays ∙ told in
+    (tt, c.in-Err-Failed.ensures.fails (x, is, omega arith) (ap Err c.in-Err-Failed.field-0-is))
+
+pub returns-in-Ok-None-clause-keeps : goal.returns-in-Ok-None-clause-keeps
+returns-in-Ok-None-clause-keeps g c = kept_still c.requires.given c.block_rows.ensures.keeps
+
+pub returns-in-Err-clause-keeps : goal.returns-in-Err-clause-keeps
+returns-in-Err-clause-keeps g c = kept_still c.requires.given c.block_rows.ensures.keeps
+
+pub returns-in_default-reserve-clause-keeps : goal.returns-in_default-reserve-clause-keeps
+returns-in_default-reserve-clause-keeps g c = kept_still c.requires.given c.block_rows.ensures.keeps
+
+pub returns-in-Err-NoMemory-clause-keeps : goal.returns-in-Err-NoMemory-clause-keeps
+returns-in-Err-NoMemory-clause-keeps g c = kept_still c.requires.given c.block_rows.ensures.keeps
+
+pub returns-in-Err-Failed-clause-keeps : goal.returns-in-Err-Failed-clause-keeps
+returns-in-Err-Failed-clause-keeps g c = kept_still c.requires.given c.block_rows.ensures.keeps
+
+pub returns-clause-keeps : goal.returns-clause-keeps
+returns-clause-keeps g c = kept_still c.requires.given c.block_rows.ensures.keeps
+
+pub returns-clause-kept : goal.returns-clause-kept
+returns-clause-kept g c = c.push.ensures.pushed ∙ ap (λ (l : List ℕ). l ++ c.args.packet.now.esi ∷ []) (c.in-Ok-reserve.ensures.same c.args.packet.now.sbn)
+
+pub returns-clause-others : goal.returns-clause-others
+returns-clause-others g c = λ a ne. c.push.ensures.others a ne ∙ c.in-Ok-reserve.ensures.same a
+
+pub returns-in_default-reserve-clause-same : goal.returns-in_default-reserve-clause-same
+returns-in_default-reserve-clause-same g c = c.in_default-reserve.ensures.same c.args.packet.now.sbn
+
+pub returns-in_default-reserve-clause-others : goal.returns-in_default-reserve-clause-others
+returns-in_default-reserve-clause-others g c = λ a ne. c.in_default-reserve.ensures.same a
+
+pub returns-in-Err-NoMemory-clause-same : goal.returns-in-Err-NoMemory-clause-same
+returns-in-Err-NoMemory-clause-same g c = c.in-Ok-reserve.ensures.same c.args.packet.now.sbn
+
+pub returns-in-Err-NoMemory-clause-others : goal.returns-in-Err-NoMemory-clause-others
+returns-in-Err-NoMemory-clause-others g c = λ a ne. c.in-Ok-reserve.ensures.same a
+
+pub returns-in-Err-Failed-clause-same : goal.returns-in-Err-Failed-clause-same
+returns-in-Err-Failed-clause-same g c = c.in-Ok-reserve.ensures.same c.args.packet.now.sbn
+
+pub returns-in-Err-Failed-clause-others : goal.returns-in-Err-Failed-clause-others
+returns-in-Err-Failed-clause-others g c = λ a ne. c.in-Ok-reserve.ensures.same a
