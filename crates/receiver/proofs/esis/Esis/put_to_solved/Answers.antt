@@ -1,15 +1,31 @@
 use Rattle.std.specs.Prelude.{IsTrue, Bool}
-use Rattle.std.proofs.Common.{◌≡◌, ◌∙◌, ◌*◌, ◌++◌, ◌∷◌, [], ℕ, List, Option, length, true, false, sym, ap, subst, rules, vec_len}
+use Rattle.std.proofs.Common.{◌≡◌, ◌∙◌, ◌+◌, ◌*◌, ◌≤◌, ◌++◌, ◌∷◌, [], ℕ, List, Option, length, take, true, false, sym, ap, subst, rules, arith, vec_len, length-append, length-take}
 use Rattle.partition.specs.Fti.{Fti, source_count}
 use Rattle.partition.proofs.Laws.{counts}
+use Rattle.alc.specs.declared.reading.Packet.{Packet}
+use Rattle.block_code.specs.declared.codes.BlockCodes.{BlockCodes}
+use Rattle.block_recovery.specs.Recoveries.{IsKeptOf}
 use Rattle.block_recovery.specs.Arrivals.{with_esi}
 use Rattle.block_recovery.specs.Giving.{GivesSymbol}
 use Rattle.receiver.specs.Esis.{esis_of}
 use Rattle.receiver.specs.Stored.{IsOf, IsSolved, is_among}
+use Rattle.receiver.specs.Putting.{MayPut}
+use Rattle.receiver.specs.declared.scratch.Scratch.{Scratch}
 use Rattle.receiver.proofs.Among.{of_more}
 use Rattle.receiver.proofs.Seen.{given_may, given_same, given_now, seen_clash, unseen_no_code}
 use Rattle.receiver.proofs.Told.{told_bytes, becomes_same, all_of}
 use Rattle.receiver.proofs.esis.Esis.put_to_solved.Goals as goal
+
+-- what recovers a block is of one of the codes still
+kept_still : {f : Fti} {codes : BlockCodes} {p : Packet} {old new : Scratch} → MayPut f codes p old → new.recovery ≡ old.recovery → MayPut f codes p new
+kept_still {codes = codes} may same = record { number = may.number; esi = may.esi; symbol = may.symbol; codes_are = may.codes_are; recovery = subst (IsKeptOf codes) (sym same) may.recovery }
+
+-- as many bytes as the rows have are there
+from_start : (n k : ℕ) (x : List ℕ) → n ≡ k → length (take k x) ≡ k → 0 + n ≤ length x
+from_start n k x is count = omega (arith, length-take {A = ℕ})
+
+one_more : (n : ℕ) (esis : List ℕ) (e : ℕ) → n ≤ length esis → n ≤ length (esis ++ e ∷ [])
+one_more n esis e enough = omega (arith, length-append esis (e ∷ []))
 
 not_given : (v : Bool) → v ≡ false → IsTrue v → ⊥
 not_given v is given = absurd (cc)
@@ -117,3 +133,77 @@ returns-clause-outcome g c = λ x at told h lengths.
       ),
       tt,
     )
+
+pub returns-in_default-clause-keeps : goal.returns-in_default-clause-keeps
+returns-in_default-clause-keeps g c = kept_still c.requires.given c.room.ensures.recovery
+
+pub returns-in_default-read-clause-keeps : goal.returns-in_default-read-clause-keeps
+returns-in_default-read-clause-keeps g c = kept_still c.requires.given c.room.ensures.recovery
+
+pub returns-in_default-gives-clause-keeps : goal.returns-in_default-gives-clause-keeps
+returns-in_default-gives-clause-keeps g c = kept_still c.requires.given c.room.ensures.recovery
+
+pub returns-then-came-clause-keeps : goal.returns-then-came-clause-keeps
+returns-then-came-clause-keeps g c = kept_still c.requires.given c.room.ensures.recovery
+
+pub returns-else-came-clause-keeps : goal.returns-else-came-clause-keeps
+returns-else-came-clause-keeps g c = kept_still c.requires.given c.room.ensures.recovery
+
+pub returns-then-came-2-clause-keeps : goal.returns-then-came-2-clause-keeps
+returns-then-came-2-clause-keeps g c = kept_still c.requires.given c.room.ensures.recovery
+
+pub returns-in_default-reserve-clause-keeps : goal.returns-in_default-reserve-clause-keeps
+returns-in_default-reserve-clause-keeps g c = kept_still c.requires.given c.room.ensures.recovery
+
+pub returns-clause-keeps : goal.returns-clause-keeps
+returns-clause-keeps g c = kept_still c.requires.given c.room.ensures.recovery
+
+pub returns-in_default-clause-outcome : goal.returns-in_default-clause-outcome
+returns-in_default-clause-outcome g c = λ x at told h lengths. (tt, (tt, becomes_same x _ c.args.packet.now.sbn _ told h))
+
+pub returns-in_default-read-clause-outcome : goal.returns-in_default-read-clause-outcome
+returns-in_default-read-clause-outcome g c = λ x at told h lengths.
+    let f = c.args.fti.now in
+    let k = c.args.packet.now in
+    let size : c.from-size.result ≡ f.symbol_length = c.from-size.ensures ∙ c.symbol_length.ensures.value in
+    let all : length c.in-Ok.rows.bytes.items ≡ source_count f k.sbn * f.symbol_length =
+    c.in-Ok.rows.whole ∙ ap (λ (n : ℕ). n * c.in-Ok.rows.size) (c.in-Ok.ensures.sizes.rows_are ∙ c.k.ensures.value) ∙ ap (λ (n : ℕ). source_count f k.sbn * n) (c.in-Ok.ensures.sizes.bytes_are ∙ size) in
+    let many : vec_len c.in-Ok.rows.bytes ≡ length c.in-Ok.rows.bytes.items = search rules in
+    (tt, c.in_default-read.ensures.fails (x, told, from_start _ _ (x k.sbn) (c.deref_mut.ensures.len ∙ many ∙ all) h.rows.count))
+
+pub returns-in_default-gives-clause-outcome : goal.returns-in_default-gives-clause-outcome
+returns-in_default-gives-clause-outcome g c = λ x at told h lengths.
+    (tt, (tt, becomes_same x _ c.args.packet.now.sbn _ (ap (λ (t : Fti → Option (ℕ → List ℕ)). t c.args.fti.now) c.in-Ok-read.ensures.stays ∙ told) h))
+
+pub returns-in_default-reserve-clause-outcome : goal.returns-in_default-reserve-clause-outcome
+returns-in_default-reserve-clause-outcome g c = λ x at told h lengths.
+    let f = c.args.fti.now in
+    let k = c.args.packet.now in (
+      tt,
+      (
+        tt,
+        becomes_same x _ k.sbn _ (ap (λ (t : Fti → Option (ℕ → List ℕ)). t f) c.in-Ok-read.ensures.stays ∙ told)
+            (subst (λ (l : List ℕ). IsSolved f k.sbn (x k.sbn) l at) (sym (c.in_default-reserve.ensures.same k.sbn)) h),
+      ),
+    )
+
+pub returns-in_default-reserve-clause-of : goal.returns-in_default-reserve-clause-of
+returns-in_default-reserve-clause-of g c =
+    subst (λ (l : List ℕ). IsOf c.args.fti.now c.args.packet.now.sbn l) (sym (c.in_default-reserve.ensures.same c.args.packet.now.sbn)) c.requires.of
+
+pub returns-in_default-reserve-clause-enough : goal.returns-in_default-reserve-clause-enough
+returns-in_default-reserve-clause-enough g c =
+    subst (λ (l : List ℕ). source_count c.args.fti.now c.args.packet.now.sbn ≤ length l) (sym (c.in_default-reserve.ensures.same c.args.packet.now.sbn)) c.requires.enough
+
+pub returns-in_default-reserve-clause-others : goal.returns-in_default-reserve-clause-others
+returns-in_default-reserve-clause-others g c = λ a ne. c.in_default-reserve.ensures.same a
+
+pub returns-clause-enough : goal.returns-clause-enough
+returns-clause-enough g c =
+    let k = c.args.packet.now in
+    let esis = esis_of c.args.self.now k.sbn in
+    let now : esis_of c.push.new.self k.sbn ≡ esis ++ k.esi ∷ [] = c.push.ensures.pushed ∙ ap (λ (l : List ℕ). l ++ k.esi ∷ []) (c.in-Ok-reserve.ensures.same k.sbn) in
+    subst (λ (l : List ℕ). source_count c.args.fti.now k.sbn ≤ length l) (sym now) (one_more _ esis k.esi c.requires.enough)
+
+pub returns-clause-others : goal.returns-clause-others
+returns-clause-others g c = λ a ne. c.push.ensures.others a ne ∙ c.in-Ok-reserve.ensures.same a
