@@ -1,10 +1,11 @@
-use Rattle.std.proofs.Common.{◌≡◌, ◌∙◌, ◌+◌, ◌*◌, ◌++◌, ◌∷◌, [], ℕ, List, length, take, ap, sym, subst, arith, inl}
+use Rattle.std.proofs.Common.{◌≡◌, ◌∙◌, ◌+◌, ◌*◌, ◌++◌, ◌∷◌, [], ◌≤◌, Err, ℕ, List, Option, length, take, ap, sym, subst, arith, inl}
+use Rattle.partition.specs.Fti.{Fti}
 use Rattle.partition.proofs.Laws.{counts}
 use Rattle.block_recovery.specs.Arrivals.{with_esi}
 use Rattle.receiver.specs.Esis.{esis_of}
 use Rattle.receiver.specs.Stored.{IsPending}
 use Rattle.receiver.proofs.Among.{place_fits, pending_more}
-use Rattle.receiver.proofs.Told.{puts_at, becomes_then}
+use Rattle.receiver.proofs.Told.{puts_at, becomes_same, becomes_then}
 use Rattle.receiver.proofs.esis.Esis.keep.Goals as goal
 
 pub overflow_mul-from : goal.overflow_mul-from
@@ -34,3 +35,55 @@ returns-clause-outcome g c = λ x at told h.
       ),
       tt,
     )
+
+pub returns-in_default-clause-outcome : goal.returns-in_default-clause-outcome
+returns-in_default-clause-outcome g c = λ x at told h.
+    let f = c.args.fti.now in
+    let b = c.args.packet.now.sbn in
+    (tt, (tt, becomes_same x _ b _ told (subst (λ (l : List ℕ). IsPending f b (x b) l at) (sym (c.in_default.ensures.same b)) h)))
+
+pub returns-in-Err-NoMemory-clause-outcome : goal.returns-in-Err-NoMemory-clause-outcome
+returns-in-Err-NoMemory-clause-outcome g c = λ x at told h.
+    let f = c.args.fti.now in
+    let b = c.args.packet.now.sbn in
+    let stays = c.in-Err-NoMemory.ensures.stays (ap Err c.in-Err-NoMemory.field-0-is) in (
+      tt,
+      (
+        tt,
+        becomes_same x _ b _ (ap (λ (t : Fti → Option (ℕ → List ℕ)). t f) stays ∙ told)
+            (subst (λ (l : List ℕ). IsPending f b (x b) l at) (sym (c.in-Ok.ensures.same b)) h),
+      ),
+    )
+
+pub returns-in-Err-Failed-clause-outcome : goal.returns-in-Err-Failed-clause-outcome
+returns-in-Err-Failed-clause-outcome g c = λ x at told h.
+    let f = c.args.fti.now in
+    let b = c.args.packet.now.sbn in
+    let esis = esis_of c.args.self.now b in
+    let from : c.args.have * c.from.result ≡ length esis * f.symbol_length =
+    ap (λ (n : ℕ). n * c.from.result) c.requires.have ∙ ap (λ (n : ℕ). length esis * n) (c.from.ensures ∙ c.symbol_length.ensures.value) in
+    (tt, c.in-Err-Failed.ensures.fails (x, told, subst (λ (n : ℕ). n ≤ length (x b)) (sym from) h.symbols.whole) (ap Err c.in-Err-Failed.field-0-is))
+
+pub returns-in_default-clause-same : goal.returns-in_default-clause-same
+returns-in_default-clause-same g c = c.in_default.ensures.same c.args.packet.now.sbn
+
+pub returns-in_default-clause-others : goal.returns-in_default-clause-others
+returns-in_default-clause-others g c = λ a ne. c.in_default.ensures.same a
+
+pub returns-in-Err-NoMemory-clause-same : goal.returns-in-Err-NoMemory-clause-same
+returns-in-Err-NoMemory-clause-same g c = c.in-Ok.ensures.same c.args.packet.now.sbn
+
+pub returns-in-Err-NoMemory-clause-others : goal.returns-in-Err-NoMemory-clause-others
+returns-in-Err-NoMemory-clause-others g c = λ a ne. c.in-Ok.ensures.same a
+
+pub returns-in-Err-Failed-clause-same : goal.returns-in-Err-Failed-clause-same
+returns-in-Err-Failed-clause-same g c = c.in-Ok.ensures.same c.args.packet.now.sbn
+
+pub returns-in-Err-Failed-clause-others : goal.returns-in-Err-Failed-clause-others
+returns-in-Err-Failed-clause-others g c = λ a ne. c.in-Ok.ensures.same a
+
+pub returns-clause-kept : goal.returns-clause-kept
+returns-clause-kept g c = c.push.ensures.pushed ∙ ap (λ (l : List ℕ). l ++ c.args.packet.now.esi ∷ []) (c.in-Ok.ensures.same c.args.packet.now.sbn)
+
+pub returns-clause-others : goal.returns-clause-others
+returns-clause-others g c = λ a ne. c.push.ensures.others a ne ∙ c.in-Ok.ensures.same a
