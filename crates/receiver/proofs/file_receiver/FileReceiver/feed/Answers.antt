@@ -1,7 +1,8 @@
-use Rattle.std.proofs.Common.{Option, ℕ, List, subst}
+use Rattle.std.proofs.Common.{Option, ℕ, List, ap, sym, subst}
 use Rattle.std.specs.Prelude.{OnOk, IfErr}
 use Rattle.partition.specs.Fti.{Fti}
 use Rattle.receiver.specs.Held.{held_of}
+use Rattle.receiver.specs.Places.{has_place}
 use Rattle.receiver.specs.Receiving.{with_datagram, IfRefused}
 use Rattle.receiver.specs.Stands.{StandsWith}
 use Rattle.receiver.proofs.Filed.{by_none, by_held, by_file, output_told, told_beside}
@@ -64,3 +65,40 @@ returns-in-File-clause-early g c = λ ds stands. c.feed-in-File.ensures.early ds
 
 pub returns-in-File-clause-fails : goal.returns-in-File-clause-fails
 returns-in-File-clause-fails g c = λ ds stands is. c.feed-in-File.ensures.fails ds (by_file c.args.self.now ds stands c.in-File.blocks c.in-File.is) is
+
+-- ---- nowhere yet
+
+pub returns-in-Waiting-clause-progress : goal.returns-in-Waiting-clause-progress
+returns-in-Waiting-clause-progress g c = λ ds stands. c.feed.ensures.progress ds (by_none c.args.self.now ds stands c.in-Waiting.is c.new-none.result c.new-none.ensures)
+
+pub returns-in-Waiting-clause-fault : goal.returns-in-Waiting-clause-fault
+returns-in-Waiting-clause-fault g c = λ ds stands. c.feed.ensures.fault ds (by_none c.args.self.now ds stands c.in-Waiting.is c.new-none.result c.new-none.ensures)
+
+pub returns-in-Waiting-clause-sound_answer : goal.returns-in-Waiting-clause-sound_answer
+returns-in-Waiting-clause-sound_answer g c = λ ds stands. c.feed.ensures.sound_answer ds (by_none c.args.self.now ds stands c.in-Waiting.is c.new-none.result c.new-none.ensures)
+
+pub returns-in-Waiting-clause-full : goal.returns-in-Waiting-clause-full
+returns-in-Waiting-clause-full g c = λ ds stands. c.feed.ensures.full ds (by_none c.args.self.now ds stands c.in-Waiting.is c.new-none.result c.new-none.ensures)
+
+pub returns-in-Waiting-clause-early : goal.returns-in-Waiting-clause-early
+returns-in-Waiting-clause-early g c = λ ds stands. c.feed.ensures.early ds (by_none c.args.self.now ds stands c.in-Waiting.is c.new-none.result c.new-none.ensures)
+
+-- ---- the same in memory
+
+pub returns-in-Beside-clause-progress : goal.returns-in-Beside-clause-progress
+returns-in-Beside-clause-progress g c = λ ds stands. c.feed-in-Beside.ensures.progress ds (by_held c.args.self.now ds stands c.in-Beside.beside c.in-Beside.is)
+
+pub returns-in-Beside-clause-fault : goal.returns-in-Beside-clause-fault
+returns-in-Beside-clause-fault g c = λ ds stands. c.feed-in-Beside.ensures.fault ds (by_held c.args.self.now ds stands c.in-Beside.beside c.in-Beside.is)
+
+pub returns-in-Beside-clause-sound_answer : goal.returns-in-Beside-clause-sound_answer
+returns-in-Beside-clause-sound_answer g c = λ ds stands. c.feed-in-Beside.ensures.sound_answer ds (by_held c.args.self.now ds stands c.in-Beside.beside c.in-Beside.is)
+
+pub returns-in-Beside-clause-fails : goal.returns-in-Beside-clause-fails
+returns-in-Beside-clause-fails g c = λ ds stands is. c.feed-in-Beside.ensures.fails ds (by_held c.args.self.now ds stands c.in-Beside.beside c.in-Beside.is) is
+
+pub returns-in-Beside-clause-output : goal.returns-in-Beside-clause-output
+returns-in-Beside-clause-output g c = sym (ap has_place c.in-Beside.is)
+
+pub returns-in-File-clause-output : goal.returns-in-File-clause-output
+returns-in-File-clause-output g c = sym (ap has_place c.in-File.is)
