@@ -1,10 +1,18 @@
-use Rattle.std.proofs.Common.{◌≡◌, ◌∙◌, ◌*◌, ℕ, Some, length, take, drop, sym, ap, arith}
+use Rattle.std.proofs.Common.{◌≡◌, ◌∙◌, ◌+◌, ◌*◌, ◌<◌, ◌≤◌, ℕ, Some, length, take, drop, sym, ap, arith}
+use Rattle.std.proofs.Math.Nat.{mul-le-mul_right}
 use Rattle.std.specs.Cmp.Lexicographic.{same_text}
 use Rattle.partition.proofs.Laws.{counts}
 use Rattle.receiver.specs.Stored.{symbol_in}
 use Rattle.receiver.proofs.Among.{place_fits}
 use Rattle.receiver.proofs.Told.{told_bytes, differ, all_of}
 use Rattle.receiver.proofs.pending_block.compare.Goals as goal
+
+-- the symbols before one and its own are no more than all
+is_there : (p k s len n m : ℕ) → k ≡ s → len ≡ s → p < n → n * s ≤ m → p * k + len ≤ m
+is_there p k s len n m is own few all =
+    let most : (p + 1) * s ≤ n * s = mul-le-mul_right s (omega (arith, few)) in
+    let one : p * k ≡ p * s = ap (λ (i : ℕ). p * i) is in
+    omega (arith, most, one)
 
 pub overflow_mul-place : goal.overflow_mul-place
 overflow_mul-place g c =
@@ -46,3 +54,11 @@ returns-clause-outcome g c = λ x at told h.
         differs = λ is. differ c.as_slice.result.now c.args.packet.now.symbol.now c.eq.result c.eq.ensures c.if-eq.false is;
       },
     )
+
+pub returns-in_default-clause-outcome : goal.returns-in_default-clause-outcome
+returns-in_default-clause-outcome g c = λ x at told h. (tt, tt)
+
+pub returns-in_default-read-clause-outcome : goal.returns-in_default-read-clause-outcome
+returns-in_default-read-clause-outcome g c = λ x at told h.
+    let e : c.from-size.result ≡ c.args.fti.now.symbol_length = c.from-size.ensures ∙ c.symbol_length.ensures.value in
+    (tt, c.in_default-read.ensures.fails (x, told, is_there c.args.place _ _ _ _ _ e (c.deref_mut.ensures.len ∙ c.in-Ok.ensures.len ∙ e) c.requires.place.0 h.symbols.whole))
