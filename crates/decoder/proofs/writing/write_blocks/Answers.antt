@@ -137,9 +137,11 @@ returns-clause-whole g c = λ told _.
 pub returns-in_default-clause-other : goal.returns-in_default-clause-other
 returns-in_default-clause-other g c = λ told _.
     let many = rw c.fti-fti.ensures at c.block_count-count.ensures.value in
-    let hb : c.loop-b.b < block_count (g.S.Source.known c.args.coded.now.source.now) = omega (arith, many, c.loop-b-test.true) in
-    (c.loop-b.b, record {
-      in_range = hb;
-      enough = c.requires.enough c.loop-b.b hb;
-      unexplained = c.in_ok-rows.ensures.none told (ap is_some c.in_default.is);
-    })
+    let hb : c.loop-b.b < block_count (g.S.Source.known c.args.coded.now.source.now) = omega (arith, many, c.loop-b-test.true) in (
+      c.loop-b.b,
+      record {
+        in_range = hb;
+        enough = c.requires.enough c.loop-b.b hb;
+        unexplained = c.in_ok-rows.ensures.none told (ap is_some c.in_default.is);
+      },
+    )
