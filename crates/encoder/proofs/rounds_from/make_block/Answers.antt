@@ -1,8 +1,10 @@
-use Rattle.std.proofs.Common.{◌≡◌, ◌<◌, ◌≤◌, ◌+◌, ◌*◌, ◌∙◌, ℕ, List, length, ap, sym, subst, arith, length-take-le}
+use Rattle.std.proofs.Common.{◌≡◌, ◌<◌, ◌≤◌, ◌+◌, ◌-◌, ◌*◌, ◌∙◌, ℕ, List, length, take, drop, ap, sym, subst, arith, length-drop, length-take-le}
 use Rattle.std.proofs.Math.Nat.{mul-le-mul_right}
 use Rattle.partition.specs.Fti.{encoding_count}
 use Rattle.reception.specs.Symbols.{Agrees}
 use Rattle.certificate.proofs.GreatestBlock.{rows_of_block}
+use Rattle.block_code.specs.CodesOf.{IsCodeOf}
+use Rattle.block_code.proofs.Sizes.{picked_has}
 use Rattle.block_code.proofs.RowAdding.{products}
 use Rattle.encoder.specs.Rows.{row_at}
 use Rattle.encoder.proofs.InPasses.{first_most}
@@ -53,3 +55,27 @@ returns-clause-read g c =
           (c.encoding_symbols.ensures.symbols object bytes are j within) in
           subst (λ (y : List ℕ). Agrees f object (record { block = c.args.block; esi = j; bytes = y })) (sym row) agrees;
     }
+
+pub encoding_symbols-requires-clause-block : goal.encoding_symbols-requires-clause-block
+encoding_symbols-requires-clause-block g c = c.requires.block
+
+pub encoding_symbols-requires-clause-within : goal.encoding_symbols-requires-clause-within
+encoding_symbols-requires-clause-within g c = omega (arith, c.n-count.ensures.value)
+
+pub encoding_symbols-requires-clause-code : goal.encoding_symbols-requires-clause-code
+encoding_symbols-requires-clause-code g c =
+    picked_has (IsCodeOf c.args.t.now.fti) _ c.args.t.now.codes c.requires.codes c.args.block c.k.result _ c.requires.block c.k.ensures.value c.of-code.ensures
+
+pub encoding_symbols-requires-clause-room : goal.encoding_symbols-requires-clause-room
+encoding_symbols-requires-clause-room g c =
+    let f = c.args.t.now.fti in
+    let size = c.from-size.ensures ∙ c.symbol_length.ensures.value in
+    let from : ℕ = c.args.i * (c.n.result * c.from-size.result) in
+    let many : ℕ = c.n-count.result * c.from-size.result in
+    let fewer : c.n-count.result ≤ c.n.result = omega (arith, c.n-count.ensures.value, c.n.ensures.value, first_most f c.symbol_length.ensures.valid c.args.block) in
+    let most : many ≤ c.n.result * c.from-size.result = mul-le-mul_right c.from-size.result fewer in
+    let all = ap (λ (n : ℕ). (c.args.i + 1) * n) (products c.n.result c.from-size.result (encoding_count f 0) f.symbol_length c.n.ensures.value size) in
+    let one : from + many - from ≡ many = omega arith in
+    let room : many ≤ length (drop from c.args.symbols.now) = omega (arith, length-drop from c.args.symbols.now, most, all, c.requires.room) in
+    ap (λ (n : ℕ). length (take n (drop from c.args.symbols.now))) one ∙ length-take-le many (drop from c.args.symbols.now) room
+    ∙ ap (λ (v : ℕ). c.n-count.result * v) size
