@@ -25,14 +25,15 @@ IMPORT = "use Rattle.std.proofs.Common.{rules}\n"
 
 
 def check(words, folder, flags):
-    """What a check in a folder says, on both outputs."""
-    return subprocess.run([*words, *flags], cwd=folder, stdin=subprocess.DEVNULL, text=True,
-                          stdout=subprocess.PIPE, stderr=subprocess.STDOUT).stdout
+    """What a check in a folder says, on both outputs, and its status."""
+    done = subprocess.run([*words, *flags], cwd=folder, stdin=subprocess.DEVNULL, text=True,
+                          stdout=subprocess.PIPE, stderr=subprocess.STDOUT)
+    return done.stdout, done.returncode
 
 
 def offered(words, crate, function, room):
     """Where the function's answers stand below proofs/, and all its goals, as they are offered."""
-    said = check(words, crate, ["--start", function, f"--generated={room}"])
+    said, _ = check(words, crate, ["--start", function, f"--generated={room}"])
     files = list(Path(room).glob("Rattle-*-proofs/**/AnswersOffered.antt"))
     if len(files) != 1:
         sys.exit(said)
@@ -66,7 +67,10 @@ def main():
         answers = file.read_text(encoding="utf-8") if file.exists() else ""
         tried, count = with_rules(text, answers)
         file.write_text(tried, encoding="utf-8")
-        found = sorted(set(OPEN.findall(check(words, copy, ["--only", function]))))
+        said, status = check(words, copy, ["--only", function])
+    found = sorted(set(OPEN.findall(said)))
+    if status and not found:
+        sys.exit(said)
     print(f"{count} goals without an answer, {len(found)} of them not by `search rules`")
     for goal in found:
         print(goal)
