@@ -12,7 +12,7 @@ use Rattle.session.specs.Frames.{IsFramed, AreDatagrams}
 use Rattle.reception.specs.declared.scope.Identity.{Identity}
 use Rattle.reception.specs.Answer.{IsAnswer}
 use Rattle.decoder.specs.Answers.{answer_value}
-use Rattle.file_decoder.specs.GatheringIn.{IsFileFault, IsGatheredIn, IsIndexedIn}
+use Rattle.file_decoder.specs.GatheringIn.{IsFileFault, IsIndexedIn}
 use Rattle.file_decoder.specs.ReadAgain.{fault_of}
 use Rattle.file_decoder.specs.Indexing.{IsUnindexed, IsFaultAmong}
 use Rattle.decoder.specs.Sources.{IsUnreadOf}
@@ -101,7 +101,7 @@ file_fault_of content reliable Told unread.NoMemory h told = tt
 
 -- the answer to the datagrams of a file that has a fault at a place
 pub fault_gathered : (who : Identity) (content : Option (List ℕ)) (reliable : Bool) (fault : Unindexed) (e : DecodeFault) → fault ≡ unindexed.Fault e → IsUnindexed content reliable fault
-    → ((x : List ℕ) (ds : List (List ℕ)) → content ≡ Some x → IsFramed ds x → IsFaultAmong who ds fault) → IsGatheredIn who content (gathered.Answer (answer.Fault e))
+    → ((x : List ℕ) (ds : List (List ℕ)) → content ≡ Some x → IsFramed ds x → IsFaultAmong who ds fault) → IsIndexedIn who content (gathered.Answer (answer.Fault e))
 fault_gathered who content reliable fault e is why among = (
   tt,
   told_if content (λ x. (ds : List (List ℕ)) × IsFramed ds x × IsAnswer who ds (answer_value (answer.Fault e)))

@@ -3,6 +3,4 @@ pub mod FileFaults
 pub mod FirstCarrier
 pub mod Indexed
 pub mod FromFile
-pub mod BelowEsi
 mod Placed
-pub mod Refuted

@@ -10,10 +10,10 @@ use Rattle.reception.specs.Reception.{with_fti}
 use Rattle.decoder.specs.Answers.{answer_value}
 use Rattle.decoder.specs.Answered.{Answers, NoneIsShort, Stand}
 use Rattle.file_decoder.specs.InFile.{held_in, file_at, AllStandIn}
-use Rattle.file_decoder.specs.PlacesOf.{AreEnoughPlaces, AreGatheredIn, AreIndexedOf, ArePlacedIn, ArePlacedOf, ArePlacesOf}
+use Rattle.file_decoder.specs.PlacesOf.{AreEnoughPlaces, AreIndexedOf, ArePlacedIn, ArePlacedOf}
 use Rattle.block_recovery.specs.Received.{came_at}
 use Rattle.block_recovery.specs.Decoded.{AreInRange}
-use Rattle.decoder.specs.Unsolvable.{AreSound, HaveBytes}
+use Rattle.decoder.specs.Unsolvable.{HaveBytes}
 use Rattle.decoder.specs.Written.{IsVerdict}
 use Rattle.decoder.specs.declared.answer.Answer.{Answer}
 use Rattle.file_decoder.specs.declared.file_gathering.FileSymbols.{FileSymbols}
@@ -51,27 +51,17 @@ module _ (content : Option (List ℕ)) (s : FileSymbols) where
   placed_framed placed = told_if content (λ (x : List ℕ). (datagrams : List (List ℕ)) × IsFramed datagrams x × ArePlacedOf s.indexed.identity datagrams x s) (λ x told.
       let w = rw told at placed.1 in (w.0, w.1.framed, w.1))
 
-  pub gathered_of : AreGatheredIn content s → (x : List ℕ) → content ≡ Some x → (who : Identity) × (ds : List (List ℕ)) × AreIndexedOf who ds x s.indexed
-  gathered_of gathered x told = let w = rw told at gathered.1 in (w.0, w.1, w.2.indexed)
-
 module _ (content : Option (List ℕ)) (s : FileSymbols) (ds : List (List ℕ)) (x : List ℕ) (told : content ≡ Some x) (are : ArePlacedOf s.indexed.identity ds x s) where
   pub placed_answer : (answer : value.Answer) → Answers s.indexed.fti (file_at content s.indexed.symbols) answer → IsAnswer s.indexed.identity ds answer
   placed_answer answer answers =
       answer_of s.indexed.identity ds s.indexed.fti (came_at (held_in x) s.indexed.symbols) are.indexed.read are.indexed.received answer
       (subst (λ (y : List ℕ). Answers s.indexed.fti (came_at (held_in y) s.indexed.symbols) answer) (told_is content x told) answers)
 
-  pub placed_sound : AreSound s.indexed.fti (file_at content s.indexed.symbols) → ArePlacesOf s.indexed.identity ds x s
-  placed_sound sound = record {
-    framed = are.framed;
-    indexed = are.indexed;
-    sound = subst (λ (y : List ℕ). AreSound s.indexed.fti (came_at (held_in y) s.indexed.symbols)) (told_is content x told) sound;
-  }
-
   pub placed_refuted : (o : Option Answer) → IsVerdict s.indexed.fti (file_at content s.indexed.symbols) o → IfSome o (λ a. IsAnswer s.indexed.identity ds (answer_value a))
   placed_refuted None h = tt
   placed_refuted (Some a) h = placed_answer (answer_value a) h
 
   pub placed_object : (o : Option Answer) → IsVerdict s.indexed.fti (file_at content s.indexed.symbols) o → IsNone o
-      → ArePlacesOf s.indexed.identity ds x s × (object : List ℕ) × IsAnswer s.indexed.identity ds (value.Object object)
-  placed_object None h none = (placed_sound h.0, h.1, placed_answer (value.Object h.1) h.2)
+      → (object : List ℕ) × IsAnswer s.indexed.identity ds (value.Object object)
+  placed_object None h none = (h.1, placed_answer (value.Object h.1) h.2)
   placed_object (Some a) h none = absurd (cc)

@@ -2,31 +2,17 @@
 use Rattle.std.specs.Prelude.{◌≡◌, Bool, List, ℕ, Option, ⊤, IfSome}
 use Rattle.session.specs.Frames.{IsFramed}
 use Rattle.reception.specs.declared.scope.Identity.{Identity}
-use Rattle.reception.specs.Answer as value
 use Rattle.reception.specs.Answer.{IsAnswer}
 use Rattle.decoder.specs.Answers.{answer_value}
 use Rattle.file_decoder.specs.FileFaults.{IsFrameFault, IsNotAgain}
 use Rattle.decoder.specs.Gathering.{IsNoObject}
-use Rattle.file_decoder.specs.PlacesOf.{ArePlacesOf, ArePlacedOf, ArePlacedIn, AreGatheredIn}
+use Rattle.file_decoder.specs.PlacesOf.{ArePlacedOf, ArePlacedIn}
 use Rattle.file_decoder.specs.declared.file_gathering.FileFault.{FileFault}
 use Rattle.file_decoder.specs.declared.file_gathering.FileFault.TheVariants as file_fault
 use Rattle.file_decoder.specs.declared.file_gathering.GatheredFile.{GatheredFile}
 use Rattle.file_decoder.specs.declared.file_gathering.GatheredFile.TheVariants as gathered
 use Rattle.file_decoder.specs.declared.file_gathering.FileWriteFault.{FileWriteFault}
 use Rattle.file_decoder.specs.declared.file_gathering.FileWriteFault.TheVariants as write_fault
-
--- the answer to the file's datagrams, which is no object; or the places of the symbols that they
--- have of one, which is their answer
-abbrev pub IsGatheredIn : Identity → Option (List ℕ) → GatheredFile → Type 0
-IsGatheredIn who content (gathered.Answer answer) =
-    IsNoObject answer
-    × IfSome content (λ x. (datagrams : List (List ℕ)) × IsFramed datagrams x
-    × IsAnswer who datagrams (answer_value answer))
-IsGatheredIn who content (gathered.Symbols s) =
-    AreGatheredIn content s
-    × IfSome content (λ x. (datagrams : List (List ℕ)) × IsFramed datagrams x
-    × ArePlacesOf who datagrams x s
-    × (object : List ℕ) × IsAnswer who datagrams (value.Object object))
 
 -- the answer to the file's datagrams, which is no object; or the places of the symbols that they
 -- have, enough of each block

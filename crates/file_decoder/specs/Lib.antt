@@ -1,5 +1,4 @@
 pub mod InFile
-pub mod Enough
 pub mod Indexing
 pub mod GatheringIn
 pub mod FileFaults

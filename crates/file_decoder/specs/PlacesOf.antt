@@ -13,7 +13,6 @@ use Rattle.block_recovery.specs.Decoded.{IsEnoughAt}
 use Rattle.file_decoder.specs.InFile.{held_in, AreSymbolsIn}
 use Rattle.block_recovery.specs.Received.{AreReceived, came_at}
 use Rattle.block_recovery.specs.Decoded.{AreInRange}
-use Rattle.decoder.specs.Unsolvable.{AreSound}
 use Rattle.file_decoder.specs.declared.file_source.Indexed.{Indexed}
 use Rattle.file_decoder.specs.declared.file_gathering.FileSymbols.{FileSymbols}
 use Rattle.session.specs.declared.extent.Extent.{Extent}
@@ -32,14 +31,6 @@ pub record AreEnoughPlaces (s : FileSymbols) : Type 0 where
   pub enough : (held : Extent → List ℕ) (b : ℕ) → b < block_count s.indexed.fti
       → IsEnoughAt s.indexed.fti b (came_at held s.indexed.symbols b)
 
--- at the places stand the symbols that these datagrams of the file have of an object, and
--- polynomials explain them
-pub record ArePlacesOf (who : Identity) (datagrams : List (List ℕ)) (x : List ℕ)
-    (s : FileSymbols) : Type 0 where
-  pub framed : IsFramed datagrams x
-  pub indexed : AreIndexedOf who datagrams x s.indexed
-  pub sound : AreSound s.indexed.fti (came_at (held_in x) s.indexed.symbols)
-
 -- at the places stand the symbols that these datagrams of the file have, enough of each block,
 -- whatever they are of
 pub record ArePlacedOf (who : Identity) (datagrams : List (List ℕ)) (x : List ℕ)
@@ -54,10 +45,3 @@ ArePlacedIn content s =
     AreEnoughPlaces s
     × IfSome content (λ x. (datagrams : List (List ℕ))
     × ArePlacedOf s.indexed.identity datagrams x s)
-
--- of some datagrams of the file, where its bytes are told
-abbrev pub AreGatheredIn : Option (List ℕ) → FileSymbols → Type 0
-AreGatheredIn content s =
-    AreEnoughPlaces s
-    × IfSome content (λ x. (who : Identity) × (datagrams : List (List ℕ))
-    × ArePlacesOf who datagrams x s)

@@ -1,14 +1,13 @@
 //! Decoding a session file into a writer: neither the session nor the object is held. The object is
-//! written once its symbols were looked at (`gather_file`), or meanwhile (`index_file`).
-ghost use Rattle.std.specs.Prelude.{◌≡◌, ◌<◌, ℕ, List, Some, true, length, IfOk, IfErr, OnErr};
+//! written while its symbols are looked at.
+ghost use Rattle.std.specs.Prelude.{◌≡◌, ◌<◌, ℕ, List, Some, true, IfOk, IfErr};
 ghost use Rattle.std.specs.Prelude.{Bool, Option, IfSome, IsNone};
-ghost use Rattle.session.specs.Frames.{AppendsSome, IsFramed};
-ghost use Rattle.reception.specs.declared.scope.Identity.{Identity as IdentityValue};
+ghost use Rattle.session.specs.Frames.{IsFramed};
 ghost use Rattle.reception.specs.Answer.{Object, IsAnswer};
 ghost use Rattle.file_decoder.specs.GatheringIn.{IsFileFault};
-ghost use Rattle.file_decoder.specs.PlacesOf.{AreGatheredIn, ArePlacedIn, ArePlacedOf, ArePlacesOf};
+ghost use Rattle.file_decoder.specs.PlacesOf.{ArePlacedIn, ArePlacedOf};
 ghost use Rattle.decoder.specs.Answers.{answer_value};
-ghost use Rattle.file_decoder.specs.GatheringIn.{IsFileWriteFault, IsGatheredIn, IsIndexedIn};
+ghost use Rattle.file_decoder.specs.GatheringIn.{IsFileWriteFault, IsIndexedIn};
 ghost use Rattle.file_decoder.specs.PlacesOf.{AreIndexedOf};
 ghost use Rattle.file_decoder.specs.Indexing.{IsUnindexed};
 ghost use Rattle.decoder.specs.Gathering.{IsNoObject, IsWrittenOf};
@@ -172,30 +171,6 @@ pub fn index_file<F: ReadAt>(
     }
 }
 
-/// What the datagrams of a session file say of the object that was sent under an identity, as
-/// `gather` tells, of which only places in the file are held: 24 bytes for each symbol, and the
-/// symbols of one block at a time. The symbols whose places it answers are those of an object.
-///
-/// `Frame` tells why the file is no session, before any fault at a place. A file that is not the
-/// same each time it is read may give `Changed`.
-pub fn gather_file<F: ReadAt>(
-    alloc: Global,
-    file: &F,
-    identity: Identity,
-) -> Result<GatheredFile, FileFault>
-    ensures gathered { IfOk result (IsGatheredIn identity (F.content file.now)) }
-    ensures fault { IfErr result (IsFileFault (F.content file.now) (F.reliable file.now)) }
-{
-    let symbols = match index_file(alloc, file, identity)? {
-        GatheredFile::Answer(answer) => return Ok(GatheredFile::Answer(answer)),
-        GatheredFile::Symbols(symbols) => symbols,
-    };
-    match symbols.refutation(alloc, file)? {
-        Some(answer) => Ok(GatheredFile::Answer(answer)),
-        None => Ok(GatheredFile::Symbols(symbols)),
-    }
-}
-
 impl FileSymbols {
     /// The object's length in bytes.
     pub fn transfer_length(&self) -> u64
@@ -220,8 +195,7 @@ impl FileSymbols {
         ensures object { (ds : List (List ℕ)) (x : List ℕ)
             → F.content file.now ≡ Some x
             → ArePlacedOf self.now.indexed.identity ds x self.now
-            → IfOk result (λ o. IsNone o
-            → ArePlacesOf self.now.indexed.identity ds x self.now × (object : List ℕ)
+            → IfOk result (λ o. IsNone o → (object : List ℕ)
             × IsAnswer self.now.indexed.identity ds (Object object)) }
         ensures none { IfOk result (λ o. IfSome o IsNoObject) }
         ensures fault { IfErr result (IsFileFault (F.content file.now) (F.reliable file.now)) }
@@ -281,52 +255,6 @@ impl FileSymbols {
                 Ok(answer) => Ok(Some(answer)),
                 Err(unread) => Err(FileWriteFault::Unread(unread)),
             },
-            Err(Unwritten::Writer) => Err(FileWriteFault::Io),
-            Err(Unwritten::Unread(unread)) => Err(FileWriteFault::Unread(unread)),
-        }
-    }
-
-    /// Writes the object, and answers its length in bytes. One block of it is held at a time, whose
-    /// symbols are read from the file again.
-    ///
-    /// `Io` comes only where the writer has failed, and never where it has room for the object. At
-    /// an error the writer has a beginning of the object.
-    pub fn write_from<F: ReadAt, W: Write>(
-        &self,
-        alloc: Global,
-        file: &F,
-        writer: &mut W,
-    ) -> Result<u64, FileWriteFault>
-        requires { AreGatheredIn (F.content file.now) self.now }
-        ensures written { (who : IdentityValue) (ds : List (List ℕ)) (x : List ℕ)
-            → F.content file.now ≡ Some x → ArePlacesOf who ds x self.now
-            → IfOk result (IsWrittenOf who ds (W.contents writer.old) (W.contents writer.new)) }
-        ensures fault { IfErr result
-            (λ e. e ≡ FileWriteFault.Io → W.failed writer.new ≡ true) }
-        ensures front { (who : IdentityValue) (ds : List (List ℕ)) (x object : List ℕ)
-            → F.content file.now ≡ Some x → ArePlacesOf who ds x self.now
-            → IsAnswer who ds (Object object)
-            → OnErr result (AppendsSome (W.contents writer.old) (W.contents writer.new) object) }
-        ensures full { IfErr result (λ e. e ≡ FileWriteFault.Io
-            → W.room writer.old < self.now.indexed.fti.transfer_length) }
-        ensures room { (who : IdentityValue) (ds : List (List ℕ)) (x object : List ℕ)
-            → F.content file.now ≡ Some x → ArePlacesOf who ds x self.now
-            → IsAnswer who ds (Object object)
-            → IfErr result (λ e. e ≡ FileWriteFault.Io → W.room writer.old < length object) }
-        ensures unread { IfErr result
-            (IsFileWriteFault (F.content file.now) (F.reliable file.now)) }
-    {
-        let source = FileSource {
-            file,
-            indexed: &self.indexed,
-        };
-        let coded = CodedSource {
-            source: &source,
-            codes: &self.codes,
-        };
-        match write_blocks(alloc, &coded, true, writer) {
-            Ok(true) => Ok(self.indexed.fti.transfer_length()),
-            Ok(false) => Err(FileWriteFault::Unread(Unread::Changed)),
             Err(Unwritten::Writer) => Err(FileWriteFault::Io),
             Err(Unwritten::Unread(unread)) => Err(FileWriteFault::Unread(unread)),
         }

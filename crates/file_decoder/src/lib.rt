@@ -3,18 +3,14 @@
 //! - `indexing` finds the symbols' places in the file, and reads again where an earlier symbol has
 //!   the same block and ESI. `rereading` has these reads, and those of a block's symbols for
 //!   `file_source`.
-//! - `file_source` has the symbols of a file as a source for `decoder`, and by `enough` no more of
-//!   them than a block needs.
+//! - `file_source` has the symbols of a file as a source for `decoder`.
 //! - `file_gathering`: the public calls. They give the places of an object's symbols, and write the
 //!   object block by block.
 #![tactic(auto)]
 
-mod enough;
 mod file_gathering;
 mod file_source;
 mod indexing;
 mod rereading;
 
-pub use file_gathering::{
-    FileFault, FileSymbols, FileWriteFault, GatheredFile, gather_file, index_file,
-};
+pub use file_gathering::{FileFault, FileSymbols, FileWriteFault, GatheredFile, index_file};

@@ -4,7 +4,7 @@ ghost use Rattle.std.specs.Prelude.{◌≤◌};
 
 use crate::ONE;
 use crate::receiver_tests::{ORDERS, disturbed, is_same, object_of, sent};
-use coder::{Answer, DecodeFault, FileFault, GatheredFile, decode, gather_file, index_file};
+use coder::{Answer, DecodeFault, FileFault, GatheredFile, decode, index_file};
 use lists::are_bytes;
 use partition::Fti;
 use rand_pcg::Pcg32;
@@ -30,15 +30,18 @@ impl ReadAt for Bytes<'_> {
     }
 }
 
-// What a file gives, with the object that is written from it.
+// What a file gives, with the object that is written from it once its symbols were looked at.
 fn from_file<F: ReadAt>(alloc: Global, file: &F) -> Result<Answer, FileFault> {
-    match gather_file(alloc, file, ONE)? {
+    match index_file(alloc, file, ONE)? {
         GatheredFile::Answer(answer) => Ok(answer),
         GatheredFile::Symbols(symbols) => {
+            if let Some(answer) = symbols.refutation(alloc, file)? {
+                return Ok(answer);
+            }
             let mut sink = Sink::new(alloc);
-            match symbols.write_from(alloc, file, &mut sink) {
-                Ok(_) => Ok(Answer::Object(sink.into_bytes())),
-                Err(_) => Err(FileFault::Changed),
+            match symbols.write_checked(alloc, file, &mut sink) {
+                Ok(None) => Ok(Answer::Object(sink.into_bytes())),
+                Ok(Some(_)) | Err(_) => Err(FileFault::Changed),
             }
         }
     }
