@@ -2,26 +2,33 @@
 use Rattle.std.specs.Prelude.{IfSome, IsNone}
 use Rattle.std.specs.Option.{unwrap_or}
 use Rattle.std.proofs.Common.{◌≡◌, ℕ, List, [], Option, Some, None, sym, subst}
-use Rattle.session.specs.Frames.{IsFramed}
+use Rattle.partition.specs.Fti.{Fti, IsValidFti}
+use Rattle.session.specs.Frames.{IsFramed, AppendsSome}
+use Rattle.alc.specs.Reading.{Reading}
 use Rattle.reception.specs.declared.scope.Identity.{Identity}
 use Rattle.reception.specs.Answer as value
-use Rattle.reception.specs.Answer.{IsAnswer}
-use Rattle.reception.specs.Reception.{with_fti}
+use Rattle.reception.specs.Answer.{IsAnswer, AnswerTo, clash, reception_of}
+use Rattle.reception.specs.Reception.{asked, counted, symbols, with_fti}
+use Rattle.reception.specs.Symbols.{FullSolvable}
+use Rattle.reception.specs.Walks.{readings_of}
+use Rattle.reception.proofs.OneAnswer.{same_readings}
+use Rattle.reception.proofs.Within.{within}
 use Rattle.decoder.specs.Answers.{answer_value}
 use Rattle.decoder.specs.Answered.{Answers, NoneIsShort, Stand}
 use Rattle.file_decoder.specs.InFile.{held_in, file_at, AllStandIn}
 use Rattle.file_decoder.specs.PlacesOf.{AreEnoughPlaces, AreIndexedOf, ArePlacedIn, ArePlacedOf}
 use Rattle.block_recovery.specs.Received.{came_at}
 use Rattle.block_recovery.specs.Decoded.{AreInRange}
-use Rattle.decoder.specs.Unsolvable.{HaveBytes}
-use Rattle.decoder.specs.Written.{IsVerdict}
+use Rattle.decoder.specs.Unsolvable.{HaveBytes, SomeUnsound}
+use Rattle.decoder.specs.Written.{IsVerdict, BeginsObject}
 use Rattle.decoder.specs.declared.answer.Answer.{Answer}
 use Rattle.file_decoder.specs.declared.file_gathering.FileSymbols.{FileSymbols}
 use Rattle.file_decoder.specs.declared.file_source.Indexed.{Indexed}
 use Rattle.decoder.proofs.Answering.{stand_of}
 use Rattle.decoder.proofs.BytesOfSymbols.{have_bytes}
 use Rattle.file_decoder.proofs.FromFile.{told_if, told_is}
-use Rattle.decoder.proofs.GatheredSymbols.{answer_of}
+use Rattle.decoder.proofs.GatheredSymbols.{answer_of, begun_of}
+use Rattle.decoder.proofs.Unsound.{none_unsound}
 
 -- where the places in a file are those of some of its datagrams, where its bytes are told
 module _ (content : Option (List ℕ)) (s : Indexed) (of : (x : List ℕ) → content ≡ Some x → (who : Identity) × (ds : List (List ℕ)) × AreIndexedOf who ds x s) where
@@ -56,6 +63,31 @@ module _ (content : Option (List ℕ)) (s : FileSymbols) (ds : List (List ℕ)) 
   placed_answer answer answers =
       answer_of s.indexed.identity ds s.indexed.fti (came_at (held_in x) s.indexed.symbols) are.indexed.read are.indexed.received answer
       (subst (λ (y : List ℕ). Answers s.indexed.fti (came_at (held_in y) s.indexed.symbols) answer) (told_is content x told) answers)
+
+  pub placed_begun : (before after : Option (List ℕ)) → BeginsObject s.indexed.fti (file_at content s.indexed.symbols) before after → (object : List ℕ)
+      → IsAnswer s.indexed.identity ds (value.Object object) → AppendsSome before after object
+  placed_begun before after begins object answer =
+      begun_of s.indexed.identity ds s.indexed.fti (came_at (held_in x) s.indexed.symbols) are.indexed.read are.indexed.received before after
+      (subst (λ (y : List ℕ). BeginsObject s.indexed.fti (came_at (held_in y) s.indexed.symbols) before after) (told_is content x told) begins) object answer
+
+  -- where the datagrams give an object, its symbols stand there
+  pub placed_not_unsound : IsValidFti s.indexed.fti → SomeUnsound s.indexed.fti (file_at content s.indexed.symbols) → (object : List ℕ) → IsAnswer s.indexed.identity ds (value.Object object) → ⊥
+  placed_not_unsound valid unsound object answer =
+      let received = are.indexed.received in
+      let e = same_readings ds answer.readings (readings_of ds) answer.read are.indexed.read in
+      let w = subst (λ (rs : List Reading). AnswerTo (reception_of s.indexed.identity rs) (value.Object object)) e answer.answers in
+      let theirs = w.1.some in
+      let ours = received.clean.some in
+      let same : w.0 ≡ s.indexed.fti = cc in
+      let stand : Stand s.indexed.fti (came_at (held_in x) s.indexed.symbols) =
+      record {
+        arrivals = symbols (counted s.indexed.identity (readings_of ds));
+        index = received.index;
+        within = within clash (asked s.indexed.identity) (readings_of ds) s.indexed.fti received.clean;
+      } in
+      none_unsound s.indexed.fti valid (came_at (held_in x) s.indexed.symbols) stand
+      (subst (λ (y : List ℕ). SomeUnsound s.indexed.fti (came_at (held_in y) s.indexed.symbols)) (told_is content x told) unsound)
+      (subst (λ (f : Fti). FullSolvable f (reception_of s.indexed.identity (readings_of ds)).symbols) same w.2)
 
   pub placed_refuted : (o : Option Answer) → IsVerdict s.indexed.fti (file_at content s.indexed.symbols) o → IfSome o (λ a. IsAnswer s.indexed.identity ds (answer_value a))
   placed_refuted None h = tt

@@ -1,8 +1,8 @@
 //! Decoding a session file into a writer: neither the session nor the object is held. The object is
 //! written while its symbols are looked at.
-ghost use Rattle.std.specs.Prelude.{◌≡◌, ◌<◌, ℕ, List, Some, true, IfOk, IfErr};
+ghost use Rattle.std.specs.Prelude.{◌≡◌, ◌<◌, ℕ, List, Some, true, IfOk, IfErr, OnErr};
 ghost use Rattle.std.specs.Prelude.{Bool, Option, IfSome, IsNone};
-ghost use Rattle.session.specs.Frames.{IsFramed};
+ghost use Rattle.session.specs.Frames.{AppendsSome, IsFramed};
 ghost use Rattle.reception.specs.Answer.{Object, IsAnswer};
 ghost use Rattle.file_decoder.specs.GatheringIn.{IsFileFault};
 ghost use Rattle.file_decoder.specs.PlacesOf.{ArePlacedIn, ArePlacedOf};
@@ -214,7 +214,8 @@ impl FileSymbols {
     /// Writes the object block by block, as long as the symbols of a block, all of which are looked
     /// at, are of one. `None` where all was written; else the answer to the file's datagrams.
     ///
-    /// `Io` comes only where the writer has failed, and never where it has room for the object.
+    /// `Io` comes only where the writer has failed, and never where it has room for the object. At
+    /// an error the writer has a beginning of the object, if the symbols are of one.
     pub fn write_checked<F: ReadAt, W: Write>(
         &self,
         alloc: Global,
@@ -234,6 +235,11 @@ impl FileSymbols {
             → IfOk result (λ o. IfSome o (λ a.
             IsAnswer self.now.indexed.identity ds (answer_value a))) }
         ensures none { IfOk result (λ o. IfSome o IsNoObject) }
+        ensures front { (ds : List (List ℕ)) (x object : List ℕ)
+            → F.content file.now ≡ Some x
+            → ArePlacedOf self.now.indexed.identity ds x self.now
+            → IsAnswer self.now.indexed.identity ds (Object object)
+            → OnErr result (AppendsSome (W.contents writer.old) (W.contents writer.new) object) }
         ensures fault { IfErr result
             (λ e. e ≡ FileWriteFault.Io → W.failed writer.new ≡ true) }
         ensures full { IfErr result (λ e. e ≡ FileWriteFault.Io
@@ -241,6 +247,7 @@ impl FileSymbols {
         ensures unread { IfErr result
             (IsFileWriteFault (F.content file.now) (F.reliable file.now)) }
     {
+        self.indexed.fti.is_valid();
         let source = FileSource {
             file,
             indexed: &self.indexed,
