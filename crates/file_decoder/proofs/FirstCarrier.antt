@@ -24,10 +24,6 @@ use Rattle.block_recovery.specs.declared.fault.DecodeFault.{DecodeFault}
 use Rattle.block_recovery.specs.declared.received.Refusal.TheVariants as refusal
 use Rattle.block_recovery.proofs.Receiving.{Scanned, starts, passes_other, passes_bare, nothing as nothing_came}
 
--- nothing stands anywhere
-abbrev none_at : ℕ → ℕ → Option (List ℕ)
-none_at b j = None
-
 -- the first fault of the datagrams before a place, where none of all is a carrier
 abbrev pub FirstSoFar : Identity → List (List ℕ) → ℕ → Option DecodeFault → Type 0
 FirstSoFar who ds place None = Scanned (scope_in who ds) ds (asked who) (λ b j. None) place

@@ -100,9 +100,9 @@ file_fault_of content reliable Told unread.Changed h told = told_if content (λ 
 file_fault_of content reliable Told unread.NoMemory h told = tt
 
 -- the answer to the datagrams of a file that has a fault at a place
-pub fault_gathered : (who : Identity) (content : Option (List ℕ)) (reliable : Bool) (fault : Unindexed) (e : DecodeFault) → fault ≡ unindexed.Fault e → IsUnindexed content reliable fault
+pub fault_indexed : (who : Identity) (content : Option (List ℕ)) (reliable : Bool) (fault : Unindexed) (e : DecodeFault) → fault ≡ unindexed.Fault e → IsUnindexed content reliable fault
     → ((x : List ℕ) (ds : List (List ℕ)) → content ≡ Some x → IsFramed ds x → IsFaultAmong who ds fault) → IsIndexedIn who content (gathered.Answer (answer.Fault e))
-fault_gathered who content reliable fault e is why among = (
+fault_indexed who content reliable fault e is why among = (
   tt,
   told_if content (λ x. (ds : List (List ℕ)) × IsFramed ds x × IsAnswer who ds (answer_value (answer.Fault e)))
       (λ x told.
@@ -115,5 +115,5 @@ fault_gathered who content reliable fault e is why among = (
 pub told_indexed : (who : Identity) (content : Option (List ℕ)) (reliable : Bool) (fault : Unindexed) (r : Result GatheredFile FileFault)
     → IfOk r (λ g. (e : DecodeFault) × (fault ≡ unindexed.Fault e) × (g ≡ gathered.Answer (answer.Fault e))) → IsUnindexed content reliable fault
     → ((x : List ℕ) (ds : List (List ℕ)) → content ≡ Some x → IsFramed ds x → IsFaultAmong who ds fault) → IfOk r (IsIndexedIn who content)
-told_indexed who content reliable fault (Ok g) h why among = subst (IsIndexedIn who content) (sym h.2) (fault_gathered who content reliable fault h.0 h.1 why among)
+told_indexed who content reliable fault (Ok g) h why among = subst (IsIndexedIn who content) (sym h.2) (fault_indexed who content reliable fault h.0 h.1 why among)
 told_indexed who content reliable fault (Err e) h why among = tt

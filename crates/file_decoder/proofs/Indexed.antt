@@ -2,7 +2,7 @@
 use Rattle.std.specs.Prelude.{Ok, Err, nat_lt, is_some, option_map, ◌==◌}
 use Rattle.std.specs.List.{All, Contains}
 use Rattle.std.proofs.Common.{◌≡◌, ℕ, zero, suc, ◌+◌, ◌<◌, ◌≤◌, true, false, List, [], ◌∷◌, ◌++◌, Option, Some, None, length, get_or, take, refl, sym, ap, subst, ◌∙◌, inl, inr, arith}
-use Rattle.std.proofs.lemmas.Bool.{cases_eq, cases_Bool, eqb-true, ne_eqb, and_parts}
+use Rattle.std.proofs.lemmas.Bool.{cases_eq, ne_eqb, and_parts}
 use Rattle.std.proofs.lemmas.List.Elements.{All-append}
 use Rattle.std.proofs.lemmas.List.{get_or_default, take_more}
 use Rattle.block_recovery.specs.Arrivals.{with_esi, arrived_at}
@@ -104,23 +104,6 @@ more_placed x scope old new block a placed here more others b = elim (cases_eq b
 
 some_is : (o p : Option (List ℕ)) → o ≡ p → is_some o ≡ true → is_some p ≡ true
 some_is o p e some = sym (ap is_some e) ∙ some
-
--- a symbol more that the FTI has
-pub more_in_range : (f : Fti) (old new : ℕ → ℕ → Option (List ℕ)) (block esi : ℕ) → block < block_count f → esi < encoding_count f block → AreInRange f old
-    → ((b j : ℕ) → is_of b j (record { block = block; esi = esi; bytes = [] }) ≡ false → new b j ≡ old b j) → AreInRange f new
-more_in_range f old new block esi hb hj range elsewhere = record {
-  block = λ b j some. elim (cases_Bool (is_of b j (record { block = block; esi = esi; bytes = [] }))) [
-    | inl same ↦ (let w = and_parts (block == b) (esi == j) same in subst (λ (n : ℕ). n < block_count f) (eqb-true block b w.0) hb)
-    | inr other ↦ range.block b j (some_is (new b j) (old b j) (elsewhere b j other) some)
-  ];
-  esi = λ b j some. elim (cases_Bool (is_of b j (record { block = block; esi = esi; bytes = [] }))) [
-    | inl same ↦ (let w = and_parts (block == b) (esi == j) same in
-        let eb : block ≡ b = eqb-true block b w.0 in
-        let ej : esi ≡ j = eqb-true esi j w.1 in
-        subst (λ (n : ℕ). n < encoding_count f b) ej (subst (λ (n : ℕ). esi < encoding_count f n) eb hj))
-    | inr other ↦ range.esi b j (some_is (new b j) (old b j) (elsewhere b j other) some)
-  ];
-}
 
 pub none_in_range : (f : Fti) (at : ℕ → ℕ → Option (List ℕ)) → ((b j : ℕ) → at b j ≡ None) → AreInRange f at
 none_in_range f at none = record {

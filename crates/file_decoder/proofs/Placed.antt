@@ -64,15 +64,16 @@ module _ (content : Option (List ℕ)) (s : FileSymbols) (ds : List (List ℕ)) 
       answer_of s.indexed.identity ds s.indexed.fti (came_at (held_in x) s.indexed.symbols) are.indexed.read are.indexed.received answer
       (subst (λ (y : List ℕ). Answers s.indexed.fti (came_at (held_in y) s.indexed.symbols) answer) (told_is content x told) answers)
 
+  -- what was written at an error begins the object that the datagrams give
   pub placed_begun : (before after : Option (List ℕ)) → BeginsObject s.indexed.fti (file_at content s.indexed.symbols) before after → (object : List ℕ)
       → IsAnswer s.indexed.identity ds (value.Object object) → AppendsSome before after object
   placed_begun before after begins object answer =
       begun_of s.indexed.identity ds s.indexed.fti (came_at (held_in x) s.indexed.symbols) are.indexed.read are.indexed.received before after
       (subst (λ (y : List ℕ). BeginsObject s.indexed.fti (came_at (held_in y) s.indexed.symbols) before after) (told_is content x told) begins) object answer
 
-  -- where the datagrams give an object, its symbols stand there
-  pub placed_not_unsound : IsValidFti s.indexed.fti → SomeUnsound s.indexed.fti (file_at content s.indexed.symbols) → (object : List ℕ) → IsAnswer s.indexed.identity ds (value.Object object) → ⊥
-  placed_not_unsound valid unsound object answer =
+  -- where the datagrams give an object, no block's symbols are of none
+  pub placed_none_unsound : IsValidFti s.indexed.fti → SomeUnsound s.indexed.fti (file_at content s.indexed.symbols) → (object : List ℕ) → IsAnswer s.indexed.identity ds (value.Object object) → ⊥
+  placed_none_unsound valid unsound object answer =
       let received = are.indexed.received in
       let e = same_readings ds answer.readings (readings_of ds) answer.read are.indexed.read in
       let w = subst (λ (rs : List Reading). AnswerTo (reception_of s.indexed.identity rs) (value.Object object)) e answer.answers in

@@ -1,9 +1,9 @@
 -- Symbols that are read again where their packets stand in a file.
 use Rattle.std.specs.Prelude.{is_some, Ok, Err, Result, if◌then◌else◌}
 use Rattle.std.specs.Option.{option_or}
-use Rattle.std.proofs.Common.{◌≡◌, ℕ, ◌+◌, ◌<◌, ◌≤◌, Bool, true, false, List, [], ◌∷◌, ◌++◌, Option, Some, length, get_or, take, drop, refl, sym, ap, subst, ◌∙◌, inl, inr, arith}
+use Rattle.std.proofs.Common.{◌≡◌, ℕ, ◌+◌, ◌<◌, ◌≤◌, Bool, true, false, List, [], ◌∷◌, ◌++◌, Option, Some, length, get_or, take, refl, sym, ap, subst, ◌∙◌, inl, inr}
 use Rattle.std.proofs.lemmas.Bool.{cases_eq}
-use Rattle.std.proofs.lemmas.List.{take_all, take_more}
+use Rattle.std.proofs.lemmas.List.{take_more}
 use Rattle.partition.specs.Fti.{Fti}
 use Rattle.alc.specs.Packet.{Packet}
 use Rattle.alc.specs.Reading.{Reading}
@@ -20,7 +20,6 @@ use Rattle.reception.specs.Step.{IsLook, looked}
 use Rattle.reception.proofs.Looks.{length_look, fti_after}
 use Rattle.reception.proofs.Stepping.{scope}
 use Rattle.reception.proofs.Walking.{is_packet}
-use Rattle.streams.specs.Offsets.{StandsAt, EndsBy}
 use Rattle.block_recovery.specs.Arrivals.{with_esi, arrived_at}
 use Rattle.block_recovery.specs.Blocks.{HaveLength}
 use Rattle.file_decoder.specs.InFile.{symbol_in, bytes_in, held_in, IsSymbolOf, IsSymbolIn}
@@ -32,18 +31,6 @@ use Rattle.decoder.specs.declared.source.Unread.{Unread}
 use Rattle.decoder.specs.declared.source.Unread.TheVariants as unread
 use Rattle.block_recovery.proofs.Arrived.{arrived_more}
 use Rattle.block_recovery.proofs.Kept.{with_here, with_other}
-
-module _ (content : Option (List ℕ)) (x : List ℕ) (is : content ≡ Some x) (offset n len : ℕ) where
-  -- a buffer that was filled has the bytes there
-  pub filled : (b : List ℕ) → StandsAt content offset (take n b) → length b ≡ len → len ≤ n → b ≡ take len (drop offset x)
-  filled b stands size all =
-      let whole : take n b ≡ b = take_all n b (omega (arith, size, all)) in
-      let told : take n b ≡ take (length (take n b)) (drop offset x) = rw is at stands in
-      sym whole ∙ told ∙ ap (λ (k : ℕ). take k (drop offset x)) (ap length whole ∙ size)
-
-  -- it is filled where the file goes so far
-  pub not_short : EndsBy content (offset + n) → n < len → offset + len ≤ length x → ⊥
-  not_short ends few inside = let past : length x ≤ offset + n = rw is at ends in omega (arith, past, few, inside)
 
 module _ (d : List ℕ) (old new : Scope) where
   -- where an FTI is known nothing is learned

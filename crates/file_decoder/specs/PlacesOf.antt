@@ -1,4 +1,4 @@
--- The places that a session file's datagrams have of an object's symbols.
+-- The places of the symbols that a session file's datagrams have.
 use Rattle.std.specs.Prelude.{ℕ, ◌<◌, List, Option, IfSome}
 use Rattle.partition.specs.Fti.{block_count}
 use Rattle.block_code.specs.Codes.{EachBlockHas}

@@ -29,7 +29,7 @@ use std::alloc::{AllocError, Global};
 use streams::ReadAt;
 use thiserror::Error;
 
-/// The places of symbols in a session file, enough of each block of an object.
+/// The places of symbols in a session file, enough of each block.
 #[derive(Drop)]
 pub struct FileSymbols {
     pub(crate) indexed: Indexed,

@@ -4,8 +4,8 @@
 //!   the same block and ESI. `rereading` has these reads, and those of a block's symbols for
 //!   `file_source`.
 //! - `file_source` has the symbols of a file as a source for `decoder`.
-//! - `file_gathering`: the public calls. They give the places of an object's symbols, and write the
-//!   object block by block.
+//! - `file_gathering`: the public calls. They give the places of symbols, and write the object
+//!   block by block.
 #![tactic(auto)]
 
 mod file_gathering;

@@ -1,7 +1,7 @@
 use Rattle.std.proofs.Common.{sym}
 use Rattle.reception.specs.Answer as value
 use Rattle.decoder.specs.Answers.{answer_value}
-use Rattle.file_decoder.proofs.Placed.{indexed_bytes, indexed_stand, placed_answer, placed_begun, placed_enough, placed_not_unsound, placed_of, placed_range}
+use Rattle.file_decoder.proofs.Placed.{indexed_bytes, indexed_stand, placed_answer, placed_begun, placed_enough, placed_none_unsound, placed_of, placed_range}
 use Rattle.file_decoder.proofs.file_gathering.FileSymbols.write_checked.Goals as goal
 
 pub invariant_of-coded : goal.invariant_of-coded
@@ -39,5 +39,5 @@ returns-in-Err-Unread-clause-front g c = λ ds x object told are answer.
 
 pub returns-in-Err-clause-front : goal.returns-in-Err-clause-front
 returns-in-Err-clause-front g c = λ ds x object told are answer.
-    absurd (placed_not_unsound (g.F.ReadAt.content c.args.file.now) c.args.self.now ds x told are c.is_valid.ensures
+    absurd (placed_none_unsound (g.F.ReadAt.content c.args.file.now) c.args.self.now ds x told are c.is_valid.ensures
     (c.in-Ok-false.ensures.other (x, told, are.indexed.placed) c.in-Ok-false.field-0-test) object answer)
