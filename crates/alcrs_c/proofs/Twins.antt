@@ -1,15 +1,12 @@
 -- Datagrams that are fed to a check for a twin.
-use Rattle.std.proofs.Common.{◌≡◌, ◌≤◌, ◌<◌, ◌+◌, ℕ, List, [], ◌∷◌, ◌++◌, Some, get_or, take, length, map, sym, ap, ◌∙◌, arith}
+use Rattle.std.proofs.Common.{◌≡◌, ◌≤◌, ◌<◌, ◌+◌, ℕ, List, [], ◌∷◌, ◌++◌, get_or, take, length, map, sym, ap, ◌∙◌, arith}
 use Rattle.std.specs.Borrow.{Bor}
 use Rattle.std.proofs.lemmas.List.{map-append, take_more, get_or-map}
-use Rattle.session.specs.Frames.{IsDatagram, AreDatagrams, most_bytes}
+use Rattle.session.specs.Frames.{AreDatagrams, most_bytes}
 use Rattle.session.specs.declared.frame.FrameFault.{FrameFault}
 use Rattle.session.specs.declared.frame.FrameFault.TheVariants.{CutLength, CutDatagram, TooLong, Io, NoMemory, NoSuchPlace}
 use Rattle.cert.specs.Feeding.{IsUnfed}
 use Rattle.cert.specs.declared.from_reader.CheckFault.TheVariants.{Frame}
-use Rattle.cert.specs.declared.verdict.Reason.{Reason}
-use Rattle.cert.specs.declared.verdict.Reason.TheVariants.{OtherCertificate, ObjectLength, NotObject, Empty, Packet as NoPacket, OtherFti, SymbolLength, Range, Symbol, Thin, NoCarrier}
-use Rattle.alcrs_c.specs.Twinned.{short_of}
 
 -- the frames of datagrams have no fault
 pub no_frame_fault : (e : FrameFault) (d : List ℕ) → IsUnfed d (Frame e) → length d ≤ most_bytes → ⊥
@@ -33,17 +30,3 @@ module _ (ds : List (Bor (List ℕ))) (i : ℕ) (d : Bor (List ℕ)) (lt : i < l
   next_fed =
       ap (map (λ (d : Bor (List ℕ)). d.now)) (take_more ds i d lt) ∙ map-append (λ (d : Bor (List ℕ)). d.now) (take i ds) (get_or ds i d ∷ [])
       ∙ ap (λ (b : Bor (List ℕ)). map (λ d. d.now) (take i ds) ++ b.now ∷ []) (sym is)
-
--- what is short is the reason
-pub thin_of : (r : Reason) (s : ℕ × ℕ × ℕ) → short_of r ≡ Some s → r ≡ Thin s.0 s.1 s.2
-thin_of (Thin b h n) s e = cc
-thin_of OtherCertificate s e = absurd (cc)
-thin_of ObjectLength s e = absurd (cc)
-thin_of (NotObject b c i) s e = absurd (cc)
-thin_of Empty s e = absurd (cc)
-thin_of (NoPacket i x) s e = absurd (cc)
-thin_of (OtherFti i) s e = absurd (cc)
-thin_of (SymbolLength i) s e = absurd (cc)
-thin_of (Range i) s e = absurd (cc)
-thin_of (Symbol i c) s e = absurd (cc)
-thin_of NoCarrier s e = absurd (cc)

@@ -1,5 +1,5 @@
 -- What is answered where a twin is asked for.
-use Rattle.std.specs.Prelude.{◌≡◌, ℕ, List, Option, Some, None}
+use Rattle.std.specs.Prelude.{◌≡◌, ℕ, List}
 use Rattle.session.specs.Frames.{IsFramed}
 use Rattle.reception.specs.declared.scope.Identity.{Identity}
 use Rattle.certificate.specs.Certificate.{Certificate, IsCertificate, certificate_text}
@@ -7,7 +7,6 @@ use Rattle.cert.specs.Verdict.{IsVerdict}
 use Rattle.cert.specs.Twins.{IsTwinOfSession}
 use Rattle.cert.specs.declared.verdict.Verdict.{Verdict}
 use Rattle.cert.specs.declared.verdict.Verdict.TheVariants.{No}
-use Rattle.cert.specs.declared.verdict.Reason.{Reason}
 use Rattle.cert.specs.declared.verdict.Reason.TheVariants.{Thin}
 
 -- the bytes are the frames of datagrams and the text of a certificate, of which this holds
@@ -34,8 +33,3 @@ IsTwinIn who datagrams object z short other =
 abbrev pub IsTwinned : Identity → List ℕ → List ℕ → List ℕ → ℕ × ℕ × ℕ → List ℕ → Type 0
 IsTwinned who session object certificate short other =
     OfRead session certificate (λ ds z. IsTwinIn who ds object z short other)
-
--- the block that is short, how many symbols it has and how many it needs, where that is the reason
-abbrev pub short_of : Reason → Option (ℕ × ℕ × ℕ)
-short_of (Thin block have need) = Some (block, have, need)
-short_of _ = None

@@ -6,7 +6,7 @@ use Rattle.certificate.specs.Certificate.{Certificate, text_fault}
 use Rattle.cert.specs.Verdict.{IsVerdict}
 use Rattle.cert.specs.declared.verdict.Report.{Report}
 use Rattle.cert.specs.declared.verdict.Verdict.TheVariants.{Yes, No as SaysNo}
-use Rattle.alcrs_c.specs.Twinned.{IsJudged, short_of}
+use Rattle.alcrs_c.specs.Twinned.{IsJudged}
 use Rattle.alcrs_c.specs.declared.twin.Untwinned.{Untwinned}
 use Rattle.alcrs_c.specs.declared.twin.Untwinned.TheVariants.{NoneShort, No, Session}
 use Rattle.alcrs_c.specs.declared.twin.Untwinned.TheVariants.{Certificate as NoCertificate}

@@ -5,12 +5,12 @@ ghost use Rattle.session.specs.Frames.{AreDatagrams, StopsAt};
 ghost use Rattle.session.specs.declared.frame.FrameFault.{FrameFault as FrameFaultValue};
 ghost use Rattle.certificate.specs.Certificate.{text_fault};
 ghost use Rattle.cert.specs.Fed.{IsFed};
-ghost use Rattle.cert.specs.Verdict.{IsVerdict};
+ghost use Rattle.cert.specs.Verdict.{IsVerdict, short_of};
 ghost use Rattle.certificate.specs.declared.certificate.CertFault.{CertFault as CertFaultValue};
 ghost use Rattle.cert.specs.declared.verdict.Report.{Report as ReportValue};
 ghost use Rattle.cert.specs.declared.verdict.Reason.{Reason as ReasonValue};
 ghost use Rattle.alcrs_c.specs.Asked.{identity_of};
-ghost use Rattle.alcrs_c.specs.Twinned.{IsTwinIn, IsTwinned, IsJudged, short_of};
+ghost use Rattle.alcrs_c.specs.Twinned.{IsTwinIn, IsTwinned, IsJudged};
 ghost use Rattle.alcrs_c.specs.Untwinned.{IsNoTwin, IsUntwinned};
 ghost use Rattle.alcrs_c.specs.Statuses.{ok, no, no_session, no_certificate, no_room, no_memory};
 ghost use Rattle.alcrs_c.specs.Statuses.{none_short, IsOneOf};
@@ -42,25 +42,6 @@ enum Untwinned {
     Session(FrameFault),
     Certificate(CertFault),
     NoMemory,
-}
-
-// The block that is short, how many symbols it has and how many it needs, where that is the reason.
-fn short_block(reason: Reason) -> Option<(u32, usize, usize)>
-    ensures { result ≡ short_of reason }
-{
-    match reason {
-        Reason::Thin { block, have, need } => Some((block, have, need)),
-        Reason::OtherCertificate
-        | Reason::ObjectLength
-        | Reason::NotObject { .. }
-        | Reason::Empty
-        | Reason::Packet(..)
-        | Reason::OtherFti(_)
-        | Reason::SymbolLength(_)
-        | Reason::Range(_)
-        | Reason::Symbol(..)
-        | Reason::NoCarrier => None,
-    }
 }
 
 // A check that was fed the datagrams.
@@ -113,7 +94,7 @@ fn twin_in(
         Ok(Verdict::No(reason)) => reason,
         Err(_) => return Err(Untwinned::NoMemory),
     };
-    let Some((block, have, need)) = short_block(reason) else {
+    let Some((block, have, need)) = reason.short_block() else {
         return Err(Untwinned::No(reason));
     };
     match checker.twin(alloc, block) {

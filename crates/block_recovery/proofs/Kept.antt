@@ -1,24 +1,14 @@
 -- Symbols that stand at ESIs: one more, and how many there are.
 use Rattle.std.specs.Prelude.{filter}
 use Rattle.std.proofs.Math.Path.{fun_ext}
-use Rattle.std.proofs.Common.{◌≡◌, ◌≢◌, ℕ, zero, suc, ◌+◌, ◌<◌, Bool, true, false, List, [], ◌∷◌, ◌++◌, Option, Some, length, get_or, refl, sym, ap, ◌∙◌, inl, inr, arith}
-use Rattle.std.proofs.lemmas.Bool.{cases_Bool, cases_eq, cases_lt, eq-eqb, ne_eqb}
+use Rattle.std.proofs.Common.{◌≡◌, ◌≢◌, ℕ, zero, suc, ◌+◌, ◌<◌, Bool, true, false, List, Option, Some, length, refl, sym, ap, ◌∙◌, inl, inr, arith}
+use Rattle.std.proofs.lemmas.Bool.{cases_Bool, cases_eq, eq-eqb, ne_eqb}
 use Rattle.lists.specs.Below.{below}
 use Rattle.lists.proofs.Below.{all_below}
-use Rattle.lists.proofs.Lists.{at_old, at_end, filter_same}
+use Rattle.lists.proofs.Lists.{filter_same}
 use Rattle.block_recovery.specs.Arrivals.{with_esi}
 use Rattle.block_recovery.proofs.Counts.{one_more_held, none_more_held}
 use Rattle.block_recovery.proofs.Those.{none_below}
-
--- what is so of a list's items is so of a list with one more
-pub pushed : {A B : Type 0} (read : A → B) (d : A) (want : ℕ → B) (xs : List A) (y : A) (n : ℕ) → length xs ≡ n
-    → ((i : ℕ) → i < n → read (get_or xs i d) ≡ want i) → read y ≡ want n → (i : ℕ) → i < n + 1 → read (get_or (xs ++ y ∷ []) i d) ≡ want i
-pushed read d want xs y n len before here i li = elim (cases_lt i n) [
-  | inl lt ↦ (ap read (at_old xs y d i (omega (arith, lt, len))) ∙ before i lt)
-  | inr past ↦
-      (let last : i ≡ n = omega (arith, past, li) in
-      ap read (at_end xs y d i (omega (arith, len, last))) ∙ here ∙ ap want (sym last))
-]
 
 pub with_here : (at : ℕ → Option (List ℕ)) (j i : ℕ) (y : List ℕ) → j ≡ i → with_esi at j y i ≡ Some y
 with_here at j i y e = rw (eq-eqb j i e) refl

@@ -11,7 +11,6 @@ pub mod Solved
 pub mod RowPlaces
 pub mod BlockRows
 pub mod Arrived
-pub mod Keeping
 pub mod Kept
 pub mod GivenSymbols
 pub mod Differences

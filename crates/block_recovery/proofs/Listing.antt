@@ -1,6 +1,6 @@
 -- The blocks of which something came, listed one by one.
 use Rattle.std.specs.Prelude.{is_some}
-use Rattle.std.proofs.Common.{◌≡◌, ◌⊎◌, ℕ, ◌<◌, ◌^◌, Bool, true, false, Option, Some, None, List, [], ◌∷◌, ◌++◌, refl, sym, ◌∙◌, inl, inr, arith, length, length-append, ◌+◌, ◌*◌, ◌≤◌, ap₂, subst, mod-lt}
+use Rattle.std.proofs.Common.{◌≡◌, ◌⊎◌, ℕ, ◌<◌, ◌^◌, Bool, true, false, Option, Some, None, List, [], ◌∷◌, ◌++◌, refl, sym, ◌∙◌, inl, inr, arith, length, length-append, ◌+◌, ◌*◌, ap₂, subst}
 use Rattle.std.specs.BTreeMap.{get}
 use Rattle.std.specs.Ordering.{nat_cmp, eq_by_cmp}
 use Rattle.std.specs.Set.{is_member}
@@ -73,9 +73,6 @@ abbrev pub AreListedBelow : {S : Type 0} → (S → List ℕ) → Symbols S → 
 AreListedBelow held s share index blocks = (b j : ℕ) → b < 2 ^ 32 → share_of s.sharing b ≡ share → index_of s.sharing b < index → is_some (came_at held s b j) ≡ true → Stands blocks b
 
 module _ {S : Type 0} (held : S → List ℕ) (s : Symbols S) (share : ℕ) where
-  pub below_none : (blocks : List ℕ) → AreListedBelow held s share 0 blocks
-  below_none blocks = λ b j lb is lt h. absurd (omega (arith, lt))
-
   -- a block is that at its index
   is_at : (b index : ℕ) → share_of s.sharing b ≡ share → index_of s.sharing b ≡ index → b ≡ share * s.sharing.lists + index
   is_at b index is at = sym (parts s.sharing b) ∙ ap₂ (λ (q r : ℕ). q * s.sharing.lists + r) is at
@@ -88,10 +85,6 @@ module _ {S : Type 0} (held : S → List ℕ) (s : Symbols S) (share : ℕ) wher
     | inr other ↦ keeps b (are b j lb is (omega (arith, lt, other)) h)
   ]
 
-  -- no block has it
-  pub below_past : (index : ℕ) (blocks : List ℕ) → 2 ^ 32 ≤ share * s.sharing.lists + index → AreListedBelow held s share index blocks → AreListedBelow held s share (index + 1) blocks
-  below_past index blocks past are = next index blocks blocks are (λ b stands. stands) (λ b j lb is h. absurd (omega (arith, lb, is, past)))
-
   module _ (index block : ℕ) (blocks : List ℕ) (is : block ≡ share * s.sharing.lists + index) (are : AreListedBelow held s share index blocks) where
     -- its block is put last
     pub below_put : AreListedBelow held s share (index + 1) (blocks ++ block ∷ [])
@@ -102,8 +95,3 @@ module _ {S : Type 0} (held : S → List ℕ) (s : Symbols S) (share : ℕ) wher
     pub below_empty : ((j : ℕ) → is_some (came_at held s block j) ≡ false) → AreListedBelow held s share (index + 1) blocks
     below_empty none = next index blocks blocks are (λ b stands. stands)
         (λ b j lb at h. absurd (let e = none j in let t = subst (λ (x : ℕ). is_some (came_at held s x j) ≡ true) {x = b} {y = block} (at ∙ sym is) h in cc))
-
-  -- all indices
-  pub below_all : (index : ℕ) (blocks : List ℕ) → s.sharing.lists ≤ index → AreListedBelow held s share index blocks
-      → (b j : ℕ) → b < 2 ^ 32 → share_of s.sharing b ≡ share → is_some (came_at held s b j) ≡ true → Stands blocks b
-  below_all index blocks all are b j lb is h = let l = mod-lt b s.sharing.some in are b j lb is (omega (arith, l, all)) h

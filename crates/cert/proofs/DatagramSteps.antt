@@ -1,6 +1,6 @@
 -- Datagrams that come one after the other, and what is told of them.
-use Rattle.std.proofs.Common.{◌≡◌, ℕ, ◌+◌, ◌<◌, Bool, true, false, cond, List, [], ◌∷◌, ◌++◌, Option, Some, None, Result, Ok, Err, length, get_or, refl, sym, ap, subst, ◌∙◌, arith}
-use Rattle.std.specs.Prelude.{option_map, OnOk}
+use Rattle.std.proofs.Common.{◌≡◌, ℕ, ◌+◌, ◌<◌, Bool, true, false, cond, List, [], ◌∷◌, ◌++◌, Option, Some, None, Result, Ok, length, get_or, refl, sym, ap, subst, ◌∙◌, arith}
+use Rattle.std.specs.Prelude.{option_map}
 use Rattle.std.proofs.lemmas.List.{map-append, length-append, length-map, append-nil}
 use Rattle.std.proofs.Math.Seq.{get_or-append_seam}
 use Rattle.std.proofs.lemmas.Bool.{ltb-true}
@@ -40,12 +40,6 @@ use Rattle.cert.specs.Scan.{AreGroupsOf, IsPut, with_carrier}
 use Rattle.cert.specs.Verdict.{uncertified, reception_to, reason_at, first_reason}
 use Rattle.cert.proofs.Bridge.{group_more}
 use Rattle.cert.proofs.CarrierPlaces.{places_passed, places_with}
-
--- ---- results
-
-pub four_ok : {A E P Q S T U : Type 0} (r : Result A E) → OnOk r P → OnOk r Q → OnOk r S → OnOk r T → (P → Q → S → T → U) → OnOk r U
-four_ok (Ok a) p q s t f = f p q s t
-four_ok (Err e) p q s t f = tt
 
 -- ---- one datagram more, to any judge who knows the FTI
 

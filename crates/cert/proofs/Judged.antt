@@ -12,7 +12,7 @@ use Rattle.reception.specs.declared.scope.Identity.{Identity}
 use Rattle.reception.specs.declared.scope.Scope.{Scope}
 use Rattle.reception.specs.declared.scope.PlaceFault.{PlaceFault}
 use Rattle.reception.specs.Symbols.{Symbol}
-use Rattle.reception.specs.Reception.{Judged, Placed, Seen, Other, Early, InRange, is_of_identity, counts, placed_at, counted_from, counted, symbols, symbols_in, symbol_of, scope_from, look, look_by, packet_fault, wrong_by, reading_wrong, wrong_after, reception_with, with_fti}
+use Rattle.reception.specs.Reception.{Judged, Placed, Seen, Other, Early, InRange, is_of_identity, counts, placed_at, counted_from, counted, symbols, symbols_in, symbol_of, look, look_by, packet_fault, wrong_by, reading_wrong, wrong_after, with_fti}
 use Rattle.reception.specs.Walks.{readings_of, at_place, judged, or_packet, Found}
 use Rattle.reception.proofs.Walk.{counted_more, counted_one_more, wrong_more}
 use Rattle.reception.proofs.Stepping.{stays}
@@ -114,9 +114,6 @@ module _ (says : Says) (f : Fti) (t : Tallied) (ds : List (List ℕ)) (are : Are
     halves : readings_of ds ≡ readings_of (take n ds) ++ readings_of (drop n ds)
     halves = ap (λ (x : List (List ℕ)). readings_of x) (sym (take-append-drop n ds)) ∙ map-append read_of (take n ds) (drop n ds)
 
-    front_scope : scope_from (with_fti who f) front ≡ t.scope
-    front_scope = stays who f front ∙ scope_is
-
     -- nothing is wrong with them where nothing is asked
     front_clean : wrong_after (judge_by nothing) t.scope [] front ≡ None
     front_clean =
@@ -136,10 +133,6 @@ module _ (says : Says) (f : Fti) (t : Tallied) (ds : List (List ℕ)) (are : Are
         (let inside : k < n = omega (arith, lk, length-take-le n ds l) in
         subst (λ (d : List ℕ). SaysNothing says t.scope (read_of d)) (sym (get_or-take n ds k [] inside)) (h k inside))))
         ∙ front_clean
-
-    pub front_passed : ((reception_with (judge_by says) (with_fti who f) (readings_of (take n ds))).wrong ≡ None)
-        × ((reception_with (judge_by says) (with_fti who f) (readings_of (take n ds))).scope ≡ t.scope)
-    front_passed = (ap (λ (s : Scope). wrong_after (judge_by says) s [] front) front_scope ∙ front_none, front_scope)
 
   -- and the next has something said against its symbol
   pub first_wrong : (p c : ℕ) (packet : Packet) → p < length ds → ((i : ℕ) → i < p → SaysNothing says t.scope (reading_at ds i)) → look t.scope (reading_at ds p) ≡ Ok (InRange packet)

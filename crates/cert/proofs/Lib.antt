@@ -23,3 +23,4 @@ pub mod FromReader
 pub mod Feeding
 pub mod Judged
 pub mod Members
+pub mod ShortReasons

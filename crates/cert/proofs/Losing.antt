@@ -4,7 +4,7 @@ use Rattle.std.specs.Prelude.{◌==◌, if◌then◌else◌}
 use Rattle.std.specs.List.{list_any, AllByRecursion}
 use Rattle.lists.specs.Selection.{rest_from, rest}
 use Rattle.losses.specs.declared.groups.Member.{Member}
-use Rattle.losses.specs.Losses.{Blocks, places_from, IsMargin, IsKill, IsBurst, IsHarmless}
+use Rattle.losses.specs.Losses.{Blocks, places_from, IsMargin, IsKill, IsBurst}
 use Rattle.losses.specs.Groups.{Group, group_at, places, is_at, blocks_of_groups, AreGroups}
 use Rattle.losses.proofs.Lines.{any_left, places_length}
 use Rattle.losses.proofs.Link.{is_left}
@@ -17,8 +17,7 @@ use Rattle.partition.proofs.Laws.{some_source}
 use Rattle.alc.specs.Reading.{Reading}
 use Rattle.reception.specs.declared.scope.Identity.{Identity}
 use Rattle.reception.specs.Symbols.{has_arrived}
-use Rattle.reception.specs.Reception.{ReadAll, is_of_identity, is_carrier, counted_from, counted, symbols, Suffices}
-use Rattle.reception.specs.Headline.{HasCarrier}
+use Rattle.reception.specs.Reception.{ReadAll, is_of_identity, is_carrier, counted_from, counted, symbols}
 use Rattle.reception.proofs.Within.{IsFaultless, IsSoundReading}
 use Rattle.cert.specs.Report.{blocks_of}
 use Rattle.cert.specs.Scan.{members_of, AreGroupsOf, AreEnough}
@@ -127,8 +126,3 @@ read_rest lost i (d ∷ ds) (r ∷ rs) h =
       | true ↦ read_rest lost (i + 1) ds rs h.1
       | false ↦ (h.0, read_rest lost (i + 1) ds rs h.1)
     ]
-
--- after a harmless loss, what is left of the datagrams leaves no block short, and has a carrier
-pub harmless_enough : (who : Identity) (f : Fti) (lost : ℕ → Bool) (ds : List (List ℕ)) (rs : List Reading) → ReadAll ds rs → IsHarmless (blocks_of who f) rs lost
-    → ReadAll (rest lost ds) (rest lost rs) × Suffices who f (rest lost rs) × HasCarrier who (rest lost rs)
-harmless_enough who f lost ds rs read h = (read_rest lost 0 ds rs read, h.full, h.carrier)

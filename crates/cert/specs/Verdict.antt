@@ -131,6 +131,11 @@ pub record IsVerdict (who : Identity) (datagrams : List (List ℕ)) (object : Li
   pub read : ReadAll datagrams readings
   pub judged : VerdictOn who readings object z verdict
 
+-- the block that is short, how many symbols it has and how many it needs, where that is the reason
+abbrev pub short_of : Reason → Option (ℕ × ℕ × ℕ)
+short_of (Thin block have need) = Some (block, have, need)
+short_of _ = None
+
 -- both yes, or both no for one reason
 abbrev pub AreOneVerdict : Verdict → Verdict → Type 0
 AreOneVerdict (Yes r) (Yes s) = Unit {0}

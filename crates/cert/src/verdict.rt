@@ -1,4 +1,7 @@
 //! What a check answers.
+ghost use Rattle.std.specs.Prelude.{◌≡◌};
+ghost use Rattle.cert.specs.Verdict.{short_of};
+
 use alc::PacketFault;
 use losses::Run;
 
@@ -87,6 +90,28 @@ pub enum Reason {
     },
     /// N11: no packet of the identity carries the FTI.
     NoCarrier,
+}
+
+impl Reason {
+    /// The block that is short, how many different ESIs of it came and how many it needs, where
+    /// that is the reason.
+    pub fn short_block(self) -> Option<(u32, usize, usize)>
+        ensures { result ≡ short_of self }
+    {
+        match self {
+            Reason::Thin { block, have, need } => Some((block, have, need)),
+            Reason::OtherCertificate
+            | Reason::ObjectLength
+            | Reason::NotObject { .. }
+            | Reason::Empty
+            | Reason::Packet(..)
+            | Reason::OtherFti(_)
+            | Reason::SymbolLength(_)
+            | Reason::Range(_)
+            | Reason::Symbol(..)
+            | Reason::NoCarrier => None,
+        }
+    }
 }
 
 /// Whether a certificate is one of an identity's packets in a session, and of an object.

@@ -23,7 +23,8 @@ use Rattle.commands.specs.Inputs.{ACertificate, AnObject, Bytes, HasValue, HaveV
 use Rattle.commands.specs.Commands.{Refuses, inputs_of}
 use Rattle.commands.specs.Outcomes.{IsBecause}
 use Rattle.commands.specs.Doing.{HasStopped}
-use Rattle.check_commands.specs.Checks.{IsNotChecked, OfFiles, fault_of}
+use Rattle.check_commands.specs.Checks.{IsNotChecked, OfFiles}
+use Rattle.check_commands.specs.FileFaults.{fault_of}
 use Rattle.check_commands.specs.Summing.{CanBeSummed}
 use Rattle.commands.specs.declared.fault.Fault.{Fault}
 use Rattle.commands.specs.declared.fault.Fault.TheVariants as told_as
@@ -107,7 +108,7 @@ module _ (w : World) (r : CheckRequest) (session object text : Option (List ℕ)
   because_object (inl none) h = inl none
   because_object (inr (held, told)) h = gives_object.fails (where_told held told (λ x y z. IsFilesFault r.identity reliable x y z files_fault.Object) h).2
 
-  because_files : (fault : FilesFault) → IsCertificateFault text t fault → IsFaultOfFrames s fault → WhereTold session object text (λ x y z. IsFilesFault r.identity reliable x y z fault) → IsBecause w w (Check r) [] (fault_of r fault)
+  because_files : (fault : FilesFault) → IsCertificateFault text t fault → IsFaultOfFrames s fault → WhereTold session object text (λ x y z. IsFilesFault r.identity reliable x y z fault) → IsBecause w w (Check r) [] (fault_of r.session r.object fault)
   because_files (files_fault.Frame e) certificate frame h = by_refused w w (Check r) [] (told_as.Frame e) (because_frame e frame (told_or_not w.files) h)
   because_files files_fault.Session certificate frame h = by_refused w w (Check r) [] (told_as.File r.session) (refl, because_session (told_or_not w.files) h)
   because_files files_fault.Object certificate frame h =
@@ -118,8 +119,8 @@ module _ (w : World) (r : CheckRequest) (session object text : Option (List ℕ)
       (inr (Opened session, gives_session.bytes, inr (value.0, value.1, inl (no_certificate w r.certificate text t gives_text e certificate))))
   because_files files_fault.NoMemory certificate frame h = tt
 
-  pub unchecked : (fault : FilesFault) → IsCertificateFault text t fault → IsFaultOfFrames s fault → WhereTold session object text (λ x y z. IsFilesFault r.identity reliable x y z fault) → HasStopped w w (Check r) (fault_of r fault)
-  unchecked fault certificate frame h = stopped w (Check r) (fault_of r fault) (because_files fault certificate frame h)
+  pub unchecked : (fault : FilesFault) → IsCertificateFault text t fault → IsFaultOfFrames s fault → WhereTold session object text (λ x y z. IsFilesFault r.identity reliable x y z fault) → HasStopped w w (Check r) (fault_of r.session r.object fault)
+  unchecked fault certificate frame h = stopped w (Check r) (fault_of r.session r.object fault) (because_files fault certificate frame h)
 
   of_files : (Fact : List ℕ → List ℕ → List ℕ → Type 0) → (files : Option Files) → files ≡ w.files → WhereTold session object text Fact → OfFiles files r Fact
   of_files Fact None is h = tt

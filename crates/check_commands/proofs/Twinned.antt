@@ -3,7 +3,7 @@ use Rattle.std.proofs.Common.{◌≡◌, ℕ, List, [], ◌∷◌, Option, Some,
 use Rattle.std.specs.declared.alloc.Global.{Global}
 use Rattle.reception.specs.declared.scope.Identity.{Identity}
 use Rattle.cert.specs.Twins.{IsTwinOfSession}
-use Rattle.cert.specs.Verdict.{IsVerdict}
+use Rattle.cert.specs.Verdict.{IsVerdict, short_of}
 use Rattle.cert.specs.declared.verdict.Reason.{Reason}
 use Rattle.cert.specs.declared.verdict.Reason.TheVariants.{OtherCertificate, ObjectLength, NotObject, Empty, Packet, OtherFti, SymbolLength, Range, Symbol, Thin, NoCarrier}
 use Rattle.cert.specs.declared.verdict.Verdict.{Verdict}
@@ -20,25 +20,10 @@ use Rattle.commands.specs.Lines.{verdict_text}
 use Rattle.commands.specs.Commands.{Outcome, GivesTwin}
 use Rattle.commands.specs.Outcomes.{MayCreate}
 use Rattle.commands.specs.Doing.{text_of, HasMade}
-use Rattle.check_commands.specs.ShortBlocks.{short_of}
 use Rattle.check_commands.specs.TwinsTold.{GivesInputs, TellsTwin, IsToldOf}
 
 some_same : {A : Type 0} {x y : A} → Some x ≡ Some y → x ≡ y
 some_same e = cc
-
--- the reason that a block is short
-pub short_reason : (reason : Reason) (t : ℕ × ℕ × ℕ) → short_of reason ≡ Some t → reason ≡ Thin t.0 t.1 t.2
-short_reason (Thin block have need) t e = ap (λ (u : ℕ × ℕ × ℕ). Thin u.0 u.1 u.2) (some_same e)
-short_reason OtherCertificate t e = absurd (cc)
-short_reason ObjectLength t e = absurd (cc)
-short_reason (NotObject b c i) t e = absurd (cc)
-short_reason Empty t e = absurd (cc)
-short_reason (Packet i x) t e = absurd (cc)
-short_reason (OtherFti i) t e = absurd (cc)
-short_reason (SymbolLength i) t e = absurd (cc)
-short_reason (Range i) t e = absurd (cc)
-short_reason (Symbol i c) t e = absurd (cc)
-short_reason NoCarrier t e = absurd (cc)
 
 -- any other reason
 pub other_reason : (reason : Reason) (inputs : Inputs) (answered : Answered) (who : Identity)

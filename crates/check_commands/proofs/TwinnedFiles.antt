@@ -35,7 +35,8 @@ use Rattle.commands.specs.Lines.{line_of, short_text}
 use Rattle.commands.specs.Commands.{Gives, GivesTwin, Outcome, inputs_of}
 use Rattle.commands.specs.Outcomes.{IsBecause, MayCreate}
 use Rattle.commands.specs.Doing.{HasMade, HasStopped, text_of}
-use Rattle.check_commands.specs.TwinsTold.{AreUnread, HasJudged, HoldsFrames, IsFoundIn, IsJudged, IsUnframed, IsUntwinned, TellsNoTwin, fault_of_files}
+use Rattle.check_commands.specs.TwinsTold.{AreUnread, HasJudged, HoldsFrames, IsFoundIn, IsJudged, IsUnframed, IsUntwinned, TellsNoTwin}
+use Rattle.check_commands.specs.FileFaults.{fault_of}
 use Rattle.commands.specs.declared.done.Done.{Done}
 use Rattle.commands.specs.declared.done.Told.TheVariants.{Lines}
 use Rattle.commands.specs.declared.fault.Fault.{Fault}
@@ -276,7 +277,7 @@ module _ (w : World) (r : TwinRequest) (session object text : Option (List ℕ))
   unhad fault h = stopped w (Twin r) fault (by_unread w w (Twin r) [] fault h)
 
   pub unfound : (fault : FilesFault) → IsCertificateFault text t fault → IsFaultOfFrames s fault → WhereTold session object text (λ x y z. IsFilesFault r.identity reliable x y z fault)
-      → HasStopped w w (Twin r) (fault_of_files r fault)
+      → HasStopped w w (Twin r) (fault_of r.session r.object fault)
   unfound (files_fault.Frame e) certificate frame h = unhad (told_as.Frame e) (inl (frame_unread e frame h))
   unfound files_fault.Session certificate frame h = unhad (told_as.File r.session) (inl (refl, lost_session (told_or_not w.files) h))
   unfound files_fault.Object certificate frame h =
@@ -331,25 +332,6 @@ untwinned_in w r verdict line found told done lines status =
     }
 
 -- ---- a block that is short
-
--- the verdict by which one is told
-thin_verdict : (verdict : Verdict) (short : ShortBlock) → IsShortFound verdict (Some short) → verdict ≡ No (Thin short.block short.have short.need)
-thin_verdict (Yes report) short h = absurd h
-thin_verdict (No (Thin b have need)) short h = let x = h.block in let y = h.symbols in let z = h.needed in cc
-thin_verdict (No OtherCertificate) short h = absurd h
-thin_verdict (No ObjectLength) short h = absurd h
-thin_verdict (No (NotObject b c i)) short h = absurd h
-thin_verdict (No Empty) short h = absurd h
-thin_verdict (No (Packet i x)) short h = absurd h
-thin_verdict (No (OtherFti i)) short h = absurd h
-thin_verdict (No (SymbolLength i)) short h = absurd h
-thin_verdict (No (Range i)) short h = absurd h
-thin_verdict (No (Symbol i c)) short h = absurd h
-thin_verdict (No NoCarrier) short h = absurd h
-
-pub found_thin : (files : Option Files) (r : TwinRequest) (verdict : Verdict) (short : ShortBlock) → IsFoundIn files r verdict (Some short)
-    → IsFoundIn files r (No (Thin short.block short.have short.need)) (Some short)
-found_thin files r verdict short found = subst (λ (v : Verdict). IsFoundIn files r v (Some short)) (thin_verdict verdict short found.0) found
 
 module _ (r : TwinRequest) (short : ShortBlock) where
   abbrev thin : Verdict

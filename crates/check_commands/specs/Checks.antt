@@ -8,10 +8,6 @@ use Rattle.certificate.specs.Certificate.{Certificate as CertificateValue}
 use Rattle.cert.specs.FromReader.{IsCheckedFrom, IsRefusedBehind}
 use Rattle.cert.specs.Report.{IsReport, OnYes}
 use Rattle.cert.specs.declared.verdict.Verdict.{Verdict}
-use Rattle.file_check.specs.declared.checking.FilesFault.{FilesFault}
-use Rattle.file_check.specs.declared.checking.FilesFault.TheVariants.{Frame as NoFrame, Session}
-use Rattle.file_check.specs.declared.checking.FilesFault.TheVariants.{Object, NoMemory}
-use Rattle.file_check.specs.declared.checking.FilesFault.TheVariants.{Certificate as NoCertificate}
 use Rattle.request.specs.declared.requests.CheckRequest.{CheckRequest}
 use Rattle.request.specs.declared.requests.Request.TheVariants.{Check}
 use Rattle.host.specs.World.{Files}
@@ -21,7 +17,7 @@ use Rattle.check_commands.specs.declared.check.Answered.{Answered}
 use Rattle.commands.specs.Doing.{text_of}
 use Rattle.check_commands.specs.Drawing.{HasDrawn}
 use Rattle.commands.specs.declared.fault.Fault.{Fault}
-use Rattle.commands.specs.declared.fault.Fault.TheVariants.{File, Memory, Frame, Certificate}
+use Rattle.commands.specs.declared.fault.Fault.TheVariants.{Memory, Frame}
 
 -- behind datagrams that have no reason against them comes no frame, or there is no memory
 abbrev pub IsNotChecked : Identity → Bool → Option (List ℕ) → List ℕ → CertificateValue → Fault
@@ -69,14 +65,6 @@ TellsRequest files r answered =
     TellsHeld files r answered ⊎ ((files ≡ None) × TellsSome r answered)
 
 -- ---- files that are checked where they stand
-
--- a fault of theirs, as it is told
-abbrev pub fault_of : CheckRequest → FilesFault → Fault
-fault_of r (NoFrame fault) = Frame fault
-fault_of r Session = File r.session
-fault_of r Object = File r.object
-fault_of r (NoCertificate fault) = Certificate fault
-fault_of r NoMemory = Memory
 
 -- a fact of what a request's files hold, where they tell it
 abbrev pub OfFiles : Option Files → CheckRequest → (List ℕ → List ℕ → List ℕ → Type 0) → Type 0

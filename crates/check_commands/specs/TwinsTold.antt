@@ -13,11 +13,6 @@ use Rattle.cert.specs.declared.verdict.Reason.TheVariants.{Thin}
 use Rattle.cert.specs.declared.verdict.Verdict.{Verdict}
 use Rattle.cert.specs.declared.verdict.Verdict.TheVariants.{Yes, No}
 use Rattle.file_check.specs.Shortness.{IsShortFound, MakesTwins}
-use Rattle.file_check.specs.declared.checking.FilesFault.{FilesFault}
-use Rattle.file_check.specs.declared.checking.FilesFault.TheVariants.{Frame as NoFrame, Session}
-use Rattle.file_check.specs.declared.checking.FilesFault.TheVariants.{Object}
-use Rattle.file_check.specs.declared.checking.FilesFault.TheVariants.{NoMemory as FilesNoMemory}
-use Rattle.file_check.specs.declared.checking.FilesFault.TheVariants.{Certificate as NoCertificate}
 use Rattle.file_check.specs.declared.checking.ShortBlock.{ShortBlock}
 use Rattle.request.specs.declared.requests.TwinRequest.{TwinRequest}
 use Rattle.request.specs.declared.requests.Request.TheVariants.{Twin}
@@ -26,7 +21,7 @@ use Rattle.commands.specs.Inputs.{Datagrams, Bytes, Polynomials, HaveValues, IsF
 use Rattle.commands.specs.Lines.{line_of, short_text, verdict_text}
 use Rattle.commands.specs.Commands.{inputs_of}
 use Rattle.commands.specs.declared.fault.Fault.{Fault}
-use Rattle.commands.specs.declared.fault.Fault.TheVariants.{File, Memory, Frame, Certificate}
+use Rattle.commands.specs.declared.fault.Fault.TheVariants.{File, Memory, Frame}
 use Rattle.commands.specs.declared.output.Unwritten.{Unwritten}
 use Rattle.commands.specs.declared.output.Unwritten.TheVariants.{Writing, Fault as ByFault}
 use Rattle.check_commands.specs.declared.twin.Answered.{Answered}
@@ -86,14 +81,6 @@ pub record AreOpened {I : Type 0} (opened : OpenInputs I) (session object certif
   pub certificate_is : opened.certificate ≡ Some certificate
 
 -- ---- files that are read at offsets
-
--- a fault of theirs, as it is told
-abbrev pub fault_of_files : TwinRequest → FilesFault → Fault
-fault_of_files r (NoFrame fault) = Frame fault
-fault_of_files r Session = File r.session
-fault_of_files r Object = File r.object
-fault_of_files r (NoCertificate fault) = Certificate fault
-fault_of_files r FilesNoMemory = Memory
 
 -- the verdict is that on what the files hold, and where a block is short, each twin that is made
 -- for what came is one of the session

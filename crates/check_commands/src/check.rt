@@ -10,13 +10,13 @@ ghost use Rattle.commands.specs.Doing.{HasMade, HasStopped, text_of};
 ghost use Rattle.host.specs.World.{GivesFile};
 ghost use Rattle.file_check.specs.Files.{IsVerdictIn, IsVerdictOnSome};
 ghost use Rattle.check_commands.specs.Checks.{IsNotChecked, OfFiles, TellsCheck, TellsRequest};
-ghost use Rattle.check_commands.specs.Checks.{fault_of};
 ghost use Rattle.check_commands.specs.Drawing.{HasDrawn, IsSurveyed};
 ghost use Rattle.check_commands.specs.Summing.{CanBeSummed};
 ghost use Rattle.commands.specs.Lines.{named, block_text, kill_text, losses_text, report_text};
 ghost use Rattle.commands.specs.Lines.{reason_text, verdict_text as text_of_verdict};
 
 use crate::drawing::{Drawn, picture_of};
+use crate::faults::files_fault;
 use crate::summary::summary_lines;
 use cert::{CheckFault, Reason, Report, Survey, Verdict, check_from, survey_from};
 use certificate::Certificate;
@@ -24,7 +24,7 @@ use commands::{
     Done, Fault, Text, Told, certificate_in, object_in, open, put_packet_fault, read_certificate,
     write_output,
 };
-use file_check::{Files, FilesFault, check_files, survey_files};
+use file_check::{Files, check_files, survey_files};
 use host::Host;
 use request::{CheckRequest, Output};
 use session::{FrameFault, Read};
@@ -161,20 +161,7 @@ fn verdict_in<'a, H: Host>(
     };
     match checked {
         Ok(found) => Ok(found),
-        Err(fault) => Err(files_fault(request, fault)),
-    }
-}
-
-// A fault of files, as it is told.
-fn files_fault<'a>(request: &CheckRequest<'a>, fault: FilesFault) -> Fault<'a>
-    ensures { result ≡ fault_of request.now fault }
-{
-    match fault {
-        FilesFault::Frame(fault) => Fault::Frame(fault),
-        FilesFault::Session => Fault::File(request.session),
-        FilesFault::Object => Fault::File(request.object),
-        FilesFault::Certificate(fault) => Fault::Certificate(fault),
-        FilesFault::NoMemory => Fault::Memory,
+        Err(fault) => Err(files_fault(request.session, request.object, fault)),
     }
 }
 

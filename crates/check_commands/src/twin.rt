@@ -14,20 +14,19 @@ ghost use Rattle.commands.specs.Doing.{HasMade, HasStopped};
 ghost use Rattle.commands.specs.Inputs.{ACertificate, AnObject, Bytes, Polynomials, HasValue};
 ghost use Rattle.commands.specs.Inputs.{IsUnread};
 ghost use Rattle.commands.specs.Lines.{line_of, short_text};
-ghost use Rattle.check_commands.specs.ShortBlocks.{short_of};
 ghost use Rattle.check_commands.specs.TwinsTold.{GivesInputs, AreOpened, AreUnread, HoldsFrames};
 ghost use Rattle.check_commands.specs.TwinsTold.{IsFoundIn};
 ghost use Rattle.check_commands.specs.TwinsTold.{IsUnframed, IsUntwinned, TellsNoTwin, TellsTwin};
-ghost use Rattle.check_commands.specs.TwinsTold.{fault_of_files};
 
 use crate::check::reason_line;
-use cert::{Reason, TwinFault, Verdict, session_twin, write_twin};
+use crate::faults::files_fault;
+use cert::{TwinFault, Verdict, session_twin, write_twin};
 use certificate::Certificate;
 use commands::{
     Done, Fault, Text, Told, Unwritten, certificate_in, commit, create, object_in, open,
     read_certificate, read_object, session_in, write_output,
 };
-use file_check::{Files, FilesFault, ShortBlock, check_for_twin};
+use file_check::{Files, ShortBlock, check_for_twin};
 use host::Host;
 use lists::are_bytes;
 use reception::Identity;
@@ -227,7 +226,7 @@ fn answer_of(alloc: Global, inputs: &Inputs, identity: Identity) -> Result<Answe
             line: no_twin_line(alloc)?,
             other: None,
         }),
-        Verdict::No(reason) => match short_block(reason) {
+        Verdict::No(reason) => match reason.short_block() {
             Some((block, have, need)) => Ok(Answered {
                 other: Some(session_twin(
                     alloc,
@@ -320,20 +319,7 @@ fn found_in<'a, H: Host>(
 {
     match check_for_twin(alloc, files, request.identity) {
         Ok(found) => Ok(found),
-        Err(fault) => Err(files_fault(request, fault)),
-    }
-}
-
-// A fault of files, as it is told.
-fn files_fault<'a>(request: &TwinRequest<'a>, fault: FilesFault) -> Fault<'a>
-    ensures { result ≡ fault_of_files request.now fault }
-{
-    match fault {
-        FilesFault::Frame(fault) => Fault::Frame(fault),
-        FilesFault::Session => Fault::File(request.session),
-        FilesFault::Object => Fault::File(request.object),
-        FilesFault::Certificate(fault) => Fault::Certificate(fault),
-        FilesFault::NoMemory => Fault::Memory,
+        Err(fault) => Err(files_fault(request.session, request.object, fault)),
     }
 }
 
@@ -438,26 +424,6 @@ pub fn twin<'a, H: Host>(
     }
     let inputs = read_inputs(alloc, host, request, opened)?;
     tell_held(alloc, host, request, &inputs)
-}
-
-// The block that is too short, how many symbols it has and how many it needs, where that is the
-// reason.
-fn short_block(reason: Reason) -> Option<(u32, usize, usize)>
-    ensures { result ≡ short_of reason }
-{
-    match reason {
-        Reason::Thin { block, have, need } => Some((block, have, need)),
-        Reason::OtherCertificate
-        | Reason::ObjectLength
-        | Reason::NotObject { .. }
-        | Reason::Empty
-        | Reason::Packet(..)
-        | Reason::OtherFti(_)
-        | Reason::SymbolLength(_)
-        | Reason::Range(_)
-        | Reason::Symbol(..)
-        | Reason::NoCarrier => None,
-    }
 }
 
 fn no_twin_line(alloc: Global) -> Result<Text, AllocError>

@@ -1,12 +1,12 @@
 -- Why a request wasn't done, by its parts.
-use Rattle.std.proofs.Common.{◌≡◌, ◌⊎◌, ◌∙◌, ℕ, true, List, [], Option, Some, None, Result, Ok, Err, inl, inr, refl, sym, ap, subst}
+use Rattle.std.proofs.Common.{◌≡◌, ◌⊎◌, ◌∙◌, ℕ, true, List, [], Option, Some, None, Result, Ok, Err, inl, inr, refl, sym, subst}
 use Rattle.std.specs.Prelude.{IfSome, IfErr, IsErrAnd}
 use Rattle.std.specs.Io.KnownBytes.{Appends}
 use Rattle.std.proofs.KnownBytes.{Appends-nil}
 use Rattle.request.specs.declared.requests.Output.{Output}
 use Rattle.request.specs.declared.requests.Request.{Request}
 use Rattle.request.specs.declared.requests.Request.TheVariants.{Check, Twin, Show, Encode, Certify, Convert, Decode, Follow, Drop, Salvage, Join}
-use Rattle.host.specs.World.{Files, World, IsToStay, MayFail, KeepsFiles, IsSilent, Replaces, one_more}
+use Rattle.host.specs.World.{Files, World, MayFail, KeepsFiles, IsSilent, Replaces, one_more}
 use Rattle.commands.specs.Commands.{Outcome, output_of, Refuses}
 use Rattle.commands.specs.Outcomes.{IsDone, IsMade, IsOutput, IsUnmade, IsUnhad, IsUnprinted, IsBecause, BeginsText, Makes, MayCreate}
 use Rattle.commands.specs.Doing.{text_of, HasMade, HasStopped, IsUncreated, IsUncommitted, IsUndone, IsUnkept}
@@ -138,31 +138,6 @@ unkept old new r output is files silent may failure told tells (inr (inr (same, 
   };
   silent = silent.printed;
 }
-
-may_fail_before : (old mid : World) → KeepsFiles old mid → MayFail mid → MayFail old
-may_fail_before old mid files (inl untold) = inl (sym files.files ∙ untold)
-may_fail_before old mid files (inr fallible) = inr (sym files.fallible ∙ fallible)
-
--- why an output isn't made, by a world with the same files before it
-pub unmade_before : (old mid new : World) (r : Request) → KeepsFiles old mid → (fault : Fault) → IsUnmade mid new r fault → IsUnmade old new r fault
-unmade_before old mid new r files (Open n) (output, is, named, why, create, created) = (
-  output,
-  is,
-  named,
-  elim why [
-    | inl may ↦ inl (may_fail_before old mid files may)
-    | inr stays ↦ inr (subst (λ (f : Option Files). IsToStay f output.name.now output.no_clobber) files.files stays)
-  ],
-  subst (λ (f : Option Files). MayCreate f r) files.files create,
-  created ∙ files.created,
-)
-unmade_before old mid new r files (File n) (may, is, created) = (may_fail_before old mid files may, is, created ∙ ap one_more files.created)
-unmade_before old mid new r files Memory (may, is, created) = (may_fail_before old mid files may, is, created ∙ ap one_more files.created)
-unmade_before old mid new r files (Frame e) (may, is, created) = (may_fail_before old mid files may, is, created ∙ ap one_more files.created)
-unmade_before old mid new r files (Certificate e) (may, is, created) = (may_fail_before old mid files may, is, created ∙ ap one_more files.created)
-unmade_before old mid new r files (Fti e) (may, is, created) = (may_fail_before old mid files may, is, created ∙ ap one_more files.created)
-unmade_before old mid new r files (Send e) (may, is, created) = (may_fail_before old mid files may, is, created ∙ ap one_more files.created)
-unmade_before old mid new r files (NoPlace n) (may, is, created) = (may_fail_before old mid files may, is, created ∙ ap one_more files.created)
 
 -- nothing was printed, and the fault is to be told
 pub undone : (old new : World) (r : Request) (fault : Fault) → HasStopped old new r fault → IsUndone old new r (ByFault fault)

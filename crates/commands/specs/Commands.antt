@@ -243,9 +243,6 @@ Gives (Convert r) (Polynomials z ∷ []) outcome =
     (is_for r.identity z.name ≡ true)
     × IsOutcome (count_line (codes "converted") (block_count z.fti) (codes " blocks")) 0
     (Some (certificate_text (named_as r.identity z))) outcome
-Gives (Decode r) (Datagrams datagrams ∷ []) outcome =
-    (answer : Answer) × IsAnswer r.identity datagrams answer
-    × IsOutcome (line_of (answer_text answer)) (answer_status answer) (object_of answer) outcome
 Gives (Decode r) (Opened content ∷ []) outcome =
     (answer : Answer) × IsAnswerIn r.identity content answer
     × IsOutcome (line_of (answer_text answer)) (answer_status answer) (object_of answer) outcome

@@ -4,14 +4,13 @@ use Rattle.std.specs.Borrow.{Bor}
 use Rattle.std.proofs.lemmas.List.{length-map}
 use Rattle.std.proofs.Math.Logic.{∥∥₁_elim}
 use Rattle.std.proofs.Props.{props}
-use Rattle.std.proofs.Common.{◌≡◌, ℕ, suc, ◌<◌, true, List, [], ◌∷◌, Option, Some, map, length, get_or, arith, subst, refl, leb-true}
+use Rattle.std.proofs.Common.{◌≡◌, ℕ, suc, ◌<◌, true, List, [], ◌∷◌, Option, Some, map, length, get_or, arith, subst, refl}
 use Rattle.lists.specs.Bytes.{AreBytes}
-use Rattle.partition.specs.Fti.{Fti, IsValidFti, block_count}
-use Rattle.partition.proofs.Laws.{counts}
+use Rattle.partition.specs.Fti.{Fti}
 use Rattle.alc.specs.Computed.{read_of}
 use Rattle.alc.proofs.Again.{reads}
 use Rattle.reception.specs.declared.scope.Identity.{Identity}
-use Rattle.reception.specs.Symbols.{is_of, AllFull}
+use Rattle.reception.specs.Symbols.{is_of}
 use Rattle.reception.specs.Within.{IsWithin}
 use Rattle.reception.specs.Reception.{ReadAll, Reception, IsClean, asked, counted, symbols}
 use Rattle.reception.specs.Walks.{readings_of}
@@ -21,11 +20,10 @@ use Rattle.std.proofs.lemmas.Bool.{and_from, eq-eqb}
 use Rattle.lists.proofs.Lists.{all_both}
 use Rattle.reception.proofs.Within.{within}
 use Rattle.reception.proofs.Full.{found}
-use Rattle.block_recovery.specs.Decoded.{AreWithin, IsEnoughAt}
+use Rattle.block_recovery.specs.Decoded.{AreWithin}
 use Rattle.decoder.specs.Answered.{AnswerBy, Answers, Stand}
 use Rattle.block_recovery.specs.Received.{AreReceived}
 use Rattle.block_recovery.specs.Decoded.{AreInRange}
-use Rattle.block_recovery.proofs.Counts.{held_is}
 
 some_is : {V : Type 0} (o : Option V) → is_some o ≡ true → (v : V) × (o ≡ Some v)
 some_is None some = absurd (cc)
@@ -68,10 +66,6 @@ module _ (f : Fti) (at : ℕ → ℕ → Option (List ℕ)) (s : Stand f at) whe
     esi = λ b j y some. (stands b j y some).esi;
     count = λ b j y some. (stands b j y some).count;
   }
-
-  pub enough_where_full : IsValidFti f → AllFull f s.arrivals → (b : ℕ) → b < block_count f → IsEnoughAt f b (at b)
-  enough_where_full valid full b hb =
-      omega (arith, held_is f s.arrivals at b s.index s.within (omega (arith, counts f valid b hb)), leb-true _ _ (full b hb))
 
 -- and where it is only known that some symbols stand so
 pub within_of : (f : Fti) (at : ℕ → ℕ → Option (List ℕ)) → ∥ Stand f at ∥₁ → AreWithin f at

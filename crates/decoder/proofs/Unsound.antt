@@ -9,7 +9,7 @@ use Rattle.partition.proofs.Laws.{counts}
 use Rattle.reception.specs.Symbols.{Symbol, arrived_count, is_full, Solvable, FullSolvable, IsFirstUnsolvable}
 use Rattle.reception.specs.Within.{IsWithin}
 use Rattle.block_recovery.specs.Columns.{ColumnExplained}
-use Rattle.block_recovery.specs.Decoded.{AreWithin, AreRows, IsEnoughAt}
+use Rattle.block_recovery.specs.Decoded.{AreRows, IsEnoughAt}
 use Rattle.decoder.specs.Answered.{Stand}
 use Rattle.block_recovery.specs.Received.{IsIndex}
 use Rattle.decoder.specs.Unsolvable.{AreSound, IsSound, IsUnsound, SomeUnsound}
@@ -79,10 +79,6 @@ some_explain items f b at (Some v) rows some = rows_explain f b at (items v) row
 some_is : {V : Type 0} (o : Option V) → is_some o ≡ true → (v : V) × (o ≡ Some v)
 some_is None some = absurd (cc)
 some_is (Some v) some = (v, refl)
-
--- a block of which something came is one that the FTI has
-pub block_within : (f : Fti) (at : ℕ → ℕ → Option (List ℕ)) (b j : ℕ) → AreWithin f at → is_some (at b j) ≡ true → b < block_count f
-block_within f at b j within some = let w = some_is (at b j) some in within.block b j w.0 w.1
 
 -- where some numbers pass, one does
 one_passes : (t : ℕ → Bool) (n : ℕ) → 0 < length (filter t (below n)) → (j : ℕ) × (t j ≡ true)

@@ -1,5 +1,5 @@
 -- Frames of sent datagrams at their places: a run of them is written, and in the end all were sent.
-use Rattle.std.proofs.Common.{◌≡◌, ℕ, zero, suc, ◌+◌, ◌-◌, ◌<◌, ◌≤◌, ◌⊎◌, List, [], ◌∷◌, ◌++◌, Option, Some, None, Result, Ok, Err, length, map, get_or, take, refl, ap, sym, subst, ◌∙◌, inl, inr, arith, length-append, length-take, length-take-le}
+use Rattle.std.proofs.Common.{◌≡◌, ℕ, zero, suc, ◌+◌, ◌-◌, ◌<◌, ◌≤◌, ◌⊎◌, List, [], ◌∷◌, ◌++◌, Option, Some, None, Result, Ok, Err, length, map, get_or, take, refl, ap, sym, subst, ◌∙◌, inl, inr, arith, length-append, length-take-le}
 use Rattle.std.specs.Prelude.{flat_map, is_some, IfSome, OnOk, replicate}
 use Rattle.std.specs.Io.KnownBytes.{Appends}
 use Rattle.std.proofs.lemmas.Bool.{cases_lt, cases_eq}
@@ -46,14 +46,6 @@ has_room f every from count (Some xs) le is = omega (arith, le, is)
 pub as_long : (f : Fti) (every from : ℕ) (bytes : List ℕ) (old new : Option (List ℕ)) → HasRoomAt old from (length bytes) → Overwrites old new from bytes → IsAsLong f every old → IsAsLong f every new
 as_long f every from bytes None new room put is = rw put tt
 as_long f every from bytes (Some xs) new room put is = rw put (length-overwritten xs from bytes room ∙ is)
-
-pub resized_long : (f : Fti) (every : ℕ) (old new : Option (List ℕ)) → Resizes old new (offset_of f every (length (pairs Rounds f))) → IsAsLong f every new
-resized_long f every None new put = rw put tt
-resized_long f every (Some xs) new put =
-    let n : ℕ = offset_of f every (length (pairs Rounds f)) in
-    let long : length (take n xs ++ replicate (n - length xs) 0) ≡ n =
-    length-append (take n xs) (replicate (n - length xs) 0) ∙ omega (arith, length-take n xs, length-replicate {A = ℕ} (n - length xs) 0) in
-    rw put long
 
 pub resized_told : (n : ℕ) (old new : Option (List ℕ)) → Resizes old new n → is_some new ≡ is_some old
 resized_told n None new put = rw put refl

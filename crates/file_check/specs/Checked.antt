@@ -1,5 +1,5 @@
 -- Why a check of files tells no report.
-use Rattle.std.specs.Prelude.{◌≡◌, ℕ, Bool, true, false, List, Option, Some, ⊤}
+use Rattle.std.specs.Prelude.{◌≡◌, ℕ, Bool, List, Option, Some, None, ⊤}
 use Rattle.std.specs.Io.KnownBytes.{Consumes, IsAtEnd}
 use Rattle.partition.specs.Fti.{Fti}
 use Rattle.session.specs.Frames.{frames, AreDatagrams}
@@ -8,9 +8,9 @@ use Rattle.certificate.specs.Certificate.{Certificate}
 use Rattle.cert.specs.FromReader.{IsCheckedFrom}
 use Rattle.cert.specs.NotGiven.{IsFirstInBlock, IsNotGiven}
 use Rattle.cert.specs.Tallying.{IsTally, by_certificate, nothing}
+use Rattle.cert.specs.Verdict.{short_of}
 use Rattle.cert.specs.declared.tally.Tally.{Tally}
-use Rattle.cert.specs.declared.verdict.Reason.{Reason}
-use Rattle.cert.specs.declared.verdict.Reason.TheVariants.{NotObject, Thin}
+use Rattle.cert.specs.declared.verdict.Reason.TheVariants.{NotObject}
 use Rattle.cert.specs.declared.verdict.Verdict.TheVariants.{No}
 use Rattle.file_check.specs.declared.checking.Stop.{Stop}
 use Rattle.file_check.specs.declared.checking.Stop.TheVariants as stop
@@ -47,14 +47,9 @@ abbrev pub IsFrameStop : Bool → Stop → Type 0
 IsFrameStop reliable (stop.ByReason reason) = ⊤
 IsFrameStop reliable (stop.ByFault fault) = IsFaultOfFrames reliable fault
 
--- whether the reason is that a block is short
-abbrev pub is_thin : Reason → Bool
-is_thin (Thin b have need) = true
-is_thin _ = false
-
 -- no block is told as short before all datagrams are tallied
 abbrev pub IsEarlyStop : Stop → Type 0
-IsEarlyStop (stop.ByReason reason) = is_thin reason ≡ false
+IsEarlyStop (stop.ByReason reason) = short_of reason ≡ None
 IsEarlyStop (stop.ByFault fault) = ⊤
 
 -- the tally of all datagrams of a session, each of them as the certificate has it

@@ -11,9 +11,8 @@ ghost use Rattle.certificate.specs.InFile.{IsUnnamed};
 ghost use Rattle.cert.specs.Surveying.{IsSurveyedFrom};
 ghost use Rattle.cert.specs.Tallying.{tallied_of};
 ghost use Rattle.cert.specs.Verdict.{GivesObject};
-ghost use Rattle.cert.specs.declared.verdict.Reason.TheVariants.{Thin};
 ghost use Rattle.file_check.specs.Checked.{IsBlockStop, IsBlocksStop, IsCertificateStop};
-ghost use Rattle.file_check.specs.Checked.{IsEarlyStop, IsFrameStop, IsStop, is_thin};
+ghost use Rattle.file_check.specs.Checked.{IsEarlyStop, IsFrameStop, IsStop};
 ghost use Rattle.file_check.specs.Files.{IsCertificateFault, IsFilesFault, IsFaultOfFrames};
 ghost use Rattle.file_check.specs.Files.{IsNoCertificate, IsNoVerdict};
 ghost use Rattle.file_check.specs.Checked.{IsSomeTally, IsWholeTally};
@@ -378,7 +377,7 @@ fn twin_named<S: ReadAt, O: ReadAt, C: ReadAt>(
         Err(NoReport::Reason(reason)) => reason,
         Err(NoReport::NoMemory) => return Err(FilesFault::NoMemory),
     };
-    let Some((block, have, need)) = short_block(reason) else {
+    let Some((block, have, need)) = reason.short_block() else {
         return Ok((Verdict::No(reason), None));
     };
     let Ok(arrived_esis) = tally.esis(alloc, block) else {
@@ -392,27 +391,6 @@ fn twin_named<S: ReadAt, O: ReadAt, C: ReadAt>(
         arrived_esis,
     };
     Ok((Verdict::No(reason), Some(short)))
-}
-
-// The block that is too short, how many symbols it has and how many it needs, where that is the
-// reason.
-fn short_block(reason: Reason) -> Option<(u32, usize, usize)>
-    ensures some { IfSome result (λ t. reason ≡ Thin t.0 t.1 t.2) }
-    ensures none { IsNone result → is_thin reason ≡ false }
-{
-    match reason {
-        Reason::Thin { block, have, need } => Some((block, have, need)),
-        Reason::OtherCertificate
-        | Reason::ObjectLength
-        | Reason::NotObject { .. }
-        | Reason::Empty
-        | Reason::Packet(..)
-        | Reason::OtherFti(_)
-        | Reason::SymbolLength(_)
-        | Reason::Range(_)
-        | Reason::Symbol(..)
-        | Reason::NoCarrier => None,
-    }
 }
 
 // The files, where the certificate has a name.

@@ -1,4 +1,4 @@
--- Blocks whose symbols are read from a file again, and what is gathered of it.
+-- Blocks whose symbols are read from a file again, and what an index of it gives.
 use Rattle.std.specs.Prelude.{is_some, IfSome, IsNone, Result, Ok, Err, IfOk}
 use Rattle.std.specs.Option.{unwrap_or}
 use Rattle.std.specs.Borrow.{Bor}
@@ -12,15 +12,15 @@ use Rattle.session.specs.Frames.{IsFramed, AreDatagrams}
 use Rattle.reception.specs.declared.scope.Identity.{Identity}
 use Rattle.reception.specs.Answer.{IsAnswer}
 use Rattle.decoder.specs.Answers.{answer_value}
-use Rattle.file_decoder.specs.GatheringIn.{IsFileFault, IsIndexedIn}
+use Rattle.file_decoder.specs.IndexedIn.{IsFileFault, IsIndexedIn}
 use Rattle.file_decoder.specs.ReadAgain.{fault_of}
 use Rattle.file_decoder.specs.Indexing.{IsUnindexed, IsFaultAmong}
 use Rattle.decoder.specs.Sources.{IsUnreadOf}
 use Rattle.decoder.specs.declared.answer.Answer.TheVariants as answer
 use Rattle.block_recovery.specs.declared.fault.DecodeFault.{DecodeFault}
-use Rattle.file_decoder.specs.declared.file_gathering.FileFault.{FileFault}
-use Rattle.file_decoder.specs.declared.file_gathering.GatheredFile.{GatheredFile}
-use Rattle.file_decoder.specs.declared.file_gathering.GatheredFile.TheVariants as gathered
+use Rattle.file_decoder.specs.declared.indexed_file.FileFault.{FileFault}
+use Rattle.file_decoder.specs.declared.indexed_file.IndexedFile.{IndexedFile}
+use Rattle.file_decoder.specs.declared.indexed_file.IndexedFile.TheVariants as indexed_file
 use Rattle.file_decoder.specs.declared.indexing.Unindexed.{Unindexed}
 use Rattle.file_decoder.specs.declared.indexing.Unindexed.TheVariants as unindexed
 use Rattle.decoder.specs.declared.source.Unread.{Unread}
@@ -101,7 +101,7 @@ file_fault_of content reliable Told unread.NoMemory h told = tt
 
 -- the answer to the datagrams of a file that has a fault at a place
 pub fault_indexed : (who : Identity) (content : Option (List ℕ)) (reliable : Bool) (fault : Unindexed) (e : DecodeFault) → fault ≡ unindexed.Fault e → IsUnindexed content reliable fault
-    → ((x : List ℕ) (ds : List (List ℕ)) → content ≡ Some x → IsFramed ds x → IsFaultAmong who ds fault) → IsIndexedIn who content (gathered.Answer (answer.Fault e))
+    → ((x : List ℕ) (ds : List (List ℕ)) → content ≡ Some x → IsFramed ds x → IsFaultAmong who ds fault) → IsIndexedIn who content (indexed_file.Answer (answer.Fault e))
 fault_indexed who content reliable fault e is why among = (
   tt,
   told_if content (λ x. (ds : List (List ℕ)) × IsFramed ds x × IsAnswer who ds (answer_value (answer.Fault e)))
@@ -112,8 +112,8 @@ fault_indexed who content reliable fault e is why among = (
       (w.0, w.1, record { readings = readings_of w.0; read = readings w.0 w.2; answers = refused })),
 )
 
-pub told_indexed : (who : Identity) (content : Option (List ℕ)) (reliable : Bool) (fault : Unindexed) (r : Result GatheredFile FileFault)
-    → IfOk r (λ g. (e : DecodeFault) × (fault ≡ unindexed.Fault e) × (g ≡ gathered.Answer (answer.Fault e))) → IsUnindexed content reliable fault
+pub told_indexed : (who : Identity) (content : Option (List ℕ)) (reliable : Bool) (fault : Unindexed) (r : Result IndexedFile FileFault)
+    → IfOk r (λ g. (e : DecodeFault) × (fault ≡ unindexed.Fault e) × (g ≡ indexed_file.Answer (answer.Fault e))) → IsUnindexed content reliable fault
     → ((x : List ℕ) (ds : List (List ℕ)) → content ≡ Some x → IsFramed ds x → IsFaultAmong who ds fault) → IfOk r (IsIndexedIn who content)
 told_indexed who content reliable fault (Ok g) h why among = subst (IsIndexedIn who content) (sym h.2) (fault_indexed who content reliable fault h.0 h.1 why among)
 told_indexed who content reliable fault (Err e) h why among = tt

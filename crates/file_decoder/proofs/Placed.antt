@@ -22,7 +22,7 @@ use Rattle.block_recovery.specs.Decoded.{AreInRange}
 use Rattle.decoder.specs.Unsolvable.{HaveBytes, SomeUnsound}
 use Rattle.decoder.specs.Written.{IsVerdict, BeginsObject}
 use Rattle.decoder.specs.declared.answer.Answer.{Answer}
-use Rattle.file_decoder.specs.declared.file_gathering.FileSymbols.{FileSymbols}
+use Rattle.file_decoder.specs.declared.indexed_file.FileSymbols.{FileSymbols}
 use Rattle.file_decoder.specs.declared.file_source.Indexed.{Indexed}
 use Rattle.decoder.proofs.Answering.{stand_of}
 use Rattle.decoder.proofs.BytesOfSymbols.{have_bytes}

@@ -1,6 +1,6 @@
 pub mod InFile
 pub mod Indexing
-pub mod GatheringIn
+pub mod IndexedIn
 pub mod FileFaults
 pub mod PlacesOf
 pub mod ReadAgain

@@ -14,7 +14,7 @@ use Rattle.file_decoder.specs.InFile.{held_in, AreSymbolsIn}
 use Rattle.block_recovery.specs.Received.{AreReceived, came_at}
 use Rattle.block_recovery.specs.Decoded.{AreInRange}
 use Rattle.file_decoder.specs.declared.file_source.Indexed.{Indexed}
-use Rattle.file_decoder.specs.declared.file_gathering.FileSymbols.{FileSymbols}
+use Rattle.file_decoder.specs.declared.indexed_file.FileSymbols.{FileSymbols}
 use Rattle.session.specs.declared.extent.Extent.{Extent}
 
 -- what came of these datagrams of the file stands at its places

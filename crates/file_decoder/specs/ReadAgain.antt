@@ -1,7 +1,7 @@
 -- What isn't there when it is read again.
 use Rattle.session.specs.declared.frame.FrameFault.TheVariants as frame_fault
-use Rattle.file_decoder.specs.declared.file_gathering.FileFault.{FileFault}
-use Rattle.file_decoder.specs.declared.file_gathering.FileFault.TheVariants as file_fault
+use Rattle.file_decoder.specs.declared.indexed_file.FileFault.{FileFault}
+use Rattle.file_decoder.specs.declared.indexed_file.FileFault.TheVariants as file_fault
 use Rattle.decoder.specs.declared.source.Unread.{Unread}
 use Rattle.decoder.specs.declared.source.Unread.TheVariants as unread
 

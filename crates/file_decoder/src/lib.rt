@@ -4,13 +4,13 @@
 //!   the same block and ESI. `rereading` has these reads, and those of a block's symbols for
 //!   `file_source`.
 //! - `file_source` has the symbols of a file as a source for `decoder`.
-//! - `file_gathering`: the public calls. They give the places of symbols, and write the object
+//! - `indexed_file`: the public calls. They give the places of symbols, and write the object
 //!   block by block.
 #![tactic(auto)]
 
-mod file_gathering;
 mod file_source;
+mod indexed_file;
 mod indexing;
 mod rereading;
 
-pub use file_gathering::{FileFault, FileSymbols, FileWriteFault, GatheredFile, index_file};
+pub use indexed_file::{FileFault, FileSymbols, FileWriteFault, IndexedFile, index_file};

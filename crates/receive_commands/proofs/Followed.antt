@@ -39,12 +39,10 @@ use Rattle.commands.specs.Commands.{Outcome, answer_status, object_of}
 use Rattle.commands.specs.Following.{refusal_line, IsNotTaken, Comes, Come, IsHeard, IsHeardInPart, BringsCarrier, ends_text, Ends}
 use Rattle.commands.specs.Outcomes.{Makes, IsDone, IsMade, IsBecause, IsGivenUp, IsUnprinted, MayCreate, IsStopped}
 use Rattle.commands.specs.Doing.{IsUncommitted, IsUncreated, IsUndone}
-use Rattle.receive_commands.specs.Listening.{AreSaid, stopped_by, IsCreatedFor, IsFollowed, IsShort, IsFull, HasHeardSome, IsReceived, IsLacking, IsUnread, IsUnheard, IsHearing}
+use Rattle.receive_commands.specs.Listening.{AreSaid, stopped_by, IsCreatedFor, IsFollowed, IsShort, IsFull, HasHeardSome, IsLacking, IsUnread, IsUnheard, IsHearing}
 use Rattle.commands.specs.ReadingInputs.{IsFrameUnread}
 use Rattle.commands.specs.declared.fault.Fault.{Fault}
 use Rattle.commands.specs.declared.fault.Fault.TheVariants.{Open, File, Memory, Frame, Certificate, Fti, Send, NoPlace}
-use Rattle.commands.specs.declared.fault.Stop.{Stop}
-use Rattle.commands.specs.declared.fault.Stop.TheVariants.{ByFault}
 use Rattle.receive_commands.specs.declared.follow.Followed.{Followed}
 use Rattle.commands.specs.declared.output.Unwritten.{Unwritten}
 use Rattle.commands.specs.declared.output.Unwritten.TheVariants as unwritten
@@ -104,10 +102,6 @@ pub then_said : (old mid new : World) (lines line : List ℕ) (p q : Bool) → A
 then_said old mid new lines line p true first second all =
     then_appends old.printed mid.printed new.printed lines line (subst (AreSaid old mid lines) (all refl) first) second
 then_said old mid new lines line p false first second all = second
-
-pub unsaid : (old new : World) (lines : List ℕ) (p : Bool) → AreSaid old new lines p → p ≡ false → new.failed ≡ true
-unsaid old new lines true said is = absurd (cc)
-unsaid old new lines false said is = said
 
 -- a datagram that was refused, by what the receiver tells of each fault
 pub refused_by : (who : Identity) (taken : List (List ℕ)) (d : List ℕ) (refusal : FeedFault) → refusal ≢ feed.NoMemory
@@ -358,14 +352,6 @@ module _ {W : Type 0} {w : Ghosts W} (r : FollowRequest) (old : World) where
         (left, f.count, taken, heard, end, subst (λ (who : Identity). IsAnswer who taken (answer_value answer)) is.identity (answers taken stands))),
   )
 
-  pub ended_full : (mid : World) (left : Option (List ℕ)) (f : Followed W w) → IsFollowed r old mid f (IsShort r left f) → has_output f.receiver ≡ true
-      → ((ds : List (List ℕ)) → Stands f.receiver ds → LeaveNoneShort f.receiver.receiving.identity ds) → IsReceived r old mid f
-  ended_full mid left f is has all = (
-    has,
-    followed_then mid f (IsShort r left f) is (IsFull r f) (λ bytes (taken, stands, lacks, heard).
-        (left, taken, stands, subst (λ (who : Identity). LeaveNoneShort who taken) is.identity (all taken stands), heard)),
-  )
-
   -- no frame comes, or none can be read
   pub cut : (mid : World) (left rest : Option (List ℕ)) (failed : Bool) (f : Followed W w) → IsFollowed r old mid f (IsShort r left f) → (fault : Fault) → IsFrameUnread left rest failed fault
       → (fault ≡ Frame frame_fault.Io → MayFail old) → IsUnread r old mid f fault
@@ -516,17 +502,3 @@ module _ {W : Type 0} {w : Ghosts W} (r : FollowRequest) (old : World) where
             (said_still r old mid between lacking.1.lines true true silent refl (subst (λ (b : Bool). AreSaid old mid lacking.1.lines b) said lacking.1.said)) printed;
         is_status = refl;
       }
-
-      pub lack_untold : (stop : Stop) → f.said ≡ true → stop ≡ ByFault Memory → IsUndone old between (Follow r) stop
-      lack_untold stop said is = subst (λ (s : Stop). IsUndone old between (Follow r) s) (sym is) (
-        lacking.1.lines,
-        said_still r old mid between lacking.1.lines true true silent refl (subst (λ (b : Bool). AreSaid old mid lacking.1.lines b) said lacking.1.said),
-        stopped_behind mid f _ lacking.1 between kept lacking.1.lines
-            (holds_then old.files r.session.now _ _ (λ bytes (left, read, taken, heard, end, is). (left, read, taken, lacking.1.lines, heard, inl refl)) lacking.1.heard) Memory tt,
-      )
-
-      pub lack_unprinted : (new : World) → KeepsFiles between new → new.failed ≡ true → IsUnprinted old new (Follow r)
-      lack_unprinted new then failed = unprinted mid f _ lacking.1 new (keeps mid between new kept then) failed
-
-      pub lack_unsaid : f.said ≡ false → IsUnprinted old between (Follow r)
-      lack_unsaid said = unprinted mid f _ lacking.1 between kept (silent.failed ∙ unsaid old mid lacking.1.lines f.said lacking.1.said said)

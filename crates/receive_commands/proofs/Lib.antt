@@ -1,5 +1,5 @@
 mod Decoded
-mod DecodedFiles
+mod HeldFrames
 mod Showed
 mod Followed
 mod Delivered

@@ -1,40 +1,34 @@
 //! The command `decode`.
-ghost use Rattle.std.specs.Prelude.{◌≡◌, ◌≤◌, ◌++◌, ℕ, Bool, List, Option, Some, true, IfOk};
-ghost use Rattle.std.specs.Prelude.{IfErr, IfSome, IsNone, OnOk};
+ghost use Rattle.std.specs.Prelude.{◌≡◌, ◌≤◌, ◌++◌, ℕ, Bool, List, Option, Some, true};
+ghost use Rattle.std.specs.Prelude.{IfOk, IfErr, IfSome, IsNone, OnOk};
 ghost use Rattle.host.specs.World.{World, GivesFile};
-ghost use Rattle.file_decoder.specs.GatheringIn.{IsIndexedIn, IsFileFault};
+ghost use Rattle.file_decoder.specs.IndexedIn.{IsIndexedIn, IsFileFault};
 ghost use Rattle.file_decoder.specs.PlacesOf.{ArePlacedIn, ArePlacedOf};
-ghost use Rattle.file_decoder.specs.declared.file_gathering.GatheredFile.TheVariants.{Symbols};
+ghost use Rattle.file_decoder.specs.declared.indexed_file.IndexedFile.TheVariants.{Symbols};
 ghost use Rattle.commands.specs.Inputs.{ASession, IsUnread};
-ghost use Rattle.reception.specs.declared.scope.Identity.{Identity as IdentityValue};
 ghost use Rattle.request.specs.declared.requests.Request.TheVariants.{Decode};
 ghost use Rattle.decoder.specs.Answers.{answer_value};
 ghost use Rattle.block_recovery.specs.Faults.{fault_value};
 ghost use Rattle.decoder.specs.Gathering.{IsNoObject, IsWrittenOf};
 ghost use Rattle.reception.specs.Answer.{IsAnswer};
-ghost use Rattle.decoder.specs.SymbolsOf.{AreSymbolsOf, AreGathered};
 ghost use Rattle.commands.specs.Commands.{answer_status};
 ghost use Rattle.commands.specs.Doing.{HasMade, HasStopped};
-ghost use Rattle.receive_commands.specs.Decoding.{IsToldOf, GivesSymbols, IsWriteBroken};
-ghost use Rattle.receive_commands.specs.Decoding.{IsWriteBrokenFrom};
+ghost use Rattle.receive_commands.specs.Decoding.{IsToldOf, IsWriteBroken};
 ghost use Rattle.commands.specs.Lines.{line_of, answer_text};
 
+use crate::held::HeldFrames;
 use block_recovery::DecodeFault;
-use commands::{
-    Done, Fault, Text, Told, Unwritten, commit, create, open, put_packet_fault, session_in,
-};
-use decoder::{Answer, Gathered, ObjectSymbols, WriteFault, gather};
-use file_decoder::{FileFault, FileSymbols, FileWriteFault, GatheredFile, index_file};
+use commands::{Done, Fault, Text, Told, Unwritten, commit, create, open, put_packet_fault};
+use decoder::Answer;
+use file_decoder::{FileFault, FileSymbols, FileWriteFault, IndexedFile, index_file};
 use host::Host;
 use request::DecodeRequest;
-use session::Write;
 use std::alloc::{AllocError, Global};
 use streams::{ReadAt, WriteAt};
 
-/// Writes the object that the identity's packets in the session give, block by block. A pipe or a
-/// device is held, and all is looked at before the output is created. A file isn't held: the output
-/// is created where no datagram has a fault and no block is short, and given up where the symbols
-/// turn out to be of no object.
+/// Writes the object that the identity's packets in the session give, block by block. A session is
+/// held where it comes from a pipe or a device. The output is created where no datagram has a fault
+/// and no block is short, and given up where the symbols turn out to be of no object.
 pub fn decode<'a, H: Host>(
     alloc: Global,
     host: &mut H,
@@ -52,7 +46,7 @@ pub fn decode<'a, H: Host>(
     }
 }
 
-// What the session that an input gives decodes to.
+// What the session that an input gives decodes to: its frames are held, and decoded as a file is.
 fn decode_stream<'a, H: Host>(
     alloc: Global,
     host: &mut H,
@@ -66,31 +60,27 @@ fn decode_stream<'a, H: Host>(
     ensures fault { IfErr result
         (HasStopped (H.world host.old) (H.world host.new) (Decode request.now)) }
 {
-    let session = session_in(alloc, host, request.session, input)?;
-    let datagrams = session.views(alloc)?;
-    match gather(alloc, &datagrams, request.identity)? {
-        Gathered::Answer(answer) => Ok(told_of(alloc, &answer)?),
-        Gathered::Symbols(symbols) => deliver(alloc, host, request, &symbols),
-    }
+    let frames = HeldFrames::read(alloc, input)?;
+    decode_file(alloc, host, request, &frames)
 }
 
-// What a session file decodes to. It is read at offsets, so that it isn't held.
-fn decode_file<'a, H: Host>(
+// What a session decodes to that is read at offsets: a file, which isn't held, or held frames.
+fn decode_file<'a, H: Host, F: ReadAt>(
     alloc: Global,
     host: &mut H,
     request: &DecodeRequest<'a>,
-    input: &H::Input,
+    input: &F,
 ) -> Result<Done, Fault<'a>>
     requires { GivesFile (H.world host.old) request.now.session.now
-        (H.Input.content input.now) (H.Input.reliable input.now) }
+        (F.content input.now) (F.reliable input.now) }
     ensures ok { IfOk result
         (HasMade (H.world host.old) (H.world host.new) (Decode request.now)) }
     ensures fault { IfErr result
         (HasStopped (H.world host.old) (H.world host.new) (Decode request.now)) }
 {
     match index_file(alloc, input, request.identity) {
-        Ok(GatheredFile::Answer(answer)) => Ok(told_of(alloc, &answer)?),
-        Ok(GatheredFile::Symbols(symbols)) => deliver_from(alloc, host, request, input, &symbols),
+        Ok(IndexedFile::Answer(answer)) => Ok(told_of(alloc, &answer)?),
+        Ok(IndexedFile::Symbols(symbols)) => deliver(alloc, host, request, input, &symbols),
         Err(fault) => Err(file_fault(request.session, fault)),
     }
 }
@@ -110,16 +100,16 @@ fn file_fault<'a>(session: &'a str, fault: FileFault) -> Fault<'a>
 
 // Writes the object whose symbols stand in a file. Where they turn out to be of none, the output is
 // given up.
-fn deliver_from<'a, H: Host>(
+fn deliver<'a, H: Host, F: ReadAt>(
     alloc: Global,
     host: &mut H,
     request: &DecodeRequest<'a>,
-    input: &H::Input,
+    input: &F,
     symbols: &FileSymbols,
 ) -> Result<Done, Fault<'a>>
     requires file { GivesFile (H.world host.old) request.now.session.now
-        (H.Input.content input.now) (H.Input.reliable input.now) }
-    requires symbols { IsIndexedIn request.now.identity (H.Input.content input.now)
+        (F.content input.now) (F.reliable input.now) }
+    requires symbols { IsIndexedIn request.now.identity (F.content input.now)
         (Symbols symbols.now) }
     ensures ok { IfOk result
         (HasMade (H.world host.old) (H.world host.new) (Decode request.now)) }
@@ -129,7 +119,7 @@ fn deliver_from<'a, H: Host>(
     let mut file = create(host, &request.output)?;
     let name = request.output.name;
     let failure = Fault::File(name);
-    match write_object_from(alloc, request.session, input, symbols, &mut file) {
+    match write_object(alloc, request.session, input, symbols, &mut file) {
         Ok(None) => {
             let length = commit(host, name, file, Ok(symbols.transfer_length()), failure)?;
             Ok(Done::counted("object", length, " bytes"))
@@ -147,7 +137,7 @@ fn deliver_from<'a, H: Host>(
 
 // Writes the object, as long as the symbols are of one; else answers what the session's datagrams
 // give. What is written straight stays written, so all symbols are looked at before.
-fn write_object_from<'a, F: ReadAt, W: WriteAt>(
+fn write_object<'a, F: ReadAt, W: WriteAt>(
     alloc: Global,
     session: &'a str,
     input: &F,
@@ -166,7 +156,7 @@ fn write_object_from<'a, F: ReadAt, W: WriteAt>(
         IsAnswer symbols.now.indexed.identity ds (answer_value a))) }
     ensures none { IfOk result (λ o. IfSome o IsNoObject) }
     ensures fault { (world : World) → GivesFile world session.now (F.content input.now)
-        (F.reliable input.now) → IfErr result (IsWriteBrokenFrom world session.now) }
+        (F.reliable input.now) → IfErr result (IsWriteBroken world session.now) }
     ensures writing { IfErr result (λ e. e ≡ Unwritten.Writing
         → W.failed writer.new ≡ true) }
 {
@@ -194,47 +184,6 @@ pub(crate) fn told_of(alloc: Global, answer: &Answer) -> Result<Done, AllocError
         told: Told::Lines(answer_line(alloc, answer)?),
         status: status_of(answer),
     })
-}
-
-// Writes the object.
-fn deliver<'a, H: Host>(
-    alloc: Global,
-    host: &mut H,
-    request: &DecodeRequest<'a>,
-    symbols: &ObjectSymbols<'_>,
-) -> Result<Done, Fault<'a>>
-    requires { GivesSymbols (H.world host.old).files request.now symbols.now }
-    ensures ok { IfOk result
-        (HasMade (H.world host.old) (H.world host.new) (Decode request.now)) }
-    ensures fault { IfErr result
-        (HasStopped (H.world host.old) (H.world host.new) (Decode request.now)) }
-{
-    let mut file = create(host, &request.output)?;
-    let written = write_object(alloc, symbols, &mut file);
-    let failure = Fault::File(request.output.name);
-    let length = commit(host, request.output.name, file, written, failure)?;
-    Ok(Done::counted("object", length, " bytes"))
-}
-
-// Answers the object's length in bytes.
-fn write_object<'a, W: Write>(
-    alloc: Global,
-    symbols: &ObjectSymbols<'_>,
-    writer: &mut W,
-) -> Result<u64, Unwritten<'a>>
-    requires { AreGathered symbols.now }
-    ensures written { (who : IdentityValue) (ds : List (List ℕ))
-        → AreSymbolsOf who ds symbols.now
-        → IfOk result (IsWrittenOf who ds (W.contents writer.old) (W.contents writer.new)) }
-    ensures fault { IfErr result IsWriteBroken }
-    ensures writing { IfErr result (λ e. e ≡ Unwritten.Writing
-        → W.failed writer.new ≡ true) }
-{
-    match symbols.write(alloc, writer) {
-        Ok(length) => Ok(length),
-        Err(WriteFault::Io) => Err(Unwritten::Writing),
-        Err(WriteFault::NoMemory) => Err(Unwritten::Fault(Fault::Memory)),
-    }
 }
 
 fn status_of(answer: &Answer) -> u8

@@ -165,9 +165,6 @@ module _ (d : List ℕ) (old new : Scope) (p : ReadPacket) (look : IsLook d old 
   pub in_block : p.sbn < block_count f
   in_block = ltb-true _ _ (both _ _ range).0
 
-  pub in_esis : p.esi < encoding_count f p.sbn
-  in_esis = ltb-true _ _ (both _ _ range).1
-
   -- the FTI that was known is the one that is
   pub fti_was : (h : Fti) → old.fti ≡ Some h → h ≡ f
   fti_was h e =

@@ -15,7 +15,7 @@ use Rattle.reception.specs.Symbols.{Symbol, is_full, arrived_count, AllFull, Ful
 use Rattle.reception.specs.Reception.{asked}
 use Rattle.reception.specs.Walks.{readings_of}
 use Rattle.reception.specs.Within.{IsWithin}
-use Rattle.reception.specs.Answer.{Empty, Missing, Object, IsAnswer, clash, reception_of}
+use Rattle.reception.specs.Answer.{Missing, Object, IsAnswer, clash, reception_of}
 use Rattle.reception.specs.Answer as value
 use Rattle.reception.proofs.OneAnswer.{one_answer, same_readings}
 use Rattle.reception.proofs.Within.{within}
@@ -199,10 +199,6 @@ module _ (r : Receiving) (told : Fti → Option (ℕ → List ℕ)) (ds : List (
   no_fti e =
       keeps_none told _ _ (subst (λ (o : Option Store). Keeps o told (reception_of r.identity (readings_of ds)).scope.fti (reception_of r.identity (readings_of ds)).symbols) e stands.symbols)
 
-  -- no carrier came where there is no store
-  pub empty_taken : r.store ≡ None → IsAnswer r.identity ds Empty
-  empty_taken e = record { readings = readings_of ds; read = stands.read; answers = (stands.clean, no_fti e) }
-
   -- what leaves no block short, by the readings that are computed
   pub here_full : (h : LeaveNoneShort r.identity ds)
       → ((reception_of r.identity (readings_of ds)).scope.fti ≡ Some h.fti) × AllFull h.fti (reception_of r.identity (readings_of ds)).symbols
@@ -261,14 +257,6 @@ module _ (r : Receiving) (told : Fti → Option (ℕ → List ℕ)) (ds : List (
         let full : AllFull store.fti (reception_of r.identity (readings_of ds)).symbols = subst (λ (f : Fti). AllFull f (reception_of r.identity (readings_of ds)).symbols) same (here_full none).1 in
         let x = full s.block first.in_range in
         let y = first.short in
-        absurd (cc)
-
-    -- nor is there an object where a block is short
-    pub short_no_object : IsValidFti store.fti → (s : Short) → ((bytes : ℕ → List ℕ) (at : ℕ → ℕ → Option (List ℕ)) → Holds store bytes at → IsShort store.fti at s)
-        → (object : List ℕ) → IsAnswer r.identity ds (Object object) → ⊥
-    short_no_object valid s short object answer =
-        let e = one_answer r.identity ds (Missing s.block s.have s.need) (Object object)
-        (store_taken (Missing s.block s.have s.need) (λ bytes at holds. missing_answers store valid bytes at holds s (short bytes at holds))) answer in
         absurd (cc)
 
     module _ (valid : IsValidFti store.fti) (all : AllSolved store) (bytes : ℕ → List ℕ) (known : told store.fti ≡ Some bytes) where

@@ -1,4 +1,4 @@
--- A session whose datagrams are dropped, and the places of a file.
+-- A session whose datagrams are dropped.
 use Rattle.std.proofs.Common.{◌≡◌, ◌++◌, ◌∷◌, [], ℕ, Bool, List, Option, Some, None, Result, Err, IfErr, length, inl, inr, sym, subst}
 use Rattle.std.specs.Borrow.{Bor}
 use Rattle.streams.specs.Changes.{ReaderChange}
@@ -7,15 +7,14 @@ use Rattle.session.specs.Thinning.{IsUnthinned}
 use Rattle.session.specs.declared.range.PlaceRange.{PlaceRange}
 use Rattle.session.specs.declared.frame.FrameFault.{FrameFault}
 use Rattle.session.specs.declared.frame.FrameFault.TheVariants.{CutLength, CutDatagram, TooLong, Io, NoMemory, NoSuchPlace}
-use Rattle.request.specs.Places.{AreRanges, IsFirstWrong, words_of}
 use Rattle.request.specs.declared.requests.DropRequest.{DropRequest}
 use Rattle.request.specs.declared.requests.Request.TheVariants.{Drop}
-use Rattle.host.specs.World.{Files, World, Holds}
+use Rattle.host.specs.World.{Files, World}
 use Rattle.commands.specs.declared.fault.Fault.{Fault}
 use Rattle.commands.specs.declared.fault.Fault.TheVariants.{Open, File, Memory, Frame, Certificate, Fti, Send, NoPlace}
 use Rattle.commands.specs.declared.output.Unwritten.{Unwritten}
 use Rattle.commands.specs.declared.output.Unwritten.TheVariants as unwritten
-use Rattle.commands.specs.Inputs.{AnObject, ASession, AStream, APlaces, Value, Bytes, Datagrams, Opened, Places, HasValue, HaveValues, IsUnread, IsFirstUnread}
+use Rattle.commands.specs.Inputs.{ASession, AStream, Value, Datagrams, Opened, Places, HasValue, HaveValues, IsUnread, IsFirstUnread}
 use Rattle.commands.specs.Commands.{place_inputs, Outcome, Gives, GivesOthers, IsUnhadPlace}
 use Rattle.send_commands.specs.Copying.{IsCutShort}
 use Rattle.commands.specs.Doing.{HasStopped}
@@ -24,28 +23,6 @@ use Rattle.commands.specs.Outcomes.{IsBecause, MayCreate}
 use Rattle.send_commands.proofs.Joins.{LacksPlace, unthinned}
 use Rattle.commands.proofs.Stopping.{by_unread, by_refused, stopped}
 use Rattle.commands.proofs.Holding.{is_there}
-
--- ---- a file of places
-
-pub holds_places : (files : Option Files) (name text : List ℕ) (ranges : List PlaceRange) → HasValue files (AnObject name) (Bytes text) → AreRanges (words_of text) ranges
-    → HasValue files (APlaces name) (Places ranges)
-holds_places None name text ranges holds are = tt
-holds_places (Some held) name text ranges (bytes, there, is) are = (bytes, there, subst (λ (b : List ℕ). AreRanges (words_of b) ranges) (sym is) are)
-
-pub holds_wrong : (files : Option Files) (name text : List ℕ) (count : ℕ) (word : List ℕ) → HasValue files (AnObject name) (Bytes text) → IsFirstWrong (words_of text) count word
-    → Holds files name (λ bytes. (word : List ℕ) × IsFirstWrong (words_of bytes) count word)
-holds_wrong None name text count word holds wrong = tt
-holds_wrong (Some held) name text count word (bytes, there, is) wrong = (bytes, there, (word, subst (λ (b : List ℕ). IsFirstWrong (words_of b) count word) (sym is) wrong))
-
-pub unread_places : (w : World) (name : List ℕ) (fault : Fault) → IsUnread w (AnObject name) fault → IsUnread w (APlaces name) fault
-unread_places w name (Open n) why = why
-unread_places w name (File n) why = why
-unread_places w name Memory why = tt
-unread_places w name (Frame e) why = absurd why
-unread_places w name (Certificate e) why = absurd why
-unread_places w name (Fti e) why = absurd why
-unread_places w name (Send e) why = absurd why
-unread_places w name (NoPlace n) why = absurd why
 
 -- ---- inputs, with the file of places or without one
 

@@ -1,5 +1,5 @@
 use Rattle.std.proofs.Common.{◌∙◌, ℕ, map, sym}
-use Rattle.alcrs_c.proofs.Twins.{thin_of}
+use Rattle.cert.proofs.ShortReasons.{thin_of}
 use Rattle.alcrs_c.proofs.twin.twin_in.Goals as goal
 
 pub returns-in-Ok-twin-clause-twin : goal.returns-in-Ok-twin-clause-twin

@@ -4,7 +4,8 @@ use Rattle.request.specs.declared.requests.Request.TheVariants.{Check}
 use Rattle.commands.specs.Doing.{HasStopped}
 use Rattle.commands.specs.declared.fault.Fault.{Fault}
 use Rattle.file_check.specs.Files.{IsVerdictIn}
-use Rattle.check_commands.specs.Checks.{OfFiles, fault_of}
+use Rattle.check_commands.specs.Checks.{OfFiles}
+use Rattle.check_commands.specs.FileFaults.{fault_of}
 use Rattle.check_commands.specs.Summing.{CanBeSummed}
 use Rattle.check_commands.proofs.CheckedFiles.{each_summed, each_surveyed_summed, of_made, of_refused, surveyed_of_files, unchecked, verdict_of_files}
 use Rattle.check_commands.proofs.check.verdict_in.Goals as goal
@@ -41,8 +42,8 @@ returns-in-Err-checked-clause-fault g c =
     (elim c.if-is_some.branch [
       | then-is_some b ↦ (let is = sym b.checked-is ∙ c.in-Err-checked.is in let files = b.survey_files-checked.ensures in
           unchecked w r _ _ _ _ _ _ c.requires.session c.requires.object c.requires.certificate e (rw is at files.certificate) (rw is at files.frame) (rw is at files.fault))
-      | else-is_some+in-Ok-Some b ↦ of_refused (λ fault. HasStopped w w (Check r) (fault_of r fault)) _ _ e c.in-Err-checked.is b.checked-is tt
-      | else-is_some+in-Ok-None b ↦ of_refused (λ fault. HasStopped w w (Check r) (fault_of r fault)) _ _ e c.in-Err-checked.is b.checked-is tt
-      | else-is_some+in-Err b ↦ of_refused (λ fault. HasStopped w w (Check r) (fault_of r fault)) _ _ e c.in-Err-checked.is b.checked-is
+      | else-is_some+in-Ok-Some b ↦ of_refused (λ fault. HasStopped w w (Check r) (fault_of r.session r.object fault)) _ _ e c.in-Err-checked.is b.checked-is tt
+      | else-is_some+in-Ok-None b ↦ of_refused (λ fault. HasStopped w w (Check r) (fault_of r.session r.object fault)) _ _ e c.in-Err-checked.is b.checked-is tt
+      | else-is_some+in-Err b ↦ of_refused (λ fault. HasStopped w w (Check r) (fault_of r.session r.object fault)) _ _ e c.in-Err-checked.is b.checked-is
           (unchecked w r _ _ _ _ _ _ c.requires.session c.requires.object c.requires.certificate _ (rw b.in-Err.is at b.check_files.ensures.certificate) (rw b.in-Err.is at b.check_files.ensures.frame) (rw b.in-Err.is at b.check_files.ensures.fault))
     ])

@@ -1,10 +1,10 @@
-use Rattle.std.proofs.Common.{◌≡◌, [], Some, false, refl}
+use Rattle.std.proofs.Common.{[], Some, false, refl, sym}
 use Rattle.certificate.specs.Certificate.{IsCertificate}
 use Rattle.certificate.specs.Certificate.{named_in}
 use Rattle.cert.specs.Tallying.{by_certificate}
-use Rattle.cert.specs.declared.verdict.Reason.TheVariants.{Thin}
 use Rattle.cert.specs.declared.walk.NoReport.TheVariants.{Reason as ByReason}
 use Rattle.cert.proofs.FromReader.{no_report, yes_from}
+use Rattle.cert.proofs.ShortReasons.{thin_of}
 use Rattle.losses.specs.Groups.{groups_of}
 use Rattle.file_check.proofs.Twins.{is_short, short_found, twins_made}
 use Rattle.file_check.proofs.checking.twin_named.Goals as goal
@@ -52,7 +52,7 @@ returns-clause-twins g c = λ x o text sx so st. (
     let w = c.in-Ok.ensures.tally x o text sx so st in
     let given = c.in-Ok.ensures.given x o text sx so st in
     let valid : IsCertificate z = (rw st at c.args.files.now.certificate.named).0 in
-    let thin : c.in-Err-Reason.reason ≡ Thin c.in-Some.block c.in-Some.have c.in-Some.need = c.in-Some.ensures.some in
+    let thin = thin_of c.in-Err-Reason.reason (c.in-Some.block, c.in-Some.have, c.in-Some.need) (sym c.in-Some.ensures) in
     let short = is_short (groups_of c.in-Ok.tally.groups) c.in-Err-Reason.reason c.in-Some.block c.in-Some.have c.in-Some.need thin (rw c.in-Err-Reason.field-0-is at c.in-Err-Reason.ensures.short) in
     let against = rw (w.identity, c.in-Err-Reason.field-0-is) at (c.in-Err-Reason.ensures.no_report z w.datagrams w.tallied) in
     twins_made who x o z valid given.0 given.1 given.2 c.in-Ok.tally w c.in-Err-Reason.reason c.in-Some.block c.in-Some.have c.in-Some.need thin short against
@@ -66,7 +66,7 @@ returns-clause-twins g c = λ x o text sx so st. (
 
 pub returns-clause-short : goal.returns-clause-short
 returns-clause-short g c =
-    let thin : c.in-Err-Reason.reason ≡ Thin c.in-Some.block c.in-Some.have c.in-Some.need = c.in-Some.ensures.some in
+    let thin = thin_of c.in-Err-Reason.reason (c.in-Some.block, c.in-Some.have, c.in-Some.need) (sym c.in-Some.ensures) in
     let short = is_short (groups_of c.in-Ok.tally.groups) c.in-Err-Reason.reason c.in-Some.block c.in-Some.have c.in-Some.need thin (rw c.in-Err-Reason.field-0-is at c.in-Err-Reason.ensures.short) in
     short_found c.args.identity c.args.files.now.certificate.fti c.in-Ok.tally c.in-Ok.ensures.some c.in-Err-Reason.reason c.in-Some.block c.in-Some.have c.in-Some.need thin short
     (record {

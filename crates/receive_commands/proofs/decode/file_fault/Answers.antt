@@ -1,4 +1,4 @@
-use Rattle.receive_commands.proofs.DecodedFiles.{changed, frame_unread}
+use Rattle.receive_commands.proofs.Decoded.{changed, frame_unread}
 use Rattle.receive_commands.proofs.decode.file_fault.Goals as goal
 
 pub returns-in-Frame : goal.returns-in-Frame

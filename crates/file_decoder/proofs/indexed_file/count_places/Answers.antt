@@ -9,7 +9,7 @@ use Rattle.reception.specs.Walks.{readings_of}
 use Rattle.reception.specs.Answer.{clash}
 use Rattle.reception.proofs.Within.{within}
 use Rattle.decoder.specs.Answers.{answer_value}
-use Rattle.file_decoder.specs.declared.file_gathering.FileSymbols.{FileSymbols}
+use Rattle.file_decoder.specs.declared.indexed_file.FileSymbols.{FileSymbols}
 use Rattle.decoder.specs.Answered.{Answers}
 use Rattle.file_decoder.specs.PlacesOf.{AreIndexedOf, ArePlacedIn, ArePlacedOf}
 use Rattle.file_decoder.specs.InFile.{held_in, AllStandIn}
@@ -18,7 +18,7 @@ use Rattle.file_decoder.proofs.FromFile.{told_is, told_if, enough_same, some_any
 use Rattle.decoder.proofs.GatheredSymbols.{answer_of}
 use Rattle.file_decoder.proofs.Placed.{indexed_bytes, indexed_stand, placed_framed}
 use Rattle.decoder.proofs.Unsound.{full_of_enough}
-use Rattle.file_decoder.proofs.file_gathering.count_places.Goals as goal
+use Rattle.file_decoder.proofs.indexed_file.count_places.Goals as goal
 
 pub invariant_of-coded : goal.invariant_of-coded
 invariant_of-coded g c =

@@ -1,8 +1,8 @@
 use Rattle.std.proofs.Common.{sym, subst}
-use Rattle.file_decoder.specs.GatheringIn.{IsFileFault}
-use Rattle.file_decoder.specs.declared.file_gathering.FileFault.{FileFault}
-use Rattle.receive_commands.proofs.DecodedFiles.{again_fault}
-use Rattle.receive_commands.proofs.decode.write_object_from.Goals as goal
+use Rattle.file_decoder.specs.IndexedIn.{IsFileFault}
+use Rattle.file_decoder.specs.declared.indexed_file.FileFault.{FileFault}
+use Rattle.receive_commands.proofs.Decoded.{again_fault}
+use Rattle.receive_commands.proofs.decode.write_object.Goals as goal
 
 pub returns-in-Err-clause-fault : goal.returns-in-Err-clause-fault
 returns-in-Err-clause-fault g c = λ world given.

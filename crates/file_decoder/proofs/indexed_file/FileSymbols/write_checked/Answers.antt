@@ -2,7 +2,7 @@ use Rattle.std.proofs.Common.{sym}
 use Rattle.reception.specs.Answer as value
 use Rattle.decoder.specs.Answers.{answer_value}
 use Rattle.file_decoder.proofs.Placed.{indexed_bytes, indexed_stand, placed_answer, placed_begun, placed_enough, placed_none_unsound, placed_of, placed_range}
-use Rattle.file_decoder.proofs.file_gathering.FileSymbols.write_checked.Goals as goal
+use Rattle.file_decoder.proofs.indexed_file.FileSymbols.write_checked.Goals as goal
 
 pub invariant_of-coded : goal.invariant_of-coded
 invariant_of-coded g c =

@@ -4,7 +4,7 @@ use Rattle.reception.specs.Answer as value
 use Rattle.reception.specs.Answer.{IsAnswer}
 use Rattle.reception.specs.Walks.{readings_of}
 use Rattle.file_decoder.proofs.FromFile.{told_if, if_told, readings, told_indexed}
-use Rattle.file_decoder.proofs.file_gathering.index_file.Goals as goal
+use Rattle.file_decoder.proofs.indexed_file.index_file.Goals as goal
 
 pub returns-in-Ok-None-clause-indexed : goal.returns-in-Ok-None-clause-indexed
 returns-in-Ok-None-clause-indexed g c =

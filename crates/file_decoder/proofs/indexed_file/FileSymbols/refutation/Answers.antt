@@ -1,5 +1,5 @@
 use Rattle.file_decoder.proofs.Placed.{indexed_bytes, indexed_stand, placed_enough, placed_object, placed_of, placed_range, placed_refuted}
-use Rattle.file_decoder.proofs.file_gathering.FileSymbols.refutation.Goals as goal
+use Rattle.file_decoder.proofs.indexed_file.FileSymbols.refutation.Goals as goal
 
 pub invariant_of-coded : goal.invariant_of-coded
 invariant_of-coded g c =

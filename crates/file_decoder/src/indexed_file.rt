@@ -4,10 +4,10 @@ ghost use Rattle.std.specs.Prelude.{◌≡◌, ◌<◌, ℕ, List, Some, true, I
 ghost use Rattle.std.specs.Prelude.{Bool, Option, IfSome, IsNone};
 ghost use Rattle.session.specs.Frames.{AppendsSome, IsFramed};
 ghost use Rattle.reception.specs.Answer.{Object, IsAnswer};
-ghost use Rattle.file_decoder.specs.GatheringIn.{IsFileFault};
+ghost use Rattle.file_decoder.specs.IndexedIn.{IsFileFault};
 ghost use Rattle.file_decoder.specs.PlacesOf.{ArePlacedIn, ArePlacedOf};
 ghost use Rattle.decoder.specs.Answers.{answer_value};
-ghost use Rattle.file_decoder.specs.GatheringIn.{IsFileWriteFault, IsIndexedIn};
+ghost use Rattle.file_decoder.specs.IndexedIn.{IsFileWriteFault, IsIndexedIn};
 ghost use Rattle.file_decoder.specs.PlacesOf.{AreIndexedOf};
 ghost use Rattle.file_decoder.specs.Indexing.{IsUnindexed};
 ghost use Rattle.decoder.specs.Gathering.{IsNoObject, IsWrittenOf};
@@ -38,7 +38,7 @@ pub struct FileSymbols {
 
 /// What a session file gives.
 #[derive(Drop)]
-pub enum GatheredFile {
+pub enum IndexedFile {
     /// No object.
     Answer(Answer),
     /// The places of symbols, enough of each block.
@@ -87,7 +87,7 @@ impl From<Unread> for FileFault {
 
 impl From<AllocError> for FileFault {
     ghost use Rattle.std.specs.Prelude.{◌≡◌};
-    ghost use Rattle.file_decoder.specs.declared.file_gathering.FileFault.TheVariants.{NoMemory};
+    ghost use Rattle.file_decoder.specs.declared.indexed_file.FileFault.TheVariants.{NoMemory};
 
     ghost from_gives = { λ _ fault. fault ≡ NoMemory };
 
@@ -97,15 +97,15 @@ impl From<AllocError> for FileFault {
 }
 
 // What a pass over the file answers where it has found no places.
-fn told_of(fault: Unindexed) -> Result<GatheredFile, FileFault>
+fn told_of(fault: Unindexed) -> Result<IndexedFile, FileFault>
     ensures answer { IfOk result (λ g. (e : DecodeFaultValue) × (fault ≡ Unindexed.Fault e)
-        × (g ≡ GatheredFile.Answer (Answer.Fault e))) }
+        × (g ≡ IndexedFile.Answer (Answer.Fault e))) }
     ensures fault { (content : Option (List ℕ)) (reliable : Bool)
         → IsUnindexed content reliable fault → IfErr result (IsFileFault content reliable) }
 {
     match fault {
         Unindexed::Frame(fault) => Err(FileFault::Frame(fault)),
-        Unindexed::Fault(fault) => Ok(GatheredFile::Answer(Answer::Fault(fault))),
+        Unindexed::Fault(fault) => Ok(IndexedFile::Answer(Answer::Fault(fault))),
         Unindexed::Again(unread) => Err(FileFault::from(unread)),
     }
 }
@@ -115,7 +115,7 @@ fn count_places<F: ReadAt>(
     alloc: Global,
     file: &F,
     indexed: Indexed,
-) -> Result<GatheredFile, FileFault>
+) -> Result<IndexedFile, FileFault>
     requires range { (held : ExtentValue → List ℕ)
         → AreInRange indexed.fti (came_at held indexed.symbols) }
     requires told { (x : List ℕ) → F.content file.now ≡ Some x → (ds : List (List ℕ))
@@ -134,8 +134,8 @@ fn count_places<F: ReadAt>(
         codes: &codes,
     };
     match short_verdict(alloc, &coded)? {
-        Some(answer) => Ok(GatheredFile::Answer(answer)),
-        None => Ok(GatheredFile::Symbols(FileSymbols { indexed, codes })),
+        Some(answer) => Ok(IndexedFile::Answer(answer)),
+        None => Ok(IndexedFile::Symbols(FileSymbols { indexed, codes })),
     }
 }
 
@@ -149,13 +149,13 @@ pub fn index_file<F: ReadAt>(
     alloc: Global,
     file: &F,
     identity: Identity,
-) -> Result<GatheredFile, FileFault>
+) -> Result<IndexedFile, FileFault>
     ensures indexed { IfOk result (IsIndexedIn identity (F.content file.now)) }
     ensures fault { IfErr result (IsFileFault (F.content file.now) (F.reliable file.now)) }
 {
     let fti = match find_fti(alloc, file, identity) {
         Ok(Some(fti)) => fti,
-        Ok(None) => return Ok(GatheredFile::Answer(Answer::Empty)),
+        Ok(None) => return Ok(IndexedFile::Answer(Answer::Empty)),
         Err(fault) => return told_of(fault),
     };
     match index(alloc, file, identity, fti) {
