@@ -3,7 +3,7 @@ use Rattle.std.specs.Prelude.{◌≡◌, ℕ, List, Some, None, ⊤}
 use Rattle.session.specs.Frames.{StopsAt}
 use Rattle.reception.specs.declared.scope.Identity.{Identity}
 use Rattle.certificate.specs.Certificate.{Certificate, text_fault}
-use Rattle.cert.specs.Verdict.{IsVerdict}
+use Rattle.cert.specs.Verdict.{IsVerdict, short_of}
 use Rattle.cert.specs.declared.verdict.Report.{Report}
 use Rattle.cert.specs.declared.verdict.Verdict.TheVariants.{Yes, No as SaysNo}
 use Rattle.alcrs_c.specs.Twinned.{IsJudged}
