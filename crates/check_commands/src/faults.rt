@@ -7,7 +7,7 @@ use file_check::FilesFault;
 
 /// The fault, by the names of the session and of the object.
 pub(crate) fn files_fault<'a>(session: &'a str, object: &'a str, fault: FilesFault) -> Fault<'a>
-    ensures { result ≡ fault_of session object fault }
+    ensures { result ≡ fault_of session.entry object.entry fault }
 {
     match fault {
         FilesFault::Frame(fault) => Fault::Frame(fault),
