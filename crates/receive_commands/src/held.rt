@@ -20,7 +20,8 @@ impl HeldFrames {
             IfSome (R.remaining reader.old) (λ left. left ≡ held.bytes.items)) }
         ensures fault { IfErr result (λ e.
             IsSessionFault e (R.remaining reader.old) (R.failed reader.new)) }
-        ensures unsound { IfErr result (λ e. e ≡ FrameFault.Io → R.sound reader.old ≡ false) }
+        ensures unsound { IfErr result (λ e.
+            e ≡ FrameFault.Io → R.sound reader.old ≡ false) }
     {
         let mut frames = Sink::new(alloc);
         let mut room = Vec::new(alloc);
