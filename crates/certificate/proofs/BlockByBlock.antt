@@ -137,12 +137,6 @@ module _ (f : Fti) (valid : IsValidFti f) where
       gained = then_appends before after last done.rows r done.gained wrote;
     }
 
-    -- there is no room for it
-    pub no_room_for : (room rest : ℕ) → room ≤ rest + start_of f n * f.symbol_length → rest < source_count f n * f.symbol_length → IfSome left (λ x. room < length x)
-    no_room_for room rest enough short =
-        to_some left (λ x least. omega (arith, least, enough, short, done.told_count, t_long, length-append done.told t))
-        (much_read left there (done.told ++ t) (then_consumes left here there done.told t done.consumed read))
-
   -- too few bytes come
   pub cut_block : (name : Option Identity) (n : ℕ) (left here before after : Option (List ℕ)) → Converts name f n left here before after → n < block_count f
       → IfSome here (λ x. length x < source_count f n * f.symbol_length) → IfSome left (λ x. length x ≢ coefficient_count f)

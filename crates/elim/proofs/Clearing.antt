@@ -6,7 +6,7 @@ use Rattle.gf256.specs.FieldLaws.{IsField}
 use Rattle.elim.specs.Matrices.{AreElements, identity_entry}
 use Rattle.elim.specs.Steps.{IsSwapped, IsRowSet, System, SameSolutions, HasUnitColumns}
 use Rattle.elim.proofs.Sums.{sum_same}
-use Rattle.elim.proofs.Elimination.{system, transposed_entry, IsReduced, equal_refl, equal_then, swapped_equal, scaled_equal, added_equal, swapped_cleared, scaled_cleared, added_cleared, one_more_cleared}
+use Rattle.elim.proofs.Elimination.{system, transposed_entry, IsReduced, equal_then, swapped_equal, scaled_equal, added_equal, swapped_cleared, scaled_cleared, added_cleared}
 use Rattle.elim.specs.Squares.{AreInverseSquares}
 
 -- both systems have the same solutions, the columns before p are kept, and the entry at p, p is one
@@ -49,9 +49,6 @@ module _ {F : Type 0} (element : F → Type 0) (add mul : F → F → F) (none o
         here = tw.here p lp ∙ ap (mul c) (sw.first p lp) ∙ field.mul_comm c (w q p) ec ed ∙ e;
       }
 
-  pub clearing_none : (k p : ℕ) (w r : ℕ → ℕ → F) → w p p ≡ one → IsClearedTo element add mul none one k p 0 w r w r
-  clearing_none k p w r e = record { equal = equal_refl element add mul none one field k w r; kept = λ u. u; here = e; gone = λ a la ne. absurd (omega arith) }
-
   pub clearing_passed : (k p i : ℕ) (w r w2 r2 : ℕ → ℕ → F) → i ≡ p → IsClearedTo element add mul none one k p i w r w2 r2 → IsClearedTo element add mul none one k p (i + 1) w r w2 r2
   clearing_passed k p i w r w2 r2 e h = record { equal = h.equal; kept = h.kept; here = h.here; gone = λ a la ne. h.gone a (omega arith) ne }
 
@@ -70,9 +67,6 @@ module _ {F : Type 0} (element : F → Type 0) (add mul : F → F → F) (none o
           | inr other ↦ (let below : a < i = omega arith in let inside : a < k = omega arith in sw.others a p inside lp other ∙ h.gone a below na)
         ];
       }
-
-  pub clearing_all : (k p : ℕ) (w r w2 r2 : ℕ → ℕ → F) → IsClearedTo element add mul none one k p k w r w2 r2 → ClearsColumn element add mul none one k p (system w r) (system w2 r2)
-  clearing_all k p w r w2 r2 h = record { equal = h.equal; more = λ u. one_more_cleared element add mul none one field k p w2 (h.kept u) h.here h.gone }
 
   pub step_then : (k p : ℕ) (w r w2 r2 w3 r3 : ℕ → ℕ → F) → IsNormalized element add mul none one k p (system w r) (system w2 r2) → ClearsColumn element add mul none one k p (system w2 r2) (system w3 r3) → ClearsColumn element add mul none one k p (system w r) (system w3 r3)
   step_then k p w r w2 r2 w3 r3 a b = record { equal = equal_then element add mul none one field k w r w2 r2 w3 r3 a.equal b.equal; more = λ u. b.more (a.kept u) }

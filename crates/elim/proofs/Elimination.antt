@@ -1,6 +1,6 @@
 -- Elimination: each step on the rows of two matrices keeps the solutions of one system of
 -- equations.
-use Rattle.std.specs.Prelude.{◌≡◌, ◌≢◌, ◌<◌, ◌≤◌, ◌+◌, ℕ, refl, cond, nat_lt}
+use Rattle.std.specs.Prelude.{◌≡◌, ◌≢◌, ◌<◌, ◌≤◌, ℕ, refl, cond, nat_lt}
 use Rattle.std.proofs.Common.{◌∙◌, sym, ap, arith, inl, inr}
 use Rattle.std.proofs.lemmas.Bool.{cases_eq, cases_lt}
 use Rattle.std.proofs.lemmas.Bool.Decides.{nat_tests}
@@ -33,9 +33,6 @@ swapped_back k a b old new s = record {
 }
 
 module _ {F : Type 0} (element : F → Type 0) (add mul : F → F → F) (none one : F) (field : IsField element add mul none one) where
-  pub equal_refl : (k : ℕ) (w r : ℕ → ℕ → F) → SameSolutions element add mul none k (system w r) (system w r)
-  equal_refl k w r = record { there = record { to = λ x z ex ez h. h }; back = record { to = λ x z ex ez h. h } }
-
   pub equal_then : (k : ℕ) (w r w2 r2 w3 r3 : ℕ → ℕ → F) → SameSolutions element add mul none k (system w r) (system w2 r2) → SameSolutions element add mul none k (system w2 r2) (system w3 r3) → SameSolutions element add mul none k (system w r) (system w3 r3)
   equal_then k w r w2 r2 w3 r3 a b = record {
     there = record { to = λ x z ex ez h. b.there.to x z ex ez (a.there.to x z ex ez h) };
@@ -196,18 +193,6 @@ module _ {F : Type 0} (element : F → Type 0) (add mul : F → F → F) (none o
               ∙ field.add_zero (identity_entry none one q j) (unit_element element add mul none one field q j)))
           | inr ne ↦ s.others i j li lj2 ne ∙ u.at i j li lj
         ];
-  }
-
-  -- a column whose entries are those of the identity is one more
-  pub one_more_cleared : (k p : ℕ) (w : ℕ → ℕ → F) → HasUnitColumns none one k p w → w p p ≡ one → ((i : ℕ) → i < k → i ≢ p → w i p ≡ none) → HasUnitColumns none one k (p + 1) w
-  one_more_cleared k p w u here others = record {
-    at = λ i j li lj. elim (cases_eq j p) [
-      | inl e ↦ rw e (elim (cases_eq i p) [
-        | inl e2 ↦ rw e2 (here ∙ sym (unit_here none one p p refl))
-        | inr ne ↦ others i li ne ∙ sym (unit_there none one i p ne)
-      ])
-      | inr ne ↦ (let below : j < p = omega arith in u.at i j li below)
-    ];
   }
 
   -- at the beginning nothing is cleared

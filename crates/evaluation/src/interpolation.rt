@@ -2,7 +2,7 @@
 ghost use Rattle.std.specs.Prelude.{◌≡◌, ◌<◌, ◌≤◌, ◌*◌, length};
 ghost use Rattle.evaluation.specs.Coefficients.{AreCoefficients};
 
-use crate::values::{Coefficients, Points, write_values};
+use crate::values::{Coefficients, Points, write_by_transform};
 
 /// How many points there are: all elements but 0.
 const POINTS: usize = 255;
@@ -32,5 +32,5 @@ pub fn coefficients(rows: &mut [u8], k: usize, values: &[u8], width: usize)
         k: POINTS,
         width,
     };
-    write_values(rows, &points, &values);
+    write_by_transform(rows, &points, &values);
 }

@@ -66,25 +66,16 @@ pub fn evaluate(
         k,
         width,
     };
-    write_values(symbols, &points, &coefficients);
-}
-
-/// Makes row j of `symbols` the values at point j.
-pub(crate) fn write_values(symbols: &mut [u8], points: &Points, coefficients: &Coefficients<'_>)
-    requires { length symbols.old ≡ points.now.count * coefficients.now.width }
-    ensures { AreSums coefficients.now.bytes.now coefficients.now.k coefficients.now.width
-        points.now.first points.now.step points.now.count symbols.new }
-{
-    let products = points.count * coefficients.k;
+    let products = n * k;
     if products <= MOST_PRODUCTS {
         write_by_products(
             symbols,
-            points,
-            coefficients,
+            &points,
+            &coefficients,
             &mut [0u8; MOST_PRODUCTS][..products],
         );
     } else {
-        write_by_transform(symbols, points, coefficients);
+        write_by_transform(symbols, &points, &coefficients);
     }
 }
 
@@ -114,8 +105,13 @@ fn write_by_products(
     add_products(symbols, count, powers, bytes, k, width, width);
 }
 
-// By the values at all elements, of 64 columns at a time.
-fn write_by_transform(symbols: &mut [u8], points: &Points, coefficients: &Coefficients<'_>)
+/// Makes row j of `symbols` the values at point j, by those at all elements, of 64 columns at a
+/// time.
+pub(crate) fn write_by_transform(
+    symbols: &mut [u8],
+    points: &Points,
+    coefficients: &Coefficients<'_>,
+)
     requires { length symbols.old ≡ points.now.count * coefficients.now.width }
     ensures { AreSums coefficients.now.bytes.now coefficients.now.k coefficients.now.width
         points.now.first points.now.step points.now.count symbols.new }
@@ -126,42 +122,10 @@ fn write_by_transform(symbols: &mut [u8], points: &Points, coefficients: &Coeffi
     for t in 0..width.div_ceil(LANES) {
         let at = LANES * t;
         let used = LANES.min(width - at);
-        write_columns(
-            symbols,
-            points,
-            coefficients,
-            &multiples,
-            &mut tile,
-            at,
-            used,
-        );
+        load(&mut tile, coefficients, at);
+        transform(&mut tile, &multiples, exponent(coefficients.k));
+        store(symbols, points, width, &tile, at, used);
     }
-}
-
-// The values in some columns.
-fn write_columns(
-    symbols: &mut [u8],
-    points: &Points,
-    coefficients: &Coefficients<'_>,
-    multiples: &Multiples,
-    tile: &mut [u8x64; 256],
-    at: usize,
-    used: usize,
-)
-    requires narrow { used ≤ 64 }
-    requires columns { at + used ≤ coefficients.now.width }
-    requires symbols { length symbols.old ≡ points.now.count * coefficients.now.width }
-    ensures within { (j t : ℕ) → j < points.now.count → t < used
-        → slice_index symbols.new (j * coefficients.now.width + (at + t))
-        ≡ sum_at coefficients.now.bytes.now coefficients.now.k coefficients.now.width
-        (at + t) (points.now.first + j * points.now.step) }
-    ensures before { (j c : ℕ) → c < at
-        → slice_index symbols.new (j * coefficients.now.width + c)
-        ≡ slice_index symbols.old (j * coefficients.now.width + c) }
-{
-    load(tile, coefficients, at);
-    transform(tile, multiples, exponent(coefficients.k));
-    store(symbols, points, coefficients.width, tile, at, used);
 }
 
 // The exponent of two of how many coefficients the transform takes for k: the least of 64, 128 and

@@ -43,11 +43,11 @@ pub(crate) fn put_lanes(bytes: &mut [u8], at: usize, v: u8x64)
     v.copy_to_slice(&mut bytes[at..]);
 }
 
-// The bytes from a place on where they are fewer than 64, zeros past the end. It stands apart from
-// its callers, whose loops are laid out in full only if they are short.
+/// The bytes from a place on where they are fewer than 64, zeros past the end. It stands apart from
+/// its callers, whose loops are laid out in full only if they are short.
 #[cold]
 #[inline(never)]
-fn last_lanes(bytes: &[u8], at: usize) -> u8x64
+pub(crate) fn last_lanes(bytes: &[u8], at: usize) -> u8x64
     requires some { at ≤ length bytes.now }
     requires few { length bytes.now < at + 64 }
     ensures { (t : ℕ) → t < 64 → slice_index result t ≡ slice_index bytes.now (at + t) }
@@ -58,20 +58,6 @@ fn last_lanes(bytes: &[u8], at: usize) -> u8x64
         last[t] = bytes[at + t];
     }
     u8x64::from_array(last)
-}
-
-/// The bytes from a place on, zeros past the end.
-#[inline(always)]
-pub(crate) fn lanes_from(bytes: &[u8], at: usize) -> u8x64
-    ensures { (t : ℕ) → t < 64 → slice_index result t ≡ slice_index bytes.now (at + t) }
-{
-    if at >= bytes.len() {
-        return u8x64::splat(0);
-    }
-    if bytes.len() - at >= LANES {
-        return lanes_at(bytes, at);
-    }
-    last_lanes(bytes, at)
 }
 
 /// Adds the first lanes to the bytes from a place on.

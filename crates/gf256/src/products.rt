@@ -271,29 +271,6 @@ fn takes_fours(coefficients: &Coefficients<'_>, width: usize) -> bool {
     coefficients.rows < least || coefficients.count <= FEW_SOURCES
 }
 
-// Adds to each row the products of its coefficients and all sources, by tables of sums: of five
-// sources each where many outputs share a table of many sources.
-fn add_by_tables(outputs: &mut [u8], coefficients: &Coefficients<'_>, sources: &Sources<'_>)
-    requires count { sources.now.count ≡ coefficients.now.count }
-    requires outputs { length outputs.old ≡ coefficients.now.rows * sources.now.width }
-    ensures { (r j : ℕ) → r < coefficients.now.rows → j < sources.now.width
-        → slice_index outputs.new (r * sources.now.width + j)
-        ≡ sum_of (slice_index outputs.old (r * sources.now.width + j))
-        (byte_sum coefficients.now.count (λ i. product
-        (slice_index coefficients.now.bytes.now (r * coefficients.now.count + i))
-        (source_byte sources.now i j))) }
-{
-    if takes_fours(coefficients, sources.width) {
-        let mut table = Aligned::new([0u8; 16384]);
-        let tiling = Tiling::fours(16);
-        add_by_groups(outputs, coefficients, sources, &mut table.value, tiling);
-    } else {
-        let mut table = Aligned::new([0u8; 26624]);
-        let tiling = Tiling::fives(13);
-        add_by_groups(outputs, coefficients, sources, &mut table.value, tiling);
-    }
-}
-
 // A single row, product by product: a table for one output costs more than it saves.
 fn add_one(output: &mut [u8], coefficients: &[u8], sources: &Sources<'_>)
     requires count { sources.now.count ≡ length coefficients.now }
@@ -341,12 +318,21 @@ pub fn add_products(
     };
     if rows == 1 {
         add_one(outputs, coefficients, &sources);
+        return;
+    }
+    let coefficients = Coefficients {
+        bytes: coefficients,
+        rows,
+        count,
+    };
+    // Sums of five sources each where many outputs share a table of many sources.
+    if takes_fours(&coefficients, width) {
+        let mut table = Aligned::new([0u8; 16384]);
+        let tiling = Tiling::fours(16);
+        add_by_groups(outputs, &coefficients, &sources, &mut table.value, tiling);
     } else {
-        let coefficients = Coefficients {
-            bytes: coefficients,
-            rows,
-            count,
-        };
-        add_by_tables(outputs, &coefficients, &sources);
+        let mut table = Aligned::new([0u8; 26624]);
+        let tiling = Tiling::fives(13);
+        add_by_groups(outputs, &coefficients, &sources, &mut table.value, tiling);
     }
 }

@@ -2,7 +2,7 @@
 ghost use Rattle.std.specs.Prelude.{◌≡◌, ℕ, ◌<◌, ◌≤◌, ◌+◌, ◌-◌, ◌*◌, ◌^◌, List, length};
 ghost use Rattle.std.specs.Prelude.{slice_index};
 
-use crate::lanes::lanes_from;
+use crate::lanes::{LANES, lanes_at, last_lanes};
 use std::simd::prelude::*;
 
 /// `count` rows of `width` bytes, each of which begins `stride` bytes after the one before it. Past
@@ -43,7 +43,14 @@ impl<'a> Sources<'a> {
         if i >= self.count {
             return u8x64::splat(0);
         }
-        lanes_from(self.bytes, i * self.stride + at)
+        let from = i * self.stride + at;
+        if from >= self.bytes.len() {
+            return u8x64::splat(0);
+        }
+        if self.bytes.len() - from >= LANES {
+            return lanes_at(self.bytes, from);
+        }
+        last_lanes(self.bytes, from)
     }
 
     /// `count` sources from the first of them on.

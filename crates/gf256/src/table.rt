@@ -24,36 +24,7 @@ fn put_with(table: &mut [u8], at: usize, have: usize, v: u8x64)
     }
 }
 
-// The sums of every choice of the sources of group `q`, in the entries from a place on.
-#[inline(always)]
-fn put_sums(
-    table: &mut [u8],
-    place: usize,
-    sources: &Sources<'_>,
-    tiling: Tiling,
-    q: usize,
-    at: usize,
-)
-    requires columns { at ≤ sources.now.width }
-    requires inside { q < tiling.groups }
-    requires room { 64 * (place + tiling.entries) ≤ length table.old }
-    ensures sums { (p t : ℕ) → p < tiling.entries → t < 64
-        → entry_byte table.new (place + p) t ≡ choice_sum tiling.size p (λ x.
-        below sources.now.count (q + x * tiling.groups)
-        (source_byte sources.now (q + x * tiling.groups) (at + t))) }
-    ensures below { (p t : ℕ) → p < place → t < 64
-        → entry_byte table.new p t ≡ entry_byte table.old p t }
-{
-    put_lanes(table, LANES * place, u8x64::splat(0));
-    let mut have = 1;
-    for x in 0..tiling.size {
-        let v = sources.lanes(q + x * tiling.groups, at);
-        put_with(table, place, have, v);
-        have *= 2;
-    }
-}
-
-// The sums of each group.
+// The sums of every choice of each group's sources.
 #[inline(always)]
 fn put_groups(table: &mut [u8], sources: &Sources<'_>, tiling: Tiling, at: usize)
     requires columns { at ≤ sources.now.width }
@@ -62,7 +33,14 @@ fn put_groups(table: &mut [u8], sources: &Sources<'_>, tiling: Tiling, at: usize
     ensures length { length table.new ≡ length table.old }
 {
     for q in 0..tiling.groups {
-        put_sums(table, q * tiling.entries, sources, tiling, q, at);
+        let place = q * tiling.entries;
+        put_lanes(table, LANES * place, u8x64::splat(0));
+        let mut have = 1;
+        for x in 0..tiling.size {
+            let v = sources.lanes(q + x * tiling.groups, at);
+            put_with(table, place, have, v);
+            have *= 2;
+        }
     }
 }
 

@@ -3,7 +3,7 @@ use Rattle.std.specs.Prelude.{◌||◌, slice_get, count_by}
 use Rattle.std.specs.Option.{option_to_list}
 use Rattle.std.specs.List.{list_any}
 use Rattle.std.specs.Set.{is_member}
-use Rattle.std.proofs.Common.{◌≡◌, ◌<◌, ◌∙◌, ◌+◌, ◌-◌, ℕ, suc, Bool, true, false, List, [], ◌∷◌, ◌++◌, length, get_or, Option, Some, None, Err, refl, sym, ap, arith, append_assoc}
+use Rattle.std.proofs.Common.{◌≡◌, ◌<◌, ◌∙◌, ◌+◌, ◌-◌, ℕ, suc, Bool, true, false, List, [], ◌∷◌, ◌++◌, length, get_or, Some, None, Err, refl, sym, ap, arith, append_assoc}
 use Rattle.std.proofs.lemmas.List.{append-nil, map-append, get_or_push, get_or_append_left, length-map, length_push}
 use Rattle.std.proofs.lemmas.List.Concat.{flat_map-append}
 use Rattle.std.proofs.lemmas.List.Folds.{list_any-append}
@@ -92,14 +92,6 @@ pub count_push : (f : Fti) (ftis : List Fti) (x : Fti) → count_by (same_fti f)
 count_push f ftis x =
     let last : 0 + cond (same_fti f x) 1 0 ≡ cond (same_fti f x) 1 0 = omega arith in
     sum_by-append (λ (g : Fti). cond (same_fti f g) 1 0) ftis (x ∷ []) ∙ ap (λ (n : ℕ). count_by (same_fti f) ftis + n) last
-
-module _ (ftis : List Fti) (f x : Fti) (first : slice_get ftis 0 ≡ Some f) where
-  pub first_stays : slice_get (ftis ++ x ∷ []) 0 ≡ Some f
-  first_stays = go ftis first
-    where
-      go : (gs : List Fti) → slice_get gs 0 ≡ Some f → slice_get (gs ++ x ∷ []) 0 ≡ Some f
-      go [] is = absurd (cc)
-      go (g ∷ gs) is = is
 
 module _ (ftis : List Fti) (x : Fti) (none : slice_get ftis 0 ≡ None) where
   pub first_now : Some x ≡ slice_get (ftis ++ x ∷ []) 0

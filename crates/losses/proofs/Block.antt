@@ -220,7 +220,3 @@ module _ (b k t last : ℕ) (ps : List Number) (small : AllByRecursion HasByteEs
       let n = taken_count b (is_among (doomed b t last ps)) ps in
       let e = ap (λ (xs : List ℕ). length xs) doomed_taken in
       omega (arith, n, e, cut)
-
-  pub some_cost : k ≤ length (present b ps) → 1 ≤ cost b t last ps
-  some_cost enough =
-      some_total (copies b ps) (cheap b t last ps) (filter_all (λ j. 1 ≤ copies b ps j) (is_cheap (copies b ps) t last) (present b ps) (some_copies b ps)) (omega (arith, cut, enough))

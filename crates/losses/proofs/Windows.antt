@@ -1,7 +1,7 @@
 -- What is left outside a window of members.
 use Rattle.std.proofs.Common.{◌≡◌, ℕ, zero, suc, ◌+◌, ◌-◌, ◌<◌, ◌≤◌, ◌⊎◌, Bool, true, false, cond, List, get_or, set, get_or-set_same, get_or-set_other, take, drop, nat_lt, ◌==◌, [], ◌∷◌, length, refl, ap, sym, ◌∙◌, arith, inl, inr}
 use Rattle.std.specs.Prelude.{filter, count_by}
-use Rattle.std.proofs.lemmas.List.Sums.{sum_by-cons, sum_by-take-drop, sum_by_more, sum_by-drop_more, count_by-le-length}
+use Rattle.std.proofs.lemmas.List.Sums.{sum_by-cons, sum_by-take-drop, sum_by_more, sum_by-drop_more}
 use Rattle.std.proofs.lemmas.Bool.{lt-ltb, le-ltb, ltb-true, ltb-false, eqb-true, eq-eqb}
 use Rattle.losses.proofs.Filled.{same_count}
 use Rattle.losses.proofs.Runs.{filter_fewer}
@@ -65,13 +65,6 @@ module _ (qs : List Member) where
 
   pub start_step : (x y j : ℕ) → x < length qs → outside qs (x + 1) y j ≡ outside qs x y j + cond (has_esi j (get_or qs x (member 0 0))) 1 0
   start_step x y j l = let e = sum_by_more (λ z. cond (has_esi j z) 1 0) qs x (member 0 0) l in omega (arith, e)
-
-  pub outside-le-length : (x y j : ℕ) → x ≤ y → outside qs x y j ≤ length qs
-  outside-le-length x y j l =
-      let a = count_take_le (has_esi j) x y qs l in
-      let b = all_count (has_esi j) y qs in
-      let c = count_by-le-length (has_esi j) qs in
-      omega (arith, a, b, c)
 
   pub nothing_lost : (x : ℕ) → different_outside qs x x ≡ different_outside qs 0 0
   unfolding different_outside

@@ -1,7 +1,7 @@
 -- An FTI is known of a list exactly where a carrier is in it.
 use Rattle.std.specs.Prelude.{◌≡◌, ℕ, ◌+◌, true, false, ◌&&◌, ◌||◌, cond, List, [], ◌∷◌, ◌++◌, is_some, Option, Some, None, Ok, Err, refl}
 use Rattle.std.specs.List.{list_any}
-use Rattle.std.proofs.Common.{◌∙◌, sym, ap}
+use Rattle.std.proofs.Common.{◌∙◌, ap}
 use Rattle.partition.specs.Fti.{Fti}
 use Rattle.alc.specs.Reading.{Reading}
 use Rattle.reception.specs.declared.scope.Identity.{Identity}
@@ -31,9 +31,6 @@ known_is who rs = known_from who 0 rs
 
 pub carrier_known : (who : Identity) (rs : List Reading) → list_any (is_carrier who) rs ≡ true → (f : Fti) × ((scope_from (asked who) (counted who rs)).fti ≡ Some f)
 carrier_known who rs h = known_some (scope_from (asked who) (counted who rs)).fti (known_is who rs ∙ h)
-
-pub known_carrier : (who : Identity) (rs : List Reading) (f : Fti) → (scope_from (asked who) (counted who rs)).fti ≡ Some f → list_any (is_carrier who) rs ≡ true
-known_carrier who rs f h = sym (known_is who rs) ∙ ap (λ (o : Option Fti). is_some o) h
 
 pub no_carrier : (who : Identity) (rs : List Reading) → list_any (is_carrier who) rs ≡ false → (scope_from (asked who) (counted who rs)).fti ≡ None
 no_carrier who rs h = none_of (scope_from (asked who) (counted who rs)).fti (known_is who rs ∙ h)

@@ -1,34 +1,14 @@
 -- Ranges, by their first places, gone over place by place.
-use Rattle.std.specs.Prelude.{Bool, true, false, ◌&&◌, ◌||◌, nat_lt, nat_le, max, Option, Some}
-use Rattle.std.proofs.Common.{◌≡◌, ◌<◌, ◌≤◌, ◌+◌, ℕ, suc, List, [], ◌∷◌, length, length-drop, take, drop, get_or, cond, refl, sym, ap, subst, ◌∙◌, arith}
+use Rattle.std.specs.Prelude.{Bool, true, false, ◌&&◌, ◌||◌, nat_lt, nat_le}
+use Rattle.std.proofs.Common.{◌≡◌, ◌<◌, ◌≤◌, ◌+◌, ℕ, suc, List, [], ◌∷◌, length, length-drop, take, drop, get_or, refl, sym, ap, subst, ◌∙◌, arith}
 use Rattle.std.specs.List.Sorted.{IsPermutation}
 use Rattle.std.proofs.lemmas.List.{take-append-drop, get_or-drop}
-use Rattle.std.proofs.lemmas.List.Folds.{list_any-append, list_any_more}
+use Rattle.std.proofs.lemmas.List.Folds.{list_any-append}
 use Rattle.std.proofs.lemmas.List.Sorted.{list_any-IsPermutation}
-use Rattle.std.proofs.lemmas.Bool.{le-leb, lt-leb}
-use Rattle.std.proofs.lemmas.Bool.Decides.{nat_tests}
-use Rattle.std.proofs.Math.Seq.{drop-cons}
-use Rattle.session.specs.Ranges.{has_place, is_in_some, first_unhad}
+use Rattle.std.proofs.lemmas.Bool.{lt-leb}
+use Rattle.session.specs.Ranges.{has_place, is_in_some}
 use Rattle.session.specs.RangeSteps.{AreByFirst, HaveSamePlaces, HaveBegun}
 use Rattle.session.specs.declared.range.PlaceRange.{PlaceRange}
-
--- ---- the first place outside
-
--- of a range that the list doesn't have whole, in front
-pub unhad_here : (len i : ℕ) (ranges : List PlaceRange) (d : PlaceRange) → i < length ranges → len ≤ (get_or ranges i d).last
-    → first_unhad len (drop i ranges) ≡ Some (max len (get_or ranges i d).first)
-unhad_here len i ranges d l h =
-    ap (λ (rs : List PlaceRange). first_unhad len rs) (drop-cons ranges i d l)
-    ∙ ap (λ (v : Bool). cond {A = Option ℕ} v (Some (max len (get_or ranges i d).first)) (first_unhad len (drop (suc i) ranges))) (le-leb len (get_or ranges i d).last h)
-
--- of one that it has
-pub unhad_later : (len i : ℕ) (ranges : List PlaceRange) (d : PlaceRange) → i < length ranges → (get_or ranges i d).last < len
-    → first_unhad len (drop i ranges) ≡ first_unhad len (drop (i + 1) ranges)
-unhad_later len i ranges d l h =
-    let e : suc i ≡ i + 1 = omega arith in
-    ap (λ (rs : List PlaceRange). first_unhad len rs) (drop-cons ranges i d l)
-    ∙ ap (λ (v : Bool). cond {A = Option ℕ} v (Some (max len (get_or ranges i d).first)) (first_unhad len (drop (suc i) ranges))) (lt-leb len (get_or ranges i d).last h)
-    ∙ ap (λ (n : ℕ). first_unhad len (drop n ranges)) e
 
 -- ---- a sorted copy
 
@@ -43,21 +23,6 @@ none_begun ranges rising = record {
   within = omega arith;
   none = λ e. refl;
   over = λ q l. refl;
-}
-
-one_more : (k last q first other : ℕ) → first ≤ q → (k ≡ 0 → last ≡ 0) → ((nat_lt 0 k && nat_le q last) || (nat_le first q && nat_le q other)) ≡ (nat_lt 0 (k + 1) && nat_le q (max last other))
-one_more k last q first other l none = grind (arith, nat_tests)
-
-pub begun_more : (ranges : List PlaceRange) (k last place : ℕ) (d : PlaceRange) → HaveBegun ranges k last place → k < length ranges → (get_or ranges k d).first ≤ place
-    → HaveBegun ranges (k + 1) (max last (get_or ranges k d).last) place
-begun_more ranges k last place d h l begins = record {
-  rising = h.rising;
-  within = omega arith;
-  none = λ e. absurd (omega arith);
-  over = λ q above.
-      list_any_more (λ range. has_place range q) ranges k d l
-      ∙ ap (λ (v : Bool). v || has_place (get_or ranges k d) q) (h.over q above)
-      ∙ one_more k last q (get_or ranges k d).first (get_or ranges k d).last (omega arith) h.none;
 }
 
 -- a place before all of the ranges

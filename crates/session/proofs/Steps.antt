@@ -265,17 +265,6 @@ module _ (r p : ℕ) (ended : List Bool) (new : List (Option (List ℕ))) (lists
           rw (get_or-set_other ended p i true true n, get_or-set_other new p i left None n) (in_round.behind i (omega (arith, k))));
     }
 
-  -- the reader at this place has ended before
-  pub turn_passed : get_or ended p true ≡ true → IsInRound r (p + 1) ended new lists
-  turn_passed e = record {
-    before = λ i k. elim (same_or_not i p) [
-      | inl same ↦ subst (λ n. IsAfterRounds (r + 1) (get_or ended n true) (get_or new n None) (get_or lists n [])) (sym same)
-          (ended_later r (r + 1) (get_or ended p true) (get_or new p None) (get_or lists p []) e (omega arith) (in_round.behind p (omega arith)))
-      | inr n ↦ in_round.before i (omega (arith, k, n))
-    ];
-    behind = λ i k. in_round.behind i (omega (arith, k));
-  }
-
   -- the round is over
   pub next_round : length ended ≤ p → IsInRound (r + 1) 0 ended new lists
   next_round l = record {

@@ -1,10 +1,10 @@
 -- Pieces that are read and written one behind the other.
-use Rattle.std.proofs.Common.{◌≡◌, ℕ, ◌+◌, ◌-◌, ◌≤◌, List, [], ◌++◌, Option, Some, None, take, drop, length, refl, sym, ap, subst, ◌∙◌, arith, append_assoc, length-append, length-drop}
+use Rattle.std.proofs.Common.{◌≡◌, ℕ, ◌+◌, ◌-◌, ◌≤◌, List, ◌++◌, Option, Some, None, take, drop, length, refl, sym, ap, ◌∙◌, arith, append_assoc, length-append, length-drop}
 use Rattle.std.proofs.lemmas.List.{drop-drop, drop-take, drop_all, length-take-le, take-append-drop, take-take}
-use Rattle.std.proofs.Math.Seq.{take-add, take-append_seam, take-append-add, drop-append-add}
+use Rattle.std.proofs.Math.Seq.{take-add, take-append_seam, drop-append-add}
 use Rattle.std.specs.Option.{option_map}
 use Rattle.std.specs.Io.KnownBytes.{Consumes, IsAtEnd}
-use Rattle.streams.specs.Offsets.{StandsAt, EndsBy, HasRoomAt, overwritten, Overwrites, OverwritesSome}
+use Rattle.streams.specs.Offsets.{StandsAt, EndsBy, HasRoomAt, overwritten, Overwrites}
 
 -- bytes that stand one behind the other
 pub joined : (content : Option (List ℕ)) (offset : ℕ) (a b : List ℕ) (n : ℕ) → n ≡ length a → StandsAt content offset a → StandsAt content (offset + n) b → StandsAt content offset (a ++ b)
@@ -41,11 +41,6 @@ module _ (xs : List ℕ) (offset : ℕ) (a : List ℕ) (room : offset + length a
       ∙ append_assoc (take offset xs) a (b ++ drop (offset + length (a ++ b)) xs)
       ∙ ap (λ (l : List ℕ). take offset xs ++ l) (sym (append_assoc a b (drop (offset + length (a ++ b)) xs)))
 
--- nothing is written
-pub none_overwritten : (a : Option (List ℕ)) (offset : ℕ) → Overwrites a a offset []
-none_overwritten None offset = refl
-none_overwritten (Some xs) offset = let e : offset + 0 ≡ offset = omega arith in ap Some (sym (ap (λ (m : ℕ). take offset xs ++ drop m xs) e ∙ take-append-drop offset xs))
-
 -- one piece behind the other
 pub then_overwrites : (a b c : Option (List ℕ)) (offset n : ℕ) (xs ys : List ℕ) → n ≡ length xs → HasRoomAt a offset (length xs) → Overwrites a b offset xs → Overwrites b c (offset + n) ys
     → Overwrites a c offset (xs ++ ys)
@@ -53,22 +48,10 @@ then_overwrites None b c offset n xs ys e room p q = q ∙ ap (option_map (λ l.
 then_overwrites (Some a) b c offset n xs ys e room p q =
     q ∙ ap (option_map (λ l. overwritten l (offset + n) ys)) p ∙ ap Some (overwritten-overwritten a offset xs room ys n e)
 
--- there is as much room behind what was written
-pub room_behind : (a b : Option (List ℕ)) (offset n k all : ℕ) (xs : List ℕ) → n ≡ length xs → n + k ≡ all → HasRoomAt a offset all → Overwrites a b offset xs → HasRoomAt b (offset + n) k
-room_behind None b offset n k all xs e is room p = subst (λ (o : Option (List ℕ)). HasRoomAt o (offset + n) k) (sym p) tt
-room_behind (Some a) b offset n k all xs e is room p =
-    subst (λ (o : Option (List ℕ)). HasRoomAt o (offset + n) k) (sym p) (omega (arith, e, is, room, length-overwritten a offset xs (omega (arith, e, is, room))))
-
 -- a part of what there is room for
 pub room_before : (a : Option (List ℕ)) (offset n all : ℕ) → n ≤ all → HasRoomAt a offset all → HasRoomAt a offset n
 room_before None offset n all le room = tt
 room_before (Some a) offset n all le room = omega (arith, room)
-
--- a beginning of the second piece
-pub then_overwrites_some : (a b c : Option (List ℕ)) (offset n : ℕ) (xs ys : List ℕ) → n ≡ length xs → HasRoomAt a offset (length xs) → Overwrites a b offset xs → OverwritesSome b c (offset + n) ys
-    → OverwritesSome a c offset (xs ++ ys)
-then_overwrites_some a b c offset n xs ys e room p q =
-    (length xs + q.0, rw (take-append-add xs ys q.0) (then_overwrites a b c offset n xs (take q.0 ys) e room p q.1))
 
 -- ---- what a cursor gives
 

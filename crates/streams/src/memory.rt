@@ -170,6 +170,7 @@ impl Write for Sink {
 }
 
 /// A file in memory. Reads give `most` bytes at a time at most, and never fail.
+#[derive(Drop)]
 pub struct MemoryFile<'a> {
     bytes: &'a [u8],
     most: usize,

@@ -14,7 +14,7 @@ returns-clause-coefficients c = λ y p ly form values. record {
       let lj : c.args.k - 1 - i < c.args.k = omega (arith, li) in
       let back : c.args.k - 1 - (c.args.k - 1 - i) ≡ i = omega (arith, li) in
       let f = coefficient c.args.values.now c.args.width y in
-      sym (c.write_values.ensures i y li ly
+      sym (c.write_by_transform.ensures i y li ly
       ∙ sum_same 255 (λ m. product (alpha_to (m * (0 + i * 254))) (coefficient c.args.values.now c.args.width y m))
       (λ m. product (alpha_to (m * (256 - c.args.k + (c.args.k - 1 - i)))) (coefficient c.args.values.now c.args.width y m))
       (λ m lm. ap (λ a. product a (coefficient c.args.values.now c.args.width y m)) (turned_back m i c.args.k li few))
