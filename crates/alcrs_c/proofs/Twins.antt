@@ -6,7 +6,7 @@ use Rattle.session.specs.Frames.{AreDatagrams, most_bytes}
 use Rattle.session.specs.declared.frame.FrameFault.{FrameFault}
 use Rattle.session.specs.declared.frame.FrameFault.TheVariants.{CutLength, CutDatagram, TooLong, Io, NoMemory, NoSuchPlace}
 use Rattle.cert.specs.Feeding.{IsUnfed}
-use Rattle.cert.specs.declared.from_reader.CheckFault.TheVariants.{Frame}
+use Rattle.cert.specs.declared.fault.CheckFault.TheVariants.{Frame}
 
 -- the frames of datagrams have no fault
 pub no_frame_fault : (e : FrameFault) (d : List ℕ) → IsUnfed d (Frame e) → length d ≤ most_bytes → ⊥

@@ -4,7 +4,8 @@ use Rattle.reception.specs.declared.scope.Identity.{Identity}
 use Rattle.certificate.specs.Certificate.{Certificate}
 use Rattle.cert.specs.Fed.{IsFed, WasFed, ended_of}
 use Rattle.cert.specs.declared.verdict.Reason.{Reason}
-use Rattle.cert.specs.declared.walk.NoReport.TheVariants.{Reason as ByReason, NoMemory}
+use Rattle.cert.specs.declared.fault.NoReport.TheVariants.{Reason as ByReason, Fault}
+use Rattle.cert.specs.declared.fault.CheckFault.TheVariants.{NoMemory}
 use Rattle.alcrs_c.specs.Ready.{IsReady}
 use Rattle.alcrs_c.specs.declared.checker.AlcrsChecker.{AlcrsChecker}
 
@@ -31,7 +32,7 @@ IsOver h reason = (h.is_open ≡ true) × (ended_of h.held.value ≡ Some (ByRea
 
 -- its check has ended for want of memory
 abbrev pub Lacks : AlcrsChecker → Type 0
-Lacks h = (h.is_open ≡ true) × (ended_of h.held.value ≡ Some NoMemory)
+Lacks h = (h.is_open ≡ true) × (ended_of h.held.value ≡ Some (Fault NoMemory))
 
 -- the handle is open with a checker that is ready
 pub record IsOpenFor (h : AlcrsChecker) (who : Identity) (object certificate : List ℕ)

@@ -26,13 +26,6 @@ use reception::Identity;
 use session::{FrameFault, Pieces};
 use std::alloc::Global;
 
-/// Why there is no verdict.
-enum Unchecked {
-    Session(FrameFault),
-    Certificate(CertFault),
-    NoMemory,
-}
-
 // The verdict on the datagrams in the bytes, which are read from the front.
 fn check_bytes(
     alloc: Global,
@@ -57,7 +50,7 @@ fn verdict_of(
     object: &[u8],
     certificate: &[u8],
     identity: Identity,
-) -> Result<Verdict, Unchecked>
+) -> Result<Verdict, CheckFault>
     ensures checked { IfOk result
         (IsChecked identity session.now object.now certificate.now) }
     ensures unchecked { IfErr result
@@ -65,14 +58,13 @@ fn verdict_of(
 {
     let certificate = match CertificateView::from_text(alloc, certificate) {
         Ok(certificate) => certificate,
-        Err(CertFault::NoMemory) => return Err(Unchecked::NoMemory),
-        Err(fault) => return Err(Unchecked::Certificate(fault)),
+        Err(CertFault::NoMemory) => return Err(CheckFault::NoMemory),
+        Err(fault) => return Err(CheckFault::Certificate(fault)),
     };
     match check_bytes(alloc, session, object, certificate, identity) {
         Ok(verdict) => Ok(verdict),
-        Err(CheckFault::Frame(FrameFault::NoMemory)) => Err(Unchecked::NoMemory),
-        Err(CheckFault::Frame(fault)) => Err(Unchecked::Session(fault)),
-        Err(CheckFault::NoMemory) => Err(Unchecked::NoMemory),
+        Err(CheckFault::Frame(FrameFault::NoMemory)) => Err(CheckFault::NoMemory),
+        Err(fault) => Err(fault),
     }
 }
 
@@ -135,14 +127,15 @@ pub extern "C" fn alcrs_check(
             *fault = reason_fault(reason);
             status::NO
         }
-        Err(Unchecked::Session(e)) => {
+        Err(CheckFault::Frame(e)) => {
             *fault = frame_fault(e);
             status::NO_SESSION
         }
-        Err(Unchecked::Certificate(e)) => {
+        Err(CheckFault::Certificate(e)) => {
             *fault = certificate_fault(e);
             status::NO_CERTIFICATE
         }
-        Err(Unchecked::NoMemory) => status::NO_MEMORY,
+        Err(CheckFault::NoMemory) => status::NO_MEMORY,
+        Err(CheckFault::Session | CheckFault::Object) => unreachable!(),
     }
 }

@@ -28,7 +28,7 @@ use crate::told::{
     AlcrsBlock, AlcrsFault, AlcrsReport, certificate_fault, frame_fault, put_blocks, put_kill,
     reason_fault, report_numbers,
 };
-use cert::{CheckFault, Checker, NoReport, Reason, Verdict};
+use cert::{CheckFault, Checker, NoReport, Verdict};
 use certificate::CertFault;
 use reception::Identity;
 use session::FrameFault;
@@ -42,13 +42,6 @@ use std::borrow::CowSlice;
 pub struct AlcrsChecker {
     pub held: HeldChecker,
     pub is_open: bool,
-}
-
-/// Why there is no checker.
-enum Unready {
-    Reason(Reason),
-    Certificate(CertFault),
-    NoMemory,
 }
 
 // Takes the checker out of its handle, if there is one.
@@ -82,24 +75,17 @@ fn checker_of(
     object: &[u8],
     certificate: &[u8],
     identity: Identity,
-) -> Result<Checker<'static>, Unready>
+) -> Result<Checker<'static>, NoReport>
     ensures ready { IfOk result (IsReady identity object.now certificate.now) }
     ensures unready { IfErr result (IsUnready identity object.now certificate.now) }
 {
     let certificate = match read_certificate(alloc, certificate) {
         Ok(certificate) => certificate,
-        Err(CertFault::NoMemory) => return Err(Unready::NoMemory),
-        Err(fault) => return Err(Unready::Certificate(fault)),
+        Err(CertFault::NoMemory) => return Err(NoReport::Fault(CheckFault::NoMemory)),
+        Err(fault) => return Err(NoReport::Fault(CheckFault::Certificate(fault))),
     };
-    let object = match object.to_vec(alloc) {
-        Ok(object) => CowSlice::Owned(object),
-        Err(_) => return Err(Unready::NoMemory),
-    };
-    match Checker::new(alloc, object, certificate.into_view(), identity) {
-        Ok(checker) => Ok(checker),
-        Err(NoReport::Reason(reason)) => Err(Unready::Reason(reason)),
-        Err(NoReport::NoMemory) => Err(Unready::NoMemory),
-    }
+    let object = CowSlice::Owned(object.to_vec(alloc)?);
+    Checker::new(alloc, object, certificate.into_view(), identity)
 }
 
 /// Opens a handle for the check of an identity's packets, with an object and a certificate, of
@@ -151,15 +137,16 @@ pub extern "C" fn alcrs_checker_open(
             }
             Err(_) => status::NO_MEMORY,
         },
-        Err(Unready::Reason(reason)) => {
+        Err(NoReport::Reason(reason)) => {
             *fault = reason_fault(reason);
             status::NO
         }
-        Err(Unready::Certificate(e)) => {
+        Err(NoReport::Fault(CheckFault::Certificate(e))) => {
             *fault = certificate_fault(e);
             status::NO_CERTIFICATE
         }
-        Err(Unready::NoMemory) => status::NO_MEMORY,
+        Err(NoReport::Fault(CheckFault::NoMemory)) => status::NO_MEMORY,
+        Err(NoReport::Fault(_)) => unreachable!(),
     }
 }
 
@@ -230,8 +217,8 @@ pub extern "C" fn alcrs_checker_feed(
             *fault = frame_fault(FrameFault::TooLong);
             status::NO_SESSION
         }
-        Err(CheckFault::Frame(_)) => unreachable!(),
         Err(CheckFault::NoMemory) => status::NO_MEMORY,
+        Err(_) => unreachable!(),
     }
 }
 

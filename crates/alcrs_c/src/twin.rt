@@ -63,8 +63,8 @@ fn fed<'a>(
     for datagram in datagrams {
         match checker.feed(datagram) {
             Ok(_) => {}
-            Err(CheckFault::NoMemory) => return Err(NoReport::NoMemory),
             Err(CheckFault::Frame(_)) => unreachable!(),
+            Err(fault) => return Err(NoReport::Fault(fault)),
         }
     }
     Ok(checker)
@@ -87,7 +87,7 @@ fn twin_in(
     let checker = match fed(alloc, datagrams, object, certificate, identity) {
         Ok(checker) => checker,
         Err(NoReport::Reason(reason)) => return Err(Untwinned::No(reason)),
-        Err(NoReport::NoMemory) => return Err(Untwinned::NoMemory),
+        Err(NoReport::Fault(_)) => return Err(Untwinned::NoMemory),
     };
     let reason = match checker.verdict(alloc) {
         Ok(Verdict::Yes(_)) => return Err(Untwinned::NoneShort),

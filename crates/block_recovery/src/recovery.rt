@@ -105,30 +105,6 @@ fn residual_coefficients(
 }
 
 impl Recovery {
-    fn new(
-        alloc: Global,
-        code: &Code,
-        missing: &[u8],
-        repair: &[u8],
-    ) -> Result<Recovery, AllocError>
-        requires code { Encodes code.now.matrix.rows code.now.matrix.cols code.now.matrix }
-        requires erasures { AreErasures code.now.matrix.rows code.now.matrix.cols
-            missing.now repair.now }
-        ensures { IfOk result (IsRecovery code.now.matrix missing.now repair.now) }
-    {
-        let matrix = recovery(alloc, &code.matrix, missing, repair)?;
-        let residuals = residual_coefficients(alloc, code, missing, repair)?;
-        residuals.are_bytes();
-        let mut coefficients = Rows::zeros(alloc, missing.len(), code.matrix.rows())?;
-        coefficients.add_products(&columns(alloc, &matrix)?, &residuals);
-        Ok(Recovery {
-            k: code.matrix.rows(),
-            missing: missing.to_vec(alloc)?,
-            repair: repair.to_vec(alloc)?,
-            coefficients: coefficients.bytes,
-        })
-    }
-
     fn is_of(&self, k: usize, missing: &[u8], repair: &[u8]) -> bool
         ensures { result ≡ true → (self.now.k ≡ k) × (self.now.missing.items ≡ missing.now)
             × (self.now.repair.items ≡ repair.now) }
@@ -150,14 +126,21 @@ impl Recovery {
             missing.now repair.now }
         ensures { IfOk result (IsRecovery code.now.matrix missing.now repair.now) }
     {
-        match kept {
-            Some(recovery) => {
-                if recovery.is_of(code.matrix.rows(), missing, repair) {
-                    return Ok(recovery);
-                }
+        if let Some(recovery) = kept {
+            if recovery.is_of(code.matrix.rows(), missing, repair) {
+                return Ok(recovery);
             }
-            None => {}
         }
-        Recovery::new(alloc, code, missing, repair)
+        let matrix = recovery(alloc, &code.matrix, missing, repair)?;
+        let residuals = residual_coefficients(alloc, code, missing, repair)?;
+        residuals.are_bytes();
+        let mut coefficients = Rows::zeros(alloc, missing.len(), code.matrix.rows())?;
+        coefficients.add_products(&columns(alloc, &matrix)?, &residuals);
+        Ok(Recovery {
+            k: code.matrix.rows(),
+            missing: missing.to_vec(alloc)?,
+            repair: repair.to_vec(alloc)?,
+            coefficients: coefficients.bytes,
+        })
     }
 }

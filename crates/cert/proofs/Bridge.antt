@@ -22,8 +22,8 @@ use Rattle.reception.specs.Walks.{readings_of}
 use Rattle.certificate.specs.Certificate.{Certificate}
 use Rattle.cert.specs.declared.verdict.Reason.{Reason}
 use Rattle.cert.specs.declared.verdict.Reason.TheVariants.{OtherCertificate, ObjectLength, NotObject, Empty, Packet as NoPacket, OtherFti, SymbolLength, Range, Symbol as Wrong, Thin, NoCarrier}
-use Rattle.cert.specs.declared.walk.NoReport.{NoReport}
-use Rattle.cert.specs.declared.walk.NoReport.TheVariants.{Reason as ByReason, NoMemory}
+use Rattle.cert.specs.declared.fault.NoReport.{NoReport}
+use Rattle.cert.specs.declared.fault.NoReport.TheVariants.{Reason as ByReason, Fault}
 use Rattle.cert.specs.Verdict.{first_reason, IsAgainst}
 use Rattle.cert.specs.Scan.{members_at, members_of, AreGroupsOf, IsPut, IsNoReport, different_in, line_in, AreEnough, IsFirstShortGroup, IsShortGroup, IsShortWhereThin, block_lines}
 
@@ -200,7 +200,7 @@ module _ (who : Identity) (z : Certificate) (ds : List (List ℕ)) (groups : Lis
 
   -- no report, by the counts
   pub counts_refused : (e : NoReport) → first_reason who z (readings_of ds) ≡ None → symbols (counted who (readings_of ds)) ≢ [] → IsShortGroup groups e → IsNoReport who ds z e
-  counts_refused NoMemory none some h = tt
+  counts_refused (Fault fault) none some h = h
   counts_refused (ByReason r) none some h = refused_reason r none some h
 
 -- a group that is short is the reason that one is
@@ -218,7 +218,7 @@ thin_where groups (Wrong i c) h = absurd h
 thin_where groups NoCarrier h = absurd h
 
 pub where_thin : (groups : List Group) (e : NoReport) → IsShortGroup groups e → IsShortWhereThin groups e
-where_thin groups NoMemory h = tt
+where_thin groups (Fault fault) h = h
 where_thin groups (ByReason r) h = thin_where groups r h
 
 -- a map over one number more

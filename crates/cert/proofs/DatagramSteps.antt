@@ -31,8 +31,8 @@ use Rattle.reception.proofs.Within.{IsFaultless, IsSoundReading, clean_sound}
 use Rattle.reception.proofs.Looks.{fti_after, never_early, may_pass, faultless_look, length_look}
 use Rattle.cert.specs.declared.verdict.Reason.{Reason}
 use Rattle.cert.specs.declared.verdict.Reason.TheVariants.{OtherCertificate, ObjectLength, NotObject, Empty, Packet as NoPacket, OtherFti, SymbolLength, Range, Symbol as NotCertified, Thin, NoCarrier}
-use Rattle.cert.specs.declared.walk.NoReport.{NoReport}
-use Rattle.cert.specs.declared.walk.NoReport.TheVariants.{Reason as ByReason, NoMemory}
+use Rattle.cert.specs.declared.fault.NoReport.{NoReport}
+use Rattle.cert.specs.declared.fault.NoReport.TheVariants.{Reason as ByReason, Fault}
 use Rattle.certificate.specs.Certificate.{Certificate}
 use Rattle.cert.specs.DatagramWalk.{IsNotKept}
 use Rattle.cert.specs.Tallying.{AreTallied, IsAtLast, IsUnpassed, Says, Tallied, judge_by}
@@ -205,7 +205,7 @@ module _ (says : Says) (f : Fti) (t : Tallied) (ds : List (List ℕ)) (are : Are
 
     -- it isn't, since its symbol isn't the certified one
     pub refuses_symbol : (e : NoReport) → IsNotKept says t.count (packet_of p) e → IsUnpassed says f who (ds ++ d ∷ []) e
-    refuses_symbol NoMemory h = tt
+    refuses_symbol (Fault want) h = h
     refuses_symbol (ByReason (NotCertified i c)) h =
         rw h.0 (refuses d (Ok (look_at.InRange p)) at (Judged c) (ap (λ (o : Option ℕ). judged o) h.1))
     refuses_symbol (ByReason OtherCertificate) h = absurd h

@@ -9,7 +9,7 @@ use Rattle.cert.specs.declared.verdict.Reason.{Reason}
 use Rattle.cert.specs.declared.verdict.Reason.TheVariants.{OtherCertificate, ObjectLength, NotObject, Empty, Packet as NoPacket, OtherFti, SymbolLength, Range, Symbol, Thin, NoCarrier}
 use Rattle.cert.specs.declared.verdict.Report.{Report}
 use Rattle.cert.specs.declared.verdict.Verdict.TheVariants.{Yes, No}
-use Rattle.cert.specs.declared.walk.NoReport.TheVariants.{Reason as ByReason}
+use Rattle.cert.specs.declared.fault.NoReport.TheVariants.{Reason as ByReason}
 use Rattle.cert.specs.declared.walk.Walk.{Walk}
 use Rattle.certificate.specs.Certificate.{Certificate}
 use Rattle.cert.specs.NotBegun.{IsNotBegun}

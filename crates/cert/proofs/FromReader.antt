@@ -1,5 +1,6 @@
 -- What the answers to datagrams, one after the other, say of the verdict.
-use Rattle.std.proofs.Common.{◌≡◌, ℕ, zero, suc, Bool, true, List, [], ◌∷◌, ◌++◌, Option, Some, None, refl, sym, ap, ◌∙◌, append_assoc, arith}
+use Rattle.std.proofs.Common.{◌≡◌, ℕ, zero, suc, Bool, true, List, [], ◌∷◌, ◌++◌, Option, Some, None, Result, Ok, Err, refl, sym, ap, subst, ◌∙◌, append_assoc, arith}
+use Rattle.std.specs.Prelude.{IfOk}
 use Rattle.std.specs.Io.KnownBytes.{Consumes, IsAtEnd}
 use Rattle.session.specs.Frames.{frame, frames, AreDatagrams, IsReadFault}
 use Rattle.session.specs.declared.frame.FrameFault.{FrameFault}
@@ -14,12 +15,14 @@ use Rattle.cert.specs.declared.verdict.Report.{Report}
 use Rattle.cert.specs.declared.verdict.Survey.{Survey}
 use Rattle.cert.specs.Surveying.{IsSurvey, IsSurveyedFrom}
 use Rattle.cert.specs.declared.verdict.Verdict.TheVariants.{Yes, No}
-use Rattle.cert.specs.declared.walk.NoReport.{NoReport}
-use Rattle.cert.specs.declared.walk.NoReport.TheVariants.{Reason as ByReason, NoMemory}
+use Rattle.cert.specs.declared.fault.NoReport.{NoReport}
+use Rattle.cert.specs.declared.fault.NoReport.TheVariants.{Reason as ByReason, Fault}
+use Rattle.cert.specs.declared.fault.CheckFault.{CheckFault}
+use Rattle.cert.specs.declared.fault.CheckFault.TheVariants.{NoMemory}
 use Rattle.certificate.specs.Certificate.{Certificate, IsCertificate, is_for}
 use Rattle.cert.specs.NotBegun.{IsAgainstObject, IsNotBegun}
 use Rattle.cert.specs.DatagramWalk.{IsNotPassed, IsNo}
-use Rattle.cert.specs.Endings.{ending_of, IsEnding}
+use Rattle.cert.specs.Endings.{IsEnding}
 use Rattle.cert.specs.FromReader.{read_for, IsKnown, IsCheckedFrom, IsRefusedBehind}
 use Rattle.cert.specs.Report.{IsReport}
 use Rattle.cert.specs.Scan.{IsNoReport, AreEnoughCertified}
@@ -83,13 +86,13 @@ module _ (who : Identity) (z : Certificate) (object : List ℕ) (name : is_for w
 
   -- the no to a list that begins with datagrams of which the last isn't passed
   pub step_no : (ds rest : List (List ℕ)) (e : NoReport) → IsNotPassed who ds z e → IsNo who (ds ++ rest) object z e
-  step_no ds rest NoMemory h = tt
+  step_no ds rest (Fault fault) h = h
   step_no ds rest (ByReason r) h =
       refused who (readings_of (ds ++ rest)) object z r name form gives (against_place who z (readings_of (ds ++ rest)) r (reason_stays who z ds rest r h.0))
 
   -- the no to a list that was walked over
   pub report_no : (ds : List (List ℕ)) (e : NoReport) → IsNoReport who ds z e → IsNo who ds object z e
-  report_no ds NoMemory h = tt
+  report_no ds (Fault fault) h = h
   report_no ds (ByReason r) h = refused who (readings_of ds) object z r name form gives h
 
   module _ (ds : List (List ℕ)) (each : AreDatagrams ds) (left : Option (List ℕ)) where
@@ -142,10 +145,21 @@ before_all who z object left (Symbol i c) h = absurd h
 before_all who z object left (Thin b have need) h = absurd h
 before_all who z object left NoCarrier h = absurd h
 
+-- ---- results
+
+-- where the first fact of a value gives the second, and a result has the first
+pub has_other : {A E : Type 0} (r : Result A E) (P Q : A → Type 0) → IfOk r (λ a. P a → Q a) → IfOk r P → IfOk r Q
+has_other (Ok a) P Q f h = f h
+has_other (Err e) P Q f h = tt
+
 -- ---- why there is no report
 
-pub not_begun : (who : Identity) (old : Option (List ℕ)) (failed : Bool) (z : Certificate) (object : List ℕ) (e : NoReport) → IsNotBegun who object z e → IsEnding who old old failed object z (ending_of e)
-not_begun who old failed z object NoMemory h = tt
+-- want of memory says nothing
+no_memory : (who : Identity) (old new : Option (List ℕ)) (failed : Bool) (object : List ℕ) (z : Certificate) (fault : CheckFault) → fault ≡ NoMemory → IsEnding who old new failed object z (Fault fault)
+no_memory who old new failed object z fault e = subst (λ (f : CheckFault). IsEnding who old new failed object z (Fault f)) (sym e) tt
+
+pub not_begun : (who : Identity) (old : Option (List ℕ)) (failed : Bool) (z : Certificate) (object : List ℕ) (e : NoReport) → IsNotBegun who object z e → IsEnding who old old failed object z e
+not_begun who old failed z object (Fault fault) h = no_memory who old old failed object z fault h
 not_begun who old failed z object (ByReason r) h = record {
   datagrams = [];
   each = no_datagrams;
@@ -163,14 +177,14 @@ module _ (who : Identity) (z : Certificate) (object : List ℕ) (name : is_for w
   no_from r h = record { datagrams = ds; each = each; consumed = consumed; judged = h; decodes = tt; undecided = tt; tells = tt; report = tt }
 
   -- the last of the datagrams isn't passed
-  pub not_passed : (e : NoReport) → IsNotPassed who ds z e → IsEnding who old new failed object z (ending_of e)
-  not_passed NoMemory h = tt
+  pub not_passed : (e : NoReport) → IsNotPassed who ds z e → IsEnding who old new failed object z e
+  not_passed (Fault fault) h = no_memory who old new failed object z fault h
   not_passed (ByReason r) h = no_from r (after_place who z object name form gives ds each new r h)
 
   module _ (clean : (reception_to who z (readings_of ds)).wrong ≡ None) where
     -- they don't suffice
-    pub no_report : (e : NoReport) → IsAtEnd new → IsNoReport who ds z e → IsEnding who old new failed object z (ending_of e)
-    no_report NoMemory end h = tt
+    pub no_report : (e : NoReport) → IsAtEnd new → IsNoReport who ds z e → IsEnding who old new failed object z e
+    no_report (Fault fault) end h = no_memory who old new failed object z fault h
     no_report (ByReason r) end h = no_from r (after_all who z object name form gives ds each new (no_reason _ clean) r end h)
 
     -- the next wasn't read

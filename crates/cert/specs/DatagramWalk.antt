@@ -1,5 +1,5 @@
 -- What is known of a check's walk over datagrams.
-use Rattle.std.specs.Prelude.{◌≡◌, ℕ, List, Option, Some, ⊤}
+use Rattle.std.specs.Prelude.{◌≡◌, ℕ, List, Option, Some}
 use Rattle.std.specs.Io.KnownBytes.{Consumes, IsAtEnd}
 use Rattle.std.specs.Cow.{cow_slice_items}
 use Rattle.session.specs.Frames.{frames, AreDatagrams}
@@ -8,8 +8,9 @@ use Rattle.reception.specs.Reception.{symbol_of}
 use Rattle.reception.specs.declared.scope.Identity.{Identity}
 use Rattle.reception.specs.Walks.{readings_of}
 use Rattle.cert.specs.declared.walk.Walk.{Walk}
-use Rattle.cert.specs.declared.walk.NoReport.{NoReport}
-use Rattle.cert.specs.declared.walk.NoReport.TheVariants.{Reason as ByReason, NoMemory}
+use Rattle.cert.specs.declared.fault.NoReport.{NoReport}
+use Rattle.cert.specs.declared.fault.NoReport.TheVariants.{Reason as ByReason, Fault}
+use Rattle.cert.specs.declared.fault.CheckFault.TheVariants.{NoMemory}
 use Rattle.cert.specs.declared.verdict.Reason.TheVariants.{Symbol}
 use Rattle.cert.specs.declared.verdict.Verdict.TheVariants.{No}
 use Rattle.certificate.specs.Certificate.{Certificate}
@@ -28,13 +29,13 @@ IsNotPassed who datagrams z e = IsUnpassed (by_certificate z) z.fti who datagram
 -- the no to these datagrams and this object
 abbrev pub IsNo : Identity → List (List ℕ) → List ℕ → Certificate → NoReport → Type 0
 IsNo who datagrams object z (ByReason r) = VerdictOn who (readings_of datagrams) object z (No r)
-IsNo who datagrams object z NoMemory = ⊤
+IsNo who datagrams object z (Fault fault) = fault ≡ NoMemory
 
 -- why a packet isn't kept: this is said of its symbol
 abbrev pub IsNotKept : Says → ℕ → Packet → NoReport → Type 0
 IsNotKept says place p (ByReason (Symbol i c)) = (i ≡ place) × (says (symbol_of p) ≡ Some c)
 IsNotKept says place p (ByReason _) = ⊥
-IsNotKept says place p NoMemory = ⊤
+IsNotKept says place p (Fault fault) = fault ≡ NoMemory
 
 -- All that was left of a reader was read, just the frames of some datagrams, and the walk went over
 -- these.

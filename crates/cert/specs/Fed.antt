@@ -1,5 +1,5 @@
 -- What a checker was fed: which datagrams, for which identity, object and certificate.
-use Rattle.std.specs.Prelude.{◌≡◌, ℕ, List, Option, Some, None, ⊤}
+use Rattle.std.specs.Prelude.{◌≡◌, ℕ, List, Option, Some, None}
 use Rattle.std.specs.Cow.{cow_slice_items}
 use Rattle.session.specs.Frames.{AreDatagrams}
 use Rattle.reception.specs.declared.scope.Identity.{Identity}
@@ -8,8 +8,9 @@ use Rattle.cert.specs.DatagramWalk.{HasWalked}
 use Rattle.cert.specs.Feeding.{IsNoToAll}
 use Rattle.cert.specs.Twins.{IsShortIn}
 use Rattle.cert.specs.declared.checker.Checker.{Checker}
-use Rattle.cert.specs.declared.walk.NoReport.{NoReport}
-use Rattle.cert.specs.declared.walk.NoReport.TheVariants.{Reason as ByReason, NoMemory}
+use Rattle.cert.specs.declared.fault.NoReport.{NoReport}
+use Rattle.cert.specs.declared.fault.NoReport.TheVariants.{Reason as ByReason, Fault}
+use Rattle.cert.specs.declared.fault.CheckFault.TheVariants.{NoMemory}
 use Rattle.cert.specs.declared.walk.Walk.{Walk}
 
 -- the walk is one over these datagrams, for this identity, object and certificate
@@ -27,7 +28,7 @@ abbrev pub StandsAt : Option NoReport → Walk → Identity → List ℕ → Cer
 StandsAt None walk who object z datagrams = IsWalkOver walk who object z datagrams
 StandsAt (Some (ByReason reason)) walk who object z datagrams =
     IsNoToAll who datagrams object z reason
-StandsAt (Some NoMemory) walk who object z datagrams = ⊤
+StandsAt (Some (Fault fault)) walk who object z datagrams = fault ≡ NoMemory
 
 -- these datagrams were fed to a checker of this identity's packets, with this object and this
 -- certificate

@@ -8,13 +8,12 @@ use Rattle.reception.specs.declared.scope.Identity.{Identity}
 use Rattle.reception.specs.Reception.{ReadAll}
 use Rattle.certificate.specs.Certificate.{Certificate}
 use Rattle.cert.specs.Verdict.{IsVerdict, first_reason}
-use Rattle.cert.specs.declared.from_reader.CheckFault.{CheckFault}
-use Rattle.cert.specs.declared.from_reader.CheckFault.TheVariants.{Frame, NoMemory}
+use Rattle.cert.specs.declared.fault.CheckFault.{CheckFault}
+use Rattle.cert.specs.declared.fault.CheckFault.TheVariants.{Frame, NoMemory}
 use Rattle.cert.specs.declared.verdict.Reason.{Reason}
 use Rattle.cert.specs.declared.verdict.Verdict.TheVariants.{No}
-use Rattle.cert.specs.declared.walk.NoReport.{NoReport}
-use Rattle.cert.specs.declared.walk.NoReport.TheVariants.{Reason as ByReason}
-use Rattle.cert.specs.declared.walk.NoReport.TheVariants.{NoMemory as NoReportMemory}
+use Rattle.cert.specs.declared.fault.NoReport.{NoReport}
+use Rattle.cert.specs.declared.fault.NoReport.TheVariants.{Reason as ByReason, Fault}
 
 -- the verdict on these datagrams is no for this reason, whatever others follow
 abbrev pub IsNoToAll : Identity → List (List ℕ) → List ℕ → Certificate → Reason → Type 0
@@ -36,11 +35,11 @@ IsReasonSoFar who datagrams object z (Some reason) = IsNoToAll who datagrams obj
 -- why a datagram wasn't fed: no session has one so long, or memory lacks
 abbrev pub IsUnfed : List ℕ → CheckFault → Type 0
 IsUnfed datagram (Frame TooLong) = most_bytes < length datagram
-IsUnfed datagram (Frame _) = ⊥
 IsUnfed datagram NoMemory = length datagram ≤ most_bytes
+IsUnfed datagram _ = ⊥
 
 -- what a feed tells where the check has ended before for a reason or want of memory
 abbrev pub IsToldAgain : NoReport → Result (Option Reason) CheckFault → Type 0
 IsToldAgain (ByReason reason) (Ok told) = told ≡ Some reason
-IsToldAgain NoReportMemory (Err fault) = fault ≡ NoMemory
+IsToldAgain (Fault fault) (Err told) = told ≡ fault
 IsToldAgain _ _ = ⊥

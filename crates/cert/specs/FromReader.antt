@@ -16,8 +16,8 @@ use Rattle.cert.specs.declared.verdict.Verdict.TheVariants.{No}
 use Rattle.cert.specs.declared.verdict.Reason.TheVariants.{OtherCertificate, ObjectLength}
 use Rattle.cert.specs.declared.verdict.Reason.TheVariants.{NotObject, Packet as NoPacket, OtherFti}
 use Rattle.cert.specs.declared.verdict.Reason.TheVariants.{SymbolLength, Range, Symbol}
-use Rattle.cert.specs.declared.from_reader.CheckFault.{CheckFault}
-use Rattle.cert.specs.declared.from_reader.CheckFault.TheVariants.{Frame, NoMemory}
+use Rattle.cert.specs.declared.fault.CheckFault.{CheckFault}
+use Rattle.cert.specs.declared.fault.CheckFault.TheVariants.{Frame, NoMemory}
 
 -- How many datagrams a verdict reads, if not all: none for a reason against the certificate's name
 -- or the object, and for one at a place none behind it.
@@ -72,3 +72,4 @@ pub record IsRefusedBehind (who : Identity) (fault : FrameFault) (old new : Opti
 abbrev pub IsCheckFault : (FrameFault → Type 0) → CheckFault → Type 0
 IsCheckFault IsRefused (Frame fault) = IsRefused fault
 IsCheckFault IsRefused NoMemory = ⊤
+IsCheckFault IsRefused _ = ⊥

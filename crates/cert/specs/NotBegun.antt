@@ -1,8 +1,9 @@
 -- Why no datagram is looked at.
-use Rattle.std.specs.Prelude.{◌≡◌, ◌≢◌, ℕ, true, false, List, length, ⊤}
+use Rattle.std.specs.Prelude.{◌≡◌, ◌≢◌, ℕ, true, false, List, length}
 use Rattle.reception.specs.declared.scope.Identity.{Identity}
-use Rattle.cert.specs.declared.walk.NoReport.{NoReport}
-use Rattle.cert.specs.declared.walk.NoReport.TheVariants.{Reason as ByReason, NoMemory}
+use Rattle.cert.specs.declared.fault.NoReport.{NoReport}
+use Rattle.cert.specs.declared.fault.NoReport.TheVariants.{Reason as ByReason, Fault}
+use Rattle.cert.specs.declared.fault.CheckFault.TheVariants.{NoMemory}
 use Rattle.cert.specs.declared.verdict.Reason.{Reason}
 use Rattle.cert.specs.declared.verdict.Reason.TheVariants.{OtherCertificate, ObjectLength}
 use Rattle.cert.specs.declared.verdict.Reason.TheVariants.{NotObject}
@@ -22,4 +23,4 @@ IsAgainstObject who _ object z = ⊥
 -- why no datagram is looked at
 abbrev pub IsNotBegun : Identity → List ℕ → Certificate → NoReport → Type 0
 IsNotBegun who object z (ByReason r) = IsAgainstObject who r object z
-IsNotBegun who object z NoMemory = ⊤
+IsNotBegun who object z (Fault fault) = fault ≡ NoMemory

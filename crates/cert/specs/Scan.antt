@@ -9,8 +9,9 @@ use Rattle.reception.specs.declared.scope.Identity.{Identity}
 use Rattle.reception.specs.Symbols.{Symbol, arrived_count}
 use Rattle.reception.specs.Reception.{Placed, symbols_in, is_carrier, Suffices}
 use Rattle.reception.specs.Walks.{readings_of}
-use Rattle.cert.specs.declared.walk.NoReport.{NoReport}
-use Rattle.cert.specs.declared.walk.NoReport.TheVariants.{Reason as ByReason, NoMemory}
+use Rattle.cert.specs.declared.fault.NoReport.{NoReport}
+use Rattle.cert.specs.declared.fault.NoReport.TheVariants.{Reason as ByReason, Fault}
+use Rattle.cert.specs.declared.fault.CheckFault.TheVariants.{NoMemory}
 use Rattle.cert.specs.declared.verdict.Reason.TheVariants.{Thin}
 use Rattle.certificate.specs.Certificate.{Certificate}
 use Rattle.cert.specs.Verdict.{IsAgainst, AreCertified}
@@ -50,7 +51,7 @@ with_carrier carriers place None = carriers
 -- there is no report for this reason against the datagrams, or for want of memory
 abbrev pub IsNoReport : Identity → List (List ℕ) → Certificate → NoReport → Type 0
 IsNoReport who datagrams z (ByReason r) = IsAgainst who (readings_of datagrams) z r
-IsNoReport who datagrams z NoMemory = Unit {0}
+IsNoReport who datagrams z (Fault fault) = fault ≡ NoMemory
 
 -- how many different symbols a group has
 abbrev pub different_in : List Group → ℕ → ℕ
@@ -75,12 +76,13 @@ pub record IsFirstShortGroup (groups : List Group) (b have need : ℕ) : Type 0 
 abbrev pub IsShortGroup : List Group → NoReport → Type 0
 IsShortGroup groups (ByReason (Thin b have need)) = IsFirstShortGroup groups b have need
 IsShortGroup groups (ByReason _) = ⊥
-IsShortGroup groups NoMemory = Unit {0}
+IsShortGroup groups (Fault fault) = fault ≡ NoMemory
 
--- it is, where the reason is that one has too few
+-- it is, where the reason is that one has too few; a fault is want of memory
 abbrev pub IsShortWhereThin : List Group → NoReport → Type 0
 IsShortWhereThin groups (ByReason (Thin b have need)) = IsFirstShortGroup groups b have need
-IsShortWhereThin groups _ = Unit {0}
+IsShortWhereThin groups (ByReason _) = Unit {0}
+IsShortWhereThin groups (Fault fault) = fault ≡ NoMemory
 
 -- what a yes says of the datagrams
 pub record AreEnoughCertified (who : Identity) (datagrams : List (List ℕ))

@@ -1,5 +1,5 @@
 -- What is known of datagrams that were looked at one by one, whatever is asked of their symbols.
-use Rattle.std.specs.Prelude.{◌≡◌, ℕ, ◌+◌, List, [], length, Option, None, Some, Ok, IfSome, ⊤}
+use Rattle.std.specs.Prelude.{◌≡◌, ℕ, ◌+◌, List, [], length, Option, None, Some, Ok, IfSome}
 use Rattle.std.specs.Prelude.{option_map, slice_index_or}
 use Rattle.losses.specs.Groups.{Group, groups_of}
 use Rattle.losses.specs.Losses.{places_from}
@@ -14,8 +14,9 @@ use Rattle.reception.specs.declared.scope.Identity.{Identity}
 use Rattle.reception.specs.declared.scope.Scope.{Scope}
 use Rattle.reception.specs.Walks.{readings_of}
 use Rattle.cert.specs.declared.tally.Tally.{Tally}
-use Rattle.cert.specs.declared.walk.NoReport.{NoReport}
-use Rattle.cert.specs.declared.walk.NoReport.TheVariants.{Reason as ByReason, NoMemory}
+use Rattle.cert.specs.declared.fault.NoReport.{NoReport}
+use Rattle.cert.specs.declared.fault.NoReport.TheVariants.{Reason as ByReason, Fault}
+use Rattle.cert.specs.declared.fault.CheckFault.TheVariants.{NoMemory}
 use Rattle.cert.specs.declared.verdict.Reason.{Reason}
 use Rattle.cert.specs.declared.verdict.Reason.TheVariants.{Packet as NoPacket, OtherFti}
 use Rattle.cert.specs.declared.verdict.Reason.TheVariants.{SymbolLength, Range, Symbol as NoSymbol}
@@ -97,7 +98,7 @@ IsAtLast datagrams reason = IfSome (place_of reason) (λ i. length datagrams ≡
 abbrev pub IsUnpassed : Says → Fti → Identity → List (List ℕ) → NoReport → Type 0
 IsUnpassed says f who datagrams (ByReason r) =
     (first_reason_by says f who (readings_of datagrams) ≡ Some r) × IsAtLast datagrams r
-IsUnpassed says f who datagrams NoMemory = ⊤
+IsUnpassed says f who datagrams (Fault fault) = fault ≡ NoMemory
 
 -- what the datagram at a place reads as
 abbrev pub reading_at : List (List ℕ) → ℕ → Reading

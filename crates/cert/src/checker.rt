@@ -14,12 +14,12 @@ ghost use Rattle.cert.specs.Twins.{IsShortIn, IsTwinOfSession};
 ghost use Rattle.cert.specs.Report.{IsReport, OnYes};
 ghost use Rattle.cert.specs.declared.verdict.Reason.{Reason as ReasonValue};
 ghost use Rattle.cert.specs.Verdict.{GivesObject, IsVerdict};
-ghost use Rattle.cert.specs.declared.walk.NoReport.{NoReport as NoReportValue};
+ghost use Rattle.cert.specs.declared.fault.NoReport.{NoReport as NoReportValue};
 ghost use Rattle.reception.specs.Symbols.{IsObject};
 
-use crate::from_reader::CheckFault;
+use crate::fault::{CheckFault, NoReport};
 use crate::verdict::{Reason, Verdict};
-use crate::walk::{NoReport, Walk};
+use crate::walk::Walk;
 use certificate::CertificateView;
 use lists::are_bytes;
 use reception::Identity;
@@ -86,7 +86,7 @@ impl<'a> Checker<'a> {
         // Whether the check has ended then, and why.
         ensures ended { IfOk result (λ o. ended_of self.new ≡ option_map NoReport.Reason o) }
         ensures lacks { IfErr result (λ e. e ≡ CheckFault.NoMemory
-            → ended_of self.new ≡ Some NoReport.NoMemory) }
+            → ended_of self.new ≡ Some (NoReport.Fault e)) }
         // Where it has ended before, it tells that again.
         ensures again { (why : NoReportValue) → ended_of self.old ≡ Some why
             → length datagram.now ≤ most_bytes
@@ -99,7 +99,7 @@ impl<'a> Checker<'a> {
         if let Some(why) = self.ended {
             return match why {
                 NoReport::Reason(reason) => Ok(Some(reason)),
-                NoReport::NoMemory => Err(CheckFault::NoMemory),
+                NoReport::Fault(fault) => Err(fault),
             };
         }
         match self.walk.step(datagram) {
@@ -108,9 +108,9 @@ impl<'a> Checker<'a> {
                 self.ended = Some(NoReport::Reason(reason));
                 Ok(Some(reason))
             }
-            Err(NoReport::NoMemory) => {
-                self.ended = Some(NoReport::NoMemory);
-                Err(CheckFault::NoMemory)
+            Err(NoReport::Fault(fault)) => {
+                self.ended = Some(NoReport::Fault(fault));
+                Err(fault)
             }
         }
     }
@@ -138,18 +138,19 @@ impl<'a> Checker<'a> {
         // Where the check has ended, that is told.
         ensures ended { (r : ReasonValue) → ended_of self.now ≡ Some (NoReport.Reason r)
             → IsOkAnd result (λ v. v ≡ Verdict.No r) }
-        ensures lacks { ended_of self.now ≡ Some NoReport.NoMemory → IsErr result }
+        ensures lacks { ended_of self.now ≡ Some (NoReport.Fault CheckFault.NoMemory)
+            → IsErr result }
     {
         if let Some(why) = self.ended {
             return match why {
                 NoReport::Reason(reason) => Ok(Verdict::No(reason)),
-                NoReport::NoMemory => Err(AllocError),
+                NoReport::Fault(_) => Err(AllocError),
             };
         }
         match self.walk.report(alloc) {
             Ok(report) => Ok(Verdict::Yes(report)),
             Err(NoReport::Reason(reason)) => Ok(Verdict::No(reason)),
-            Err(NoReport::NoMemory) => Err(AllocError),
+            Err(NoReport::Fault(_)) => Err(AllocError),
         }
     }
 

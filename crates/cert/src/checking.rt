@@ -7,8 +7,9 @@ ghost use Rattle.cert.specs.Report.{IsReport, OnYes};
 ghost use Rattle.cert.specs.Verdict.{IsCertificateOf, IsVerdict};
 ghost use Rattle.reception.specs.Walks.{readings_of};
 
+use crate::fault::NoReport;
 use crate::verdict::{Report, Verdict};
-use crate::walk::{NoReport, Walk};
+use crate::walk::Walk;
 use certificate::Certificate;
 use reception::Identity;
 use session::Session;
@@ -54,7 +55,7 @@ fn verdict_of(
     match report_of(alloc, session, object, certificate, identity) {
         Ok(report) => Ok(Verdict::Yes(report)),
         Err(NoReport::Reason(reason)) => Ok(Verdict::No(reason)),
-        Err(NoReport::NoMemory) => Err(AllocError),
+        Err(NoReport::Fault(_)) => Err(AllocError),
     }
 }
 

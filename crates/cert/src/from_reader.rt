@@ -4,57 +4,15 @@ ghost use Rattle.cert.specs.DatagramWalk.{IsWalkedFrom};
 ghost use Rattle.cert.specs.Endings.{IsEnding};
 ghost use Rattle.cert.specs.FromReader.{IsCheckedFrom, IsRefusedBehind, IsCheckFault};
 
-use crate::verdict::{Reason, Report, Verdict};
-use crate::walk::{NoReport, Walk};
+use crate::fault::{CheckFault, NoReport};
+use crate::verdict::{Report, Verdict};
+use crate::walk::Walk;
 use certificate::{Certificate, CertificateView};
 use lists::are_bytes;
 use reception::Identity;
 use session::{FrameFault, Read, read_next_into};
 use std::alloc::Global;
 use std::borrow::CowSlice;
-use thiserror::Error;
-
-/// Why datagrams weren't checked as they were read, or fed.
-#[derive(Debug, Clone, Copy, PartialEq, Eq, Error)]
-pub enum CheckFault {
-    /// The next datagram wasn't read: `CutLength`, `CutDatagram`, `TooLong`, `Io` or `NoMemory`.
-    #[error(transparent)]
-    Frame(FrameFault),
-    /// There is no memory for the check.
-    #[error("NoMemory")]
-    NoMemory,
-}
-
-/// Why there is no report.
-#[derive(Clone, Copy)]
-pub(crate) enum Ending {
-    Reason(Reason),
-    Fault(CheckFault),
-}
-
-impl From<NoReport> for Ending {
-    ghost use Rattle.cert.specs.Endings.{ending_of};
-
-    ghost from_gives = { λ no_report ending. ending ≡ ending_of no_report };
-
-    fn from(no_report: NoReport) -> Self {
-        match no_report {
-            NoReport::Reason(reason) => Ending::Reason(reason),
-            NoReport::NoMemory => Ending::Fault(CheckFault::NoMemory),
-        }
-    }
-}
-
-impl From<FrameFault> for Ending {
-    ghost use Rattle.cert.specs.declared.from_reader.Ending.TheVariants.{Fault};
-    ghost use Rattle.cert.specs.declared.from_reader.CheckFault.TheVariants.{Frame};
-
-    ghost from_gives = { λ fault ending. ending ≡ Fault (Frame fault) };
-
-    fn from(fault: FrameFault) -> Self {
-        Ending::Fault(CheckFault::Frame(fault))
-    }
-}
 
 /// The walk over all datagrams that are left, or why it ended before. Reading goes no further than
 /// the first reason.
@@ -64,13 +22,13 @@ pub(crate) fn walk_from<'a, R: Read>(
     object: &'a [u8],
     certificate: CertificateView<'a>,
     identity: Identity,
-) -> Result<Walk<'a>, Ending>
+) -> Result<Walk<'a>, NoReport>
     ensures walked { IfOk result (IsWalkedFrom identity (R.remaining reader.old)
         (R.remaining reader.new) object.now certificate.entry) }
     ensures no { IfErr result (IsEnding identity (R.remaining reader.old)
         (R.remaining reader.new) (R.failed reader.new) object.now certificate.entry) }
-    ensures unsound { IfErr result (λ ending.
-        ending ≡ Ending.Fault (CheckFault.Frame FrameFault.Io) → R.sound reader.old ≡ false) }
+    ensures unsound { IfErr result (λ e.
+        e ≡ NoReport.Fault (CheckFault.Frame FrameFault.Io) → R.sound reader.old ≡ false) }
     ensures stays { R.sound reader.new ≡ R.sound reader.old }
 {
     let mut walk = Walk::new(alloc, CowSlice::Borrowed(object), certificate, identity)?;
@@ -93,17 +51,17 @@ fn report_from<R: Read>(
     object: &[u8],
     certificate: CertificateView<'_>,
     identity: Identity,
-) -> Result<Report, Ending>
+) -> Result<Report, NoReport>
     ensures yes { IfOk result (λ report. IsCheckedFrom identity (R.remaining reader.old)
         (R.remaining reader.new) object.now certificate.entry (Verdict.Yes report)) }
     ensures no { IfErr result (IsEnding identity (R.remaining reader.old)
         (R.remaining reader.new) (R.failed reader.new) object.now certificate.entry) }
-    ensures unsound { IfErr result (λ ending.
-        ending ≡ Ending.Fault (CheckFault.Frame FrameFault.Io) → R.sound reader.old ≡ false) }
+    ensures unsound { IfErr result (λ e.
+        e ≡ NoReport.Fault (CheckFault.Frame FrameFault.Io) → R.sound reader.old ≡ false) }
     ensures stays { R.sound reader.new ≡ R.sound reader.old }
 {
     let walk = walk_from(alloc, reader, object, certificate, identity)?;
-    Ok(walk.report(alloc)?)
+    walk.report(alloc)
 }
 
 /// The check of an identity's packets among the datagrams that are left of a reader, read one at a
@@ -153,7 +111,7 @@ pub fn check_view_from<R: Read>(
 {
     match report_from(alloc, reader, object, certificate, identity) {
         Ok(report) => Ok(Verdict::Yes(report)),
-        Err(Ending::Reason(reason)) => Ok(Verdict::No(reason)),
-        Err(Ending::Fault(fault)) => Err(fault),
+        Err(NoReport::Reason(reason)) => Ok(Verdict::No(reason)),
+        Err(NoReport::Fault(fault)) => Err(fault),
     }
 }

@@ -1,7 +1,7 @@
 //! The check of a session, an object and a certificate.
 //!
-//! `verdict` has what a check answers, `specs/Verdict` which answer is right, `specs/Report` what a
-//! yes tells.
+//! `verdict` has what a check answers, `fault` why it has no report, `specs/Verdict` which answer
+//! is right, `specs/Report` what a yes tells.
 //!
 //! A check asks for one identity's packets and is a walk over datagrams, one step each (`walk`).
 //! [`check`] goes over a session (`checking`), [`check_from`] over what a reader gives
@@ -27,6 +27,7 @@
 mod checker;
 mod checking;
 mod datagrams;
+mod fault;
 mod from_reader;
 mod laws;
 mod source;
@@ -39,11 +40,11 @@ mod walk;
 pub use checker::Checker;
 pub use checking::check;
 pub use datagrams::reason_of;
-pub use from_reader::{CheckFault, check_from, check_view_from};
+pub use fault::{CheckFault, NoReport};
+pub use from_reader::{check_from, check_view_from};
 pub use laws::{first_column, first_reason, one_verdict, own_name_changes_nothing, reason_order};
 pub use losses::Run;
 pub use surveying::survey_from;
 pub use tally::Tally;
 pub use twins::{TwinFault, session_twin, twin, write_twin};
 pub use verdict::{Reason, Report, Survey, Verdict};
-pub use walk::NoReport;

@@ -4,7 +4,8 @@ ghost use Rattle.cert.specs.Endings.{IsEnding};
 ghost use Rattle.cert.specs.FromReader.{IsCheckedFrom, IsRefusedBehind, IsCheckFault};
 ghost use Rattle.cert.specs.Surveying.{IsSurveyedFrom};
 
-use crate::from_reader::{CheckFault, Ending, walk_from};
+use crate::fault::{CheckFault, NoReport};
+use crate::from_reader::walk_from;
 use crate::verdict::{Report, Survey, Verdict};
 use certificate::Certificate;
 use reception::Identity;
@@ -18,17 +19,17 @@ fn survey_of<R: Read>(
     object: &[u8],
     certificate: &Certificate,
     identity: Identity,
-) -> Result<(Report, Survey), Ending>
+) -> Result<(Report, Survey), NoReport>
     ensures yes { IfOk result (λ r. IsSurveyedFrom identity (R.remaining reader.old)
         (R.remaining reader.new) object.now certificate.now (Verdict.Yes r.0) (Some r.1)) }
     ensures no { IfErr result (IsEnding identity (R.remaining reader.old)
         (R.remaining reader.new) (R.failed reader.new) object.now certificate.now) }
-    ensures unsound { IfErr result (λ ending.
-        ending ≡ Ending.Fault (CheckFault.Frame FrameFault.Io) → R.sound reader.old ≡ false) }
+    ensures unsound { IfErr result (λ e.
+        e ≡ NoReport.Fault (CheckFault.Frame FrameFault.Io) → R.sound reader.old ≡ false) }
     ensures stays { R.sound reader.new ≡ R.sound reader.old }
 {
     let walk = walk_from(alloc, reader, object, certificate.view(), identity)?;
-    Ok(walk.survey(alloc)?)
+    walk.survey(alloc)
 }
 
 /// The check as [`crate::check_from`] does it, with the same verdict and the same faults, and at a
@@ -57,7 +58,7 @@ pub fn survey_from<R: Read>(
 {
     match survey_of(alloc, reader, object, certificate, identity) {
         Ok((report, survey)) => Ok((Verdict::Yes(report), Some(survey))),
-        Err(Ending::Reason(reason)) => Ok((Verdict::No(reason), None)),
-        Err(Ending::Fault(fault)) => Err(fault),
+        Err(NoReport::Reason(reason)) => Ok((Verdict::No(reason), None)),
+        Err(NoReport::Fault(fault)) => Err(fault),
     }
 }

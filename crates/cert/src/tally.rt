@@ -18,8 +18,8 @@ ghost use Rattle.cert.specs.Scan.{line_in, with_carrier, AreEnough, AreEnoughCer
 ghost use Rattle.cert.specs.Scan.{IsShortGroup, IsShortWhereThin, IsPut, IsNoReport};
 
 use crate::datagrams::{empty_groups, put, put_carrier};
+use crate::fault::NoReport;
 use crate::verdict::{Reason, Report, Survey};
-use crate::walk::NoReport;
 use alc::Packet;
 use losses::{Figures, Groups, Member, figures_of, runs_of};
 use partition::Fti;
@@ -137,6 +137,7 @@ impl Tally {
         ensures no_report { (z : CertificateValue) (datagrams : List (List ℕ))
             → IsTally (by_certificate z) z.fti self.now datagrams
             → IfErr result (IsNoReport self.now.scope.identity datagrams z) }
+        ensures short { IfErr result (IsShortWhereThin (groups_of self.now.groups)) }
     {
         let report = self.report_of_groups(alloc)?;
         let runs = runs_of(alloc, &self.groups, &self.carriers, self.count)?;
@@ -241,7 +242,7 @@ fn block_lines(alloc: Global, groups: &Groups) -> Result<Vec<(usize, usize)>, No
             return Err(NoReport::Reason(Reason::Thin { block, have, need }));
         }
         let Ok(()) = blocks.push((need, have)) else {
-            return Err(NoReport::NoMemory);
+            return Err(NoReport::from(AllocError));
         };
     }
     Ok(blocks)

@@ -16,6 +16,7 @@ ghost use Rattle.cert.specs.Scan.{AreEnoughCertified, IsNoReport};
 ghost use Rattle.cert.specs.Verdict.{GivesObject};
 
 use crate::datagrams::{first_wrong_column_of, reason_of};
+use crate::fault::NoReport;
 use crate::source::first_not_given;
 use crate::tally::Tally;
 use crate::twins::twin;
@@ -27,25 +28,6 @@ use lists::are_bytes;
 use reception::{Identity, Look};
 use std::alloc::{AllocError, Global};
 use std::borrow::CowSlice;
-
-/// Why there is no report.
-#[derive(Debug, Clone, Copy, PartialEq, Eq)]
-pub enum NoReport {
-    /// The reason for a no.
-    Reason(Reason),
-    /// There is no memory.
-    NoMemory,
-}
-
-impl From<AllocError> for NoReport {
-    ghost use Rattle.cert.specs.declared.walk.NoReport.TheVariants.{NoMemory};
-
-    ghost from_gives = { λ _ no_report. no_report ≡ NoMemory };
-
-    fn from(_: AllocError) -> Self {
-        NoReport::NoMemory
-    }
-}
 
 /// A check on its way over datagrams: the certificate has no other identity's name, its polynomials
 /// give the object, and no datagram so far has a reason against it. None is kept, only the place

@@ -24,8 +24,8 @@ use Rattle.cert.specs.declared.verdict.Verdict.TheVariants.{Yes, No}
 use Rattle.cert.proofs.TwinObject.{is_twin_bytes}
 use Rattle.file_check.specs.Files.{IsCertificateFault, IsFaultOfFrames, IsFilesFault, Reliable, WhereTold}
 use Rattle.file_check.specs.Shortness.{IsShortFound, IsTwinnedIn}
-use Rattle.file_check.specs.declared.checking.FilesFault.{FilesFault}
-use Rattle.file_check.specs.declared.checking.FilesFault.TheVariants as files_fault
+use Rattle.cert.specs.declared.fault.CheckFault.{CheckFault}
+use Rattle.cert.specs.declared.fault.CheckFault.TheVariants as check_fault
 use Rattle.file_check.specs.declared.checking.ShortBlock.{ShortBlock}
 use Rattle.request.specs.declared.requests.TwinRequest.{TwinRequest}
 use Rattle.request.specs.declared.requests.Request.TheVariants.{Twin}
@@ -36,7 +36,7 @@ use Rattle.commands.specs.Commands.{Gives, GivesTwin, Outcome, inputs_of}
 use Rattle.commands.specs.Outcomes.{IsBecause, MayCreate}
 use Rattle.commands.specs.Doing.{HasMade, HasStopped, text_of}
 use Rattle.check_commands.specs.TwinsTold.{AreUnread, HasJudged, HoldsFrames, IsFoundIn, IsJudged, IsUnframed, IsUntwinned, TellsNoTwin}
-use Rattle.check_commands.specs.FileFaults.{fault_of}
+use Rattle.check_commands.specs.CheckFaults.{fault_of}
 use Rattle.commands.specs.declared.done.Done.{Done}
 use Rattle.commands.specs.declared.done.Told.TheVariants.{Lines}
 use Rattle.commands.specs.declared.fault.Fault.{Fault}
@@ -243,20 +243,20 @@ module _ (w : World) (r : TwinRequest) (session object text : Option (List ℕ))
 
   -- ---- why nothing is
 
-  stops : (e : FrameFault) (x y z : List ℕ) (h : IsFilesFault r.identity reliable x y z (files_fault.Frame e)) → IsSessionFault e (Some x) h.2.0.1
+  stops : (e : FrameFault) (x y z : List ℕ) (h : IsFilesFault r.identity reliable x y z (check_fault.Frame e)) → IsSessionFault e (Some x) h.2.0.1
   stops e x y z h =
       let is = h.2.0.2 in
       session_fault e (Some x) is.left h.2.0.0 h.2.0.1 is.datagrams is.consumed (λ i. (is.each i).short) is.refused
 
-  frame_stops : (files : Option Files) → w.files ≡ files → (e : FrameFault) → WhereTold session object text (λ x y z. IsFilesFault r.identity reliable x y z (files_fault.Frame e))
-      → ((x y z : List ℕ) → IsFilesFault r.identity reliable x y z (files_fault.Frame e) → StopsAt e x) → Holds w.files r.session.now (StopsAt e)
+  frame_stops : (files : Option Files) → w.files ≡ files → (e : FrameFault) → WhereTold session object text (λ x y z. IsFilesFault r.identity reliable x y z (check_fault.Frame e))
+      → ((x y z : List ℕ) → IsFilesFault r.identity reliable x y z (check_fault.Frame e) → StopsAt e x) → Holds w.files r.session.now (StopsAt e)
   frame_stops None is e h to = subst (λ (f : Option Files). Holds f r.session.now (StopsAt e)) (sym is) tt
   frame_stops (Some held) is e h to =
       let x = session_held held is in
-      let fact = where_told held is (λ x y z. IsFilesFault r.identity reliable x y z (files_fault.Frame e)) h in
+      let fact = where_told held is (λ x y z. IsFilesFault r.identity reliable x y z (check_fault.Frame e)) h in
       subst (λ (f : Option Files). Holds f r.session.now (StopsAt e)) (sym is) (x.0, x.1, to x.0 _ _ fact)
 
-  frame_unread : (e : FrameFault) → IsFaultOfFrames s (files_fault.Frame e) → WhereTold session object text (λ x y z. IsFilesFault r.identity reliable x y z (files_fault.Frame e))
+  frame_unread : (e : FrameFault) → IsFaultOfFrames s (check_fault.Frame e) → WhereTold session object text (λ x y z. IsFilesFault r.identity reliable x y z (check_fault.Frame e))
       → IsUnread w (ASession r.session.now) (told_as.Frame e)
   frame_unread frame_fault.CutLength frame h = frame_stops w.files refl frame_fault.CutLength h (λ x y z f. stops frame_fault.CutLength x y z f)
   frame_unread frame_fault.CutDatagram frame h = frame_stops w.files refl frame_fault.CutDatagram h (λ x y z f. stops frame_fault.CutDatagram x y z f)
@@ -265,29 +265,29 @@ module _ (w : World) (r : TwinRequest) (session object text : Option (List ℕ))
   frame_unread frame_fault.NoMemory frame h = tt
   frame_unread (frame_fault.NoSuchPlace p) frame h = absurd frame.0.1
 
-  lost_session : (w.files ≡ None) ⊎ ((held : Files) × (w.files ≡ Some held)) → WhereTold session object text (λ x y z. IsFilesFault r.identity reliable x y z files_fault.Session) → MayFail w
+  lost_session : (w.files ≡ None) ⊎ ((held : Files) × (w.files ≡ Some held)) → WhereTold session object text (λ x y z. IsFilesFault r.identity reliable x y z check_fault.Session) → MayFail w
   lost_session (inl none) h = inl none
-  lost_session (inr (held, told)) h = gives_session.fails (where_told held told (λ x y z. IsFilesFault r.identity reliable x y z files_fault.Session) h).2
+  lost_session (inr (held, told)) h = gives_session.fails (where_told held told (λ x y z. IsFilesFault r.identity reliable x y z check_fault.Session) h).2
 
-  lost_object : (w.files ≡ None) ⊎ ((held : Files) × (w.files ≡ Some held)) → WhereTold session object text (λ x y z. IsFilesFault r.identity reliable x y z files_fault.Object) → MayFail w
+  lost_object : (w.files ≡ None) ⊎ ((held : Files) × (w.files ≡ Some held)) → WhereTold session object text (λ x y z. IsFilesFault r.identity reliable x y z check_fault.Object) → MayFail w
   lost_object (inl none) h = inl none
-  lost_object (inr (held, told)) h = gives_object.fails (where_told held told (λ x y z. IsFilesFault r.identity reliable x y z files_fault.Object) h).2
+  lost_object (inr (held, told)) h = gives_object.fails (where_told held told (λ x y z. IsFilesFault r.identity reliable x y z check_fault.Object) h).2
 
   unhad : (fault : Fault) → AreUnread w r fault → HasStopped w w (Twin r) fault
   unhad fault h = stopped w (Twin r) fault (by_unread w w (Twin r) [] fault h)
 
-  pub unfound : (fault : FilesFault) → IsCertificateFault text t fault → IsFaultOfFrames s fault → WhereTold session object text (λ x y z. IsFilesFault r.identity reliable x y z fault)
+  pub unfound : (fault : CheckFault) → IsCertificateFault text t fault → IsFaultOfFrames s fault → WhereTold session object text (λ x y z. IsFilesFault r.identity reliable x y z fault)
       → HasStopped w w (Twin r) (fault_of r.session r.object fault)
-  unfound (files_fault.Frame e) certificate frame h = unhad (told_as.Frame e) (inl (frame_unread e frame h))
-  unfound files_fault.Session certificate frame h = unhad (told_as.File r.session) (inl (refl, lost_session (told_or_not w.files) h))
-  unfound files_fault.Object certificate frame h =
+  unfound (check_fault.Frame e) certificate frame h = unhad (told_as.Frame e) (inl (frame_unread e frame h))
+  unfound check_fault.Session certificate frame h = unhad (told_as.File r.session) (inl (refl, lost_session (told_or_not w.files) h))
+  unfound check_fault.Object certificate frame h =
       let value = a_session w.files r framed in
       unhad (told_as.File r.object) (inr (value.0, value.1, inl (refl, lost_object (told_or_not w.files) h)))
-  unfound (files_fault.Certificate e) certificate frame h =
+  unfound (check_fault.Certificate e) certificate frame h =
       let value = a_session w.files r framed in
       let bytes = an_object w.files r.object.now object gives_object.bytes in
       unhad (told_as.Certificate e) (inr (value.0, value.1, inr (bytes.0, bytes.1, inl (no_certificate w r.certificate text t gives_text e certificate))))
-  unfound files_fault.NoMemory certificate frame h = stopped w (Twin r) told_as.Memory tt
+  unfound check_fault.NoMemory certificate frame h = stopped w (Twin r) told_as.Memory tt
 
 -- ---- what is told where no block is short
 

@@ -1,5 +1,5 @@
 pub mod Drawing
-pub mod FileFaults
+pub mod CheckFaults
 pub mod Checks
 pub mod Summing
 pub mod TwinsTold

@@ -16,9 +16,9 @@ ghost use Rattle.commands.specs.Lines.{named, block_text, kill_text, losses_text
 ghost use Rattle.commands.specs.Lines.{reason_text, verdict_text as text_of_verdict};
 
 use crate::drawing::{Drawn, picture_of};
-use crate::faults::files_fault;
+use crate::faults::check_fault;
 use crate::summary::summary_lines;
-use cert::{CheckFault, Reason, Report, Survey, Verdict, check_from, survey_from};
+use cert::{Reason, Report, Survey, Verdict, check_from, survey_from};
 use certificate::Certificate;
 use commands::{
     Done, Fault, Text, Told, certificate_in, object_in, open, put_packet_fault, read_certificate,
@@ -27,7 +27,7 @@ use commands::{
 use file_check::{Files, check_files, survey_files};
 use host::Host;
 use request::{CheckRequest, Output};
-use session::{FrameFault, Read};
+use session::Read;
 use std::alloc::{AllocError, Global};
 
 /// What is told of a check, and the picture, where one is asked for and the answer is yes.
@@ -161,7 +161,7 @@ fn verdict_in<'a, H: Host>(
     };
     match checked {
         Ok(found) => Ok(found),
-        Err(fault) => Err(files_fault(request.session, request.object, fault)),
+        Err(fault) => Err(check_fault(request.session, request.object, fault)),
     }
 }
 
@@ -247,7 +247,7 @@ fn verdict_of<'a, R: Read>(
     frames: &mut R,
     object: &[u8],
     certificate: &Certificate,
-    request: &CheckRequest<'_>,
+    request: &CheckRequest<'a>,
 ) -> Result<(Verdict, Option<Survey>), Fault<'a>>
     requires { IsCertificate certificate.now }
     ensures ok { IfOk result (λ found. IsCheckedFrom request.now.identity
@@ -268,8 +268,7 @@ fn verdict_of<'a, R: Read>(
     };
     match checked {
         Ok(found) => Ok(found),
-        Err(CheckFault::NoMemory | CheckFault::Frame(FrameFault::NoMemory)) => Err(Fault::Memory),
-        Err(CheckFault::Frame(fault)) => Err(Fault::Frame(fault)),
+        Err(fault) => Err(check_fault(request.session, request.object, fault)),
     }
 }
 

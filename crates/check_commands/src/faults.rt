@@ -1,19 +1,19 @@
-//! A fault of files that are checked where they stand, as it is told.
+//! A fault of a check, as it is told.
 ghost use Rattle.std.specs.Prelude.{◌≡◌};
-ghost use Rattle.check_commands.specs.FileFaults.{fault_of};
+ghost use Rattle.check_commands.specs.CheckFaults.{fault_of};
 
+use cert::CheckFault;
 use commands::Fault;
-use file_check::FilesFault;
 
 /// The fault, by the names of the session and of the object.
-pub(crate) fn files_fault<'a>(session: &'a str, object: &'a str, fault: FilesFault) -> Fault<'a>
+pub(crate) fn check_fault<'a>(session: &'a str, object: &'a str, fault: CheckFault) -> Fault<'a>
     ensures { result ≡ fault_of session.entry object.entry fault }
 {
     match fault {
-        FilesFault::Frame(fault) => Fault::Frame(fault),
-        FilesFault::Session => Fault::File(session),
-        FilesFault::Object => Fault::File(object),
-        FilesFault::Certificate(fault) => Fault::Certificate(fault),
-        FilesFault::NoMemory => Fault::Memory,
+        CheckFault::Frame(fault) => Fault::Frame(fault),
+        CheckFault::Session => Fault::File(session),
+        CheckFault::Object => Fault::File(object),
+        CheckFault::Certificate(fault) => Fault::Certificate(fault),
+        CheckFault::NoMemory => Fault::Memory,
     }
 }

@@ -19,7 +19,7 @@ ghost use Rattle.check_commands.specs.TwinsTold.{IsFoundIn};
 ghost use Rattle.check_commands.specs.TwinsTold.{IsUnframed, IsUntwinned, TellsNoTwin, TellsTwin};
 
 use crate::check::reason_line;
-use crate::faults::files_fault;
+use crate::faults::check_fault;
 use cert::{TwinFault, Verdict, session_twin, write_twin};
 use certificate::Certificate;
 use commands::{
@@ -319,7 +319,7 @@ fn found_in<'a, H: Host>(
 {
     match check_for_twin(alloc, files, request.identity) {
         Ok(found) => Ok(found),
-        Err(fault) => Err(files_fault(request.session, request.object, fault)),
+        Err(fault) => Err(check_fault(request.session, request.object, fault)),
     }
 }
 

@@ -19,5 +19,5 @@ pub use encoder::{
     CertifyFault, CertifyFromFault, ObjectFault, SendFault, SendFromFault, certify, certify_from,
     certify_to, encode, encode_from, encode_rounds_from, sent_checks_yes,
 };
-pub use file_decoder::{FileFault, FileSymbols, FileWriteFault, IndexedFile, index_file};
+pub use file_decoder::{FileFault, FileSymbols, IndexedFile, index_file};
 pub use receiver::{FeedFault, Progress, Receiver};

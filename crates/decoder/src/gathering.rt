@@ -9,18 +9,19 @@ ghost use Rattle.block_recovery.specs.Received.{bytes_at};
 ghost use Rattle.decoder.specs.SymbolsOf.{AreSymbolsOf, AreGathered};
 ghost use Rattle.decoder.specs.Gathering.{IsGathered, IsWrittenOf};
 ghost use Rattle.decoder.specs.Written.{Gathers};
+ghost use Rattle.decoder.specs.declared.source.Unread.{Unread as UnreadValue};
 
 use crate::answer::Answer;
 use crate::coded_source::CodedSource;
 use crate::decoding::all_are_bytes;
+use crate::source::Unread;
 use crate::verdict::verdict;
-use crate::writing::{Unwritten, write_blocks};
+use crate::writing::{WriteFault, write_blocks};
 use block_code::{BlockCodes, Kind};
 use block_recovery::{DecodeFault, Received, Refusal, receive};
 use reception::Identity;
 use session::Write;
 use std::alloc::{AllocError, Global};
-use thiserror::Error;
 
 /// The symbols of an object, in their datagrams.
 #[derive(Drop)]
@@ -36,28 +37,6 @@ pub enum Gathered<'a> {
     Answer(Answer),
     /// The symbols of an object.
     Symbols(ObjectSymbols<'a>),
-}
-
-/// Why an object wasn't written.
-#[derive(Debug, Clone, Copy, PartialEq, Eq, Error)]
-pub enum WriteFault {
-    /// The writer has failed.
-    #[error("Io")]
-    Io,
-    /// Memory is wanting.
-    #[error("NoMemory")]
-    NoMemory,
-}
-
-impl From<AllocError> for WriteFault {
-    ghost use Rattle.std.specs.Prelude.{◌≡◌};
-    ghost use Rattle.decoder.specs.declared.gathering.WriteFault.TheVariants.{NoMemory};
-
-    ghost from_gives = { λ _ fault. fault ≡ NoMemory };
-
-    fn from(_: AllocError) -> Self {
-        WriteFault::NoMemory
-    }
 }
 
 // What the symbols give.
@@ -105,8 +84,9 @@ pub fn gather<'a>(
 impl ObjectSymbols<'_> {
     /// Writes the object, and answers its length in bytes. One block of it is held at a time.
     ///
-    /// `Io` comes only where the writer has failed, and never where it has room for the object. At
-    /// an error the writer has a beginning of the object.
+    /// `Io` comes only where the writer has failed, and never where it has room for the object.
+    /// Else memory is wanting (`Unread(NoMemory)`). At an error the writer has a beginning of the
+    /// object.
     pub fn write<W: Write>(&self, alloc: Global, writer: &mut W) -> Result<u64, WriteFault>
         requires { AreGathered self.now }
         ensures written { (who : IdentityValue) (ds : List (List ℕ))
@@ -116,6 +96,8 @@ impl ObjectSymbols<'_> {
         ensures front { (who : IdentityValue) (ds : List (List ℕ)) (object : List ℕ)
             → AreSymbolsOf who ds self.now → IsAnswer who ds (Object object)
             → OnErr result (AppendsSome (W.contents writer.old) (W.contents writer.new) object) }
+        ensures lacks { IfErr result (λ e. (why : UnreadValue) → e ≡ WriteFault.Unread why
+            → why ≡ Unread.NoMemory) }
         ensures full { IfErr result (λ e. e ≡ WriteFault.Io
             → W.room writer.old < self.now.received.fti.transfer_length) }
         ensures room { (who : IdentityValue) (ds : List (List ℕ)) (object : List ℕ)
@@ -128,10 +110,9 @@ impl ObjectSymbols<'_> {
         };
         match write_blocks(alloc, &coded, true, writer) {
             Ok(true) => Ok(self.received.fti.transfer_length()),
-            Err(Unwritten::Writer) => Err(WriteFault::Io),
-            // Symbols that are held are given, and are those of an object.
-            Ok(false) => Err(WriteFault::NoMemory),
-            Err(Unwritten::Unread(_)) => Err(WriteFault::NoMemory),
+            // Symbols that are held are those of an object.
+            Ok(false) => unreachable!(),
+            Err(fault) => Err(fault),
         }
     }
 }

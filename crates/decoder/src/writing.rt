@@ -1,7 +1,7 @@
 //! An object that is written block by block, so that it is never held.
 ghost use Rattle.std.specs.Prelude.{◌≡◌, ◌<◌, true, false, IfErr, IfOk, OnErr};
 ghost use Rattle.decoder.specs.Answered.{NoneIsShort};
-ghost use Rattle.decoder.specs.Sources.{IsUnwrittenOf};
+ghost use Rattle.decoder.specs.Sources.{IsWriteFaultOf};
 ghost use Rattle.decoder.specs.Unsolvable.{AreSound, SomeUnsound};
 ghost use Rattle.decoder.specs.Written.{WritesObject, BeginsObject};
 
@@ -9,36 +9,39 @@ use crate::coded_source::CodedSource;
 use crate::source::{Source, Unread};
 use session::{Write, write_all};
 use std::alloc::{AllocError, Global};
+use thiserror::Error;
 
-/// Why the blocks weren't written.
-#[derive(Clone, Copy)]
-pub enum Unwritten {
+/// Why an object wasn't written.
+#[derive(Debug, Clone, Copy, PartialEq, Eq, Error)]
+pub enum WriteFault {
     /// The writer has failed.
-    Writer,
-    /// Symbols weren't given.
+    #[error("Io")]
+    Io,
+    /// Symbols that came weren't read again. Of those that are held only memory can be wanting.
+    #[error("{0}")]
     Unread(Unread),
 }
 
-impl From<Unread> for Unwritten {
+impl From<Unread> for WriteFault {
     ghost use Rattle.std.specs.Prelude.{◌≡◌};
-    ghost use Rattle.decoder.specs.declared.writing.Unwritten.TheVariants as unwritten;
+    ghost use Rattle.decoder.specs.declared.writing.WriteFault.TheVariants as write_fault;
 
-    ghost from_gives = { λ unread fault. fault ≡ unwritten.Unread unread };
+    ghost from_gives = { λ unread fault. fault ≡ write_fault.Unread unread };
 
     fn from(unread: Unread) -> Self {
-        Unwritten::Unread(unread)
+        WriteFault::Unread(unread)
     }
 }
 
-impl From<AllocError> for Unwritten {
+impl From<AllocError> for WriteFault {
     ghost use Rattle.std.specs.Prelude.{◌≡◌};
     ghost use Rattle.decoder.specs.declared.source.Unread.TheVariants.{NoMemory};
-    ghost use Rattle.decoder.specs.declared.writing.Unwritten.TheVariants as unwritten;
+    ghost use Rattle.decoder.specs.declared.writing.WriteFault.TheVariants as write_fault;
 
-    ghost from_gives = { λ _ fault. fault ≡ unwritten.Unread NoMemory };
+    ghost from_gives = { λ _ fault. fault ≡ write_fault.Unread NoMemory };
 
     fn from(_: AllocError) -> Self {
-        Unwritten::Unread(Unread::NoMemory)
+        WriteFault::Unread(Unread::NoMemory)
     }
 }
 
@@ -49,7 +52,7 @@ pub fn write_blocks<S: Source, W: Write>(
     coded: &CodedSource<'_, S>,
     are_sound: bool,
     writer: &mut W,
-) -> Result<bool, Unwritten>
+) -> Result<bool, WriteFault>
     requires enough { NoneIsShort (S.known coded.now.source.now) (S.at coded.now.source.now) }
     requires sound { are_sound ≡ true → S.Told coded.now.source.now
         → AreSound (S.known coded.now.source.now) (S.at coded.now.source.now) }
@@ -61,11 +64,11 @@ pub fn write_blocks<S: Source, W: Write>(
     ensures front { S.Told coded.now.source.now
         → OnErr result (BeginsObject (S.known coded.now.source.now) (S.at coded.now.source.now)
         (W.contents writer.old) (W.contents writer.new)) }
-    ensures fault { IfErr result (λ e. e ≡ Unwritten.Writer → W.failed writer.new ≡ true) }
-    ensures full { IfErr result (λ e. e ≡ Unwritten.Writer
+    ensures fault { IfErr result (λ e. e ≡ WriteFault.Io → W.failed writer.new ≡ true) }
+    ensures full { IfErr result (λ e. e ≡ WriteFault.Io
         → W.room writer.old < (S.known coded.now.source.now).transfer_length) }
     ensures unread { IfErr result
-        (IsUnwrittenOf (S.Told coded.now.source.now) (S.reliable coded.now.source.now)) }
+        (IsWriteFaultOf (S.Told coded.now.source.now) (S.reliable coded.now.source.now)) }
 {
     let fti = coded.source.fti();
     let count = fti.block_count();
@@ -80,7 +83,7 @@ pub fn write_blocks<S: Source, W: Write>(
         // The rows of a source that isn't told may be shorter.
         let used = fti.block_bytes(b).min(rows.bytes.len());
         let Ok(()) = write_all(writer, &rows.bytes[..used]) else {
-            return Err(Unwritten::Writer);
+            return Err(WriteFault::Io);
         };
     }
     Ok(true)

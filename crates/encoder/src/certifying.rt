@@ -5,7 +5,7 @@ ghost use Rattle.lists.specs.Bytes.{AreBytes};
 ghost use Rattle.partition.specs.Fti.{block_count, source_count, start_of};
 ghost use Rattle.certificate.specs.Certificate.{IsIdentity, coefficient_count, unnamed, head_text};
 ghost use Rattle.cert.specs.Verdict.{GivesObject, GivesBlock};
-ghost use Rattle.block_code.specs.Codes.{EachBlockHas, IsInterpolator};
+ghost use Rattle.block_code.specs.Codes.{EachBlockHas};
 ghost use Rattle.block_code.specs.CodesOf.{IsInterpolatorOf};
 ghost use Rattle.encoder.specs.AllValues.{IsRoom};
 ghost use Rattle.encoder.specs.Certified.{CertifiesSent, BeginsRows, IsCertifiedTo, IsCertifyFault};
@@ -52,21 +52,6 @@ fn interpolators(alloc: Global, object: &[u8], fti: &Fti) -> Result<BlockCodes, 
     }
 }
 
-// Makes a block's rows of coefficients of its source symbols at once, by the columns of the matrix
-// that makes them.
-fn certify_at_once(sources: &[u8], fti: &Fti, b: u32, interpolator: &Code, rows: &mut [u8])
-    requires block { b < block_count fti.now }
-    requires interpolator { IsInterpolator (source_count fti.now b) interpolator.now.matrix }
-    requires room { length rows.old ≡ source_count fti.now b * fti.now.symbol_length }
-    ensures len { length rows.new ≡ length rows.old }
-    ensures bytes { AreBytes rows.new }
-    ensures gives { (object : List ℕ) → AreBytes object
-        → AreSourcesOf fti.now object b sources.now → RowsGive object fti.now b rows.new }
-{
-    combine(sources, fti, b, &interpolator.columns, fti.k(b), rows);
-    are_bytes(rows);
-}
-
 // Makes a block's rows of coefficients of its source symbols, from the constant ones on.
 fn certify_block(
     sources: &[u8],
@@ -87,7 +72,8 @@ fn certify_block(
 {
     fti.is_valid();
     if fti.k(b) < LEAST_BY_VALUES {
-        certify_at_once(sources, fti, b, interpolator, rows);
+        combine(sources, fti, b, &interpolator.columns, fti.k(b), rows);
+        are_bytes(rows);
     } else {
         certify_by_values(sources, fti, b, interpolator, rows, work);
     }

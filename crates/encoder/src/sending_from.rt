@@ -106,35 +106,6 @@ fn send_blocks<R: Read, W: Write>(
     Ok(place)
 }
 
-// Sends the whole session of the object that is read, with room as above.
-fn send_object<R: Read, W: Write>(
-    t: &Transmission,
-    reader: &mut R,
-    sources: &mut [u8],
-    symbols: &mut [u8],
-    datagram: &mut [u8],
-    writer: &mut W,
-) -> Result<u64, SendFromFault>
-    requires codes { EachBlockHas (IsCodeOf t.now.fti) t.now.fti t.now.codes }
-    requires sources { length sources.old ≡ source_count t.now.fti 0 * t.now.fti.symbol_length }
-    requires room { length symbols.old ≡ encoding_count t.now.fti 0 * t.now.fti.symbol_length }
-    requires datagram { IsDatagramRoom t.now.fti datagram.old }
-    ensures sent { OnOk result (ReadsObject t.now.fti (R.remaining reader.old)
-        (λ object. Sends (AreSent object t.now.fti t.now.tsi t.now.toi t.now.every)
-        (items Blocks t.now.fti) (W.contents writer.old) (W.contents writer.new))) }
-    ensures end { OnOk result (IsAtEnd (R.remaining reader.new)) }
-    ensures count { IfOk result (λ n. n ≡ length (pairs Blocks t.now.fti)) }
-    ensures fault { IfErr result (λ e. IsSendFromFault e t.now.fti t.now.tsi t.now.toi t.now.every
-        (reader_change R.Read reader.old reader.new)
-        (writer_change W.Write writer.old writer.new)) }
-    ensures full { IfErr result (λ e. e ≡ SendFromFault.Write
-        → W.room writer.old < session_bytes t.now.fti t.now.every (items Blocks t.now.fti)) }
-{
-    let count = send_blocks(t, reader, sources, symbols, datagram, writer)?;
-    read_end(reader)?;
-    Ok(count)
-}
-
 /// Reads the object, all up to the reader's end, and writes what `encode` writes of it in order
 /// `Blocks`; tells how many datagrams. In order `Rounds` `encode_rounds_from` writes it, where the
 /// writer's bytes have offsets.
@@ -186,12 +157,14 @@ pub fn encode_from<R: Read, W: Write>(
         order: Order::Blocks,
         codes,
     };
-    send_object(
+    let count = send_blocks(
         &transmission,
         reader,
         &mut sources,
         &mut symbols,
         &mut datagram,
         writer,
-    )
+    )?;
+    read_end(reader)?;
+    Ok(count)
 }

@@ -12,8 +12,8 @@ use Rattle.file_check.specs.Checked.{IsBlockStop, IsBlocksStop}
 use Rattle.file_check.specs.Files.{Reliable}
 use Rattle.file_check.specs.Compared.{AreCompared, IsCompared}
 use Rattle.file_check.specs.declared.blocks.Wrong.{Wrong}
-use Rattle.file_check.specs.declared.checking.Stop.{Stop}
-use Rattle.file_check.specs.declared.checking.Stop.TheVariants as stop
+use Rattle.cert.specs.declared.fault.NoReport.{NoReport}
+use Rattle.cert.specs.declared.fault.NoReport.TheVariants as why
 
 module _ (z : Certificate) (o : List ℕ) (t : Tallied) (ds : List (List ℕ)) where
   pub none_yet : AreCompared z o t ds 0 None
@@ -50,16 +50,16 @@ module _ (z : Certificate) (o : List ℕ) (t : Tallied) (ds : List (List ℕ)) w
         by x y m (inr (e, inr (f, inl l))) ly lm = rw (e, f) (h.first.symbols_before m l)
         by x y m (inr (e, inr (f, inr (k, none)))) ly lm = absurd none
 
-    pub stopped : (reliable : Reliable) (s : Stop) → n < block_count z.fti → IsBlockStop reliable o z n s → IsBlocksStop reliable o z s
-    stopped reliable (stop.ByFault fault) inside h = h
-    stopped reliable (stop.ByReason (NotObject b c i)) inside h = first_of_all b c i inside h.0 (rw h.0 h.1)
-    stopped reliable (stop.ByReason OtherCertificate) inside h = absurd h
-    stopped reliable (stop.ByReason ObjectLength) inside h = absurd h
-    stopped reliable (stop.ByReason Empty) inside h = absurd h
-    stopped reliable (stop.ByReason (NoPacket i r)) inside h = absurd h
-    stopped reliable (stop.ByReason (OtherFti i)) inside h = absurd h
-    stopped reliable (stop.ByReason (SymbolLength i)) inside h = absurd h
-    stopped reliable (stop.ByReason (Range i)) inside h = absurd h
-    stopped reliable (stop.ByReason (Symbol i c)) inside h = absurd h
-    stopped reliable (stop.ByReason (Thin b have need)) inside h = absurd h
-    stopped reliable (stop.ByReason NoCarrier) inside h = absurd h
+    pub stopped : (reliable : Reliable) (s : NoReport) → n < block_count z.fti → IsBlockStop reliable o z n s → IsBlocksStop reliable o z s
+    stopped reliable (why.Fault fault) inside h = h
+    stopped reliable (why.Reason (NotObject b c i)) inside h = first_of_all b c i inside h.0 (rw h.0 h.1)
+    stopped reliable (why.Reason OtherCertificate) inside h = absurd h
+    stopped reliable (why.Reason ObjectLength) inside h = absurd h
+    stopped reliable (why.Reason Empty) inside h = absurd h
+    stopped reliable (why.Reason (NoPacket i r)) inside h = absurd h
+    stopped reliable (why.Reason (OtherFti i)) inside h = absurd h
+    stopped reliable (why.Reason (SymbolLength i)) inside h = absurd h
+    stopped reliable (why.Reason (Range i)) inside h = absurd h
+    stopped reliable (why.Reason (Symbol i c)) inside h = absurd h
+    stopped reliable (why.Reason (Thin b have need)) inside h = absurd h
+    stopped reliable (why.Reason NoCarrier) inside h = absurd h

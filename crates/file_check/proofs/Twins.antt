@@ -17,9 +17,10 @@ use Rattle.cert.specs.Twins.{IsTwinOfSession, esis_of}
 use Rattle.cert.specs.Verdict.{GivesObject}
 use Rattle.cert.specs.declared.tally.Tally.{Tally}
 use Rattle.cert.specs.declared.verdict.Reason.{Reason}
-use Rattle.cert.specs.declared.verdict.Reason.TheVariants.{Thin}
-use Rattle.cert.specs.declared.verdict.Verdict.TheVariants.{No}
-use Rattle.cert.specs.declared.walk.NoReport.TheVariants.{Reason as ByReason}
+use Rattle.cert.specs.declared.verdict.Reason.TheVariants.{OtherCertificate, ObjectLength, NotObject, Empty, Packet as NoPacket, OtherFti, SymbolLength, Range, Symbol, Thin, NoCarrier}
+use Rattle.cert.specs.declared.verdict.Verdict.{Verdict}
+use Rattle.cert.specs.declared.verdict.Verdict.TheVariants.{Yes, No}
+use Rattle.cert.specs.declared.fault.NoReport.TheVariants.{Reason as ByReason}
 use Rattle.cert.proofs.HeldEsis.{held_esis, few_in_group}
 use Rattle.cert.proofs.Judging.{read_all, refused}
 use Rattle.cert.proofs.Short.{twin_of_session}
@@ -50,6 +51,21 @@ short_found who f tally s r b have need e h short block_is have_is need_is fti e
       inside = rw fti few.0;
       few = rw (fti, esis) few.1;
     })
+
+-- nothing is said where no block is told as short
+pub none_made : (who : Identity) (session object : List ℕ) (z : Certificate) (verdict : Verdict) → MakesTwins who session object z verdict None
+none_made who session object z (Yes report) = tt
+none_made who session object z (No OtherCertificate) = tt
+none_made who session object z (No ObjectLength) = tt
+none_made who session object z (No (NotObject b c i)) = tt
+none_made who session object z (No Empty) = tt
+none_made who session object z (No (NoPacket i x)) = tt
+none_made who session object z (No (OtherFti i)) = tt
+none_made who session object z (No (SymbolLength i)) = tt
+none_made who session object z (No (Range i)) = tt
+none_made who session object z (No (Symbol i c)) = tt
+none_made who session object z (No (Thin b have need)) = tt
+none_made who session object z (No NoCarrier) = tt
 
 module _ (who : Identity) (x o : List ℕ) (z : Certificate) (valid : IsCertificate z) (name : is_for who z.name ≡ true) (form : IsObject z.fti o) (gives : GivesObject o z) (tally : Tally)
     (w : IsWholeTally who x z tally) where

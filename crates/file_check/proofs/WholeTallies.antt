@@ -23,7 +23,7 @@ use Rattle.cert.specs.Verdict.{GivesObject, reason_at}
 use Rattle.cert.specs.declared.verdict.Reason.{Reason}
 use Rattle.cert.specs.declared.verdict.Reason.TheVariants.{OtherCertificate, ObjectLength, NotObject, Empty, Packet as NoPacket, OtherFti, SymbolLength, Range, Symbol, Thin, NoCarrier}
 use Rattle.cert.specs.declared.verdict.Verdict.TheVariants.{No}
-use Rattle.cert.specs.declared.walk.NoReport.TheVariants.{Reason as ByReason}
+use Rattle.cert.specs.declared.fault.NoReport.TheVariants.{Reason as ByReason}
 use Rattle.cert.proofs.DatagramSteps.{refuses}
 use Rattle.cert.proofs.FromReader.{no_datagrams, consumes_one, not_begun, not_passed, not_read}
 use Rattle.cert.proofs.Judged.{all_passed, first_wrong}
@@ -34,10 +34,10 @@ use Rattle.file_check.specs.Files.{Reliable, IsFileFault, IsNoVerdict}
 use Rattle.file_check.specs.Compared.{AreCompared}
 use Rattle.file_check.specs.Indexed.{EndsBy, IsIndexed, IsIndexOf}
 use Rattle.file_check.specs.declared.blocks.Wrong.{Wrong}
-use Rattle.file_check.specs.declared.checking.Stop.{Stop}
-use Rattle.file_check.specs.declared.checking.Stop.TheVariants as stop
-use Rattle.file_check.specs.declared.checking.FilesFault.{FilesFault}
-use Rattle.file_check.specs.declared.checking.FilesFault.TheVariants.{Frame as NoFrame, Session, Object, Certificate as NoCertificate, NoMemory}
+use Rattle.cert.specs.declared.fault.NoReport.{NoReport}
+use Rattle.cert.specs.declared.fault.NoReport.TheVariants as why
+use Rattle.cert.specs.declared.fault.CheckFault.{CheckFault}
+use Rattle.cert.specs.declared.fault.CheckFault.TheVariants.{Frame as NoFrame, Session, Object, Certificate as NoCertificate, NoMemory}
 use Rattle.file_check.specs.declared.index.Index.{Index}
 use Rattle.file_check.specs.declared.index.End.{End}
 use Rattle.file_check.specs.declared.index.End.TheVariants.{File, Fault, Frame}
@@ -98,16 +98,16 @@ module _ (who : Identity) (x o : List ℕ) (z : Certificate) where
     by_reason (Thin b have need) h = absurd h
     by_reason NoCarrier h = absurd h
 
-    by_fault : (fault : FilesFault) → IsFileFault reliable fault → IsNoVerdict who reliable x o z fault
+    by_fault : (fault : CheckFault) → IsFileFault reliable fault → IsNoVerdict who reliable x o z fault
     by_fault (NoFrame e) h = absurd h
     by_fault Session h = h
     by_fault Object h = h
     by_fault (NoCertificate e) h = h
     by_fault NoMemory h = h
 
-    pub stops : (e : Stop) → IsBlocksStop reliable o z e → IsStop who reliable x o z e
-    stops (stop.ByReason r) h = by_reason r h
-    stops (stop.ByFault fault) h = by_fault fault h
+    pub stops : (e : NoReport) → IsBlocksStop reliable o z e → IsStop who reliable x o z e
+    stops (why.Reason r) h = by_reason r h
+    stops (why.Fault fault) h = by_fault fault h
 
 -- ---- behind an index
 

@@ -12,45 +12,45 @@ use Rattle.cert.specs.Verdict.{short_of}
 use Rattle.cert.specs.declared.tally.Tally.{Tally}
 use Rattle.cert.specs.declared.verdict.Reason.TheVariants.{NotObject}
 use Rattle.cert.specs.declared.verdict.Verdict.TheVariants.{No}
-use Rattle.file_check.specs.declared.checking.Stop.{Stop}
-use Rattle.file_check.specs.declared.checking.Stop.TheVariants as stop
+use Rattle.cert.specs.declared.fault.NoReport.{NoReport}
+use Rattle.cert.specs.declared.fault.NoReport.TheVariants as why
 use Rattle.file_check.specs.Files.{IsCertificateFault, IsFileFault, IsFaultOfFrames, IsNoVerdict}
 use Rattle.file_check.specs.Files.{Reliable}
 
 -- why a block isn't compared to its end: the certificate doesn't give the object there, or a file
 -- has failed
-abbrev pub IsBlockStop : Reliable → List ℕ → Certificate → ℕ → Stop → Type 0
-IsBlockStop reliable object z block (stop.ByReason (NotObject b c i)) =
+abbrev pub IsBlockStop : Reliable → List ℕ → Certificate → ℕ → NoReport → Type 0
+IsBlockStop reliable object z block (why.Reason (NotObject b c i)) =
     (b ≡ block) × IsFirstInBlock object z block c i
-IsBlockStop reliable object z block (stop.ByReason reason) = ⊥
-IsBlockStop reliable object z block (stop.ByFault fault) = IsFileFault reliable fault
+IsBlockStop reliable object z block (why.Reason reason) = ⊥
+IsBlockStop reliable object z block (why.Fault fault) = IsFileFault reliable fault
 
 -- why not all blocks are: the first source point at which it doesn't, or a file has failed
-abbrev pub IsBlocksStop : Reliable → List ℕ → Certificate → Stop → Type 0
-IsBlocksStop reliable object z (stop.ByReason reason) = IsNotGiven object z reason
-IsBlocksStop reliable object z (stop.ByFault fault) = IsFileFault reliable fault
+abbrev pub IsBlocksStop : Reliable → List ℕ → Certificate → NoReport → Type 0
+IsBlocksStop reliable object z (why.Reason reason) = IsNotGiven object z reason
+IsBlocksStop reliable object z (why.Fault fault) = IsFileFault reliable fault
 
 -- why there is no report: the verdict is no, or there is none
-abbrev pub IsStop : Identity → Reliable → List ℕ → List ℕ → Certificate → Stop → Type 0
-IsStop who reliable session object z (stop.ByReason reason) = (left : Option (List ℕ))
+abbrev pub IsStop : Identity → Reliable → List ℕ → List ℕ → Certificate → NoReport → Type 0
+IsStop who reliable session object z (why.Reason reason) = (left : Option (List ℕ))
     × IsCheckedFrom who (Some session) left object z (No reason)
-IsStop who reliable session object z (stop.ByFault fault) =
+IsStop who reliable session object z (why.Fault fault) =
     IsNoVerdict who reliable session object z fault
 
 -- what is told of the certificate's file where that is why
-abbrev pub IsCertificateStop : Option (List ℕ) → Bool → Stop → Type 0
-IsCertificateStop content reliable (stop.ByReason reason) = ⊤
-IsCertificateStop content reliable (stop.ByFault fault) = IsCertificateFault content reliable fault
+abbrev pub IsCertificateStop : Option (List ℕ) → Bool → NoReport → Type 0
+IsCertificateStop content reliable (why.Reason reason) = ⊤
+IsCertificateStop content reliable (why.Fault fault) = IsCertificateFault content reliable fault
 
 -- a fault of the session's frames is one of reading
-abbrev pub IsFrameStop : Bool → Stop → Type 0
-IsFrameStop reliable (stop.ByReason reason) = ⊤
-IsFrameStop reliable (stop.ByFault fault) = IsFaultOfFrames reliable fault
+abbrev pub IsFrameStop : Bool → NoReport → Type 0
+IsFrameStop reliable (why.Reason reason) = ⊤
+IsFrameStop reliable (why.Fault fault) = IsFaultOfFrames reliable fault
 
 -- no block is told as short before all datagrams are tallied
-abbrev pub IsEarlyStop : Stop → Type 0
-IsEarlyStop (stop.ByReason reason) = short_of reason ≡ None
-IsEarlyStop (stop.ByFault fault) = ⊤
+abbrev pub IsEarlyStop : NoReport → Type 0
+IsEarlyStop (why.Reason reason) = short_of reason ≡ None
+IsEarlyStop (why.Fault fault) = ⊤
 
 -- the tally of all datagrams of a session, each of them as the certificate has it
 pub record IsWholeTally (who : Identity) (session : List ℕ) (z : Certificate)

@@ -13,10 +13,10 @@ use Rattle.certificate.specs.declared.certificate.CertFault.{CertFault}
 use Rattle.certificate.specs.declared.certificate.CertFault.TheVariants.{Io as CertificateIo}
 use Rattle.cert.specs.declared.verdict.Survey.{Survey}
 use Rattle.cert.specs.declared.verdict.Verdict.{Verdict}
-use Rattle.file_check.specs.declared.checking.FilesFault.{FilesFault}
-use Rattle.file_check.specs.declared.checking.FilesFault.TheVariants.{Frame, Session, Object}
-use Rattle.file_check.specs.declared.checking.FilesFault.TheVariants.{NoMemory}
-use Rattle.file_check.specs.declared.checking.FilesFault.TheVariants.{Certificate as NoCertificate}
+use Rattle.cert.specs.declared.fault.CheckFault.{CheckFault}
+use Rattle.cert.specs.declared.fault.CheckFault.TheVariants.{Frame, Session, Object}
+use Rattle.cert.specs.declared.fault.CheckFault.TheVariants.{NoMemory}
+use Rattle.cert.specs.declared.fault.CheckFault.TheVariants.{Certificate as NoCertificate}
 
 -- a fact of the bytes of three files
 abbrev pub WhereTold : Option (List ℕ) → Option (List ℕ) → Option (List ℕ)
@@ -32,7 +32,7 @@ pub record Reliable : Type 0 where
   pub certificate : Bool
 
 -- a file has failed, where all tell their bytes
-abbrev pub IsFileFault : Reliable → FilesFault → Type 0
+abbrev pub IsFileFault : Reliable → CheckFault → Type 0
 IsFileFault reliable (Frame fault) = ⊥
 IsFileFault reliable Session = reliable.session ≡ false
 IsFileFault reliable Object = reliable.object ≡ false
@@ -41,7 +41,7 @@ IsFileFault reliable (NoCertificate fault) = ⊥
 IsFileFault reliable NoMemory = ⊤
 
 -- why there is no verdict by a certificate: no frame follows, or a file has failed
-abbrev pub IsNoVerdict : Identity → Reliable → List ℕ → List ℕ → Certificate → FilesFault → Type 0
+abbrev pub IsNoVerdict : Identity → Reliable → List ℕ → List ℕ → Certificate → CheckFault → Type 0
 IsNoVerdict who reliable session object z (Frame fault) =
     ((left : Option (List ℕ)) × (failed : Bool)
     × IsRefusedBehind who fault (Some session) left failed object z)
@@ -83,7 +83,7 @@ IsSurveyOnSome who verdict survey = (datagrams : List (List ℕ)) × (f : Fti) �
     × OnYesWith verdict survey (IsSurvey who datagrams f)
 
 -- a fault of the session's frames is one of reading
-abbrev pub IsFaultOfFrames : Bool → FilesFault → Type 0
+abbrev pub IsFaultOfFrames : Bool → CheckFault → Type 0
 IsFaultOfFrames reliable (Frame fault) =
     ((failed : Bool) × IsReadFault fault None None failed) × (fault ≡ Io → reliable ≡ false)
 IsFaultOfFrames reliable fault = ⊤
@@ -91,12 +91,12 @@ IsFaultOfFrames reliable fault = ⊤
 -- ---- why there is none
 
 -- the fault of a certificate's file
-abbrev pub IsCertificateFault : Option (List ℕ) → Bool → FilesFault → Type 0
+abbrev pub IsCertificateFault : Option (List ℕ) → Bool → CheckFault → Type 0
 IsCertificateFault content reliable (NoCertificate fault) = IsNoCertificate content reliable fault
 IsCertificateFault content reliable fault = ⊤
 
 -- any other fault: the certificate is there then
-abbrev pub IsFilesFault : Identity → Reliable → List ℕ → List ℕ → List ℕ → FilesFault → Type 0
+abbrev pub IsFilesFault : Identity → Reliable → List ℕ → List ℕ → List ℕ → CheckFault → Type 0
 IsFilesFault who reliable session object text (NoCertificate fault) = ⊤
 IsFilesFault who reliable session object text fault = (z : Certificate) × IsTextOf text z
     × IsNoVerdict who reliable session object z fault

@@ -6,30 +6,27 @@ ghost use Rattle.losses.specs.Groups.{groups_of};
 ghost use Rattle.partition.specs.Fti.{block_count, source_count, encoding_count};
 ghost use Rattle.reception.specs.Symbols.{IsObject};
 ghost use Rattle.certificate.specs.Certificate.{is_for, named_in};
-ghost use Rattle.cert.specs.FromReader.{IsCheckedFrom};
 ghost use Rattle.certificate.specs.InFile.{IsUnnamed};
-ghost use Rattle.cert.specs.Surveying.{IsSurveyedFrom};
 ghost use Rattle.cert.specs.Tallying.{tallied_of};
 ghost use Rattle.cert.specs.Verdict.{GivesObject};
 ghost use Rattle.file_check.specs.Checked.{IsBlockStop, IsBlocksStop, IsCertificateStop};
 ghost use Rattle.file_check.specs.Checked.{IsEarlyStop, IsFrameStop, IsStop};
 ghost use Rattle.file_check.specs.Files.{IsCertificateFault, IsFilesFault, IsFaultOfFrames};
-ghost use Rattle.file_check.specs.Files.{IsNoCertificate, IsNoVerdict};
+ghost use Rattle.file_check.specs.Files.{IsNoCertificate};
 ghost use Rattle.file_check.specs.Checked.{IsSomeTally, IsWholeTally};
 ghost use Rattle.file_check.specs.Compared.{AreCompared, IsCompared};
 ghost use Rattle.file_check.specs.Files.{IsSurveyIn, IsSurveyOnSome, IsVerdictIn};
 ghost use Rattle.file_check.specs.Files.{IsVerdictOnSome, WhereTold};
 ghost use Rattle.file_check.specs.Indexed.{IsIndexOf};
-ghost use Rattle.file_check.specs.Shortness.{IsShortFound, IsTwinnedIn, MakesTwins};
+ghost use Rattle.file_check.specs.Shortness.{IsShortFound, IsTwinnedIn};
 
 use crate::blocks::{Wrong, first_not_given, make_symbols, read_source};
 use crate::index::{End, Index, index_session};
 use crate::members::{Made, ROOM, first_wrong};
-use cert::{NoReport, Reason, Survey, Tally, Verdict, reason_of};
+use cert::{CheckFault, NoReport, Reason, Survey, Tally, Verdict, reason_of};
 use certificate::{CertFault, NamedCertificate};
 use partition::Fti;
 use reception::Identity;
-use session::FrameFault;
 use std::alloc::{AllocError, Global};
 use streams::{Lanes, ReadAt, has_length};
 
@@ -39,21 +36,6 @@ pub struct Files<'a, S: ReadAt, O: ReadAt, C: ReadAt> {
     pub session: &'a S,
     pub object: &'a O,
     pub certificate: &'a C,
-}
-
-/// Why files weren't checked.
-#[derive(Debug, Clone, Copy, PartialEq, Eq)]
-pub enum FilesFault {
-    /// The session's next frame wasn't read: `CutLength`, `CutDatagram`, `TooLong` or `Io`.
-    Frame(FrameFault),
-    /// The session's file has failed, or isn't as it was when it was read first.
-    Session,
-    /// The object's file has failed, or has changed.
-    Object,
-    /// The certificate's file holds none, or has failed or changed, which is `Io`.
-    Certificate(CertFault),
-    /// There is no memory for the check.
-    NoMemory,
 }
 
 /// A block that a check finds short, and what a twin of the object is made of.
@@ -74,25 +56,6 @@ struct NamedFiles<'a, S: ReadAt, O: ReadAt, C: ReadAt> {
     session: &'a S,
     object: &'a O,
     certificate: NamedCertificate<'a, C>,
-}
-
-/// Why there is no tally of all datagrams.
-#[derive(Clone, Copy)]
-pub(crate) enum Stop {
-    /// The verdict is no, for this reason.
-    ByReason(Reason),
-    ByFault(FilesFault),
-}
-
-impl From<AllocError> for Stop {
-    ghost use Rattle.file_check.specs.declared.checking.Stop.TheVariants as stop;
-    ghost use Rattle.file_check.specs.declared.checking.FilesFault.TheVariants as fault;
-
-    ghost from_gives = { λ _ e. e ≡ stop.ByFault fault.NoMemory };
-
-    fn from(_: AllocError) -> Self {
-        Stop::ByFault(FilesFault::NoMemory)
-    }
 }
 
 // What is read and made of one block, and a datagram. The memory is used again for each block.
@@ -144,7 +107,7 @@ fn compare_block<S: ReadAt, O: ReadAt, C: ReadAt>(
     buffers: &mut Buffers,
     block: u32,
     before: Option<Wrong>,
-) -> Result<Option<Wrong>, Stop>
+) -> Result<Option<Wrong>, NoReport>
     requires block { block < block_count files.now.certificate.fti }
     requires groups { length (groups_of index.now.tally.groups)
         ≡ block_count files.now.certificate.fti }
@@ -176,11 +139,11 @@ fn compare_block<S: ReadAt, O: ReadAt, C: ReadAt>(
     let fti = files.certificate.fti;
     buffers.resize(&fti, block)?;
     let Ok(()) = files.certificate.read_rows(block, &mut buffers.rows) else {
-        return Err(Stop::ByFault(FilesFault::Certificate(CertFault::Io)));
+        return Err(NoReport::Fault(CheckFault::Certificate(CertFault::Io)));
     };
     make_symbols(&fti, block, &buffers.rows, &mut buffers.symbols);
     let Ok(()) = read_source(files.object, &fti, block, &mut buffers.source) else {
-        return Err(Stop::ByFault(FilesFault::Object));
+        return Err(NoReport::Fault(CheckFault::Object));
     };
     if let Some((column, symbol)) = first_not_given(
         &fti,
@@ -188,7 +151,7 @@ fn compare_block<S: ReadAt, O: ReadAt, C: ReadAt>(
         &buffers.symbols,
         &buffers.source,
     ) {
-        return Err(Stop::ByReason(Reason::NotObject {
+        return Err(NoReport::Reason(Reason::NotObject {
             block,
             column,
             symbol,
@@ -200,7 +163,7 @@ fn compare_block<S: ReadAt, O: ReadAt, C: ReadAt>(
     };
     match first_wrong(session, index, made, &mut buffers.datagram, before) {
         Ok(wrong) => Ok(wrong),
-        Err(_) => Err(Stop::ByFault(FilesFault::Session)),
+        Err(_) => Err(NoReport::Fault(CheckFault::Session)),
     }
 }
 
@@ -210,7 +173,7 @@ fn compare_blocks<S: ReadAt, O: ReadAt, C: ReadAt>(
     alloc: Global,
     files: &NamedFiles<'_, S, O, C>,
     index: &Index,
-) -> Result<Option<Wrong>, Stop>
+) -> Result<Option<Wrong>, NoReport>
     requires groups { length (groups_of index.now.tally.groups)
         ≡ block_count files.now.certificate.fti }
     requires known { index.now.tally.scope.fti ≡ Some files.now.certificate.fti }
@@ -239,7 +202,7 @@ fn compare_blocks<S: ReadAt, O: ReadAt, C: ReadAt>(
     let fti = files.certificate.fti;
     let mut buffers = Buffers::new(alloc);
     let Ok(mut session) = Lanes::new(alloc, files.session, fti.n(0)) else {
-        return Err(Stop::ByFault(FilesFault::NoMemory));
+        return Err(NoReport::Fault(CheckFault::NoMemory));
     };
     let mut wrong = None;
     for block in 0..fti.block_count() {
@@ -254,7 +217,7 @@ fn tally_files<S: ReadAt, O: ReadAt, C: ReadAt>(
     alloc: Global,
     files: &NamedFiles<'_, S, O, C>,
     identity: Identity,
-) -> Result<Tally, Stop>
+) -> Result<Tally, NoReport>
     ensures tally { WhereTold (S.content files.now.session.now)
         (O.content files.now.object.now) (C.content files.now.certificate.file.now)
         (λ x o text. IfOk result (IsWholeTally identity x
@@ -282,115 +245,22 @@ fn tally_files<S: ReadAt, O: ReadAt, C: ReadAt>(
 {
     let fti = files.certificate.fti;
     if files.certificate.name != identity {
-        return Err(Stop::ByReason(Reason::OtherCertificate));
+        return Err(NoReport::Reason(Reason::OtherCertificate));
     }
     match has_length(files.object, fti.transfer_length()) {
         Ok(true) => {}
-        Ok(false) => return Err(Stop::ByReason(Reason::ObjectLength)),
-        Err(_) => return Err(Stop::ByFault(FilesFault::Object)),
+        Ok(false) => return Err(NoReport::Reason(Reason::ObjectLength)),
+        Err(_) => return Err(NoReport::Fault(CheckFault::Object)),
     }
     let (index, end) = index_session(alloc, files.session, identity, fti)?;
     if let Some(wrong) = compare_blocks(alloc, files, &index)? {
-        return Err(Stop::ByReason(Reason::Symbol(wrong.place, wrong.column)));
+        return Err(NoReport::Reason(Reason::Symbol(wrong.place, wrong.column)));
     }
     match end {
         End::File => Ok(index.tally),
-        End::Fault(fault) => Err(Stop::ByReason(reason_of(index.tally.count, fault))),
-        End::Frame(fault) => Err(Stop::ByFault(FilesFault::Frame(fault))),
+        End::Fault(fault) => Err(NoReport::Reason(reason_of(index.tally.count, fault))),
+        End::Frame(fault) => Err(NoReport::Fault(CheckFault::Frame(fault))),
     }
-}
-
-// The check of files whose certificate has a name, and at a yes what a picture shows beside the
-// report.
-fn survey_named<S: ReadAt, O: ReadAt, C: ReadAt>(
-    alloc: Global,
-    files: &NamedFiles<'_, S, O, C>,
-    identity: Identity,
-) -> Result<(Verdict, Option<Survey>), FilesFault>
-    ensures verdict { WhereTold (S.content files.now.session.now)
-        (O.content files.now.object.now) (C.content files.now.certificate.file.now)
-        (λ x o text. IfOk result (λ r. (left : Option (List ℕ))
-        × IsSurveyedFrom identity (Some x) left o
-        (named_in text files.now.certificate.fti files.now.certificate.name) r.0 r.1)) }
-    ensures fault { WhereTold (S.content files.now.session.now)
-        (O.content files.now.object.now) (C.content files.now.certificate.file.now)
-        (λ x o text. IfErr result (IsNoVerdict identity
-        (record {
-          session = S.reliable files.now.session.now;
-          object = O.reliable files.now.object.now;
-          certificate = C.reliable files.now.certificate.file.now;
-        }) x o (named_in text files.now.certificate.fti files.now.certificate.name))) }
-    ensures some { IfOk result (λ r. IsSurveyOnSome identity r.0 r.1) }
-    ensures certificate { IfErr result (IsCertificateFault
-        (C.content files.now.certificate.file.now) (C.reliable files.now.certificate.file.now)) }
-    ensures frame { IfErr result (IsFaultOfFrames (S.reliable files.now.session.now)) }
-{
-    let tally = match tally_files(alloc, files, identity) {
-        Ok(tally) => tally,
-        Err(Stop::ByReason(reason)) => return Ok((Verdict::No(reason), None)),
-        Err(Stop::ByFault(fault)) => return Err(fault),
-    };
-    match tally.survey(alloc) {
-        Ok((report, survey)) => Ok((Verdict::Yes(report), Some(survey))),
-        Err(NoReport::Reason(reason)) => Ok((Verdict::No(reason), None)),
-        Err(NoReport::NoMemory) => Err(FilesFault::NoMemory),
-    }
-}
-
-// The check of files whose certificate has a name, and the block that is short, where that is the
-// reason.
-fn twin_named<S: ReadAt, O: ReadAt, C: ReadAt>(
-    alloc: Global,
-    files: &NamedFiles<'_, S, O, C>,
-    identity: Identity,
-) -> Result<(Verdict, Option<ShortBlock>), FilesFault>
-    ensures verdict { WhereTold (S.content files.now.session.now)
-        (O.content files.now.object.now) (C.content files.now.certificate.file.now)
-        (λ x o text. IfOk result (λ r. (left : Option (List ℕ))
-        × IsCheckedFrom identity (Some x) left o
-        (named_in text files.now.certificate.fti files.now.certificate.name) r.0)) }
-    ensures twins { WhereTold (S.content files.now.session.now)
-        (O.content files.now.object.now) (C.content files.now.certificate.file.now)
-        (λ x o text. IfOk result (λ r. MakesTwins identity x o
-        (named_in text files.now.certificate.fti files.now.certificate.name) r.0 r.1)) }
-    ensures fault { WhereTold (S.content files.now.session.now)
-        (O.content files.now.object.now) (C.content files.now.certificate.file.now)
-        (λ x o text. IfErr result (IsNoVerdict identity
-        (record {
-          session = S.reliable files.now.session.now;
-          object = O.reliable files.now.object.now;
-          certificate = C.reliable files.now.certificate.file.now;
-        }) x o (named_in text files.now.certificate.fti files.now.certificate.name))) }
-    ensures some { IfOk result (λ r. IsVerdictOnSome identity r.0) }
-    ensures short { IfOk result (λ r. IsShortFound r.0 r.1) }
-    ensures certificate { IfErr result (IsCertificateFault
-        (C.content files.now.certificate.file.now) (C.reliable files.now.certificate.file.now)) }
-    ensures frame { IfErr result (IsFaultOfFrames (S.reliable files.now.session.now)) }
-{
-    let tally = match tally_files(alloc, files, identity) {
-        Ok(tally) => tally,
-        Err(Stop::ByReason(reason)) => return Ok((Verdict::No(reason), None)),
-        Err(Stop::ByFault(fault)) => return Err(fault),
-    };
-    let reason = match tally.report(alloc) {
-        Ok(report) => return Ok((Verdict::Yes(report), None)),
-        Err(NoReport::Reason(reason)) => reason,
-        Err(NoReport::NoMemory) => return Err(FilesFault::NoMemory),
-    };
-    let Some((block, have, need)) = reason.short_block() else {
-        return Ok((Verdict::No(reason), None));
-    };
-    let Ok(arrived_esis) = tally.esis(alloc, block) else {
-        return Err(FilesFault::NoMemory);
-    };
-    let short = ShortBlock {
-        block,
-        have,
-        need,
-        fti: files.certificate.fti,
-        arrived_esis,
-    };
-    Ok((Verdict::No(reason), Some(short)))
 }
 
 // The files, where the certificate has a name.
@@ -428,7 +298,7 @@ pub fn check_files<S: ReadAt, O: ReadAt, C: ReadAt>(
     alloc: Global,
     files: &Files<'_, S, O, C>,
     identity: Identity,
-) -> Result<Option<Verdict>, FilesFault>
+) -> Result<Option<Verdict>, CheckFault>
     ensures verdict { WhereTold (S.content files.now.session.now)
         (O.content files.now.object.now) (C.content files.now.certificate.now)
         (λ x o text. IfOk result (λ r. IfSome r (IsVerdictIn identity x o text))) }
@@ -459,7 +329,7 @@ pub fn survey_files<S: ReadAt, O: ReadAt, C: ReadAt>(
     alloc: Global,
     files: &Files<'_, S, O, C>,
     identity: Identity,
-) -> Result<Option<(Verdict, Option<Survey>)>, FilesFault>
+) -> Result<Option<(Verdict, Option<Survey>)>, CheckFault>
     ensures verdict { WhereTold (S.content files.now.session.now)
         (O.content files.now.object.now) (C.content files.now.certificate.now)
         (λ x o text. IfOk result (λ r. IfSome r (λ found.
@@ -480,10 +350,20 @@ pub fn survey_files<S: ReadAt, O: ReadAt, C: ReadAt>(
           certificate = C.reliable files.now.certificate.now;
         }) x o text)) }
 {
-    match named(files) {
-        Ok(Some(named)) => Ok(Some(survey_named(alloc, &named, identity)?)),
-        Ok(None) => Ok(None),
-        Err(fault) => Err(FilesFault::Certificate(fault)),
+    let named = match named(files) {
+        Ok(Some(named)) => named,
+        Ok(None) => return Ok(None),
+        Err(fault) => return Err(CheckFault::Certificate(fault)),
+    };
+    let tally = match tally_files(alloc, &named, identity) {
+        Ok(tally) => tally,
+        Err(NoReport::Reason(reason)) => return Ok(Some((Verdict::No(reason), None))),
+        Err(NoReport::Fault(fault)) => return Err(fault),
+    };
+    match tally.survey(alloc) {
+        Ok((report, survey)) => Ok(Some((Verdict::Yes(report), Some(survey)))),
+        Err(NoReport::Reason(reason)) => Ok(Some((Verdict::No(reason), None))),
+        Err(NoReport::Fault(fault)) => Err(fault),
     }
 }
 
@@ -494,7 +374,7 @@ pub fn check_for_twin<S: ReadAt, O: ReadAt, C: ReadAt>(
     alloc: Global,
     files: &Files<'_, S, O, C>,
     identity: Identity,
-) -> Result<Option<(Verdict, Option<ShortBlock>)>, FilesFault>
+) -> Result<Option<(Verdict, Option<ShortBlock>)>, CheckFault>
     ensures verdict { WhereTold (S.content files.now.session.now)
         (O.content files.now.object.now) (C.content files.now.certificate.now)
         (λ x o text. IfOk result (λ r. IfSome r (λ found.
@@ -516,9 +396,33 @@ pub fn check_for_twin<S: ReadAt, O: ReadAt, C: ReadAt>(
           certificate = C.reliable files.now.certificate.now;
         }) x o text)) }
 {
-    match named(files) {
-        Ok(Some(named)) => Ok(Some(twin_named(alloc, &named, identity)?)),
-        Ok(None) => Ok(None),
-        Err(fault) => Err(FilesFault::Certificate(fault)),
-    }
+    let named = match named(files) {
+        Ok(Some(named)) => named,
+        Ok(None) => return Ok(None),
+        Err(fault) => return Err(CheckFault::Certificate(fault)),
+    };
+    let tally = match tally_files(alloc, &named, identity) {
+        Ok(tally) => tally,
+        Err(NoReport::Reason(reason)) => return Ok(Some((Verdict::No(reason), None))),
+        Err(NoReport::Fault(fault)) => return Err(fault),
+    };
+    let reason = match tally.report(alloc) {
+        Ok(report) => return Ok(Some((Verdict::Yes(report), None))),
+        Err(NoReport::Reason(reason)) => reason,
+        Err(NoReport::Fault(fault)) => return Err(fault),
+    };
+    let Some((block, have, need)) = reason.short_block() else {
+        return Ok(Some((Verdict::No(reason), None)));
+    };
+    let Ok(arrived_esis) = tally.esis(alloc, block) else {
+        return Err(CheckFault::NoMemory);
+    };
+    let short = ShortBlock {
+        block,
+        have,
+        need,
+        fti: named.certificate.fti,
+        arrived_esis,
+    };
+    Ok(Some((Verdict::No(reason), Some(short))))
 }

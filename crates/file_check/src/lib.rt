@@ -23,4 +23,4 @@ mod extents;
 mod index;
 mod members;
 
-pub use checking::{Files, FilesFault, ShortBlock, check_files, check_for_twin, survey_files};
+pub use checking::{Files, ShortBlock, check_files, check_for_twin, survey_files};

@@ -11,8 +11,8 @@ use Rattle.file_decoder.specs.declared.indexed_file.FileFault.{FileFault}
 use Rattle.file_decoder.specs.declared.indexed_file.FileFault.TheVariants as file_fault
 use Rattle.file_decoder.specs.declared.indexed_file.IndexedFile.{IndexedFile}
 use Rattle.file_decoder.specs.declared.indexed_file.IndexedFile.TheVariants as indexed_file
-use Rattle.file_decoder.specs.declared.indexed_file.FileWriteFault.{FileWriteFault}
-use Rattle.file_decoder.specs.declared.indexed_file.FileWriteFault.TheVariants as write_fault
+use Rattle.decoder.specs.declared.writing.WriteFault.{WriteFault}
+use Rattle.decoder.specs.declared.writing.WriteFault.TheVariants as write_fault
 
 -- the answer to the file's datagrams, which is no object; or the places of the symbols that they
 -- have, enough of each block
@@ -33,6 +33,6 @@ IsFileFault content reliable file_fault.Changed = IfSome content (λ x. ⊥)
 IsFileFault content reliable file_fault.NoMemory = ⊤
 
 -- why the object wasn't written, where the writer hasn't failed
-abbrev pub IsFileWriteFault : Option (List ℕ) → Bool → FileWriteFault → Type 0
+abbrev pub IsFileWriteFault : Option (List ℕ) → Bool → WriteFault → Type 0
 IsFileWriteFault content reliable write_fault.Io = ⊤
 IsFileWriteFault content reliable (write_fault.Unread why) = IsNotAgain content reliable why

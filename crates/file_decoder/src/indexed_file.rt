@@ -20,7 +20,7 @@ use crate::file_source::{FileSource, Indexed};
 use crate::indexing::{Unindexed, find_fti, index};
 use block_code::{BlockCodes, Kind};
 use decoder::{
-    Answer, CodedSource, Unread, Unwritten, first_of_no_object, short_verdict, unsound_answer,
+    Answer, CodedSource, Unread, WriteFault, first_of_no_object, short_verdict, unsound_answer,
     write_blocks,
 };
 use reception::Identity;
@@ -57,17 +57,6 @@ pub enum FileFault {
     /// Memory is wanting.
     #[error("NoMemory")]
     NoMemory,
-}
-
-/// Why the object of a session file wasn't written.
-#[derive(Debug, Clone, Copy, PartialEq, Eq, Error)]
-pub enum FileWriteFault {
-    /// The writer has failed.
-    #[error("Io")]
-    Io,
-    /// The session file wasn't read again.
-    #[error("{0}")]
-    Unread(Unread),
 }
 
 impl From<Unread> for FileFault {
@@ -221,7 +210,7 @@ impl FileSymbols {
         alloc: Global,
         file: &F,
         writer: &mut W,
-    ) -> Result<Option<Answer>, FileWriteFault>
+    ) -> Result<Option<Answer>, WriteFault>
         requires { ArePlacedIn (F.content file.now) self.now }
         ensures written { (ds : List (List ℕ)) (x : List ℕ)
             → F.content file.now ≡ Some x
@@ -241,8 +230,8 @@ impl FileSymbols {
             → IsAnswer self.now.indexed.identity ds (Object object)
             → OnErr result (AppendsSome (W.contents writer.old) (W.contents writer.new) object) }
         ensures fault { IfErr result
-            (λ e. e ≡ FileWriteFault.Io → W.failed writer.new ≡ true) }
-        ensures full { IfErr result (λ e. e ≡ FileWriteFault.Io
+            (λ e. e ≡ WriteFault.Io → W.failed writer.new ≡ true) }
+        ensures full { IfErr result (λ e. e ≡ WriteFault.Io
             → W.room writer.old < self.now.indexed.fti.transfer_length) }
         ensures unread { IfErr result
             (IsFileWriteFault (F.content file.now) (F.reliable file.now)) }
@@ -260,10 +249,9 @@ impl FileSymbols {
             Ok(true) => Ok(None),
             Ok(false) => match unsound_answer(alloc, &coded) {
                 Ok(answer) => Ok(Some(answer)),
-                Err(unread) => Err(FileWriteFault::Unread(unread)),
+                Err(unread) => Err(WriteFault::Unread(unread)),
             },
-            Err(Unwritten::Writer) => Err(FileWriteFault::Io),
-            Err(Unwritten::Unread(unread)) => Err(FileWriteFault::Unread(unread)),
+            Err(fault) => Err(fault),
         }
     }
 }

@@ -13,4 +13,4 @@ mod indexed_file;
 mod indexing;
 mod rereading;
 
-pub use indexed_file::{FileFault, FileSymbols, FileWriteFault, IndexedFile, index_file};
+pub use indexed_file::{FileFault, FileSymbols, IndexedFile, index_file};

@@ -16,15 +16,15 @@ ghost use Rattle.commands.specs.Doing.{HasMade, HasStopped};
 ghost use Rattle.receive_commands.specs.Decoding.{IsToldOf, IsWriteBroken};
 ghost use Rattle.commands.specs.Lines.{line_of, answer_text};
 
-use crate::held::HeldFrames;
+use crate::held::read_frames;
 use block_recovery::DecodeFault;
 use commands::{Done, Fault, Text, Told, Unwritten, commit, create, open, put_packet_fault};
-use decoder::Answer;
-use file_decoder::{FileFault, FileSymbols, FileWriteFault, IndexedFile, index_file};
+use decoder::{Answer, WriteFault};
+use file_decoder::{FileFault, FileSymbols, IndexedFile, index_file};
 use host::Host;
 use request::DecodeRequest;
 use std::alloc::{AllocError, Global};
-use streams::{ReadAt, WriteAt};
+use streams::{MemoryFile, ReadAt, WriteAt};
 
 /// Writes the object that the identity's packets in the session give, block by block. A session is
 /// held where it comes from a pipe or a device. The output is created where no datagram has a fault
@@ -60,8 +60,8 @@ fn decode_stream<'a, H: Host>(
     ensures fault { IfErr result
         (HasStopped (H.world host.old) (H.world host.new) (Decode request.now)) }
 {
-    let frames = HeldFrames::read(alloc, input)?;
-    decode_file(alloc, host, request, &frames)
+    let frames = read_frames(alloc, input)?;
+    decode_file(alloc, host, request, &MemoryFile::new(&frames, usize::MAX))
 }
 
 // What a session decodes to that is read at offsets: a file, which isn't held, or held frames.
@@ -169,8 +169,8 @@ fn write_object<'a, F: ReadAt, W: WriteAt>(
     }
     match symbols.write_checked(alloc, input, writer) {
         Ok(refuted) => Ok(refuted),
-        Err(FileWriteFault::Io) => Err(Unwritten::Writing),
-        Err(FileWriteFault::Unread(unread)) => {
+        Err(WriteFault::Io) => Err(Unwritten::Writing),
+        Err(WriteFault::Unread(unread)) => {
             Err(Unwritten::Fault(file_fault(session, FileFault::from(unread))))
         }
     }

@@ -9,7 +9,7 @@ use crate::receiver_tests::{ORDERS, disturbed, object_of, sent};
 use cert::{CheckFault, Report, Verdict, check_from};
 use certificate::{CertFault, Certificate};
 use coder::certify_to;
-use file_check::{Files, FilesFault, check_files, survey_files};
+use file_check::{Files, check_files, survey_files};
 use partition::Fti;
 use rand_pcg::Pcg32;
 use reception::Identity;
@@ -48,17 +48,13 @@ struct Held<'a> {
 }
 
 // What a check of the bytes as they are read answers.
-fn read(alloc: Global, held: Held<'_>, identity: Identity) -> Result<Verdict, FilesFault> {
+fn read(alloc: Global, held: Held<'_>, identity: Identity) -> Result<Verdict, CheckFault> {
     let certificate = match Certificate::read(alloc, &mut Pieces::new(held.certificate, 50)) {
         Ok(certificate) => certificate,
-        Err(fault) => return Err(FilesFault::Certificate(fault)),
+        Err(fault) => return Err(CheckFault::Certificate(fault)),
     };
     let mut frames = Pieces::new(held.session, 50);
-    match check_from(alloc, &mut frames, held.object, &certificate, identity) {
-        Ok(verdict) => Ok(verdict),
-        Err(CheckFault::Frame(fault)) => Err(FilesFault::Frame(fault)),
-        Err(CheckFault::NoMemory) => Err(FilesFault::NoMemory),
-    }
+    check_from(alloc, &mut frames, held.object, &certificate, identity)
 }
 
 // What one of the files answers, with a survey at a yes and without.
@@ -66,7 +62,7 @@ fn stood(
     alloc: Global,
     held: Held<'_>,
     identity: Identity,
-) -> Result<Option<(Verdict, Verdict)>, FilesFault> {
+) -> Result<Option<(Verdict, Verdict)>, CheckFault> {
     let (session, object) = (Bytes(held.session), Bytes(held.object));
     let certificate = Bytes(held.certificate);
     let files = Files {
@@ -297,7 +293,7 @@ impl ReadAt for Changing<'_> {
 }
 
 // What is told where the session changes behind so many calls.
-fn told_of_changing(alloc: Global, others: Option<&[u8]>, calls: usize) -> Option<FilesFault> {
+fn told_of_changing(alloc: Global, others: Option<&[u8]>, calls: usize) -> Option<CheckFault> {
     let session = Changing {
         bytes: &SESSION,
         others: others.unwrap_or(&[]),
@@ -321,13 +317,13 @@ fn told_of_changing(alloc: Global, others: Option<&[u8]>, calls: usize) -> Optio
 fn of_failing_sessions(rt: HostRuntime) -> Result<(), Fail> {
     let alloc = rt.alloc();
     let at_once = told_of_changing(alloc, None, 0);
-    assert!(rt; at_once == Some(FilesFault::Frame(FrameFault::Io)));
+    assert!(rt; at_once == Some(CheckFault::Frame(FrameFault::Io)));
     let later = told_of_changing(alloc, None, 3);
-    assert!(rt; later == Some(FilesFault::Session));
+    assert!(rt; later == Some(CheckFault::Session));
     let shorter = told_of_changing(alloc, Some(&SESSION[..20]), 3);
-    assert!(rt; shorter == Some(FilesFault::Session));
+    assert!(rt; shorter == Some(CheckFault::Session));
     let other = told_of_changing(alloc, Some(&FIRST_ALONE), 3);
-    assert!(rt; other == Some(FilesFault::Session));
+    assert!(rt; other == Some(CheckFault::Session));
     Ok(())
 }
 
@@ -348,7 +344,7 @@ fn of_failing_certificates(rt: HostRuntime) -> Result<(), Fail> {
             certificate: &certificate,
         };
         let told = check_files(rt.alloc(), &files, ONE);
-        let is_fault = matches!(told, Err(FilesFault::Certificate(CertFault::Io)));
+        let is_fault = matches!(told, Err(CheckFault::Certificate(CertFault::Io)));
         assert!(rt; is_fault || calls == 3, "{calls} calls");
     }
     Ok(())

@@ -2,8 +2,9 @@ use Rattle.std.proofs.Common.{◌≡◌, ◌∙◌, Option, Some, None, refl, sy
 use Rattle.std.specs.Prelude.{⊤}
 use Rattle.cert.specs.Fed.{ended_of}
 use Rattle.cert.specs.declared.verdict.Reason.{Reason}
-use Rattle.cert.specs.declared.walk.NoReport.{NoReport}
-use Rattle.cert.specs.declared.walk.NoReport.TheVariants.{Reason as ByReason, NoMemory}
+use Rattle.cert.specs.declared.fault.NoReport.{NoReport}
+use Rattle.cert.specs.declared.fault.CheckFault.TheVariants.{NoMemory}
+use Rattle.cert.specs.declared.fault.NoReport.TheVariants.{Reason as ByReason, Fault}
 use Rattle.alcrs_c.specs.Told.{told_reason}
 use Rattle.alcrs_c.proofs.checker.alcrs_checker_feed.Goals as goal
 
@@ -20,7 +21,7 @@ goes_on o x none some = subst IsNone (sym none ∙ some) tt
 reason_or : Reason → Option NoReport → Reason
 reason_or d None = d
 reason_or d (Some (ByReason r)) = r
-reason_or d (Some NoMemory) = d
+reason_or d (Some (Fault fault)) = d
 
 one_reason : (o : Option NoReport) (a b : Reason) → o ≡ Some (ByReason a) → o ≡ Some (ByReason b) → a ≡ b
 unfolding reason_or
@@ -34,8 +35,8 @@ returns-in-Ok-None-clause-after c = λ r over short.
 
 pub returns-in-Ok-None-clause-lacking : goal.returns-in-Ok-None-clause-lacking
 returns-in-Ok-None-clause-lacking c = λ lacks short.
-    let e : ended_of c.deref_mut.result.now ≡ Some NoMemory = search rules in
-    absurd (rw c.in-Ok-None.is at (c.feed-fed.ensures.again NoMemory e short).0)
+    let e : ended_of c.deref_mut.result.now ≡ Some (Fault NoMemory) = search rules in
+    absurd (rw c.in-Ok-None.is at (c.feed-fed.ensures.again (Fault NoMemory) e short).0)
 
 pub returns-in-Ok-Some-clause-after : goal.returns-in-Ok-Some-clause-after
 returns-in-Ok-Some-clause-after c = λ r over short.
@@ -47,8 +48,8 @@ returns-in-Ok-Some-clause-after c = λ r over short.
 
 pub returns-in-Ok-Some-clause-lacking : goal.returns-in-Ok-Some-clause-lacking
 returns-in-Ok-Some-clause-lacking c = λ lacks short.
-    let e : ended_of c.deref_mut.result.now ≡ Some NoMemory = search rules in
-    absurd (rw c.in-Ok-Some.is at (c.feed-fed.ensures.again NoMemory e short).0)
+    let e : ended_of c.deref_mut.result.now ≡ Some (Fault NoMemory) = search rules in
+    absurd (rw c.in-Ok-Some.is at (c.feed-fed.ensures.again (Fault NoMemory) e short).0)
 
 pub returns-in-Err-NoMemory-clause-after : goal.returns-in-Err-NoMemory-clause-after
 returns-in-Err-NoMemory-clause-after c = λ r over short.

@@ -1,7 +1,6 @@
-use Rattle.std.proofs.Common.{[], get_or, map, take, sym, ap, List, ℕ}
+use Rattle.std.proofs.Common.{[], get_or, map, take, List, ℕ}
 use Rattle.std.specs.Borrow.{Bor}
 use Rattle.std.proofs.lemmas.List.{get_or_default}
-use Rattle.cert.specs.Fed.{IsFed}
 use Rattle.alcrs_c.proofs.Twins.{no_frame_fault, datagram_of, next_fed}
 use Rattle.alcrs_c.proofs.twin.fed.Goals as goal
 

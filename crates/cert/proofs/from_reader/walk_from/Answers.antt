@@ -1,16 +1,15 @@
 use Rattle.std.proofs.Common.{◌∙◌, ◌++◌, ◌∷◌, []}
 use Rattle.session.specs.Frames.{IsDatagram}
 use Rattle.session.proofs.Sessions.{datagrams_push}
-use Rattle.cert.specs.declared.from_reader.Ending.TheVariants.{Fault}
-use Rattle.cert.specs.declared.from_reader.CheckFault.TheVariants.{Frame}
-use Rattle.cert.specs.Endings.{ending_of}
+use Rattle.cert.specs.declared.fault.NoReport.TheVariants.{Fault}
+use Rattle.cert.specs.declared.fault.CheckFault.TheVariants.{Frame}
 use Rattle.certificate.proofs.Results.{passed_on}
 use Rattle.cert.proofs.FromReader.{consumes_none, consumes_one, not_begun, not_passed, not_read}
 use Rattle.cert.proofs.from_reader.walk_from.Goals as goal
 
 pub returns-in_err-walk-clause-no : goal.returns-in_err-walk-clause-no
 returns-in_err-walk-clause-no g c =
-    passed_on c.from_residual.result (ending_of c.in_err-walk.field-0.0) _ c.from_residual.ensures.1
+    passed_on c.from_residual.result c.in_err-walk.field-0.0 _ c.from_residual.ensures.1
     (not_begun c.args.identity (g.R.Read.remaining c.args.reader.now) (g.R.Read.failed c.args.reader.now) c.args.certificate c.args.object.now c.in_err-walk.field-0.0 c.in_err-walk.ensures.no_report)
 
 pub returns-in_err-datagram-clause-no : goal.returns-in_err-datagram-clause-no
@@ -41,7 +40,7 @@ returns-in_err-step-clause-no g c =
     let short = rw c.in-Some.is at c.in_ok-datagram.ensures.short in
     let here : IsDatagram d = record { short = short; bytes = rw c.as_slice-bytes.ensures.value at c.are_bytes.ensures } in
     let left = g.R.Read.remaining c.read_next_into.new.reader in
-    passed_on c.from_residual-in_err-step.result (ending_of c.in_err-step.field-0.0) _ c.from_residual-in_err-step.ensures.1
+    passed_on c.from_residual-in_err-step.result c.in_err-step.field-0.0 _ c.from_residual-in_err-step.ensures.1
     (not_passed who z object name form gives (g.R.Read.remaining c.args.reader.now) left (g.R.Read.failed c.read_next_into.new.reader) (read.0 ++ d ∷ []) (datagrams_push read.0 d read.1 here)
     (consumes_one (g.R.Read.remaining c.args.reader.now) (g.R.Read.remaining c.loop-walk.reader) left read.0 d read.3 some)
     c.in_err-step.field-0.0 (rw (c.loop-walk.invariant.identity, c.loop-walk.invariant.certificate, c.as_slice-bytes.ensures.value) at (c.in_err-step.ensures.no_report read.0 read.2)))

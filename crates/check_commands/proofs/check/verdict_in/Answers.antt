@@ -5,7 +5,7 @@ use Rattle.commands.specs.Doing.{HasStopped}
 use Rattle.commands.specs.declared.fault.Fault.{Fault}
 use Rattle.file_check.specs.Files.{IsVerdictIn}
 use Rattle.check_commands.specs.Checks.{OfFiles}
-use Rattle.check_commands.specs.FileFaults.{fault_of}
+use Rattle.check_commands.specs.CheckFaults.{fault_of}
 use Rattle.check_commands.specs.Summing.{CanBeSummed}
 use Rattle.check_commands.proofs.CheckedFiles.{each_summed, each_surveyed_summed, of_made, of_refused, surveyed_of_files, unchecked, verdict_of_files}
 use Rattle.check_commands.proofs.check.verdict_in.Goals as goal
@@ -38,7 +38,7 @@ returns-in-Err-checked-clause-fault g c =
     let w = g.H.Host.world c.args.host.now in
     let r = c.args.request.now in
     let e = c.in-Err-checked.fault in
-    subst (λ (fault : Fault). HasStopped w w (Check r) fault) (sym c.files_fault.ensures)
+    subst (λ (fault : Fault). HasStopped w w (Check r) fault) (sym c.check_fault.ensures)
     (elim c.if-is_some.branch [
       | then-is_some b ↦ (let is = sym b.checked-is ∙ c.in-Err-checked.is in let files = b.survey_files-checked.ensures in
           unchecked w r _ _ _ _ _ _ c.requires.session c.requires.object c.requires.certificate e (rw is at files.certificate) (rw is at files.frame) (rw is at files.fault))

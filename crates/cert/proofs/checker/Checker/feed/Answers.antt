@@ -1,6 +1,6 @@
 use Rattle.std.proofs.Common.{◌∙◌, ◌++◌, ◌∷◌, [], Some, refl, ap, arith}
 use Rattle.session.specs.Frames.{IsDatagram}
-use Rattle.cert.specs.declared.walk.NoReport.TheVariants.{Reason as ByReason}
+use Rattle.cert.specs.declared.fault.NoReport.TheVariants.{Reason as ByReason}
 use Rattle.cert.proofs.Feeding.{one_more, no_reason_so_far, still_no, now_no, has_reason, goes_on, fed_with_reason, fed_on}
 use Rattle.cert.proofs.checker.Checker.feed.Goals as goal
 

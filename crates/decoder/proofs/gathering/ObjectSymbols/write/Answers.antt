@@ -26,22 +26,17 @@ returns-in-Ok-true-clause-written g c = λ who ds are.
     let w = c.in-Ok-true.ensures.whole tt c.in-Ok-true.field-0-test in
     (w.object, answer_of who ds r.fti (bytes_at r.symbols) are.read are.received (Object w.object) w.answers, w.gained, c.transfer_length.ensures.value ∙ sym w.count)
 
-pub returns-in-Err-Writer-clause-front : goal.returns-in-Err-Writer-clause-front
-returns-in-Err-Writer-clause-front g c = λ who ds object are answer.
+pub returns-in-Err-clause-front : goal.returns-in-Err-clause-front
+returns-in-Err-clause-front g c = λ who ds object are answer.
     let r = c.args.self.now.received in
-    begun_of who ds r.fti (bytes_at r.symbols) are.read are.received _ _ (c.in-Err-Writer.ensures.front tt) object answer
+    begun_of who ds r.fti (bytes_at r.symbols) are.read are.received _ _ (c.in-Err.ensures.front tt) object answer
 
-pub returns-in-Err-Writer-clause-room : goal.returns-in-Err-Writer-clause-room
-returns-in-Err-Writer-clause-room g c = λ who ds object are answer io.
+pub returns-in-Err-clause-room : goal.returns-in-Err-clause-room
+returns-in-Err-clause-room g c = λ who ds object are answer io.
     let r = c.args.self.now.received in
-    omega (arith, c.in-Err-Writer.ensures.full c.in-Err-Writer.field-0-is, object_length who ds r.fti (bytes_at r.symbols) are.read are.received object answer)
+    omega (arith, c.in-Err.ensures.full io, object_length who ds r.fti (bytes_at r.symbols) are.read are.received object answer)
 
-pub returns-in-Err-Unread-clause-front : goal.returns-in-Err-Unread-clause-front
-returns-in-Err-Unread-clause-front g c = λ who ds object are answer.
+pub unreachable-requires : goal.unreachable-requires
+unreachable-requires g c =
     let r = c.args.self.now.received in
-    begun_of who ds r.fti (bytes_at r.symbols) are.read are.received _ _ (c.in-Err-Unread.ensures.front tt) object answer
-
-pub returns-in-Ok-false-clause-front : goal.returns-in-Ok-false-clause-front
-returns-in-Ok-false-clause-front g c = λ who ds object are answer.
-    let r = c.args.self.now.received in
-    absurd (sound_not_unsound r.fti (bytes_at r.symbols) are.enough.sound (c.in-Ok-false.ensures.other tt c.in-Ok-false.field-0-test))
+    sound_not_unsound r.fti (bytes_at r.symbols) c.requires.2.enough.sound (c.in-Ok-false.ensures.other tt c.in-Ok-false.field-0-test)

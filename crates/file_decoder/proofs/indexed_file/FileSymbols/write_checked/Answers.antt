@@ -29,15 +29,11 @@ returns-in-Ok-clause-answer g c = λ ds x told are.
     placed_answer (g.F.ReadAt.content c.args.file.now) c.args.self.now ds x told are (answer_value c.in-Ok.answer)
     (c.in-Ok.ensures.told (x, told, are.indexed.placed))
 
-pub returns-in-Err-Writer-clause-front : goal.returns-in-Err-Writer-clause-front
-returns-in-Err-Writer-clause-front g c = λ ds x object told are answer.
-    placed_begun (g.F.ReadAt.content c.args.file.now) c.args.self.now ds x told are _ _ (c.in-Err-Writer.ensures.front (x, told, are.indexed.placed)) object answer
-
-pub returns-in-Err-Unread-clause-front : goal.returns-in-Err-Unread-clause-front
-returns-in-Err-Unread-clause-front g c = λ ds x object told are answer.
-    placed_begun (g.F.ReadAt.content c.args.file.now) c.args.self.now ds x told are _ _ (c.in-Err-Unread.ensures.front (x, told, are.indexed.placed)) object answer
-
 pub returns-in-Err-clause-front : goal.returns-in-Err-clause-front
 returns-in-Err-clause-front g c = λ ds x object told are answer.
+    placed_begun (g.F.ReadAt.content c.args.file.now) c.args.self.now ds x told are _ _ (c.in-Err.ensures.front (x, told, are.indexed.placed)) object answer
+
+pub returns-in-Err-unsound_answer-clause-front : goal.returns-in-Err-unsound_answer-clause-front
+returns-in-Err-unsound_answer-clause-front g c = λ ds x object told are answer.
     absurd (placed_none_unsound (g.F.ReadAt.content c.args.file.now) c.args.self.now ds x told are c.is_valid.ensures
     (c.in-Ok-false.ensures.other (x, told, are.indexed.placed) c.in-Ok-false.field-0-test) object answer)

@@ -9,7 +9,7 @@ use Rattle.block_code.specs.Columns.{AreColumns}
 use Rattle.block_recovery.specs.Rows.{byte_in}
 use Rattle.block_recovery.proofs.Erased.{sum_with_none}
 use Rattle.block_recovery.proofs.Erasing.{factors_changed}
-use Rattle.block_recovery.proofs.recovery.Recovery.new.Goals as goal
+use Rattle.block_recovery.proofs.recovery.Recovery.of.Goals as goal
 
 -- a sum by the columns of a matrix
 by_columns : (w : Grid ℕ) (n : ℕ) → HasShape n n w → HasElements IsByte 0 w → (columns : List ℕ) → AreColumns w columns → (residual : ℕ → ℕ → ℕ) → ((q i : ℕ) → residual q i < 256)
@@ -28,10 +28,10 @@ returns c =
     let elements : HasElements IsByte 0 c.in_ok-matrix.matrix = search (rules, c.matrix.view_is) in
     let new = c.add_products.new.self in
     let count : residuals.count ≡ n = c.in_ok-residuals.ensures.sizes.rows_are in
-    let width : new.size ≡ g.rows = c.add_products.ensures.sizes.bytes_same ∙ c.in_ok-coefficients.ensures.sizes.bytes_are ∙ c.rows.ensures.value in
+    let width : new.size ≡ g.rows = c.add_products.ensures.sizes.bytes_same ∙ c.in_ok-coefficients.ensures.sizes.bytes_are ∙ c.rows-2.ensures.value in
     let rows : new.count ≡ n = c.add_products.ensures.sizes.rows_same ∙ c.in_ok-coefficients.ensures.sizes.rows_are in
     record {
-      k = c.rows-2.ensures.value;
+      k = c.rows-3.ensures.value;
       missing_are = search rules;
       repair_are = search rules;
       recovering = record {
@@ -48,7 +48,7 @@ returns c =
         count = new.whole ∙ ap (λ (m : ℕ). m * new.size) rows ∙ ap (λ (m : ℕ). n * m) width;
         made = λ a i la li.
             ap (λ (m : ℕ). slice_index new.bytes.items (a * m + i)) (sym width)
-            ∙ c.add_products.ensures.sums a i (omega (arith, la, c.in_ok-coefficients.ensures.sizes.rows_are)) (omega (arith, li, c.in_ok-coefficients.ensures.sizes.bytes_are, c.rows.ensures.value))
+            ∙ c.add_products.ensures.sums a i (omega (arith, la, c.in_ok-coefficients.ensures.sizes.rows_are)) (omega (arith, li, c.in_ok-coefficients.ensures.sizes.bytes_are, c.rows-2.ensures.value))
             ∙ ap (λ (v : ℕ). sum_of v (row_times sum_of product 0 (λ q. slice_index c.deref.result.now (a * residuals.count + q)) (byte_in residuals) residuals.count i)) (c.in_ok-coefficients.ensures.zero a i)
             ∙ sum_with_none (row_times sum_of product 0 (λ q. slice_index c.deref.result.now (a * residuals.count + q)) (byte_in residuals) residuals.count i)
             ∙ ap (λ (m : ℕ). row_times sum_of product 0 (λ q. slice_index c.deref.result.now (a * m + q)) (byte_in residuals) m i) count
