@@ -3,7 +3,7 @@ ghost use Rattle.std.specs.Prelude.{◌≡◌, ◌<◌, ◌≤◌, ◌+◌, ◌*
 ghost use Rattle.lists.specs.Bytes.{AreBytes};
 ghost use Rattle.gf256.specs.Slices.{lane};
 ghost use Rattle.evaluation.specs.Columns.{AreValues};
-ghost use Rattle.evaluation.specs.Sums.{AreSums, sum_at};
+ghost use Rattle.evaluation.specs.Sums.{AreSums};
 ghost use Rattle.evaluation.specs.Transform.{AreLoaded, place_of};
 
 use crate::lanes::{LANES, lanes_from, put_row};

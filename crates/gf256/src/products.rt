@@ -180,50 +180,8 @@ fn add_table(
     }
 }
 
-// Adds to each of any number of rows the products of the coefficients from `first` on and the
-// sources, which one table takes.
-fn add_rows(
-    outputs: &mut [u8],
-    coefficients: &Coefficients<'_>,
-    first: usize,
-    sources: &Sources<'_>,
-    table: &mut [u8],
-    tiling: Tiling,
-)
-    requires enough { sources.now.count ≤ tiling.size * tiling.groups }
-    requires table { 64 * (tiling.groups * tiling.entries) ≤ length table.old }
-    requires inside { first + sources.now.count ≤ coefficients.now.count }
-    requires room { length outputs.old ≡ coefficients.now.rows * sources.now.width }
-    ensures { (r j : ℕ) → r < coefficients.now.rows → j < sources.now.width
-        → slice_index outputs.new (r * sources.now.width + j)
-        ≡ sum_of (slice_index outputs.old (r * sources.now.width + j))
-        (byte_sum sources.now.count (λ i. product
-        (slice_index coefficients.now.bytes.now (r * coefficients.now.count + first + i))
-        (source_byte sources.now i j))) }
-{
-    let Coefficients { bytes, rows, count } = *coefficients;
-    let mut row = 0;
-    while row < rows {
-        let some = MOST_ROWS.min(rows - row);
-        let part = Coefficients {
-            bytes: &bytes[row * count..(row + some) * count],
-            rows: some,
-            count,
-        };
-        add_table(
-            &mut outputs[row * sources.width..],
-            &part,
-            first,
-            sources,
-            table,
-            tiling,
-        );
-        row += some;
-    }
-}
-
 // Adds to each row the products of its coefficients and all sources, as many of them at a time as
-// the tiling takes.
+// the tiling takes, and to as many rows as are made of one table.
 fn add_by_groups(
     outputs: &mut [u8],
     coefficients: &Coefficients<'_>,
@@ -243,20 +201,25 @@ fn add_by_groups(
         (slice_index coefficients.now.bytes.now (r * coefficients.now.count + i))
         (source_byte sources.now i j))) }
 {
-    let count = coefficients.count;
+    let Coefficients { bytes, rows, count } = *coefficients;
     let mut first = 0;
     while first < count {
         let groups = tiling.groups.min((count - first - 1) / tiling.size + 1);
+        let tiling = tiling.with_groups(groups);
         let taken = (tiling.size * groups).min(count - first);
         let part = sources.part(first, taken);
-        add_rows(
-            outputs,
-            coefficients,
-            first,
-            &part,
-            table,
-            tiling.with_groups(groups),
-        );
+        let mut row = 0;
+        while row < rows {
+            let some = MOST_ROWS.min(rows - row);
+            let of_rows = Coefficients {
+                bytes: &bytes[row * count..(row + some) * count],
+                rows: some,
+                count,
+            };
+            let rest = &mut outputs[row * part.width..];
+            add_table(rest, &of_rows, first, &part, table, tiling);
+            row += some;
+        }
         first += taken;
     }
 }

@@ -1,7 +1,7 @@
 //! The sums of every choice of a group's sources, 64 bytes each.
 ghost use Rattle.std.specs.Prelude.{◌≡◌, ℕ, ◌<◌, ◌≤◌, ◌+◌, ◌*◌, length, slice_index};
 ghost use Rattle.gf256.specs.Arithmetic.{sum_of};
-ghost use Rattle.gf256.specs.Slices.{choice_sum, below, entry_byte, source_byte, IsFilled};
+ghost use Rattle.gf256.specs.Slices.{entry_byte, IsFilled};
 
 use crate::lanes::{LANES, lanes_at, put_lanes, sum_lanes};
 use crate::sources::Sources;
