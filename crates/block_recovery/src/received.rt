@@ -1,6 +1,6 @@
 //! The encoding symbols that came, by block and ESI.
-ghost use Rattle.std.specs.Prelude.{◌≡◌, ◌==◌, ◌&&◌, ℕ, List, Some, true, false, map, IsNone};
-ghost use Rattle.std.specs.Prelude.{IfSome, IfOk, IfErr, OnOk};
+ghost use Rattle.std.specs.Prelude.{◌≡◌, ◌==◌, ◌&&◌, ℕ, List, Some, true, false, not, map};
+ghost use Rattle.std.specs.Prelude.{IsNone, IfSome, IfOk, IfErr, OnOk};
 ghost use Rattle.alc.specs.Views.{packet_of};
 ghost use Rattle.reception.specs.Symbols.{Symbol};
 ghost use Rattle.reception.specs.Reception.{Faulty, ReadAll, symbol_of};
@@ -24,20 +24,13 @@ pub enum Refusal {
     NoMemory,
 }
 
-// Why a symbol wasn't kept.
-#[derive(Clone, Copy)]
-enum Unkept {
-    Clash,
-    NoMemory,
-}
+impl From<AllocError> for Refusal {
+    ghost use Rattle.block_recovery.specs.declared.received.Refusal.TheVariants.{NoMemory};
 
-impl From<AllocError> for Unkept {
-    ghost use Rattle.block_recovery.specs.declared.received.Unkept.TheVariants.{NoMemory};
-
-    ghost from_gives = { λ _ unkept. unkept ≡ NoMemory };
+    ghost from_gives = { λ _ refusal. refusal ≡ NoMemory };
 
     fn from(_: AllocError) -> Self {
-        Unkept::NoMemory
+        Refusal::NoMemory
     }
 }
 
@@ -60,31 +53,27 @@ pub fn fault_at(place: usize, fault: PlaceFault) -> DecodeFault
     }
 }
 
-// Keeps the packet's symbol, unless an earlier one of its block and ESI has other bytes.
+// Keeps the packet's symbol, and answers whether it did: not where an earlier one of its block and
+// ESI has other bytes.
 fn keep<'a>(
     alloc: Global,
     symbols: &mut Symbols<&'a [u8]>,
     packet: &Packet<'a>,
-) -> Result<(), Unkept>
-    ensures here { OnOk result
-        (bytes_at symbols.new packet.now.sbn packet.now.esi ≡ Some packet.now.symbol.now) }
+) -> Result<bool, AllocError>
+    ensures here { IfOk result (λ kept. kept ≡ true
+        → bytes_at symbols.new packet.now.sbn packet.now.esi ≡ Some packet.now.symbol.now) }
     ensures elsewhere { OnOk result
         ((b j : ℕ) → (packet.now.sbn == b && packet.now.esi == j) ≡ false
         → bytes_at symbols.new b j ≡ bytes_at symbols.old b j) }
-    ensures none { OnOk result ((earlier : List Symbol) → IsIndex earlier (bytes_at symbols.old)
-        → clashes earlier (symbol_of (packet_of packet.now)) ≡ false) }
-    ensures clash { IfErr result (λ unkept. unkept ≡ Unkept.Clash
-        → (earlier : List Symbol) → IsIndex earlier (bytes_at symbols.old)
-        → clashes earlier (symbol_of (packet_of packet.now)) ≡ true) }
+    ensures clash { IfOk result (λ kept. (earlier : List Symbol)
+        → IsIndex earlier (bytes_at symbols.old)
+        → clashes earlier (symbol_of (packet_of packet.now)) ≡ not kept) }
 {
     let Some(bytes) = symbols.get(packet.sbn, packet.esi) else {
         symbols.put(alloc, packet.sbn, packet.esi, packet.symbol)?;
-        return Ok(());
+        return Ok(true);
     };
-    if *bytes != *packet.symbol {
-        return Err(Unkept::Clash);
-    }
-    Ok(())
+    Ok(*bytes == *packet.symbol)
 }
 
 // How many encoding symbols each block has at most, where the FTI is known.
@@ -123,10 +112,8 @@ pub fn receive<'a>(
             Ok(Look::Early) => continue,
             Err(fault) => return Err(Refusal::Fault(fault_at(place, fault))),
         };
-        match keep(alloc, &mut symbols, &packet) {
-            Ok(()) => {}
-            Err(Unkept::Clash) => return Err(Refusal::Fault(DecodeFault::Clash(place))),
-            Err(Unkept::NoMemory) => return Err(Refusal::NoMemory),
+        if !keep(alloc, &mut symbols, &packet)? {
+            return Err(Refusal::Fault(DecodeFault::Clash(place)));
         }
     }
     match scope.fti {

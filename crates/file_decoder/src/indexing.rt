@@ -3,7 +3,7 @@
 //! The FTI of the first carrier is found in a pass of its own, which ends there, as it may stand
 //! behind a packet that has a fault by it. A fault of the frames is told before one at a place,
 //! wherever it stands: so behind a fault at a place the frames are read to their end.
-ghost use Rattle.std.specs.Prelude.{◌≡◌, ◌==◌, ◌&&◌, ◌<◌, ℕ, List, Some, true, false};
+ghost use Rattle.std.specs.Prelude.{◌≡◌, ◌==◌, ◌&&◌, ◌<◌, ℕ, List, Some, true, false, not};
 ghost use Rattle.std.specs.Prelude.{option_map, IsNone, IfSome, IfOk, IfErr, OnOk};
 ghost use Rattle.std.specs.List.{Contains};
 ghost use Rattle.alc.specs.Views.{packet_of};
@@ -29,7 +29,7 @@ use lists::are_bytes;
 use partition::Fti;
 use reception::{Identity, Look, Scope};
 use session::{Extent, FrameFault, Position, Read, read_next, read_next_into};
-use std::alloc::{AllocError, Global};
+use std::alloc::Global;
 use streams::{Cursor, ReadAt};
 
 /// Why nothing was made of a file.
@@ -54,33 +54,14 @@ impl From<FrameFault> for Unindexed {
     }
 }
 
-// Why a symbol's place wasn't kept.
-#[derive(Clone, Copy)]
-enum Unkept {
-    Clash,
-    Again(Unread),
-}
-
-impl From<AllocError> for Unkept {
+impl From<Unread> for Unindexed {
     ghost use Rattle.std.specs.Prelude.{◌≡◌};
-    ghost use Rattle.file_decoder.specs.declared.indexing.Unkept.TheVariants as unkept;
-    ghost use Rattle.decoder.specs.declared.source.Unread.TheVariants.{NoMemory};
+    ghost use Rattle.file_decoder.specs.declared.indexing.Unindexed.TheVariants as unindexed;
 
-    ghost from_gives = { λ _ e. e ≡ unkept.Again NoMemory };
-
-    fn from(_: AllocError) -> Self {
-        Unkept::Again(Unread::NoMemory)
-    }
-}
-
-impl From<Unread> for Unkept {
-    ghost use Rattle.std.specs.Prelude.{◌≡◌};
-    ghost use Rattle.file_decoder.specs.declared.indexing.Unkept.TheVariants as unkept;
-
-    ghost from_gives = { λ unread e. e ≡ unkept.Again unread };
+    ghost from_gives = { λ unread e. e ≡ unindexed.Again unread };
 
     fn from(unread: Unread) -> Self {
-        Unkept::Again(unread)
+        Unindexed::Again(unread)
     }
 }
 
@@ -202,7 +183,8 @@ fn place_of(symbols: &Symbols<Extent>, block: u32, esi: u8) -> Option<Extent>
     last_place(symbols.among(block, esi)?, esi)
 }
 
-// Keeps the packet's place, unless an earlier packet of its block and ESI has other bytes.
+// Keeps the packet's place, and answers whether it did: not where an earlier packet of its block
+// and ESI has other bytes.
 fn keep<F: ReadAt>(
     alloc: Global,
     file: &F,
@@ -210,26 +192,21 @@ fn keep<F: ReadAt>(
     symbols: &mut Symbols<Extent>,
     packet: &Packet<'_>,
     extent: Extent,
-) -> Result<(), Unkept>
+) -> Result<bool, Unread>
     requires { (f : FtiValue) × (scope.now.fti ≡ Some f) }
     ensures here { (x : List ℕ) → F.content file.now ≡ Some x
         → AreSymbolsIn x scope.now symbols.old
-        → packet.now.symbol.now ≡ held_in x extent → OnOk result
-        (came_at (held_in x) symbols.new packet.now.sbn packet.now.esi
+        → packet.now.symbol.now ≡ held_in x extent → IfOk result (λ kept. kept ≡ true
+        → came_at (held_in x) symbols.new packet.now.sbn packet.now.esi
         ≡ Some packet.now.symbol.now) }
     ensures elsewhere { OnOk result ((held : ExtentValue → List ℕ) (b j : ℕ)
         → (packet.now.sbn == b && packet.now.esi == j) ≡ false
         → came_at held symbols.new b j ≡ came_at held symbols.old b j) }
-    ensures none { (x : List ℕ) → F.content file.now ≡ Some x
-        → AreSymbolsIn x scope.now symbols.old
-        → OnOk result ((earlier : List Symbol)
-        → IsIndex earlier (came_at (held_in x) symbols.old)
-        → clashes earlier (symbol_of (packet_of packet.now)) ≡ false) }
     ensures clash { (x : List ℕ) → F.content file.now ≡ Some x
         → AreSymbolsIn x scope.now symbols.old
-        → IfErr result (λ e. e ≡ Unkept.Clash → (earlier : List Symbol)
+        → IfOk result (λ kept. (earlier : List Symbol)
         → IsIndex earlier (came_at (held_in x) symbols.old)
-        → clashes earlier (symbol_of (packet_of packet.now)) ≡ true) }
+        → clashes earlier (symbol_of (packet_of packet.now)) ≡ not kept) }
     ensures placed { (x : List ℕ) → AreSymbolsIn x scope.now symbols.old
         → IsSymbolIn x scope.now packet.now.sbn packet.now.esi extent
         → OnOk result (AreSymbolsIn x scope.now symbols.new) }
@@ -239,19 +216,15 @@ fn keep<F: ReadAt>(
         → OnOk result (AreInRange f (came_at held symbols.new)) }
     ensures again { (x : List ℕ) → F.content file.now ≡ Some x
         → AreSymbolsIn x scope.now symbols.old
-        → IfErr result (λ e. e ≡ Unkept.Again Unread.Changed → ⊥) }
-    ensures io { IfErr result (λ e. e ≡ Unkept.Again Unread.Io
-        → F.reliable file.now ≡ false) }
+        → IfErr result (λ e. e ≡ Unread.Changed → ⊥) }
+    ensures io { IfErr result (λ e. e ≡ Unread.Io → F.reliable file.now ≡ false) }
 {
     let Some(earlier) = place_of(symbols, packet.sbn, packet.esi) else {
         symbols.put(alloc, packet.sbn, packet.esi, extent)?;
-        return Ok(());
+        return Ok(true);
     };
     let symbol = read_alone(alloc, file, scope, packet.sbn, packet.esi, earlier)?;
-    if symbol.as_slice() != packet.symbol {
-        return Err(Unkept::Clash);
-    }
-    Ok(())
+    Ok(symbol.as_slice() == packet.symbol)
 }
 
 // The places of the identity's packets, where this is the FTI of the first carrier. The reader
@@ -306,14 +279,11 @@ fn index_frames<R: Read, F: ReadAt>(
                 return Err(Unindexed::Fault(fault_at(place, fault)));
             }
         };
-        match keep(alloc, file, &scope, &mut symbols, &packet, here) {
-            Ok(()) => room = datagram,
-            Err(Unkept::Clash) => {
-                read_rest(alloc, reader)?;
-                return Err(Unindexed::Fault(DecodeFault::Clash(place)));
-            }
-            Err(Unkept::Again(unread)) => return Err(Unindexed::Again(unread)),
+        if !keep(alloc, file, &scope, &mut symbols, &packet, here)? {
+            read_rest(alloc, reader)?;
+            return Err(Unindexed::Fault(DecodeFault::Clash(place)));
         }
+        room = datagram;
     }
 }
 

@@ -1,5 +1,6 @@
 use Rattle.std.proofs.Common.{◌∙◌, ◌<◌, ℕ, length, map, List, Ok, Err, refl, sym, ap, subst, arith}
 use Rattle.std.proofs.lemmas.List.{length-map}
+use Rattle.std.specs.Prelude.{not}
 use Rattle.std.specs.Borrow.{Bor}
 use Rattle.alc.specs.Views.{packet_of}
 use Rattle.reception.specs.Reception.{Faulty, Judged, Reception, symbol_of}
@@ -45,8 +46,8 @@ returns-in-Err-clause-refusal c =
     ∙ stops clash (scope_in c.args.identity ds) ds c.loop-place.place c.loop-place.scope c.loop-place.invariant.walked _ c.look.new.self (Err c.in-Err.fault)
     (some_mapped c.args.datagrams.now _ l) (borrowed_at c.args.datagrams.now c.loop-place.place _ l) (rw c.in-Err.is at c.look.ensures) (Faulty c.in-Err.fault) refl)
 
-pub returns-in-Err-Clash-clause-refusal : goal.returns-in-Err-Clash-clause-refusal
-returns-in-Err-Clash-clause-refusal c =
+pub returns-then-not-branch-clause-refusal : goal.returns-then-not-branch-clause-refusal
+returns-then-not-branch-clause-refusal c =
     let ds = map (λ (d : Bor (List ℕ)). d.now) c.args.datagrams.now in
     let known = scope_in c.args.identity ds in
     let l : c.loop-place.place < length c.args.datagrams.now = omega arith in
@@ -55,7 +56,7 @@ returns-in-Err-Clash-clause-refusal c =
     let here = borrowed_at c.args.datagrams.now c.loop-place.place _ l in
     let before = came_before known.identity ds c.loop-place.place in
     let k = known_at_last known ds c.loop-place.scope (bytes_at c.loop-place.symbols) c.loop-place.place c.loop-place.invariant _ c.look.new.self c.in-Ok-InRange.packet inside here at in
-    let says = c.in-Err-Clash.ensures.clash c.in-Err-Clash.field-0-is before (c.loop-place.invariant.index k.0 k.1) in
+    let says = c.in_ok-keep.ensures.clash before (c.loop-place.invariant.index k.0 k.1) ∙ ap not c.if-not-branch.true in
     ap (λ (r : Reception Clash). r.wrong) (sym (found_reception clash c.args.identity ds))
     ∙ stops clash known ds c.loop-place.place c.loop-place.scope c.loop-place.invariant.walked _ c.look.new.self (Ok (look_at.InRange c.in-Ok-InRange.packet))
     inside here at (Judged Clashes) (clashed before (symbol_of (packet_of c.in-Ok-InRange.packet)) says)
@@ -70,9 +71,9 @@ loop-place-preserved c =
     let here = borrowed_at c.args.datagrams.now c.loop-place.place _ l in
     let before = came_before known.identity ds c.loop-place.place in
     let k = known_at_last known ds c.loop-place.scope (bytes_at c.loop-place.symbols) c.loop-place.place c.loop-place.invariant _ c.look.new.self c.in-Ok-InRange.packet inside here at in
-    let says = c.in-Ok.ensures.none before (c.loop-place.invariant.index k.0 k.1) in
+    let says = c.in_ok-keep.ensures.clash before (c.loop-place.invariant.index k.0 k.1) ∙ ap not c.if-not-branch.false in
     receives known ds c.loop-place.scope (bytes_at c.loop-place.symbols) c.loop-place.place c.loop-place.invariant _ c.look.new.self c.in-Ok-InRange.packet
-    inside here at (bytes_at c.keep.new.symbols) says c.in-Ok.ensures.here c.in-Ok.ensures.elsewhere
+    inside here at (bytes_at c.keep.new.symbols) says (c.in_ok-keep.ensures.here c.if-not-branch.false) c.in_ok-keep.ensures.elsewhere
 
 pub returns-in-Some-clause-received : goal.returns-in-Some-clause-received
 returns-in-Some-clause-received c =

@@ -1,4 +1,5 @@
 use Rattle.std.proofs.Common.{◌≡◌, ◌∙◌, ◌+◌, ℕ, length, refl, sym, ap, subst, arith}
+use Rattle.std.specs.Prelude.{not}
 use Rattle.std.proofs.lemmas.Result.{err_from_is_err_and}
 use Rattle.session.proofs.WholeFrames.{fault_behind}
 use Rattle.reception.specs.declared.scope.Look.TheVariants as look_at
@@ -6,9 +7,6 @@ use Rattle.reception.specs.Reception.{with_fti}
 use Rattle.reception.specs.declared.scope.Scope.{Scope}
 use Rattle.reception.proofs.Looks.{faultless_look}
 use Rattle.file_decoder.specs.InFile.{held_in, AreSymbolsIn, IsSymbolIn}
-use Rattle.file_decoder.specs.FileFaults.{IsNotAgain}
-use Rattle.file_decoder.specs.declared.indexing.Unkept.TheVariants as unkept
-use Rattle.decoder.specs.declared.source.Unread.{Unread}
 use Rattle.block_recovery.specs.Received.{came_at}
 use Rattle.session.proofs.Passing.{Behind, at_start, read_more, is_next, stands, all_read, read_frames, rest_frames}
 use Rattle.file_decoder.proofs.FileFaults.{frame_fault_is, not_again}
@@ -156,8 +154,8 @@ keep-requires g c =
     let look = rw (c.as_slice-bytes.ensures.value, c.with_fti-scope.ensures) at c.look.ensures in
     (f, ap (λ s. s.fti) (same_scope d (with_fti c.args.identity c.args.fti) c.look.new.self c.look.result look f refl))
 
-pub returns-in_err-read_rest-in-Err-Clash-clause-unindexed : goal.returns-in_err-read_rest-in-Err-Clash-clause-unindexed
-returns-in_err-read_rest-in-Err-Clash-clause-unindexed g c =
+pub returns-in_err-read_rest-clause-unindexed : goal.returns-in_err-read_rest-clause-unindexed
+returns-in_err-read_rest-clause-unindexed g c =
     let content = g.F.ReadAt.content c.args.file.now in
     let left = g.R.Read.remaining c.loop-symbols.reader in
     let new = g.R.Read.remaining c.read_next_into.new.reader in
@@ -169,15 +167,15 @@ returns-in_err-read_rest-in-Err-Clash-clause-unindexed g c =
     let reads = rw c.in-Some.is at c.in_ok-datagram.ensures.some in
     let short = rw c.in-Some.is at c.in_ok-datagram.ensures.short in
     let bytes = rw c.as_slice-bytes.ensures.value at c.are_bytes.ensures in
-    let p = err_from_is_err_and c.from_residual-in_err-read_rest-in-Err-Clash.result c.from_residual-in_err-read_rest-in-Err-Clash.ensures.1 in
+    let p = err_from_is_err_and c.from_residual-in_err-read_rest.result c.from_residual-in_err-read_rest.ensures.1 in
     let b = read_more content left c.loop-symbols.position.offset place i.behind new d reads short bytes _ refl in
     rw (p.1, p.2)
-    (frame_fault_is content (g.R.Read.failed c.read_rest-in-Err-Clash.new.reader) (g.F.ReadAt.reliable c.args.file.now) c.in_err-read_rest-in-Err-Clash.field-0.0
-    (fault_behind c.in_err-read_rest-in-Err-Clash.field-0.0 content new (g.R.Read.failed c.read_rest-in-Err-Clash.new.reader) b.read b.bytes b.short c.in_err-read_rest-in-Err-Clash.ensures.fault)
-    (λ io. sym c.requires.sound ∙ sym i.stays ∙ sym c.in_ok-datagram.ensures.stays ∙ c.in_err-read_rest-in-Err-Clash.ensures.unsound io))
+    (frame_fault_is content (g.R.Read.failed c.read_rest-then-not-branch.new.reader) (g.F.ReadAt.reliable c.args.file.now) c.in_err-read_rest.field-0.0
+    (fault_behind c.in_err-read_rest.field-0.0 content new (g.R.Read.failed c.read_rest-then-not-branch.new.reader) b.read b.bytes b.short c.in_err-read_rest.ensures.fault)
+    (λ io. sym c.requires.sound ∙ sym i.stays ∙ sym c.in_ok-datagram.ensures.stays ∙ c.in_err-read_rest.ensures.unsound io))
 
-pub returns-in-Err-Clash-clause-fault : goal.returns-in-Err-Clash-clause-fault
-returns-in-Err-Clash-clause-fault g c = λ x ds told framed known.
+pub returns-then-not-branch-clause-fault : goal.returns-then-not-branch-clause-fault
+returns-then-not-branch-clause-fault g c = λ x ds told framed known.
     let content = g.F.ReadAt.content c.args.file.now in
     let left = g.R.Read.remaining c.loop-symbols.reader in
     let new = g.R.Read.remaining c.read_next_into.new.reader in
@@ -194,10 +192,10 @@ returns-in-Err-Clash-clause-fault g c = λ x ds told framed known.
     let same = same_scope d (with_fti who f) c.look.new.self _ look f refl in
     let placed = subst (λ (s : Scope). AreSymbolsIn x s c.loop-symbols.symbols) (sym same) (i.placed x told) in
     scan_clashes who f ds known (came_at (held_in x) c.loop-symbols.symbols) place (i.scanned x ds told framed known) d c.look.new.self n.0 n.1 c.in-Ok-InRange.packet look
-    (c.in-Err-Clash.ensures.clash x told placed c.in-Err-Clash.field-0-is)
+    (λ earlier index. c.in_ok-keep.ensures.clash x told placed earlier index ∙ ap not c.if-not-branch.true)
 
-pub returns-in-Err-Clash-clause-unindexed : goal.returns-in-Err-Clash-clause-unindexed
-returns-in-Err-Clash-clause-unindexed g c =
+pub returns-then-not-branch-clause-unindexed : goal.returns-then-not-branch-clause-unindexed
+returns-then-not-branch-clause-unindexed g c =
     let content = g.F.ReadAt.content c.args.file.now in
     let left = g.R.Read.remaining c.loop-symbols.reader in
     let new = g.R.Read.remaining c.read_next_into.new.reader in
@@ -210,10 +208,10 @@ returns-in-Err-Clash-clause-unindexed g c =
     let short = rw c.in-Some.is at c.in_ok-datagram.ensures.short in
     let bytes = rw c.as_slice-bytes.ensures.value at c.are_bytes.ensures in
     let b = read_more content left c.loop-symbols.position.offset place i.behind new d reads short bytes _ refl in
-    rest_frames content new _ (place + 1) b c.in_ok-read_rest-in-Err-Clash.ensures.whole
+    rest_frames content new _ (place + 1) b c.in_ok-read_rest.ensures.whole
 
-pub returns-in-Err-Again-clause-unindexed : goal.returns-in-Err-Again-clause-unindexed
-returns-in-Err-Again-clause-unindexed g c =
+pub returns-in_err-keep-clause-unindexed : goal.returns-in_err-keep-clause-unindexed
+returns-in_err-keep-clause-unindexed g c =
     let content = g.F.ReadAt.content c.args.file.now in
     let left = g.R.Read.remaining c.loop-symbols.reader in
     let new = g.R.Read.remaining c.read_next_into.new.reader in
@@ -227,10 +225,10 @@ returns-in-Err-Again-clause-unindexed g c =
     let bytes = rw c.as_slice-bytes.ensures.value at c.are_bytes.ensures in
     let look = rw (c.as_slice-bytes.ensures.value, c.with_fti-scope.ensures, c.in-Ok-InRange.is, c.in-Ok-InRange.field-0-is) at c.look.ensures in
     let same = same_scope d (with_fti who f) c.look.new.self _ look f refl in
-    subst (λ (u : Unread). IsNotAgain (g.F.ReadAt.content c.args.file.now) (g.F.ReadAt.reliable c.args.file.now) u) (sym c.in-Err-Again.unread-is)
-    (not_again content (g.F.ReadAt.reliable c.args.file.now) c.in-Err-Again.unread
-    (λ e. c.in-Err-Again.ensures.io (c.in-Err-Again.field-0-is ∙ ap unkept.Again e))
-    (λ x told e. c.in-Err-Again.ensures.again x told (subst (λ (s : Scope). AreSymbolsIn x s c.loop-symbols.symbols) (sym same) (i.placed x told)) (c.in-Err-Again.field-0-is ∙ ap unkept.Again e)))
+    let p = err_from_is_err_and c.from_residual-in_err-keep.result c.from_residual-in_err-keep.ensures.1 in
+    rw (p.1, p.2)
+    (not_again content (g.F.ReadAt.reliable c.args.file.now) c.in_err-keep.field-0.0 c.in_err-keep.ensures.io
+    (λ x told e. c.in_err-keep.ensures.again x told (subst (λ (s : Scope). AreSymbolsIn x s c.loop-symbols.symbols) (sym same) (i.placed x told)) e))
 
 pub loop-symbols-preserved : goal.loop-symbols-preserved
 loop-symbols-preserved g c =
@@ -262,14 +260,14 @@ loop-symbols-preserved g c =
           let placed = subst (λ (s : Scope). AreSymbolsIn x s c.loop-symbols.symbols) (sym same) (i.placed x told) in
           rw c.in_ok-here.ensures.more
           (scan_keeps who f ds known (came_at (held_in x) c.loop-symbols.symbols) place (i.scanned x ds told framed known) d c.look.new.self n.0 n.1 p look (came_at (held_in x) c.keep.new.symbols)
-          (c.in-Ok.ensures.none x told placed) (c.in-Ok.ensures.here x told placed moved.0) (λ b j. c.in-Ok.ensures.elsewhere (held_in x) b j));
+          (λ earlier index. c.in_ok-keep.ensures.clash x told placed earlier index ∙ ap not c.if-not-branch.false) (c.in_ok-keep.ensures.here x told placed moved.0 c.if-not-branch.false) (λ b j. c.in_ok-keep.ensures.elsewhere (held_in x) b j));
       placed = λ x told.
           let stand = stands content left c.loop-symbols.position.offset place i.behind new d reads short x told c.in_ok-here.here c.in_ok-here.ensures.offset long in
           let moved = symbol_moves d (with_fti who f) c.look.new.self p look f refl x c.in_ok-here.here stand.0 stand.1 in
           let placed = subst (λ (s : Scope). AreSymbolsIn x s c.loop-symbols.symbols) (sym same) (i.placed x told) in
           subst (λ (s : Scope). AreSymbolsIn x s c.keep.new.symbols) same
-          (c.in-Ok.ensures.placed x placed (subst (λ (s : Scope). IsSymbolIn x s c.in-Ok-InRange.packet.sbn c.in-Ok-InRange.packet.esi c.in_ok-here.here) (sym same) moved.1));
-      range = λ held. c.in-Ok.ensures.range f both.0 both.1 held (i.range held);
+          (c.in_ok-keep.ensures.placed x placed (subst (λ (s : Scope). IsSymbolIn x s c.in-Ok-InRange.packet.sbn c.in-Ok-InRange.packet.esi c.in_ok-here.here) (sym same) moved.1));
+      range = λ held. c.in_ok-keep.ensures.range f both.0 both.1 held (i.range held);
     }
 
 pub returns-in_default-clause-whole : goal.returns-in_default-clause-whole
