@@ -1,8 +1,8 @@
 -- The symbols of a block that stand in its bytes one behind the other.
-use Rattle.std.specs.Prelude.{filter, is_some, slice_index}
+use Rattle.std.specs.Prelude.{filter, is_some, slice_index, Result, Ok, Err, OnOk, OnErr, ⊤}
 use Rattle.std.proofs.Math.Seq.{drop-append_seam, take-append_seam}
-use Rattle.std.proofs.Common.{◌≡◌, ◌≢◌, ℕ, zero, suc, ◌+◌, ◌*◌, ◌<◌, ◌≤◌, ◌==◌, ◌||◌, true, false, List, [], ◌∷◌, ◌++◌, Option, Some, None, length, take, drop, refl, sym, ap, ◌∙◌, inl, inr, arith, length-append}
-use Rattle.std.proofs.lemmas.Bool.{cases_Bool, cases_eq, cases_lt, or_parts, or_left, or_right, eqb-false, eq-eqb, ne_eqb}
+use Rattle.std.proofs.Common.{◌≡◌, ◌≢◌, ℕ, zero, suc, ◌+◌, ◌*◌, ◌<◌, ◌≤◌, ◌==◌, ◌||◌, true, false, List, [], ◌∷◌, ◌++◌, Option, Some, None, length, take, drop, refl, sym, ap, subst, ◌∙◌, inl, inr, arith, length-append}
+use Rattle.std.proofs.lemmas.Bool.{cases_Bool, cases_eq, cases_lt, lt-leb, or_parts, or_left, or_right, eqb-false, eq-eqb, ne_eqb}
 use Rattle.std.proofs.lemmas.List.{take-take, drop-take, length-take-le, length-take}
 use Rattle.std.proofs.lemmas.List.Elements.{All-append}
 use Rattle.std.proofs.lemmas.Nat.{mul-lt}
@@ -11,7 +11,8 @@ use Rattle.lists.proofs.Lists.{at_old, at_end}
 use Rattle.partition.specs.Fti.{Fti, source_count, encoding_count}
 use Rattle.block_recovery.specs.Arrivals.{with_esi}
 use Rattle.block_recovery.proofs.Kept.{with_here, with_other, count_more, count_none}
-use Rattle.receiver.specs.Stored.{is_among, symbol_in, AreSymbols, IsOf, IsPending, IsStored}
+use Rattle.receiver.specs.Stored.{is_among, is_solved, symbol_in, AreSymbols, IsOf, IsPending, IsStored}
+use Rattle.receiver.specs.declared.receiving.Unfed.{Unfed}
 use Rattle.receiver.proofs.Pending.{among_place}
 
 -- ---- among ESIs
@@ -142,6 +143,17 @@ of_more f b esis e h le free = record {
   within = All-append (λ (x : ℕ). x < encoding_count f b) esis (e ∷ []) h.within (λ k d lk. let z : k ≡ 0 = omega (arith, lk) in rw z le);
   once = length-append esis (e ∷ []) ∙ ap (λ (n : ℕ). n + 1) h.once ∙ sym (among_one_more esis (encoding_count f b) e le free);
 }
+
+-- where one more was kept, or none, the ESIs are still the block's
+pub of_kept : (f : Fti) (b : ℕ) (old new : List ℕ) (e : ℕ) (r : Result ⊤ Unfed) → OnOk r (new ≡ old ++ e ∷ []) → OnErr r (new ≡ old) → IsOf f b old → e < encoding_count f b → is_among old e ≡ false → IsOf f b new
+of_kept f b old new e (Ok x) kept same h within free = subst (IsOf f b) (sym kept) (of_more f b old e h within free)
+of_kept f b old new e (Err x) kept same h within free = subst (IsOf f b) (sym same) h
+
+-- and where they are too few with it, the block is solved neither before nor now
+pub too_few_kept : (f : Fti) (b : ℕ) (old new : List ℕ) (e : ℕ) (r : Result ⊤ Unfed) → OnOk r (new ≡ old ++ e ∷ []) → OnErr r (new ≡ old) → length old + 1 < source_count f b → is_solved f b new ≡ is_solved f b old
+too_few_kept f b old new e (Ok x) kept same few =
+    lt-leb (source_count f b) (length new) (omega (arith, ap length kept, length-append old (e ∷ []), few)) ∙ sym (lt-leb (source_count f b) (length old) (omega (arith, few)))
+too_few_kept f b old new e (Err x) kept same few = ap (is_solved f b) same
 
 pub pending_more : (f : Fti) (b : ℕ) (esis x y s : List ℕ) (at : ℕ → Option (List ℕ)) (e : ℕ) → IsPending f b x esis at → e < encoding_count f b → is_among esis e ≡ false → length esis + 1 < source_count f b
     → length s ≡ f.symbol_length → take (length esis * f.symbol_length + length s) y ≡ take (length esis * f.symbol_length) x ++ s → IsPending f b y (esis ++ e ∷ []) (with_esi at e s)

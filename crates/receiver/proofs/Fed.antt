@@ -43,13 +43,15 @@ use Rattle.block_recovery.specs.Decoded.{IsEnoughAt}
 use Rattle.block_recovery.specs.Arrivals.{with_symbol}
 use Rattle.receiver.specs.Holds.{HoldsIn, kept_of, has_solved, solved_count}
 use Rattle.receiver.specs.Putting.{MayStand, IsClash, IsNoCode, IsPutFault, UnlessFailed}
-use Rattle.receiver.specs.declared.put_fault.PutFault.{PutFault}
-use Rattle.receiver.specs.declared.put_fault.PutFault.TheVariants as put_fault
+use Rattle.receiver.specs.declared.receiver.FeedFault.{FeedFault}
+use Rattle.receiver.specs.declared.receiver.FeedFault.TheVariants as feed
+use Rattle.receiver.specs.declared.receiving.Unfed.{Unfed}
+use Rattle.receiver.specs.declared.receiving.Unfed.TheVariants as unfed
 use Rattle.block_recovery.specs.Received.{IsIndex, AreReceived}
 use Rattle.receiver.specs.Stored.{IsStored, is_solved}
 use Rattle.receiver.specs.Taking.{AllSolved}
 use Rattle.receiver.specs.Stands.{StandsWith, Keeps, IsSoundIn}
-use Rattle.receiver.specs.Fed.{HoldsFor, put_refusal}
+use Rattle.receiver.specs.Fed.{HoldsFor}
 use Rattle.receiver.specs.Receiving.{LeaveNoneShort, IfRefused, IsUnfedOf, with_datagram, ComesEarly}
 use Rattle.receiver.specs.declared.receiving.Receiving.{Receiving}
 use Rattle.receiver.specs.declared.store.Store.{Store}
@@ -373,12 +375,17 @@ module _ (r : Receiving) (told : Told) (ds : List (List ℕ)) (stands : StandsWi
         }
 
       -- why the symbol isn't put is the answer
-      pub refusal_told : IsValidFti f → HoldsFor f told r.store at → (failed : Bool) (v : PutFault) → UnlessFailed failed v (IsPutFault f p.sbn (at p.sbn) p.esi p.symbol.now v)
-          → IsUnfedOf r.identity all (put_refusal r.accepted p.sbn v)
-      refusal_told valid holds failed put_fault.Clash h = clash_told h
-      refusal_told valid holds failed put_fault.NotCode h = no_code_told (inl h.free) valid holds h
-      refusal_told valid holds failed put_fault.NoMemory h = tt
-      refusal_told valid holds failed put_fault.Failed h = tt
+      pub refusal_told : IsValidFti f → HoldsFor f told r.store at → (failed : Bool) (v : Unfed) → UnlessFailed failed v (IsPutFault f r.accepted p (at p.sbn) v) → IsUnfedOf r.identity all v
+      refusal_told valid holds failed (unfed.Refused (feed.Fault (fault.Clash i))) h = subst (λ (n : ℕ). IsAnswer r.identity all (Fault n (Judged Clashes))) (sym h.0) (clash_told h.1)
+      refusal_told valid holds failed (unfed.Refused (feed.Fault (fault.NotCode b))) h = subst (λ (n : ℕ). IsAnswer r.identity all (NotCode n)) (sym h.0) (no_code_told (inl h.1.free) valid holds h.1)
+      refusal_told valid holds failed (unfed.Refused (feed.Fault (fault.Packet i e))) h = absurd h
+      refusal_told valid holds failed (unfed.Refused (feed.Fault (fault.OtherFti i))) h = absurd h
+      refusal_told valid holds failed (unfed.Refused (feed.Fault (fault.SymbolLength i))) h = absurd h
+      refusal_told valid holds failed (unfed.Refused (feed.Fault (fault.Range i))) h = absurd h
+      refusal_told valid holds failed (unfed.Refused feed.NoMemory) h = tt
+      refusal_told valid holds failed (unfed.Refused feed.Full) h = tt
+      refusal_told valid holds failed (unfed.Refused feed.Early) h = tt
+      refusal_told valid holds failed unfed.Failed h = tt
 
       -- the receiver stands for those before, where the store holds what it held
       pub refused : (now : Told) → ((g h : Fti) → is_some (now g) ≡ is_some (now h)) → (store : Option Store) → IsSoundIn store → HoldsFor f now store at → is_some store ≡ is_some r.store
@@ -392,11 +399,14 @@ module _ (r : Receiving) (told : Told) (ds : List (List ℕ)) (stands : StandsWi
       }
 
 -- a symbol isn't put, and so the datagram isn't accepted
-pub if_refused : (So : Type 0) (place b : ℕ) (failed : Bool) (v : PutFault) → UnlessFailed failed v So → IfRefused So (put_refusal place b v)
-if_refused So place b failed put_fault.Clash h = h
-if_refused So place b failed put_fault.NotCode h = h
-if_refused So place b failed put_fault.NoMemory h = h
-if_refused So place b failed put_fault.Failed h = tt
+pub if_refused : (So : Type 0) (failed : Bool) (v : Unfed) → UnlessFailed failed v So → IfRefused So v
+if_refused So failed (unfed.Refused e) h = h
+if_refused So failed unfed.Failed h = tt
+
+-- nor is that told which is never why a symbol isn't put
+pub not_refused : (e : FeedFault) (failed : Bool) (v : Unfed) (f : Fti) (place : ℕ) (p : ReadPacket) (at : ℕ → Option (List ℕ)) (Q : Type 0) → (IsPutFault f place p at (unfed.Refused e) → ⊥)
+    → UnlessFailed failed v (IsPutFault f place p at v × Q) → v ≡ unfed.Refused e → ⊥
+not_refused e failed v f place p at Q never h is = never (subst (λ (u : Unfed). UnlessFailed failed u (IsPutFault f place p at u × Q)) is h).0
 
 -- ---- whether each block is solved
 

@@ -1,5 +1,5 @@
 -- A symbol put to what is kept of an object.
-use Rattle.std.specs.Prelude.{filter, is_some, ◌==◌, ◌&&◌, Result, Ok, Err}
+use Rattle.std.specs.Prelude.{filter, is_some, ◌==◌, ◌&&◌, Result, ⊤}
 use Rattle.std.proofs.Common.{◌≡◌, ◌≢◌, ℕ, ◌+◌, ◌<◌, ◌≤◌, Bool, true, false, List, Option, Some, None, length, refl, sym, ap, subst, ◌∙◌, inl, inr, arith}
 use Rattle.std.proofs.Math.Path.{fun_ext}
 use Rattle.std.proofs.lemmas.Bool.{cases_Bool, cases_eq, and_parts, eqb-true, eq-eqb, ne_eqb}
@@ -13,16 +13,11 @@ use Rattle.receiver.specs.Bytes.{Becomes}
 use Rattle.receiver.specs.Holds.{Holds, HoldsIn, IsSound, kept_of, has_solved, solved_count}
 use Rattle.alc.specs.declared.reading.Packet.{Packet}
 use Rattle.receiver.specs.Fed.{HoldsFor, FedOutcome}
-use Rattle.receiver.specs.Putting.{MayStand, IsPutFault, Outcome, StoreOutcome}
-use Rattle.receiver.specs.Stored.{IsOf, IsStored, is_solved}
-use Rattle.receiver.specs.declared.put_fault.PutFault.{PutFault}
+use Rattle.receiver.specs.Putting.{MayStand, IsPutFault, Outcome, BlockOutcome, StoreOutcome, BytesChange, BytesNow}
+use Rattle.receiver.specs.Stored.{IsOf, IsPending, IsSolved, IsStored, is_solved}
+use Rattle.receiver.specs.declared.receiving.Unfed.{Unfed}
 use Rattle.receiver.specs.declared.store.Store.{Store}
-use Rattle.receiver.proofs.Told.{unless}
-
--- what comes of a symbol is so of what follows
-pub outcome_then : {A : Type 0} (r : Result A PutFault) (P Q : A → Type 0) (N M : PutFault → Type 0) (failed : Bool) → ((a : A) → P a → Q a) → ((e : PutFault) → N e → M e) → Outcome failed r P N → Outcome failed r Q M
-outcome_then (Ok a) P Q N M failed f n h = (f a h.0, tt)
-outcome_then (Err e) P Q N M failed f n h = (tt, unless failed e (N e) (M e) (n e) h.1)
+use Rattle.receiver.proofs.Told.{outcome_then, block_then}
 
 -- the symbol more is one of its block
 pub with_own : (at : ℕ → ℕ → Option (List ℕ)) (b j : ℕ) (y : List ℕ) → with_symbol at b j y b ≡ with_esi (at b) j y
@@ -102,6 +97,46 @@ module _ (old new : Store) (fti : new.fti ≡ old.fti) (b : ℕ) (others : (a : 
     },
   )
 
+-- what comes of the block comes of the store
+module _ (s store : Store) (fti : store.fti ≡ s.fti) (p : Packet) (hb : p.sbn < block_count s.fti) (hj : p.esi < encoding_count s.fti p.sbn) (len : length p.symbol.now ≡ s.fti.symbol_length)
+    (others : (a : ℕ) → p.sbn ≢ a → kept_of store a ≡ kept_of s a) (place : ℕ) (now : BytesNow) (r : Result ⊤ Unfed) (x : ℕ → List ℕ) (at : ℕ → ℕ → Option (List ℕ)) (held : Holds s x at) where
+  abbrev change : BytesChange
+  change = record { before = x; after = now.told s.fti; failed = now.failed }
+
+  abbrev kept : List ℕ
+  kept = kept_of store p.sbn
+
+  abbrev stored : List ℕ → (ℕ → Option (List ℕ)) → Type 0
+  stored y = IsStored s.fti p.sbn y kept
+
+  abbrev solved : List ℕ → (ℕ → Option (List ℕ)) → Type 0
+  solved y = IsSolved s.fti p.sbn y kept
+
+  abbrev pending : List ℕ → (ℕ → Option (List ℕ)) → Type 0
+  pending y = IsPending s.fti p.sbn y kept
+
+  abbrev why : Unfed → Type 0
+  why = IsPutFault s.fti place p (at p.sbn)
+
+  pub stored_then : BlockOutcome p (at p.sbn) change r stored (λ y. stored y (at p.sbn)) why → StoreOutcome s.fti place p at now r store
+  stored_then h =
+      outcome_then r _ _ _ _ now.failed
+      (λ a o. (o.0, holds_more s store fti p.sbn others x _ at held p.esi p.symbol.now hb hj len o.1))
+      (λ e o. (o.0, holds_same s store fti p.sbn others x _ at held o.1)) h
+
+  -- of a block that was solved, of one that stays pending, and of one that is solved now
+  pub solved_then : BlockOutcome p (at p.sbn) change r solved (λ y. solved y (at p.sbn)) why → StoreOutcome s.fti place p at now r store
+  solved_then h =
+      stored_then (block_then p (at p.sbn) change r solved stored (λ y. solved y (at p.sbn)) (λ y. stored y (at p.sbn)) why (λ y g o. inr o) (λ y o. inr o) h)
+
+  pub pending_then : BlockOutcome p (at p.sbn) change r pending (λ y. pending y (at p.sbn)) why → StoreOutcome s.fti place p at now r store
+  pending_then h =
+      stored_then (block_then p (at p.sbn) change r pending stored (λ y. pending y (at p.sbn)) (λ y. stored y (at p.sbn)) why (λ y g o. inl o) (λ y o. inl o) h)
+
+  pub solves_then : BlockOutcome p (at p.sbn) change r solved (λ y. pending y (at p.sbn)) why → StoreOutcome s.fti place p at now r store
+  solves_then h =
+      stored_then (block_then p (at p.sbn) change r solved stored (λ y. pending y (at p.sbn)) (λ y. stored y (at p.sbn)) why (λ y g o. inr o) (λ y o. inl o) h)
+
 -- where one block's ESIs change, each block's are still its own
 pub each_still : (old new : Store) (b : ℕ) → ((a : ℕ) → b ≢ a → kept_of new a ≡ kept_of old a) → IsOf old.fti b (kept_of new b) → ((a : ℕ) → IsOf old.fti a (kept_of old a))
     → (a : ℕ) → IsOf old.fti a (kept_of new a)
@@ -149,20 +184,20 @@ told_some (Some x) some = (x, refl)
 nothing : (at : ℕ → ℕ → Option (List ℕ)) → ((b j : ℕ) → at b j ≡ None) → (λ b j. None) ≡ at
 nothing at none = fun_ext (λ b. fun_ext (λ j. sym (none b j)))
 
-module _ (f : Fti) (told now : Fti → Option (ℕ → List ℕ)) (old new : Store) (fti : old.fti ≡ f) (same : new.fti ≡ old.fti) (p : Packet) (failed : Bool) {A : Type 0} (r : Result A PutFault)
-    (put : (at : ℕ → ℕ → Option (List ℕ)) → HoldsIn old (told old.fti) at → StoreOutcome old.fti (now old.fti) failed at p r new) (at : ℕ → ℕ → Option (List ℕ)) where
-  pub fed_some : HoldsIn old (told f) at → FedOutcome f now failed at p r (Some new)
+module _ (f : Fti) (place : ℕ) (told : Fti → Option (ℕ → List ℕ)) (now : BytesNow) (old new : Store) (fti : old.fti ≡ f) (same : new.fti ≡ old.fti) (p : Packet) (r : Result ⊤ Unfed)
+    (put : (at : ℕ → ℕ → Option (List ℕ)) → HoldsIn old (told old.fti) at → StoreOutcome old.fti place p at now r new) (at : ℕ → ℕ → Option (List ℕ)) where
+  pub fed_some : HoldsIn old (told f) at → FedOutcome f place p at now r (Some new)
   fed_some =
-      subst (λ (g : Fti). HoldsIn old (told g) at → FedOutcome g now failed at p r (Some new)) fti
-      (λ hold. outcome_then r _ _ _ _ failed (λ a h. (h.0, (same, h.1))) (λ e h. (h.0, (same, h.1))) (put at hold))
+      subst (λ (g : Fti). HoldsIn old (told g) at → FedOutcome g place p at now r (Some new)) fti
+      (λ hold. outcome_then r _ _ _ _ now.failed (λ a h. (h.0, (same, h.1))) (λ e h. (h.0, (same, h.1))) (put at hold))
 
   -- a new one holds nothing
   pub fed_none : ((x : ℕ → List ℕ) → Holds old x (λ b j. None)) → HoldsFor f told None at
-      → Outcome failed r (λ a. MayStand (at p.sbn) p.esi p.symbol.now × HoldsFor f now (Some new) (with_symbol at p.sbn p.esi p.symbol.now))
-      (λ e. IsPutFault f p.sbn (at p.sbn) p.esi p.symbol.now e × HoldsFor f now None at)
+      → Outcome now.failed r (λ a. MayStand (at p.sbn) p.esi p.symbol.now × HoldsFor f now.told (Some new) (with_symbol at p.sbn p.esi p.symbol.now))
+      (λ e. IsPutFault f place p (at p.sbn) e × HoldsFor f now.told None at)
   fed_none none h =
       let w = told_some (told f) h.1 in
       let hold : HoldsIn old (told f) at = subst (λ (g : ℕ → ℕ → Option (List ℕ)). HoldsIn old (told f) g) (nothing at h.0) (w.0, w.1, none w.0) in
-      outcome_then r (λ a. MayStand (at p.sbn) p.esi p.symbol.now × HoldsFor f now (Some new) (with_symbol at p.sbn p.esi p.symbol.now)) _
-      (λ e. IsPutFault f p.sbn (at p.sbn) p.esi p.symbol.now e × HoldsFor f now (Some new) at) _ failed
+      outcome_then r (λ a. MayStand (at p.sbn) p.esi p.symbol.now × HoldsFor f now.told (Some new) (with_symbol at p.sbn p.esi p.symbol.now)) _
+      (λ e. IsPutFault f place p (at p.sbn) e × HoldsFor f now.told (Some new) at) _ now.failed
       (λ a o. o) (λ e o. (o.0, (h.0, ap is_some o.1.1.1))) (fed_some hold)

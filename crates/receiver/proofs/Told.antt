@@ -1,13 +1,17 @@
--- The bytes of blocks, where they are told.
+-- The bytes of blocks, where they are told; and what comes of a symbol, where errors are passed on.
 use Rattle.std.proofs.Common.{◌≡◌, true, false, ℕ, ◌+◌, List, ◌++◌, Option, Some, None, length, take, drop, refl, sym, ap, subst, ◌∙◌}
 use Rattle.std.proofs.Math.Seq.{take-append_seam}
-use Rattle.std.specs.Prelude.{eqb, Bool}
+use Rattle.std.specs.Prelude.{eqb, Bool, Result, Ok, Err, IsErrAnd, IfErr, OnErr}
 use lib.Pointwise.{pointwise}
 use Rattle.alc.proofs.Chosen.{same_self}
 use Rattle.block_recovery.proofs.Index.{pointwise_same}
-use Rattle.receiver.specs.Putting.{UnlessFailed}
-use Rattle.receiver.specs.declared.put_fault.PutFault.{PutFault}
-use Rattle.receiver.specs.declared.put_fault.PutFault.TheVariants as put
+use Rattle.alc.specs.declared.reading.Packet.{Packet}
+use Rattle.receiver.specs.Putting.{UnlessFailed, Outcome, BlockOutcome, BytesChange}
+use Rattle.receiver.specs.declared.block_bytes.BytesFault.{BytesFault}
+use Rattle.receiver.specs.declared.block_bytes.BytesFault.TheVariants as bytes
+use Rattle.receiver.specs.declared.receiver.FeedFault.TheVariants.{NoMemory}
+use Rattle.receiver.specs.declared.receiving.Unfed.{Unfed}
+use Rattle.receiver.specs.declared.receiving.Unfed.TheVariants.{Refused, Failed}
 use Rattle.receiver.specs.Bytes.{StandIn, Becomes, Puts}
 
 -- what is told is one
@@ -44,20 +48,62 @@ differ xs ys v is other same =
     let u : pointwise eqb xs ys ≡ true = ap (λ (l : List ℕ). pointwise eqb l ys) same ∙ w in
     absurd (cc)
 
-pub unless : (failed : Bool) (fault : PutFault) (P Q : Type 0) → (P → Q) → UnlessFailed failed fault P → UnlessFailed failed fault Q
-unless failed put.Clash P Q f h = f h
-unless failed put.NotCode P Q f h = f h
-unless failed put.NoMemory P Q f h = f h
-unless failed put.Failed P Q f h = h
+pub unless : (failed : Bool) (fault : Unfed) (P Q : Type 0) → (P → Q) → UnlessFailed failed fault P → UnlessFailed failed fault Q
+unless failed (Refused e) P Q f h = f h
+unless failed Failed P Q f h = h
 
 -- where it has failed, so has reading or writing
-pub is_broken : (failed : Bool) (fault : PutFault) (P : Type 0) → UnlessFailed failed fault P → fault ≡ put.Failed → failed ≡ true
-is_broken failed put.Clash P h is = absurd (cc)
-is_broken failed put.NotCode P h is = absurd (cc)
-is_broken failed put.NoMemory P h is = absurd (cc)
-is_broken failed put.Failed P h is = h
+pub is_broken : (failed : Bool) (fault : Unfed) (P : Type 0) → UnlessFailed failed fault P → fault ≡ Failed → failed ≡ true
+is_broken failed (Refused e) P h is = absurd (cc)
+is_broken failed Failed P h is = h
 
--- what is so of a block's bytes where a symbol isn't put is so of what follows
-pub unless_then : (failed : Bool) (fault : PutFault) (P : Type 0) (x : ℕ → List ℕ) (new : Option (ℕ → List ℕ)) (b : ℕ) (Q R : List ℕ → Type 0) → ((y : List ℕ) → Q y → R y)
-    → UnlessFailed failed fault (P × Becomes x new b Q) → UnlessFailed failed fault (P × Becomes x new b R)
-unless_then failed fault P x new b Q R f = unless failed fault (P × Becomes x new b Q) (P × Becomes x new b R) (λ h. (h.0, becomes_then x new b Q R f h.1))
+-- there is no memory
+pub out_of_memory : {A : Type 0} (r : Result A Unfed) (failed : Bool) (P : A → Type 0) (N : Unfed → Type 0) → IsErrAnd r (λ u. u ≡ Refused NoMemory) → N (Refused NoMemory) → Outcome failed r P N
+out_of_memory (Ok a) failed P N is h = absurd is
+out_of_memory (Err u) failed P N is h = (tt, subst (λ (v : Unfed). UnlessFailed failed v (N v)) (sym is) h)
+
+-- reading or writing has failed
+pub out_of_order : {A : Type 0} (r : Result A Unfed) (failed : Bool) (P : A → Type 0) (N : Unfed → Type 0) → IsErrAnd r (λ u. u ≡ Failed) → failed ≡ true → Outcome failed r P N
+out_of_order (Ok a) failed P N is h = absurd is
+out_of_order (Err u) failed P N is h = (tt, subst (λ (v : Unfed). UnlessFailed failed v (N v)) (sym is) h)
+
+-- bytes weren't written
+pub unwritten : {A : Type 0} (e : BytesFault) (r : Result A Unfed) (failed : Bool) (P : A → Type 0) (N : Unfed → Type 0)
+    → IsErrAnd r (λ u. (e ≡ bytes.NoMemory → u ≡ Refused NoMemory) × (e ≡ bytes.Failed → u ≡ Failed))
+    → (e ≡ bytes.NoMemory → N (Refused NoMemory)) → (e ≡ bytes.Failed → failed ≡ true) → Outcome failed r P N
+unwritten e (Ok a) failed P N is none broken = absurd is
+unwritten bytes.NoMemory (Err u) failed P N is none broken = out_of_memory (Err u) failed P N (is.0 refl) (none refl)
+unwritten bytes.Failed (Err u) failed P N is none broken = out_of_order (Err u) failed P N (is.1 refl) (broken refl)
+
+-- what is so of an error is so of what is passed on
+pub err_then : {A E : Type 0} (r : Result A E) (e : E) (P : E → Type 0) → IsErrAnd r (λ x. x ≡ e) → P e → IfErr r P
+err_then (Ok a) e P is h = tt
+err_then (Err x) e P is h = subst P (sym is) h
+
+-- and the error is that one
+pub err_is : {A E : Type 0} (r : Result A E) (e f : E) → IsErrAnd r (λ x. x ≡ e) → r ≡ Err f → e ≡ f
+err_is (Ok a) e f is same = absurd is
+err_is (Err x) e f is same = let own : x ≡ f = cc in sym is ∙ own
+
+-- what is so anyway is so at an error
+pub err_same : {A E : Type 0} (r : Result A E) (Q : E → Type 0) (P : Type 0) → IsErrAnd r Q → P → OnErr r P
+err_same (Ok a) Q P is h = tt
+err_same (Err e) Q P is h = h
+
+-- what an error is is so where it is passed on
+pub passed : {A : Type 0} (r : Result A Unfed) (e : Unfed) (failed : Bool) (P : A → Type 0) (N : Unfed → Type 0) → IsErrAnd r (λ u. u ≡ e) → Outcome {A = A} failed (Err e) P N → Outcome failed r P N
+passed (Ok a) e failed P N is h = absurd is
+passed (Err u) e failed P N is h = (tt, subst (λ (v : Unfed). UnlessFailed failed v (N v)) (sym is) h.1)
+
+-- what comes of a symbol is so of what follows
+pub outcome_then : {A : Type 0} (r : Result A Unfed) (P Q : A → Type 0) (N M : Unfed → Type 0) (failed : Bool) → ((a : A) → P a → Q a) → ((e : Unfed) → N e → M e) → Outcome failed r P N → Outcome failed r Q M
+outcome_then (Ok a) P Q N M failed f n h = (f a h.0, tt)
+outcome_then (Err e) P Q N M failed f n h = (tt, unless failed e (N e) (M e) (n e) h.1)
+
+-- and of a block's bytes
+pub block_then : {A : Type 0} (p : Packet) (at : ℕ → Option (List ℕ)) (change : BytesChange) (r : Result A Unfed) (Is Is' : List ℕ → (ℕ → Option (List ℕ)) → Type 0) (Was Was' : List ℕ → Type 0) (Why : Unfed → Type 0)
+    → ((y : List ℕ) (g : ℕ → Option (List ℕ)) → Is y g → Is' y g) → ((y : List ℕ) → Was y → Was' y) → BlockOutcome p at change r Is Was Why → BlockOutcome p at change r Is' Was' Why
+block_then p at change r Is Is' Was Was' Why is was =
+    outcome_then r _ _ _ _ change.failed
+    (λ a h. (h.0, becomes_then change.before change.after p.sbn _ _ (λ y. is y _) h.1))
+    (λ e h. (h.0, becomes_then change.before change.after p.sbn Was Was' was h.1))

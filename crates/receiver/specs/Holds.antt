@@ -1,15 +1,13 @@
 -- What is kept of an object, for the symbols that stand at its blocks and ESIs.
-use Rattle.std.specs.Prelude.{◌≡◌, ℕ, Bool, true, false, List, length, filter, Option, Some}
-use Rattle.std.specs.Prelude.{Result, Ok, Err}
+use Rattle.std.specs.Prelude.{◌≡◌, ℕ, Bool, List, length, filter, Option, Some}
 use Rattle.lists.specs.Below.{below}
-use Rattle.partition.specs.Fti.{Fti, block_count}
+use Rattle.partition.specs.Fti.{block_count}
 use Rattle.block_code.specs.Codes.{EachBlockHas}
 use Rattle.block_code.specs.CodesOf.{IsCodeOf}
 use Rattle.block_recovery.specs.Decoded.{AreWithin}
 use Rattle.block_recovery.specs.Recoveries.{IsKeptOf}
 use Rattle.receiver.specs.Esis.{esis_of}
 use Rattle.receiver.specs.Stored.{IsOf, IsStored, is_solved}
-use Rattle.receiver.specs.declared.put_fault.PutFault.{PutFault}
 use Rattle.receiver.specs.declared.store.Store.{Store}
 
 -- the ESIs that came of a block
@@ -28,8 +26,8 @@ solved_count store =
 -- the codes are the FTI's, and the ESIs that came of each block are the block's; how many blocks
 -- are solved isn't said
 pub record HasParts (store : Store) : Type 0 where
-  pub codes : EachBlockHas (IsCodeOf store.fti) store.fti store.codes
-  pub recovery : IsKeptOf store.codes store.scratch.recovery
+  pub codes : EachBlockHas (IsCodeOf store.fti) store.fti store.solver.codes
+  pub recovery : IsKeptOf store.solver.codes store.solver.recovery
   pub each : (b : ℕ) → IsOf store.fti b (kept_of store b)
 
 -- and the solved blocks are counted
@@ -45,9 +43,3 @@ pub record Holds (store : Store) (bytes : ℕ → List ℕ) (at : ℕ → ℕ �
 -- the bytes are told, and with them it is
 abbrev pub HoldsIn : Store → Option (ℕ → List ℕ) → (ℕ → ℕ → Option (List ℕ)) → Type 0
 HoldsIn store told at = (bytes : ℕ → List ℕ) × (told ≡ Some bytes) × Holds store bytes at
-
--- whether a block is solved now, and wasn't, by the ESIs that came before and now
-abbrev pub Solves : Fti → ℕ → Result Bool PutFault → List ℕ → List ℕ → Type 0
-Solves f b (Ok true) old new = (is_solved f b old ≡ false) × (is_solved f b new ≡ true)
-Solves f b (Ok false) old new = is_solved f b new ≡ is_solved f b old
-Solves f b (Err e) old new = is_solved f b new ≡ is_solved f b old

@@ -6,25 +6,26 @@ use Rattle.partition.specs.Fti.{Fti, block_count, encoding_count}
 use Rattle.alc.specs.declared.reading.Packet.{Packet}
 use Rattle.block_code.specs.Codes.{EachBlockHas}
 use Rattle.block_code.specs.CodesOf.{IsCodeOf}
-use Rattle.block_code.specs.declared.codes.BlockCodes.{BlockCodes}
 use Rattle.block_recovery.specs.Decoded.{IsEnoughAt, IsUnexplained}
 use Rattle.block_recovery.specs.Arrivals.{with_esi, with_symbol}
 use Rattle.block_recovery.specs.Recoveries.{IsKeptOf}
+use Rattle.block_recovery.specs.declared.fault.DecodeFault.TheVariants.{Clash, NotCode}
 use Rattle.receiver.specs.Bytes.{Becomes}
 use Rattle.receiver.specs.Holds.{HoldsIn}
 use Rattle.receiver.specs.declared.block_bytes.BlockBytes.{Ghosts}
-use Rattle.receiver.specs.declared.scratch.Scratch.{Scratch}
+use Rattle.receiver.specs.declared.solver.Solver.{Solver}
 use Rattle.receiver.specs.declared.store.Store.{Store}
-use Rattle.receiver.specs.declared.put_fault.PutFault.{PutFault}
-use Rattle.receiver.specs.declared.put_fault.PutFault.TheVariants.{Clash, NotCode, NoMemory, Failed}
+use Rattle.receiver.specs.declared.receiver.FeedFault.TheVariants.{Fault, NoMemory}
+use Rattle.receiver.specs.declared.receiving.Unfed.{Unfed}
+use Rattle.receiver.specs.declared.receiving.Unfed.TheVariants.{Refused, Failed}
 
 -- the FTI has the packet, the codes are the FTI's, and what recovered a block is of one of them
-pub record MayPut (f : Fti) (codes : BlockCodes) (p : Packet) (scratch : Scratch) : Type 0 where
+pub record MayPut (f : Fti) (p : Packet) (solver : Solver) : Type 0 where
   pub number : p.sbn < block_count f
   pub esi : p.esi < encoding_count f p.sbn
   pub symbol : length p.symbol.now ≡ f.symbol_length
-  pub codes_are : EachBlockHas (IsCodeOf f) f codes
-  pub recovery : IsKeptOf codes scratch.recovery
+  pub codes_are : EachBlockHas (IsCodeOf f) f solver.codes
+  pub recovery : IsKeptOf solver.codes solver.recovery
 
 -- the ESI is free, or has this symbol
 abbrev pub MayStand : (ℕ → Option (List ℕ)) → ℕ → List ℕ → Type 0
@@ -42,21 +43,24 @@ pub record IsNoCode (f : Fti) (b : ℕ) (at : ℕ → Option (List ℕ)) (j : �
   pub enough : IsEnoughAt f b (with_esi at j y)
   pub unexplained : IsUnexplained f b (with_esi at j y)
 
--- why the symbol isn't put there
-abbrev pub IsPutFault : Fti → ℕ → (ℕ → Option (List ℕ)) → ℕ → List ℕ → PutFault → Type 0
-IsPutFault f b at j y Clash = IsClash at j y
-IsPutFault f b at j y NotCode = IsNoCode f b at j y
-IsPutFault f b at j y NoMemory = ⊤
-IsPutFault f b at j y Failed = ⊤
+-- why the symbol of the packet at a place of the datagrams isn't put: a clash is told by its place,
+-- and no code by its block
+abbrev pub IsPutFault : Fti → ℕ → Packet → (ℕ → Option (List ℕ)) → Unfed → Type 0
+IsPutFault f place p at (Refused (Fault (Clash i))) = (i ≡ place) × IsClash at p.esi p.symbol.now
+IsPutFault f place p at (Refused (Fault (NotCode b))) =
+    (b ≡ p.sbn) × IsNoCode f p.sbn at p.esi p.symbol.now
+IsPutFault f place p at (Refused NoMemory) = ⊤
+IsPutFault f place p at (Refused fault) = ⊥
+IsPutFault f place p at Failed = ⊤
 
 -- so, unless reading or writing has failed
-abbrev pub UnlessFailed : Bool → PutFault → Type 0 → Type 0
+abbrev pub UnlessFailed : Bool → Unfed → Type 0 → Type 0
+UnlessFailed failed (Refused fault) So = So
 UnlessFailed failed Failed So = failed ≡ true
-UnlessFailed failed fault So = So
 
 -- What comes of a symbol that is put: this is so where it was, and that where it wasn't, by why, or
 -- reading or writing has failed.
-abbrev pub Outcome : {A : Type 0} → Bool → Result A PutFault → (A → Type 0) → (PutFault → Type 0)
+abbrev pub Outcome : {A : Type 0} → Bool → Result A Unfed → (A → Type 0) → (Unfed → Type 0)
     → Type 0
 Outcome failed result Put Not =
     IfOk result Put × IfErr result (λ fault. UnlessFailed failed fault (Not fault))
@@ -73,20 +77,30 @@ abbrev pub bytes_change : {B : Type 0} → Ghosts B → Fti → (ℕ → List �
 bytes_change b f before new =
     record { before = before; after = b.kept new f; failed = b.failed new }
 
--- a block's stored part and its bytes: they are for these symbols with the packet's, which may
--- stand there, or why not, and they are for those before
-abbrev pub BlockOutcome : {A : Type 0} → Fti → Packet → (ℕ → Option (List ℕ)) → BytesChange
-    → Result A PutFault → (A → List ℕ → (ℕ → Option (List ℕ)) → Type 0) → (List ℕ → Type 0) → Type 0
-BlockOutcome f p at bytes result Is Was = Outcome bytes.failed result
+-- a block's stored part and its bytes: they are for these symbols with the packet's (`Is`), which
+-- may stand there; or it isn't put (`Why`), and they are for those before (`Was`)
+abbrev pub BlockOutcome : {A : Type 0} → Packet → (ℕ → Option (List ℕ)) → BytesChange
+    → Result A Unfed → (List ℕ → (ℕ → Option (List ℕ)) → Type 0) → (List ℕ → Type 0)
+    → (Unfed → Type 0) → Type 0
+BlockOutcome p at bytes result Is Was Why = Outcome bytes.failed result
     (λ a. MayStand at p.esi p.symbol.now
-    × Becomes bytes.before bytes.after p.sbn (λ x. Is a x (with_esi at p.esi p.symbol.now)))
-    (λ fault. IsPutFault f p.sbn at p.esi p.symbol.now fault
-    × Becomes bytes.before bytes.after p.sbn Was)
+    × Becomes bytes.before bytes.after p.sbn (λ x. Is x (with_esi at p.esi p.symbol.now)))
+    (λ fault. Why fault × Becomes bytes.before bytes.after p.sbn Was)
 
--- the same of what is kept of an object, where the bytes of its blocks are told
-abbrev pub StoreOutcome : {A : Type 0} → Fti → Option (ℕ → List ℕ) → Bool
-    → (ℕ → ℕ → Option (List ℕ)) → Packet → Result A PutFault → Store → Type 0
-StoreOutcome f told failed at p result store = Outcome failed result
+-- what is told of an object's bytes now, and whether reading or writing has failed
+pub record BytesNow : Type 0 where
+  pub told : Fti → Option (ℕ → List ℕ)
+  pub failed : Bool
+
+-- those of an object that are kept so
+abbrev pub bytes_now : {B : Type 0} → Ghosts B → B → BytesNow
+bytes_now b new = record { told = b.kept new; failed = b.failed new }
+
+-- what comes of the symbol of the packet at a place, for what is kept of an object, where the bytes
+-- of its blocks are told
+abbrev pub StoreOutcome : Fti → ℕ → Packet → (ℕ → ℕ → Option (List ℕ)) → BytesNow
+    → Result ⊤ Unfed → Store → Type 0
+StoreOutcome f place p at bytes result store = Outcome bytes.failed result
     (λ a. MayStand (at p.sbn) p.esi p.symbol.now
-    × HoldsIn store told (with_symbol at p.sbn p.esi p.symbol.now))
-    (λ fault. IsPutFault f p.sbn (at p.sbn) p.esi p.symbol.now fault × HoldsIn store told at)
+    × HoldsIn store (bytes.told f) (with_symbol at p.sbn p.esi p.symbol.now))
+    (λ fault. IsPutFault f place p (at p.sbn) fault × HoldsIn store (bytes.told f) at)

@@ -10,43 +10,29 @@ ghost use Rattle.receiver.specs.Begun.{Begins, IsCarrierOf};
 ghost use Rattle.receiver.specs.Stands.{Stands, StandsWith, IsFed, IsSoundIn};
 ghost use Rattle.receiver.specs.Receiving.{with_datagram, Tells, IsFaultOf, HasNoFault};
 ghost use Rattle.receiver.specs.Receiving.{HasNoFaultBefore, ComesEarly, IfRefused, IsUnfedOf};
-ghost use Rattle.receiver.specs.Fed.{HoldsFor, FedOutcome, put_refusal};
+ghost use Rattle.receiver.specs.Fed.{HoldsFor, FedOutcome};
+ghost use Rattle.receiver.specs.Putting.{bytes_now};
 
 use crate::block_bytes::BlockBytes;
-use crate::put_fault::PutFault;
 use crate::receiver::{FeedFault, Progress, Receiver};
 use crate::receiving::{Receiving, Unfed};
 use crate::store::Store;
 use alc::Packet;
-use block_recovery::{DecodeFault, fault_at};
+use block_recovery::fault_at;
 use lists::are_bytes;
 use partition::Fti;
 use reception::{Look, Scope};
 use std::alloc::Global;
 
-// Why the datagram isn't accepted whose symbol isn't put.
-fn refusal(place: usize, b: u32, fault: PutFault) -> Unfed
-    ensures value { result ≡ put_refusal place b fault }
-    ensures other { result ≢ Unfed.Refused FeedFault.Full }
-    ensures late { result ≢ Unfed.Refused FeedFault.Early }
-    ensures failed { result ≡ Unfed.Failed → fault ≡ PutFault.Failed }
-{
-    match fault {
-        PutFault::Clash => Unfed::Refused(FeedFault::Fault(DecodeFault::Clash(place))),
-        PutFault::NotCode => Unfed::Refused(FeedFault::Fault(DecodeFault::NotCode(b))),
-        PutFault::NoMemory => Unfed::Refused(FeedFault::NoMemory),
-        PutFault::Failed => Unfed::Failed,
-    }
-}
-
-// Puts the packet's symbol, into a new store where there is none.
+// Puts the symbol of the packet at a place, into a new store where there is none.
 fn put<B: BlockBytes>(
     alloc: Global,
     fti: Fti,
     store: &mut Option<Store>,
+    place: usize,
     packet: &Packet<'_>,
     bytes: &mut B,
-) -> Result<(), PutFault>
+) -> Result<(), Unfed>
     requires sound { IsSoundIn store.old }
     requires number { packet.now.sbn < block_count fti }
     requires esi { packet.now.esi < encoding_count fti packet.now.sbn }
@@ -55,17 +41,16 @@ fn put<B: BlockBytes>(
     ensures sound { IsSoundIn store.new }
     ensures outcome { (at : ℕ → ℕ → Option (List ℕ))
         → HoldsFor fti (B.kept bytes.old) store.old at
-        → FedOutcome fti (B.kept bytes.new) (B.failed bytes.new) at packet.now result store.new }
+        → FedOutcome fti place packet.now at (bytes_now B.BlockBytes bytes.new) result
+        store.new }
     ensures some { OnOk result (IsSome store.new) }
     ensures none { OnErr result (is_some store.new ≡ is_some store.old) }
 {
     if let Some(store) = store {
-        return store.put(alloc, packet, bytes);
+        return store.put(alloc, place, packet, bytes);
     }
-    let Ok(mut new) = Store::new(alloc, fti) else {
-        return Err(PutFault::NoMemory);
-    };
-    new.put(alloc, packet, bytes)?;
+    let mut new = Store::new(alloc, fti)?;
+    new.put(alloc, place, packet, bytes)?;
     *store = Some(new);
     Ok(())
 }
@@ -192,9 +177,7 @@ impl Receiving {
         };
         let fti = scope.fti.unwrap();
         fti.is_valid();
-        if let Err(fault) = put(alloc, fti, &mut self.store, &packet, bytes) {
-            return Err(refusal(self.accepted, packet.sbn, fault));
-        }
+        put(alloc, fti, &mut self.store, self.accepted, &packet, bytes)?;
         Ok(self.accept())
     }
 }

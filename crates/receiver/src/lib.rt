@@ -19,8 +19,8 @@
 //!   behind the other (`pending_block`). From then on these are its source symbols
 //!   (`solved_block`). So a block has no more bytes than its source symbols. `putting` puts a
 //!   symbol where it goes. It walks over what came of the block, and not over the blocks. A symbol
-//!   that comes to a solved block is compared with what the source symbols give. `put_fault` says
-//!   why one isn't put. `scratch` is used again from block to block.
+//!   that comes to a solved block is compared with what the source symbols give. `solver` is
+//!   what blocks are solved with.
 #![tactic(auto)]
 
 mod block_bytes;
@@ -31,13 +31,12 @@ mod file_blocks;
 mod file_receiver;
 mod held_blocks;
 mod pending_block;
-mod put_fault;
 mod putting;
 mod receiver;
 mod receiving;
 mod recent;
-mod scratch;
 mod solved_block;
+mod solver;
 mod store;
 mod storing;
 mod taking;

@@ -9,13 +9,13 @@ ghost use Rattle.receiver.specs.Esis.{esis_of};
 ghost use Rattle.receiver.specs.Putting.{MayPut, IsPutFault, Outcome, BlockOutcome, bytes_change};
 ghost use Rattle.receiver.specs.Stored.{IsOf, IsPending, IsSolved, AreSymbols, is_among};
 
-use crate::block_bytes::{BlockBytes, BytesFault};
+use crate::block_bytes::BlockBytes;
 use crate::esis::Esis;
-use crate::put_fault::PutFault;
-use crate::scratch::Scratch;
+use crate::receiver::FeedFault;
+use crate::receiving::Unfed;
+use crate::solver::Solver;
 use alc::Packet;
-use block_code::BlockCodes;
-use block_recovery::block_rows;
+use block_recovery::{DecodeFault, block_rows};
 use partition::Fti;
 use std::alloc::{AllocError, Global};
 
@@ -83,38 +83,36 @@ fn symbols_with<'a>(
     Ok(symbols)
 }
 
-/// Compares the packet's symbol with the one that came, at a place among those that did.
+/// Compares the symbol of the packet at a place with the one that came, which stands at an index
+/// among those that did.
 pub(crate) fn compare<B: BlockBytes>(
     alloc: Global,
     fti: &Fti,
+    place: usize,
     packet: &Packet<'_>,
     esis: &[u8],
-    place: usize,
+    index: usize,
     bytes: &mut B,
-) -> Result<(), PutFault>
+) -> Result<(), Unfed>
     requires number { packet.now.sbn < block_count fti.now }
     requires symbol { length packet.now.symbol.now ≡ fti.now.symbol_length }
-    requires place { (place < length esis.now) × (slice_index esis.now place ≡ packet.now.esi) }
+    requires index { (index < length esis.now) × (slice_index esis.now index ≡ packet.now.esi) }
     requires few { length esis.now < source_count fti.now packet.now.sbn }
     ensures outcome { (x : ℕ → List ℕ) (at : ℕ → Option (List ℕ))
         → B.kept bytes.old fti.now ≡ Some x
         → IsPending fti.now packet.now.sbn (x packet.now.sbn) esis.now at
         → Outcome (B.failed bytes.new) result
         (λ _. at packet.now.esi ≡ Some packet.now.symbol.now)
-        (IsPutFault fti.now packet.now.sbn at packet.now.esi packet.now.symbol.now) }
+        (IsPutFault fti.now place packet.now at) }
     ensures stays { B.kept bytes.new ≡ B.kept bytes.old }
 {
     let size = usize::from(fti.symbol_length());
-    let Ok(mut symbol) = vec![in alloc; 0u8; size] else {
-        return Err(PutFault::NoMemory);
-    };
-    let Ok(()) = bytes.read(fti, packet.sbn, place * size, &mut symbol) else {
-        return Err(PutFault::Failed);
-    };
+    let mut symbol = vec![in alloc; 0u8; size]?;
+    bytes.read(fti, packet.sbn, index * size, &mut symbol)?;
     if symbol.as_slice() == packet.symbol {
         Ok(())
     } else {
-        Err(PutFault::Clash)
+        Err(Unfed::Refused(FeedFault::Fault(DecodeFault::Clash(place))))
     }
 }
 
@@ -128,7 +126,7 @@ impl Esis {
         packet: &Packet<'_>,
         have: usize,
         bytes: &mut B,
-    ) -> Result<(), PutFault>
+    ) -> Result<(), Unfed>
         requires have { have ≡ length (esis_of self.old packet.now.sbn) }
         requires number { packet.now.sbn < block_count fti.now }
         requires symbol { length packet.now.symbol.now ≡ fti.now.symbol_length }
@@ -141,24 +139,18 @@ impl Esis {
             (esis_of self.new packet.now.sbn ≡ esis_of self.old packet.now.sbn) }
         ensures others { (a : ℕ) → packet.now.sbn ≢ a
             → esis_of self.new a ≡ esis_of self.old a }
-        ensures outcome { (x : ℕ → List ℕ) (at : ℕ → Option (List ℕ))
+        ensures outcome { (place : ℕ) (x : ℕ → List ℕ) (at : ℕ → Option (List ℕ))
             → B.kept bytes.old fti.now ≡ Some x
             → IsPending fti.now packet.now.sbn (x packet.now.sbn)
             (esis_of self.old packet.now.sbn) at
-            → BlockOutcome fti.now packet.now at
-            (bytes_change B.BlockBytes fti.now x bytes.new) result
-            (λ _ y. IsPending fti.now packet.now.sbn y (esis_of self.new packet.now.sbn))
-            (λ y. IsPending fti.now packet.now.sbn y (esis_of self.new packet.now.sbn) at) }
+            → BlockOutcome packet.now at (bytes_change B.BlockBytes fti.now x bytes.new) result
+            (λ y. IsPending fti.now packet.now.sbn y (esis_of self.new packet.now.sbn))
+            (λ y. IsPending fti.now packet.now.sbn y (esis_of self.new packet.now.sbn) at)
+            (IsPutFault fti.now place packet.now at) }
     {
         let from = have * usize::from(fti.symbol_length());
-        let Ok(()) = self.reserve(alloc, packet.sbn) else {
-            return Err(PutFault::NoMemory);
-        };
-        match bytes.write(alloc, fti, packet.sbn, from, packet.symbol) {
-            Ok(()) => {}
-            Err(BytesFault::NoMemory) => return Err(PutFault::NoMemory),
-            Err(BytesFault::Failed) => return Err(PutFault::Failed),
-        }
+        self.reserve(alloc, packet.sbn)?;
+        bytes.write(alloc, fti, packet.sbn, from, packet.symbol)?;
         self.push(packet.sbn, packet.esi);
         Ok(())
     }
@@ -169,62 +161,49 @@ impl Esis {
         &mut self,
         alloc: Global,
         fti: &Fti,
-        codes: &BlockCodes,
         packet: &Packet<'_>,
-        scratch: &mut Scratch,
+        solver: &mut Solver,
         bytes: &mut B,
-    ) -> Result<(), PutFault>
-        requires given { MayPut fti.now codes.now packet.now scratch.old }
+    ) -> Result<(), Unfed>
+        requires given { MayPut fti.now packet.now solver.old }
         requires of { IsOf fti.now packet.now.sbn (esis_of self.old packet.now.sbn) }
         requires few { length (esis_of self.old packet.now.sbn)
             < source_count fti.now packet.now.sbn }
         requires free { is_among (esis_of self.old packet.now.sbn) packet.now.esi ≡ false }
         requires last { source_count fti.now packet.now.sbn
             ≤ length (esis_of self.old packet.now.sbn) + 1 }
-        ensures keeps { MayPut fti.now codes.now packet.now scratch.new }
+        ensures keeps { MayPut fti.now packet.now solver.new }
         ensures kept { OnOk result (esis_of self.new packet.now.sbn
             ≡ esis_of self.old packet.now.sbn ++ packet.now.esi ∷ []) }
         ensures same { OnErr result
             (esis_of self.new packet.now.sbn ≡ esis_of self.old packet.now.sbn) }
         ensures others { (a : ℕ) → packet.now.sbn ≢ a
             → esis_of self.new a ≡ esis_of self.old a }
-        ensures outcome { (x : ℕ → List ℕ) (at : ℕ → Option (List ℕ))
+        ensures outcome { (place : ℕ) (x : ℕ → List ℕ) (at : ℕ → Option (List ℕ))
             → B.kept bytes.old fti.now ≡ Some x
             → IsPending fti.now packet.now.sbn (x packet.now.sbn)
             (esis_of self.old packet.now.sbn) at
-            → BlockOutcome fti.now packet.now at
-            (bytes_change B.BlockBytes fti.now x bytes.new) result
-            (λ _ y. IsSolved fti.now packet.now.sbn y (esis_of self.new packet.now.sbn))
-            (λ y. IsPending fti.now packet.now.sbn y (esis_of self.new packet.now.sbn) at) }
+            → BlockOutcome packet.now at (bytes_change B.BlockBytes fti.now x bytes.new) result
+            (λ y. IsSolved fti.now packet.now.sbn y (esis_of self.new packet.now.sbn))
+            (λ y. IsPending fti.now packet.now.sbn y (esis_of self.new packet.now.sbn) at)
+            (IsPutFault fti.now place packet.now at) }
     {
-        let n = fti.n(packet.sbn);
+        let b = packet.sbn;
+        let n = fti.n(b);
         let size = usize::from(fti.symbol_length());
-        let esis = self.get(packet.sbn);
-        let Ok(mut came) = vec![in alloc; 0u8; esis.len() * size] else {
-            return Err(PutFault::NoMemory);
+        let esis = self.get(b);
+        let mut came = vec![in alloc; 0u8; esis.len() * size]?;
+        bytes.read(fti, b, 0, &mut came)?;
+        let symbols = symbols_with(alloc, esis, &came, packet.esi, packet.symbol, n)?;
+        let codes = &solver.codes;
+        let recovery = &mut solver.recovery;
+        let Some(rows) = block_rows(alloc, fti, codes, b, &symbols, false, recovery)? else {
+            return Err(Unfed::Refused(FeedFault::Fault(DecodeFault::NotCode(b))));
         };
-        let Ok(()) = bytes.read(fti, packet.sbn, 0, &mut came) else {
-            return Err(PutFault::Failed);
-        };
-        let Ok(symbols) = symbols_with(alloc, esis, &came, packet.esi, packet.symbol, n) else {
-            return Err(PutFault::NoMemory);
-        };
-        let recovery = &mut scratch.recovery;
-        let rows = match block_rows(alloc, fti, codes, packet.sbn, &symbols, false, recovery) {
-            Ok(Some(rows)) => rows,
-            Ok(None) => return Err(PutFault::NotCode),
-            Err(_) => return Err(PutFault::NoMemory),
-        };
-        let Ok(()) = self.reserve(alloc, packet.sbn) else {
-            return Err(PutFault::NoMemory);
-        };
-        match bytes.write(alloc, fti, packet.sbn, 0, &rows.bytes) {
-            Ok(()) => {}
-            Err(BytesFault::NoMemory) => return Err(PutFault::NoMemory),
-            Err(BytesFault::Failed) => return Err(PutFault::Failed),
-        }
-        scratch.rows = Some(rows);
-        self.push(packet.sbn, packet.esi);
+        self.reserve(alloc, b)?;
+        bytes.write(alloc, fti, b, 0, &rows.bytes)?;
+        solver.rows = Some(rows);
+        self.push(b, packet.esi);
         Ok(())
     }
 }

@@ -3,37 +3,37 @@ ghost use Rattle.std.specs.Prelude.{◌≡◌, ◌≢◌, ◌≤◌, ℕ, List, 
 ghost use Rattle.partition.specs.Fti.{source_count};
 ghost use Rattle.block_recovery.specs.Blocks.{HaveLength};
 ghost use Rattle.receiver.specs.Esis.{esis_of};
-ghost use Rattle.receiver.specs.Putting.{MayPut, BlockOutcome, bytes_change};
+ghost use Rattle.receiver.specs.Putting.{MayPut, BlockOutcome, IsPutFault, bytes_change};
 ghost use Rattle.receiver.specs.Stored.{IsOf, IsSolved};
 
 use crate::block_bytes::BlockBytes;
 use crate::esis::Esis;
 use crate::pending_block::place_of;
-use crate::put_fault::PutFault;
-use crate::scratch::Scratch;
+use crate::receiver::FeedFault;
+use crate::receiving::Unfed;
+use crate::solver::Solver;
 use alc::Packet;
-use block_code::BlockCodes;
-use block_recovery::gives;
+use block_recovery::{DecodeFault, gives};
 use partition::Fti;
 use std::alloc::Global;
 
 impl Esis {
-    /// Puts the packet's symbol to a block that is solved: it is compared with the one that the
-    /// source symbols give. That it came is noted where it is that one.
+    /// Puts the symbol of the packet at a place to a block that is solved: it is compared with the
+    /// one that the source symbols give. That it came is noted where it is that one.
     pub(crate) fn put_to_solved<B: BlockBytes>(
         &mut self,
         alloc: Global,
         fti: &Fti,
-        codes: &BlockCodes,
+        place: usize,
         packet: &Packet<'_>,
-        scratch: &mut Scratch,
+        solver: &mut Solver,
         bytes: &mut B,
-    ) -> Result<(), PutFault>
-        requires given { MayPut fti.now codes.now packet.now scratch.old }
+    ) -> Result<(), Unfed>
+        requires given { MayPut fti.now packet.now solver.old }
         requires of { IsOf fti.now packet.now.sbn (esis_of self.old packet.now.sbn) }
         requires enough { source_count fti.now packet.now.sbn
             ≤ length (esis_of self.old packet.now.sbn) }
-        ensures keeps { MayPut fti.now codes.now packet.now scratch.new }
+        ensures keeps { MayPut fti.now packet.now solver.new }
         ensures of { IsOf fti.now packet.now.sbn (esis_of self.new packet.now.sbn) }
         ensures enough { source_count fti.now packet.now.sbn
             ≤ length (esis_of self.new packet.now.sbn) }
@@ -44,39 +44,33 @@ impl Esis {
             → IsSolved fti.now packet.now.sbn (x packet.now.sbn)
             (esis_of self.old packet.now.sbn) at
             → HaveLength fti.now.symbol_length at
-            → BlockOutcome fti.now packet.now at
-            (bytes_change B.BlockBytes fti.now x bytes.new) result
-            (λ _ y. IsSolved fti.now packet.now.sbn y (esis_of self.new packet.now.sbn))
-            (λ y. IsSolved fti.now packet.now.sbn y (esis_of self.new packet.now.sbn) at) }
+            → BlockOutcome packet.now at (bytes_change B.BlockBytes fti.now x bytes.new) result
+            (λ y. IsSolved fti.now packet.now.sbn y (esis_of self.new packet.now.sbn))
+            (λ y. IsSolved fti.now packet.now.sbn y (esis_of self.new packet.now.sbn) at)
+            (IsPutFault fti.now place packet.now at) }
     {
         fti.is_valid();
         let size = usize::from(fti.symbol_length());
-        let Ok(mut rows) = scratch.room(alloc, fti.k(packet.sbn), size) else {
-            return Err(PutFault::NoMemory);
-        };
-        let Ok(()) = bytes.read(fti, packet.sbn, 0, &mut rows.bytes) else {
-            return Err(PutFault::Failed);
-        };
-        let esi = packet.esi;
-        let Ok(given) = gives(alloc, fti, codes, packet.sbn, &rows, esi, packet.symbol) else {
-            return Err(PutFault::NoMemory);
-        };
-        scratch.rows = Some(rows);
-        let came = place_of(self.get(packet.sbn), esi).is_some();
+        let b = packet.sbn;
+        let mut rows = solver.room(alloc, fti.k(b), size)?;
+        bytes.read(fti, b, 0, &mut rows.bytes)?;
+        let codes = &solver.codes;
+        let given = gives(alloc, fti, codes, b, &rows, packet.esi, packet.symbol)?;
+        solver.rows = Some(rows);
+        let came = place_of(self.get(b), packet.esi).is_some();
         if !given {
-            return Err(if came {
-                PutFault::Clash
+            let fault = if came {
+                DecodeFault::Clash(place)
             } else {
-                PutFault::NotCode
-            });
+                DecodeFault::NotCode(b)
+            };
+            return Err(Unfed::Refused(FeedFault::Fault(fault)));
         }
         if came {
             return Ok(());
         }
-        let Ok(()) = self.reserve(alloc, packet.sbn) else {
-            return Err(PutFault::NoMemory);
-        };
-        self.push(packet.sbn, esi);
+        self.reserve(alloc, b)?;
+        self.push(b, packet.esi);
         Ok(())
     }
 }

@@ -1,6 +1,6 @@
 //! What is kept of an object.
 use crate::esis::Esis;
-use crate::scratch::Scratch;
+use crate::solver::Solver;
 use block_code::{BlockCodes, Kind};
 use partition::Fti;
 use std::alloc::{AllocError, Global};
@@ -9,13 +9,12 @@ use std::alloc::{AllocError, Global};
 #[derive(Drop)]
 pub(crate) struct Store {
     pub(crate) fti: Fti,
-    pub(crate) codes: BlockCodes,
     /// Which symbols came. A block of which as many did as it needs is solved: its bytes are its
     /// source symbols. Those of another are the symbols that came, in the order in which they did.
     pub(crate) esis: Esis,
     /// How many blocks are solved.
     pub(crate) solved: u32,
-    pub(crate) scratch: Scratch,
+    pub(crate) solver: Solver,
 }
 
 impl Store {
@@ -33,10 +32,9 @@ impl Store {
         let codes = BlockCodes::new(alloc, Kind::Generator, &fti)?;
         Ok(Store {
             fti,
-            codes,
             esis: Esis::new(alloc, fti.n(0)),
             solved: 0,
-            scratch: Scratch::new(),
+            solver: Solver::new(codes),
         })
     }
 }

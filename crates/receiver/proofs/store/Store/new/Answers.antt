@@ -2,6 +2,8 @@ use Rattle.std.proofs.Common.{◌<◌, ℕ, List, None, length, refl, sym, ap, s
 use Rattle.std.proofs.lemmas.Bool.{lt-leb}
 use Rattle.partition.specs.Fti.{block_count, source_count}
 use Rattle.partition.proofs.Laws.{some_block, some_source}
+use Rattle.block_code.specs.Codes.{EachBlockHas}
+use Rattle.block_code.specs.CodesOf.{IsCodeOf}
 use Rattle.block_recovery.proofs.Kept.{count_none}
 use Rattle.receiver.specs.Esis.{esis_of}
 use Rattle.receiver.specs.Stored.{IsOf, IsStored}
@@ -17,8 +19,8 @@ returns-clause-sound c =
     let few : (b : ℕ) → length (esis_of c.new-2.result b) < source_count f b = λ b. omega (arith, some_source f c.is_valid.ensures b, ap length (c.new-2.ensures b)) in
     record {
       parts = record {
-        codes = c.in_ok-codes.ensures;
-        recovery = rw c.new-3.ensures tt;
+        codes = subst (EachBlockHas (IsCodeOf f) f) (sym c.new-3.ensures.codes) c.in_ok-codes.ensures;
+        recovery = rw c.new-3.ensures.recovery tt;
         each = λ b. subst (λ (l : List ℕ). IsOf f b l) (sym (c.new-2.ensures b)) (of_none f b);
       };
       solved = sym (count_none _ (block_count f) (λ b. lt-leb (source_count f b) (length (esis_of c.new-2.result b)) (few b)));
