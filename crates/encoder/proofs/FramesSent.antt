@@ -1,5 +1,5 @@
 -- Frames of sent datagrams at their places: a run of them is written, and in the end all were sent.
-use Rattle.std.proofs.Common.{◌≡◌, ℕ, zero, suc, ◌+◌, ◌-◌, ◌<◌, ◌≤◌, ◌⊎◌, List, [], ◌∷◌, ◌++◌, Option, Some, None, Result, Ok, Err, length, map, get_or, take, refl, ap, sym, subst, ◌∙◌, inl, inr, arith, length-append, length-take-le}
+use Rattle.std.proofs.Common.{◌≡◌, ℕ, zero, suc, ◌+◌, ◌-◌, ◌<◌, ◌≤◌, ◌⊎◌, List, [], ◌∷◌, ◌++◌, Option, Some, None, Result, Ok, Err, length, map, get_or, take, refl, ap, sym, subst, ◌∙◌, inl, inr, arith, length-append, length-take, length-take-le}
 use Rattle.std.specs.Prelude.{flat_map, is_some, IfSome, OnOk, replicate}
 use Rattle.std.specs.Io.KnownBytes.{Appends}
 use Rattle.std.proofs.lemmas.Bool.{cases_lt, cases_eq}
@@ -50,6 +50,13 @@ as_long f every from bytes (Some xs) new room put is = rw put (length-overwritte
 pub resized_told : (n : ℕ) (old new : Option (List ℕ)) → Resizes old new n → is_some new ≡ is_some old
 resized_told n None new put = rw put refl
 resized_told n (Some xs) new put = rw put refl
+
+pub resized_long : (f : Fti) (every n : ℕ) (old new : Option (List ℕ)) → Resizes old new n → n ≡ offset_of f every (length (pairs Rounds f)) → IsAsLong f every new
+resized_long f every n None new put is = rw put tt
+resized_long f every n (Some xs) new put is =
+    let long : length (take n xs ++ replicate (n - length xs) 0) ≡ n =
+    omega (arith, length-append (take n xs) (replicate (n - length xs) 0), length-take n xs, length-replicate {A = ℕ} (n - length xs) 0) in
+    rw put (long ∙ is)
 
 -- from what holds where a call succeeded
 pub then_ok : {T E : Type 0} (r : Result T E) (A B : Type 0) → (A → B) → OnOk r A → OnOk r B

@@ -1,8 +1,7 @@
 //! An object that comes from a reader, block by block.
-ghost use Rattle.std.specs.Prelude.{◌≡◌, ◌<◌, length, true, false, IfErr, OnOk, IfSome};
+ghost use Rattle.std.specs.Prelude.{◌≡◌, ◌<◌, length, IfErr, OnOk, IfSome};
 ghost use Rattle.std.specs.Io.KnownBytes.{Consumes, IsAtEnd};
 ghost use Rattle.lists.specs.Bytes.{AreBytes};
-ghost use Rattle.partition.specs.Fti.{block_count};
 ghost use Rattle.encoder.specs.BlocksRead.{IsReadFault};
 
 use lists::are_bytes;

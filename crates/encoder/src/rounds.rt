@@ -2,14 +2,14 @@
 //!
 //! A product of a block's source symbols costs each of its outputs less, the more of them it makes
 //! at once. So the repair symbols of several rounds are made before the first of them is sent.
-ghost use Rattle.std.specs.Prelude.{◌≡◌, ◌<◌, ◌≤◌, ◌+◌, ◌*◌, ◌^◌, ℕ, List, length, slice_index};
-ghost use Rattle.std.specs.Prelude.{true, IfOk, OnOk, OnErr};
+ghost use Rattle.std.specs.Prelude.{◌≡◌, ◌<◌, ◌≤◌, ◌+◌, ◌*◌, ◌^◌, ℕ, List, length, true};
+ghost use Rattle.std.specs.Prelude.{IfOk, OnOk, OnErr};
 ghost use Rattle.partition.specs.Fti.{block_count};
 ghost use Rattle.partition.specs.declared.order.Order.TheVariants.{Rounds};
 ghost use Rattle.block_code.specs.Codes.{EachBlockHas};
 ghost use Rattle.block_code.specs.CodesOf.{IsCodeOf};
 ghost use Rattle.encoder.specs.Passes.{IsDatagramRoom, pairs_of_pass};
-ghost use Rattle.encoder.specs.Rounds.{AreMade, AreMadeOf};
+ghost use Rattle.encoder.specs.Rounds.{AreMade};
 ghost use Rattle.encoder.specs.Sending.{pairs, items, items_from, AreSent, Sends, SendsSome};
 ghost use Rattle.encoder.specs.Sending.{session_bytes};
 
@@ -38,31 +38,8 @@ pub(crate) fn rounds_at_once(fti: &Fti) -> usize
     (MOST_BYTES / round).min(fti.n(0).saturating_sub(fti.k(blocks - 1)))
 }
 
-// Makes a block's symbols of a batch, as far as it has them, at its place among those of all
-// blocks.
-fn make_of_block(t: &Transmission, object: &[u8], batch: Batch, block: u32, symbols: &mut [u8])
-    requires codes { EachBlockHas (IsCodeOf t.now.fti) t.now.fti t.now.codes }
-    requires few { batch.count ≤ 255 }
-    requires block { block < block_count t.now.fti }
-    requires room { (block + 1) * (batch.count * t.now.fti.symbol_length) ≤ length symbols.old }
-    ensures made { AreMadeOf object.now t.now.fti batch.first batch.count block symbols.new }
-    ensures before { (p : ℕ) → p < block * (batch.count * t.now.fti.symbol_length)
-        → slice_index symbols.new p ≡ slice_index symbols.old p }
-{
-    let fti = &t.fti;
-    let size = usize::from(fti.symbol_length());
-    let n = fti.n(block);
-    if batch.first < n {
-        let count = batch.count.min(n - batch.first);
-        let from = block as usize * (batch.count * size);
-        let rows = &mut symbols[from..from + count * size];
-        let code = t.codes.of(fti.k(block));
-        let sources = block_of(object, fti, block);
-        encoding_symbols(sources, fti, block, code, batch.first, count, rows);
-    }
-}
-
-// Makes the symbols of a batch of all blocks.
+// Makes the symbols of a batch of all blocks, of each as far as it has them, at its place among
+// those of all.
 fn make(t: &Transmission, object: &[u8], batch: Batch, symbols: &mut [u8])
     requires codes { EachBlockHas (IsCodeOf t.now.fti) t.now.fti t.now.codes }
     requires few { batch.count ≤ 255 }
@@ -70,8 +47,18 @@ fn make(t: &Transmission, object: &[u8], batch: Batch, symbols: &mut [u8])
         ≤ length symbols.old }
     ensures { AreMade object.now t.now.fti batch.first batch.count symbols.new }
 {
-    for block in 0..t.fti.block_count() {
-        make_of_block(t, object, batch, block, symbols);
+    let fti = &t.fti;
+    let size = usize::from(fti.symbol_length());
+    for block in 0..fti.block_count() {
+        let n = fti.n(block);
+        if batch.first < n {
+            let count = batch.count.min(n - batch.first);
+            let from = block as usize * (batch.count * size);
+            let rows = &mut symbols[from..from + count * size];
+            let code = t.codes.of(fti.k(block));
+            let sources = block_of(object, fti, block);
+            encoding_symbols(sources, fti, block, code, batch.first, count, rows);
+        }
     }
 }
 

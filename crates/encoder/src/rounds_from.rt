@@ -8,13 +8,13 @@ ghost use Rattle.std.specs.Prelude.{slice_index, true, is_some, Some, IfOk, IfEr
 ghost use Rattle.std.specs.Prelude.{OnErr};
 ghost use Rattle.std.specs.Io.KnownBytes.{IsAtEnd};
 ghost use Rattle.streams.specs.Changes.{reader_change, writer_change};
-ghost use Rattle.partition.specs.Fti.{IsValidFti, block_count, source_count, encoding_count};
+ghost use Rattle.partition.specs.Fti.{block_count, source_count, encoding_count};
 ghost use Rattle.partition.specs.Fti.{block_bytes, large_blocks};
 ghost use Rattle.partition.specs.declared.order.Order.TheVariants.{Rounds};
 ghost use Rattle.block_code.specs.Codes.{EachBlockHas};
 ghost use Rattle.block_code.specs.CodesOf.{IsCodeOf};
 ghost use Rattle.reception.specs.Symbols.{Agrees};
-ghost use Rattle.encoder.specs.ObjectRead.{ReadsObject, IsObjectFault};
+ghost use Rattle.encoder.specs.ObjectRead.{ReadsObject};
 ghost use Rattle.encoder.specs.BlocksRead.{HasRead, IsReadFault};
 ghost use Rattle.encoder.specs.Sending.{pairs, items, items_from, AreSent, Sends};
 ghost use Rattle.encoder.specs.Passes.{IsBlocksFault};
@@ -323,40 +323,6 @@ fn write_groups<R: Read, W: WriteAt>(
     Ok(())
 }
 
-// Writes the whole session of the object that is read, with room as above. Answers how many
-// datagrams it has.
-fn write_object<R: Read, W: WriteAt>(
-    t: &Transmission,
-    reader: &mut R,
-    at_once: usize,
-    sources: &mut [u8],
-    symbols: &mut [u8],
-    run: &mut [u8],
-    writer: &mut W,
-) -> Result<u64, SendFromFault>
-    requires codes { EachBlockHas (IsCodeOf t.now.fti) t.now.fti t.now.codes }
-    requires some { 0 < at_once }
-    requires sources { length sources.old ≡ source_count t.now.fti 0 * t.now.fti.symbol_length }
-    requires symbols { at_once * (encoding_count t.now.fti 0 * t.now.fti.symbol_length)
-        ≤ length symbols.old }
-    requires room { at_once * (34 + t.now.fti.symbol_length) ≤ length run.old }
-    ensures sent { OnOk result (ReadsObject t.now.fti (R.remaining reader.old)
-        (λ object. Sends (AreSent object t.now.fti t.now.tsi t.now.toi t.now.every)
-        (items Rounds t.now.fti) (emptied (W.contents writer.old)) (W.contents writer.new))) }
-    ensures end { OnOk result (IsAtEnd (R.remaining reader.new)) }
-    ensures count { IfOk result (λ n. n ≡ length (pairs Rounds t.now.fti)) }
-    ensures fault { IfErr result (λ e. IsBlocksFault e t.now.fti (R.remaining reader.old)
-        (R.sound reader.old) (R.failed reader.new) (W.failed writer.new)) }
-{
-    let count = datagram_count(&t.fti);
-    let Ok(()) = writer.set_len(frame_offset(&t.fti, t.every, count)) else {
-        return Err(SendFromFault::Write);
-    };
-    write_groups(t, reader, at_once, sources, symbols, run, writer)?;
-    read_end(reader)?;
-    Ok(count)
-}
-
 // How many blocks make a group: as many as its bytes hold, their encoding symbols and a frame of
 // each, and no more than there are. No block takes more than a group does at most.
 fn blocks_at_once(fti: &Fti) -> usize
@@ -422,7 +388,11 @@ pub fn encode_rounds_from<R: Read, W: WriteAt>(
         order: Order::Rounds,
         codes,
     };
-    write_object(
+    let count = datagram_count(fti);
+    let Ok(()) = writer.set_len(frame_offset(fti, every, count)) else {
+        return Err(SendFromFault::Write);
+    };
+    write_groups(
         &transmission,
         reader,
         at_once,
@@ -430,5 +400,7 @@ pub fn encode_rounds_from<R: Read, W: WriteAt>(
         &mut symbols,
         &mut run,
         writer,
-    )
+    )?;
+    read_end(reader)?;
+    Ok(count)
 }

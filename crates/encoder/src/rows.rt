@@ -1,6 +1,5 @@
 //! Rows of bytes: a block's source symbols, and what a matrix makes of them.
 ghost use Rattle.std.specs.Prelude.{◌≡◌, ◌<◌, ◌≤◌, ◌+◌, ◌*◌, ◌^◌, ℕ, List, length, slice_index};
-ghost use Rattle.gf256.specs.Arithmetic.{sum_of, product};
 ghost use Rattle.gf256.specs.Sums.{row_sum};
 ghost use Rattle.partition.specs.Fti.{block_count, source_count, encoding_count, source_byte};
 ghost use Rattle.reception.specs.Symbols.{Agrees};
@@ -42,14 +41,6 @@ pub(crate) fn copy_padded(out: &mut [u8], bytes: &[u8])
     padding.fill(0);
 }
 
-// Makes rows of zeros.
-fn clear(rows: &mut [u8])
-    ensures len { length rows.new ≡ length rows.old }
-    ensures zeros { (p : ℕ) → slice_index rows.new p ≡ 0 }
-{
-    rows.fill(0);
-}
-
 /// Sums of a block's source symbols, each times its coefficient: a row for each row of
 /// coefficients.
 pub(crate) fn combine(
@@ -70,7 +61,7 @@ pub(crate) fn combine(
         ≡ row_sum coefficients.now (source_count fti.now b)
         (source_byte fti.now object b) r c }
 {
-    clear(out);
+    out.fill(0);
     let size = usize::from(fti.symbol_length());
     add_products(out, rows, coefficients, sources, fti.k(b), size, size);
 }

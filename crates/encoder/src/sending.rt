@@ -338,41 +338,6 @@ fn room(fti: &Fti, order: Order, rounds: usize) -> usize
     }
 }
 
-// Sends all, so many rounds at once or in passes. Answers how many datagrams there are.
-fn send<W: Write>(
-    t: &Transmission,
-    object: &[u8],
-    rounds: usize,
-    symbols: &mut [u8],
-    datagram: &mut [u8],
-    writer: &mut W,
-) -> Result<u64, Failed>
-    requires codes { EachBlockHas (IsCodeOf t.now.fti) t.now.fti t.now.codes }
-    requires few { rounds ≤ 255 }
-    requires order { 1 < rounds → t.now.order ≡ Rounds }
-    requires one { rounds ≤ 1
-        → length symbols.old ≡ at_once t.now.order t.now.fti * t.now.fti.symbol_length }
-    requires many { 1 < rounds
-        → length symbols.old ≡ block_count t.now.fti * (rounds * t.now.fti.symbol_length) }
-    requires datagram { IsDatagramRoom t.now.fti datagram.old }
-    ensures sent { OnOk result (Sends
-        (AreSent object.now t.now.fti t.now.tsi t.now.toi t.now.every)
-        (items t.now.order t.now.fti) (W.contents writer.old) (W.contents writer.new)) }
-    ensures count { IfOk result (λ n. n ≡ length (pairs t.now.order t.now.fti)) }
-    ensures some { OnErr result (SendsSome
-        (AreSent object.now t.now.fti t.now.tsi t.now.toi t.now.every)
-        (items t.now.order t.now.fti) (W.contents writer.old) (W.contents writer.new)) }
-    ensures fails { OnErr result (W.failed writer.new ≡ true) }
-    ensures full { OnErr result (W.room writer.old
-        < session_bytes t.now.fti t.now.every (items t.now.order t.now.fti)) }
-{
-    if rounds > 1 {
-        send_rounds(t, object, rounds, symbols, datagram, writer)
-    } else {
-        send_all(t, object, symbols, datagram, writer)
-    }
-}
-
 /// Sends the object: writes the frame of the datagram of each encoding symbol of each block, source
 /// symbols among them (RFC 5510, section 8), in this order, and tells how many datagrams. Those at
 /// the places that `every` divides, 0 among them, carry the FTI, and no others.
@@ -422,7 +387,12 @@ pub fn encode<W: Write>(
         codes,
     };
     let t = &transmission;
-    let Ok(count) = send(t, object, rounds, &mut symbols, &mut datagram, writer) else {
+    let sent = if rounds > 1 {
+        send_rounds(t, object, rounds, &mut symbols, &mut datagram, writer)
+    } else {
+        send_all(t, object, &mut symbols, &mut datagram, writer)
+    };
+    let Ok(count) = sent else {
         return Err(SendFault::Io);
     };
     Ok(count)
