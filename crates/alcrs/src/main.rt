@@ -37,7 +37,7 @@ fn tell_cause<R: Files + Eprint>(
         Ok(line) => line,
         Err(Usage::Line(error)) => {
             if let Ok(text) = error.to_string(alloc) {
-                tell(rt, refused(alloc, text.as_str()));
+                tell(rt, refused(alloc, error.kind(), text.as_str()));
             }
             return;
         }
@@ -91,33 +91,27 @@ fn may_print_between(rt: &HostRuntime, request: &Request<'_>) -> bool {
 fn begin<O: std::io::Write + Drop>(
     rt: &HostRuntime,
     alloc: Global,
-    request: &Request<'_>,
+    words: &[&str],
     host: &mut ProgramHost<'_, HostRuntime, O>,
 ) {
-    tell_beforehand(rt, alloc, request, host);
-    if rt.stderr().is_terminal() && !may_print_between(rt, request) {
+    let Ok(line) = command_line(alloc, words) else {
+        return;
+    };
+    if line.quiet {
+        return;
+    }
+    tell_beforehand(rt, alloc, &line.request, host);
+    if rt.stderr().is_terminal() && !may_print_between(rt, &line.request) {
         host.watch(rt.stdout().is_terminal());
     }
 }
 
-// Answers the words, and tells the cause; the status.
-fn respond<O: std::io::Write + Drop>(
-    rt: &HostRuntime,
-    alloc: Global,
-    words: &[&str],
+// Says that there is no memory for the words, and answers the status.
+fn refuse_without_memory<O: std::io::Write + Drop>(
     host: &mut ProgramHost<'_, HostRuntime, O>,
-) -> u8 {
-    if let Ok(line) = command_line(alloc, words) {
-        if !line.quiet {
-            begin(rt, alloc, &line.request, host);
-        }
-    }
-    let mut err = Device::new(rt.stderr());
-    let status = answer(alloc, words, host, &mut err);
-    host.end_watch();
-    let status = status_after(status, host.flush());
-    tell_cause(rt, alloc, words, host.last(), status);
-    status
+) -> ExitCode {
+    let status = refuse(host);
+    ExitCode::from(status_after(status, host.flush()))
 }
 
 fn main(rt: HostRuntime) -> ExitCode {
@@ -130,14 +124,16 @@ fn main(rt: HostRuntime) -> ExitCode {
     let words = match read_words(&rt, alloc) {
         Ok(words) => words,
         Err(WordFault::NoText(place)) => return ExitCode::from(refuse_word(&rt, place)),
-        Err(WordFault::NoMemory) => {
-            let status = refuse(&mut host);
-            return ExitCode::from(status_after(status, host.flush()));
-        }
+        Err(WordFault::NoMemory) => return refuse_without_memory(&mut host),
     };
     let Ok(views) = views_of(alloc, words.as_slice()) else {
-        let status = refuse(&mut host);
-        return ExitCode::from(status_after(status, host.flush()));
+        return refuse_without_memory(&mut host);
     };
-    ExitCode::from(respond(&rt, alloc, &views, &mut host))
+    begin(&rt, alloc, &views, &mut host);
+    let mut err = Device::new(rt.stderr());
+    let status = answer(alloc, &views, &mut host, &mut err);
+    host.end_watch();
+    let status = status_after(status, host.flush());
+    tell_cause(&rt, alloc, &views, host.last(), status);
+    ExitCode::from(status)
 }

@@ -1,6 +1,10 @@
--- Behind which lines and requests there is a sentence.
-use Rattle.std.specs.Prelude.{◌||◌, ℕ, Bool, true, false, List, nat_eq, nat_lt, codes}
+-- Behind which lines, requests and refusals there is a sentence.
+use Rattle.std.specs.Prelude.{◌≡◌, ◌⊎◌, ◌||◌, ℕ, Bool, true, false, List, nat_eq, nat_lt, codes}
 use Rattle.std.specs.List.{starts_with}
+use Rattle.std.specs.Str.Iter.{HasSubslice}
+use Rattle.clap.specs.declared.error.kind.ErrorKind.{ErrorKind}
+use Rattle.clap.specs.declared.error.kind.ErrorKind.TheVariants.{ValueValidation}
+use Rattle.clap.specs.declared.error.kind.ErrorKind.TheVariants.{UnknownArgument}
 use Rattle.request.specs.declared.requests.Request.{Request}
 use Rattle.request.specs.declared.requests.Request.TheVariants.{Check, Follow}
 
@@ -29,3 +33,12 @@ is_doubted r contradictions = false
 abbrev pub tells_repeats : Request → ℕ → Bool
 tells_repeats (Check r) repeats = nat_lt 0 repeats
 tells_repeats r repeats = false
+
+-- the refusal's text has the tip to write the word as the name of a file
+abbrev pub HasTip : List ℕ → Type 0
+HasTip text = HasSubslice text (codes "\n  tip: to pass '")
+
+-- A refusal of this kind, with this text, doesn't tell what to write: a parser refused a value,
+-- which only those of numbers do with this kind; or a word is no option, and the text has that tip.
+abbrev pub IsToMend : ErrorKind → List ℕ → Type 0
+IsToMend kind text = (kind ≡ ValueValidation) ⊎ ((kind ≡ UnknownArgument) × HasTip text)

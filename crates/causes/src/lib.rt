@@ -11,7 +11,7 @@
 //! - `sessions`: where a session's frames stop, and whose FTI its carriers have.
 //! - `places`: a word of a file of places, and its line.
 //! - `names`: a file's name, as it can be shown.
-//! - `refusals`: what a refused command line wants in place of a value.
+//! - `refusals`: what to write in place of what a command line was refused for.
 //! - `repeats`: how many datagrams are repeats of others, by the lines of a yes.
 #![tactic(auto)]
 

@@ -151,17 +151,13 @@ pub some_summed : (who : Identity) (verdict : Verdict) → IsVerdictOnSome who v
 some_summed who (Yes report) (ds, f, valid, is) = has_block who ds f valid report is
 some_summed who (No reason) h = tt
 
-pub each_summed : (who : Identity) (o : Option Verdict) → IfSome o (IsVerdictOnSome who) → IfSome o (λ verdict. OnYes verdict CanBeSummed)
-each_summed who None h = tt
-each_summed who (Some verdict) h = some_summed who verdict h
-
 -- and with a survey
 some_verdict : (who : Identity) (verdict : Verdict) (survey : Option Survey) → IsSurveyOnSome who verdict survey → IsVerdictOnSome who verdict
 some_verdict who verdict survey (ds, f, valid, is, surveyed) = (ds, f, valid, is)
 
-pub each_surveyed_summed : (who : Identity) (o : Option (Verdict × Option Survey)) → IfSome o (λ found. IsSurveyOnSome who found.0 found.1) → IfSome o (λ found. OnYes found.0 CanBeSummed)
-each_surveyed_summed who None h = tt
-each_surveyed_summed who (Some found) h = some_summed who found.0 (some_verdict who found.0 found.1 h)
+pub each_surveyed : (who : Identity) (o : Option (Verdict × Option Survey)) → IfSome o (λ found. IsSurveyOnSome who found.0 found.1) → IfSome o (λ found. IsVerdictOnSome who found.0)
+each_surveyed who None h = tt
+each_surveyed who (Some found) h = some_verdict who found.0 found.1 h
 
 -- ---- one of two results
 

@@ -1,15 +1,13 @@
 //! The command `check`.
 ghost use Rattle.std.specs.Prelude.{◌≡◌, ◌≤◌, ◌++◌, decimal, IfOk, IfErr, IfSome, OnOk};
 ghost use Rattle.certificate.specs.Certificate.{IsCertificate};
-ghost use Rattle.cert.specs.FromReader.{IsCheckedFrom};
 ghost use Rattle.cert.specs.Report.{OnYes};
 ghost use Rattle.cert.specs.declared.verdict.Verdict.TheVariants.{No};
 ghost use Rattle.request.specs.declared.requests.Request.TheVariants.{Check};
 ghost use Rattle.commands.specs.Commands.{TellsVerdict, status_of as verdict_status};
 ghost use Rattle.commands.specs.Doing.{HasMade, HasStopped, text_of};
 ghost use Rattle.host.specs.World.{GivesFile};
-ghost use Rattle.file_check.specs.Files.{IsVerdictIn, IsVerdictOnSome};
-ghost use Rattle.check_commands.specs.Checks.{IsNotChecked, OfFiles, TellsCheck, TellsRequest};
+ghost use Rattle.check_commands.specs.Checks.{IsNotChecked, TellsCheck, TellsRequest};
 ghost use Rattle.check_commands.specs.Drawing.{HasDrawn, IsSurveyed};
 ghost use Rattle.check_commands.specs.Summing.{CanBeSummed};
 ghost use Rattle.commands.specs.Lines.{named, block_text, kill_text, losses_text, report_text};
@@ -119,37 +117,6 @@ fn answer_files<'a, H: Host>(
     ensures fault { IfErr result
         (HasStopped (H.world host.now) (H.world host.now) (Check request.now)) }
 {
-    let Some((verdict, survey)) = verdict_in(alloc, host, request, files)? else {
-        return Ok(None);
-    };
-    Ok(Some(answer_verdict(alloc, request, object_length, &verdict, &survey)?))
-}
-
-// The verdict on the files, and at a yes the survey, where a picture is asked for.
-fn verdict_in<'a, H: Host>(
-    alloc: Global,
-    host: &H,
-    request: &CheckRequest<'a>,
-    files: &Files<'_, H::Input, H::Input, H::Input>,
-) -> Result<Option<(Verdict, Option<Survey>)>, Fault<'a>>
-    requires session { GivesFile (H.world host.now) request.now.session.now
-        (H.Input.content files.now.session.now) (H.Input.reliable files.now.session.now) }
-    requires object { GivesFile (H.world host.now) request.now.object.now
-        (H.Input.content files.now.object.now) (H.Input.reliable files.now.object.now) }
-    requires certificate { GivesFile (H.world host.now) request.now.certificate.now
-        (H.Input.content files.now.certificate.now)
-        (H.Input.reliable files.now.certificate.now) }
-    ensures verdict { IfOk result (λ o. IfSome o (λ found.
-        OfFiles (H.world host.now).files request.now
-        (λ x o text. IsVerdictIn request.now.identity x o text found.0))) }
-    ensures some { IfOk result (λ o. IfSome o (λ found.
-        IsVerdictOnSome request.now.identity found.0)) }
-    ensures summed { IfOk result (λ o. IfSome o (λ found. OnYes found.0 CanBeSummed)) }
-    ensures surveyed { IfOk result (λ o. IfSome o (λ found.
-        IsSurveyed request.now.picture found.0 found.1)) }
-    ensures fault { IfErr result
-        (HasStopped (H.world host.now) (H.world host.now) (Check request.now)) }
-{
     let checked = if request.picture.is_some() {
         survey_files(alloc, files, request.identity)
     } else {
@@ -160,7 +127,10 @@ fn verdict_in<'a, H: Host>(
         }
     };
     match checked {
-        Ok(found) => Ok(found),
+        Ok(Some((verdict, survey))) => {
+            Ok(Some(answer_verdict(alloc, request, object_length, &verdict, &survey)?))
+        }
+        Ok(None) => Ok(None),
         Err(fault) => Err(check_fault(request.session, request.object, fault)),
     }
 }
@@ -179,8 +149,21 @@ fn answer_of<'a, R: Read>(
     ensures fault { IfErr result (IsNotChecked request.now.identity (R.sound frames.old)
         (R.remaining frames.old) object.now certificate.now) }
 {
-    let (verdict, survey) = verdict_of(alloc, frames, object, certificate, request)?;
-    Ok(answer_verdict(alloc, request, object.len() as u64, &verdict, &survey)?)
+    let checked = if request.picture.is_some() {
+        survey_from(alloc, frames, object, certificate, request.identity)
+    } else {
+        match check_from(alloc, frames, object, certificate, request.identity) {
+            Ok(verdict) => Ok((verdict, None)),
+            Err(fault) => Err(fault),
+        }
+    };
+    match checked {
+        Ok((verdict, survey)) => {
+            let length = object.len() as u64;
+            Ok(answer_verdict(alloc, request, length, &verdict, &survey)?)
+        }
+        Err(fault) => Err(check_fault(request.session, request.object, fault)),
+    }
 }
 
 // What is told of a verdict, and the picture, where one is asked for.
@@ -237,38 +220,6 @@ fn verdict_text(alloc: Global, summary: bool, verdict: &Verdict) -> Result<Text,
         Verdict::Yes(report) if summary => summary_lines(alloc, report),
         Verdict::Yes(report) => report_lines(alloc, report),
         Verdict::No(reason) => reason_line(alloc, *reason),
-    }
-}
-
-// The verdict on the frames that a reader has left, and at a yes the survey, where a picture is
-// asked for; or why there is none.
-fn verdict_of<'a, R: Read>(
-    alloc: Global,
-    frames: &mut R,
-    object: &[u8],
-    certificate: &Certificate,
-    request: &CheckRequest<'a>,
-) -> Result<(Verdict, Option<Survey>), Fault<'a>>
-    requires { IsCertificate certificate.now }
-    ensures ok { IfOk result (λ found. IsCheckedFrom request.now.identity
-        (R.remaining frames.old) (R.remaining frames.new) object.now certificate.now found.0) }
-    ensures summed { IfOk result (λ found. OnYes found.0 CanBeSummed) }
-    ensures surveyed { IfOk result (λ found.
-        IsSurveyed request.now.picture found.0 found.1) }
-    ensures fault { IfErr result (IsNotChecked request.now.identity (R.sound frames.old)
-        (R.remaining frames.old) object.now certificate.now) }
-{
-    let checked = if request.picture.is_some() {
-        survey_from(alloc, frames, object, certificate, request.identity)
-    } else {
-        match check_from(alloc, frames, object, certificate, request.identity) {
-            Ok(verdict) => Ok((verdict, None)),
-            Err(fault) => Err(fault),
-        }
-    };
-    match checked {
-        Ok(found) => Ok(found),
-        Err(fault) => Err(check_fault(request.session, request.object, fault)),
     }
 }
 

@@ -42,26 +42,11 @@ pub fn decode<'a, H: Host>(
     let mut input = open(host, request.session)?;
     match host.length_of(&input) {
         Some(_) => decode_file(alloc, host, request, &input),
-        None => decode_stream(alloc, host, request, &mut input),
+        None => {
+            let frames = read_frames(alloc, &mut input)?;
+            decode_file(alloc, host, request, &MemoryFile::new(&frames, usize::MAX))
+        }
     }
-}
-
-// What the session that an input gives decodes to: its frames are held, and decoded as a file is.
-fn decode_stream<'a, H: Host>(
-    alloc: Global,
-    host: &mut H,
-    request: &DecodeRequest<'a>,
-    input: &mut H::Input,
-) -> Result<Done, Fault<'a>>
-    requires { GivesFile (H.world host.old) request.now.session.now
-        (H.Input.remaining input.old) (H.Input.sound input.old) }
-    ensures ok { IfOk result
-        (HasMade (H.world host.old) (H.world host.new) (Decode request.now)) }
-    ensures fault { IfErr result
-        (HasStopped (H.world host.old) (H.world host.new) (Decode request.now)) }
-{
-    let frames = read_frames(alloc, input)?;
-    decode_file(alloc, host, request, &MemoryFile::new(&frames, usize::MAX))
 }
 
 // What a session decodes to that is read at offsets: a file, which isn't held, or held frames.

@@ -1,7 +1,8 @@
 //! Doing what was asked for.
 ghost use Rattle.std.specs.Prelude.{◌≡◌, ◌⊎◌, ◌≤◌, true, codes, IfOk, IfErr};
 ghost use Rattle.std.specs.Io.KnownBytes.{Appends};
-ghost use Rattle.host.specs.World.{KeepsFiles};
+ghost use Rattle.host.specs.World.{KeepsFiles, World};
+ghost use Rattle.request.specs.declared.requests.Request.{Request as RequestValue};
 ghost use Rattle.commands.specs.Lines.{TellsFault};
 ghost use Rattle.commands.specs.Doing.{IsUndone};
 ghost use Rattle.commands.specs.Outcomes.{IsRun, IsDone};
@@ -25,14 +26,21 @@ use std::alloc::Global;
 /// What is printed where there is no memory.
 pub(crate) const MEMORY_LINE: &[u8] = b"fault memory\n";
 
-fn perform<'a, H: Host>(alloc: Global, host: &mut H, request: &Request<'a>) -> Result<u8, Stop<'a>>
-    ensures ok { IfOk result (IsDone (H.world host.old) (H.world host.new) request.now) }
-    ensures fault { IfErr result (IsUndone (H.world host.old) (H.world host.new) request.now) }
-    ensures small { IfOk result (λ status. status ≤ 3) }
+/// Does the command, prints its lines, and answers the status: 0 done or yes, 1 no or a fault, 3
+/// where decoding has too little. If lines can't be printed it is 1.
+pub fn run<H: Host>(alloc: Global, host: &mut H, request: &Request<'_>) -> u8
+    ensures run { IsRun (H.world host.old) (H.world host.new) request.now result }
+    ensures status { result ≤ 3 }
 {
     let done = match request {
-        Request::Show(request) => return show(alloc, host, request),
-        Request::Follow(request) => return follow(alloc, host, request),
+        Request::Show(request) => {
+            let outcome = show(alloc, host, request);
+            return settle(alloc, host, outcome);
+        }
+        Request::Follow(request) => {
+            let outcome = follow(alloc, host, request);
+            return settle(alloc, host, outcome);
+        }
         Request::Check(request) => check(alloc, host, request),
         Request::Twin(request) => twin(alloc, host, request),
         Request::Encode(request) => encode(alloc, host, request),
@@ -43,16 +51,19 @@ fn perform<'a, H: Host>(alloc: Global, host: &mut H, request: &Request<'a>) -> R
         Request::Salvage(request) => salvage(alloc, host, request),
         Request::Join(request) => join(alloc, host, request),
     };
-    finish(host, done)
+    let outcome = finish(host, done);
+    settle(alloc, host, outcome)
 }
 
-/// Does the command, prints its lines, and answers the status: 0 done or yes, 1 no or a fault, 3
-/// where decoding has too little. If lines can't be printed it is 1.
-pub fn run<H: Host>(alloc: Global, host: &mut H, request: &Request<'_>) -> u8
-    ensures run { IsRun (H.world host.old) (H.world host.new) request.now result }
-    ensures status { result ≤ 3 }
+// Tells what stopped a command, if something has, and answers the status.
+fn settle<H: Host>(alloc: Global, host: &mut H, outcome: Result<u8, Stop<'_>>) -> u8
+    ensures run { (old : World) (r : RequestValue)
+        → IfOk outcome.entry (IsDone old (H.world host.old) r)
+        → IfErr outcome.entry (IsUndone old (H.world host.old) r)
+        → IsRun old (H.world host.new) r result }
+    ensures status { IfOk outcome.entry (λ status. status ≤ 3) → result ≤ 3 }
 {
-    match perform(alloc, host, request) {
+    match outcome {
         Ok(status) => status,
         Err(Stop::ByFault(fault)) => {
             tell(alloc, host, fault);
