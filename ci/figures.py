@@ -100,7 +100,7 @@ def constants():
         constant("crates/picture/src/bursts.rt", columns)
     ]
     yield "docs/FORMATS.md", r"longer than (\d+) letters", [
-        constant("crates/picture/src/canvas.rt", r"^const NAME_LETTERS: usize = (\d+);")
+        constant("crates/chart/src/canvas.rt", r"^const NAME_LETTERS: usize = (\d+);")
     ]
     most = r"^const MOST_GROUP_BYTES: usize = 1 << (\d+);"
     group = 2 ** constant("crates/encoder/src/rounds_from.rt", most) >> 20

@@ -45,7 +45,7 @@ HANDED_ON = {"Rattle.cert.specs.Fed", "Rattle.receiver.specs.Stands",
 
 # The crates that offer what they have to those above them in the library alone: no promise to
 # callers.
-INNER_LIBRARIES = {"block_recovery", "certified_symbols"}
+INNER_LIBRARIES = {"block_recovery", "certified_symbols", "chart"}
 
 # The crates of the program's commands offer what they have to the crate that runs them alone.
 COMMANDS = {"commands", "send_commands", "receive_commands", "check_commands"}
@@ -56,10 +56,10 @@ INNER_CRATES = INNER_LIBRARIES | COMMANDS
 INNER = {("certificate", "rows")}
 
 # The files of what `cert` and `certificate` offer to `file_check` alone, and `decoder` to
-# `file_decoder`, in the same way.
+# `file_decoder`, in the same way, and one of `block_bytes` that offers nothing beyond it.
 INNER_FILES = {
     *(("cert", file) for file in ("tally", "datagrams")),
-    ("certificate", "in_file"),
+    ("certificate", "in_file"), ("block_bytes", "recent"),
     *(("decoder", file) for file in (
         "coded_source", "counting", "source", "verdict", "writing",
     )),
@@ -149,7 +149,8 @@ PROMISES = [
 ]
 # The crates that stand on the library and offer it further.
 ABOVE_THE_LIBRARY = {
-    "request", "causes", "inventory", "host", "program_host", "tool", "alcrs", "alcrs_c",
+    "request", "inspection", "causes", "inventory", "host", "progress", "program_host", "tool",
+    "alcrs", "alcrs_c",
 } | COMMANDS
 
 

@@ -4,7 +4,8 @@
 mod words;
 
 use causes::{doubt, explain, forewarn, refused, repeated};
-use program_host::{BUFFER_SIZE, LastLine, ProgramHost, Progress};
+use program_host::{BUFFER_SIZE, LastLine, ProgramHost};
+use progress::Progress;
 use request::{Request, Usage, command_line};
 use session::Device;
 use std::alloc::{AllocError, Global};

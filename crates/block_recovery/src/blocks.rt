@@ -13,9 +13,10 @@ ghost use Rattle.block_recovery.specs.Rows.{byte_in, HasSizes};
 
 use crate::arrivals::symbols_below;
 use crate::block::Block;
+use crate::erasure::{erasure_of, source_esis};
 use crate::padding::may_be_padded;
 use crate::received::Received;
-use crate::recovering::recover;
+use crate::recovering::{residuals, solve, symbols_at};
 use crate::recovery::Recovery;
 use crate::rows::{Rows, is_zero};
 use block_code::BlockCodes;
@@ -38,7 +39,8 @@ fn are_padded(fti: &Fti, b: u32, rows: &Rows) -> bool
 }
 
 /// A block's source symbols, if all that came of it are symbols of an object; `are_sound` says that
-/// this is known. `arrivals` has a place for each of its ESIs.
+/// this is known, and then repair symbols that aren't needed aren't looked at. `arrivals` has a
+/// place for each of the block's ESIs.
 pub fn block_rows(
     alloc: Global,
     fti: &Fti,
@@ -67,16 +69,24 @@ pub fn block_rows(
     if !may_be_padded(alloc, fti, b, arrivals)? {
         return Ok(None);
     }
-    let code = codes.of(fti.k(b));
+    let k = fti.k(b);
+    let code = codes.of(k);
     prove!(arrivals.len() == code.matrix.cols());
     let block = Block {
         received: arrivals,
         size: usize::from(fti.symbol_length()),
         code,
     };
-    let Some(rows) = recover(alloc, &block, are_sound, kept)? else {
-        return Ok(None);
-    };
+    let mut rows = symbols_at(alloc, &block, &source_esis(alloc, k)?)?;
+    let erasure = erasure_of(alloc, arrivals, k)?;
+    let (used, others) = erasure.repair.split_at(erasure.missing.len());
+    solve(alloc, &block, &erasure.missing, used, &mut rows, kept)?;
+    if !are_sound {
+        let left = residuals(alloc, &block, others, &rows)?;
+        if !is_zero(&left.bytes) {
+            return Ok(None);
+        }
+    }
     are_bytes(&rows.bytes);
     if are_padded(fti, b, &rows) {
         Ok(Some(rows))

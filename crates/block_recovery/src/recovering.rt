@@ -1,26 +1,22 @@
-//! A block's source symbols, made of as many encoding symbols as it has.
-ghost use Rattle.std.specs.Prelude.{◌≡◌, ◌<◌, ◌≤◌, ◌+◌, ℕ, length, filter, slice_index, is_some};
-ghost use Rattle.std.specs.Prelude.{true, IfOk, IfSome, IsNone, OnOk};
-ghost use Rattle.lists.specs.Below.{below};
+//! A block's missing source symbols, made of as many repair symbols, and whether the symbols that
+//! weren't used are those that the source symbols give.
+ghost use Rattle.std.specs.Prelude.{◌≡◌, ◌<◌, ◌≤◌, ℕ, length, slice_index, IfOk, OnOk};
 ghost use Rattle.gf256.specs.Arithmetic.{sum_of};
 ghost use Rattle.elim.specs.Generator.{Encodes};
 ghost use Rattle.elim.specs.Erasures.{AreErasures, AreRising};
 ghost use Rattle.block_recovery.specs.Rows.{byte_in, HasSizes, SameSizes};
 ghost use Rattle.block_recovery.specs.Blocks.{bytes_of_esi, byte_of, given, AreCoefficients};
-ghost use Rattle.block_recovery.specs.Blocks.{AreOnly};
-ghost use Rattle.block_recovery.specs.Blocks.{CanBeMet};
 ghost use Rattle.block_recovery.specs.Erasures.{Keeps, AreSolved};
 ghost use Rattle.block_recovery.specs.Recoveries.{MayServe, StaysOrIsOf};
 
 use crate::block::Block;
-use crate::erasure::{erasure_of, source_esis};
 use crate::recovery::Recovery;
-use crate::rows::{Rows, is_zero};
+use crate::rows::Rows;
 use block_code::Code;
 use std::alloc::{AllocError, Global};
 
-// The symbols at these ESIs as rows, and zeros where none came.
-fn symbols_at(alloc: Global, block: &Block<'_>, esis: &[u8]) -> Result<Rows, AllocError>
+/// The symbols at these ESIs as rows, and zeros where none came.
+pub(crate) fn symbols_at(alloc: Global, block: &Block<'_>, esis: &[u8]) -> Result<Rows, AllocError>
     requires few { length esis.now ≤ 255 }
     requires within { (m : ℕ) → m < length esis.now
         → slice_index esis.now m < block.now.code.now.matrix.cols }
@@ -56,8 +52,13 @@ fn coefficients_at(alloc: Global, code: &Code, esis: &[u8]) -> Result<Vec<u8>, A
     Ok(coefficients)
 }
 
-// What is left of the symbols at these ESIs when what the rows give there is taken away.
-fn residuals(alloc: Global, block: &Block<'_>, esis: &[u8], rows: &Rows) -> Result<Rows, AllocError>
+/// What is left of the symbols at these ESIs when what the rows give there is taken away.
+pub(crate) fn residuals(
+    alloc: Global,
+    block: &Block<'_>,
+    esis: &[u8],
+    rows: &Rows,
+) -> Result<Rows, AllocError>
     requires few { length esis.now ≤ 255 }
     requires within { (m : ℕ) → m < length esis.now
         → slice_index esis.now m < block.now.code.now.matrix.cols }
@@ -91,10 +92,10 @@ fn put_rows(rows: &mut Rows, places: &[u8], others: &Rows)
     }
 }
 
-// Works missing source symbols out of as many repair symbols, and puts them at their places, which
-// are empty. Till then the repair symbols stand there, so that all that a missing symbol is made of
-// are the rows. What recovers them is kept for the next block.
-fn solve(
+/// Works missing source symbols out of as many repair symbols, and puts them at their places, which
+/// are empty. Till then the repair symbols stand there, so that all that a missing symbol is made
+/// of are the rows. What recovers them is kept for the next block.
+pub(crate) fn solve(
     alloc: Global,
     block: &Block<'_>,
     missing: &[u8],
@@ -132,46 +133,4 @@ fn solve(
     put_rows(rows, missing, &solved);
     rows.are_bytes();
     Ok(())
-}
-
-/// A block's source symbols, made of those that came, if all that came are symbols of one word.
-/// Where they are known to be, repair symbols that aren't needed aren't looked at.
-pub(crate) fn recover(
-    alloc: Global,
-    block: &Block<'_>,
-    are_sound: bool,
-    kept: &mut Option<Recovery>,
-) -> Result<Option<Rows>, AllocError>
-    requires code { Encodes block.now.code.now.matrix.rows block.now.code.now.matrix.cols
-        block.now.code.now.matrix }
-    requires enough { block.now.code.now.matrix.rows
-        ≤ length (filter (λ j. is_some (bytes_of_esi block.now.received.now j))
-        (below block.now.code.now.matrix.cols)) }
-    requires sound { are_sound ≡ true → CanBeMet (bytes_of_esi block.now.received.now)
-        block.now.code.now.matrix block.now.size }
-    requires kept { MayServe block.now.code.now.matrix kept.old }
-    ensures sizes { IfOk result (λ o. IfSome o
-        (HasSizes block.now.code.now.matrix.rows block.now.size)) }
-    ensures rows { IfOk result (λ o. IfSome o (λ rows.
-        AreOnly (bytes_of_esi block.now.received.now)
-        block.now.code.now.matrix block.now.size (byte_in rows))) }
-    ensures none { IfOk result (λ o. IsNone o
-        → CanBeMet (bytes_of_esi block.now.received.now) block.now.code.now.matrix block.now.size
-        → ⊥) }
-    ensures keeps { StaysOrIsOf block.now.code.now.matrix kept.old kept.new }
-{
-    let k = block.code.matrix.rows();
-    let mut rows = symbols_at(alloc, block, &source_esis(alloc, k)?)?;
-    let erasure = erasure_of(alloc, block.received, k)?;
-    let (used, others) = erasure.repair.split_at(erasure.missing.len());
-    solve(alloc, block, &erasure.missing, used, &mut rows, kept)?;
-    if are_sound {
-        return Ok(Some(rows));
-    }
-    let left = residuals(alloc, block, others, &rows)?;
-    Ok(if is_zero(&left.bytes) {
-        Some(rows)
-    } else {
-        None
-    })
 }

@@ -12,6 +12,7 @@ ghost use Rattle.block_recovery.specs.Rows.{byte_in, HasSizes, SameSizes};
 use crate::rows::Rows;
 use block_code::{Code, columns};
 use elim::recovery;
+use gf256::add_products;
 use std::alloc::{AllocError, Global};
 
 /// What makes missing source symbols of those that came and of as many repair symbols, in blocks of
@@ -126,21 +127,24 @@ impl Recovery {
             missing.now repair.now }
         ensures { IfOk result (IsRecovery code.now.matrix missing.now repair.now) }
     {
+        let k = code.matrix.rows();
         if let Some(recovery) = kept {
-            if recovery.is_of(code.matrix.rows(), missing, repair) {
+            if recovery.is_of(k, missing, repair) {
                 return Ok(recovery);
             }
         }
+        let n = missing.len();
         let matrix = recovery(alloc, &code.matrix, missing, repair)?;
+        let factors = columns(alloc, &matrix)?;
         let residuals = residual_coefficients(alloc, code, missing, repair)?;
         residuals.are_bytes();
-        let mut coefficients = Rows::zeros(alloc, missing.len(), code.matrix.rows())?;
-        coefficients.add_products(&columns(alloc, &matrix)?, &residuals);
+        let mut coefficients = vec![in alloc; 0u8; n * k]?;
+        add_products(&mut coefficients, n, &factors, &residuals.bytes, n, k, k);
         Ok(Recovery {
-            k: code.matrix.rows(),
+            k,
             missing: missing.to_vec(alloc)?,
             repair: repair.to_vec(alloc)?,
-            coefficients: coefficients.bytes,
+            coefficients,
         })
     }
 }

@@ -4,13 +4,14 @@ ghost use Rattle.std.specs.List.{starts_with};
 ghost use Rattle.causes.specs.Sentences.{is_doubted, is_lack, is_reception, may_be_explained};
 ghost use Rattle.causes.specs.Sentences.{tells_repeats};
 
-use crate::files::{Kind, kind_of, unread, unwritten};
 use crate::names::{
-    Name, STANDARD_INPUT, certificate_of, identity_of, input_name, inputs_named, object_of,
-    order_of, output_of, places_of, session_of,
+    certificate_of, identity_of, inputs_named, object_of, order_of, output_of, places_of,
+    session_of,
 };
-use crate::places::{Word, word_behind};
-use crate::sessions::{Break, Carrier, carrier_from, walk};
+use inspection::{
+    Break, Carrier, Kind, Name, STANDARD_INPUT, Word, carrier_from, input_name, kind_of, unread,
+    unwritten, walk, word_behind,
+};
 use request::{Output, Request};
 use session::FrameFault;
 use std::alloc::{AllocError, Global};

@@ -7,21 +7,15 @@
 //! calls promise no more than that they end, and of some when there is a sentence.
 //!
 //! - `explaining`: the sentence for a line.
-//! - `files`: why a file can't be opened or written, and what it is instead of a session.
-//! - `sessions`: where a session's frames stop, and whose FTI its carriers have.
-//! - `places`: a word of a file of places, and its line.
-//! - `names`: a file's name, as it can be shown.
+//! - `names`: the files and the identity that a request names.
 //! - `refusals`: what to write in place of what a command line was refused for.
 //! - `repeats`: how many datagrams are repeats of others, by the lines of a yes.
 #![tactic(auto)]
 
 mod explaining;
-mod files;
 mod names;
-mod places;
 mod refusals;
 mod repeats;
-mod sessions;
 
 pub use explaining::{doubt, explain, forewarn, repeated};
 pub use refusals::refused;

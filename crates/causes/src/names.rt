@@ -1,39 +1,5 @@
-//! Files' names in sentences.
+//! What a request names.
 use request::{Output, Request};
-use std::fmt;
-
-/// A file's name as it can be shown: control characters can't move the cursor, nor end the line.
-#[derive(Clone, Copy)]
-pub(crate) struct Name<'a> {
-    pub(crate) text: &'a str,
-}
-
-impl fmt::Display for Name<'_> {
-    fn fmt<W: fmt::Write>(&self, f: &mut fmt::Formatter<W>) -> fmt::Result {
-        for letter in self.text.chars() {
-            if letter.is_control() {
-                write!(f, "?")?;
-            } else {
-                write!(f, "{letter}")?;
-            }
-        }
-        Ok(())
-    }
-}
-
-/// The name of an input that is standard input.
-pub(crate) const STANDARD_INPUT: &str = "-";
-
-/// An input's name as it is told.
-pub(crate) fn input_name(name: &str) -> Name<'_> {
-    Name {
-        text: if name == STANDARD_INPUT {
-            "standard input"
-        } else {
-            name
-        },
-    }
-}
 
 /// The session that a command reads, if it reads just one.
 pub(crate) fn session_of<'a>(request: &Request<'a>) -> Option<&'a str> {

@@ -142,6 +142,7 @@ fn add_tile(
 
 // Adds to each of a few rows the products of the coefficients from one on and the sources, one
 // table of them.
+#[inline(always)]
 fn add_table(
     outputs: &mut [u8],
     coefficients: &Coefficients<'_>,
@@ -180,8 +181,10 @@ fn add_table(
     }
 }
 
-// Adds to each row the products of its coefficients and all sources, as many of them at a time as
-// the tiling takes, and to as many rows as are made of one table.
+// Adds to each row the products of its coefficients and all sources, as many sources at a time as
+// the tiling takes, and as many rows as one table makes. It is laid out for each tiling by itself,
+// so that the loops over a group's sources know how many these are.
+#[inline(always)]
 fn add_by_groups(
     outputs: &mut [u8],
     coefficients: &Coefficients<'_>,

@@ -24,9 +24,11 @@ fn put_with(table: &mut [u8], at: usize, have: usize, v: u8x64)
     }
 }
 
-// The sums of every choice of each group's sources.
+/// Fills a table with the sums of every choice of each group's sources, of the 64 columns from one
+/// on. The loops over the sources and the sums of a group are laid out in full, as its callers know
+/// how many these are.
 #[inline(always)]
-fn put_groups(table: &mut [u8], sources: &Sources<'_>, tiling: Tiling, at: usize)
+pub(crate) fn fill_table(table: &mut [u8], sources: &Sources<'_>, tiling: Tiling, at: usize)
     requires columns { at ≤ sources.now.width }
     requires room { 64 * (tiling.groups * tiling.entries) ≤ length table.old }
     ensures filled { IsFilled table.new sources.now tiling at tiling.groups }
@@ -41,21 +43,5 @@ fn put_groups(table: &mut [u8], sources: &Sources<'_>, tiling: Tiling, at: usize
             put_with(table, place, have, v);
             have *= 2;
         }
-    }
-}
-
-/// Fills a table with the sums of each group, of the 64 columns from one on. The loops over the
-/// sources and the sums of a group are laid out in full where their numbers are known.
-#[inline(always)]
-pub(crate) fn fill_table(table: &mut [u8], sources: &Sources<'_>, tiling: Tiling, at: usize)
-    requires columns { at ≤ sources.now.width }
-    requires room { 64 * (tiling.groups * tiling.entries) ≤ length table.old }
-    ensures filled { IsFilled table.new sources.now tiling at tiling.groups }
-    ensures length { length table.new ≡ length table.old }
-{
-    match (tiling.size, tiling.entries) {
-        (4, 16) => put_groups(table, sources, Tiling::fours(tiling.groups), at),
-        (5, 32) => put_groups(table, sources, Tiling::fives(tiling.groups), at),
-        _ => put_groups(table, sources, tiling, at),
     }
 }

@@ -1,3 +1,1 @@
-pub mod Columns
-pub mod Scaled
 pub mod Sheets

@@ -1,12 +1,11 @@
 //! The panel of the longest runs of neighbours that may be missed.
 ghost use Rattle.std.specs.Prelude.{◌<◌, length};
 
-use crate::canvas::{Canvas, MARKED, SMALL, SMALL_END, TITLE};
-use crate::columns::{column_of, place_of};
-use crate::panel::{Axis, Bar, Panel};
-use crate::scale::Scale;
 use crate::sheet::Sheet;
 use crate::ticks::put_places;
+use chart::{
+    Axis, Bar, Canvas, MARKED, Panel, SMALL, SMALL_END, Scale, TITLE, column_of, place_of,
+};
 use losses::Run;
 use std::alloc::{AllocError, Global};
 

@@ -1,9 +1,9 @@
 //! The words above the panels, and the title and description of the document.
 use crate::bursts::{Shortest, put_shortest};
-use crate::canvas::{Canvas, SMALL};
 use crate::sheet::Sheet;
 use crate::spares::put_block;
 use crate::ticks::{put_carriers, put_kill};
+use chart::{Canvas, SMALL};
 
 /// Puts the head of the document.
 pub(crate) fn put_head(canvas: &mut Canvas) {

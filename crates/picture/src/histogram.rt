@@ -1,8 +1,6 @@
 //! How many blocks have how many symbols to spare.
-use crate::canvas::{Canvas, SMALL, SMALL_END, TITLE};
-use crate::panel::{Axis, Bar, Panel};
-use crate::scale::Scale;
 use crate::spares::MOST_SPARE;
+use chart::{Axis, Bar, Canvas, Panel, SMALL, SMALL_END, Scale, TITLE};
 
 /// Where the panel stands, beside that of the blocks.
 const PANEL: Panel = Panel {

@@ -6,9 +6,9 @@
 //! come in, a text goes out. What doesn't fit together, as a block that has fewer symbols than it
 //! needs, is drawn as well as it can be.
 //!
-//! All is counted in units of half a pixel. However many datagrams and blocks there are, a list is
-//! drawn in at most so many columns as its panel has pixels, so the text has less than 100,000
-//! bytes, and the time goes with the lists' lengths.
+//! However many datagrams and blocks there are, a list is drawn in at most so many columns as its
+//! panel has pixels, so the text has less than 100,000 bytes, and the time goes with the lists'
+//! lengths.
 //!
 //! - `sheet`: what is drawn, and `draw`.
 //! - `heading`: the words above the panels, and the title and description of the document.
@@ -16,19 +16,11 @@
 //! - `histogram`: how many blocks have how many of them.
 //! - `bursts`: the panel of the runs.
 //! - `ticks`: the places beneath it.
-//! - `panel`: where a panel stands, its bars and its horizontal lines.
-//! - `columns`: a list in columns, and the least and the greatest value of each.
-//! - `scale`: where a place stands on a line.
-//! - `canvas`: the text that is being made.
 #![tactic(auto)]
 
 mod bursts;
-mod canvas;
-mod columns;
 mod heading;
 mod histogram;
-mod panel;
-mod scale;
 mod sheet;
 mod spares;
 #[cfg(test)]

@@ -3,9 +3,9 @@ ghost use Rattle.std.specs.Prelude.{IfOk};
 ghost use Rattle.picture.specs.Sheets.{IsWhole};
 
 use crate::bursts::{lengths_of, put_bursts, shortest_of};
-use crate::canvas::Canvas;
 use crate::heading::{put_description, put_head, put_heading};
 use crate::spares::{put_spares, spares_of, weakest_of};
+use chart::Canvas;
 use losses::Run;
 use std::alloc::{AllocError, Global};
 

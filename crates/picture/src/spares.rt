@@ -1,11 +1,10 @@
 //! The panel of the symbols that each block has to spare.
 ghost use Rattle.std.specs.Prelude.{◌<◌, length};
 
-use crate::canvas::{Canvas, MARKED, SMALL, SMALL_END, TITLE};
-use crate::columns::{Column, column_of, place_of};
 use crate::histogram::put_histogram;
-use crate::panel::{Axis, Bar, Panel};
-use crate::scale::Scale;
+use chart::{
+    Axis, Bar, Canvas, Column, MARKED, Panel, SMALL, SMALL_END, Scale, TITLE, column_of, place_of,
+};
 use std::alloc::{AllocError, Global};
 
 /// Where the panel stands.

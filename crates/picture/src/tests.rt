@@ -1,7 +1,6 @@
 //! Values from outside, and one sheet.
-use crate::columns::{Column, column_of};
-use crate::scale::Scale;
 use crate::sheet::{Sheet, draw};
+use chart::{Column, Scale, column_of};
 use losses::Run;
 use std::alloc::AllocError;
 

@@ -1,7 +1,7 @@
 //! Places beneath the panel of the runs: those whose loss does harm, and those that carry the FTI.
 use crate::bursts::{PANEL, put_harm};
-use crate::canvas::{Canvas, MARKED, SMALL, SMALL_END};
 use crate::sheet::Sheet;
+use chart::{Canvas, MARKED, SMALL, SMALL_END};
 
 /// Puts the rows of ticks, and what is said of them.
 pub(crate) fn put_places(canvas: &mut Canvas, sheet: &Sheet<'_>) {

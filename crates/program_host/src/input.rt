@@ -1,7 +1,7 @@
 //! The program's input files.
 ghost use Rattle.std.specs.Prelude.{None, false};
 
-use crate::progress::Counted;
+use progress::Counted;
 use session::{Device, Failed, Read};
 use std::io::BufReader;
 use std::time::Clock;

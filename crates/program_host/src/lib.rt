@@ -2,7 +2,6 @@
 //!
 //! - `program`: the host of commands, over the system's files; `input` and `output`: those files.
 //! - `parts`: what becomes a file: it is written beside its name, and takes that once it is whole.
-//! - `progress`: how far inputs are read, for a terminal.
 //! - `last`: what was printed last, for the sentence on its cause.
 #![tactic(auto)]
 
@@ -11,10 +10,8 @@ mod last;
 mod output;
 mod parts;
 mod program;
-mod progress;
 
 pub use input::HostInput;
 pub use last::LastLine;
 pub use output::HostOutput;
 pub use program::{BUFFER_SIZE, ProgramHost};
-pub use progress::{Counted, Progress};

@@ -49,7 +49,8 @@ pub fn decode<'a, H: Host>(
     }
 }
 
-// What a session decodes to that is read at offsets: a file, which isn't held, or held frames.
+// Decodes a session that is read at offsets: a file, which isn't held, or held frames. Where the
+// symbols turn out to be of no object, the output is given up.
 fn decode_file<'a, H: Host, F: ReadAt>(
     alloc: Global,
     host: &mut H,
@@ -63,10 +64,27 @@ fn decode_file<'a, H: Host, F: ReadAt>(
     ensures fault { IfErr result
         (HasStopped (H.world host.old) (H.world host.new) (Decode request.now)) }
 {
-    match index_file(alloc, input, request.identity) {
-        Ok(IndexedFile::Answer(answer)) => Ok(told_of(alloc, &answer)?),
-        Ok(IndexedFile::Symbols(symbols)) => deliver(alloc, host, request, input, &symbols),
-        Err(fault) => Err(file_fault(request.session, fault)),
+    let symbols = match index_file(alloc, input, request.identity) {
+        Ok(IndexedFile::Symbols(symbols)) => symbols,
+        Ok(IndexedFile::Answer(answer)) => return Ok(told_of(alloc, &answer)?),
+        Err(fault) => return Err(file_fault(request.session, fault)),
+    };
+    let mut file = create(host, &request.output)?;
+    let name = request.output.name;
+    let failure = Fault::File(name);
+    match write_object(alloc, request.session, input, &symbols, &mut file) {
+        Ok(None) => {
+            let length = commit(host, name, file, Ok(symbols.transfer_length()), failure)?;
+            Ok(Done::counted("object", length, " bytes"))
+        }
+        Ok(Some(answer)) => {
+            host.give_up(file);
+            Ok(told_of(alloc, &answer)?)
+        }
+        Err(unwritten) => match commit(host, name, file, Err(unwritten), failure) {
+            Ok(_) => unreachable!(),
+            Err(fault) => Err(fault),
+        },
     }
 }
 
@@ -80,43 +98,6 @@ fn file_fault<'a>(session: &'a str, fault: FileFault) -> Fault<'a>
         FileFault::Frame(fault) => Fault::Frame(fault),
         FileFault::Changed => Fault::File(session),
         FileFault::NoMemory => Fault::Memory,
-    }
-}
-
-// Writes the object whose symbols stand in a file. Where they turn out to be of none, the output is
-// given up.
-fn deliver<'a, H: Host, F: ReadAt>(
-    alloc: Global,
-    host: &mut H,
-    request: &DecodeRequest<'a>,
-    input: &F,
-    symbols: &FileSymbols,
-) -> Result<Done, Fault<'a>>
-    requires file { GivesFile (H.world host.old) request.now.session.now
-        (F.content input.now) (F.reliable input.now) }
-    requires symbols { IsIndexedIn request.now.identity (F.content input.now)
-        (Symbols symbols.now) }
-    ensures ok { IfOk result
-        (HasMade (H.world host.old) (H.world host.new) (Decode request.now)) }
-    ensures fault { IfErr result
-        (HasStopped (H.world host.old) (H.world host.new) (Decode request.now)) }
-{
-    let mut file = create(host, &request.output)?;
-    let name = request.output.name;
-    let failure = Fault::File(name);
-    match write_object(alloc, request.session, input, symbols, &mut file) {
-        Ok(None) => {
-            let length = commit(host, name, file, Ok(symbols.transfer_length()), failure)?;
-            Ok(Done::counted("object", length, " bytes"))
-        }
-        Ok(Some(answer)) => {
-            host.give_up(file);
-            Ok(told_of(alloc, &answer)?)
-        }
-        Err(unwritten) => match commit(host, name, file, Err(unwritten), failure) {
-            Ok(_) => unreachable!(),
-            Err(fault) => Err(fault),
-        },
     }
 }
 

@@ -5,18 +5,18 @@ use Rattle.std.proofs.Math.Path.{fun_ext}
 use Rattle.partition.specs.Fti.{Fti}
 use Rattle.streams.specs.declared.io.Write.{Ghosts}
 use Rattle.reception.specs.Symbols.{Symbol}
-use Rattle.receiver.specs.Bytes.{AreTold}
+use Rattle.block_bytes.specs.Bytes.{AreTold}
 use Rattle.receiver.specs.Filed.{Stands}
-use Rattle.receiver.specs.Held.{held_in, held_of}
-use Rattle.receiver.specs.InFile.{kept_at}
-use Rattle.receiver.specs.Places.{told_in}
+use Rattle.block_bytes.specs.Held.{held_in, held_of}
+use Rattle.block_bytes.specs.InFile.{kept_at}
+use Rattle.block_bytes.specs.Places.{told_in}
 use Rattle.receiver.specs.Stands.{StandsWith, Keeps}
-use Rattle.receiver.specs.declared.blocks.Beside.{Beside}
-use Rattle.receiver.specs.declared.blocks.Blocks.{Blocks}
-use Rattle.receiver.specs.declared.blocks.Blocks.TheVariants as at
-use Rattle.receiver.specs.declared.file_blocks.FileBlocks.{FileBlocks}
+use Rattle.block_bytes.specs.declared.blocks.Beside.{Beside}
+use Rattle.block_bytes.specs.declared.blocks.Blocks.{Blocks}
+use Rattle.block_bytes.specs.declared.blocks.Blocks.TheVariants as at
+use Rattle.block_bytes.specs.declared.file_blocks.FileBlocks.{FileBlocks}
 use Rattle.receiver.specs.declared.file_receiver.FileReceiver.{FileReceiver}
-use Rattle.receiver.specs.declared.held_blocks.HeldBlocks.{HeldBlocks}
+use Rattle.block_bytes.specs.declared.held_blocks.HeldBlocks.{HeldBlocks}
 use Rattle.receiver.specs.declared.store.Store.{Store}
 
 -- what a receiver stands for is told

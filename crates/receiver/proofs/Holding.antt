@@ -9,7 +9,7 @@ use Rattle.block_recovery.specs.Decoded.{AreWithin}
 use Rattle.block_recovery.specs.Arrivals.{with_esi, with_symbol}
 use Rattle.block_recovery.proofs.Kept.{count_more, count_same}
 use Rattle.block_recovery.proofs.Those.{few_pass}
-use Rattle.receiver.specs.Bytes.{Becomes}
+use Rattle.block_bytes.specs.Bytes.{Becomes}
 use Rattle.receiver.specs.Holds.{Holds, HoldsIn, IsSound, kept_of, has_solved, solved_count}
 use Rattle.alc.specs.declared.reading.Packet.{Packet}
 use Rattle.receiver.specs.Fed.{HoldsFor, FedOutcome}

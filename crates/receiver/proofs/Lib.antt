@@ -1,7 +1,6 @@
 pub mod Pending
 pub mod Taken
 mod Amount
-mod Held
 mod Among
 mod Noted
 mod Told
@@ -9,7 +8,5 @@ mod Solving
 mod Seen
 mod Holding
 mod Fed
-mod Padding
-mod BlocksInFile
 mod Begun
 mod Filed

@@ -28,7 +28,8 @@ use Rattle.receiver.specs.Holds.{Holds, kept_of, has_solved}
 use Rattle.receiver.specs.Stands.{StandsWith, Keeps, HoldsSymbols}
 use Rattle.receiver.specs.Receiving.{LeaveNoneShort}
 use Rattle.receiver.specs.Taking.{IsShortBlock, AllSolved}
-use Rattle.receiver.specs.Parts.{part_of, object_below, object_in}
+use Rattle.block_bytes.specs.Parts.{part_of, object_below, object_in}
+use Rattle.block_bytes.proofs.ObjectParts.{nothing_below, part_more}
 use Rattle.decoder.specs.declared.answer.Short.{Short}
 use Rattle.receiver.specs.declared.receiving.Receiving.{Receiving}
 use Rattle.receiver.specs.declared.store.Store.{Store}
@@ -62,62 +63,6 @@ full_explained f b bytes esis at h enough =
 -- the object's bytes in a block, by as many rows as the block has
 part_cut : (f : Fti) (bytes : ℕ → List ℕ) (b : ℕ) → part_of f bytes b ≡ take (block_bytes f b) (take (source_count f b * f.symbol_length) (bytes b))
 part_cut f bytes b = sym (take-take (block_bytes f b) (source_count f b * f.symbol_length) (bytes b) (omega arith))
-
--- ---- the parts of the object
-
-below_next : (n : ℕ) → below (n + 1) ≡ below n ++ n ∷ []
-unfolding below
-below_next n = let e : n + 1 ≡ suc n = omega arith in rw e refl
-
-pub nothing_below : (f : Fti) (bytes : ℕ → List ℕ) → object_below f bytes 0 ≡ []
-unfolding below
-nothing_below f bytes = refl
-
-pub part_more : (f : Fti) (bytes : ℕ → List ℕ) (n : ℕ) → object_below f bytes (n + 1) ≡ object_below f bytes n ++ part_of f bytes n
-part_more f bytes n =
-    ap (flat_map (part_of f bytes)) (below_next n) ∙ flat_map-append (part_of f bytes) (below n) (n ∷ [])
-    ∙ ap (λ (l : List ℕ). object_below f bytes n ++ l) (append-nil (part_of f bytes n))
-
-part_behind : (f : Fti) (bytes : ℕ → List ℕ) (m d : ℕ) → (later : List ℕ) × (object_below f bytes (m + d) ≡ object_below f bytes m ++ later)
-part_behind f bytes m zero = let e : m + 0 ≡ m = omega arith in ([], ap (object_below f bytes) e ∙ sym (append-nil (object_below f bytes m)))
-part_behind f bytes m (suc d) =
-    let r = part_behind f bytes m d in
-    let e : m + suc d ≡ m + d + 1 = omega arith in (
-      r.0 ++ part_of f bytes (m + d),
-      ap (object_below f bytes) e ∙ part_more f bytes (m + d) ∙ ap (λ (l : List ℕ). l ++ part_of f bytes (m + d)) r.1 ∙ append_assoc (object_below f bytes m) r.0 (part_of f bytes (m + d)),
-    )
-
--- what follows the parts of the blocks up to one
-pub part_later : (f : Fti) (bytes : ℕ → List ℕ) (b n : ℕ) → b < n → (later : List ℕ) × (object_below f bytes n ≡ (object_below f bytes b ++ part_of f bytes b) ++ later)
-part_later f bytes b n lt =
-    let e : b + 1 + (n - (b + 1)) ≡ n = omega (arith, lt) in
-    let r = part_behind f bytes (b + 1) (n - (b + 1)) in
-    (r.0, ap (object_below f bytes) (sym e) ∙ r.1 ∙ ap (λ (l : List ℕ). l ++ r.0) (part_more f bytes b))
-
--- ---- what is written
-
-module _ (f : Fti) (bytes : ℕ → List ℕ) (b n : ℕ) (lt : b < n) (piece : List ℕ) (is : piece ≡ part_of f bytes b) (first old new : Option (List ℕ)) (before : Appends first old (object_below f bytes b)) where
-  -- one part more
-  pub part_written : Appends old new piece → Appends first new (object_below f bytes (b + 1))
-  part_written h =
-      subst (λ (l : List ℕ). Appends first new l) (sym (part_more f bytes b))
-      (then_appends first old new (object_below f bytes b) (part_of f bytes b) before (subst (λ (l : List ℕ). Appends old new l) is h))
-
-  -- a beginning of a part, behind the parts before
-  pub part_begun : AppendsSome old new piece → AppendsSome first new (object_below f bytes n)
-  part_begun h =
-      let r = part_later f bytes b n lt in
-      subst (λ (l : List ℕ). AppendsSome first new l) (sym r.1)
-      (front_some first new (object_below f bytes b ++ part_of f bytes b) r.0
-      (then_some first old new (object_below f bytes b) (part_of f bytes b) before (subst (λ (l : List ℕ). AppendsSome old new l) is h)))
-
-pub length_more : (f : Fti) (bytes : ℕ → List ℕ) (b : ℕ) → length (object_below f bytes (b + 1)) ≡ length (object_below f bytes b) + length (part_of f bytes b)
-length_more f bytes b = ap length (part_more f bytes b) ∙ length-append (object_below f bytes b) (part_of f bytes b)
-
-pub length_within : (f : Fti) (bytes : ℕ → List ℕ) (b n : ℕ) → b < n → length (object_below f bytes b) + length (part_of f bytes b) ≤ length (object_below f bytes n)
-length_within f bytes b n lt =
-    let r = part_later f bytes b n lt in
-    omega (arith, ap length r.1, length-append (object_below f bytes b ++ part_of f bytes b) r.0, length-append (object_below f bytes b) (part_of f bytes b))
 
 -- ---- all blocks
 

@@ -7,12 +7,12 @@ use Rattle.alc.proofs.Chosen.{same_self}
 use Rattle.block_recovery.proofs.Index.{pointwise_same}
 use Rattle.alc.specs.declared.reading.Packet.{Packet}
 use Rattle.receiver.specs.Putting.{UnlessFailed, Outcome, BlockOutcome, BytesChange}
-use Rattle.receiver.specs.declared.block_bytes.BytesFault.{BytesFault}
-use Rattle.receiver.specs.declared.block_bytes.BytesFault.TheVariants as bytes
+use Rattle.block_bytes.specs.declared.block_bytes.BytesFault.{BytesFault}
+use Rattle.block_bytes.specs.declared.block_bytes.BytesFault.TheVariants as bytes
 use Rattle.receiver.specs.declared.receiver.FeedFault.TheVariants.{NoMemory}
 use Rattle.receiver.specs.declared.receiving.Unfed.{Unfed}
 use Rattle.receiver.specs.declared.receiving.Unfed.TheVariants.{Refused, Failed}
-use Rattle.receiver.specs.Bytes.{StandIn, Becomes, Puts}
+use Rattle.block_bytes.specs.Bytes.{StandIn, Becomes, Puts}
 
 -- what is told is one
 pub one_told : (told : Option (ℕ → List ℕ)) (x y : ℕ → List ℕ) → told ≡ Some x → told ≡ Some y → x ≡ y

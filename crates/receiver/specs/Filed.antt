@@ -5,7 +5,7 @@ use Rattle.reception.specs.Answer.{Object, IsAnswer}
 use Rattle.streams.specs.declared.io.Write.{Ghosts}
 use Rattle.decoder.specs.declared.answer.Answer.{Answer}
 use Rattle.decoder.specs.declared.answer.Answer.TheVariants as answer
-use Rattle.receiver.specs.Places.{has_place, told_in}
+use Rattle.block_bytes.specs.Places.{has_place, told_in}
 use Rattle.receiver.specs.Stands.{StandsWith}
 use Rattle.receiver.specs.declared.file_receiver.FileReceiver.{FileReceiver}
 

@@ -1,5 +1,3 @@
-pub mod Bytes
-pub mod Held
 pub mod Esis
 pub mod Stored
 pub mod Holds
@@ -8,9 +6,5 @@ pub mod Receiving
 pub mod Fed
 pub mod Putting
 pub mod Taking
-pub mod Parts
-pub mod InFile
 pub mod Begun
-pub mod Places
 pub mod Filed
-pub mod Recalled

@@ -10,9 +10,9 @@ use Rattle.block_recovery.specs.Decoded.{IsEnoughAt, IsUnexplained}
 use Rattle.block_recovery.specs.Arrivals.{with_esi, with_symbol}
 use Rattle.block_recovery.specs.Recoveries.{IsKeptOf}
 use Rattle.block_recovery.specs.declared.fault.DecodeFault.TheVariants.{Clash, NotCode}
-use Rattle.receiver.specs.Bytes.{Becomes}
+use Rattle.block_bytes.specs.Bytes.{Becomes}
 use Rattle.receiver.specs.Holds.{HoldsIn}
-use Rattle.receiver.specs.declared.block_bytes.BlockBytes.{Ghosts}
+use Rattle.block_bytes.specs.declared.block_bytes.BlockBytes.{Ghosts}
 use Rattle.receiver.specs.declared.solver.Solver.{Solver}
 use Rattle.receiver.specs.declared.store.Store.{Store}
 use Rattle.receiver.specs.declared.receiver.FeedFault.TheVariants.{Fault, NoMemory}

@@ -6,9 +6,9 @@ use Rattle.reception.specs.Reception.{ReadAll}
 use Rattle.reception.specs.Readings.{readings_of}
 use Rattle.reception.specs.Answer.{reception_of}
 use Rattle.block_recovery.specs.Received.{IsIndex}
-use Rattle.receiver.specs.Bytes.{AreTold}
+use Rattle.block_bytes.specs.Bytes.{AreTold}
 use Rattle.receiver.specs.Holds.{HoldsIn, IsSound}
-use Rattle.receiver.specs.Held.{held_in}
+use Rattle.block_bytes.specs.Held.{held_in}
 use Rattle.receiver.specs.declared.store.Store.{Store}
 use Rattle.receiver.specs.declared.receiver.Receiver.{Receiver}
 use Rattle.receiver.specs.declared.receiving.Receiving.{Receiving}

@@ -13,11 +13,11 @@ ghost use Rattle.receiver.specs.Receiving.{HasNoFaultBefore, ComesEarly, IfRefus
 ghost use Rattle.receiver.specs.Fed.{HoldsFor, FedOutcome};
 ghost use Rattle.receiver.specs.Putting.{bytes_now};
 
-use crate::block_bytes::BlockBytes;
 use crate::receiver::{FeedFault, Progress, Receiver};
 use crate::receiving::{Receiving, Unfed};
 use crate::store::Store;
 use alc::Packet;
+use block_bytes::BlockBytes;
 use block_recovery::fault_at;
 use lists::are_bytes;
 use partition::Fti;

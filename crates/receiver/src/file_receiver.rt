@@ -1,12 +1,10 @@
 //! A receiver that keeps symbols in the output that the object is for.
 ghost use Rattle.std.specs.Prelude.{◌≡◌, false, is_some};
-ghost use Rattle.receiver.specs.Places.{has_place};
+ghost use Rattle.block_bytes.specs.Places.{has_place};
 
-use crate::blocks::{Beside, Blocks};
-use crate::file_blocks::FileBlocks;
-use crate::held_blocks::HeldBlocks;
 use crate::receiver::{FeedFault, Progress};
 use crate::receiving::{Receiving, Unfed};
+use block_bytes::{Beside, Blocks, FileBlocks, HeldBlocks};
 use decoder::Answer;
 use reception::Identity;
 use session::Failed;
@@ -31,7 +29,7 @@ impl<W: WriteAt> FileReceiver<W> {
     ghost use Rattle.reception.specs.Answer.{IsAnswer};
     ghost use Rattle.receiver.specs.Begun.{Begins, IsCarrierOf};
     ghost use Rattle.receiver.specs.Filed.{Stands, IsLack, IsObjectIn, has_output};
-    ghost use Rattle.receiver.specs.Places.{place_failed};
+    ghost use Rattle.block_bytes.specs.Places.{place_failed};
     ghost use Rattle.receiver.specs.Receiving.{with_datagram, Tells, HasNoFault, LeaveNoneShort};
     ghost use Rattle.receiver.specs.Receiving.{HasNoFaultBefore, ComesEarly, IfRefused};
     ghost use Rattle.receiver.specs.Receiving.{IsUnfedOf};

@@ -9,12 +9,12 @@ ghost use Rattle.receiver.specs.Esis.{esis_of};
 ghost use Rattle.receiver.specs.Putting.{MayPut, IsPutFault, Outcome, BlockOutcome, bytes_change};
 ghost use Rattle.receiver.specs.Stored.{IsOf, IsPending, IsSolved, AreSymbols, is_among};
 
-use crate::block_bytes::BlockBytes;
 use crate::esis::Esis;
 use crate::receiver::FeedFault;
 use crate::receiving::Unfed;
 use crate::solver::Solver;
 use alc::Packet;
+use block_bytes::BlockBytes;
 use block_recovery::{DecodeFault, block_rows};
 use partition::Fti;
 use std::alloc::{AllocError, Global};

@@ -4,11 +4,11 @@ ghost use Rattle.partition.specs.Fti.{block_count, encoding_count};
 ghost use Rattle.receiver.specs.Holds.{IsSound, HoldsIn};
 ghost use Rattle.receiver.specs.Putting.{StoreOutcome, bytes_now};
 
-use crate::block_bytes::BlockBytes;
 use crate::pending_block::{compare, place_of};
 use crate::receiving::Unfed;
 use crate::store::Store;
 use alc::Packet;
+use block_bytes::BlockBytes;
 use std::alloc::Global;
 
 impl Store {

@@ -1,6 +1,6 @@
 //! A receiver of one datagram at a time.
-use crate::held_blocks::HeldBlocks;
 use crate::receiving::Receiving;
+use block_bytes::HeldBlocks;
 use block_recovery::DecodeFault;
 use reception::Identity;
 use thiserror::Error;

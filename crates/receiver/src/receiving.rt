@@ -1,7 +1,7 @@
 //! Datagrams that come one at a time, whose symbols are kept elsewhere.
-use crate::block_bytes::BytesFault;
 use crate::receiver::FeedFault;
 use crate::store::Store;
+use block_bytes::BytesFault;
 use reception::Identity;
 use session::Failed;
 use std::alloc::AllocError;
@@ -46,7 +46,7 @@ impl From<Failed> for Unfed {
 /// A block's bytes weren't written.
 impl From<BytesFault> for Unfed {
     ghost use Rattle.std.specs.Prelude.{◌≡◌};
-    ghost use Rattle.receiver.specs.declared.block_bytes.BytesFault.TheVariants as bytes;
+    ghost use Rattle.block_bytes.specs.declared.block_bytes.BytesFault.TheVariants as bytes;
     ghost use Rattle.receiver.specs.declared.receiver.FeedFault.TheVariants.{NoMemory};
     ghost use Rattle.receiver.specs.declared.receiving.Unfed.TheVariants as unfed;
 
@@ -75,7 +75,7 @@ pub struct Receiving {
 impl Receiving {
     ghost use Rattle.std.specs.Prelude.{◌≡◌, [], ℕ, List, Option, None};
     ghost use Rattle.partition.specs.Fti.{Fti as FtiValue};
-    ghost use Rattle.receiver.specs.Bytes.{AreTold};
+    ghost use Rattle.block_bytes.specs.Bytes.{AreTold};
     ghost use Rattle.receiver.specs.Stands.{StandsWith};
 
     /// A reception of this identity's packets, to which nothing came.

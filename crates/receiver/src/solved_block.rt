@@ -6,13 +6,13 @@ ghost use Rattle.receiver.specs.Esis.{esis_of};
 ghost use Rattle.receiver.specs.Putting.{MayPut, BlockOutcome, IsPutFault, bytes_change};
 ghost use Rattle.receiver.specs.Stored.{IsOf, IsSolved};
 
-use crate::block_bytes::BlockBytes;
 use crate::esis::Esis;
 use crate::pending_block::place_of;
 use crate::receiver::FeedFault;
 use crate::receiving::Unfed;
 use crate::solver::Solver;
 use alc::Packet;
+use block_bytes::BlockBytes;
 use block_recovery::{DecodeFault, gives};
 use partition::Fti;
 use std::alloc::Global;

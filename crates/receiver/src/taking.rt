@@ -2,29 +2,24 @@
 //! block.
 ghost use Rattle.std.specs.Prelude.{◌≡◌, ◌<◌, ℕ, List, Option, Ok, None, true, length, IfOk};
 ghost use Rattle.std.specs.Prelude.{IfSome, IsSome, IsNone, OnOk, OnErr};
-ghost use Rattle.std.specs.Io.KnownBytes.{Appends};
 ghost use Rattle.session.specs.Frames.{AppendsSome};
 ghost use Rattle.partition.specs.Fti.{block_count};
 ghost use Rattle.reception.specs.Answer.{Object, IsAnswer};
 ghost use Rattle.decoder.specs.Answers.{answer_value, IsNoFault};
 ghost use Rattle.decoder.specs.Answered.{IsShort};
 ghost use Rattle.receiver.specs.Holds.{Holds, has_solved};
-ghost use Rattle.receiver.specs.Held.{held_of};
 ghost use Rattle.partition.specs.Fti.{Fti as FtiValue};
 ghost use Rattle.receiver.specs.Filed.{IsLack};
 ghost use Rattle.receiver.specs.Stands.{Stands, StandsWith};
 ghost use Rattle.receiver.specs.Receiving.{LeaveNoneShort};
 ghost use Rattle.receiver.specs.Taking.{IsShortBlock, AllSolved};
-ghost use Rattle.receiver.specs.Parts.{part_of, object_in};
 ghost use Rattle.decoder.specs.Gathering.{IsWrittenOf};
 
-use crate::held_blocks::HeldBlocks;
 use crate::receiver::Receiver;
 use crate::receiving::Receiving;
 use crate::store::Store;
 use decoder::{Answer, Short};
-use partition::Fti;
-use session::{Failed, Write, write_all};
+use session::{Failed, Write};
 use std::alloc::{AllocError, Global};
 
 impl Store {
@@ -63,44 +58,6 @@ impl Store {
             }
         }
         None
-    }
-}
-
-impl HeldBlocks {
-    // The object's bytes in a block.
-    fn part(&self, fti: &Fti, b: u32) -> &[u8]
-        requires { b < block_count fti.now }
-        ensures { result.now ≡ part_of fti.now (held_of self.now) b }
-    {
-        let bytes = self.block(b);
-        &bytes[..fti.block_bytes(b).min(bytes.len())]
-    }
-
-    // The object.
-    fn object(&self, alloc: Global, fti: &Fti) -> Result<Vec<u8>, AllocError>
-        ensures { IfOk result (λ v. v.items ≡ object_in fti.now (held_of self.now)) }
-    {
-        let mut object = Vec::with_capacity(alloc, fti.transfer_length() as usize)?;
-        for b in 0..fti.block_count() {
-            object.extend_from_slice(self.part(fti, b))?;
-        }
-        Ok(object)
-    }
-
-    // Writes the object.
-    pub(crate) fn write_object<W: Write>(&self, fti: &Fti, writer: &mut W) -> Result<(), Failed>
-        ensures ok { OnOk result (Appends (W.contents writer.old) (W.contents writer.new)
-            (object_in fti.now (held_of self.now))) }
-        ensures err { OnErr result (AppendsSome (W.contents writer.old) (W.contents writer.new)
-            (object_in fti.now (held_of self.now))) }
-        ensures fails { OnErr result (W.failed writer.new ≡ true) }
-        ensures full { OnErr result
-            (W.room writer.old < length (object_in fti.now (held_of self.now))) }
-    {
-        for b in 0..fti.block_count() {
-            write_all(writer, self.part(fti, b))?;
-        }
-        Ok(())
     }
 }
 

@@ -1,4 +1,5 @@
-use Rattle.std.proofs.Common.{◌≡◌, ◌<◌, ◌+◌, ◌*◌, ℕ, List, length, ap, sym, arith, rules, ◌∙◌}
+use Rattle.std.proofs.Common.{◌≡◌, ◌<◌, ◌+◌, ◌*◌, ◌++◌, ℕ, List, length, take, drop, ap, sym, arith, rules, ◌∙◌}
+use Rattle.std.proofs.lemmas.Grind.{common_steps}
 use Rattle.std.specs.Prelude.{slice_index}
 use Rattle.lists.specs.Bytes.{IsByte}
 use Rattle.gf256.specs.Arithmetic.{sum_of, product}
@@ -6,6 +7,7 @@ use Rattle.gf256.specs.Sums.{row_times}
 use Rattle.elim.specs.Grid.{Grid, entry, HasElements, HasShape}
 use Rattle.elim.proofs.Entries.{elements_by_row}
 use Rattle.block_code.specs.Columns.{AreColumns}
+use Rattle.block_code.proofs.RowAdding.{take_front}
 use Rattle.block_recovery.specs.Rows.{byte_in}
 use Rattle.block_recovery.proofs.Erased.{sum_with_none}
 use Rattle.block_recovery.proofs.Erasing.{factors_changed}
@@ -26,16 +28,16 @@ returns c =
     let n : ℕ = length c.args.missing.now in
     let residuals = c.in_ok-residuals.residuals in
     let elements : HasElements IsByte 0 c.in_ok-matrix.matrix = search (rules, c.matrix.view_is) in
-    let new = c.add_products.new.self in
-    let count : residuals.count ≡ n = c.in_ok-residuals.ensures.sizes.rows_are in
-    let width : new.size ≡ g.rows = c.add_products.ensures.sizes.bytes_same ∙ c.in_ok-coefficients.ensures.sizes.bytes_are ∙ c.rows-2.ensures.value in
-    let rows : new.count ≡ n = c.add_products.ensures.sizes.rows_same ∙ c.in_ok-coefficients.ensures.sizes.rows_are in
+    let k : c.rows-k.result ≡ g.rows = c.rows-k.ensures.value in
+    let sums = c.add_products.new.outputs in
+    let made_are : take c.in_ok-coefficients.coefficients.len (c.add_products.new.outputs ++ drop (length c.add_products.new.outputs) c.in_ok-coefficients.coefficients.items) ≡ c.add_products.new.outputs =
+    take_front c.in_ok-coefficients.coefficients.len c.add_products.new.outputs _ (grind (arith, common_steps)) in
     record {
-      k = c.rows-3.ensures.value;
+      k = k;
       missing_are = search rules;
       repair_are = search rules;
       recovering = record {
-        few = omega (arith, c.matrix.invariant.few_rows, c.in_ok-matrix.ensures.shape.rows);
+        few = omega (arith, residuals.few, c.in_ok-residuals.ensures.sizes.rows_are);
         matrix = c.in_ok-matrix.matrix;
         elements = elements;
         recovers = c.in_ok-matrix.ensures.recovers;
@@ -45,14 +47,16 @@ returns c =
           apart = c.in_ok-residuals.ensures.apart;
           own = c.in_ok-residuals.ensures.own;
         };
-        count = new.whole ∙ ap (λ (m : ℕ). m * new.size) rows ∙ ap (λ (m : ℕ). n * m) width;
+        count = ap length made_are ∙ grind (arith, common_steps, k);
         made = λ a i la li.
-            ap (λ (m : ℕ). slice_index new.bytes.items (a * m + i)) (sym width)
-            ∙ c.add_products.ensures.sums a i (omega (arith, la, c.in_ok-coefficients.ensures.sizes.rows_are)) (omega (arith, li, c.in_ok-coefficients.ensures.sizes.bytes_are, c.rows-2.ensures.value))
-            ∙ ap (λ (v : ℕ). sum_of v (row_times sum_of product 0 (λ q. slice_index c.deref.result.now (a * residuals.count + q)) (byte_in residuals) residuals.count i)) (c.in_ok-coefficients.ensures.zero a i)
-            ∙ sum_with_none (row_times sum_of product 0 (λ q. slice_index c.deref.result.now (a * residuals.count + q)) (byte_in residuals) residuals.count i)
-            ∙ ap (λ (m : ℕ). row_times sum_of product 0 (λ q. slice_index c.deref.result.now (a * m + q)) (byte_in residuals) m i) count
-            ∙ ap (λ (l : List ℕ). row_times sum_of product 0 (λ q. slice_index l (a * n + q)) (byte_in residuals) n i) c.deref.ensures.value
-            ∙ by_columns c.in_ok-matrix.matrix n c.in_ok-matrix.ensures.shape elements c.in_ok-columns.field-0.items c.in_ok-columns.ensures (byte_in residuals) c.are_bytes.ensures a i la;
+            ap (λ (l : List ℕ). slice_index l (a * g.rows + i)) made_are
+            ∙ ap (λ (w : ℕ). slice_index c.add_products.new.outputs (a * w + i)) (sym k)
+            ∙ c.add_products.ensures a i la (omega (arith, li, k))
+            ∙ ap (λ (v : ℕ). sum_of v (row_times sum_of product 0 (λ q. slice_index c.deref.result.now (a * n + q)) (λ q y. slice_index c.deref-2.result.now (q * c.rows-k.result + y)) n i)) (let zero : slice_index c.deref_mut.result.now (a * c.rows-k.result + i) ≡ 0 = grind (arith, common_steps) in zero)
+            ∙ sum_with_none (row_times sum_of product 0 (λ q. slice_index c.deref.result.now (a * n + q)) (λ q y. slice_index c.deref-2.result.now (q * c.rows-k.result + y)) n i)
+            ∙ ap (λ (l : List ℕ). row_times sum_of product 0 (λ q. slice_index l (a * n + q)) (λ q y. slice_index c.deref-2.result.now (q * c.rows-k.result + y)) n i) c.deref.ensures.value
+            ∙ ap (λ (l : List ℕ). row_times sum_of product 0 (λ q. slice_index c.in_ok-factors.factors.items (a * n + q)) (λ q y. slice_index l (q * c.rows-k.result + y)) n i) c.deref-2.ensures.value
+            ∙ ap (λ (w : ℕ). row_times sum_of product 0 (λ q. slice_index c.in_ok-factors.factors.items (a * n + q)) (λ q y. slice_index residuals.bytes.items (q * w + y)) n i) (k ∙ sym c.in_ok-residuals.ensures.sizes.bytes_are)
+            ∙ by_columns c.in_ok-matrix.matrix n c.in_ok-matrix.ensures.shape elements c.in_ok-factors.factors.items c.in_ok-factors.ensures (byte_in residuals) c.are_bytes.ensures a i la;
       };
     }

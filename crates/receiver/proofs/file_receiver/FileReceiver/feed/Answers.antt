@@ -1,8 +1,8 @@
 use Rattle.std.proofs.Common.{Option, ℕ, List, ap, sym, subst}
 use Rattle.std.specs.Prelude.{OnOk, IfErr}
 use Rattle.partition.specs.Fti.{Fti}
-use Rattle.receiver.specs.Held.{held_of}
-use Rattle.receiver.specs.Places.{has_place}
+use Rattle.block_bytes.specs.Held.{held_of}
+use Rattle.block_bytes.specs.Places.{has_place}
 use Rattle.receiver.specs.Receiving.{with_datagram, IfRefused}
 use Rattle.receiver.specs.Stands.{StandsWith}
 use Rattle.receiver.proofs.Filed.{by_none, by_held, by_file, output_told, told_beside}

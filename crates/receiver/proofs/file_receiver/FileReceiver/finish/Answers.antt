@@ -1,7 +1,7 @@
 use Rattle.std.proofs.Common.{◌≡◌, ◌∙◌, ℕ, List, Option, Some, sym, subst}
 use Rattle.std.specs.Prelude.{IfSome}
-use Rattle.receiver.specs.Parts.{object_in}
-use Rattle.receiver.specs.Places.{told_in}
+use Rattle.block_bytes.specs.Parts.{object_in}
+use Rattle.block_bytes.specs.Places.{told_in}
 use Rattle.receiver.proofs.Fed.{each_solved}
 use Rattle.receiver.proofs.Taken.{keeps, object_length, object_taken, short_none}
 use Rattle.receiver.proofs.file_receiver.FileReceiver.finish.Goals as goal

@@ -1,5 +1,5 @@
 use Rattle.std.proofs.Common.{refl}
-use Rattle.receiver.specs.Held.{held_in}
+use Rattle.block_bytes.specs.Held.{held_in}
 use Rattle.receiver.proofs.Amount.{none_stored, stored_is}
 use Rattle.receiver.proofs.receiver.Receiver.stored.Goals as goal
 

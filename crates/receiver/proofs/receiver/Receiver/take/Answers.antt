@@ -1,6 +1,6 @@
 use Rattle.std.proofs.Common.{ℕ, List, sym, subst, refl}
 use Rattle.reception.specs.Answer.{Missing, Object, IsAnswer}
-use Rattle.receiver.specs.Held.{held_in, held_of}
+use Rattle.block_bytes.specs.Held.{held_in, held_of}
 use Rattle.decoder.proofs.Beginnings.{on_err}
 use Rattle.receiver.proofs.Taken.{store_taken, missing_answers, object_taken, none_short}
 use Rattle.receiver.proofs.receiver.Receiver.take.Goals as goal

@@ -1,7 +1,7 @@
 use Rattle.std.proofs.Common.{◌∙◌, ◌<◌, ℕ, List, length, sym, subst, refl}
 use Rattle.session.specs.Frames.{AppendsSome}
-use Rattle.receiver.specs.Held.{held_in, held_of}
-use Rattle.receiver.specs.Parts.{object_in}
+use Rattle.block_bytes.specs.Held.{held_in, held_of}
+use Rattle.block_bytes.specs.Parts.{object_in}
 use Rattle.decoder.proofs.Beginnings.{on_err}
 use Rattle.receiver.proofs.Taken.{short_is, some_short, object_same, object_length, object_taken, none_short, short_none}
 use Rattle.receiver.proofs.receiver.Receiver.write_object.Goals as goal

@@ -1,0 +1,4 @@
+pub mod Held
+pub mod Padding
+pub mod BlocksInFile
+pub mod ObjectParts
