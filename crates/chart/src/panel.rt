@@ -1,6 +1,4 @@
 //! Where a panel stands, its bars and its horizontal lines.
-ghost use Rattle.std.specs.Prelude.{◌≤◌};
-
 use crate::canvas::{Canvas, SMALL_END};
 use crate::scale::Scale;
 

@@ -1,5 +1,5 @@
 //! The panel of the symbols that each block has to spare.
-ghost use Rattle.std.specs.Prelude.{◌<◌, length};
+ghost use Rattle.std.specs.Prelude.{◌<◌};
 
 use crate::histogram::put_histogram;
 use chart::{

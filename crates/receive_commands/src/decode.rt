@@ -2,9 +2,8 @@
 ghost use Rattle.std.specs.Prelude.{◌≡◌, ◌≤◌, ◌++◌, ℕ, Bool, List, Option, Some, true};
 ghost use Rattle.std.specs.Prelude.{IfOk, IfErr, IfSome, IsNone, OnOk};
 ghost use Rattle.host.specs.World.{World, GivesFile};
-ghost use Rattle.file_decoder.specs.IndexedIn.{IsIndexedIn, IsFileFault};
+ghost use Rattle.file_decoder.specs.IndexedIn.{IsFileFault};
 ghost use Rattle.file_decoder.specs.PlacesOf.{ArePlacedIn, ArePlacedOf};
-ghost use Rattle.file_decoder.specs.declared.indexed_file.IndexedFile.TheVariants.{Symbols};
 ghost use Rattle.commands.specs.Inputs.{ASession, IsUnread};
 ghost use Rattle.request.specs.declared.requests.Request.TheVariants.{Decode};
 ghost use Rattle.decoder.specs.Answers.{answer_value};

@@ -1,7 +1,7 @@
 //! What a receiver gives: the answer to the datagrams that it accepted, and the object block by
 //! block.
 ghost use Rattle.std.specs.Prelude.{◌≡◌, ◌<◌, ℕ, List, Option, Ok, None, true, length, IfOk};
-ghost use Rattle.std.specs.Prelude.{IfSome, IsSome, IsNone, OnOk, OnErr};
+ghost use Rattle.std.specs.Prelude.{IfSome, IsSome, IsNone, OnErr};
 ghost use Rattle.session.specs.Frames.{AppendsSome};
 ghost use Rattle.partition.specs.Fti.{block_count};
 ghost use Rattle.reception.specs.Answer.{Object, IsAnswer};
