@@ -1,6 +1,7 @@
 #!/usr/bin/env python3
 """Fails where a document has a figure that isn't what can be counted, a list of commands or calls
-that lacks one, or a link that leads nowhere.
+that lacks one, or a link that leads nowhere; and where a crate's page has a caller that isn't
+compiled.
 
 Each figure stands below with the documents that have it, and what finds it there. A document that
 has it no more is a failure, too, so that no figure goes unseen by being put into other words.
@@ -391,6 +392,23 @@ def wrong_crates(listed):
         yield f"docs/crates.svg: no crate {it}"
 
 
+def wrong_callers():
+    """The crates' pages whose caller, the lines between ```, isn't compiled as it stands there: in
+    crates/examples, or among a crate's tests.
+    """
+    compiled = [
+        [line.strip() for line in path.read_text(encoding="utf-8").splitlines()]
+        for path in sorted(ROOT.glob("crates/*/src/*.rt")) if path.name != "lib.rt"
+    ]
+    for page in sorted(ROOT.glob("crates/*/src/lib.rt")):
+        text = re.sub(r"^//! ?", "", page.read_text(encoding="utf-8"), flags=re.M)
+        for caller in re.findall(r"^```\n(.*?)^```$", text, re.M | re.S):
+            wanted = [line.strip() for line in caller.splitlines()]
+            if not any(wanted == lines[at:at + len(wanted)]
+                       for lines in compiled for at in range(len(lines))):
+                yield f"{page.relative_to(ROOT)}: its caller isn't compiled anywhere"
+
+
 def anchors(path):
     """What a link may name behind a `#`, of a document's headings."""
     for heading in re.findall(r"^#+ (.*)$", path.read_text(encoding="utf-8"), re.M):
@@ -427,7 +445,7 @@ def main():
     for name in listed.keys() | told.keys():
         if listed.get(name) != told.get(name):
             wrong.append(f"docs/ARCHITECTURE.md: {name} stands on other crates in crates.txt")
-    wrong += wrong_crates(listed)
+    wrong += [*wrong_crates(listed), *wrong_callers()]
     for path in DOCUMENTS:
         for link in re.findall(r"\]\(([^)\s]+)[^)]*\)", path.read_text(encoding="utf-8")):
             count += 1

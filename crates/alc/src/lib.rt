@@ -2,6 +2,13 @@
 //! 5): the header of Layered Coding Transport (LCT, RFC 5651) with its extensions, among them
 //! EXT_FTI, then the FEC payload ID and one encoding symbol.
 //!
+//! ```
+//! match read(datagram) {
+//!     Ok(packet) => println!(rt; "block {} symbol {}", packet.sbn, packet.esi)?,
+//!     Err(fault) => println!(rt; "no packet: {fault}")?,
+//! }
+//! ```
+//!
 //! Numbers of more than one byte are big-endian. No call takes memory: a packet borrows its symbol
 //! from its datagram.
 //!

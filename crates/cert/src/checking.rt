@@ -50,6 +50,7 @@ fn verdict_of(
         OnYes v (IsReport identity session.now certificate.now.fti)) }
     ensures certificate { IsCertificate certificate.now }
 {
+    // With these comes what is true of each session and of each certificate.
     session.len();
     certificate.fti();
     match report_of(alloc, session, object, certificate, identity) {

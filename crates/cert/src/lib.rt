@@ -1,4 +1,11 @@
-//! The check of a session, an object and a certificate.
+//! The check of a session (FEC Encoding ID 5, RFC 5510), an object and a certificate.
+//!
+//! ```
+//! match check(alloc, &session, OBJECT, &certificate, IDENTITY)? {
+//!     Verdict::Yes(report) => println!(rt; "any {} datagrams may be missed", report.margin)?,
+//!     Verdict::No(reason) => println!(rt; "no {reason:?}")?,
+//! }
+//! ```
 //!
 //! `verdict` has what a check answers, `fault` why it has no report, `specs/Verdict` which answer
 //! is right, `specs/Report` what a yes tells.

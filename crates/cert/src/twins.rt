@@ -284,6 +284,7 @@ pub fn session_twin(
     ensures { IfOk result (λ other.
         IsTwinOfSession identity certificate.now.fti block session.now object.now other.items) }
 {
+    // With its length comes what is true of each session: its datagrams are short.
     session.len();
     let arrived_esis = esis_held(alloc, session, certificate, block, identity)?;
     twin(

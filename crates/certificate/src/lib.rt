@@ -1,4 +1,11 @@
-//! Certificates of sessions: for each block the polynomial of each byte column.
+//! Certificates of sessions: for each source block (RFC 5052, section 9.1) the polynomial of each
+//! byte column.
+//!
+//! ```
+//! let certificate = certify(alloc, OBJECT, &fti()?)?.into_named(IDENTITY)?;
+//! certificate.write(file)?;
+//! Ok(Certificate::read(alloc, &mut Pieces::new(file.bytes(), 4096))?)
+//! ```
 //!
 //! `certificate` has the certificate, its file and the faults of one (`specs/Certificate`). `head`
 //! reads and writes what stands in the file before the coefficients, and `column_text` the

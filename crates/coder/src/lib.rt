@@ -1,5 +1,11 @@
 //! The encoder and the decoder under one name.
 //!
+//! ```
+//! let mut frames = Sink::new(alloc);
+//! let mut object = Pieces::new(OBJECT, 16);
+//! encode_from(alloc, &mut object, 7, 2, &fti()?, 1, &mut frames)?;
+//! ```
+//!
 //! - The crate `encoder` has [`encode`], [`encode_from`] and [`encode_rounds_from`], which make the
 //!   session of an object, and [`certify`], [`certify_to`] and [`certify_from`], which make its
 //!   certificate.

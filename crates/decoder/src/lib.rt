@@ -1,5 +1,10 @@
 //! The decoder: the object that datagrams give, or why they give none (RFC 5510, section 8).
 //!
+//! ```
+//! let received = session.without(alloc, &[0, 3, 7])?;
+//! let answer = decode(alloc, &received.views(alloc)?, IDENTITY)?;
+//! ```
+//!
 //! - `answer`: what a decoder answers.
 //! - `source`: where the symbols of an object are had from, block by block. `coded_source` has that
 //!   with the codes of the blocks.

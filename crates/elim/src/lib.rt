@@ -1,6 +1,11 @@
 //! Matrices over a field: products, inverses by elimination, and the generator matrix of the code
 //! of RFC 5510, section 8.2.1.
 //!
+//! ```
+//! let code = generator(alloc, 5, 8)?;
+//! Ok(code.cols())
+//! ```
+//!
 //! - `matrix`: a matrix over any field, its entries, and steps on its rows.
 //! - `combine`: the transposed matrix, the identity, products and Vandermonde matrices.
 //! - `eliminate`: the inverse, or that there is none.

@@ -1,4 +1,11 @@
-//! The encoder: an object's encoding symbols as a session, and its certificate.
+//! The encoder: an object's encoding symbols as a session (RFC 5510, section 8), and its
+//! certificate.
+//!
+//! ```
+//! let mut file = Sink::new(alloc);
+//! encode(alloc, OBJECT, 7, 2, &fti()?, 1, Order::Blocks, &mut file)?;
+//! Ok(Session::read(alloc, &mut Pieces::new(file.bytes(), 4096))?)
+//! ```
 //!
 //! - `rows`: encoding symbols and coefficients of a block, as sums of the rows of its source
 //!   symbols;

@@ -1,4 +1,10 @@
-//! The values of polynomials at the points of the code, many polynomials at a time.
+//! The values of polynomials at the points of the code of RFC 5510, section 8.2, many polynomials
+//! at a time.
+//!
+//! ```
+//! let mut values = [0u8; 4];
+//! evaluate(&mut values, 0, 4, &[3, 5], 2, 1);
+//! ```
 //!
 //! Row i of the coefficients has coefficient i of each polynomial, a byte column for each. So a row
 //! of values is a sum of rows of coefficients, each times a power of alpha.

@@ -1,11 +1,13 @@
-//! Two short programs over the library: an object that is sent, thinned and decoded in memory, and
-//! a receiver that is fed datagrams one by one.
+//! Short programs over the library: an object that is sent, thinned and decoded in memory; a
+//! receiver that is fed datagrams one by one; and a few lines on each of the other crates.
 #![tactic(auto)]
 
+mod calls;
 mod fault;
 mod receiving;
 mod sending;
 
+use calls::call_all;
 use fault::ExampleFault;
 use receiving::receive;
 use sending::{send, with_a_stray};
@@ -13,7 +15,8 @@ use std::process::ExitCode;
 
 fn run(rt: &HostRuntime) -> Result<(), ExampleFault> {
     send(rt)?;
-    receive(rt, &with_a_stray(rt.alloc())?)
+    receive(rt, &with_a_stray(rt.alloc())?)?;
+    call_all(rt)
 }
 
 fn main(rt: HostRuntime) -> ExitCode {

@@ -10,12 +10,12 @@ use reception::Identity;
 use session::{Pieces, Session, Sink};
 use std::alloc::{AllocError, Global};
 
-const OBJECT: &[u8] = b"An object of 40 bytes, in 8-byte symbols";
+pub(crate) const OBJECT: &[u8] = b"An object of 40 bytes, in 8-byte symbols";
 
 pub(crate) const IDENTITY: Identity = Identity { tsi: 7, toi: 2 };
 
-// 5 source symbols of 8 bytes in one block, and 3 repair symbols.
-fn fti() -> Result<Fti, ExampleFault> {
+/// 5 source symbols of 8 bytes in one block, and 3 repair symbols.
+pub(crate) fn fti() -> Result<Fti, ExampleFault> {
     Ok(Fti::new(OBJECT.len() as u64, 8, 5, 8)?)
 }
 
@@ -45,7 +45,12 @@ pub(crate) fn send(rt: &HostRuntime) -> Result<(), ExampleFault> {
         Verdict::No(reason) => println!(rt; "no {reason:?}")?,
     }
     let received = session.without(alloc, &[0, 3, 7])?;
-    match decode(alloc, &received.views(alloc)?, IDENTITY)? {
+    let answer = decode(alloc, &received.views(alloc)?, IDENTITY)?;
+    tell_answer(rt, &answer)
+}
+
+fn tell_answer(rt: &HostRuntime, answer: &Answer) -> Result<(), ExampleFault> {
+    match answer {
         Answer::Object(object) => println!(rt; "as sent: {}", object.as_slice() == OBJECT)?,
         Answer::Missing { block, have, need } => {
             println!(rt; "block {block} has {have} symbols and needs {need}")?;

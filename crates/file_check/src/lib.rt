@@ -1,5 +1,13 @@
 //! The check of a session file, an object and a certificate, of which nothing is held but a block.
 //!
+//! ```
+//! match check_files(alloc, &files, IDENTITY)? {
+//!     Some(Verdict::Yes(report)) => println!(rt; "margin {}", report.margin)?,
+//!     Some(Verdict::No(reason)) => println!(rt; "no {reason:?}")?,
+//!     None => println!(rt; "the certificate has no name")?,
+//! }
+//! ```
+//!
 //! `cert` has the check of datagrams that come one after the other, with the object and the
 //! certificate held. Here all three are files that are read at offsets (RFC 5052, section 9.1, has
 //! the blocks):

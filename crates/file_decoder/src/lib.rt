@@ -1,5 +1,12 @@
 //! The decoder of a session file, of which only places are held (RFC 5510, section 8).
 //!
+//! ```
+//! match index_file(alloc, &session, IDENTITY)? {
+//!     IndexedFile::Symbols(symbols) => println!(rt; "of {} bytes", symbols.transfer_length())?,
+//!     IndexedFile::Answer(_) => println!(rt; "no object yet")?,
+//! }
+//! ```
+//!
 //! - `indexing` finds the symbols' places in the file, and reads again where an earlier symbol has
 //!   the same block and ESI. `rereading` has these reads, and those of a block's symbols for
 //!   `file_source`.

@@ -1,6 +1,14 @@
-//! The numbers of a session, by identity (TSI and TOI): how many datagrams are its packets, where
-//! the first and the last stand, what its carriers say, how many different symbols came; and why
-//! other datagrams are no packets.
+//! The numbers of a session, by identity (TSI and TOI, RFC 5651): how many datagrams are its
+//! packets, where the first and the last stand, what its carriers say, how many different symbols
+//! came; and why other datagrams are no packets.
+//!
+//! ```
+//! let mut summary = Summary::new(alloc);
+//! for place in 0..session.len() {
+//!     summary.add(alloc, session.get(place))?;
+//! }
+//! println!(rt; "{} identity", summary.parts(alloc)?.len())?;
+//! ```
 //!
 //! No datagram is kept: of each identity its counts and FTIs, of each symbol its block and its ESI,
 //! and of each datagram that is no packet its fault.

@@ -1,6 +1,11 @@
 //! The FEC object transmission information (FTI) of FEC Encoding ID 5 (RFC 5510, section 5.2) and
 //! the partition of an object into source blocks (RFC 5052, section 9.1).
 //!
+//! ```
+//! let fti = Fti::new(OBJECT.len() as u64, 8, 5, 8)?;
+//! println!(rt; "{} of {} symbols are enough", fti.k(0), fti.n(0))?;
+//! ```
+//!
 //! An object of L bytes is cut into T source symbols of E bytes, the last of them filled up with
 //! zeros, and these into N source blocks of nearly equal size: the first I of them have one source
 //! symbol more than the others.
@@ -216,6 +221,7 @@ impl Fti {
     pub fn is_valid(&self)
         ensures { IsValidFti self.now }
     {
+        // A field that is read brings what the type says.
         let _ = &self.max_symbols;
     }
 

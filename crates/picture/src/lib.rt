@@ -1,5 +1,12 @@
 //! One sheet that shows what a session may lose, as the text of an SVG.
 //!
+//! ```
+//! let text = draw(rt.alloc(), &sheet)?;
+//! assert!(rt; text.as_str().contains("session a&lt;b&gt;&amp;c<"));
+//! assert!(rt; text.as_str().contains("object of 1,234 bytes"));
+//! assert!(rt; text.as_str().ends_with("</svg>\n"));
+//! ```
+//!
 //! The sheet has a heading in words and two panels: the symbols that each block has to spare,
 //! beside how many blocks have how many of them, and the longest run of neighbours that may be
 //! missed, by the place where it begins. Nothing here knows of packets or files: numbers and names

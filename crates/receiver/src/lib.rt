@@ -1,5 +1,12 @@
-//! A receiver: it is fed datagrams one at a time, and gives the answer that a decoder gives to all
-//! that it accepted: the object, once they suffice.
+//! A receiver (RFC 5510, section 8): it is fed datagrams one at a time, and gives the answer that a
+//! decoder gives to all that it accepted: the object, once they suffice.
+//!
+//! ```
+//! match receiver.take(alloc)? {
+//!     Answer::Object(object) => println!(rt; "{} bytes", object.len())?,
+//!     _ => println!(rt; "not yet")?,
+//! }
+//! ```
 //!
 //! - `receiver`: the type. It stands for the list of the datagrams that it accepted
 //!   (`specs/Stands`). It accepts none with which `decode` would answer a fault to that list, and

@@ -1,4 +1,13 @@
-//! What a list of datagrams says to one who receives them.
+//! What a list of datagrams (RFC 5651, RFC 5510) says to one who receives them.
+//!
+//! ```
+//! let mut scope = Scope::new(IDENTITY);
+//! match scope.look(datagram) {
+//!     Ok(Look::InRange(packet)) => println!(rt; "of {} bytes", packet.symbol.len())?,
+//!     Ok(Look::Other | Look::Early) => println!(rt; "passed over")?,
+//!     Err(fault) => println!(rt; "{fault:?}")?,
+//! }
+//! ```
 //!
 //! `specs/Symbols` speaks of encoding symbols that came, and of no packets. `specs/Reception` says
 //! which datagrams count where an identity is asked for, whose FTI holds, and what is wrong at a

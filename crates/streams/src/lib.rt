@@ -1,5 +1,12 @@
 //! Readers and writers.
 //!
+//! ```
+//! let mut file = Sink::new(alloc);
+//! write_all(&mut file, b"what is written")?;
+//! let mut reader = Pieces::new(file.bytes(), 2);
+//! Ok(read_to_end(alloc, &mut reader)?)
+//! ```
+//!
 //! - `io`: what a reader and a writer promise;
 //! - `device`: the standard library's as ours;
 //! - `memory`: those over bytes in memory;
