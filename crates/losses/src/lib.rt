@@ -2,6 +2,14 @@
 //! has to be left: of all losses of places the margin, the kill and the burst, and from each place
 //! on the longest run that may be lost.
 //!
+//! ```
+//! let mut groups = Groups::new(rt.alloc(), needs, 2)?;
+//! for (place, esi) in [(0, 255u8), (2, 1), (3, 255), (7, 0)] {
+//!     groups.push(0, Member { place, esi })?;
+//! }
+//! assert!(rt; groups.different(0) == 3);
+//! ```
+//!
 //! A place may be in one group, in several or in none; nothing here knows of packets. The
 //! definitions are of all losses (`specs/Losses`), and hold of groups of places (`specs/Groups`) as
 //! of any list; the code counts copies and slides a window. For the proof the carriers are one

@@ -1,5 +1,11 @@
 //! The command line of alcrs: its grammar, its help, and the request that its words make.
 //!
+//! ```
+//! let Ok(line) = command_line(alloc, words) else {
+//!     return;
+//! };
+//! ```
+//!
 //! - `requests`: the commands with their values.
 //! - `usage`: why words are no request.
 //! - `places`: the places that words tell.
