@@ -90,10 +90,14 @@ fn tell_files(rt: &HostRuntime, frames: &[u8], text: &[u8]) -> Result<(), Exampl
     Ok(())
 }
 
-// How many symbols of the object's block are enough.
+// How the object is cut.
 fn tell_fti(rt: &HostRuntime) -> Result<(), ExampleFault> {
     let fti = Fti::new(OBJECT.len() as u64, 8, 5, 8)?;
-    println!(rt; "{} of {} symbols are enough", fti.k(0), fti.n(0))?;
+    println!(rt;
+        "{} blocks of up to {} symbols",
+        fti.block_count(),
+        fti.block_length()
+    )?;
     Ok(())
 }
 
@@ -109,7 +113,9 @@ pub(crate) fn call_all(rt: &HostRuntime) -> Result<(), ExampleFault> {
         summary.add(alloc, session.get(place))?;
     }
     println!(rt; "{} identity", summary.parts(alloc)?.len())?;
-    tell_datagram(rt, session.get(0))?;
+    if !session.is_empty() {
+        tell_datagram(rt, session.get(0))?;
+    }
     let mut frames = Sink::new(alloc);
     let mut object = Pieces::new(OBJECT, 16);
     encode_from(alloc, &mut object, 7, 2, &fti()?, 1, &mut frames)?;

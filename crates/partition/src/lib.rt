@@ -3,7 +3,11 @@
 //!
 //! ```
 //! let fti = Fti::new(OBJECT.len() as u64, 8, 5, 8)?;
-//! println!(rt; "{} of {} symbols are enough", fti.k(0), fti.n(0))?;
+//! println!(rt;
+//!     "{} blocks of up to {} symbols",
+//!     fti.block_count(),
+//!     fti.block_length()
+//! )?;
 //! ```
 //!
 //! An object of L bytes is cut into T source symbols of E bytes, the last of them filled up with
