@@ -1,5 +1,6 @@
 //! The text of a sheet.
-ghost use Rattle.std.specs.Prelude.{◌≡◌, ◌++◌, IfOk, true, is_ok, string_bytes};
+ghost use Rattle.std.specs.Prelude.{◌≡◌, ◌++◌, [], IfOk, true, is_ok, string_bytes, codes};
+ghost use Rattle.chart.specs.Texts.{Puts, attribute_text, words_tag};
 
 use itoa::{Buffer, Integer};
 use std::alloc::{AllocError, Global};
@@ -28,7 +29,10 @@ pub struct Canvas {
 
 impl Canvas {
     /// No text.
-    pub fn new(alloc: Global) -> Canvas {
+    pub fn new(alloc: Global) -> Canvas
+        ensures empty { string_bytes result.text ≡ [] }
+        ensures memory { is_ok result.outcome ≡ true }
+    {
         Canvas {
             text: String::new(alloc),
             outcome: Ok(()),
@@ -48,8 +52,7 @@ impl Canvas {
 
     /// Puts a text that needs no escapes last.
     pub fn put(&mut self, text: &str)
-        ensures { is_ok self.new.outcome ≡ true
-            → string_bytes self.new.text ≡ string_bytes self.old.text ++ text.now }
+        ensures { Puts self.old self.new text.now }
     {
         if self.outcome.is_ok() {
             self.outcome = self.text.push_str(text);
@@ -63,7 +66,9 @@ impl Canvas {
     }
 
     /// Puts a number's decimal digits last.
-    pub fn number<I: Integer>(&mut self, number: I) {
+    pub fn number<I: Integer>(&mut self, number: I)
+        ensures { Puts self.old self.new (I.text number) }
+    {
         let mut buffer = Buffer::new();
         self.put(buffer.format(number));
     }
@@ -89,7 +94,9 @@ impl Canvas {
     }
 
     /// Puts an attribute with a number last, behind its name.
-    pub fn attribute(&mut self, name: &str, number: usize) {
+    pub fn attribute(&mut self, name: &str, number: usize)
+        ensures { Puts self.old self.new (attribute_text name.now number) }
+    {
         self.put(" ");
         self.put(name);
         self.put("=\"");
@@ -98,7 +105,9 @@ impl Canvas {
     }
 
     /// Begins a line of words at a place: its words follow, and then `end_words`.
-    pub fn begin_words(&mut self, x: usize, y: usize, look: &str) {
+    pub fn begin_words(&mut self, x: usize, y: usize, look: &str)
+        ensures { Puts self.old self.new (words_tag x y look.now) }
+    {
         self.put("<text");
         self.attribute("x", x);
         self.attribute("y", y);
@@ -108,12 +117,17 @@ impl Canvas {
     }
 
     /// Ends a line of words.
-    pub fn end_words(&mut self) {
+    pub fn end_words(&mut self)
+        ensures { Puts self.old self.new (codes "</text>\n") }
+    {
         self.put("</text>\n");
     }
 
     /// Puts a line of fixed words.
-    pub fn words(&mut self, x: usize, y: usize, look: &str, words: &str) {
+    pub fn words(&mut self, x: usize, y: usize, look: &str, words: &str)
+        ensures { Puts self.old self.new
+            (words_tag x y look.now ++ words.now ++ codes "</text>\n") }
+    {
         self.begin_words(x, y, look);
         self.put(words);
         self.end_words();

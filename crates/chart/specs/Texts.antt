@@ -1,0 +1,18 @@
+-- What is put into the text of a chart.
+use Rattle.std.specs.Prelude.{◌≡◌, ◌++◌, ℕ, List, true, is_ok, string_bytes, codes, decimal}
+use Rattle.chart.specs.declared.canvas.Canvas.{Canvas}
+
+-- where memory hasn't lacked so far, it hadn't before, and this text was put last
+pub record Puts (old new : Canvas) (text : List ℕ) : Type 0 where
+  pub had : is_ok new.outcome ≡ true → is_ok old.outcome ≡ true
+  pub behind : is_ok new.outcome ≡ true → string_bytes new.text ≡ string_bytes old.text ++ text
+
+-- an attribute with a number
+abbrev pub attribute_text : List ℕ → ℕ → List ℕ
+attribute_text name number = codes " " ++ name ++ codes "=\"" ++ decimal number ++ codes "\""
+
+-- the tag that begins a line of words at a place
+abbrev pub words_tag : ℕ → ℕ → List ℕ → List ℕ
+words_tag x y look =
+    codes "<text" ++ attribute_text (codes "x") x ++ attribute_text (codes "y") y ++ codes " "
+    ++ look ++ codes ">"
