@@ -1,6 +1,7 @@
 -- What is put into the text of a chart.
 use Rattle.std.specs.Prelude.{◌≡◌, ◌++◌, ℕ, List, true, is_ok, string_bytes, codes, decimal}
 use Rattle.chart.specs.declared.canvas.Canvas.{Canvas}
+use Rattle.chart.specs.declared.panel.Bar.{Bar}
 
 -- where memory hasn't lacked so far, it hadn't before, and this text was put last
 pub record Puts (old new : Canvas) (text : List ℕ) : Type 0 where
@@ -16,3 +17,13 @@ abbrev pub words_tag : ℕ → ℕ → List ℕ → List ℕ
 words_tag x y look =
     codes "<text" ++ attribute_text (codes "x") x ++ attribute_text (codes "y") y ++ codes " "
     ++ look ++ codes ">"
+
+-- what begins a path of this look
+abbrev pub path_tag : List ℕ → List ℕ
+path_tag look = codes "<path " ++ look ++ codes " d=\""
+
+-- a bar in a path, from its upper left corner
+abbrev pub bar_text : Bar → List ℕ
+bar_text bar =
+    codes "M" ++ decimal bar.x ++ codes " " ++ decimal bar.y ++ codes "h" ++ decimal bar.width
+    ++ codes "v" ++ decimal bar.height ++ codes "h-" ++ decimal bar.width ++ codes "z"

@@ -134,7 +134,11 @@ impl Canvas {
     }
 
     /// Puts a ring round a place.
-    pub fn ring(&mut self, x: usize, y: usize) {
+    pub fn ring(&mut self, x: usize, y: usize)
+        ensures { Puts self.old self.new (codes "<circle"
+            ++ attribute_text (codes "cx") x ++ attribute_text (codes "cy") y
+            ++ codes " r=\"9\" fill=\"none\" stroke=\"#a0001c\" stroke-width=\"4\"/>\n") }
+    {
         self.put("<circle");
         self.attribute("cx", x);
         self.attribute("cy", y);

@@ -1,5 +1,6 @@
 //! A list in columns.
-ghost use Rattle.std.specs.Prelude.{◌≡◌, ◌+◌, ◌<◌, ◌≤◌, length, slice_range};
+ghost use Rattle.std.specs.Prelude.{◌≡◌, ◌≢◌, ◌+◌, ◌<◌, ◌≤◌, ℕ, length, slice_index, slice_range};
+ghost use Rattle.std.specs.Prelude.{IfSome, IsNone};
 ghost use Rattle.chart.specs.Columns.{share, IsLeast, IsGreatest};
 
 /// Neighbouring places of a list, and the least and the greatest value there.
@@ -77,11 +78,13 @@ pub fn column_of(values: &[usize], columns: usize, column: usize) -> Column
 }
 
 /// The first place of a value.
-pub fn place_of(values: &[usize], wanted: usize) -> Option<usize> {
-    for (place, value) in values.iter().enumerate() {
-        if *value == wanted {
-            return Some(place);
-        }
-    }
-    None
+pub fn place_of(values: &[usize], wanted: usize) -> Option<usize>
+    ensures some { IfSome result (λ place. (place < length values.now)
+        × (slice_index values.now place ≡ wanted)) }
+    ensures none { IsNone result → (i : ℕ) → i < length values.now
+        → slice_index values.now i ≢ wanted }
+    ensures first { IfSome result (λ place. (i : ℕ) → i < place
+        → slice_index values.now i ≢ wanted) }
+{
+    values.iter().position(|value| *value == wanted)
 }

@@ -1,4 +1,8 @@
 //! Where a panel stands, its bars and its horizontal lines.
+ghost use Rattle.std.specs.Prelude.{◌≡◌, ◌≤◌, ◌+◌, ◌-◌, ◌++◌, codes};
+ghost use Rattle.chart.specs.Scaled.{scaled};
+ghost use Rattle.chart.specs.Texts.{Puts, bar_text, path_tag};
+
 use crate::canvas::{Canvas, SMALL_END};
 use crate::scale::Scale;
 
@@ -19,7 +23,9 @@ pub struct Axis {
 
 impl Axis {
     /// An axis that goes up to a value, with steps of 1, 2 or 5 times a power of ten.
-    pub fn up_to(greatest: usize) -> Axis {
+    pub fn up_to(greatest: usize) -> Axis
+        ensures { greatest ≤ result.top }
+    {
         for unit in UNITS {
             for lines in 1..=5usize {
                 let top = unit.saturating_mul(lines);
@@ -46,14 +52,18 @@ pub struct Bar {
 
 impl Canvas {
     /// Begins bars of one look: they follow, and then `end_bars`.
-    pub fn begin_bars(&mut self, look: &str) {
+    pub fn begin_bars(&mut self, look: &str)
+        ensures { Puts self.old self.new (path_tag look.now) }
+    {
         self.put("<path ");
         self.put(look);
         self.put(" d=\"");
     }
 
     /// Puts a bar.
-    pub fn bar(&mut self, bar: Bar) {
+    pub fn bar(&mut self, bar: Bar)
+        ensures { Puts self.old self.new (bar_text bar) }
+    {
         self.put("M");
         self.number(bar.x);
         self.put(" ");
@@ -68,12 +78,17 @@ impl Canvas {
     }
 
     /// Ends the bars.
-    pub fn end_bars(&mut self) {
+    pub fn end_bars(&mut self)
+        ensures { Puts self.old self.new (codes "\"/>\n") }
+    {
         self.put("\"/>\n");
     }
 
     /// Puts one bar.
-    pub fn lone_bar(&mut self, look: &str, bar: Bar) {
+    pub fn lone_bar(&mut self, look: &str, bar: Bar)
+        ensures { Puts self.old self.new
+            (path_tag look.now ++ bar_text bar ++ codes "\"/>\n") }
+    {
         self.begin_bars(look);
         self.bar(bar);
         self.end_bars();
@@ -91,7 +106,11 @@ pub struct Panel {
 
 impl Panel {
     /// The line on which so many places are laid out.
-    pub fn scale(self, count: usize) -> Scale {
+    pub fn scale(self, count: usize) -> Scale
+        ensures start { result.start ≡ self.left }
+        ensures length { result.length ≡ self.width }
+        ensures count { result.count ≡ count }
+    {
         Scale {
             start: self.left,
             length: self.width,
@@ -100,22 +119,30 @@ impl Panel {
     }
 
     /// The left edge.
-    pub fn left(self) -> usize {
+    pub fn left(self) -> usize
+        ensures { result ≡ self.left }
+    {
         usize::from(self.left)
     }
 
     /// The right edge.
-    pub fn right(self) -> usize {
+    pub fn right(self) -> usize
+        ensures { result ≡ self.left + self.width }
+    {
         usize::from(self.left) + usize::from(self.width)
     }
 
     /// The lower edge.
-    pub fn bottom(self) -> usize {
+    pub fn bottom(self) -> usize
+        ensures { result ≡ self.top + self.height }
+    {
         usize::from(self.top) + usize::from(self.height)
     }
 
     /// How high a value stands above the lower edge.
-    pub fn height_of(self, axis: Axis, value: usize) -> usize {
+    pub fn height_of(self, axis: Axis, value: usize) -> usize
+        ensures { result ≡ scaled 0 self.height axis.top value }
+    {
         let upwards = Scale {
             start: 0,
             length: self.height,
@@ -125,7 +152,10 @@ impl Panel {
     }
 
     /// Where a value stands.
-    pub fn y(self, axis: Axis, value: usize) -> usize {
+    pub fn y(self, axis: Axis, value: usize) -> usize
+        ensures { result
+            ≡ self.top + self.height - scaled 0 self.height axis.top value }
+    {
         self.bottom().saturating_sub(self.height_of(axis, value))
     }
 
