@@ -9,7 +9,7 @@ use Rattle.alc.specs.Reading.{Reading}
 use Rattle.alc.specs.Computed.{read_of}
 use Rattle.reception.specs.declared.scope.Identity.{Identity}
 use Rattle.reception.specs.declared.scope.Scope.{Scope}
-use Rattle.reception.specs.declared.scope.PlaceFault.{PlaceFault}
+use Rattle.alc.specs.declared.fault.PacketFault.{PacketFault}
 use Rattle.reception.specs.declared.scope.Look.{Look}
 use Rattle.reception.specs.declared.scope.Look.TheVariants as look_at
 use Rattle.reception.specs.Reception.{Judge, reception_with, counted_from, counted, asked, scope_from}
@@ -65,9 +65,12 @@ found_reception judge who ds = second_walk judge (asked who) (readings_of ds)
 
 -- where nothing is learned any more, no early packet stops it
 pub may_pass_settled : {R : Type 0} (judge : Judge R) (known : Scope) (ds : List (List ℕ)) (place : ℕ) (scope : Scope) → Walked judge known ds place scope → last known ds ≡ known
-    → (d : List ℕ) (new : Scope) (answer : Result Look PlaceFault) → IsLook d scope new answer → MayPass (last known ds) (looked answer)
+    → (d : List ℕ) (new : Scope) (answer : Result Look PacketFault) → IsLook d scope new answer → MayPass (last known ds) (looked answer)
 may_pass_settled judge known ds place scope w still d new (Err e) h = tt
 may_pass_settled judge known ds place scope w still d new (Ok look_at.Other) h = tt
+may_pass_settled judge known ds place scope w still d new (Ok look_at.OtherFti) h = tt
+may_pass_settled judge known ds place scope w still d new (Ok look_at.SymbolLength) h = tt
+may_pass_settled judge known ds place scope w still d new (Ok look_at.Range) h = tt
 may_pass_settled judge known ds place scope w still d new (Ok (look_at.InRange p)) h = tt
 may_pass_settled judge known ds place scope w still d new (Ok look_at.Early) h =
     let none : known.fti ≡ None = none_before known (counted known.identity (take place (readings_of ds))) (ap (λ (s : Scope). s.fti) w.holds ∙ (is_early d scope new h).unknown) in

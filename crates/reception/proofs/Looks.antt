@@ -7,11 +7,11 @@ use Rattle.alc.specs.Views.{packet_of}
 use Rattle.alc.specs.Reading.{Reading}
 use Rattle.alc.specs.declared.reading.Packet.{Packet as ReadPacket}
 use Rattle.reception.specs.declared.scope.Scope.{Scope}
-use Rattle.reception.specs.declared.scope.PlaceFault.{PlaceFault}
+use Rattle.alc.specs.declared.fault.PacketFault.{PacketFault}
 use Rattle.reception.specs.declared.scope.Look.{Look}
 use Rattle.reception.specs.declared.scope.Look.TheVariants as look_at
 use Rattle.std.specs.Option.{option_or}
-use Rattle.reception.specs.Reception.{Seen, Other, InRange, counts, is_of_identity, carried, learned, look, look_by, packet_fault}
+use Rattle.reception.specs.Reception.{PlaceFault, Seen, Other, InRange, counts, is_of_identity, carried, learned, look, look_by, packet_fault}
 use Rattle.reception.specs.Step.{IsLook, looked}
 use Rattle.reception.specs.Walks.{MayPass, or_packet}
 use Rattle.reception.proofs.Walking.{is_packet, is_early}
@@ -31,9 +31,12 @@ pub never_early : (d : List ℕ) (old new : Scope) → IsLook d old new (Ok look
 never_early d old new h f e = let none = (is_early d old new h).unknown in (cc)
 
 -- and so a walk goes on over each datagram without a fault
-pub may_pass : (d : List ℕ) (old new last : Scope) (answer : Result Look PlaceFault) → IsLook d old new answer → (f : Fti) → old.fti ≡ Some f → MayPass last (looked answer)
+pub may_pass : (d : List ℕ) (old new last : Scope) (answer : Result Look PacketFault) → IsLook d old new answer → (f : Fti) → old.fti ≡ Some f → MayPass last (looked answer)
 may_pass d old new last (Err e) h f is = tt
 may_pass d old new last (Ok look_at.Other) h f is = tt
+may_pass d old new last (Ok look_at.OtherFti) h f is = tt
+may_pass d old new last (Ok look_at.SymbolLength) h f is = tt
+may_pass d old new last (Ok look_at.Range) h f is = tt
 may_pass d old new last (Ok look_at.Early) h f is = absurd (never_early d old new h f is)
 may_pass d old new last (Ok (look_at.InRange p)) h f is = tt
 

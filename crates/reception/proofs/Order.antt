@@ -6,7 +6,7 @@ use Rattle.lists.proofs.Lists.{both}
 use Rattle.partition.specs.Fti.{Fti}
 use Rattle.alc.specs.Packet.{Packet}
 use Rattle.reception.specs.declared.scope.Scope.{Scope}
-use Rattle.reception.specs.declared.scope.PlaceFault.TheVariants.{NoPacket, OtherFti, SymbolLength, Range}
+use Rattle.reception.specs.Reception.{NoPacket, OtherFti, SymbolLength, Range}
 use Rattle.reception.specs.Symbols.{Symbol}
 use Rattle.reception.specs.Reception.{Judge, Wrong, Faulty, Judged, Other, is_of_identity, has_other_fti, symbol_of, look_by, wrong_by, reading_wrong}
 use Rattle.reception.specs.Walks.{judged, in_range, or_packet}

@@ -5,7 +5,7 @@ use Rattle.partition.specs.Fti.{Fti, fti_from, ceiling, symbol_count, block_coun
 use Rattle.alc.specs.Reading.{Reading}
 use Rattle.alc.specs.declared.fault.PacketFault.TheVariants.{TooShort}
 use Rattle.reception.specs.declared.scope.Identity.{Identity}
-use Rattle.reception.specs.declared.scope.PlaceFault.TheVariants.{NoPacket, OtherFti, SymbolLength, Range}
+use Rattle.reception.specs.Reception.{NoPacket, OtherFti, SymbolLength, Range}
 use Rattle.reception.specs.Reception.{Faulty, Judged}
 use Rattle.reception.specs.Answer.{Clash, Clashes, reception_of}
 use Rattle.reception.specs.Walks.{Found}

@@ -11,12 +11,12 @@ use Rattle.alc.proofs.Again.{exact}
 use Rattle.alc.specs.declared.reading.Packet.{Packet as ReadPacket}
 use Rattle.reception.specs.declared.scope.Identity.{Identity}
 use Rattle.reception.specs.declared.scope.Scope.{Scope}
-use Rattle.reception.specs.declared.scope.PlaceFault.{PlaceFault}
+use Rattle.alc.specs.declared.fault.PacketFault.{PacketFault}
 use Rattle.reception.specs.declared.scope.Look.{Look}
 use Rattle.reception.specs.declared.scope.Look.TheVariants as look_at
 use Rattle.reception.specs.Symbols.{Symbol}
 use Rattle.std.specs.Option.{option_or}
-use Rattle.reception.specs.Reception.{Judge, Wrong, Placed, Seen, Other, Early, InRange, is_of_identity, counts, placed_at, counted_from, counted, symbols, symbols_in, learned, carried, scope_from, look, look_by, packet_fault, wrong_by, reading_wrong, wrong_after, reception_with}
+use Rattle.reception.specs.Reception.{PlaceFault, Judge, Wrong, Placed, Seen, Other, Early, InRange, is_of_identity, counts, placed_at, counted_from, counted, symbols, symbols_in, learned, carried, scope_from, look, look_by, packet_fault, wrong_by, reading_wrong, wrong_after, reception_with}
 use Rattle.reception.specs.Step.{after, looked, IsLook}
 use Rattle.reception.specs.Walks.{readings_of, Timely, MayPass, at_place, or_packet, first_wrong, Found}
 use Rattle.reception.proofs.Walk.{counted_more, counted_one_more, symbols_more, scope_more, identity_stays, or_else_none, wrong_more}
@@ -222,7 +222,7 @@ module _ {R : Type 0} (judge : Judge R) (known : Scope) (ds : List (List ℕ)) w
   pub begins : Walked judge known ds 0 known
   begins = record { clean = refl; holds = refl }
 
-  module _ (place : ℕ) (scope : Scope) (w : Walked judge known ds place scope) (d : List ℕ) (new : Scope) (answer : Result Look PlaceFault)
+  module _ (place : ℕ) (scope : Scope) (w : Walked judge known ds place scope) (d : List ℕ) (new : Scope) (answer : Result Look PacketFault)
       (inside : place < length ds) (here : d ≡ get_or ds place []) (at : IsLook d scope new answer) where
     at_here : get_or (readings_of ds) place at.reading ≡ at.reading
     at_here = reading_here ds place d at.reading at.reading inside here at.reads

@@ -9,12 +9,10 @@ use Rattle.alc.specs.Packet.{Packet}
 use Rattle.alc.specs.Reading.{Reading}
 use Rattle.reception.specs.declared.scope.Identity.{Identity}
 use Rattle.reception.specs.declared.scope.Scope.{Scope}
-use Rattle.reception.specs.declared.scope.PlaceFault.{PlaceFault}
-use Rattle.reception.specs.declared.scope.PlaceFault.TheVariants.{OtherFti, SymbolLength, Range}
 use Rattle.reception.specs.Symbols.{Symbol}
 use Rattle.reception.specs.Within.{IsWithin}
 use Rattle.std.specs.Option.{option_or}
-use Rattle.reception.specs.Reception.{Judge, Wrong, Placed, Other, counts, counted, scope_from, symbols_in, symbols, same_fti, has_other_fti, packet_fault, wrong_by, reading_wrong, wrong_after, IsClean, reception_with}
+use Rattle.reception.specs.Reception.{PlaceFault, OtherFti, SymbolLength, Range, Judge, Wrong, Placed, Other, counts, counted, scope_from, symbols_in, symbols, same_fti, has_other_fti, packet_fault, wrong_by, reading_wrong, wrong_after, IsClean, reception_with}
 use Rattle.reception.specs.Walks.{at_place, in_range, or_packet}
 use Rattle.reception.proofs.Walk.{each_counts, identity_stays}
 use Rattle.reception.proofs.Stepping.{scope}

@@ -4,11 +4,9 @@ use Rattle.partition.specs.Fti.{Fti, block_count, encoding_count}
 use Rattle.alc.specs.Packet.{Packet}
 use Rattle.alc.specs.Reading.{Reading}
 use Rattle.reception.specs.declared.scope.Scope.{Scope}
-use Rattle.reception.specs.declared.scope.PlaceFault.TheVariants.{NoPacket, OtherFti, SymbolLength}
-use Rattle.reception.specs.declared.scope.PlaceFault.TheVariants.{Range}
 use Rattle.reception.specs.Symbols.{Symbol}
 use Rattle.reception.specs.Reception.{Judge, Wrong, Faulty, Judged, counts, symbol_of}
-use Rattle.reception.specs.Reception.{reading_wrong}
+use Rattle.reception.specs.Reception.{reading_wrong, NoPacket, OtherFti, SymbolLength, Range}
 
 -- the FTI has such a block, and the block such an encoding symbol
 abbrev pub IsInRange : Fti → Packet → Type 0

@@ -8,11 +8,9 @@ use Rattle.std.specs.Option.{option_or, option_map_or}
 use Rattle.partition.specs.Fti.{Fti, has_symbol}
 use Rattle.alc.specs.Packet.{Packet}
 use Rattle.alc.specs.Reading.{Reading, Reads}
+use Rattle.alc.specs.declared.fault.PacketFault.{PacketFault}
 use Rattle.reception.specs.declared.scope.Identity.{Identity}
 use Rattle.reception.specs.declared.scope.Scope.{Scope}
-use Rattle.reception.specs.declared.scope.PlaceFault.{PlaceFault}
-use Rattle.reception.specs.declared.scope.PlaceFault.TheVariants.{NoPacket, OtherFti, SymbolLength}
-use Rattle.reception.specs.declared.scope.PlaceFault.TheVariants.{Range}
 use Rattle.reception.specs.Symbols.{Symbol, AllFull}
 
 -- each datagram is read
@@ -94,6 +92,15 @@ abbrev pub Suffices : Identity → Fti → List Reading → Type 0
 Suffices who f rs = AllFull f (symbols (counted who rs))
 
 -- ---- one look at a reading
+
+-- what is wrong with a reading before its symbol is looked at: it is no packet; it carries an FTI
+-- that isn't the one that holds; its symbol isn't as long as that tells; or that has no such block,
+-- or the block no such encoding symbol
+pub data PlaceFault : Type 0 where
+  NoPacket : PacketFault → PlaceFault
+  OtherFti : PlaceFault
+  SymbolLength : PlaceFault
+  Range : PlaceFault
 
 abbrev pub same_fti : Fti → Fti → Bool
 same_fti a b = a.transfer_length == b.transfer_length && a.symbol_length == b.symbol_length

@@ -3,20 +3,21 @@ use Rattle.std.specs.Prelude.{◌≡◌, ℕ, if◌then◌else◌, List, Result,
 use Rattle.alc.specs.Reading.{Reading, Reads}
 use Rattle.alc.specs.Views.{packet_of}
 use Rattle.reception.specs.declared.scope.Scope.{Scope}
-use Rattle.reception.specs.declared.scope.PlaceFault.{PlaceFault}
+use Rattle.alc.specs.declared.fault.PacketFault.{PacketFault}
 use Rattle.reception.specs.declared.scope.Look.{Look}
 use Rattle.reception.specs.declared.scope.Look.TheVariants as look_at
+use Rattle.reception.specs.Reception.{PlaceFault, NoPacket, OtherFti, SymbolLength, Range}
 use Rattle.reception.specs.Reception.{Seen, Other, Early, InRange, counts, learned, look}
 
 -- what the code answers to a look, as a value
-abbrev pub seen : Look → Seen
-seen look_at.Other = Other
-seen look_at.Early = Early
-seen (look_at.InRange p) = InRange (packet_of p)
-
-abbrev pub looked : Result Look PlaceFault → Result Seen PlaceFault
-looked (Ok l) = Ok (seen l)
-looked (Err e) = Err e
+abbrev pub looked : Result Look PacketFault → Result Seen PlaceFault
+looked (Err r) = Err (NoPacket r)
+looked (Ok look_at.Other) = Ok Other
+looked (Ok look_at.Early) = Ok Early
+looked (Ok look_at.OtherFti) = Err OtherFti
+looked (Ok look_at.SymbolLength) = Err SymbolLength
+looked (Ok look_at.Range) = Err Range
+looked (Ok (look_at.InRange p)) = Ok (InRange (packet_of p))
 
 -- what is known after a reading: that of another identity tells nothing
 abbrev pub after : Scope → Reading → Scope
@@ -24,7 +25,7 @@ after known r = if counts known.identity r then learned known r else known
 
 -- the answer to a look at a datagram, and what is known after it
 pub record IsLook (datagram : List ℕ) (old new : Scope)
-    (answer : Result Look PlaceFault) : Type 0 where
+    (answer : Result Look PacketFault) : Type 0 where
   pub reading : Reading
   pub reads : Reads datagram reading
   pub scope : new ≡ after old reading

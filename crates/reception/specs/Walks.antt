@@ -6,11 +6,10 @@ use Rattle.partition.specs.Fti.{Fti, has_symbol}
 use Rattle.alc.specs.Reading.{Reading, Reads}
 use Rattle.reception.specs.Symbols.{Symbol}
 use Rattle.reception.specs.declared.scope.Scope.{Scope}
-use Rattle.reception.specs.declared.scope.PlaceFault.{PlaceFault}
 use Rattle.reception.specs.declared.scope.Identity.{Identity}
 use Rattle.reception.specs.Reception.{Judge, Wrong, Judged, Reception, Seen, Early, asked, counts}
 use Rattle.reception.specs.Reception.{counted, learned, reading_wrong, scope_from, symbols_in}
-use Rattle.reception.specs.Reception.{InRange, Placed, wrong_after}
+use Rattle.reception.specs.Reception.{InRange, PlaceFault, Placed, wrong_after}
 use Rattle.reception.specs.Readings.{readings_of}
 use Rattle.reception.specs.Step.{after}
 pub use Rattle.reception.specs.Readings.{readings_of}

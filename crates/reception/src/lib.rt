@@ -5,7 +5,8 @@
 //! match scope.look(datagram) {
 //!     Ok(Look::InRange(packet)) => println!(rt; "of {} bytes", packet.symbol.len())?,
 //!     Ok(Look::Other | Look::Early) => println!(rt; "passed over")?,
-//!     Err(fault) => println!(rt; "{fault:?}")?,
+//!     Ok(wrong) => println!(rt; "{wrong:?}")?,
+//!     Err(fault) => println!(rt; "no packet: {fault:?}")?,
 //! }
 //! ```
 //!
@@ -28,4 +29,4 @@ mod laws;
 mod scope;
 
 pub use laws::{empty_answer, fault_order, first_fault, isolation};
-pub use scope::{Identity, Look, PlaceFault, Scope};
+pub use scope::{Identity, Look, Scope};

@@ -2,7 +2,7 @@
 ghost use Rattle.std.specs.Prelude.{◌≡◌, Ok, map};
 ghost use Rattle.alc.specs.Views.{packet_of};
 ghost use Rattle.reception.specs.Reception.{asked, with_fti, learned, is_of_identity};
-ghost use Rattle.reception.specs.Reception.{has_other_fti, packet_fault};
+ghost use Rattle.reception.specs.Reception.{has_other_fti};
 ghost use Rattle.reception.specs.Found.{IsScopeOf};
 ghost use Rattle.reception.specs.Step.{IsLook};
 ghost use Rattle.reception.specs.Walks.{IsHeard};
@@ -18,21 +18,7 @@ pub struct Identity {
     pub toi: u128,
 }
 
-/// Why a datagram is wrong before its symbol is looked at, in the order in which it is told
-/// (`specs/Order`).
-#[derive(Clone, Copy, PartialEq, Eq, Debug)]
-pub enum PlaceFault {
-    /// The datagram is no packet.
-    NoPacket(PacketFault),
-    /// The packet carries an FTI that isn't that of the scope.
-    OtherFti,
-    /// The symbol isn't as long as the scope's FTI tells.
-    SymbolLength,
-    /// The FTI has no such block, or the block no such encoding symbol.
-    Range,
-}
-
-/// What a datagram without a fault is.
+/// What a datagram is that is a packet: of what holds the first, in this order.
 #[derive(Clone, Copy, Debug)]
 pub enum Look<'a> {
     /// A packet of another identity, which doesn't count.
@@ -40,6 +26,12 @@ pub enum Look<'a> {
     /// A packet of the identity that carries no FTI, where none is known: nothing can be said of
     /// its symbol.
     Early,
+    /// It carries an FTI that isn't that of the scope.
+    OtherFti,
+    /// Its symbol isn't as long as the scope's FTI tells.
+    SymbolLength,
+    /// The FTI has no such block, or the block no such encoding symbol.
+    Range,
     /// A packet of the identity, in range of the scope's FTI and with a symbol as long as that
     /// tells, which is left to the caller to judge. It is a carrier where it has an FTI, which is
     /// then the scope's.
@@ -91,15 +83,15 @@ impl Scope {
         scope
     }
 
-    /// Looks at one datagram, of any bytes: the first fault, in the order of `PlaceFault`, else
-    /// what it is. In any case the scope takes the FTI from a carrier of the identity where it
-    /// doesn't know one yet; what it knows stays.
-    pub fn look<'a>(&mut self, datagram: &'a [u8]) -> Result<Look<'a>, PlaceFault>
+    /// Looks at one datagram, of any bytes: why it is no packet (RFC 5775), else what it is. In any
+    /// case the scope takes the FTI from a carrier of the identity where it doesn't know one yet;
+    /// what it knows stays.
+    pub fn look<'a>(&mut self, datagram: &'a [u8]) -> Result<Look<'a>, PacketFault>
         ensures { IsLook datagram.now self.old self.new result }
     {
         let packet = match read_with(datagram, self.fti.as_ref()) {
             Ok(packet) => packet,
-            Err(fault) => return Err(PlaceFault::NoPacket(fault)),
+            Err(fault) => return Err(fault),
         };
         if !self.has(&packet) {
             return Ok(Look::Other);
@@ -108,10 +100,16 @@ impl Scope {
         let Some(fti) = self.fti else {
             return Ok(Look::Early);
         };
-        match fault_of(&packet, &fti) {
-            Some(fault) => Err(fault),
-            None => Ok(Look::InRange(packet)),
+        if carries_other(&packet, &fti) {
+            return Ok(Look::OtherFti);
         }
+        if packet.symbol.len() != usize::from(fti.symbol_length()) {
+            return Ok(Look::SymbolLength);
+        }
+        if !fti.has(packet.sbn, packet.esi) {
+            return Ok(Look::Range);
+        }
+        Ok(Look::InRange(packet))
     }
 
     // Takes from a datagram what isn't known, and asks no more of it.
@@ -150,20 +148,4 @@ fn carries_other(packet: &Packet<'_>, fti: &Fti) -> bool
         Some(own) => own != *fti,
         None => false,
     }
-}
-
-// The first fault of a packet of the identity where this FTI holds.
-fn fault_of(packet: &Packet<'_>, fti: &Fti) -> Option<PlaceFault>
-    ensures { result ≡ packet_fault fti.now (packet_of packet.now) }
-{
-    if carries_other(packet, fti) {
-        return Some(PlaceFault::OtherFti);
-    }
-    if packet.symbol.len() != usize::from(fti.symbol_length()) {
-        return Some(PlaceFault::SymbolLength);
-    }
-    if !fti.has(packet.sbn, packet.esi) {
-        return Some(PlaceFault::Range);
-    }
-    None
 }
