@@ -1,5 +1,5 @@
 -- Symbols that came, as groups of places.
-use Rattle.std.proofs.Common.{◌≡◌, ◌≢◌, ℕ, zero, suc, ◌+◌, ◌<◌, ◌≤◌, Bool, true, false, cond, ◌&&◌, ◌||◌, List, [], ◌∷◌, ◌++◌, None, Ok, Err, length, map, get_or, refl, sym, ap, subst, ◌∙◌, arith, append_assoc}
+use Rattle.std.proofs.Common.{◌≡◌, ◌≢◌, ℕ, zero, suc, ◌+◌, ◌<◌, ◌≤◌, Bool, true, false, cond, ◌&&◌, ◌||◌, List, [], ◌∷◌, ◌++◌, Ok, Err, length, map, get_or, refl, sym, ap, subst, ◌∙◌, arith, append_assoc}
 use Rattle.std.specs.Prelude.{◌==◌, if◌then◌else◌}
 use Rattle.std.specs.List.{list_any}
 use Rattle.std.proofs.lemmas.Bool.{le-leb, lt-leb, eqb-true, eq-eqb}
@@ -18,14 +18,7 @@ use Rattle.alc.specs.Reading.{Reading}
 use Rattle.reception.specs.Symbols.{Symbol, has_arrived, arrived_count, IsFirstShort}
 use Rattle.reception.specs.declared.scope.Identity.{Identity}
 use Rattle.reception.specs.Reception.{Placed, is_of_identity, placed_at, counted_from, counted, symbols, symbols_in, Suffices}
-use Rattle.reception.specs.Walks.{readings_of}
-use Rattle.certificate.specs.Certificate.{Certificate}
-use Rattle.cert.specs.declared.verdict.Reason.{Reason}
-use Rattle.cert.specs.declared.verdict.Reason.TheVariants.{OtherCertificate, ObjectLength, NotObject, Empty, Packet as NoPacket, OtherFti, SymbolLength, Range, Symbol as Wrong, Thin, NoCarrier}
-use Rattle.cert.specs.declared.fault.NoReport.{NoReport}
-use Rattle.cert.specs.declared.fault.NoReport.TheVariants.{Reason as ByReason, Fault}
-use Rattle.cert.specs.Verdict.{first_reason, IsAgainst}
-use Rattle.cert.specs.Scan.{members_at, members_of, AreGroupsOf, IsPut, IsNoReport, different_in, line_in, AreEnough, IsFirstShortGroup, IsShortGroup, IsShortWhereThin, block_lines}
+use Rattle.cert.specs.Scan.{members_at, members_of, AreGroupsOf, IsPut, different_in, line_in, AreEnough, IsFirstShortGroup, block_lines}
 
 -- ---- one symbol more
 
@@ -183,43 +176,6 @@ module _ (who : Identity) (f : Fti) (rs : List Reading) (groups : List Group) (a
 
   pub lines_are : map (line_in groups) (below (length groups)) ≡ block_lines f (symbols (counted who rs)) (block_count f)
   lines_are = ap (λ (n : ℕ). map (line_in groups) (below n)) are.count ∙ lines_same (block_count f) (omega arith)
-
-module _ (who : Identity) (z : Certificate) (ds : List (List ℕ)) (groups : List Group) (are : AreGroupsOf z.fti (counted who (readings_of ds)) groups) where
-  refused_reason : (r : Reason) → first_reason who z (readings_of ds) ≡ None → symbols (counted who (readings_of ds)) ≢ [] → IsShortGroup groups (ByReason r) → IsAgainst who (readings_of ds) z r
-  refused_reason (Thin b have need) none some h = let w = short_group who z.fti (readings_of ds) groups are b have need h in (none, some, w.0, w.1, w.2)
-  refused_reason OtherCertificate none some h = absurd h
-  refused_reason ObjectLength none some h = absurd h
-  refused_reason (NotObject b c i) none some h = absurd h
-  refused_reason Empty none some h = absurd h
-  refused_reason (NoPacket i x) none some h = absurd h
-  refused_reason (OtherFti i) none some h = absurd h
-  refused_reason (SymbolLength i) none some h = absurd h
-  refused_reason (Range i) none some h = absurd h
-  refused_reason (Wrong i c) none some h = absurd h
-  refused_reason NoCarrier none some h = absurd h
-
-  -- no report, by the counts
-  pub counts_refused : (e : NoReport) → first_reason who z (readings_of ds) ≡ None → symbols (counted who (readings_of ds)) ≢ [] → IsShortGroup groups e → IsNoReport who ds z e
-  counts_refused (Fault fault) none some h = h
-  counts_refused (ByReason r) none some h = refused_reason r none some h
-
--- a group that is short is the reason that one is
-thin_where : (groups : List Group) (r : Reason) → IsShortGroup groups (ByReason r) → IsShortWhereThin groups (ByReason r)
-thin_where groups (Thin b have need) h = h
-thin_where groups OtherCertificate h = absurd h
-thin_where groups ObjectLength h = absurd h
-thin_where groups (NotObject b c i) h = absurd h
-thin_where groups Empty h = absurd h
-thin_where groups (NoPacket i x) h = absurd h
-thin_where groups (OtherFti i) h = absurd h
-thin_where groups (SymbolLength i) h = absurd h
-thin_where groups (Range i) h = absurd h
-thin_where groups (Wrong i c) h = absurd h
-thin_where groups NoCarrier h = absurd h
-
-pub where_thin : (groups : List Group) (e : NoReport) → IsShortGroup groups e → IsShortWhereThin groups e
-where_thin groups (Fault fault) h = h
-where_thin groups (ByReason r) h = thin_where groups r h
 
 -- a map over one number more
 pub map_below_more : {A : Type 0} (f : ℕ → A) (n : ℕ) → map f (below (n + 1)) ≡ map f (below n) ++ f n ∷ []

@@ -12,15 +12,15 @@ use Rattle.alc.specs.Views.{packet_of}
 use Rattle.alc.specs.Reading.{Reading}
 use Rattle.alc.specs.Computed.{read_of}
 use Rattle.alc.proofs.Again.{exact}
+use Rattle.alc.specs.declared.fault.PacketFault.{PacketFault}
 use Rattle.alc.specs.declared.reading.Packet.{Packet as ReadPacket}
 use Rattle.reception.specs.declared.scope.Identity.{Identity}
 use Rattle.reception.specs.declared.scope.Scope.{Scope}
-use Rattle.reception.specs.declared.scope.PlaceFault.{PlaceFault}
-use Rattle.reception.specs.declared.scope.PlaceFault.TheVariants as fault
+use Rattle.reception.specs.Reception as fault
 use Rattle.reception.specs.declared.scope.Look.{Look}
 use Rattle.reception.specs.declared.scope.Look.TheVariants as look_at
 use Rattle.reception.specs.Symbols.{Symbol}
-use Rattle.reception.specs.Reception.{Judge, Wrong, Faulty, Judged, Placed, counts, placed_at, counted, symbols, symbols_in, symbol_of, is_carrier, with_fti, wrong_by, reception_with}
+use Rattle.reception.specs.Reception.{Judge, PlaceFault, Seen, Wrong, Faulty, Judged, Placed, counts, placed_at, counted, symbols, symbols_in, symbol_of, is_carrier, with_fti, wrong_by, reception_with}
 use Rattle.reception.specs.Step.{looked, IsLook}
 use Rattle.reception.specs.Walks.{readings_of, Timely, judged, in_range, Found}
 use Rattle.reception.proofs.Walk.{counted_one_more, symbols_more}
@@ -28,14 +28,11 @@ use Rattle.reception.proofs.Stepping.{stays, stays_wrong}
 use Rattle.reception.proofs.Walking.{Walked, last, came_before, stops, goes_on, ends, one_behind, is_packet, packet_counts, passed_counts}
 use Rattle.std.specs.List.{AllByRecursion}
 use Rattle.reception.proofs.Within.{IsFaultless, IsSoundReading, clean_sound}
-use Rattle.reception.proofs.Looks.{fti_after, never_early, may_pass, faultless_look, length_look}
+use Rattle.reception.proofs.Looks.{fti_after, may_pass, faultless_look, length_look}
 use Rattle.cert.specs.declared.verdict.Reason.{Reason}
-use Rattle.cert.specs.declared.verdict.Reason.TheVariants.{OtherCertificate, ObjectLength, NotObject, Empty, Packet as NoPacket, OtherFti, SymbolLength, Range, Symbol as NotCertified, Thin, NoCarrier}
-use Rattle.cert.specs.declared.fault.NoReport.{NoReport}
-use Rattle.cert.specs.declared.fault.NoReport.TheVariants.{Reason as ByReason, Fault}
+use Rattle.cert.specs.declared.verdict.Reason.TheVariants.{Symbol as NotCertified}
 use Rattle.certificate.specs.Certificate.{Certificate}
-use Rattle.cert.specs.DatagramWalk.{IsNotKept}
-use Rattle.cert.specs.Tallying.{AreTallied, IsAtLast, IsUnpassed, Says, Tallied, judge_by}
+use Rattle.cert.specs.Tallying.{AreTallied, IsAtLast, IsRefusedAt, IsUnpassed, Says, Tallied, judge_by}
 use Rattle.cert.specs.Scan.{AreGroupsOf, IsPut, with_carrier}
 use Rattle.cert.specs.Verdict.{uncertified, reception_to, reason_at, first_reason}
 use Rattle.cert.proofs.Bridge.{group_more}
@@ -45,7 +42,7 @@ use Rattle.cert.proofs.CarrierPlaces.{places_passed, places_with}
 
 module _ {R : Type 0} (judge : Judge R) (known : Scope) (f : Fti) (ds : List (List ℕ)) (old : Scope) (fti_known : old.fti ≡ Some f)
     (clean : (reception_with judge known (readings_of ds)).wrong ≡ None) (holds : (reception_with judge known (readings_of ds)).scope ≡ old)
-    (d : List ℕ) (new : Scope) (answer : Result Look PlaceFault) (at : IsLook d old new answer) where
+    (d : List ℕ) (new : Scope) (answer : Result Look PacketFault) (at : IsLook d old new answer) where
   pub readings_more : readings_of (ds ++ d ∷ []) ≡ readings_of ds ++ at.reading ∷ []
   readings_more = map-append read_of ds (d ∷ []) ∙ ap (λ (r : Reading). readings_of ds ++ r ∷ []) (exact d at.reading at.reads)
 
@@ -103,7 +100,7 @@ module _ (says : Says) (f : Fti) (t : Tallied) (ds : List (List ℕ)) (are : Are
   abbrev one_tallied : ℕ → List Group → List ℕ → Tallied
   one_tallied many after with = record { scope = t.scope; count = t.count + 1; taken = many; groups = after; carriers = with }
 
-  module _ (d : List ℕ) (answer : Result Look PlaceFault) (at : IsLook d t.scope t.scope answer) where
+  module _ (d : List ℕ) (answer : Result Look PacketFault) (at : IsLook d t.scope t.scope answer) where
     one_longer : length (ds ++ d ∷ []) ≡ t.count + 1
     one_longer = let l = length-append ds (d ∷ []) in let m = are.many in omega (arith, l, m)
 
@@ -116,7 +113,7 @@ module _ (says : Says) (f : Fti) (t : Tallied) (ds : List (List ℕ)) (are : Are
 
     -- something is wrong with the next datagram
     pub refuses : (w : Wrong ℕ) → wrong_by (judge_by says) (came_before who (ds ++ d ∷ []) (length ds)) (looked answer) ≡ Some w
-        → IsUnpassed says f who (ds ++ d ∷ []) (ByReason (reason_at t.count w))
+        → IsUnpassed says f who (ds ++ d ∷ []) (reason_at t.count w)
     refuses w is = (
       ap (λ (found : Found ℕ). option_map (λ x. reason_at x.0 x.1) found)
           (wrong_now (judge_by says) (with_fti who f) f ds t.scope fti_holds are.clean are.holds d t.scope answer at w is ∙ ap (λ (n : ℕ). Some (n, w)) are.many),
@@ -159,9 +156,11 @@ module _ (says : Says) (f : Fti) (t : Tallied) (ds : List (List ℕ)) (are : Are
       (are.placed
       ∙ sym (ap (λ (rs : List Reading). places_from (is_carrier who) 0 rs) (one_reading d (Ok look_at.Other) at) ∙ places_passed who (readings_of ds) at.reading other))
 
-  -- none comes before the FTI is known
-  pub not_early : (d : List ℕ) → IsLook d t.scope t.scope (Ok look_at.Early) → ⊥
-  not_early d at = never_early d t.scope t.scope at f fti_holds
+  -- a fault of the next datagram is the reason against it
+  pub refuses_fault : (d : List ℕ) (r : Reason) → IsRefusedAt d t.scope t.count r → IsUnpassed says f who (ds ++ d ∷ []) r
+  refuses_fault d r h =
+      rw h.reason_is
+      (refuses d h.answer h.is (Faulty h.fault) (ap (λ (a : Result Seen PlaceFault). wrong_by (judge_by says) (came_before who (ds ++ d ∷ []) (length ds)) a) h.told))
 
   module _ (d : List ℕ) (p : ReadPacket) (at : IsLook d t.scope t.scope (Ok (look_at.InRange p))) where
     pub packet_in_range : in_range (packet_of p) f ≡ true
@@ -203,21 +202,9 @@ module _ (says : Says) (f : Fti) (t : Tallied) (ds : List (List ℕ)) (are : Are
         (group_more f (counted who (readings_of ds)) t.count (symbol_of (packet_of p)) at.reading is t.groups after are.grouped put))
         (placed ∙ sym carriers_more)
 
-    -- it isn't, since its symbol isn't the certified one
-    pub refuses_symbol : (e : NoReport) → IsNotKept says t.count (packet_of p) e → IsUnpassed says f who (ds ++ d ∷ []) e
-    refuses_symbol (Fault want) h = h
-    refuses_symbol (ByReason (NotCertified i c)) h =
-        rw h.0 (refuses d (Ok (look_at.InRange p)) at (Judged c) (ap (λ (o : Option ℕ). judged o) h.1))
-    refuses_symbol (ByReason OtherCertificate) h = absurd h
-    refuses_symbol (ByReason ObjectLength) h = absurd h
-    refuses_symbol (ByReason (NotObject b c i)) h = absurd h
-    refuses_symbol (ByReason Empty) h = absurd h
-    refuses_symbol (ByReason (NoPacket i x)) h = absurd h
-    refuses_symbol (ByReason (OtherFti i)) h = absurd h
-    refuses_symbol (ByReason (SymbolLength i)) h = absurd h
-    refuses_symbol (ByReason (Range i)) h = absurd h
-    refuses_symbol (ByReason (Thin b have need)) h = absurd h
-    refuses_symbol (ByReason NoCarrier) h = absurd h
+    -- it has one, since its symbol isn't the certified one
+    pub refuses_symbol : (c : ℕ) → says (symbol_of (packet_of p)) ≡ Some c → IsUnpassed says f who (ds ++ d ∷ []) (NotCertified t.count c)
+    refuses_symbol c h = refuses d (Ok (look_at.InRange p)) at (Judged c) (ap (λ (o : Option ℕ). judged o) h)
 
 -- ---- what is told of a beginning
 

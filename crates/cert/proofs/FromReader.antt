@@ -1,6 +1,5 @@
 -- What the answers to datagrams, one after the other, say of the verdict.
-use Rattle.std.proofs.Common.{◌≡◌, ℕ, zero, suc, Bool, true, List, [], ◌∷◌, ◌++◌, Option, Some, None, Result, Ok, Err, refl, sym, ap, subst, ◌∙◌, append_assoc, arith}
-use Rattle.std.specs.Prelude.{IfOk}
+use Rattle.std.proofs.Common.{◌≡◌, ℕ, zero, suc, Bool, true, List, [], ◌∷◌, ◌++◌, Option, Some, None, refl, sym, ap, ◌∙◌, append_assoc, arith}
 use Rattle.std.specs.Io.KnownBytes.{Consumes, IsAtEnd}
 use Rattle.session.specs.Frames.{frame, frames, AreDatagrams, IsReadFault}
 use Rattle.session.specs.declared.frame.FrameFault.{FrameFault}
@@ -11,24 +10,18 @@ use Rattle.reception.specs.Symbols.{IsObject}
 use Rattle.reception.specs.Walks.{readings_of}
 use Rattle.cert.specs.declared.verdict.Reason.{Reason}
 use Rattle.cert.specs.declared.verdict.Reason.TheVariants.{OtherCertificate, ObjectLength, NotObject, Empty, Packet as NoPacket, OtherFti, SymbolLength, Range, Symbol, Thin, NoCarrier}
-use Rattle.cert.specs.declared.verdict.Report.{Report}
+use Rattle.cert.specs.declared.verdict.Verdict.{Verdict}
 use Rattle.cert.specs.declared.verdict.Survey.{Survey}
-use Rattle.cert.specs.Surveying.{IsSurvey, IsSurveyedFrom}
+use Rattle.cert.specs.Surveying.{IsSurvey, IsSurveyedFrom, OnYesWith}
 use Rattle.cert.specs.declared.verdict.Verdict.TheVariants.{Yes, No}
-use Rattle.cert.specs.declared.fault.NoReport.{NoReport}
-use Rattle.cert.specs.declared.fault.NoReport.TheVariants.{Reason as ByReason, Fault}
-use Rattle.cert.specs.declared.fault.CheckFault.{CheckFault}
-use Rattle.cert.specs.declared.fault.CheckFault.TheVariants.{NoMemory}
 use Rattle.certificate.specs.Certificate.{Certificate, IsCertificate, is_for}
-use Rattle.cert.specs.NotBegun.{IsAgainstObject, IsNotBegun}
-use Rattle.cert.specs.DatagramWalk.{IsNotPassed, IsNo}
-use Rattle.cert.specs.Endings.{IsEnding}
+use Rattle.cert.specs.NotBegun.{IsAgainstObject}
+use Rattle.cert.specs.DatagramWalk.{IsNotPassed}
 use Rattle.cert.specs.FromReader.{read_for, IsKnown, IsCheckedFrom, IsRefusedBehind}
-use Rattle.cert.specs.Report.{IsReport}
-use Rattle.cert.specs.Scan.{IsNoReport, AreEnoughCertified}
-use Rattle.cert.specs.Verdict.{GivesObject, reception_to, first_reason, IsAgainst, IsVerdict}
+use Rattle.cert.specs.Report.{IsReport, OnYes}
+use Rattle.cert.specs.Verdict.{GivesObject, reception_to, first_reason, IsAgainst, IsVerdict, VerdictOn}
 use Rattle.cert.proofs.DatagramSteps.{reason_stays}
-use Rattle.cert.proofs.Judging.{read_all, is_at_place, no_reason, refused, yes_all}
+use Rattle.cert.proofs.Judging.{read_all, is_at_place, no_reason, refused}
 use Rattle.cert.proofs.Promise.{decodes}
 use Rattle.cert.proofs.Undecided.{undecided, tells}
 
@@ -63,7 +56,7 @@ consumes_one (Some a) (Some b) (Some c) ds d p q =
 
 -- ---- noes
 
-abbrev IsNoAfter : Identity → Reason → List (List ℕ) → Option (List ℕ) → List ℕ → Certificate → Type 0
+abbrev pub IsNoAfter : Identity → Reason → List (List ℕ) → Option (List ℕ) → List ℕ → Certificate → Type 0
 IsNoAfter who r ds left object z = IsKnown (read_for (No r)) ds left (λ some. IsVerdict who some object z (No r))
 
 -- a reason at a place is one against the datagrams
@@ -85,15 +78,9 @@ module _ (who : Identity) (z : Certificate) (object : List ℕ) (name : is_for w
   verdict_no ds r each h = record { readings = readings_of ds; read = read_all ds each; judged = refused who (readings_of ds) object z r name form gives h }
 
   -- the no to a list that begins with datagrams of which the last isn't passed
-  pub step_no : (ds rest : List (List ℕ)) (e : NoReport) → IsNotPassed who ds z e → IsNo who (ds ++ rest) object z e
-  step_no ds rest (Fault fault) h = h
-  step_no ds rest (ByReason r) h =
+  pub step_no : (ds rest : List (List ℕ)) (r : Reason) → IsNotPassed who ds z r → VerdictOn who (readings_of (ds ++ rest)) object z (No r)
+  step_no ds rest r h =
       refused who (readings_of (ds ++ rest)) object z r name form gives (against_place who z (readings_of (ds ++ rest)) r (reason_stays who z ds rest r h.0))
-
-  -- the no to a list that was walked over
-  pub report_no : (ds : List (List ℕ)) (e : NoReport) → IsNoReport who ds z e → IsNo who ds object z e
-  report_no ds (Fault fault) h = h
-  report_no ds (ByReason r) h = refused who (readings_of ds) object z r name form gives h
 
   module _ (ds : List (List ℕ)) (each : AreDatagrams ds) (left : Option (List ℕ)) where
     pub what_follows : (r : Reason) → first_reason who z (readings_of ds) ≡ Some r
@@ -101,7 +88,7 @@ module _ (who : Identity) (z : Certificate) (object : List ℕ) (name : is_for w
     what_follows r h = λ rest more.
         verdict_no (ds ++ rest) r (datagrams_append ds rest each more) (against_place who z (readings_of (ds ++ rest)) r (reason_stays who z ds rest r h))
 
-    after_place : (r : Reason) → IsNotPassed who ds z (ByReason r) → IsNoAfter who r ds left object z
+    after_place : (r : Reason) → IsNotPassed who ds z r → IsNoAfter who r ds left object z
     after_place OtherCertificate h = absurd (is_at_place (reception_to who z (readings_of ds)).wrong OtherCertificate h.0)
     after_place ObjectLength h = absurd (is_at_place (reception_to who z (readings_of ds)).wrong ObjectLength h.0)
     after_place (NotObject b c i) h = absurd (is_at_place (reception_to who z (readings_of ds)).wrong (NotObject b c i) h.0)
@@ -118,21 +105,21 @@ module _ (who : Identity) (z : Certificate) (object : List ℕ) (name : is_for w
       no_place : (r : Reason) → first_reason who z (readings_of ds) ≡ Some r → ⊥
       no_place r h = cc
 
-      after_all : (r : Reason) → IsAtEnd left → IsAgainst who (readings_of ds) z r → IsNoAfter who r ds left object z
-      after_all Empty end h = (end, verdict_no ds Empty each h)
-      after_all (Thin b have need) end h = (end, verdict_no ds (Thin b have need) each h)
-      after_all NoCarrier end h = (end, verdict_no ds NoCarrier each h)
-      after_all OtherCertificate end h = absurd (no_place OtherCertificate h)
-      after_all ObjectLength end h = absurd (no_place ObjectLength h)
-      after_all (NotObject b c i) end h = absurd (no_place (NotObject b c i) h)
-      after_all (NoPacket i x) end h = absurd (no_place (NoPacket i x) h)
-      after_all (OtherFti i) end h = absurd (no_place (OtherFti i) h)
-      after_all (SymbolLength i) end h = absurd (no_place (SymbolLength i) h)
-      after_all (Range i) end h = absurd (no_place (Range i) h)
-      after_all (Symbol i c) end h = absurd (no_place (Symbol i c) h)
+      pub after_all : (r : Reason) → IsAtEnd left → VerdictOn who (readings_of ds) object z (No r) → IsNoAfter who r ds left object z
+      after_all Empty end h = (end, record { readings = readings_of ds; read = read_all ds each; judged = h })
+      after_all (Thin b have need) end h = (end, record { readings = readings_of ds; read = read_all ds each; judged = h })
+      after_all NoCarrier end h = (end, record { readings = readings_of ds; read = read_all ds each; judged = h })
+      after_all OtherCertificate end h = absurd (cc)
+      after_all ObjectLength end h = absurd (h.1 form.count)
+      after_all (NotObject b c i) end h = absurd (h.2.wrong (gives b c i h.2.block h.2.column h.2.symbol))
+      after_all (NoPacket i x) end h = absurd (no_place (NoPacket i x) h.3)
+      after_all (OtherFti i) end h = absurd (no_place (OtherFti i) h.3)
+      after_all (SymbolLength i) end h = absurd (no_place (SymbolLength i) h.3)
+      after_all (Range i) end h = absurd (no_place (Range i) h.3)
+      after_all (Symbol i c) end h = absurd (no_place (Symbol i c) h.3)
 
 -- a reason against the name or the object is the verdict on any list
-before_all : (who : Identity) (z : Certificate) (object : List ℕ) (left : Option (List ℕ)) (r : Reason) → IsAgainstObject who r object z → IsNoAfter who r [] left object z
+before_all : (who : Identity) (z : Certificate) (object : List ℕ) (left : Option (List ℕ)) (r : Reason) → IsAgainstObject who object z r → IsNoAfter who r [] left object z
 before_all who z object left OtherCertificate h = (refl, λ rest each. record { readings = readings_of rest; read = read_all rest each; judged = h })
 before_all who z object left ObjectLength h = (refl, λ rest each. record { readings = readings_of rest; read = read_all rest each; judged = h })
 before_all who z object left (NotObject b c i) h = (refl, λ rest each. record { readings = readings_of rest; read = read_all rest each; judged = h })
@@ -145,22 +132,10 @@ before_all who z object left (Symbol i c) h = absurd h
 before_all who z object left (Thin b have need) h = absurd h
 before_all who z object left NoCarrier h = absurd h
 
--- ---- results
+-- ---- what is told of a reader's datagrams
 
--- where the first fact of a value gives the second, and a result has the first
-pub has_other : {A E : Type 0} (r : Result A E) (P Q : A → Type 0) → IfOk r (λ a. P a → Q a) → IfOk r P → IfOk r Q
-has_other (Ok a) P Q f h = f h
-has_other (Err e) P Q f h = tt
-
--- ---- why there is no report
-
--- want of memory says nothing
-no_memory : (who : Identity) (old new : Option (List ℕ)) (failed : Bool) (object : List ℕ) (z : Certificate) (fault : CheckFault) → fault ≡ NoMemory → IsEnding who old new failed object z (Fault fault)
-no_memory who old new failed object z fault e = subst (λ (f : CheckFault). IsEnding who old new failed object z (Fault f)) (sym e) tt
-
-pub not_begun : (who : Identity) (old : Option (List ℕ)) (failed : Bool) (z : Certificate) (object : List ℕ) (e : NoReport) → IsNotBegun who object z e → IsEnding who old old failed object z e
-not_begun who old failed z object (Fault fault) h = no_memory who old old failed object z fault h
-not_begun who old failed z object (ByReason r) h = record {
+pub not_begun : (who : Identity) (old : Option (List ℕ)) (z : Certificate) (object : List ℕ) (r : Reason) → IsAgainstObject who object z r → IsCheckedFrom who old old object z (No r)
+not_begun who old z object r h = record {
   datagrams = [];
   each = no_datagrams;
   consumed = nothing_consumed old;
@@ -172,24 +147,18 @@ not_begun who old failed z object (ByReason r) h = record {
 }
 
 module _ (who : Identity) (z : Certificate) (object : List ℕ) (name : is_for who z.name ≡ true) (form : IsObject z.fti object) (gives : GivesObject object z)
-    (old new : Option (List ℕ)) (failed : Bool) (ds : List (List ℕ)) (each : AreDatagrams ds) (consumed : Consumes old new (frames ds)) where
-  no_from : (r : Reason) → IsNoAfter who r ds new object z → IsCheckedFrom who old new object z (No r)
+    (old new : Option (List ℕ)) (ds : List (List ℕ)) (each : AreDatagrams ds) (consumed : Consumes old new (frames ds)) where
+  pub no_from : (r : Reason) → IsNoAfter who r ds new object z → IsCheckedFrom who old new object z (No r)
   no_from r h = record { datagrams = ds; each = each; consumed = consumed; judged = h; decodes = tt; undecided = tt; tells = tt; report = tt }
 
   -- the last of the datagrams isn't passed
-  pub not_passed : (e : NoReport) → IsNotPassed who ds z e → IsEnding who old new failed object z e
-  not_passed (Fault fault) h = no_memory who old new failed object z fault h
-  not_passed (ByReason r) h = no_from r (after_place who z object name form gives ds each new r h)
+  pub not_passed : (r : Reason) → IsNotPassed who ds z r → IsCheckedFrom who old new object z (No r)
+  not_passed r h = no_from r (after_place who z object name form gives ds each new r h)
 
   module _ (clean : (reception_to who z (readings_of ds)).wrong ≡ None) where
-    -- they don't suffice
-    pub no_report : (e : NoReport) → IsAtEnd new → IsNoReport who ds z e → IsEnding who old new failed object z e
-    no_report (Fault fault) end h = no_memory who old new failed object z fault h
-    no_report (ByReason r) end h = no_from r (after_all who z object name form gives ds each new (no_reason _ clean) r end h)
-
     -- the next wasn't read
-    pub not_read : (later : Option (List ℕ)) (fault : FrameFault) → IsReadFault fault new later failed → IsRefusedBehind who fault old later failed object z
-    not_read later fault h = record {
+    pub not_read : (failed : Bool) (later : Option (List ℕ)) (fault : FrameFault) → IsReadFault fault new later failed → IsRefusedBehind who fault old later failed object z
+    not_read failed later fault h = record {
       datagrams = ds;
       each = each;
       name = name;
@@ -203,23 +172,25 @@ module _ (who : Identity) (z : Certificate) (object : List ℕ) (name : is_for w
       refused = h;
     }
 
-  -- all is well
-  unfoldable pub yes_from : (report : Report) → IsCertificate z → IsAtEnd new → AreEnoughCertified who ds z → IsReport who ds z.fti report → IsCheckedFrom who old new object z (Yes report)
-  yes_from report valid end enough is =
-      let judged = yes_all who ds object z report name form gives enough in
-      record {
-        datagrams = ds;
-        each = each;
-        consumed = consumed;
-        judged = (end, record { readings = readings_of ds; read = read_all ds each; judged = judged });
-        decodes = decodes who ds (readings_of ds) object z (read_all ds each) valid judged;
-        undecided = undecided who ds (readings_of ds) object z (read_all ds each) valid judged;
-        tells = tells who ds (readings_of ds) object z (read_all ds each) valid judged;
-        report = is;
-      }
+    -- there are no more
+    unfoldable pub verdict_from : (v : Verdict) → IsCertificate z → IsAtEnd new → VerdictOn who (readings_of ds) object z v → OnYes v (IsReport who ds z.fti) → IsCheckedFrom who old new object z v
+    verdict_from (No r) valid end judged is = no_from r (after_all who z object name form gives ds each new (no_reason _ clean) r end judged)
+    verdict_from (Yes report) valid end judged is = record {
+      datagrams = ds;
+      each = each;
+      consumed = consumed;
+      judged = (end, record { readings = readings_of ds; read = read_all ds each; judged = judged });
+      decodes = decodes who ds (readings_of ds) object z (read_all ds each) valid judged;
+      undecided = undecided who ds (readings_of ds) object z (read_all ds each) valid judged;
+      tells = tells who ds (readings_of ds) object z (read_all ds each) valid judged;
+      report = is;
+    }
 
-  -- and this is its survey
-  pub survey_yes : (report : Report) (survey : Survey) → IsCertificate z → IsAtEnd new → AreEnoughCertified who ds z → IsReport who ds z.fti report → IsSurvey who ds z.fti report survey
-      → IsSurveyedFrom who old new object z (Yes report) (Some survey)
-  unfolding yes_from
-  survey_yes report survey valid end enough is surveyed = record { checked = yes_from report valid end enough is; surveyed = surveyed }
+    -- and this is the survey of a yes
+    pub survey_of : (v : Verdict) (survey : Option Survey) → IsCertificate z → IsAtEnd new → VerdictOn who (readings_of ds) object z v → OnYes v (IsReport who ds z.fti)
+        → OnYesWith v survey (IsSurvey who ds z.fti) → IsSurveyedFrom who old new object z v survey
+    unfolding verdict_from
+    survey_of (Yes report) (Some survey) valid end judged is surveyed = record { checked = verdict_from (Yes report) valid end judged is; surveyed = surveyed }
+    survey_of (No r) None valid end judged is surveyed = record { checked = verdict_from (No r) valid end judged is; surveyed = tt }
+    survey_of (Yes report) None valid end judged is surveyed = absurd surveyed
+    survey_of (No r) (Some survey) valid end judged is surveyed = absurd surveyed

@@ -10,7 +10,7 @@ use Rattle.alc.specs.Reading.{Reading}
 use Rattle.alc.specs.Computed.{read_of}
 use Rattle.reception.specs.declared.scope.Identity.{Identity}
 use Rattle.reception.specs.declared.scope.Scope.{Scope}
-use Rattle.reception.specs.declared.scope.PlaceFault.{PlaceFault}
+use Rattle.reception.specs.Reception.{PlaceFault}
 use Rattle.reception.specs.Symbols.{Symbol}
 use Rattle.reception.specs.Reception.{Judged, Placed, Seen, Other, Early, InRange, is_of_identity, counts, placed_at, counted_from, counted, symbols, symbols_in, symbol_of, look, look_by, packet_fault, wrong_by, reading_wrong, wrong_after, with_fti}
 use Rattle.reception.specs.Walks.{readings_of, at_place, judged, or_packet, Found}

@@ -9,21 +9,20 @@ use Rattle.alc.proofs.Again.{reads}
 use Rattle.session.specs.Frames.{AreDatagrams}
 use Rattle.reception.specs.declared.scope.Identity.{Identity}
 use Rattle.reception.specs.declared.scope.Scope.{Scope}
-use Rattle.reception.specs.declared.scope.PlaceFault.{PlaceFault}
-use Rattle.reception.specs.declared.scope.PlaceFault.TheVariants as fault
+use Rattle.reception.specs.Reception as fault
 use Rattle.reception.specs.Symbols.{Symbol as Received, IsObject}
-use Rattle.reception.specs.Reception.{ReadAll, Placed, Wrong, Faulty, Judged, Other, counts, counted, symbols, symbol_of, symbols_in, packet_fault, wrong_by, reading_wrong, wrong_after}
+use Rattle.reception.specs.Reception.{ReadAll, Placed, PlaceFault, Wrong, Faulty, Judged, Other, counts, counted, symbols, symbol_of, symbols_in, packet_fault, wrong_by, reading_wrong, wrong_after}
 use Rattle.reception.specs.Walks.{readings_of, judged, at_place, or_packet, Found}
 use Rattle.reception.proofs.Walk.{each_counts}
 use Rattle.reception.proofs.Stepping.{scope, stays}
 use Rattle.reception.proofs.Within.{faultless, none_wrong, neither, nowhere}
 use Rattle.cert.specs.declared.verdict.Reason.{Reason}
 use Rattle.cert.specs.declared.verdict.Reason.TheVariants.{OtherCertificate, ObjectLength, NotObject, Empty, Packet as NoPacket, OtherFti, SymbolLength, Range, Symbol, Thin, NoCarrier}
-use Rattle.cert.specs.declared.verdict.Report.{Report}
+use Rattle.cert.specs.declared.verdict.Verdict.{Verdict}
 use Rattle.cert.specs.declared.verdict.Verdict.TheVariants.{Yes, No}
 use Rattle.certificate.specs.Certificate.{Certificate, is_for}
 use Rattle.cert.specs.Verdict.{GivesObject, uncertified, reception_to, reason_at, IsCertifiedPacket, IsCertifiedReading, AreCertified, IsAgainst, VerdictOn}
-use Rattle.cert.specs.Scan.{AreEnoughCertified}
+use Rattle.cert.specs.Scan.{VerdictWhereGiven}
 use Rattle.cert.proofs.Columns.{certified_where_none}
 
 -- each datagram has the reading that is computed
@@ -134,7 +133,8 @@ pub none_came : (arrivals : List Received) (n : ℕ) → length arrivals ≡ n �
 none_came [] n l e = refl
 none_came (s ∷ ss) n l e = absurd (omega (arith, l, e))
 
--- the verdict where all is well
-pub yes_all : (who : Identity) (ds : List (List ℕ)) (object : List ℕ) (z : Certificate) (report : Report) → is_for who z.name ≡ true → IsObject z.fti object → GivesObject object z → AreEnoughCertified who ds z
-    → VerdictOn who (readings_of ds) object z (Yes report)
-yes_all who ds object z report name form gives h = record { name = name; form = form; gives = gives; certified = h.all; full = h.full; carrier = h.carrier }
+-- the verdict where the certificate has the name and gives the object
+pub judged_given : (who : Identity) (ds : List (List ℕ)) (object : List ℕ) (z : Certificate) (v : Verdict) → is_for who z.name ≡ true → IsObject z.fti object → GivesObject object z
+    → VerdictWhereGiven who ds z v → VerdictOn who (readings_of ds) object z v
+judged_given who ds object z (Yes report) name form gives h = record { name = name; form = form; gives = gives; certified = h.all; full = h.full; carrier = h.carrier }
+judged_given who ds object z (No r) name form gives h = refused who (readings_of ds) object z r name form gives h

@@ -21,6 +21,7 @@ pub mod Named
 pub mod DatagramSteps
 pub mod FromReader
 pub mod Feeding
+pub mod Lacking
 pub mod Judged
 pub mod Members
 pub mod ShortReasons

@@ -15,7 +15,7 @@ use Rattle.alc.specs.Reading.{Reading}
 use Rattle.alc.specs.Computed.{read_of}
 use Rattle.reception.specs.declared.scope.Identity.{Identity}
 use Rattle.reception.specs.declared.scope.Scope.{Scope}
-use Rattle.reception.specs.declared.scope.PlaceFault.{PlaceFault}
+use Rattle.reception.specs.Reception.{PlaceFault}
 use Rattle.reception.specs.Reception.{Placed, Other, InRange, counts, counted_from, counted, symbols_in, look, look_by, with_fti}
 use Rattle.reception.specs.Walks.{readings_of, or_packet}
 use Rattle.reception.proofs.Walk.{counted_more, each_counts}

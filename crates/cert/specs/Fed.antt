@@ -1,5 +1,6 @@
 -- What a checker was fed: which datagrams, for which identity, object and certificate.
-use Rattle.std.specs.Prelude.{◌≡◌, ℕ, List, Option, Some, None}
+use Rattle.std.specs.Prelude.{◌≡◌, ℕ, List, Option, Some, None, Result, Ok, Err}
+use Rattle.std.specs.declared.alloc.AllocError.{AllocError}
 use Rattle.std.specs.Cow.{cow_slice_items}
 use Rattle.session.specs.Frames.{AreDatagrams}
 use Rattle.reception.specs.declared.scope.Identity.{Identity}
@@ -8,9 +9,7 @@ use Rattle.cert.specs.DatagramWalk.{HasWalked}
 use Rattle.cert.specs.Feeding.{IsNoToAll}
 use Rattle.cert.specs.Twins.{IsShortIn}
 use Rattle.cert.specs.declared.checker.Checker.{Checker}
-use Rattle.cert.specs.declared.fault.NoReport.{NoReport}
-use Rattle.cert.specs.declared.fault.NoReport.TheVariants.{Reason as ByReason, Fault}
-use Rattle.cert.specs.declared.fault.CheckFault.TheVariants.{NoMemory}
+use Rattle.cert.specs.declared.verdict.Reason.{Reason}
 use Rattle.cert.specs.declared.walk.Walk.{Walk}
 
 -- the walk is one over these datagrams, for this identity, object and certificate
@@ -23,12 +22,11 @@ pub record IsWalkOver (walk : Walk) (who : Identity) (object : List ℕ) (z : Ce
 
 -- where the check of these datagrams stands: it goes on, or has its reason, or lacked memory, after
 -- which nothing is known
-abbrev pub StandsAt : Option NoReport → Walk → Identity → List ℕ → Certificate → List (List ℕ)
-    → Type 0
+abbrev pub StandsAt : Option (Result Reason AllocError) → Walk → Identity → List ℕ → Certificate
+    → List (List ℕ) → Type 0
 StandsAt None walk who object z datagrams = IsWalkOver walk who object z datagrams
-StandsAt (Some (ByReason reason)) walk who object z datagrams =
-    IsNoToAll who datagrams object z reason
-StandsAt (Some (Fault fault)) walk who object z datagrams = fault ≡ NoMemory
+StandsAt (Some (Ok reason)) walk who object z datagrams = IsNoToAll who datagrams object z reason
+StandsAt (Some (Err e)) walk who object z datagrams = Unit {0}
 
 -- these datagrams were fed to a checker of this identity's packets, with this object and this
 -- certificate
@@ -37,8 +35,8 @@ pub record IsFed (checker : Checker) (who : Identity) (object : List ℕ) (z : C
   pub each : AreDatagrams datagrams
   pub stands : StandsAt checker.ended checker.walk who object z datagrams
 
--- why the check has ended, if it has
-abbrev pub ended_of : Checker → Option NoReport
+-- how the check has ended, if it has: for a reason, or for want of memory
+abbrev pub ended_of : Checker → Option (Result Reason AllocError)
 ended_of checker = checker.ended
 
 -- some datagrams were fed to it

@@ -1,6 +1,7 @@
 -- What a check tells that is fed datagrams, one at a time.
 use Rattle.std.specs.Prelude.{◌≡◌, ◌<◌, ◌≤◌, ℕ, List, ◌++◌, length, Option, Some, None, Result, Ok}
 use Rattle.std.specs.Prelude.{Err}
+use Rattle.std.specs.declared.alloc.AllocError.{AllocError}
 use Rattle.session.specs.Frames.{AreDatagrams, most_bytes}
 use Rattle.session.specs.declared.frame.FrameFault.TheVariants.{TooLong}
 use Rattle.alc.specs.Reading.{Reading}
@@ -12,8 +13,6 @@ use Rattle.cert.specs.declared.fault.CheckFault.{CheckFault}
 use Rattle.cert.specs.declared.fault.CheckFault.TheVariants.{Frame, NoMemory}
 use Rattle.cert.specs.declared.verdict.Reason.{Reason}
 use Rattle.cert.specs.declared.verdict.Verdict.TheVariants.{No}
-use Rattle.cert.specs.declared.fault.NoReport.{NoReport}
-use Rattle.cert.specs.declared.fault.NoReport.TheVariants.{Reason as ByReason, Fault}
 
 -- the verdict on these datagrams is no for this reason, whatever others follow
 abbrev pub IsNoToAll : Identity → List (List ℕ) → List ℕ → Certificate → Reason → Type 0
@@ -39,7 +38,7 @@ IsUnfed datagram NoMemory = length datagram ≤ most_bytes
 IsUnfed datagram _ = ⊥
 
 -- what a feed tells where the check has ended before for a reason or want of memory
-abbrev pub IsToldAgain : NoReport → Result (Option Reason) CheckFault → Type 0
-IsToldAgain (ByReason reason) (Ok told) = told ≡ Some reason
-IsToldAgain (Fault fault) (Err told) = told ≡ fault
+abbrev pub IsToldAgain : Result Reason AllocError → Result (Option Reason) CheckFault → Type 0
+IsToldAgain (Ok reason) (Ok told) = told ≡ Some reason
+IsToldAgain (Err e) (Err fault) = fault ≡ NoMemory
 IsToldAgain _ _ = ⊥

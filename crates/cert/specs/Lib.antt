@@ -11,7 +11,6 @@ pub mod NotBegun
 pub mod Tallying
 pub mod DatagramWalk
 pub mod FromReader
-pub mod Endings
 pub mod Feeding
 pub mod Fed
 pub mod WrongColumns

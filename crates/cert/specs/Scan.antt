@@ -9,10 +9,8 @@ use Rattle.reception.specs.declared.scope.Identity.{Identity}
 use Rattle.reception.specs.Symbols.{Symbol, arrived_count}
 use Rattle.reception.specs.Reception.{Placed, symbols_in, is_carrier, Suffices}
 use Rattle.reception.specs.Walks.{readings_of}
-use Rattle.cert.specs.declared.fault.NoReport.{NoReport}
-use Rattle.cert.specs.declared.fault.NoReport.TheVariants.{Reason as ByReason, Fault}
-use Rattle.cert.specs.declared.fault.CheckFault.TheVariants.{NoMemory}
-use Rattle.cert.specs.declared.verdict.Reason.TheVariants.{Thin}
+use Rattle.cert.specs.declared.verdict.Verdict.{Verdict}
+use Rattle.cert.specs.declared.verdict.Verdict.TheVariants.{Yes, No}
 use Rattle.certificate.specs.Certificate.{Certificate}
 use Rattle.cert.specs.Verdict.{IsAgainst, AreCertified}
 use Rattle.lists.specs.Below.{below}
@@ -48,11 +46,6 @@ abbrev pub with_carrier : List ℕ → ℕ → Option Fti → List ℕ
 with_carrier carriers place (Some f) = carriers ++ place ∷ []
 with_carrier carriers place None = carriers
 
--- there is no report for this reason against the datagrams, or for want of memory
-abbrev pub IsNoReport : Identity → List (List ℕ) → Certificate → NoReport → Type 0
-IsNoReport who datagrams z (ByReason r) = IsAgainst who (readings_of datagrams) z r
-IsNoReport who datagrams z (Fault fault) = fault ≡ NoMemory
-
 -- how many different symbols a group has
 abbrev pub different_in : List Group → ℕ → ℕ
 different_in groups b = different (group_at groups b).members
@@ -73,23 +66,17 @@ pub record IsFirstShortGroup (groups : List Group) (b have need : ℕ) : Type 0 
   pub few : have < need
   pub blocks_before : (a : ℕ) → a < b → (group_at groups a).need ≤ different_in groups a
 
-abbrev pub IsShortGroup : List Group → NoReport → Type 0
-IsShortGroup groups (ByReason (Thin b have need)) = IsFirstShortGroup groups b have need
-IsShortGroup groups (ByReason _) = ⊥
-IsShortGroup groups (Fault fault) = fault ≡ NoMemory
-
--- it is, where the reason is that one has too few; a fault is want of memory
-abbrev pub IsShortWhereThin : List Group → NoReport → Type 0
-IsShortWhereThin groups (ByReason (Thin b have need)) = IsFirstShortGroup groups b have need
-IsShortWhereThin groups (ByReason _) = Unit {0}
-IsShortWhereThin groups (Fault fault) = fault ≡ NoMemory
-
 -- what a yes says of the datagrams
 pub record AreEnoughCertified (who : Identity) (datagrams : List (List ℕ))
     (z : Certificate) : Type 0 where
   pub all : AreCertified who (readings_of datagrams) z
   pub full : Suffices who z.fti (readings_of datagrams)
   pub carrier : list_any (is_carrier who) (readings_of datagrams) ≡ true
+
+-- the verdict on datagrams, where the certificate has the identity's name and gives the object
+abbrev pub VerdictWhereGiven : Identity → List (List ℕ) → Certificate → Verdict → Type 0
+VerdictWhereGiven who datagrams z (Yes report) = AreEnoughCertified who datagrams z
+VerdictWhereGiven who datagrams z (No reason) = IsAgainst who (readings_of datagrams) z reason
 
 -- for each block below n its source symbols, and how many different ESIs of it came
 abbrev pub block_lines : Fti → List Symbol → ℕ → List (ℕ × ℕ)

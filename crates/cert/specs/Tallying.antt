@@ -1,27 +1,29 @@
 -- What is known of datagrams that were looked at one by one, whatever is asked of their symbols.
-use Rattle.std.specs.Prelude.{◌≡◌, ℕ, ◌+◌, List, [], length, Option, None, Some, Ok, IfSome}
-use Rattle.std.specs.Prelude.{option_map, slice_index_or}
+use Rattle.std.specs.Prelude.{◌≡◌, ◌≢◌, ◌<◌, ℕ, ◌+◌, List, [], length, Option, None, Some, Result}
+use Rattle.std.specs.Prelude.{Ok, Err, IfSome, option_map, slice_index_or}
 use Rattle.losses.specs.Groups.{Group, groups_of}
 use Rattle.losses.specs.Losses.{places_from}
 use Rattle.alc.specs.Packet.{Packet}
 use Rattle.alc.specs.Reading.{Reading}
 use Rattle.alc.specs.Computed.{read_of}
+use Rattle.alc.specs.declared.fault.PacketFault.{PacketFault}
+use Rattle.alc.specs.declared.reading.Packet.{Packet as Received}
 use Rattle.partition.specs.Fti.{Fti, IsValidFti}
 use Rattle.reception.specs.Symbols.{Symbol}
-use Rattle.reception.specs.Reception.{Judge, InRange, counted, is_carrier, look, reception_with}
-use Rattle.reception.specs.Reception.{symbol_of, symbols, with_fti}
+use Rattle.reception.specs.Reception.{Faulty, PlaceFault, Judge, InRange, counted, is_carrier, look}
+use Rattle.reception.specs.Reception.{reception_with, symbol_of, symbols, with_fti}
+use Rattle.reception.specs.Step.{IsLook, looked}
 use Rattle.reception.specs.declared.scope.Identity.{Identity}
 use Rattle.reception.specs.declared.scope.Scope.{Scope}
+use Rattle.reception.specs.declared.scope.Look.{Look}
+use Rattle.reception.specs.declared.scope.Look.TheVariants as look_at
 use Rattle.reception.specs.Walks.{readings_of}
 use Rattle.cert.specs.declared.tally.Tally.{Tally}
-use Rattle.cert.specs.declared.fault.NoReport.{NoReport}
-use Rattle.cert.specs.declared.fault.NoReport.TheVariants.{Reason as ByReason, Fault}
-use Rattle.cert.specs.declared.fault.CheckFault.TheVariants.{NoMemory}
 use Rattle.cert.specs.declared.verdict.Reason.{Reason}
 use Rattle.cert.specs.declared.verdict.Reason.TheVariants.{Packet as NoPacket, OtherFti}
 use Rattle.cert.specs.declared.verdict.Reason.TheVariants.{SymbolLength, Range, Symbol as NoSymbol}
 use Rattle.certificate.specs.Certificate.{Certificate}
-use Rattle.cert.specs.Scan.{AreGroupsOf}
+use Rattle.cert.specs.Scan.{AreEnough, AreGroupsOf}
 use Rattle.cert.specs.Verdict.{reason_at, uncertified}
 
 -- what is said of a symbol in range: the column in which it is wrong, if it is
@@ -94,11 +96,33 @@ place_of _ = None
 abbrev pub IsAtLast : List (List ℕ) → Reason → Type 0
 IsAtLast datagrams reason = IfSome (place_of reason) (λ i. length datagrams ≡ i + 1)
 
--- why the last of these datagrams isn't passed: it has the first reason at a place
-abbrev pub IsUnpassed : Says → Fti → Identity → List (List ℕ) → NoReport → Type 0
-IsUnpassed says f who datagrams (ByReason r) =
+-- the reason against the last of these datagrams: it has the first at a place
+abbrev pub IsUnpassed : Says → Fti → Identity → List (List ℕ) → Reason → Type 0
+IsUnpassed says f who datagrams r =
     (first_reason_by says f who (readings_of datagrams) ≡ Some r) × IsAtLast datagrams r
-IsUnpassed says f who datagrams (Fault fault) = fault ≡ NoMemory
+
+-- a fault of the datagram at a place is the reason
+pub record IsRefusedAt (datagram : List ℕ) (scope : Scope) (place : ℕ)
+    (reason : Reason) : Type 0 where
+  pub answer : Result Look PacketFault
+  pub is : IsLook datagram scope scope answer
+  pub fault : PlaceFault
+  pub told : looked answer ≡ Err fault
+  pub reason_is : reason ≡ reason_at place (Faulty fault)
+
+-- what is told of the datagram at a place: its packet in range, or that it is of another identity,
+-- or the reason against it
+abbrev pub IsLookAt : List ℕ → Scope → ℕ → Result (Option Received) Reason → Type 0
+IsLookAt datagram scope place (Ok (Some packet)) =
+    IsLook datagram scope scope (Ok (look_at.InRange packet))
+IsLookAt datagram scope place (Ok None) = IsLook datagram scope scope (Ok look_at.Other)
+IsLookAt datagram scope place (Err reason) = IsRefusedAt datagram scope place reason
+
+-- nothing lacks: there are packets, enough different symbols of each block, and a carrier
+pub record LacksNothing (tally : Tally) : Type 0 where
+  pub some : tally.taken ≢ 0
+  pub enough : AreEnough (groups_of tally.groups)
+  pub carrier : 0 < length tally.carriers.items
 
 -- what the datagram at a place reads as
 abbrev pub reading_at : List (List ℕ) → ℕ → Reading

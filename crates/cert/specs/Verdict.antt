@@ -13,9 +13,9 @@ use Rattle.cert.specs.declared.verdict.Reason.TheVariants.{NotObject, Empty, Pac
 use Rattle.cert.specs.declared.verdict.Reason.TheVariants.{OtherFti, SymbolLength, Range, Symbol}
 use Rattle.cert.specs.declared.verdict.Reason.TheVariants.{Thin, NoCarrier}
 use Rattle.reception.specs.declared.scope.Identity.{Identity}
-use Rattle.reception.specs.declared.scope.PlaceFault.TheVariants as fault
 use Rattle.reception.specs.Symbols.{arrived_count, IsFirstShort, IsObject}
 use Rattle.certificate.specs.Certificate.{Certificate, is_for, certified_byte}
+use Rattle.reception.specs.Reception as reception
 use Rattle.reception.specs.Reception.{ReadAll, Judge, Wrong, Faulty, Judged, Reception, counted}
 use Rattle.reception.specs.Reception.{symbols, reception_with, with_fti, is_carrier, Suffices}
 use Rattle.lists.specs.Below.{below}
@@ -58,10 +58,10 @@ reception_to who z rs = reception_with (uncertified z) (with_fti who z.fti) rs
 
 -- the reason that something is wrong at a place
 abbrev pub reason_at : ℕ → Wrong ℕ → Reason
-reason_at i (Faulty (fault.NoPacket r)) = NoPacket i r
-reason_at i (Faulty fault.OtherFti) = OtherFti i
-reason_at i (Faulty fault.SymbolLength) = SymbolLength i
-reason_at i (Faulty fault.Range) = Range i
+reason_at i (Faulty (reception.NoPacket r)) = NoPacket i r
+reason_at i (Faulty reception.OtherFti) = OtherFti i
+reason_at i (Faulty reception.SymbolLength) = SymbolLength i
+reason_at i (Faulty reception.Range) = Range i
 reason_at i (Judged c) = Symbol i c
 
 -- the reason at the least place that has one, and there the first

@@ -1,23 +1,22 @@
 //! The check of datagrams that are fed to it one at a time.
 ghost use Rattle.std.specs.Prelude.{◌≡◌, ◌≤◌, ◌++◌, ◌∷◌, [], ℕ, List, length, IfOk, IfErr, OnOk};
-ghost use Rattle.std.specs.Prelude.{IsErr, IsOkAnd, Some, None, true};
+ghost use Rattle.std.specs.Prelude.{IsErr, IsOkAnd, Some, None, Ok, Err, Result, true, alloc_error};
 ghost use Rattle.std.specs.Option.{option_map};
 ghost use Rattle.std.specs.Cow.{cow_slice_items};
 ghost use Rattle.session.specs.Frames.{most_bytes};
 ghost use Rattle.reception.specs.Headline.{DecodesWhereEnough, TwinWhereShort, TellsElse};
 ghost use Rattle.reception.specs.declared.scope.Identity.{Identity as IdentityValue};
 ghost use Rattle.certificate.specs.Certificate.{Certificate as CertificateValue, is_for};
-ghost use Rattle.cert.specs.NotBegun.{IsNotBegun};
+ghost use Rattle.cert.specs.NotBegun.{IsAgainstObject};
 ghost use Rattle.cert.specs.Fed.{IsFed, WasFed, IsFedShort, ended_of};
 ghost use Rattle.cert.specs.Feeding.{IsNoToAll, IsReasonSoFar, IsUnfed, IsToldAgain};
 ghost use Rattle.cert.specs.Twins.{IsShortIn, IsTwinOfSession};
 ghost use Rattle.cert.specs.Report.{IsReport, OnYes};
 ghost use Rattle.cert.specs.declared.verdict.Reason.{Reason as ReasonValue};
 ghost use Rattle.cert.specs.Verdict.{GivesObject, IsVerdict};
-ghost use Rattle.cert.specs.declared.fault.NoReport.{NoReport as NoReportValue};
 ghost use Rattle.reception.specs.Symbols.{IsObject};
 
-use crate::fault::{CheckFault, NoReport};
+use crate::fault::CheckFault;
 use crate::verdict::{Reason, Verdict};
 use crate::walk::Walk;
 use certificate::CertificateView;
@@ -32,36 +31,35 @@ use std::borrow::CowSlice;
 #[derive(Drop)]
 pub struct Checker<'a> {
     walk: Walk<'a>,
-    // Why no datagram more is looked at.
-    ended: Option<NoReport>,
+    // What is told from then on, where no datagram more is looked at.
+    ended: Option<Result<Reason, AllocError>>,
 }
 
 impl<'a> Checker<'a> {
     /// A check that was fed nothing yet. A reason against the certificate's name or the object is
-    /// told at once: it is the verdict whatever datagrams come. `NoMemory` tells that there is none
-    /// for the check.
+    /// told at once: it is the verdict whatever datagrams come. Want of memory is the only error.
     pub fn new(
         alloc: Global,
         object: CowSlice<'a, u8, Global>,
         certificate: CertificateView<'a>,
         identity: Identity,
-    ) -> Result<Checker<'a>, NoReport>
-        ensures fed { IfOk result (λ checker.
-            IsFed checker identity (cow_slice_items object.entry) certificate.entry []) }
-        ensures going { IfOk result (λ checker. ended_of checker ≡ None) }
+    ) -> Result<Result<Checker<'a>, Reason>, AllocError>
+        ensures fed { IfOk result (λ r. IfOk r (λ checker.
+            IsFed checker identity (cow_slice_items object.entry) certificate.entry [])) }
+        ensures going { IfOk result (λ r. IfOk r (λ checker. ended_of checker ≡ None)) }
         // Nothing is against the name or the object.
-        ensures given { OnOk result ((is_for identity certificate.entry.name ≡ true)
+        ensures given { IfOk result (λ r. OnOk r ((is_for identity certificate.entry.name ≡ true)
             × IsObject certificate.entry.fti (cow_slice_items object.entry)
-            × GivesObject (cow_slice_items object.entry) certificate.entry) }
-        ensures against { IfErr result
-            (IsNotBegun identity (cow_slice_items object.entry) certificate.entry) }
-        ensures no { IfErr result (λ e. (r : ReasonValue) → e ≡ NoReport.Reason r
-            → IsNoToAll identity [] (cow_slice_items object.entry) certificate.entry r) }
+            × GivesObject (cow_slice_items object.entry) certificate.entry)) }
+        ensures against { IfOk result (λ r. IfErr r
+            (IsAgainstObject identity (cow_slice_items object.entry) certificate.entry)) }
+        ensures no { IfOk result (λ r. IfErr r
+            (IsNoToAll identity [] (cow_slice_items object.entry) certificate.entry)) }
     {
-        Ok(Checker {
-            walk: Walk::new(alloc, object, certificate, identity)?,
-            ended: None,
-        })
+        match Walk::new(alloc, object, certificate, identity)? {
+            Ok(walk) => Ok(Ok(Checker { walk, ended: None })),
+            Err(reason) => Ok(Err(reason)),
+        }
     }
 
     /// One datagram more. `Some` has the first reason against a datagram that was fed, this one or
@@ -84,35 +82,24 @@ impl<'a> Checker<'a> {
         ensures same { IfErr result (λ e. e ≡ CheckFault.Frame FrameFault.TooLong
             → self.new ≡ self.old) }
         // Whether the check has ended then, and why.
-        ensures ended { IfOk result (λ o. ended_of self.new ≡ option_map NoReport.Reason o) }
+        ensures ended { IfOk result (λ o. ended_of self.new ≡ option_map Ok o) }
         ensures lacks { IfErr result (λ e. e ≡ CheckFault.NoMemory
-            → ended_of self.new ≡ Some (NoReport.Fault e)) }
+            → ended_of self.new ≡ Some (Err alloc_error)) }
         // Where it has ended before, it tells that again.
-        ensures again { (why : NoReportValue) → ended_of self.old ≡ Some why
+        ensures again { (end : _) → ended_of self.old ≡ Some end
             → length datagram.now ≤ most_bytes
-            → IsToldAgain why result × (self.new ≡ self.old) }
+            → IsToldAgain end result × (self.new ≡ self.old) }
     {
         if datagram.len() > MOST_BYTES {
             return Err(CheckFault::Frame(FrameFault::TooLong));
         }
         are_bytes(datagram);
-        if let Some(why) = self.ended {
-            return match why {
-                NoReport::Reason(reason) => Ok(Some(reason)),
-                NoReport::Fault(fault) => Err(fault),
-            };
+        if let Some(end) = self.ended {
+            return Ok(Some(end?));
         }
-        match self.walk.step(datagram) {
-            Ok(()) => Ok(None),
-            Err(NoReport::Reason(reason)) => {
-                self.ended = Some(NoReport::Reason(reason));
-                Ok(Some(reason))
-            }
-            Err(NoReport::Fault(fault)) => {
-                self.ended = Some(NoReport::Fault(fault));
-                Err(fault)
-            }
-        }
+        let answer = self.walk.step(datagram);
+        self.ended = answer.transpose();
+        Ok(answer?)
     }
 
     /// The verdict on the datagrams that were fed, in their order, as [`crate::check`] has it of a
@@ -136,21 +123,13 @@ impl<'a> Checker<'a> {
             (ds : List (List ℕ)) → IsFed self.now who object z ds
             → IfOk result (λ v. OnYes v (IsReport who ds z.fti)) }
         // Where the check has ended, that is told.
-        ensures ended { (r : ReasonValue) → ended_of self.now ≡ Some (NoReport.Reason r)
+        ensures ended { (r : ReasonValue) → ended_of self.now ≡ Some (Ok r)
             → IsOkAnd result (λ v. v ≡ Verdict.No r) }
-        ensures lacks { ended_of self.now ≡ Some (NoReport.Fault CheckFault.NoMemory)
-            → IsErr result }
+        ensures lacks { ended_of self.now ≡ Some (Err alloc_error) → IsErr result }
     {
-        if let Some(why) = self.ended {
-            return match why {
-                NoReport::Reason(reason) => Ok(Verdict::No(reason)),
-                NoReport::Fault(_) => Err(AllocError),
-            };
-        }
-        match self.walk.report(alloc) {
-            Ok(report) => Ok(Verdict::Yes(report)),
-            Err(NoReport::Reason(reason)) => Ok(Verdict::No(reason)),
-            Err(NoReport::Fault(_)) => Err(AllocError),
+        match self.ended {
+            Some(end) => Ok(Verdict::No(end?)),
+            None => self.walk.verdict(alloc),
         }
     }
 

@@ -1,41 +1,17 @@
 //! The check.
-ghost use Rattle.std.specs.Prelude.{IfOk, IfErr, OnOk};
+ghost use Rattle.std.specs.Prelude.{IfOk};
 ghost use Rattle.reception.specs.Headline.{DecodesWhereEnough, TwinWhereShort, TellsElse};
-ghost use Rattle.cert.specs.DatagramWalk.{IsNo};
 ghost use Rattle.certificate.specs.Certificate.{IsCertificate};
 ghost use Rattle.cert.specs.Report.{IsReport, OnYes};
-ghost use Rattle.cert.specs.Verdict.{IsCertificateOf, IsVerdict};
-ghost use Rattle.reception.specs.Walks.{readings_of};
+ghost use Rattle.cert.specs.Verdict.{IsVerdict};
 
-use crate::fault::NoReport;
-use crate::verdict::{Report, Verdict};
+use crate::verdict::Verdict;
 use crate::walk::Walk;
 use certificate::Certificate;
 use reception::Identity;
 use session::Session;
 use std::alloc::{AllocError, Global};
 use std::borrow::CowSlice;
-
-// The report, or the first reason why there is none.
-fn report_of(
-    alloc: Global,
-    session: &Session,
-    object: &[u8],
-    certificate: &Certificate,
-    identity: Identity,
-) -> Result<Report, NoReport>
-    ensures yes { OnOk result
-        (IsCertificateOf identity (readings_of session.now) object.now certificate.now) }
-    ensures report { IfOk result (IsReport identity session.now certificate.now.fti) }
-    ensures no { IfErr result (IsNo identity session.now object.now certificate.now) }
-{
-    let object = CowSlice::Borrowed(object);
-    let mut walk = Walk::new(alloc, object, certificate.view(), identity)?;
-    for place in 0..session.len() {
-        walk.step(session.get(place))?;
-    }
-    walk.report(alloc)
-}
 
 // The verdict, without what a yes promises.
 fn verdict_of(
@@ -50,14 +26,20 @@ fn verdict_of(
         OnYes v (IsReport identity session.now certificate.now.fti)) }
     ensures certificate { IsCertificate certificate.now }
 {
-    // With these comes what is true of each session and of each certificate.
-    session.len();
+    // With this comes what is true of each certificate.
     certificate.fti();
-    match report_of(alloc, session, object, certificate, identity) {
-        Ok(report) => Ok(Verdict::Yes(report)),
-        Err(NoReport::Reason(reason)) => Ok(Verdict::No(reason)),
-        Err(NoReport::Fault(_)) => Err(AllocError),
+    let count = session.len();
+    let object = CowSlice::Borrowed(object);
+    let mut walk = match Walk::new(alloc, object, certificate.view(), identity)? {
+        Ok(walk) => walk,
+        Err(reason) => return Ok(Verdict::No(reason)),
+    };
+    for place in 0..count {
+        if let Some(reason) = walk.step(session.get(place))? {
+            return Ok(Verdict::No(reason));
+        }
     }
+    walk.verdict(alloc)
 }
 
 /// Whether the certificate is one of the identity's packets in the session, and of the object, and

@@ -2,18 +2,16 @@
 ghost use Rattle.reception.specs.Walks.{in_range};
 ghost use Rattle.std.specs.Prelude.{◌≡◌, ◌<◌, true, [], length, IfOk, OnOk};
 ghost use Rattle.alc.specs.Views.{packet_of};
-ghost use Rattle.reception.specs.Reception.{Faulty, symbol_of};
-ghost use Rattle.cert.specs.Verdict.{GivesObject, uncertified, reason_at};
+ghost use Rattle.reception.specs.Reception.{symbol_of};
+ghost use Rattle.cert.specs.Verdict.{GivesObject, uncertified};
 ghost use Rattle.cert.specs.Scan.{AreGroupsOf, IsPut, with_carrier};
 ghost use Rattle.losses.specs.Groups.{groups_of};
 
 use crate::source::source_symbol;
-use crate::verdict::Reason;
 use alc::Packet;
 use certified_symbols::{CertifiedSymbols, first_difference};
 use losses::{Groups, Member};
 use partition::Fti;
-use reception::PlaceFault;
 use std::alloc::{AllocError, Global};
 
 /// The least column in which a packet's symbol isn't the certified one, which is the object's where
@@ -35,18 +33,6 @@ pub(crate) fn first_wrong_column_of(
         return first_difference(packet.symbol, source_symbol(object, &fti, packet.sbn, esi));
     }
     symbols.first_wrong_column(packet.sbn, packet.esi, packet.symbol)
-}
-
-/// The reason that a fault at a place is.
-pub fn reason_of(place: usize, fault: PlaceFault) -> Reason
-    ensures { result ≡ reason_at place (Faulty fault) }
-{
-    match fault {
-        PlaceFault::NoPacket(fault) => Reason::Packet(place, fault),
-        PlaceFault::OtherFti => Reason::OtherFti(place),
-        PlaceFault::SymbolLength => Reason::SymbolLength(place),
-        PlaceFault::Range => Reason::Range(place),
-    }
 }
 
 /// A group for each block, with no symbols yet.

@@ -1,7 +1,6 @@
-//! Why a check gives no report, or wasn't done.
+//! Why a check wasn't done.
 ghost use Rattle.std.specs.Prelude.{◌≡◌};
 
-use crate::verdict::Reason;
 use certificate::CertFault;
 use session::FrameFault;
 use std::alloc::AllocError;
@@ -28,33 +27,22 @@ pub enum CheckFault {
     NoMemory,
 }
 
-/// Why there is no report. A walk over datagrams lacks nothing but memory (`Fault(NoMemory)`).
-#[derive(Debug, Clone, Copy, PartialEq, Eq)]
-pub enum NoReport {
-    /// The verdict is no, for this reason.
-    Reason(Reason),
-    /// The check wasn't done.
-    Fault(CheckFault),
-}
-
-impl From<AllocError> for NoReport {
+impl From<AllocError> for CheckFault {
     ghost use Rattle.cert.specs.declared.fault.CheckFault.TheVariants.{NoMemory};
-    ghost use Rattle.cert.specs.declared.fault.NoReport.TheVariants.{Fault};
 
-    ghost from_gives = { λ _ no_report. no_report ≡ Fault NoMemory };
+    ghost from_gives = { λ _ fault. fault ≡ NoMemory };
 
     fn from(_: AllocError) -> Self {
-        NoReport::Fault(CheckFault::NoMemory)
+        CheckFault::NoMemory
     }
 }
 
-impl From<FrameFault> for NoReport {
+impl From<FrameFault> for CheckFault {
     ghost use Rattle.cert.specs.declared.fault.CheckFault.TheVariants.{Frame};
-    ghost use Rattle.cert.specs.declared.fault.NoReport.TheVariants.{Fault};
 
-    ghost from_gives = { λ fault no_report. no_report ≡ Fault (Frame fault) };
+    ghost from_gives = { λ e fault. fault ≡ Frame e };
 
-    fn from(fault: FrameFault) -> Self {
-        NoReport::Fault(CheckFault::Frame(fault))
+    fn from(e: FrameFault) -> Self {
+        CheckFault::Frame(e)
     }
 }

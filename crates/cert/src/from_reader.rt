@@ -1,11 +1,10 @@
 //! The check of datagrams that are read one at a time.
 ghost use Rattle.std.specs.Prelude.{◌≡◌, false, IfOk, IfErr};
 ghost use Rattle.cert.specs.DatagramWalk.{IsWalkedFrom};
-ghost use Rattle.cert.specs.Endings.{IsEnding};
 ghost use Rattle.cert.specs.FromReader.{IsCheckedFrom, IsRefusedBehind, IsCheckFault};
 
-use crate::fault::{CheckFault, NoReport};
-use crate::verdict::{Report, Verdict};
+use crate::fault::CheckFault;
+use crate::verdict::{Reason, Verdict};
 use crate::walk::Walk;
 use certificate::{Certificate, CertificateView};
 use lists::are_bytes;
@@ -14,54 +13,44 @@ use session::{FrameFault, Read, read_next_into};
 use std::alloc::Global;
 use std::borrow::CowSlice;
 
-/// The walk over all datagrams that are left, or why it ended before. Reading goes no further than
-/// the first reason.
+/// The walk over all datagrams that are left, or the first reason against one of them, the name or
+/// the object. Reading goes no further than that.
 pub(crate) fn walk_from<'a, R: Read>(
     alloc: Global,
     reader: &mut R,
     object: &'a [u8],
     certificate: CertificateView<'a>,
     identity: Identity,
-) -> Result<Walk<'a>, NoReport>
-    ensures walked { IfOk result (IsWalkedFrom identity (R.remaining reader.old)
-        (R.remaining reader.new) object.now certificate.entry) }
-    ensures no { IfErr result (IsEnding identity (R.remaining reader.old)
-        (R.remaining reader.new) (R.failed reader.new) object.now certificate.entry) }
-    ensures unsound { IfErr result (λ e.
-        e ≡ NoReport.Fault (CheckFault.Frame FrameFault.Io) → R.sound reader.old ≡ false) }
+) -> Result<Result<Walk<'a>, Reason>, CheckFault>
+    ensures walked { IfOk result (λ r. IfOk r (IsWalkedFrom identity (R.remaining reader.old)
+        (R.remaining reader.new) object.now certificate.entry)) }
+    ensures no { IfOk result (λ r. IfErr r (λ reason. IsCheckedFrom identity
+        (R.remaining reader.old) (R.remaining reader.new) object.now certificate.entry
+        (Verdict.No reason))) }
+    ensures fault { IfErr result (IsCheckFault (λ fault. IsRefusedBehind identity fault
+        (R.remaining reader.old) (R.remaining reader.new) (R.failed reader.new)
+        object.now certificate.entry)) }
+    ensures unsound { IfErr result (λ fault.
+        fault ≡ CheckFault.Frame FrameFault.Io → R.sound reader.old ≡ false) }
     ensures stays { R.sound reader.new ≡ R.sound reader.old }
 {
-    let mut walk = Walk::new(alloc, CowSlice::Borrowed(object), certificate, identity)?;
+    let object = CowSlice::Borrowed(object);
+    let mut walk = match Walk::new(alloc, object, certificate, identity)? {
+        Ok(walk) => walk,
+        Err(reason) => return Ok(Err(reason)),
+    };
     let mut room = Vec::new(alloc);
     loop {
         let Some(datagram) = read_next_into(reader, room)? else {
-            return Ok(walk);
+            return Ok(Ok(walk));
         };
         let bytes = datagram.as_slice();
         are_bytes(bytes);
-        walk.step(bytes)?;
+        if let Some(reason) = walk.step(bytes)? {
+            return Ok(Err(reason));
+        }
         room = datagram;
     }
-}
-
-// The report on all datagrams that are left, or why there is none.
-fn report_from<R: Read>(
-    alloc: Global,
-    reader: &mut R,
-    object: &[u8],
-    certificate: CertificateView<'_>,
-    identity: Identity,
-) -> Result<Report, NoReport>
-    ensures yes { IfOk result (λ report. IsCheckedFrom identity (R.remaining reader.old)
-        (R.remaining reader.new) object.now certificate.entry (Verdict.Yes report)) }
-    ensures no { IfErr result (IsEnding identity (R.remaining reader.old)
-        (R.remaining reader.new) (R.failed reader.new) object.now certificate.entry) }
-    ensures unsound { IfErr result (λ e.
-        e ≡ NoReport.Fault (CheckFault.Frame FrameFault.Io) → R.sound reader.old ≡ false) }
-    ensures stays { R.sound reader.new ≡ R.sound reader.old }
-{
-    let walk = walk_from(alloc, reader, object, certificate, identity)?;
-    walk.report(alloc)
 }
 
 /// The check of an identity's packets among the datagrams that are left of a reader, read one at a
@@ -109,9 +98,8 @@ pub fn check_view_from<R: Read>(
         fault ≡ CheckFault.Frame FrameFault.Io → R.sound reader.old ≡ false) }
     ensures stays { R.sound reader.new ≡ R.sound reader.old }
 {
-    match report_from(alloc, reader, object, certificate, identity) {
-        Ok(report) => Ok(Verdict::Yes(report)),
-        Err(NoReport::Reason(reason)) => Ok(Verdict::No(reason)),
-        Err(NoReport::Fault(fault)) => Err(fault),
+    match walk_from(alloc, reader, object, certificate, identity)? {
+        Ok(walk) => Ok(walk.verdict(alloc)?),
+        Err(reason) => Ok(Verdict::No(reason)),
     }
 }

@@ -7,7 +7,7 @@
 //! }
 //! ```
 //!
-//! `verdict` has what a check answers, `fault` why it has no report, `specs/Verdict` which answer
+//! `verdict` has what a check answers, `fault` why it wasn't done, `specs/Verdict` which answer
 //! is right, `specs/Report` what a yes tells.
 //!
 //! A check asks for one identity's packets and is a walk over datagrams, one step each (`walk`).
@@ -46,8 +46,7 @@ mod walk;
 
 pub use checker::Checker;
 pub use checking::check;
-pub use datagrams::reason_of;
-pub use fault::{CheckFault, NoReport};
+pub use fault::CheckFault;
 pub use from_reader::{check_from, check_view_from};
 pub use laws::{first_column, first_reason, one_verdict, own_name_changes_nothing, reason_order};
 pub use losses::Run;

@@ -1,36 +1,15 @@
 //! The check with what a picture of a yes shows.
-ghost use Rattle.std.specs.Prelude.{◌≡◌, false, Some, IfOk, IfErr};
-ghost use Rattle.cert.specs.Endings.{IsEnding};
+ghost use Rattle.std.specs.Prelude.{◌≡◌, false, IfOk, IfErr};
 ghost use Rattle.cert.specs.FromReader.{IsCheckedFrom, IsRefusedBehind, IsCheckFault};
 ghost use Rattle.cert.specs.Surveying.{IsSurveyedFrom};
 
-use crate::fault::{CheckFault, NoReport};
+use crate::fault::CheckFault;
 use crate::from_reader::walk_from;
-use crate::verdict::{Report, Survey, Verdict};
+use crate::verdict::{Survey, Verdict};
 use certificate::Certificate;
 use reception::Identity;
 use session::{FrameFault, Read};
 use std::alloc::Global;
-
-// The report on all datagrams that are left and its survey, or why there is none.
-fn survey_of<R: Read>(
-    alloc: Global,
-    reader: &mut R,
-    object: &[u8],
-    certificate: &Certificate,
-    identity: Identity,
-) -> Result<(Report, Survey), NoReport>
-    ensures yes { IfOk result (λ r. IsSurveyedFrom identity (R.remaining reader.old)
-        (R.remaining reader.new) object.now certificate.now (Verdict.Yes r.0) (Some r.1)) }
-    ensures no { IfErr result (IsEnding identity (R.remaining reader.old)
-        (R.remaining reader.new) (R.failed reader.new) object.now certificate.now) }
-    ensures unsound { IfErr result (λ e.
-        e ≡ NoReport.Fault (CheckFault.Frame FrameFault.Io) → R.sound reader.old ≡ false) }
-    ensures stays { R.sound reader.new ≡ R.sound reader.old }
-{
-    let walk = walk_from(alloc, reader, object, certificate.view(), identity)?;
-    walk.survey(alloc)
-}
 
 /// The check as [`crate::check_from`] does it, with the same verdict and the same faults, and at a
 /// yes, and only there, what a picture shows beside the report.
@@ -56,9 +35,8 @@ pub fn survey_from<R: Read>(
         fault ≡ CheckFault.Frame FrameFault.Io → R.sound reader.old ≡ false) }
     ensures stays { R.sound reader.new ≡ R.sound reader.old }
 {
-    match survey_of(alloc, reader, object, certificate, identity) {
-        Ok((report, survey)) => Ok((Verdict::Yes(report), Some(survey))),
-        Err(NoReport::Reason(reason)) => Ok((Verdict::No(reason), None)),
-        Err(NoReport::Fault(fault)) => Err(fault),
+    match walk_from(alloc, reader, object, certificate.view(), identity)? {
+        Ok(walk) => Ok(walk.survey(alloc)?),
+        Err(reason) => Ok((Verdict::No(reason), None)),
     }
 }

@@ -1,29 +1,28 @@
 //! The tally of datagrams that were looked at one by one: what came, but for the symbols' bytes.
-ghost use Rattle.std.specs.Prelude.{◌≡◌, ◌<◌, ◌≤◌, ◌+◌, ◌-◌, ◌^◌, [], None, Some, ℕ, List, length};
-ghost use Rattle.std.specs.Prelude.{map, true, is_some, IfOk, IfErr, OnOk};
-ghost use Rattle.std.specs.List.{list_any, sum_by};
+ghost use Rattle.std.specs.Prelude.{◌≡◌, ◌<◌, ◌≤◌, ◌+◌, ◌-◌, ◌^◌, [], ℕ, List, length};
+ghost use Rattle.std.specs.Prelude.{map, true, is_some, IfOk, IfSome, IsNone, OnOk};
+ghost use Rattle.std.specs.List.{sum_by};
 ghost use Rattle.lists.specs.Below.{below};
 ghost use Rattle.losses.specs.Groups.{group_at, groups_of, InEachList};
 ghost use Rattle.losses.specs.Losses.{IsBurst};
 ghost use Rattle.session.specs.Frames.{AreDatagrams};
 ghost use Rattle.partition.specs.Fti.{Fti as FtiValue};
 ghost use Rattle.alc.specs.Views.{packet_of};
-ghost use Rattle.reception.specs.Reception.{is_carrier, symbol_of};
-ghost use Rattle.reception.specs.Step.{IsLook};
+ghost use Rattle.reception.specs.Reception.{symbol_of};
 ghost use Rattle.reception.specs.Walks.{readings_of};
 ghost use Rattle.certificate.specs.Certificate.{Certificate as CertificateValue};
-ghost use Rattle.cert.specs.Report.{IsReport};
-ghost use Rattle.cert.specs.Surveying.{IsSurvey};
-ghost use Rattle.cert.specs.Scan.{line_in, with_carrier, AreEnough, AreEnoughCertified};
-ghost use Rattle.cert.specs.Scan.{IsShortGroup, IsShortWhereThin, IsPut, IsNoReport};
+ghost use Rattle.cert.specs.Report.{IsReport, OnYes};
+ghost use Rattle.cert.specs.Surveying.{IsSurvey, OnYesWith};
+ghost use Rattle.cert.specs.Scan.{line_in, with_carrier, AreEnough, IsFirstShortGroup, IsPut};
+ghost use Rattle.cert.specs.Scan.{VerdictWhereGiven};
+ghost use Rattle.cert.specs.Verdict.{IsAgainst};
 
 use crate::datagrams::{empty_groups, put, put_carrier};
-use crate::fault::NoReport;
-use crate::verdict::{Reason, Report, Survey};
+use crate::verdict::{Reason, Report, Survey, Verdict};
 use alc::Packet;
 use losses::{Figures, Groups, Member, figures_of, runs_of};
 use partition::Fti;
-use reception::{Identity, Look, PlaceFault, Scope};
+use reception::{Identity, Look, Scope};
 use std::alloc::{AllocError, Global};
 
 /// Which datagrams came to one who asks for an identity's packets and knows their FTI. None is
@@ -42,7 +41,8 @@ pub struct Tally {
 }
 
 impl Tally {
-    ghost use Rattle.cert.specs.Tallying.{AreTallied, IsTally, Says, by_certificate, tallied_of};
+    ghost use Rattle.cert.specs.Tallying.{AreTallied, IsLookAt, IsTally, LacksNothing, Says};
+    ghost use Rattle.cert.specs.Tallying.{by_certificate, tallied_of};
 
     /// Before the first datagram.
     pub fn new(alloc: Global, identity: Identity, fti: Fti) -> Result<Tally, AllocError>
@@ -59,12 +59,22 @@ impl Tally {
         })
     }
 
-    /// What the next datagram is, before it is counted.
-    pub fn look<'d>(&self, datagram: &'d [u8]) -> Result<Look<'d>, PlaceFault>
-        ensures { IsLook datagram.now self.now.scope self.now.scope result }
+    /// The next datagram's packet in range, or the reason against it, before it is counted. `None`
+    /// where it is of another identity.
+    pub fn look<'d>(&self, datagram: &'d [u8]) -> Result<Option<Packet<'d>>, Reason>
+        ensures { IsLookAt datagram.now self.now.scope self.now.count result }
     {
+        let place = self.count;
         let mut scope = self.scope;
-        scope.look(datagram)
+        match scope.look(datagram) {
+            Ok(Look::InRange(packet)) => Ok(Some(packet)),
+            Ok(Look::Other) => Ok(None),
+            Ok(Look::Early) => unreachable!(),
+            Ok(Look::OtherFti) => Err(Reason::OtherFti(place)),
+            Ok(Look::SymbolLength) => Err(Reason::SymbolLength(place)),
+            Ok(Look::Range) => Err(Reason::Range(place)),
+            Err(fault) => Err(Reason::Packet(place, fault)),
+        }
     }
 
     /// Passes over the next datagram, which is only counted. There is no more memory than the count
@@ -102,44 +112,46 @@ impl Tally {
         put_carrier(&mut self.carriers, place, packet)
     }
 
-    /// The report on the datagrams, or the reason for which they don't suffice.
-    pub fn report(&self, alloc: Global) -> Result<Report, NoReport>
+    /// The verdict on the datagrams, where nothing is against them at their places, nor against the
+    /// object. Want of memory is the only error.
+    pub fn verdict(&self, alloc: Global) -> Result<Verdict, AllocError>
         requires { (says : Says) × (f : FtiValue) × (datagrams : List (List ℕ))
             × IsTally says f self.now datagrams }
         ensures report { (says : Says) (f : FtiValue) (datagrams : List (List ℕ))
             → AreDatagrams datagrams → IsTally says f self.now datagrams
-            → IfOk result (IsReport self.now.scope.identity datagrams f) }
-        ensures certified { (z : CertificateValue) (datagrams : List (List ℕ))
+            → IfOk result (λ v. OnYes v (IsReport self.now.scope.identity datagrams f)) }
+        ensures verdict { (z : CertificateValue) (datagrams : List (List ℕ))
             → IsTally (by_certificate z) z.fti self.now datagrams
-            → OnOk result (AreEnoughCertified self.now.scope.identity datagrams z) }
-        ensures no_report { (z : CertificateValue) (datagrams : List (List ℕ))
-            → IsTally (by_certificate z) z.fti self.now datagrams
-            → IfErr result (IsNoReport self.now.scope.identity datagrams z) }
-        ensures short { IfErr result (IsShortWhereThin (groups_of self.now.groups)) }
+            → IfOk result (VerdictWhereGiven self.now.scope.identity datagrams z) }
+        ensures short { (b have need : ℕ) → IfOk result (λ v.
+            v ≡ Verdict.No (Reason.Thin b have need)
+            → IsFirstShortGroup (groups_of self.now.groups) b have need) }
     {
-        self.report_of_groups(alloc)
+        match self.lack() {
+            Some(reason) => Ok(Verdict::No(reason)),
+            None => Ok(Verdict::Yes(self.report(alloc)?)),
+        }
     }
 
-    /// The report on the datagrams and what a picture shows beside it, or the reason for which they
-    /// don't suffice.
-    pub fn survey(&self, alloc: Global) -> Result<(Report, Survey), NoReport>
+    /// The verdict on the datagrams as [`Self::verdict`] has it, and at a yes, and only there, what
+    /// a picture shows beside the report.
+    pub fn survey(&self, alloc: Global) -> Result<(Verdict, Option<Survey>), AllocError>
         requires { (says : Says) × (f : FtiValue) × (datagrams : List (List ℕ))
             × IsTally says f self.now datagrams }
         ensures report { (says : Says) (f : FtiValue) (datagrams : List (List ℕ))
-            → AreDatagrams datagrams → IsTally says f self.now datagrams → IfOk result (λ r.
-            IsReport self.now.scope.identity datagrams f r.0) }
+            → AreDatagrams datagrams → IsTally says f self.now datagrams
+            → IfOk result (λ r. OnYes r.0 (IsReport self.now.scope.identity datagrams f)) }
         ensures survey { (says : Says) (f : FtiValue) (datagrams : List (List ℕ))
             → AreDatagrams datagrams → IsTally says f self.now datagrams → IfOk result (λ r.
-            IsSurvey self.now.scope.identity datagrams f r.0 r.1) }
-        ensures certified { (z : CertificateValue) (datagrams : List (List ℕ))
+            OnYesWith r.0 r.1 (IsSurvey self.now.scope.identity datagrams f)) }
+        ensures verdict { (z : CertificateValue) (datagrams : List (List ℕ))
             → IsTally (by_certificate z) z.fti self.now datagrams
-            → OnOk result (AreEnoughCertified self.now.scope.identity datagrams z) }
-        ensures no_report { (z : CertificateValue) (datagrams : List (List ℕ))
-            → IsTally (by_certificate z) z.fti self.now datagrams
-            → IfErr result (IsNoReport self.now.scope.identity datagrams z) }
-        ensures short { IfErr result (IsShortWhereThin (groups_of self.now.groups)) }
+            → IfOk result (λ r. VerdictWhereGiven self.now.scope.identity datagrams z r.0) }
     {
-        let report = self.report_of_groups(alloc)?;
+        if let Some(reason) = self.lack() {
+            return Ok((Verdict::No(reason), None));
+        }
+        let report = self.report(alloc)?;
         let runs = runs_of(alloc, &self.groups, &self.carriers, self.count)?;
         let carriers = self.carriers.to_vec(alloc)?;
         let survey = Survey {
@@ -147,7 +159,7 @@ impl Tally {
             carriers,
             runs,
         };
-        Ok((report, survey))
+        Ok((Verdict::Yes(report), Some(survey)))
     }
 
     /// The ESIs of a block's symbols, as they came.
@@ -161,35 +173,43 @@ impl Tally {
         esis_of_members(alloc, &members)
     }
 
-    // The report, whose burst is that of the groups and the carriers.
-    fn report_of_groups(&self, alloc: Global) -> Result<Report, NoReport>
+    // The first of what lacks, if something does: packets, symbols of a block, a carrier.
+    fn lack(&self) -> Option<Reason>
         requires { (says : Says) × (f : FtiValue) × (datagrams : List (List ℕ))
             × IsTally says f self.now datagrams }
+        ensures none { IsNone result → LacksNothing self.now }
+        ensures against { (z : CertificateValue) (datagrams : List (List ℕ))
+            → IsTally (by_certificate z) z.fti self.now datagrams
+            → IfSome result (IsAgainst self.now.scope.identity (readings_of datagrams) z) }
+        ensures short { (b have need : ℕ) → IfSome result (λ reason.
+            reason ≡ Reason.Thin b have need
+            → IsFirstShortGroup (groups_of self.now.groups) b have need) }
+    {
+        if self.taken == 0 {
+            return Some(Reason::Empty);
+        }
+        if let Some((block, have, need)) = first_short(&self.groups) {
+            return Some(Reason::Thin { block, have, need });
+        }
+        if self.carriers.is_empty() {
+            return Some(Reason::NoCarrier);
+        }
+        None
+    }
+
+    // The report where nothing lacks, whose burst is that of the groups and the carriers.
+    fn report(&self, alloc: Global) -> Result<Report, AllocError>
+        requires tally { (says : Says) × (f : FtiValue) × (datagrams : List (List ℕ))
+            × IsTally says f self.now datagrams }
+        requires all { LacksNothing self.now }
         ensures report { (says : Says) (f : FtiValue) (datagrams : List (List ℕ))
             → AreDatagrams datagrams → IsTally says f self.now datagrams
             → IfOk result (IsReport self.now.scope.identity datagrams f) }
         ensures burst { IfOk result (λ report.
             InEachList (groups_of self.now.groups) self.now.carriers.items
             (λ blocks xs. IsBurst blocks xs report.burst)) }
-        ensures enough { OnOk result (AreEnough (groups_of self.now.groups)) }
-        ensures carrier { (says : Says) (f : FtiValue) (datagrams : List (List ℕ))
-            → IsTally says f self.now datagrams → OnOk result
-            (list_any (is_carrier self.now.scope.identity) (readings_of datagrams) ≡ true) }
-        ensures certified { (z : CertificateValue) (datagrams : List (List ℕ))
-            → IsTally (by_certificate z) z.fti self.now datagrams
-            → OnOk result (AreEnoughCertified self.now.scope.identity datagrams z) }
-        ensures no_report { (z : CertificateValue) (datagrams : List (List ℕ))
-            → IsTally (by_certificate z) z.fti self.now datagrams
-            → IfErr result (IsNoReport self.now.scope.identity datagrams z) }
-        ensures short { IfErr result (IsShortWhereThin (groups_of self.now.groups)) }
     {
-        if self.taken == 0 {
-            return Err(NoReport::Reason(Reason::Empty));
-        }
         let blocks = block_lines(alloc, &self.groups)?;
-        if self.carriers.is_empty() {
-            return Err(NoReport::Reason(Reason::NoCarrier));
-        }
         let Figures {
             margin,
             kill,
@@ -224,26 +244,30 @@ fn without_different(taken: usize, blocks: &[(usize, usize)]) -> usize
     repeats
 }
 
-// For each block its source symbols and its different ESIs, or the reason of the least block that
-// has too few.
-fn block_lines(alloc: Global, groups: &Groups) -> Result<Vec<(usize, usize)>, NoReport>
+// The least block with fewer different ESIs than it needs, how many it has and how many it needs.
+fn first_short(groups: &Groups) -> Option<(u32, usize, usize)>
     requires { length (groups_of groups.now) ≤ 2 ^ 24 }
-    ensures lines { IfOk result (λ v.
-        v.items ≡ map (line_in (groups_of groups.now)) (below (length (groups_of groups.now)))) }
-    ensures enough { OnOk result (AreEnough (groups_of groups.now)) }
-    ensures no_report { IfErr result (IsShortGroup (groups_of groups.now)) }
+    ensures enough { IsNone result → AreEnough (groups_of groups.now) }
+    ensures short { IfSome result (λ s. IsFirstShortGroup (groups_of groups.now) s.0 s.1 s.2) }
 {
-    let mut blocks = Vec::new(alloc);
     for block in 0..groups.len() {
         let need = groups.need(block);
         let have = groups.different(block);
         if have < need {
-            let block = block as u32;
-            return Err(NoReport::Reason(Reason::Thin { block, have, need }));
+            return Some((block as u32, have, need));
         }
-        let Ok(()) = blocks.push((need, have)) else {
-            return Err(NoReport::from(AllocError));
-        };
+    }
+    None
+}
+
+// For each block its source symbols and its different ESIs.
+fn block_lines(alloc: Global, groups: &Groups) -> Result<Vec<(usize, usize)>, AllocError>
+    ensures { IfOk result (λ v.
+        v.items ≡ map (line_in (groups_of groups.now)) (below (length (groups_of groups.now)))) }
+{
+    let mut blocks = Vec::new(alloc);
+    for block in 0..groups.len() {
+        blocks.push((groups.need(block), groups.different(block)))?;
     }
     Ok(blocks)
 }

@@ -263,6 +263,9 @@ fn esis_held(
             }
             Ok(Look::Other) => {}
             Ok(Look::Early) => {}
+            Ok(Look::OtherFti) => {}
+            Ok(Look::SymbolLength) => {}
+            Ok(Look::Range) => {}
             Err(_) => {}
         }
     }

@@ -1,19 +1,17 @@
-use Rattle.std.proofs.Common.{◌∙◌, ◌++◌, ◌∷◌, []}
+use Rattle.std.proofs.Common.{◌∙◌, ◌++◌, ◌∷◌, [], refl}
 use Rattle.session.specs.Frames.{IsDatagram}
 use Rattle.session.proofs.Sessions.{datagrams_push}
-use Rattle.cert.specs.declared.fault.NoReport.TheVariants.{Fault}
 use Rattle.cert.specs.declared.fault.CheckFault.TheVariants.{Frame}
 use Rattle.certificate.proofs.Results.{passed_on}
 use Rattle.cert.proofs.FromReader.{consumes_none, consumes_one, not_begun, not_passed, not_read}
 use Rattle.cert.proofs.from_reader.walk_from.Goals as goal
 
-pub returns-in_err-walk-clause-no : goal.returns-in_err-walk-clause-no
-returns-in_err-walk-clause-no g c =
-    passed_on c.from_residual.result c.in_err-walk.field-0.0 _ c.from_residual.ensures.1
-    (not_begun c.args.identity (g.R.Read.remaining c.args.reader.now) (g.R.Read.failed c.args.reader.now) c.args.certificate c.args.object.now c.in_err-walk.field-0.0 c.in_err-walk.ensures.no_report)
+pub returns-in-Err-clause-no : goal.returns-in-Err-clause-no
+returns-in-Err-clause-no g c =
+    not_begun c.args.identity (g.R.Read.remaining c.args.reader.now) c.args.certificate c.args.object.now c.in-Err.reason (rw c.in-Err.is at c.in_ok-walk.ensures.against)
 
-pub returns-in_err-datagram-clause-no : goal.returns-in_err-datagram-clause-no
-returns-in_err-datagram-clause-no g c =
+pub returns-in_err-datagram-clause-fault : goal.returns-in_err-datagram-clause-fault
+returns-in_err-datagram-clause-fault g c =
     let who = c.args.identity in
     let z = c.args.certificate in
     let object = c.args.object.now in
@@ -22,12 +20,12 @@ returns-in_err-datagram-clause-no g c =
     let gives = rw (c.loop-walk.invariant.certificate, c.loop-walk.invariant.object) at c.loop-walk.walk.gives in
     let read = c.loop-walk.invariant.read in
     let clean = rw (c.loop-walk.invariant.identity, c.loop-walk.invariant.certificate) at read.2.clean in
-    passed_on c.from_residual-in_err-datagram.result (Fault (Frame c.in_err-datagram.field-0.0)) _ c.from_residual-in_err-datagram.ensures.1
-    (not_read who z object name form gives (g.R.Read.remaining c.args.reader.now) (g.R.Read.remaining c.loop-walk.reader) (g.R.Read.failed c.read_next_into.new.reader) read.0 read.1 read.3 clean
+    passed_on c.from_residual-in_err-datagram.result (Frame c.in_err-datagram.field-0.0) _ c.from_residual-in_err-datagram.ensures.1
+    (not_read who z object name form gives (g.R.Read.remaining c.args.reader.now) (g.R.Read.remaining c.loop-walk.reader) read.0 read.1 read.3 clean (g.R.Read.failed c.read_next_into.new.reader)
     (g.R.Read.remaining c.read_next_into.new.reader) c.in_err-datagram.field-0.0 c.in_err-datagram.ensures.fault)
 
-pub returns-in_err-step-clause-no : goal.returns-in_err-step-clause-no
-returns-in_err-step-clause-no g c =
+pub returns-in-Some-2-clause-no : goal.returns-in-Some-2-clause-no
+returns-in-Some-2-clause-no g c =
     let who = c.args.identity in
     let z = c.args.certificate in
     let object = c.args.object.now in
@@ -40,10 +38,10 @@ returns-in_err-step-clause-no g c =
     let short = rw c.in-Some.is at c.in_ok-datagram.ensures.short in
     let here : IsDatagram d = record { short = short; bytes = rw c.as_slice-bytes.ensures.value at c.are_bytes.ensures } in
     let left = g.R.Read.remaining c.read_next_into.new.reader in
-    passed_on c.from_residual-in_err-step.result c.in_err-step.field-0.0 _ c.from_residual-in_err-step.ensures.1
-    (not_passed who z object name form gives (g.R.Read.remaining c.args.reader.now) left (g.R.Read.failed c.read_next_into.new.reader) (read.0 ++ d ∷ []) (datagrams_push read.0 d read.1 here)
+    let against = rw c.in-Some-2.is at (c.in_ok-reason.ensures.against read.0 read.2) in
+    not_passed who z object name form gives (g.R.Read.remaining c.args.reader.now) left (read.0 ++ d ∷ []) (datagrams_push read.0 d read.1 here)
     (consumes_one (g.R.Read.remaining c.args.reader.now) (g.R.Read.remaining c.loop-walk.reader) left read.0 d read.3 some)
-    c.in_err-step.field-0.0 (rw (c.loop-walk.invariant.identity, c.loop-walk.invariant.certificate, c.as_slice-bytes.ensures.value) at (c.in_err-step.ensures.no_report read.0 read.2)))
+    c.in-Some-2.reason (rw (c.loop-walk.invariant.identity, c.loop-walk.invariant.certificate, c.as_slice-bytes.ensures.value) at against)
 
 pub loop-walk-preserved : goal.loop-walk-preserved
 loop-walk-preserved g c =
@@ -60,7 +58,7 @@ loop-walk-preserved g c =
       read = (
         read.0 ++ d ∷ [],
         datagrams_push read.0 d read.1 here,
-        rw c.as_slice-bytes.ensures.value at (c.in_ok-step.ensures.passed read.0 read.2),
+        rw c.as_slice-bytes.ensures.value at (c.in_ok-reason.ensures.passed read.0 read.2 (rw c.in_default-2.is refl)),
         consumes_one (g.R.Read.remaining c.args.reader.now) (g.R.Read.remaining c.loop-walk.reader) left read.0 d read.3 some,
       );
       stays = c.read_next_into.ensures.stays ∙ c.loop-walk.invariant.stays;

@@ -2,7 +2,7 @@ use Rattle.std.proofs.Common.{◌≡◌, ◌∙◌, ◌+◌, ◌++◌, ℕ, Opti
 use Rattle.alc.specs.Views.{packet_of}
 use Rattle.alc.specs.Reading.{Reading}
 use Rattle.partition.specs.Fti.{Fti}
-use Rattle.reception.specs.Reception.{Wrong, Faulty, symbol_of, symbols_in, with_fti}
+use Rattle.reception.specs.Reception.{NoPacket, OtherFti, SymbolLength, Range, Wrong, Faulty, symbol_of, symbols_in, with_fti}
 use Rattle.reception.specs.declared.scope.Scope.{Scope}
 use Rattle.reception.specs.declared.scope.Look.TheVariants as look_at
 use Rattle.reception.proofs.Looks.{never_early, may_pass}
@@ -12,7 +12,7 @@ use Rattle.cert.specs.Twins.{esis_of}
 use Rattle.cert.proofs.Scanning.{Scanned, scanned_fti}
 use Rattle.cert.proofs.Short.{one_here, none_here, passed_here}
 use Rattle.cert.proofs.twins.esis_held.Goals as goal
-use Rattle.cert.proofs.twins.esis_held.Goals.{in-Ok-InRange+then-packet-block+in_ok-push-in-Ok-InRange, in-Ok-InRange+else-packet-block, in-Ok-Other, in-Ok-Early, in-Err}
+use Rattle.cert.proofs.twins.esis_held.Goals.{in-Ok-InRange+then-packet-block+in_ok-push-in-Ok-InRange, in-Ok-InRange+else-packet-block, in-Ok-Other, in-Ok-Early, in-Ok-OtherFti, in-Ok-SymbolLength, in-Ok-Range, in-Err}
 
 pub loop-place-init : goal.loop-place-init
 loop-place-init c =
@@ -65,7 +65,10 @@ loop-place-preserved c =
             | in-Ok-Early w ↦
                 (let at = rw (w.in-Ok-Early.is, w.in-Ok-Early.field-0-is) at c.look.ensures in
                 absurd (never_early d old new at z.fti fti))
-            | in-Err w ↦ absurd (let e : ◌≡◌ {A = Option (Wrong ℕ)} (Some (Faulty w.in-Err.field-0)) None = rw w.in-Err.is at none in (cc))
+            | in-Ok-OtherFti w ↦ absurd (let e : ◌≡◌ {A = Option (Wrong ℕ)} (Some (Faulty OtherFti)) None = rw (w.in-Ok-OtherFti.is, w.in-Ok-OtherFti.field-0-is) at none in (cc))
+            | in-Ok-SymbolLength w ↦ absurd (let e : ◌≡◌ {A = Option (Wrong ℕ)} (Some (Faulty SymbolLength)) None = rw (w.in-Ok-SymbolLength.is, w.in-Ok-SymbolLength.field-0-is) at none in (cc))
+            | in-Ok-Range w ↦ absurd (let e : ◌≡◌ {A = Option (Wrong ℕ)} (Some (Faulty Range)) None = rw (w.in-Ok-Range.is, w.in-Ok-Range.field-0-is) at none in (cc))
+            | in-Err w ↦ absurd (let e : ◌≡◌ {A = Option (Wrong ℕ)} (Some (Faulty (NoPacket w.in-Err.field-0))) None = rw w.in-Err.is at none in (cc))
           ];
     }
 

@@ -1,45 +1,34 @@
-use Rattle.std.proofs.Common.{◌∙◌, ap, Some}
+use Rattle.std.proofs.Common.{◌≡◌, Some, Ok, rules}
+use Rattle.std.proofs.lemmas.Result.{IfOk-weaker}
 use Rattle.reception.specs.Walks.{readings_of}
 use Rattle.cert.proofs.Judging.{read_all}
-use Rattle.cert.proofs.Promise.{decodes as decodes_all}
-use Rattle.cert.proofs.Undecided.{undecided as undecided_all, tells as tells_all}
-use Rattle.cert.proofs.Feeding.{has_reason, goes_on, is_no, is_yes, is_short, judged_yes}
+use Rattle.cert.proofs.Feeding.{has_reason, goes_on, is_no}
+use Rattle.cert.proofs.Whole.{decodes_at_yes, undecided_at_yes, tells_at_yes}
 use Rattle.cert.proofs.checker.Checker.verdict.Goals as goal
 
-pub returns-in-Reason-clause-verdict : goal.returns-in-Reason-clause-verdict
-returns-in-Reason-clause-verdict c = λ who object z ds fed.
-    let r = c.in-Reason.reason in
-    let ended = c.in-Some.is ∙ ap Some c.in-Reason.is in
+pub returns-in_ok-end-in-Some-clause-verdict : goal.returns-in_ok-end-in-Some-clause-verdict
+returns-in_ok-end-in-Some-clause-verdict c = λ who object z ds fed.
+    let r = c.in_ok-end-in-Some.field-0 in
+    let ended : c.args.self.now.ended ≡ Some (Ok c.in_ok-end-in-Some.field-0) = search rules in
     is_no who object z ds r (has_reason c.args.self.now who object z ds r ended fed)
 
-pub returns-in-Ok-clause-verdict : goal.returns-in-Ok-clause-verdict
-returns-in-Ok-clause-verdict c = λ who object z ds fed.
-    let over = goes_on c.args.self.now who object z ds c.in_default.is fed in
-    is_yes who object z ds c.args.self.now.walk over fed.each c.in-Ok.report (c.in-Ok.ensures.certified ds over.walked)
+pub returns-in-None-clause-verdict : goal.returns-in-None-clause-verdict
+returns-in-None-clause-verdict c = λ who object z ds fed.
+    let over = goes_on c.args.self.now who object z ds c.in-None.is fed in
+    IfOk-weaker c.verdict.result _ _ (λ v judged. record { readings = readings_of ds; read = read_all ds fed.each; judged = judged })
+    (rw (over.identity, over.certificate, over.object_is) at (c.verdict.ensures.verdict ds over.walked))
 
-pub returns-in-Ok-clause-decodes : goal.returns-in-Ok-clause-decodes
-returns-in-Ok-clause-decodes c = λ who object z ds fed.
-    let over = goes_on c.args.self.now who object z ds c.in_default.is fed in
-    let valid = rw over.certificate at c.args.self.now.walk.valid in
-    decodes_all who ds (readings_of ds) object z (read_all ds fed.each) valid
-    (judged_yes who object z ds c.args.self.now.walk over fed.each c.in-Ok.report (c.in-Ok.ensures.certified ds over.walked))
+pub returns-in-None-clause-decodes : goal.returns-in-None-clause-decodes
+returns-in-None-clause-decodes c = λ who object z ds fed.
+    let over = goes_on c.args.self.now who object z ds c.in-None.is fed in
+    decodes_at_yes who ds object z c.verdict.result (rw over.certificate at c.args.self.now.walk.valid) (returns-in-None-clause-verdict c who object z ds fed)
 
-pub returns-in-Ok-clause-undecided : goal.returns-in-Ok-clause-undecided
-returns-in-Ok-clause-undecided c = λ who object z ds fed.
-    let over = goes_on c.args.self.now who object z ds c.in_default.is fed in
-    let valid = rw over.certificate at c.args.self.now.walk.valid in
-    undecided_all who ds (readings_of ds) object z (read_all ds fed.each) valid
-    (judged_yes who object z ds c.args.self.now.walk over fed.each c.in-Ok.report (c.in-Ok.ensures.certified ds over.walked))
+pub returns-in-None-clause-undecided : goal.returns-in-None-clause-undecided
+returns-in-None-clause-undecided c = λ who object z ds fed.
+    let over = goes_on c.args.self.now who object z ds c.in-None.is fed in
+    undecided_at_yes who ds object z c.verdict.result (rw over.certificate at c.args.self.now.walk.valid) (returns-in-None-clause-verdict c who object z ds fed)
 
-pub returns-in-Ok-clause-tells : goal.returns-in-Ok-clause-tells
-returns-in-Ok-clause-tells c = λ who object z ds fed.
-    let over = goes_on c.args.self.now who object z ds c.in_default.is fed in
-    let valid = rw over.certificate at c.args.self.now.walk.valid in
-    tells_all who ds (readings_of ds) object z (read_all ds fed.each) valid
-    (judged_yes who object z ds c.args.self.now.walk over fed.each c.in-Ok.report (c.in-Ok.ensures.certified ds over.walked))
-
-pub returns-in-Err-Reason-clause-verdict : goal.returns-in-Err-Reason-clause-verdict
-returns-in-Err-Reason-clause-verdict c = λ who object z ds fed.
-    let over = goes_on c.args.self.now who object z ds c.in_default.is fed in
-    is_short who object z ds c.args.self.now.walk over fed.each c.in-Err-Reason.reason
-    (rw c.in-Err-Reason.field-0-is at (c.in-Err-Reason.ensures.no_report ds over.walked))
+pub returns-in-None-clause-tells : goal.returns-in-None-clause-tells
+returns-in-None-clause-tells c = λ who object z ds fed.
+    let over = goes_on c.args.self.now who object z ds c.in-None.is fed in
+    tells_at_yes who ds object z c.verdict.result (rw over.certificate at c.args.self.now.walk.valid) (returns-in-None-clause-verdict c who object z ds fed)

@@ -1,7 +1,7 @@
 use Rattle.std.proofs.Common.{◌≡◌, take}
 use Rattle.std.specs.Cow.{cow_slice_items}
 use Rattle.cert.specs.DatagramWalk.{HasWalked}
-use Rattle.cert.proofs.checking.report_of.Given as goal
+use Rattle.cert.proofs.checking.verdict_of.Given as goal
 
 abbrev pub invariant-loop-place : goal.invariant-loop-place
 invariant-loop-place l = record {
