@@ -1,15 +1,18 @@
 -- Datagrams that are received one by one.
-use Rattle.std.proofs.Common.{◌≡◌, ℕ, ◌+◌, ◌<◌, ◌≤◌, true, false, List, [], ◌∷◌, ◌++◌, Option, Some, None, Ok, refl, sym, ap, subst, ◌∙◌, length, take, drop, get_or}
+use Rattle.std.proofs.Common.{◌≡◌, ℕ, ◌+◌, ◌<◌, ◌≤◌, true, false, List, [], ◌∷◌, ◌++◌, Option, Some, None, Result, Ok, Err, refl, sym, ap, subst, ◌∙◌, length, take, drop, get_or}
+use Rattle.std.specs.Prelude.{◌≢◌, IsOk}
 use Rattle.partition.specs.Fti.{Fti}
 use Rattle.alc.specs.Views.{packet_of}
 use Rattle.alc.specs.Reading.{Reading}
+use Rattle.alc.specs.declared.fault.PacketFault.{PacketFault}
 use Rattle.alc.specs.declared.reading.Packet.{Packet as ReadPacket}
 use Rattle.reception.specs.declared.scope.Identity.{Identity}
+use Rattle.reception.specs.declared.scope.Look.{Look}
 use Rattle.reception.specs.declared.scope.Look.TheVariants as look_at
 use Rattle.reception.specs.declared.scope.Scope.{Scope}
 use Rattle.reception.specs.Symbols.{Symbol, is_of}
 use Rattle.reception.specs.Reception.{Wrong, Judged, Reception, IsClean, counted, counted_from, symbols, symbols_in, symbol_of, reception_with}
-use Rattle.reception.specs.Step.{IsLook}
+use Rattle.reception.specs.Step.{IsLook, looked}
 use Rattle.reception.specs.Walks.{readings_of, scope_in, judged}
 use Rattle.reception.specs.Answer.{Clash, Clashes, Empty, AnswerTo, clash, clashes}
 use Rattle.reception.proofs.Heard.{found_identity, found_reception, found_settled, may_pass_settled}
@@ -105,6 +108,17 @@ module _ (who : Identity) (ds : List (List ℕ)) (scope : Scope) (at : ℕ → �
   passes_bare d new inside here look =
       passes_early (scope_in who ds) ds scope at place w d new inside here
       (may_pass_settled clash (scope_in who ds) ds place scope w.walked (found_settled who ds) d new (Ok look_at.Early) look) look
+
+  -- what has no fault and isn't in range is passed over
+  pub passes : (d : List ℕ) (new : Scope) → place < length ds → d ≡ get_or ds place [] → (answer : Result Look PacketFault) → IsLook d scope new answer → IsOk (looked answer)
+      → ((p : ReadPacket) → answer ≢ Ok (look_at.InRange p)) → Scanned (scope_in who ds) ds new at (place + 1)
+  passes d new inside here (Ok look_at.Other) look clean none = passes_other (scope_in who ds) ds scope at place w d new inside here look
+  passes d new inside here (Ok look_at.Early) look clean none = passes_bare d new inside here look
+  passes d new inside here (Ok (look_at.InRange p)) look clean none = absurd (none p refl)
+  passes d new inside here (Ok look_at.OtherFti) look clean none = absurd (cc)
+  passes d new inside here (Ok look_at.SymbolLength) look clean none = absurd (cc)
+  passes d new inside here (Ok look_at.Range) look clean none = absurd (cc)
+  passes d new inside here (Err e) look clean none = absurd (cc)
 
   module _ (l : length ds ≤ place) where
     pub all_received : (f : Fti) → scope.fti ≡ Some f → AreReceived who ds f at

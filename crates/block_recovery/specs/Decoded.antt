@@ -6,7 +6,6 @@ use Rattle.gf256.specs.Arithmetic.{point}
 use Rattle.poly.specs.Polynomial.{value, IsPolynomial}
 use Rattle.partition.specs.Fti.{Fti, block_count, source_count, encoding_count, source_place}
 use Rattle.lists.specs.Below.{below}
-use Rattle.reception.specs.Answer as value
 use Rattle.block_recovery.specs.Columns.{ColumnExplained}
 
 -- each symbol is one that the FTI has

@@ -34,7 +34,7 @@ pub use block_list::blocks_of;
 pub use blocks::{block_rows, received_rows};
 pub use fault::DecodeFault;
 pub use giving::gives;
-pub use received::{Received, Refusal, fault_at, receive};
+pub use received::{Received, fault_at, receive};
 pub use recovery::Recovery;
 pub use rows::Rows;
 pub use symbols::Symbols;

@@ -1,10 +1,11 @@
 //! The encoding symbols that came, by block and ESI.
 ghost use Rattle.std.specs.Prelude.{◌≡◌, ◌==◌, ◌&&◌, ℕ, List, Some, true, false, not, map};
-ghost use Rattle.std.specs.Prelude.{IsNone, IfSome, IfOk, IfErr, OnOk};
+ghost use Rattle.std.specs.Prelude.{Err, IsNone, IfSome, IsOk, IfOk, IfErr, OnOk};
 ghost use Rattle.alc.specs.Views.{packet_of};
 ghost use Rattle.reception.specs.Symbols.{Symbol};
-ghost use Rattle.reception.specs.Reception.{Faulty, ReadAll, symbol_of};
+ghost use Rattle.reception.specs.Reception.{Faulty, PlaceFault, ReadAll, symbol_of};
 ghost use Rattle.reception.specs.Readings.{readings_of};
+ghost use Rattle.reception.specs.Step.{looked};
 ghost use Rattle.reception.specs.Answer.{Fault, clashes};
 ghost use Rattle.block_recovery.specs.Faults.{fault_value};
 ghost use Rattle.block_recovery.specs.Refusals.{IsRefusal};
@@ -12,27 +13,10 @@ ghost use Rattle.block_recovery.specs.Received.{bytes_at, IsIndex, AreReceived, 
 
 use crate::fault::DecodeFault;
 use crate::symbols::Symbols;
-use alc::Packet;
+use alc::{Packet, PacketFault};
 use partition::Fti;
-use reception::{Identity, Look, PlaceFault, Scope};
+use reception::{Identity, Look, Scope};
 use std::alloc::{AllocError, Global};
-
-/// Why datagrams weren't received.
-#[derive(Clone, Copy)]
-pub enum Refusal {
-    Fault(DecodeFault),
-    NoMemory,
-}
-
-impl From<AllocError> for Refusal {
-    ghost use Rattle.block_recovery.specs.declared.received.Refusal.TheVariants.{NoMemory};
-
-    ghost from_gives = { λ _ refusal. refusal ≡ NoMemory };
-
-    fn from(_: AllocError) -> Self {
-        Refusal::NoMemory
-    }
-}
 
 /// What came of an object.
 #[derive(Drop)]
@@ -41,15 +25,18 @@ pub struct Received<'a> {
     pub symbols: Symbols<&'a [u8]>,
 }
 
-/// The fault of the datagram at a place.
-pub fn fault_at(place: usize, fault: PlaceFault) -> DecodeFault
-    ensures { fault_value result ≡ Fault place (Faulty fault) }
+/// The fault of the datagram at a place, by what was seen of it, if it is one.
+pub fn fault_at(place: usize, look: &Result<Look<'_>, PacketFault>) -> Option<DecodeFault>
+    ensures fault { IfSome result (λ fault. (e : PlaceFault) × (looked look.now ≡ Err e)
+        × (fault_value fault ≡ Fault place (Faulty e))) }
+    ensures none { IsNone result → IsOk (looked look.now) }
 {
-    match fault {
-        PlaceFault::NoPacket(fault) => DecodeFault::Packet(place, fault),
-        PlaceFault::OtherFti => DecodeFault::OtherFti(place),
-        PlaceFault::SymbolLength => DecodeFault::SymbolLength(place),
-        PlaceFault::Range => DecodeFault::Range(place),
+    match look {
+        Ok(Look::Other | Look::Early | Look::InRange(_)) => None,
+        Ok(Look::OtherFti) => Some(DecodeFault::OtherFti(place)),
+        Ok(Look::SymbolLength) => Some(DecodeFault::SymbolLength(place)),
+        Ok(Look::Range) => Some(DecodeFault::Range(place)),
+        Err(fault) => Some(DecodeFault::Packet(place, *fault)),
     }
 }
 
@@ -86,38 +73,44 @@ fn most_symbols(scope: &Scope) -> u8
     }
 }
 
-/// The symbols of the identity's packets, if a carrier came, or the first fault at the least place
+/// The symbols of the identity's packets, if a carrier came; or the first fault at the least place
 /// that has one. The FTI of the first carrier is found before any fault is looked for: it may stand
 /// behind a packet that has a fault by it.
 pub fn receive<'a>(
     alloc: Global,
     datagrams: &[&'a [u8]],
     identity: Identity,
-) -> Result<Option<Received<'a>>, Refusal>
+) -> Result<Result<Option<Received<'a>>, DecodeFault>, AllocError>
     requires { ReadAll (map (λ d. d.now) datagrams.now)
         (readings_of (map (λ d. d.now) datagrams.now)) }
-    ensures received { IfOk result (λ o. IfSome o (λ r.
-        AreReceived identity (map (λ d. d.now) datagrams.now) r.fti (bytes_at r.symbols))) }
-    ensures nothing { IfOk result (λ o. IsNone o
-        → IsNothing identity (map (λ d. d.now) datagrams.now)) }
-    ensures refusal { IfErr result (IsRefusal identity (map (λ d. d.now) datagrams.now)) }
+    ensures received { IfOk result (λ r. IfOk r (λ o. IfSome o (λ received.
+        AreReceived identity (map (λ d. d.now) datagrams.now) received.fti
+        (bytes_at received.symbols)))) }
+    ensures nothing { IfOk result (λ r. IfOk r (λ o. IsNone o
+        → IsNothing identity (map (λ d. d.now) datagrams.now))) }
+    ensures refusal { IfOk result (λ r. IfErr r
+        (IsRefusal identity (map (λ d. d.now) datagrams.now))) }
 {
     let mut scope = Scope::found_in(identity, datagrams);
     let mut symbols = Symbols::new(alloc, usize::from(most_symbols(&scope)));
     for place in 0..datagrams.len() {
-        let packet = match scope.look(datagrams[place]) {
+        let look = scope.look(datagrams[place]);
+        if let Some(fault) = fault_at(place, &look) {
+            return Ok(Err(fault));
+        }
+        let packet = match look {
             Ok(Look::InRange(packet)) => packet,
             Ok(Look::Other) => continue,
             // There is no carrier at all.
             Ok(Look::Early) => continue,
-            Err(fault) => return Err(Refusal::Fault(fault_at(place, fault))),
+            Ok(Look::OtherFti | Look::SymbolLength | Look::Range) | Err(_) => unreachable!(),
         };
         if !keep(alloc, &mut symbols, &packet)? {
-            return Err(Refusal::Fault(DecodeFault::Clash(place)));
+            return Ok(Err(DecodeFault::Clash(place)));
         }
     }
     match scope.fti {
-        Some(fti) => Ok(Some(Received { fti, symbols })),
-        None => Ok(None),
+        Some(fti) => Ok(Ok(Some(Received { fti, symbols }))),
+        None => Ok(Ok(None)),
     }
 }

@@ -18,12 +18,11 @@
 
 pub use block_recovery::DecodeFault;
 pub use decoder::{
-    Answer, Gathered, ObjectSymbols, Unread, WriteFault, decode, decode_selection, gather,
-    one_answer,
+    Answer, ObjectSymbols, Unread, WriteFault, decode, decode_selection, gather, one_answer,
 };
 pub use encoder::{
     CertifyFault, CertifyFromFault, ObjectFault, SendFault, SendFromFault, certify, certify_from,
     certify_to, encode, encode_from, encode_rounds_from, sent_checks_yes,
 };
-pub use file_decoder::{FileFault, FileSymbols, IndexedFile, index_file};
+pub use file_decoder::{FileFault, FileSymbols, index_file};
 pub use receiver::{FeedFault, Progress, Receiver};

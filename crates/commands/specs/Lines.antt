@@ -15,7 +15,7 @@ use Rattle.cert.specs.declared.verdict.Verdict.TheVariants.{Yes, No}
 use Rattle.reception.specs.Answer.{Answer, Empty as NothingCame, Fault as WrongAt, NotCode, Missing}
 use Rattle.reception.specs.Answer.{Object, Clash, Clashes}
 use Rattle.reception.specs.Reception.{Wrong, Faulty, Judged}
-use Rattle.reception.specs.declared.scope.PlaceFault.TheVariants as place_fault
+use Rattle.reception.specs.Reception as place_fault
 use Rattle.block_recovery.specs.Faults.{fault_value}
 use Rattle.receiver.specs.declared.receiver.FeedFault.{FeedFault}
 use Rattle.receiver.specs.declared.receiver.FeedFault.TheVariants.{Fault as NoObject, Full, Early}

@@ -1,5 +1,5 @@
 -- What is gathered of datagrams, and written, by what the symbols give that were received.
-use Rattle.std.proofs.Common.{◌≡◌, ℕ, List, Option, length, subst}
+use Rattle.std.proofs.Common.{◌≡◌, ℕ, List, Option, Result, Ok, Err, length, subst}
 use Rattle.session.specs.Frames.{AppendsSome}
 use Rattle.partition.specs.Fti.{Fti}
 use Rattle.reception.specs.declared.scope.Identity.{Identity}
@@ -15,17 +15,17 @@ use Rattle.decoder.specs.Answered.{Answers}
 use Rattle.block_recovery.specs.Received.{AreReceived}
 use Rattle.decoder.specs.Gathering.{IsGathered}
 use Rattle.decoder.specs.Written.{Gathers, BeginsObject}
-use Rattle.decoder.specs.declared.gathering.Gathered.{Gathered}
-use Rattle.decoder.specs.declared.gathering.Gathered.TheVariants as gathered
+use Rattle.decoder.specs.declared.answer.Answer.{Answer}
+use Rattle.decoder.specs.declared.gathering.ObjectSymbols.{ObjectSymbols}
 use Rattle.decoder.proofs.Answering.{answered}
 
 module _ (who : Identity) (ds : List (List ℕ)) (f : Fti) (at : ℕ → ℕ → Option (List ℕ)) (read : ReadAll ds (readings_of ds)) (received : AreReceived who ds f at) where
   pub answer_of : (v : value.Answer) → Answers f at v → IsAnswer who ds v
   answer_of v h = record { readings = readings_of ds; read = read; answers = answered who ds f at v received h }
 
-  pub gathered_of : (g : Gathered) → Gathers f at g → IsGathered who ds g
-  gathered_of (gathered.Answer a) h = (answer_of (answer_value a) h.0, h.1)
-  gathered_of (gathered.Symbols s) h = (
+  pub gathered_of : (g : Result ObjectSymbols Answer) → Gathers f at g → IsGathered who ds g
+  gathered_of (Err a) h = (answer_of (answer_value a) h.0, h.1)
+  gathered_of (Ok s) h = (
     record { read = read; received = rw (h.0, h.1) received; enough = h.2 },
     h.3,
     answer_of (value.Object h.3) h.4,

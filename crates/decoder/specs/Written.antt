@@ -1,5 +1,5 @@
 -- What writing an object block by block has made of the symbols that stand so.
-use Rattle.std.specs.Prelude.{◌≡◌, ℕ, List, length, Option, Some, None}
+use Rattle.std.specs.Prelude.{◌≡◌, ℕ, List, length, Option, Some, None, Result, Ok, Err}
 use Rattle.std.specs.Io.KnownBytes.{Appends}
 use Rattle.session.specs.Frames.{AppendsSome}
 use Rattle.partition.specs.Fti.{Fti}
@@ -12,14 +12,13 @@ use Rattle.decoder.specs.Gathering.{IsNoObject}
 use Rattle.decoder.specs.SymbolsOf.{AreEnough}
 use Rattle.decoder.specs.Unsolvable.{AreSound}
 use Rattle.decoder.specs.declared.answer.Answer.{Answer}
-use Rattle.decoder.specs.declared.gathering.Gathered.{Gathered}
-use Rattle.decoder.specs.declared.gathering.Gathered.TheVariants as gathered
+use Rattle.decoder.specs.declared.gathering.ObjectSymbols.{ObjectSymbols}
 
 -- the answer to the symbols that stand so, which is no object; or these symbols, of which each
 -- block has enough, and then it is an object
-abbrev pub Gathers : Fti → (ℕ → ℕ → Option (List ℕ)) → Gathered → Type 0
-Gathers f at (gathered.Answer answer) = Answers f at (answer_value answer) × IsNoObject answer
-Gathers f at (gathered.Symbols s) =
+abbrev pub Gathers : Fti → (ℕ → ℕ → Option (List ℕ)) → Result ObjectSymbols Answer → Type 0
+Gathers f at (Err answer) = Answers f at (answer_value answer) × IsNoObject answer
+Gathers f at (Ok s) =
     (s.received.fti ≡ f) × (bytes_at s.received.symbols ≡ at) × AreEnough s × (object : List ℕ)
     × Answers f at (value.Object object)
 

@@ -19,7 +19,7 @@ use crate::counting::first_short;
 use crate::source::{Source, Unread};
 use crate::unsolvable::first_unsolvable;
 use block_code::{BlockCodes, Kind};
-use block_recovery::{DecodeFault, Received, Refusal, receive, received_rows};
+use block_recovery::{DecodeFault, Received, receive, received_rows};
 use lists::are_bytes;
 use reception::Identity;
 use std::alloc::{AllocError, Global};
@@ -114,10 +114,9 @@ pub fn decode(alloc: Global, datagrams: &[&[u8]], identity: Identity) -> Result<
         (λ a. IsAnswer identity (map (λ d. d.now) datagrams.now) (answer_value a)) }
 {
     all_are_bytes(datagrams);
-    match receive(alloc, datagrams, identity) {
+    match receive(alloc, datagrams, identity)? {
         Ok(Some(received)) => answer(alloc, &received),
         Ok(None) => Ok(Answer::Empty),
-        Err(Refusal::Fault(fault)) => Ok(Answer::Fault(fault)),
-        Err(Refusal::NoMemory) => Err(AllocError),
+        Err(fault) => Ok(Answer::Fault(fault)),
     }
 }

@@ -18,7 +18,7 @@ use crate::source::Unread;
 use crate::verdict::verdict;
 use crate::writing::{WriteFault, write_blocks};
 use block_code::{BlockCodes, Kind};
-use block_recovery::{DecodeFault, Received, Refusal, receive};
+use block_recovery::{DecodeFault, Received, receive};
 use reception::Identity;
 use session::Write;
 use std::alloc::{AllocError, Global};
@@ -30,17 +30,11 @@ pub struct ObjectSymbols<'a> {
     pub(crate) codes: BlockCodes,
 }
 
-/// What datagrams give.
-#[derive(Drop)]
-pub enum Gathered<'a> {
-    /// No object.
-    Answer(Answer),
-    /// The symbols of an object.
-    Symbols(ObjectSymbols<'a>),
-}
-
 // What the symbols give.
-fn gather_symbols<'a>(alloc: Global, received: Received<'a>) -> Result<Gathered<'a>, AllocError>
+fn gather_symbols<'a>(
+    alloc: Global,
+    received: Received<'a>,
+) -> Result<Result<ObjectSymbols<'a>, Answer>, AllocError>
     requires stand { Stand received.fti (bytes_at received.symbols) }
     requires bytes { HaveBytes (bytes_at received.symbols) }
     ensures { IfOk result (Gathers received.entry.fti (bytes_at received.entry.symbols)) }
@@ -52,16 +46,16 @@ fn gather_symbols<'a>(alloc: Global, received: Received<'a>) -> Result<Gathered<
         codes: &codes,
     };
     match verdict(alloc, &coded) {
-        Ok(Some(answer)) => Ok(Gathered::Answer(answer)),
-        Ok(None) => Ok(Gathered::Symbols(ObjectSymbols { received, codes })),
+        Ok(Some(answer)) => Ok(Err(answer)),
+        Ok(None) => Ok(Ok(ObjectSymbols { received, codes })),
         // Symbols that are held are given.
         Err(_) => Err(AllocError),
     }
 }
 
 /// What the datagrams say of the object that was sent under an identity, as `decode` answers, but
-/// for the object itself: where they give one it is the symbols of it. Want of memory is the only
-/// error.
+/// for the object itself: the symbols of it, or the answer in place of them where they give none.
+/// Want of memory is the only other error.
 ///
 /// A block whose symbols are those of no object is told here. Only blocks that have more symbols
 /// than they need, and the last one, are solved for that.
@@ -69,15 +63,14 @@ pub fn gather<'a>(
     alloc: Global,
     datagrams: &[&'a [u8]],
     identity: Identity,
-) -> Result<Gathered<'a>, AllocError>
+) -> Result<Result<ObjectSymbols<'a>, Answer>, AllocError>
     ensures { IfOk result (IsGathered identity (map (λ d. d.now) datagrams.now)) }
 {
     all_are_bytes(datagrams);
-    match receive(alloc, datagrams, identity) {
+    match receive(alloc, datagrams, identity)? {
         Ok(Some(received)) => gather_symbols(alloc, received),
-        Ok(None) => Ok(Gathered::Answer(Answer::Empty)),
-        Err(Refusal::Fault(fault)) => Ok(Gathered::Answer(Answer::Fault(fault))),
-        Err(Refusal::NoMemory) => Err(AllocError),
+        Ok(None) => Ok(Err(Answer::Empty)),
+        Err(fault) => Ok(Err(Answer::Fault(fault))),
     }
 }
 

@@ -34,7 +34,7 @@ pub use answer::{Answer, Short};
 pub use coded_source::CodedSource;
 pub use counting::have;
 pub use decoding::decode;
-pub use gathering::{Gathered, ObjectSymbols, gather};
+pub use gathering::{ObjectSymbols, gather};
 pub use selecting::{decode_selection, one_answer};
 pub use source::{Source, Unread};
 pub use verdict::{first_of_no_object, short_verdict, unsound_answer};

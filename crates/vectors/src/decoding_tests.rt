@@ -5,8 +5,7 @@ use crate::check_tests::SESSION;
 use crate::{ONE, is_shown_as};
 use alc::PacketFault;
 use coder::{
-    Answer, DecodeFault, Gathered, ObjectSymbols, WriteFault, decode, decode_selection, gather,
-    one_answer,
+    Answer, DecodeFault, ObjectSymbols, WriteFault, decode, decode_selection, gather, one_answer,
 };
 use reception::isolation;
 use session::{FrameFault, Pieces, Session, Sink};
@@ -112,10 +111,9 @@ fn is_written(alloc: Global, symbols: &ObjectSymbols<'_>, room: usize) -> bool
 
 // Whether datagrams give an object, which is written so.
 fn gives_written(alloc: Global, datagrams: &[&[u8]], room: usize) -> Result<bool, AllocError> {
-    match gather(alloc, datagrams, ONE) {
-        Ok(Gathered::Symbols(symbols)) => Ok(is_written(alloc, &symbols, room)),
-        Ok(Gathered::Answer(_)) => Ok(false),
-        Err(error) => Err(error),
+    match gather(alloc, datagrams, ONE)? {
+        Ok(symbols) => Ok(is_written(alloc, &symbols, room)),
+        Err(_) => Ok(false),
     }
 }
 
