@@ -9,7 +9,7 @@ use coder::{certify, encode_from};
 use elim::generator;
 use evaluation::evaluate;
 use file_check::{Files, check_files};
-use file_decoder::{IndexedFile, index_file};
+use file_decoder::index_file;
 use gf256::add_products;
 use inventory::Summary;
 use partition::Fti;
@@ -57,7 +57,8 @@ fn tell_datagram(rt: &HostRuntime, datagram: &[u8]) -> Result<(), ExampleFault> 
     match scope.look(datagram) {
         Ok(Look::InRange(packet)) => println!(rt; "of {} bytes", packet.symbol.len())?,
         Ok(Look::Other | Look::Early) => println!(rt; "passed over")?,
-        Err(fault) => println!(rt; "{fault:?}")?,
+        Ok(wrong) => println!(rt; "{wrong:?}")?,
+        Err(fault) => println!(rt; "no packet: {fault:?}")?,
     }
     Ok(())
 }
@@ -84,8 +85,8 @@ fn tell_files(rt: &HostRuntime, frames: &[u8], text: &[u8]) -> Result<(), Exampl
         None => println!(rt; "the certificate has no name")?,
     }
     match index_file(alloc, &session, IDENTITY)? {
-        IndexedFile::Symbols(symbols) => println!(rt; "of {} bytes", symbols.transfer_length())?,
-        IndexedFile::Answer(_) => println!(rt; "no object yet")?,
+        Ok(symbols) => println!(rt; "of {} bytes", symbols.transfer_length())?,
+        Err(_) => println!(rt; "no object yet")?,
     }
     Ok(())
 }

@@ -4,7 +4,9 @@ use Rattle.std.proofs.Common.{◌≡◌, ℕ, Bool, false, List, Option, Some, N
 use Rattle.session.specs.Frames.{IsSessionFault}
 use Rattle.session.specs.declared.frame.FrameFault.{FrameFault}
 use Rattle.session.specs.declared.frame.FrameFault.TheVariants as frame_fault
-use Rattle.file_decoder.specs.FileFaults.{IsFrameFault, IsNotAgain}
+use Rattle.file_decoder.specs.FileFaults.{IsFrameFault}
+use Rattle.file_decoder.specs.IndexedIn.{IsFileFault}
+use Rattle.file_decoder.specs.ReadAgain.{fault_of}
 use Rattle.decoder.specs.declared.source.Unread.{Unread}
 use Rattle.decoder.specs.declared.source.Unread.TheVariants as unread
 
@@ -24,7 +26,7 @@ told_or (Some x) none = none x refl
 
 -- a symbol isn't there again where reading has failed, or nothing is told of the file
 pub not_again : (content : Option (List ℕ)) (reliable : Bool) (u : Unread) → (u ≡ unread.Io → reliable ≡ false) → ((x : List ℕ) → content ≡ Some x → u ≡ unread.Changed → ⊥)
-    → IsNotAgain content reliable u
+    → IsFileFault content reliable (fault_of u)
 not_again content reliable unread.Io io changed = io refl
 not_again content reliable unread.Changed io changed = told_or content (λ x told. changed x told refl)
 not_again content reliable unread.NoMemory io changed = tt

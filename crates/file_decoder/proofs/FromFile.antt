@@ -1,5 +1,5 @@
 -- Blocks whose symbols are read from a file again, and what an index of it gives.
-use Rattle.std.specs.Prelude.{is_some, IfSome, IsNone, Result, Ok, Err, IfOk}
+use Rattle.std.specs.Prelude.{is_some, IfSome, IsNone, Err}
 use Rattle.std.specs.Option.{unwrap_or}
 use Rattle.std.specs.Borrow.{Bor}
 use Rattle.std.proofs.Common.{◌≡◌, ℕ, ◌<◌, ◌≤◌, Bool, List, [], ◌∷◌, Option, Some, None, length, refl, sym, ap, subst, ◌∙◌, inl, inr, arith}
@@ -14,15 +14,11 @@ use Rattle.reception.specs.Answer.{IsAnswer}
 use Rattle.decoder.specs.Answers.{answer_value}
 use Rattle.file_decoder.specs.IndexedIn.{IsFileFault, IsIndexedIn}
 use Rattle.file_decoder.specs.ReadAgain.{fault_of}
-use Rattle.file_decoder.specs.Indexing.{IsUnindexed, IsFaultAmong}
+use Rattle.session.specs.Extents.{AreFrames}
+use Rattle.block_recovery.specs.Refusals.{IsRefusal}
 use Rattle.decoder.specs.Sources.{IsUnreadOf}
 use Rattle.decoder.specs.declared.answer.Answer.TheVariants as answer
 use Rattle.block_recovery.specs.declared.fault.DecodeFault.{DecodeFault}
-use Rattle.file_decoder.specs.declared.indexed_file.FileFault.{FileFault}
-use Rattle.file_decoder.specs.declared.indexed_file.IndexedFile.{IndexedFile}
-use Rattle.file_decoder.specs.declared.indexed_file.IndexedFile.TheVariants as indexed_file
-use Rattle.file_decoder.specs.declared.indexing.Unindexed.{Unindexed}
-use Rattle.file_decoder.specs.declared.indexing.Unindexed.TheVariants as unindexed
 use Rattle.decoder.specs.declared.source.Unread.{Unread}
 use Rattle.decoder.specs.declared.source.Unread.TheVariants as unread
 use Rattle.reception.specs.Reception.{ReadAll}
@@ -100,20 +96,12 @@ file_fault_of content reliable Told unread.Changed h told = told_if content (λ 
 file_fault_of content reliable Told unread.NoMemory h told = tt
 
 -- the answer to the datagrams of a file that has a fault at a place
-pub fault_indexed : (who : Identity) (content : Option (List ℕ)) (reliable : Bool) (fault : Unindexed) (e : DecodeFault) → fault ≡ unindexed.Fault e → IsUnindexed content reliable fault
-    → ((x : List ℕ) (ds : List (List ℕ)) → content ≡ Some x → IsFramed ds x → IsFaultAmong who ds fault) → IsIndexedIn who content (indexed_file.Answer (answer.Fault e))
-fault_indexed who content reliable fault e is why among = (
+pub fault_indexed : (who : Identity) (content : Option (List ℕ)) (e : DecodeFault) → AreFrames content
+    → ((x : List ℕ) (ds : List (List ℕ)) → content ≡ Some x → IsFramed ds x → IsRefusal who ds e) → IsIndexedIn who content (Err (answer.Fault e))
+fault_indexed who content e frames among = (
   tt,
   told_if content (λ x. (ds : List (List ℕ)) × IsFramed ds x × IsAnswer who ds (answer_value (answer.Fault e)))
       (λ x told.
-      let frames = subst (λ (u : Unindexed). IsUnindexed content reliable u) is why in
       let w = if_told content (λ x. (ds : List (List ℕ)) × IsFramed ds x × AreDatagrams ds) x told frames in
-      let refused = subst (λ (u : Unindexed). IsFaultAmong who w.0 u) is (among x w.0 told w.1) in
-      (w.0, w.1, record { readings = readings_of w.0; read = readings w.0 w.2; answers = refused })),
+      (w.0, w.1, record { readings = readings_of w.0; read = readings w.0 w.2; answers = among x w.0 told w.1 })),
 )
-
-pub told_indexed : (who : Identity) (content : Option (List ℕ)) (reliable : Bool) (fault : Unindexed) (r : Result IndexedFile FileFault)
-    → IfOk r (λ g. (e : DecodeFault) × (fault ≡ unindexed.Fault e) × (g ≡ indexed_file.Answer (answer.Fault e))) → IsUnindexed content reliable fault
-    → ((x : List ℕ) (ds : List (List ℕ)) → content ≡ Some x → IsFramed ds x → IsFaultAmong who ds fault) → IfOk r (IsIndexedIn who content)
-told_indexed who content reliable fault (Ok g) h why among = subst (IsIndexedIn who content) (sym h.2) (fault_indexed who content reliable fault h.0 h.1 why among)
-told_indexed who content reliable fault (Err e) h why among = tt

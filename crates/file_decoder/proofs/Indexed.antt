@@ -1,5 +1,5 @@
 -- Places of packets that are kept one by one.
-use Rattle.std.specs.Prelude.{Ok, Err, nat_lt, is_some, option_map, ◌==◌}
+use Rattle.std.specs.Prelude.{◌≢◌, Result, Ok, Err, IsOk, nat_lt, is_some, option_map, ◌==◌}
 use Rattle.std.specs.List.{All, Contains}
 use Rattle.std.proofs.Common.{◌≡◌, ℕ, zero, suc, ◌+◌, ◌<◌, ◌≤◌, true, false, List, [], ◌∷◌, ◌++◌, Option, Some, None, length, get_or, take, refl, sym, ap, subst, ◌∙◌, inl, inr, arith}
 use Rattle.std.proofs.lemmas.Bool.{cases_eq, ne_eqb, and_parts}
@@ -15,11 +15,11 @@ use Rattle.alc.specs.declared.reading.Packet.{Packet as ReadPacket}
 use Rattle.reception.specs.declared.scope.Identity.{Identity}
 use Rattle.reception.specs.declared.scope.Look.{Look}
 use Rattle.reception.specs.declared.scope.Look.TheVariants as look_at
-use Rattle.reception.specs.declared.scope.PlaceFault.{PlaceFault}
+use Rattle.alc.specs.declared.fault.PacketFault.{PacketFault}
 use Rattle.reception.specs.declared.scope.Scope.{Scope}
 use Rattle.reception.specs.Symbols.{Symbol, is_of}
-use Rattle.reception.specs.Reception.{Faulty, Judged, Reception, symbol_of, with_fti}
-use Rattle.reception.specs.Step.{IsLook}
+use Rattle.reception.specs.Reception.{Faulty, Judged, PlaceFault, Reception, Seen, symbol_of, with_fti, wrong_by}
+use Rattle.reception.specs.Step.{IsLook, looked}
 use Rattle.reception.specs.Walks.{readings_of, scope_in}
 use Rattle.reception.specs.Answer as value
 use Rattle.reception.specs.Answer.{Clash, Clashes, AnswerTo, clash, clashes, reception_of}
@@ -31,7 +31,7 @@ use Rattle.file_decoder.specs.InFile.{AreOfBlock, AreSymbolsIn, IsSymbolIn}
 use Rattle.block_recovery.specs.declared.arrivals.Arrival.{Arrival}
 use Rattle.session.specs.declared.extent.Extent.{Extent}
 use Rattle.block_recovery.specs.declared.symbols.Symbols.{Symbols}
-use Rattle.block_recovery.proofs.Receiving.{Scanned, starts, clashed, receives, known_at_last, passes_other, passes_bare, all_received}
+use Rattle.block_recovery.proofs.Receiving.{Scanned, starts, clashed, receives, known_at_last, passes, all_received}
 use Rattle.file_decoder.proofs.ReadAgain.{same_scope}
 
 -- ---- what a look says, where the FTI of the first carrier is known
@@ -46,21 +46,19 @@ module _ (who : Identity) (f : Fti) (ds : List (List ℕ)) (known : scope_in who
   scan_ends at place w l = all_received who ds (with_fti who f) at place w l f refl
 
   module _ (at : ℕ → ℕ → Option (List ℕ)) (place : ℕ) (w : Scanned (scope_in who ds) ds (with_fti who f) at place) (d : List ℕ) (new : Scope) (inside : place < length ds) (here : d ≡ get_or ds place []) where
-    -- one that is passed over
-    pub scan_passes : (l : Look) → IsLook d (with_fti who f) new (Ok l) → ((p : ReadPacket) → l ≡ look_at.InRange p → ⊥) → Scanned (scope_in who ds) ds (with_fti who f) at (place + 1)
-    scan_passes look_at.Other look other =
-        subst (λ (s : Scope). Scanned (scope_in who ds) ds s at (place + 1)) (same_scope d (with_fti who f) new (Ok look_at.Other) look f refl)
-        (passes_other (scope_in who ds) ds (with_fti who f) at place w d new inside here look)
-    scan_passes look_at.Early look other =
-        subst (λ (s : Scope). Scanned (scope_in who ds) ds s at (place + 1)) (same_scope d (with_fti who f) new (Ok look_at.Early) look f refl)
-        (passes_bare who ds (with_fti who f) at place w d new inside here look)
-    scan_passes (look_at.InRange p) look other = absurd (other p refl)
+    module _ (answer : Result Look PacketFault) (look : IsLook d (with_fti who f) new answer) where
+      -- one that is passed over
+      pub scan_passes : IsOk (looked answer) → ((p : ReadPacket) → answer ≢ Ok (look_at.InRange p)) → Scanned (scope_in who ds) ds (with_fti who f) at (place + 1)
+      scan_passes clean none =
+          subst (λ (s : Scope). Scanned (scope_in who ds) ds s at (place + 1)) (same_scope d (with_fti who f) new answer look f refl)
+          (passes who ds (with_fti who f) at place w d new inside here answer look clean none)
 
-    -- one with a fault
-    pub scan_stops : (e : PlaceFault) → IsLook d (with_fti who f) new (Err e) → AnswerTo (reception_of who (readings_of ds)) (value.Fault place (Faulty e))
-    scan_stops e look =
-        ap (λ (r : Reception Clash). r.wrong) (sym (found_reception clash who ds))
-        ∙ stops clash (scope_in who ds) ds place (with_fti who f) w.walked d new (Err e) inside here look (Faulty e) refl
+      -- one with a fault
+      pub scan_stops : (e : PlaceFault) → looked answer ≡ Err e → AnswerTo (reception_of who (readings_of ds)) (value.Fault place (Faulty e))
+      scan_stops e is =
+          ap (λ (r : Reception Clash). r.wrong) (sym (found_reception clash who ds))
+          ∙ stops clash (scope_in who ds) ds place (with_fti who f) w.walked d new answer inside here look (Faulty e)
+          (ap (λ (a : Result Seen PlaceFault). wrong_by clash (came_before (scope_in who ds).identity ds place) a) is)
 
     module _ (p : ReadPacket) (look : IsLook d (with_fti who f) new (Ok (look_at.InRange p))) where
       earlier : List Symbol

@@ -14,7 +14,7 @@ use Rattle.alc.specs.declared.reading.Packet.{Packet as ReadPacket}
 use Rattle.reception.specs.declared.scope.Scope.{Scope}
 use Rattle.reception.specs.declared.scope.Look.{Look}
 use Rattle.reception.specs.declared.scope.Look.TheVariants as look_at
-use Rattle.reception.specs.declared.scope.PlaceFault.{PlaceFault}
+use Rattle.alc.specs.declared.fault.PacketFault.{PacketFault}
 use Rattle.reception.specs.Reception.{InRange, look, counts, learned, carried}
 use Rattle.reception.specs.Step.{IsLook, looked}
 use Rattle.reception.proofs.Looks.{length_look, fti_after}
@@ -34,7 +34,7 @@ use Rattle.block_recovery.proofs.Kept.{with_here, with_other}
 
 module _ (d : List ℕ) (old new : Scope) where
   -- where an FTI is known nothing is learned
-  pub same_scope : (answer : Result Look PlaceFault) → IsLook d old new answer → (f : Fti) → old.fti ≡ Some f → new ≡ old
+  pub same_scope : (answer : Result Look PacketFault) → IsLook d old new answer → (f : Fti) → old.fti ≡ Some f → new ≡ old
   same_scope answer h f e =
       let learns : learned old h.reading ≡ old =
       ap (λ (o : Option Fti). scope old.identity (option_or o (carried h.reading))) e ∙ ap (λ (o : Option Fti). scope old.identity o) (sym e) in
@@ -44,7 +44,7 @@ module _ (d : List ℕ) (old new : Scope) where
       ])
 
   -- the answer is what the definition says of the bytes
-  pub looks : (answer : Result Look PlaceFault) → (h : IsLook d old new answer) → (f : Fti) → old.fti ≡ Some f → looked answer ≡ look old (read_of d)
+  pub looks : (answer : Result Look PacketFault) → (h : IsLook d old new answer) → (f : Fti) → old.fti ≡ Some f → looked answer ≡ look old (read_of d)
   looks answer h f e =
       h.told ∙ ap (λ (s : Scope). look s h.reading) (same_scope answer h f e) ∙ ap (λ (r : Reading). look old r) (sym (exact d h.reading h.reads))
 
@@ -56,14 +56,17 @@ module _ (d : List ℕ) (old new : Scope) where
   symbol_size p h f e = length_look d old new p h f (fti_after d old new (Ok (look_at.InRange p)) h f e)
 
 -- a look that answers so hands over a packet
-pub hands_over : (answer : Result Look PlaceFault) (q : Packet) → looked answer ≡ Ok (InRange q) → (p : ReadPacket) × (answer ≡ Ok (look_at.InRange p)) × (packet_of p ≡ q)
+pub hands_over : (answer : Result Look PacketFault) (q : Packet) → looked answer ≡ Ok (InRange q) → (p : ReadPacket) × (answer ≡ Ok (look_at.InRange p)) × (packet_of p ≡ q)
 hands_over (Err e) q h = absurd (cc)
 hands_over (Ok look_at.Other) q h = absurd (cc)
 hands_over (Ok look_at.Early) q h = absurd (cc)
+hands_over (Ok look_at.OtherFti) q h = absurd (cc)
+hands_over (Ok look_at.SymbolLength) q h = absurd (cc)
+hands_over (Ok look_at.Range) q h = absurd (cc)
 hands_over (Ok (look_at.InRange p)) q h = (p, refl, cc)
 
 -- a packet in range is looked at as one, and is the same
-pub found_again : (d : List ℕ) (old new : Scope) (answer : Result Look PlaceFault) → IsLook d old new answer → (f : Fti) → old.fti ≡ Some f → (b j : ℕ) → IsSymbolOf old b j d
+pub found_again : (d : List ℕ) (old new : Scope) (answer : Result Look PacketFault) → IsLook d old new answer → (f : Fti) → old.fti ≡ Some f → (b j : ℕ) → IsSymbolOf old b j d
     → (p : ReadPacket) × (answer ≡ Ok (look_at.InRange p)) × (p.sbn ≡ b) × (p.esi ≡ j)
 found_again d old new answer h f e b j is =
     let w = hands_over answer is.packet (looks d old new answer h f e ∙ is.look) in

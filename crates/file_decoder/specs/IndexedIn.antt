@@ -1,5 +1,5 @@
 -- What a session file gives, of which only places are held.
-use Rattle.std.specs.Prelude.{◌≡◌, Bool, List, ℕ, Option, ⊤, IfSome}
+use Rattle.std.specs.Prelude.{◌≡◌, Bool, List, ℕ, Option, ⊤, IfSome, Result, Ok, Err}
 use Rattle.session.specs.Frames.{IsFramed}
 use Rattle.reception.specs.declared.scope.Identity.{Identity}
 use Rattle.reception.specs.Answer.{IsAnswer}
@@ -9,19 +9,19 @@ use Rattle.decoder.specs.Gathering.{IsNoObject}
 use Rattle.file_decoder.specs.PlacesOf.{ArePlacedOf, ArePlacedIn}
 use Rattle.file_decoder.specs.declared.indexed_file.FileFault.{FileFault}
 use Rattle.file_decoder.specs.declared.indexed_file.FileFault.TheVariants as file_fault
-use Rattle.file_decoder.specs.declared.indexed_file.IndexedFile.{IndexedFile}
-use Rattle.file_decoder.specs.declared.indexed_file.IndexedFile.TheVariants as indexed_file
+use Rattle.file_decoder.specs.declared.indexed_file.FileSymbols.{FileSymbols}
+use Rattle.decoder.specs.declared.answer.Answer.{Answer}
 use Rattle.decoder.specs.declared.writing.WriteFault.{WriteFault}
 use Rattle.decoder.specs.declared.writing.WriteFault.TheVariants as write_fault
 
 -- the answer to the file's datagrams, which is no object; or the places of the symbols that they
 -- have, enough of each block
-abbrev pub IsIndexedIn : Identity → Option (List ℕ) → IndexedFile → Type 0
-IsIndexedIn who content (indexed_file.Answer answer) =
+abbrev pub IsIndexedIn : Identity → Option (List ℕ) → Result FileSymbols Answer → Type 0
+IsIndexedIn who content (Err answer) =
     IsNoObject answer
     × IfSome content (λ x. (datagrams : List (List ℕ)) × IsFramed datagrams x
     × IsAnswer who datagrams (answer_value answer))
-IsIndexedIn who content (indexed_file.Symbols s) =
+IsIndexedIn who content (Ok s) =
     (s.indexed.identity ≡ who) × ArePlacedIn content s
     × IfSome content (λ x. (datagrams : List (List ℕ)) × IsFramed datagrams x
     × ArePlacedOf who datagrams x s)

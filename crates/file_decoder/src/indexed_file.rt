@@ -1,7 +1,7 @@
 //! Decoding a session file into a writer: neither the session nor the object is held. The object is
 //! written while its symbols are looked at.
 ghost use Rattle.std.specs.Prelude.{◌≡◌, ◌<◌, ℕ, List, Some, true, IfOk, IfErr, OnErr};
-ghost use Rattle.std.specs.Prelude.{Bool, Option, IfSome, IsNone};
+ghost use Rattle.std.specs.Prelude.{IfSome, IsNone};
 ghost use Rattle.session.specs.Frames.{AppendsSome, IsFramed};
 ghost use Rattle.reception.specs.Answer.{Object, IsAnswer};
 ghost use Rattle.file_decoder.specs.IndexedIn.{IsFileFault};
@@ -9,15 +9,13 @@ ghost use Rattle.file_decoder.specs.PlacesOf.{ArePlacedIn, ArePlacedOf};
 ghost use Rattle.decoder.specs.Answers.{answer_value};
 ghost use Rattle.file_decoder.specs.IndexedIn.{IsFileWriteFault, IsIndexedIn};
 ghost use Rattle.file_decoder.specs.PlacesOf.{AreIndexedOf};
-ghost use Rattle.file_decoder.specs.Indexing.{IsUnindexed};
 ghost use Rattle.decoder.specs.Gathering.{IsNoObject, IsWrittenOf};
 ghost use Rattle.block_recovery.specs.Received.{came_at};
 ghost use Rattle.block_recovery.specs.Decoded.{AreInRange};
-ghost use Rattle.block_recovery.specs.declared.fault.DecodeFault.{DecodeFault as DecodeFaultValue};
 ghost use Rattle.session.specs.declared.extent.Extent.{Extent as ExtentValue};
 
 use crate::file_source::{FileSource, Indexed};
-use crate::indexing::{Unindexed, find_fti, index};
+use crate::indexing::{find_fti, index};
 use block_code::{BlockCodes, Kind};
 use decoder::{
     Answer, CodedSource, Unread, WriteFault, first_of_no_object, short_verdict, unsound_answer,
@@ -36,15 +34,6 @@ pub struct FileSymbols {
     pub(crate) codes: BlockCodes,
 }
 
-/// What a session file gives.
-#[derive(Drop)]
-pub enum IndexedFile {
-    /// No object.
-    Answer(Answer),
-    /// The places of symbols, enough of each block.
-    Symbols(FileSymbols),
-}
-
 /// Why a session file gives nothing.
 #[derive(Debug, Clone, Copy, PartialEq, Eq, Error)]
 pub enum FileFault {
@@ -57,6 +46,17 @@ pub enum FileFault {
     /// Memory is wanting.
     #[error("NoMemory")]
     NoMemory,
+}
+
+impl From<FrameFault> for FileFault {
+    ghost use Rattle.std.specs.Prelude.{◌≡◌};
+    ghost use Rattle.file_decoder.specs.declared.indexed_file.FileFault.TheVariants as file_fault;
+
+    ghost from_gives = { λ fault e. e ≡ file_fault.Frame fault };
+
+    fn from(fault: FrameFault) -> Self {
+        FileFault::Frame(fault)
+    }
 }
 
 impl From<Unread> for FileFault {
@@ -85,26 +85,12 @@ impl From<AllocError> for FileFault {
     }
 }
 
-// What a pass over the file answers where it has found no places.
-fn told_of(fault: Unindexed) -> Result<IndexedFile, FileFault>
-    ensures answer { IfOk result (λ g. (e : DecodeFaultValue) × (fault ≡ Unindexed.Fault e)
-        × (g ≡ IndexedFile.Answer (Answer.Fault e))) }
-    ensures fault { (content : Option (List ℕ)) (reliable : Bool)
-        → IsUnindexed content reliable fault → IfErr result (IsFileFault content reliable) }
-{
-    match fault {
-        Unindexed::Frame(fault) => Err(FileFault::Frame(fault)),
-        Unindexed::Fault(fault) => Ok(IndexedFile::Answer(Answer::Fault(fault))),
-        Unindexed::Again(unread) => Err(FileFault::from(unread)),
-    }
-}
-
 // The answer that the symbols at the places give, where a block is short; else the places.
 fn count_places<F: ReadAt>(
     alloc: Global,
     file: &F,
     indexed: Indexed,
-) -> Result<IndexedFile, FileFault>
+) -> Result<Result<FileSymbols, Answer>, FileFault>
     requires range { (held : ExtentValue → List ℕ)
         → AreInRange indexed.fti (came_at held indexed.symbols) }
     requires told { (x : List ℕ) → F.content file.now ≡ Some x → (ds : List (List ℕ))
@@ -123,14 +109,14 @@ fn count_places<F: ReadAt>(
         codes: &codes,
     };
     match short_verdict(alloc, &coded)? {
-        Some(answer) => Ok(IndexedFile::Answer(answer)),
-        None => Ok(IndexedFile::Symbols(FileSymbols { indexed, codes })),
+        Some(answer) => Ok(Err(answer)),
+        None => Ok(Ok(FileSymbols { indexed, codes })),
     }
 }
 
 /// What the datagrams of a session file say of the object that was sent under an identity. Where no
 /// block is short, that is the places of their symbols, of which it isn't known yet whether they
-/// are of an object; else the answer. 24 bytes are held for each symbol.
+/// are of an object; else the answer, in place of them. 24 bytes are held for each symbol.
 ///
 /// `Frame` tells why the file is no session, before any fault at a place. A file that is not the
 /// same each time it is read may give `Changed`.
@@ -138,16 +124,16 @@ pub fn index_file<F: ReadAt>(
     alloc: Global,
     file: &F,
     identity: Identity,
-) -> Result<IndexedFile, FileFault>
+) -> Result<Result<FileSymbols, Answer>, FileFault>
     ensures indexed { IfOk result (IsIndexedIn identity (F.content file.now)) }
     ensures fault { IfErr result (IsFileFault (F.content file.now) (F.reliable file.now)) }
 {
-    let fti = match find_fti(alloc, file, identity) {
+    let fti = match find_fti(alloc, file, identity)? {
         Ok(Some(fti)) => fti,
-        Ok(None) => return Ok(IndexedFile::Answer(Answer::Empty)),
-        Err(fault) => return told_of(fault),
+        Ok(None) => return Ok(Err(Answer::Empty)),
+        Err(fault) => return Ok(Err(Answer::Fault(fault))),
     };
-    match index(alloc, file, identity, fti) {
+    match index(alloc, file, identity, fti)? {
         Ok(symbols) => {
             let indexed = Indexed {
                 identity,
@@ -156,7 +142,7 @@ pub fn index_file<F: ReadAt>(
             };
             count_places(alloc, file, indexed)
         }
-        Err(fault) => told_of(fault),
+        Err(fault) => Ok(Err(Answer::Fault(fault))),
     }
 }
 

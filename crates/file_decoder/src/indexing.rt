@@ -15,12 +15,15 @@ ghost use Rattle.session.specs.Extents.{AreFrames};
 ghost use Rattle.session.specs.Frames.{IsFramed, IsSessionFault};
 ghost use Rattle.block_recovery.specs.Arrivals.{arrived_at};
 ghost use Rattle.file_decoder.specs.InFile.{held_in, AreSymbolsIn, IsSymbolIn};
-ghost use Rattle.file_decoder.specs.Indexing.{IsAlone, IsUnindexed, IsFaultAmong};
+ghost use Rattle.file_decoder.specs.IndexedIn.{IsFileFault};
+ghost use Rattle.file_decoder.specs.Indexing.{IsAlone, IsCarriedIn, IsWholeBut};
+ghost use Rattle.block_recovery.specs.Refusals.{IsRefusal};
 ghost use Rattle.block_recovery.specs.Received.{AreReceived, IsIndex, IsNothing, came_at, list_of};
 ghost use Rattle.block_recovery.specs.Decoded.{AreInRange};
 ghost use Rattle.session.specs.declared.extent.Extent.{Extent as ExtentValue};
 ghost use Rattle.partition.specs.Fti.{Fti as FtiValue, block_count, encoding_count};
 
+use crate::indexed_file::FileFault;
 use crate::rereading::read_alone;
 use alc::Packet;
 use block_recovery::{Arrival, DecodeFault, Symbols, fault_at};
@@ -31,39 +34,6 @@ use reception::{Identity, Look, Scope};
 use session::{Extent, FrameFault, Position, Read, read_next, read_next_into};
 use std::alloc::Global;
 use streams::{Cursor, ReadAt};
-
-/// Why nothing was made of a file.
-#[derive(Clone, Copy)]
-pub(crate) enum Unindexed {
-    /// The frames weren't read to their end.
-    Frame(FrameFault),
-    /// A datagram has a fault.
-    Fault(DecodeFault),
-    /// A symbol wasn't read again.
-    Again(Unread),
-}
-
-impl From<FrameFault> for Unindexed {
-    ghost use Rattle.std.specs.Prelude.{◌≡◌};
-    ghost use Rattle.file_decoder.specs.declared.indexing.Unindexed.TheVariants as unindexed;
-
-    ghost from_gives = { λ fault e. e ≡ unindexed.Frame fault };
-
-    fn from(fault: FrameFault) -> Self {
-        Unindexed::Frame(fault)
-    }
-}
-
-impl From<Unread> for Unindexed {
-    ghost use Rattle.std.specs.Prelude.{◌≡◌};
-    ghost use Rattle.file_decoder.specs.declared.indexing.Unindexed.TheVariants as unindexed;
-
-    ghost from_gives = { λ unread e. e ≡ unindexed.Again unread };
-
-    fn from(unread: Unread) -> Self {
-        Unindexed::Again(unread)
-    }
-}
 
 // Reads the frames that are left.
 fn read_rest<R: Read>(alloc: Global, reader: &mut R) -> Result<(), FrameFault>
@@ -90,10 +60,8 @@ fn look_alone(
     ensures { IsAlone identity place datagram.now result.0 result.1 }
 {
     let mut scope = Scope::new(identity);
-    match scope.look(datagram) {
-        Ok(_) => (scope.fti, None),
-        Err(fault) => (scope.fti, Some(fault_at(place, fault))),
-    }
+    let fault = fault_at(place, &scope.look(datagram));
+    (scope.fti, fault)
 }
 
 // The FTI of the first carrier of the identity, if there is one. A fault is told where there is
@@ -102,35 +70,30 @@ fn first_fti<R: Read>(
     alloc: Global,
     reader: &mut R,
     identity: Identity,
-) -> Result<Option<Fti>, Unindexed>
-    ensures some { (x : List ℕ) (ds : List (List ℕ)) → R.remaining reader.old ≡ Some x
-        → IsFramed ds x → IfOk result (λ o. IfSome o (λ f.
-        scope_in identity ds ≡ with_fti identity f)) }
-    ensures none { (x : List ℕ) (ds : List (List ℕ)) → R.remaining reader.old ≡ Some x
-        → IsFramed ds x → IfOk result (λ o. IsNone o → IsNothing identity ds) }
-    ensures fault { (x : List ℕ) (ds : List (List ℕ)) → R.remaining reader.old ≡ Some x
-        → IsFramed ds x → IfErr result (IsFaultAmong identity ds) }
-    ensures whole { IfOk result (λ o. IsNone o → AreFrames (R.remaining reader.old)) }
-    ensures unindexed { IfErr result (IsUnindexed (R.remaining reader.old) (R.sound reader.old)) }
+) -> Result<Result<Option<Fti>, DecodeFault>, FileFault>
+    ensures carrier { (x : List ℕ) (ds : List (List ℕ)) → R.remaining reader.old ≡ Some x
+        → IsFramed ds x → IfOk result (IsCarriedIn identity ds) }
+    ensures whole { IfOk result (IsWholeBut (R.remaining reader.old)) }
+    ensures unread { IfErr result (IsFileFault (R.remaining reader.old) (R.sound reader.old)) }
 {
     let mut first = None;
     let mut place = 0usize;
     loop {
         let Some(datagram) = read_next(alloc, reader)? else {
             return match first {
-                Some(fault) => Err(Unindexed::Fault(fault)),
-                None => Ok(None),
+                Some(fault) => Ok(Err(fault)),
+                None => Ok(Ok(None)),
             };
         };
         let bytes = datagram.as_slice();
         are_bytes(bytes);
         let (carried, fault) = look_alone(identity, place, bytes);
         if let Some(fti) = carried {
-            return Ok(Some(fti));
+            return Ok(Ok(Some(fti)));
         }
         first = first.or(fault);
         let Some(next) = place.checked_add(1) else {
-            return Err(Unindexed::Frame(FrameFault::NoMemory));
+            return Err(FileFault::NoMemory);
         };
         place = next;
     }
@@ -142,16 +105,11 @@ pub(crate) fn find_fti<F: ReadAt>(
     alloc: Global,
     file: &F,
     identity: Identity,
-) -> Result<Option<Fti>, Unindexed>
-    ensures some { (x : List ℕ) (ds : List (List ℕ)) → F.content file.now ≡ Some x
-        → IsFramed ds x → IfOk result (λ o. IfSome o (λ f.
-        scope_in identity ds ≡ with_fti identity f)) }
-    ensures none { (x : List ℕ) (ds : List (List ℕ)) → F.content file.now ≡ Some x
-        → IsFramed ds x → IfOk result (λ o. IsNone o → IsNothing identity ds) }
-    ensures fault { (x : List ℕ) (ds : List (List ℕ)) → F.content file.now ≡ Some x
-        → IsFramed ds x → IfErr result (IsFaultAmong identity ds) }
-    ensures whole { IfOk result (λ o. IsNone o → AreFrames (F.content file.now)) }
-    ensures unindexed { IfErr result (IsUnindexed (F.content file.now) (F.reliable file.now)) }
+) -> Result<Result<Option<Fti>, DecodeFault>, FileFault>
+    ensures carrier { (x : List ℕ) (ds : List (List ℕ)) → F.content file.now ≡ Some x
+        → IsFramed ds x → IfOk result (IsCarriedIn identity ds) }
+    ensures whole { IfOk result (IsWholeBut (F.content file.now)) }
+    ensures unread { IfErr result (IsFileFault (F.content file.now) (F.reliable file.now)) }
 {
     let mut cursor = Cursor::new(file);
     first_fti(alloc, &mut cursor, identity)
@@ -235,28 +193,28 @@ fn index_frames<R: Read, F: ReadAt>(
     file: &F,
     identity: Identity,
     fti: Fti,
-) -> Result<Symbols<Extent>, Unindexed>
+) -> Result<Result<Symbols<Extent>, DecodeFault>, FileFault>
     requires bytes { R.remaining reader.old ≡ F.content file.now }
     requires sound { R.sound reader.old ≡ F.reliable file.now }
     ensures received { (x : List ℕ) (ds : List (List ℕ)) → F.content file.now ≡ Some x
-        → IsFramed ds x → scope_in identity ds ≡ with_fti identity fti → IfOk result (λ s.
-        AreReceived identity ds fti (came_at (held_in x) s)) }
-    ensures placed { (x : List ℕ) → F.content file.now ≡ Some x
-        → IfOk result (AreSymbolsIn x (with_fti identity fti)) }
-    ensures range { IfOk result (λ s. (held : ExtentValue → List ℕ)
-        → AreInRange fti (came_at held s)) }
+        → IsFramed ds x → scope_in identity ds ≡ with_fti identity fti → IfOk result (λ r.
+        IfOk r (λ s. AreReceived identity ds fti (came_at (held_in x) s))) }
+    ensures placed { (x : List ℕ) → F.content file.now ≡ Some x → IfOk result (λ r.
+        IfOk r (AreSymbolsIn x (with_fti identity fti))) }
+    ensures range { IfOk result (λ r. IfOk r (λ s. (held : ExtentValue → List ℕ)
+        → AreInRange fti (came_at held s))) }
     ensures fault { (x : List ℕ) (ds : List (List ℕ)) → F.content file.now ≡ Some x
-        → IsFramed ds x → scope_in identity ds ≡ with_fti identity fti
-        → IfErr result (IsFaultAmong identity ds) }
+        → IsFramed ds x → scope_in identity ds ≡ with_fti identity fti → IfOk result (λ r.
+        IfErr r (IsRefusal identity ds)) }
     ensures whole { OnOk result (AreFrames (F.content file.now)) }
-    ensures unindexed { IfErr result (IsUnindexed (F.content file.now) (F.reliable file.now)) }
+    ensures unread { IfErr result (IsFileFault (F.content file.now) (F.reliable file.now)) }
 {
     let mut symbols = Symbols::new(alloc, usize::from(fti.max_symbols()));
     let mut position = Position::new();
     let mut room = Vec::new(alloc);
     loop {
         let Some(datagram) = read_next_into(reader, room)? else {
-            return Ok(symbols);
+            return Ok(Ok(symbols));
         };
         let bytes = datagram.as_slice();
         are_bytes(bytes);
@@ -264,24 +222,23 @@ fn index_frames<R: Read, F: ReadAt>(
         let (here, next) = position.pass(bytes.len())?;
         position = next;
         let mut scope = Scope::with_fti(identity, fti);
-        let packet = match scope.look(bytes) {
+        let look = scope.look(bytes);
+        if let Some(fault) = fault_at(place, &look) {
+            read_rest(alloc, reader)?;
+            return Ok(Err(fault));
+        }
+        let packet = match look {
             Ok(Look::InRange(packet)) => packet,
             Ok(Look::Other) => {
                 room = datagram;
                 continue;
             }
-            Ok(Look::Early) => {
-                room = datagram;
-                continue;
-            }
-            Err(fault) => {
-                read_rest(alloc, reader)?;
-                return Err(Unindexed::Fault(fault_at(place, fault)));
-            }
+            Ok(Look::Early) => unreachable!(),
+            Ok(Look::OtherFti | Look::SymbolLength | Look::Range) | Err(_) => unreachable!(),
         };
         if !keep(alloc, file, &scope, &mut symbols, &packet, here)? {
             read_rest(alloc, reader)?;
-            return Err(Unindexed::Fault(DecodeFault::Clash(place)));
+            return Ok(Err(DecodeFault::Clash(place)));
         }
         room = datagram;
     }
@@ -293,19 +250,19 @@ pub(crate) fn index<F: ReadAt>(
     file: &F,
     identity: Identity,
     fti: Fti,
-) -> Result<Symbols<Extent>, Unindexed>
+) -> Result<Result<Symbols<Extent>, DecodeFault>, FileFault>
     ensures received { (x : List ℕ) (ds : List (List ℕ)) → F.content file.now ≡ Some x
-        → IsFramed ds x → scope_in identity ds ≡ with_fti identity fti → IfOk result (λ s.
-        AreReceived identity ds fti (came_at (held_in x) s)) }
-    ensures placed { (x : List ℕ) → F.content file.now ≡ Some x
-        → IfOk result (AreSymbolsIn x (with_fti identity fti)) }
-    ensures range { IfOk result (λ s. (held : ExtentValue → List ℕ)
-        → AreInRange fti (came_at held s)) }
+        → IsFramed ds x → scope_in identity ds ≡ with_fti identity fti → IfOk result (λ r.
+        IfOk r (λ s. AreReceived identity ds fti (came_at (held_in x) s))) }
+    ensures placed { (x : List ℕ) → F.content file.now ≡ Some x → IfOk result (λ r.
+        IfOk r (AreSymbolsIn x (with_fti identity fti))) }
+    ensures range { IfOk result (λ r. IfOk r (λ s. (held : ExtentValue → List ℕ)
+        → AreInRange fti (came_at held s))) }
     ensures fault { (x : List ℕ) (ds : List (List ℕ)) → F.content file.now ≡ Some x
-        → IsFramed ds x → scope_in identity ds ≡ with_fti identity fti
-        → IfErr result (IsFaultAmong identity ds) }
+        → IsFramed ds x → scope_in identity ds ≡ with_fti identity fti → IfOk result (λ r.
+        IfErr r (IsRefusal identity ds)) }
     ensures whole { OnOk result (AreFrames (F.content file.now)) }
-    ensures unindexed { IfErr result (IsUnindexed (F.content file.now) (F.reliable file.now)) }
+    ensures unread { IfErr result (IsFileFault (F.content file.now) (F.reliable file.now)) }
 {
     let mut cursor = Cursor::new(file);
     index_frames(alloc, &mut cursor, file, identity, fti)

@@ -2,8 +2,8 @@
 //!
 //! ```
 //! match index_file(alloc, &session, IDENTITY)? {
-//!     IndexedFile::Symbols(symbols) => println!(rt; "of {} bytes", symbols.transfer_length())?,
-//!     IndexedFile::Answer(_) => println!(rt; "no object yet")?,
+//!     Ok(symbols) => println!(rt; "of {} bytes", symbols.transfer_length())?,
+//!     Err(_) => println!(rt; "no object yet")?,
 //! }
 //! ```
 //!
@@ -20,4 +20,4 @@ mod indexed_file;
 mod indexing;
 mod rereading;
 
-pub use indexed_file::{FileFault, FileSymbols, IndexedFile, index_file};
+pub use indexed_file::{FileFault, FileSymbols, index_file};

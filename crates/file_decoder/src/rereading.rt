@@ -73,11 +73,11 @@ fn symbol_of<'a>(scope: &Scope, b: u32, esi: u8, datagram: &'a [u8]) -> Option<&
     ensures none { IsNone result → IsSymbolOf scope.now b esi datagram.now → ⊥ }
 {
     let mut known = *scope;
-    let packet = match known.look(datagram) {
-        Ok(Look::InRange(packet)) => packet,
-        Ok(Look::Other) => return None,
-        Ok(Look::Early) => return None,
-        Err(_) => return None,
+    let Ok(look) = known.look(datagram) else {
+        return None;
+    };
+    let Look::InRange(packet) = look else {
+        return None;
     };
     if packet.sbn != b || packet.esi != esi {
         return None;

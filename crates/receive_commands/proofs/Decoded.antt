@@ -1,5 +1,5 @@
 -- A session that was decoded, by its parts.
-use Rattle.std.proofs.Common.{◌≡◌, ◌⊎◌, ◌∙◌, ℕ, Bool, List, [], ◌∷◌, Option, Some, None, Result, Err, inl, inr, refl, sym, ap, subst, length, codes}
+use Rattle.std.proofs.Common.{◌≡◌, ◌⊎◌, ◌∙◌, ℕ, Bool, List, [], ◌∷◌, Option, Some, None, Result, Ok, Err, inl, inr, refl, sym, ap, subst, length, codes}
 use Rattle.std.specs.Prelude.{IfErr, IfSome, replicate}
 use Rattle.std.specs.Borrow.{Bor}
 use Rattle.session.specs.Frames.{StopsAt}
@@ -16,7 +16,6 @@ use Rattle.reception.specs.declared.scope.Identity.{Identity}
 use Rattle.std.proofs.lemmas.List.{length-replicate}
 use Rattle.file_decoder.specs.PlacesOf.{ArePlacedOf}
 use Rattle.file_decoder.specs.IndexedIn.{IsFileFault, IsIndexedIn}
-use Rattle.file_decoder.specs.declared.indexed_file.IndexedFile.TheVariants as indexed_file
 use Rattle.reception.specs.Readings.{readings_of}
 use Rattle.file_decoder.specs.ReadAgain.{fault_of}
 use Rattle.file_decoder.specs.declared.indexed_file.FileSymbols.{FileSymbols}
@@ -112,7 +111,7 @@ module _ (old new : World) (r : DecodeRequest) (content : Option (List ℕ)) (he
 abbrev pub Placed : Identity → Option (List ℕ) → FileSymbols → Type 0
 Placed who content s = IfSome content (λ x. (ds : List (List ℕ)) × ArePlacedOf who ds x s)
 
-pub placed_of : (who : Identity) (content : Option (List ℕ)) (s : FileSymbols) → IsIndexedIn who content (indexed_file.Symbols s) → Placed who content s
+pub placed_of : (who : Identity) (content : Option (List ℕ)) (s : FileSymbols) → IsIndexedIn who content (Ok s) → Placed who content s
 placed_of who content s h = subst (λ (w : Identity). Placed w content s) h.0 h.1.1
 
 -- the output was created and given up

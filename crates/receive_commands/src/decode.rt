@@ -19,7 +19,7 @@ use crate::held::read_frames;
 use block_recovery::DecodeFault;
 use commands::{Done, Fault, Text, Told, Unwritten, commit, create, open, put_packet_fault};
 use decoder::{Answer, WriteFault};
-use file_decoder::{FileFault, FileSymbols, IndexedFile, index_file};
+use file_decoder::{FileFault, FileSymbols, index_file};
 use host::Host;
 use request::DecodeRequest;
 use std::alloc::{AllocError, Global};
@@ -64,8 +64,8 @@ fn decode_file<'a, H: Host, F: ReadAt>(
         (HasStopped (H.world host.old) (H.world host.new) (Decode request.now)) }
 {
     let symbols = match index_file(alloc, input, request.identity) {
-        Ok(IndexedFile::Symbols(symbols)) => symbols,
-        Ok(IndexedFile::Answer(answer)) => return Ok(told_of(alloc, &answer)?),
+        Ok(Ok(symbols)) => symbols,
+        Ok(Err(answer)) => return Ok(told_of(alloc, &answer)?),
         Err(fault) => return Err(file_fault(request.session, fault)),
     };
     let mut file = create(host, &request.output)?;

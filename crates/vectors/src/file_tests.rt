@@ -4,7 +4,7 @@ ghost use Rattle.std.specs.Prelude.{◌≤◌};
 
 use crate::ONE;
 use crate::receiver_tests::{ORDERS, disturbed, is_same, object_of, sent};
-use coder::{Answer, DecodeFault, FileFault, IndexedFile, decode, index_file};
+use coder::{Answer, DecodeFault, FileFault, decode, index_file};
 use lists::are_bytes;
 use partition::Fti;
 use rand_pcg::Pcg32;
@@ -32,33 +32,31 @@ impl ReadAt for Bytes<'_> {
 
 // What a file gives, with the object that is written from it once its symbols were looked at.
 fn from_file<F: ReadAt>(alloc: Global, file: &F) -> Result<Answer, FileFault> {
-    match index_file(alloc, file, ONE)? {
-        IndexedFile::Answer(answer) => Ok(answer),
-        IndexedFile::Symbols(symbols) => {
-            if let Some(answer) = symbols.refutation(alloc, file)? {
-                return Ok(answer);
-            }
-            let mut sink = Sink::new(alloc);
-            match symbols.write_checked(alloc, file, &mut sink) {
-                Ok(None) => Ok(Answer::Object(sink.into_bytes())),
-                Ok(Some(_)) | Err(_) => Err(FileFault::Changed),
-            }
-        }
+    let symbols = match index_file(alloc, file, ONE)? {
+        Ok(symbols) => symbols,
+        Err(answer) => return Ok(answer),
+    };
+    if let Some(answer) = symbols.refutation(alloc, file)? {
+        return Ok(answer);
+    }
+    let mut sink = Sink::new(alloc);
+    match symbols.write_checked(alloc, file, &mut sink) {
+        Ok(None) => Ok(Answer::Object(sink.into_bytes())),
+        Ok(Some(_)) | Err(_) => Err(FileFault::Changed),
     }
 }
 
 // What a file gives, with the object that is written from it while its symbols are looked at.
 fn from_file_at_once<F: ReadAt>(alloc: Global, file: &F) -> Result<Answer, FileFault> {
-    match index_file(alloc, file, ONE)? {
-        IndexedFile::Answer(answer) => Ok(answer),
-        IndexedFile::Symbols(symbols) => {
-            let mut sink = Sink::new(alloc);
-            match symbols.write_checked(alloc, file, &mut sink) {
-                Ok(None) => Ok(Answer::Object(sink.into_bytes())),
-                Ok(Some(answer)) => Ok(answer),
-                Err(_) => Err(FileFault::Changed),
-            }
-        }
+    let symbols = match index_file(alloc, file, ONE)? {
+        Ok(symbols) => symbols,
+        Err(answer) => return Ok(answer),
+    };
+    let mut sink = Sink::new(alloc);
+    match symbols.write_checked(alloc, file, &mut sink) {
+        Ok(None) => Ok(Answer::Object(sink.into_bytes())),
+        Ok(Some(answer)) => Ok(answer),
+        Err(_) => Err(FileFault::Changed),
     }
 }
 

@@ -12,8 +12,8 @@ loop-datagram-init g c = record {
   faults = λ x ds told framed none. none_yet c.args.identity ds none;
 }
 
-pub returns-in-Some-first-clause-fault : goal.returns-in-Some-first-clause-fault
-returns-in-Some-first-clause-fault g c = λ x ds told framed.
+pub returns-in-Some-first-clause-carrier : goal.returns-in-Some-first-clause-carrier
+returns-in-Some-first-clause-carrier g c = λ x ds told framed.
     let content = g.R.Read.remaining c.args.reader.now in
     let left = g.R.Read.remaining c.loop-datagram.reader in
     let i = c.loop-datagram.invariant in
@@ -24,8 +24,8 @@ returns-in-Some-first-clause-fault g c = λ x ds told framed.
     let so_far = i.faults x ds told framed (no_carrier who ds place l heard) in
     subst (FirstSoFar who ds place) c.in-Some-first.is so_far
 
-pub returns-in-None-clause-none : goal.returns-in-None-clause-none
-returns-in-None-clause-none g c = λ x ds told framed _.
+pub returns-in-None-clause-carrier : goal.returns-in-None-clause-carrier
+returns-in-None-clause-carrier g c = λ x ds told framed.
     let content = g.R.Read.remaining c.args.reader.now in
     let left = g.R.Read.remaining c.loop-datagram.reader in
     let i = c.loop-datagram.invariant in
@@ -36,8 +36,8 @@ returns-in-None-clause-none g c = λ x ds told framed _.
     let so_far = i.faults x ds told framed (no_carrier who ds place l heard) in
     nothing_said who ds place l heard (subst (FirstSoFar who ds place) c.in-None.is so_far)
 
-pub returns-in-Some-carried-clause-some : goal.returns-in-Some-carried-clause-some
-returns-in-Some-carried-clause-some g c = λ x ds told framed.
+pub returns-in-Some-carried-clause-carrier : goal.returns-in-Some-carried-clause-carrier
+returns-in-Some-carried-clause-carrier g c = λ x ds told framed.
     let content = g.R.Read.remaining c.args.reader.now in
     let left = g.R.Read.remaining c.loop-datagram.reader in
     let i = c.loop-datagram.invariant in
@@ -51,7 +51,7 @@ returns-in-Some-carried-clause-some g c = λ x ds told framed.
     let alone = c.look_alone-carried.ensures in
     let n = is_next content left i.offset place i.behind new d reads short x told ds framed in
     let here = c.as_slice-bytes.ensures.value ∙ n.1 in
-    carrier who ds place c.as_slice-bytes.result.now alone.scope alone.looked n.0 here alone.look (i.heard x ds told framed) c.in-Some-carried.fti (sym alone.known ∙ c.in-Some-carried.is)
+    carrier who ds place c.as_slice-bytes.result.now alone.scope alone.answer n.0 here alone.look (i.heard x ds told framed) c.in-Some-carried.fti (sym alone.known ∙ c.in-Some-carried.is)
 
 pub loop-datagram-preserved : goal.loop-datagram-preserved
 loop-datagram-preserved g c =
@@ -75,20 +75,20 @@ loop-datagram-preserved g c =
       heard = λ x ds told framed.
           let n = is_next content left i.offset place i.behind new d reads short x told ds framed in
           let here = c.as_slice-bytes.ensures.value ∙ n.1 in
-          heard_still who ds place c.as_slice-bytes.result.now alone.scope alone.looked n.0 here alone.look none (i.heard x ds told framed);
+          heard_still who ds place c.as_slice-bytes.result.now alone.scope alone.answer n.0 here alone.look none (i.heard x ds told framed);
       faults = λ x ds told framed last.
           let n = is_next content left i.offset place i.behind new d reads short x told ds framed in
           let here = c.as_slice-bytes.ensures.value ∙ n.1 in
           subst (FirstSoFar who ds (place + 1)) (sym c.or-first.ensures)
-          (first_next who ds place c.as_slice-bytes.result.now alone.scope alone.looked n.0 here alone.look none c.loop-datagram.first _ (i.faults x ds told framed last) alone.clean alone.wrong);
+          (first_next who ds place c.as_slice-bytes.result.now alone.scope alone.answer n.0 here alone.look none c.loop-datagram.first _ (i.faults x ds told framed last) alone.clean alone.wrong);
     })
 
-pub returns-in-Some-first-clause-unindexed : goal.returns-in-Some-first-clause-unindexed
-returns-in-Some-first-clause-unindexed g c =
+pub returns-in-Some-first-clause-whole : goal.returns-in-Some-first-clause-whole
+returns-in-Some-first-clause-whole g c =
     read_frames (g.R.Read.remaining c.args.reader.now) (g.R.Read.remaining c.loop-datagram.reader) c.loop-datagram.invariant.offset c.loop-datagram.place c.loop-datagram.invariant.behind
     (c.in_ok-datagram.ensures.none c.in_default.is).0
 
 pub returns-in-None-clause-whole : goal.returns-in-None-clause-whole
-returns-in-None-clause-whole g c = λ _.
+returns-in-None-clause-whole g c =
     read_frames (g.R.Read.remaining c.args.reader.now) (g.R.Read.remaining c.loop-datagram.reader) c.loop-datagram.invariant.offset c.loop-datagram.place c.loop-datagram.invariant.behind
     (c.in_ok-datagram.ensures.none c.in_default.is).0

@@ -12,14 +12,14 @@ use Rattle.commands.specs.declared.fault.Fault.TheVariants.{Memory}
 use Rattle.commands.proofs.Holding.{committed}
 use Rattle.receive_commands.proofs.decode.decode_file.Goals as goal
 
-pub returns-in-Ok-Answer-clause-ok : goal.returns-in-Ok-Answer-clause-ok
-returns-in-Ok-Answer-clause-ok g c =
+pub returns-in-Ok-Err-clause-ok : goal.returns-in-Ok-Err-clause-ok
+returns-in-Ok-Err-clause-ok g c =
     let w = g.H.Host.world c.args.host.now in
     let content = g.F.ReadAt.content c.args.input.now in
-    let is = rw c.in-Ok-Answer.field-0-is at c.in-Ok-Answer.ensures.indexed in
+    let is = rw c.in-Ok-Err.field-0-is at c.in-Ok-Err.ensures.indexed in
     let r = c.args.request.now in
-    let held = session_held w.files r.session.now content r.identity (answer_value c.in-Ok-Answer.answer) c.requires.bytes is.1 in
-    none_decoded w w r content held refl c.in-Ok-Answer.answer is.1 is.0 refl (inl refl) c.in_ok-told_of-in-Ok-Answer.field-0 c.in_ok-told_of-in-Ok-Answer.ensures
+    let held = session_held w.files r.session.now content r.identity (answer_value c.in-Ok-Err.answer) c.requires.bytes is.1 in
+    none_decoded w w r content held refl c.in-Ok-Err.answer is.1 is.0 refl (inl refl) c.in_ok-told_of-in-Ok-Err.field-0 c.in_ok-told_of-in-Ok-Err.ensures
 
 pub returns-in-Err-clause-fault : goal.returns-in-Err-clause-fault
 returns-in-Err-clause-fault g c =
@@ -31,23 +31,23 @@ returns-in-Err-clause-fault g c =
 
 pub returns-in_err-file-clause-fault : goal.returns-in_err-file-clause-fault
 returns-in_err-file-clause-fault g c =
-    let indexed = rw c.in-Ok-Symbols.field-0-is at c.in-Ok-Symbols.ensures.indexed in
+    let indexed = rw c.in-Ok-Ok.field-0-is at c.in-Ok-Ok.ensures.indexed in
     let old = g.H.Host.world c.args.host.now in
     let r = c.args.request.now in
     let content = g.F.ReadAt.content c.args.input.now in
-    let placed = placed_of r.identity content c.in-Ok-Symbols.symbols indexed in
+    let placed = placed_of r.identity content c.in-Ok-Ok.symbols indexed in
     let fault = c.in_err-file.field-0.0 in
     passed_on c.from_residual-in_err-file.result fault _ c.from_residual-in_err-file.ensures.1
     (uncreated old (g.H.Host.world c.create.new.host) (Decode r) r.output refl c.create.ensures.files c.create.ensures.silent fault c.in_err-file.ensures.none
-    (may_write old.files r content c.in-Ok-Symbols.symbols c.requires.bytes placed) c.in_err-file.ensures.fault)
+    (may_write old.files r content c.in-Ok-Ok.symbols c.requires.bytes placed) c.in_err-file.ensures.fault)
 
 pub returns-in_err-told_of-in-Ok-Some-clause-fault : goal.returns-in_err-told_of-in-Ok-Some-clause-fault
 returns-in_err-told_of-in-Ok-Some-clause-fault g c =
-    let indexed = rw c.in-Ok-Symbols.field-0-is at c.in-Ok-Symbols.ensures.indexed in
+    let indexed = rw c.in-Ok-Ok.field-0-is at c.in-Ok-Ok.ensures.indexed in
     let old = g.H.Host.world c.args.host.now in
     let mid = g.H.Host.world c.create.new.host in
     let r = c.args.request.now in
-    let s = c.in-Ok-Symbols.symbols in
+    let s = c.in-Ok-Ok.symbols in
     let content = g.F.ReadAt.content c.args.input.now in
     let given = c.requires in
     let placed = placed_of r.identity content s indexed in
@@ -58,11 +58,11 @@ returns-in_err-told_of-in-Ok-Some-clause-fault g c =
 
 pub returns-in-Ok-Some-clause-ok : goal.returns-in-Ok-Some-clause-ok
 returns-in-Ok-Some-clause-ok g c =
-    let indexed = rw c.in-Ok-Symbols.field-0-is at c.in-Ok-Symbols.ensures.indexed in
+    let indexed = rw c.in-Ok-Ok.field-0-is at c.in-Ok-Ok.ensures.indexed in
     let old = g.H.Host.world c.args.host.now in
     let mid = g.H.Host.world c.create.new.host in
     let r = c.args.request.now in
-    let s = c.in-Ok-Symbols.symbols in
+    let s = c.in-Ok-Ok.symbols in
     let content = g.F.ReadAt.content c.args.input.now in
     let given = c.requires in
     let placed = placed_of r.identity content s indexed in
@@ -79,11 +79,11 @@ returns-in-Ok-Some-clause-ok g c =
 
 pub returns-in-Ok-None-clause-ok : goal.returns-in-Ok-None-clause-ok
 returns-in-Ok-None-clause-ok g c =
-    let indexed = rw c.in-Ok-Symbols.field-0-is at c.in-Ok-Symbols.ensures.indexed in
+    let indexed = rw c.in-Ok-Ok.field-0-is at c.in-Ok-Ok.ensures.indexed in
     let old = g.H.Host.world c.args.host.now in
     let mid = g.H.Host.world c.create.new.host in
     let r = c.args.request.now in
-    let s = c.in-Ok-Symbols.symbols in
+    let s = c.in-Ok-Ok.symbols in
     let content = g.F.ReadAt.content c.args.input.now in
     let given = c.requires in
     let placed = placed_of r.identity content s indexed in
@@ -103,11 +103,11 @@ returns-in-Ok-None-clause-ok g c =
 
 pub returns-clause-fault : goal.returns-clause-fault
 returns-clause-fault g c =
-    let indexed = rw c.in-Ok-Symbols.field-0-is at c.in-Ok-Symbols.ensures.indexed in
+    let indexed = rw c.in-Ok-Ok.field-0-is at c.in-Ok-Ok.ensures.indexed in
     let old = g.H.Host.world c.args.host.now in
     let mid = g.H.Host.world c.create.new.host in
     let r = c.args.request.now in
-    let s = c.in-Ok-Symbols.symbols in
+    let s = c.in-Ok-Ok.symbols in
     let content = g.F.ReadAt.content c.args.input.now in
     let given = c.requires in
     let placed = placed_of r.identity content s indexed in
@@ -120,11 +120,11 @@ returns-clause-fault g c =
 
 pub returns-in_err-length-in-Ok-None-clause-fault : goal.returns-in_err-length-in-Ok-None-clause-fault
 returns-in_err-length-in-Ok-None-clause-fault g c =
-    let indexed = rw c.in-Ok-Symbols.field-0-is at c.in-Ok-Symbols.ensures.indexed in
+    let indexed = rw c.in-Ok-Ok.field-0-is at c.in-Ok-Ok.ensures.indexed in
     let old = g.H.Host.world c.args.host.now in
     let mid = g.H.Host.world c.create.new.host in
     let r = c.args.request.now in
-    let s = c.in-Ok-Symbols.symbols in
+    let s = c.in-Ok-Ok.symbols in
     let content = g.F.ReadAt.content c.args.input.now in
     let placed = placed_of r.identity content s indexed in
     let may = may_write old.files r content s c.requires.bytes placed in
