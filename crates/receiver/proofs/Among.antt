@@ -12,7 +12,7 @@ use Rattle.partition.specs.Fti.{Fti, source_count, encoding_count}
 use Rattle.block_recovery.specs.Arrivals.{with_esi}
 use Rattle.block_recovery.proofs.Kept.{with_here, with_other, count_more, count_none}
 use Rattle.receiver.specs.Stored.{is_among, is_solved, symbol_in, AreSymbols, IsOf, IsPending, IsStored}
-use Rattle.receiver.specs.declared.receiving.Unfed.{Unfed}
+use Rattle.receiver.specs.declared.receiver.FeedFault.{FeedFault}
 use Rattle.receiver.proofs.Pending.{among_place}
 
 -- ---- among ESIs
@@ -145,12 +145,12 @@ of_more f b esis e h le free = record {
 }
 
 -- where one more was kept, or none, the ESIs are still the block's
-pub of_kept : (f : Fti) (b : ℕ) (old new : List ℕ) (e : ℕ) (r : Result ⊤ Unfed) → OnOk r (new ≡ old ++ e ∷ []) → OnErr r (new ≡ old) → IsOf f b old → e < encoding_count f b → is_among old e ≡ false → IsOf f b new
+pub of_kept : (f : Fti) (b : ℕ) (old new : List ℕ) (e : ℕ) (r : Result ⊤ FeedFault) → OnOk r (new ≡ old ++ e ∷ []) → OnErr r (new ≡ old) → IsOf f b old → e < encoding_count f b → is_among old e ≡ false → IsOf f b new
 of_kept f b old new e (Ok x) kept same h within free = subst (IsOf f b) (sym kept) (of_more f b old e h within free)
 of_kept f b old new e (Err x) kept same h within free = subst (IsOf f b) (sym same) h
 
 -- and where they are too few with it, the block is solved neither before nor now
-pub too_few_kept : (f : Fti) (b : ℕ) (old new : List ℕ) (e : ℕ) (r : Result ⊤ Unfed) → OnOk r (new ≡ old ++ e ∷ []) → OnErr r (new ≡ old) → length old + 1 < source_count f b → is_solved f b new ≡ is_solved f b old
+pub too_few_kept : (f : Fti) (b : ℕ) (old new : List ℕ) (e : ℕ) (r : Result ⊤ FeedFault) → OnOk r (new ≡ old ++ e ∷ []) → OnErr r (new ≡ old) → length old + 1 < source_count f b → is_solved f b new ≡ is_solved f b old
 too_few_kept f b old new e (Ok x) kept same few =
     lt-leb (source_count f b) (length new) (omega (arith, ap length kept, length-append old (e ∷ []), few)) ∙ sym (lt-leb (source_count f b) (length old) (omega (arith, few)))
 too_few_kept f b old new e (Err x) kept same few = ap (is_solved f b) same

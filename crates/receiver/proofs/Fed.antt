@@ -45,14 +45,12 @@ use Rattle.receiver.specs.Holds.{HoldsIn, kept_of, has_solved, solved_count}
 use Rattle.receiver.specs.Putting.{MayStand, IsClash, IsNoCode, IsPutFault, UnlessFailed}
 use Rattle.receiver.specs.declared.receiver.FeedFault.{FeedFault}
 use Rattle.receiver.specs.declared.receiver.FeedFault.TheVariants as feed
-use Rattle.receiver.specs.declared.receiving.Unfed.{Unfed}
-use Rattle.receiver.specs.declared.receiving.Unfed.TheVariants as unfed
 use Rattle.block_recovery.specs.Received.{IsIndex, AreReceived}
 use Rattle.receiver.specs.Stored.{IsStored, is_solved}
 use Rattle.receiver.specs.Taking.{AllSolved}
 use Rattle.receiver.specs.Stands.{StandsWith, Keeps, IsSoundIn}
 use Rattle.receiver.specs.Fed.{HoldsFor}
-use Rattle.receiver.specs.Receiving.{LeaveNoneShort, IfRefused, IsUnfedOf, with_datagram, ComesEarly}
+use Rattle.receiver.specs.Receiving.{LeaveNoneShort, IsFaultOf, with_datagram, ComesEarly}
 use Rattle.receiver.specs.declared.receiving.Receiving.{Receiving}
 use Rattle.receiver.specs.declared.store.Store.{Store}
 use Rattle.block_recovery.proofs.Counts.{held_is, one_more_held, none_more_held}
@@ -375,17 +373,17 @@ module _ (r : Receiving) (told : Told) (ds : List (List ℕ)) (stands : StandsWi
         }
 
       -- why the symbol isn't put is the answer
-      pub refusal_told : IsValidFti f → HoldsFor f told r.store at → (failed : Bool) (v : Unfed) → UnlessFailed failed v (IsPutFault f r.accepted p (at p.sbn) v) → IsUnfedOf r.identity all v
-      refusal_told valid holds failed (unfed.Refused (feed.Fault (fault.Clash i))) h = subst (λ (n : ℕ). IsAnswer r.identity all (Fault n (Judged Clashes))) (sym h.0) (clash_told h.1)
-      refusal_told valid holds failed (unfed.Refused (feed.Fault (fault.NotCode b))) h = subst (λ (n : ℕ). IsAnswer r.identity all (NotCode n)) (sym h.0) (no_code_told (inl h.1.free) valid holds h.1)
-      refusal_told valid holds failed (unfed.Refused (feed.Fault (fault.Packet i e))) h = absurd h
-      refusal_told valid holds failed (unfed.Refused (feed.Fault (fault.OtherFti i))) h = absurd h
-      refusal_told valid holds failed (unfed.Refused (feed.Fault (fault.SymbolLength i))) h = absurd h
-      refusal_told valid holds failed (unfed.Refused (feed.Fault (fault.Range i))) h = absurd h
-      refusal_told valid holds failed (unfed.Refused feed.NoMemory) h = tt
-      refusal_told valid holds failed (unfed.Refused feed.Full) h = tt
-      refusal_told valid holds failed (unfed.Refused feed.Early) h = tt
-      refusal_told valid holds failed unfed.Failed h = tt
+      pub refusal_told : IsValidFti f → HoldsFor f told r.store at → (failed : Bool) (v : FeedFault) → UnlessFailed failed v (IsPutFault f r.accepted p (at p.sbn) v) → IsFaultOf r.identity all v
+      refusal_told valid holds failed (feed.Fault (fault.Clash i)) h = subst (λ (n : ℕ). IsAnswer r.identity all (Fault n (Judged Clashes))) (sym h.0) (clash_told h.1)
+      refusal_told valid holds failed (feed.Fault (fault.NotCode b)) h = subst (λ (n : ℕ). IsAnswer r.identity all (NotCode n)) (sym h.0) (no_code_told (inl h.1.free) valid holds h.1)
+      refusal_told valid holds failed (feed.Fault (fault.Packet i e)) h = absurd h
+      refusal_told valid holds failed (feed.Fault (fault.OtherFti i)) h = absurd h
+      refusal_told valid holds failed (feed.Fault (fault.SymbolLength i)) h = absurd h
+      refusal_told valid holds failed (feed.Fault (fault.Range i)) h = absurd h
+      refusal_told valid holds failed feed.NoMemory h = tt
+      refusal_told valid holds failed feed.Full h = tt
+      refusal_told valid holds failed feed.Early h = tt
+      refusal_told valid holds failed feed.Failed h = tt
 
       -- the receiver stands for those before, where the store holds what it held
       pub refused : (now : Told) → ((g h : Fti) → is_some (now g) ≡ is_some (now h)) → (store : Option Store) → IsSoundIn store → HoldsFor f now store at → is_some store ≡ is_some r.store
@@ -398,15 +396,18 @@ module _ (r : Receiving) (told : Told) (ds : List (List ℕ)) (stands : StandsWi
         symbols = keeps_still f now at all_told told r.store store (reception_of r.identity (readings_of ds)).scope.fti (reception_of r.identity (readings_of ds)).symbols stands.symbols old_fti holds index kind;
       }
 
--- a symbol isn't put, and so the datagram isn't accepted
-pub if_refused : (So : Type 0) (failed : Bool) (v : Unfed) → UnlessFailed failed v So → IfRefused So v
-if_refused So failed (unfed.Refused e) h = h
-if_refused So failed unfed.Failed h = tt
+-- so, where reading or writing hasn't failed
+pub if_refused : (So : Type 0) (failed : Bool) (v : FeedFault) → UnlessFailed failed v So → v ≢ feed.Failed → So
+if_refused So failed (feed.Fault e) h other = h
+if_refused So failed feed.Full h other = h
+if_refused So failed feed.Early h other = h
+if_refused So failed feed.NoMemory h other = h
+if_refused So failed feed.Failed h other = absurd (other refl)
 
 -- nor is that told which is never why a symbol isn't put
-pub not_refused : (e : FeedFault) (failed : Bool) (v : Unfed) (f : Fti) (place : ℕ) (p : ReadPacket) (at : ℕ → Option (List ℕ)) (Q : Type 0) → (IsPutFault f place p at (unfed.Refused e) → ⊥)
-    → UnlessFailed failed v (IsPutFault f place p at v × Q) → v ≡ unfed.Refused e → ⊥
-not_refused e failed v f place p at Q never h is = never (subst (λ (u : Unfed). UnlessFailed failed u (IsPutFault f place p at u × Q)) is h).0
+pub not_refused : (e : FeedFault) (failed : Bool) (v : FeedFault) (f : Fti) (place : ℕ) (p : ReadPacket) (at : ℕ → Option (List ℕ)) (Q : Type 0) → ¬ UnlessFailed failed e (IsPutFault f place p at e × Q)
+    → UnlessFailed failed v (IsPutFault f place p at v × Q) → v ≡ e → ⊥
+not_refused e failed v f place p at Q never h is = never (subst (λ (u : FeedFault). UnlessFailed failed u (IsPutFault f place p at u × Q)) is h)
 
 -- ---- whether each block is solved
 

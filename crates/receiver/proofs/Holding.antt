@@ -15,7 +15,7 @@ use Rattle.alc.specs.declared.reading.Packet.{Packet}
 use Rattle.receiver.specs.Fed.{HoldsFor, FedOutcome}
 use Rattle.receiver.specs.Putting.{MayStand, IsPutFault, Outcome, BlockOutcome, StoreOutcome, BytesChange, BytesNow}
 use Rattle.receiver.specs.Stored.{IsOf, IsPending, IsSolved, IsStored, is_solved}
-use Rattle.receiver.specs.declared.receiving.Unfed.{Unfed}
+use Rattle.receiver.specs.declared.receiver.FeedFault.{FeedFault}
 use Rattle.receiver.specs.declared.store.Store.{Store}
 use Rattle.receiver.proofs.Told.{outcome_then, block_then}
 
@@ -99,7 +99,7 @@ module _ (old new : Store) (fti : new.fti ≡ old.fti) (b : ℕ) (others : (a : 
 
 -- what comes of the block comes of the store
 module _ (s store : Store) (fti : store.fti ≡ s.fti) (p : Packet) (hb : p.sbn < block_count s.fti) (hj : p.esi < encoding_count s.fti p.sbn) (len : length p.symbol.now ≡ s.fti.symbol_length)
-    (others : (a : ℕ) → p.sbn ≢ a → kept_of store a ≡ kept_of s a) (place : ℕ) (now : BytesNow) (r : Result ⊤ Unfed) (x : ℕ → List ℕ) (at : ℕ → ℕ → Option (List ℕ)) (held : Holds s x at) where
+    (others : (a : ℕ) → p.sbn ≢ a → kept_of store a ≡ kept_of s a) (place : ℕ) (now : BytesNow) (r : Result ⊤ FeedFault) (x : ℕ → List ℕ) (at : ℕ → ℕ → Option (List ℕ)) (held : Holds s x at) where
   abbrev change : BytesChange
   change = record { before = x; after = now.told s.fti; failed = now.failed }
 
@@ -115,13 +115,13 @@ module _ (s store : Store) (fti : store.fti ≡ s.fti) (p : Packet) (hb : p.sbn 
   abbrev pending : List ℕ → (ℕ → Option (List ℕ)) → Type 0
   pending y = IsPending s.fti p.sbn y kept
 
-  abbrev why : Unfed → Type 0
+  abbrev why : FeedFault → Type 0
   why = IsPutFault s.fti place p (at p.sbn)
 
   pub stored_then : BlockOutcome p (at p.sbn) change r stored (λ y. stored y (at p.sbn)) why → StoreOutcome s.fti place p at now r store
   stored_then h =
       outcome_then r _ _ _ _ now.failed
-      (λ a o. (o.0, holds_more s store fti p.sbn others x _ at held p.esi p.symbol.now hb hj len o.1))
+      (λ o. (o.0, holds_more s store fti p.sbn others x _ at held p.esi p.symbol.now hb hj len o.1))
       (λ e o. (o.0, holds_same s store fti p.sbn others x _ at held o.1)) h
 
   -- of a block that was solved, of one that stays pending, and of one that is solved now
@@ -184,20 +184,20 @@ told_some (Some x) some = (x, refl)
 nothing : (at : ℕ → ℕ → Option (List ℕ)) → ((b j : ℕ) → at b j ≡ None) → (λ b j. None) ≡ at
 nothing at none = fun_ext (λ b. fun_ext (λ j. sym (none b j)))
 
-module _ (f : Fti) (place : ℕ) (told : Fti → Option (ℕ → List ℕ)) (now : BytesNow) (old new : Store) (fti : old.fti ≡ f) (same : new.fti ≡ old.fti) (p : Packet) (r : Result ⊤ Unfed)
+module _ (f : Fti) (place : ℕ) (told : Fti → Option (ℕ → List ℕ)) (now : BytesNow) (old new : Store) (fti : old.fti ≡ f) (same : new.fti ≡ old.fti) (p : Packet) (r : Result ⊤ FeedFault)
     (put : (at : ℕ → ℕ → Option (List ℕ)) → HoldsIn old (told old.fti) at → StoreOutcome old.fti place p at now r new) (at : ℕ → ℕ → Option (List ℕ)) where
   pub fed_some : HoldsIn old (told f) at → FedOutcome f place p at now r (Some new)
   fed_some =
       subst (λ (g : Fti). HoldsIn old (told g) at → FedOutcome g place p at now r (Some new)) fti
-      (λ hold. outcome_then r _ _ _ _ now.failed (λ a h. (h.0, (same, h.1))) (λ e h. (h.0, (same, h.1))) (put at hold))
+      (λ hold. outcome_then r _ _ _ _ now.failed (λ h. (h.0, (same, h.1))) (λ e h. (h.0, (same, h.1))) (put at hold))
 
   -- a new one holds nothing
   pub fed_none : ((x : ℕ → List ℕ) → Holds old x (λ b j. None)) → HoldsFor f told None at
-      → Outcome now.failed r (λ a. MayStand (at p.sbn) p.esi p.symbol.now × HoldsFor f now.told (Some new) (with_symbol at p.sbn p.esi p.symbol.now))
+      → Outcome now.failed r (MayStand (at p.sbn) p.esi p.symbol.now × HoldsFor f now.told (Some new) (with_symbol at p.sbn p.esi p.symbol.now))
       (λ e. IsPutFault f place p (at p.sbn) e × HoldsFor f now.told None at)
   fed_none none h =
       let w = told_some (told f) h.1 in
       let hold : HoldsIn old (told f) at = subst (λ (g : ℕ → ℕ → Option (List ℕ)). HoldsIn old (told f) g) (nothing at h.0) (w.0, w.1, none w.0) in
-      outcome_then r (λ a. MayStand (at p.sbn) p.esi p.symbol.now × HoldsFor f now.told (Some new) (with_symbol at p.sbn p.esi p.symbol.now)) _
+      outcome_then r (MayStand (at p.sbn) p.esi p.symbol.now × HoldsFor f now.told (Some new) (with_symbol at p.sbn p.esi p.symbol.now)) _
       (λ e. IsPutFault f place p (at p.sbn) e × HoldsFor f now.told (Some new) at) _ now.failed
-      (λ a o. o) (λ e o. (o.0, (h.0, ap is_some o.1.1.1))) (fed_some hold)
+      (λ o. o) (λ e o. (o.0, (h.0, ap is_some o.1.1.1))) (fed_some hold)

@@ -1,14 +1,10 @@
 -- What is given of what is kept: the object of solved blocks, and the first block that is short.
-use Rattle.std.specs.Prelude.{filter, is_some, flat_map, IfSome}
+use Rattle.std.specs.Prelude.{filter, is_some, IfSome}
 use Rattle.std.specs.List.{AllByRecursion}
-use Rattle.std.proofs.Common.{◌≡◌, ℕ, zero, suc, ◌+◌, ◌-◌, ◌*◌, ◌<◌, ◌≤◌, true, List, [], ◌∷◌, ◌++◌, Option, Some, None, length, take, refl, ap, sym, subst, ◌∙◌, arith, append_assoc, length-append}
+use Rattle.std.proofs.Common.{◌≡◌, ℕ, zero, suc, ◌+◌, ◌*◌, ◌<◌, ◌≤◌, true, List, Option, Some, None, length, take, refl, ap, sym, subst, ◌∙◌, arith}
 use Rattle.std.proofs.lemmas.Bool.{le-leb, lt-leb, leb-true}
-use Rattle.std.proofs.lemmas.List.{append-nil, take-take}
-use Rattle.std.proofs.lemmas.Grind.{flat_map-append}
-use Rattle.std.specs.Io.KnownBytes.{Appends}
+use Rattle.std.proofs.lemmas.List.{take-take}
 use Rattle.lists.specs.Below.{below}
-use Rattle.session.specs.Frames.{AppendsSome}
-use Rattle.session.proofs.Writes.{then_appends, then_some, front_some}
 use Rattle.partition.specs.Fti.{Fti, IsValidFti, block_count, block_bytes, source_count, encoding_count}
 use Rattle.partition.proofs.Laws.{counts, some_block}
 use Rattle.reception.specs.Symbols.{Symbol, is_full, arrived_count, AllFull, FullSolvable, IsFirstShort}

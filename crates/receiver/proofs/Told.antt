@@ -1,7 +1,7 @@
 -- The bytes of blocks, where they are told; and what comes of a symbol, where errors are passed on.
 use Rattle.std.proofs.Common.{◌≡◌, true, false, ℕ, ◌+◌, List, ◌++◌, Option, Some, None, length, take, drop, refl, sym, ap, subst, ◌∙◌}
 use Rattle.std.proofs.Math.Seq.{take-append_seam}
-use Rattle.std.specs.Prelude.{eqb, Bool, Result, Ok, Err, IsErrAnd, IfErr, OnErr}
+use Rattle.std.specs.Prelude.{eqb, Bool, Result, Ok, Err, IsErrAnd, IfErr, OnErr, ⊤}
 use lib.Pointwise.{pointwise}
 use Rattle.alc.proofs.Chosen.{same_self}
 use Rattle.block_recovery.proofs.Index.{pointwise_same}
@@ -9,9 +9,8 @@ use Rattle.alc.specs.declared.reading.Packet.{Packet}
 use Rattle.receiver.specs.Putting.{UnlessFailed, Outcome, BlockOutcome, BytesChange}
 use Rattle.block_bytes.specs.declared.block_bytes.BytesFault.{BytesFault}
 use Rattle.block_bytes.specs.declared.block_bytes.BytesFault.TheVariants as bytes
-use Rattle.receiver.specs.declared.receiver.FeedFault.TheVariants.{NoMemory}
-use Rattle.receiver.specs.declared.receiving.Unfed.{Unfed}
-use Rattle.receiver.specs.declared.receiving.Unfed.TheVariants.{Refused, Failed}
+use Rattle.receiver.specs.declared.receiver.FeedFault.{FeedFault}
+use Rattle.receiver.specs.declared.receiver.FeedFault.TheVariants.{Fault, Full, Early, NoMemory, Failed}
 use Rattle.block_bytes.specs.Bytes.{StandIn, Becomes, Puts}
 
 -- what is told is one
@@ -48,29 +47,32 @@ differ xs ys v is other same =
     let u : pointwise eqb xs ys ≡ true = ap (λ (l : List ℕ). pointwise eqb l ys) same ∙ w in
     absurd (cc)
 
-pub unless : (failed : Bool) (fault : Unfed) (P Q : Type 0) → (P → Q) → UnlessFailed failed fault P → UnlessFailed failed fault Q
-unless failed (Refused e) P Q f h = f h
+-- so, unless it has failed, and more than that
+pub unless : (failed : Bool) (fault : FeedFault) (P Q : Type 0) → (P → Q) → UnlessFailed failed fault P → UnlessFailed failed fault Q
+unless failed (Fault e) P Q f h = f h
+unless failed Full P Q f h = f h
+unless failed Early P Q f h = f h
+unless failed NoMemory P Q f h = f h
 unless failed Failed P Q f h = h
 
 -- where it has failed, so has reading or writing
-pub is_broken : (failed : Bool) (fault : Unfed) (P : Type 0) → UnlessFailed failed fault P → fault ≡ Failed → failed ≡ true
-is_broken failed (Refused e) P h is = absurd (cc)
-is_broken failed Failed P h is = h
+pub is_broken : (failed : Bool) (fault : FeedFault) (P : Type 0) → UnlessFailed failed fault P → fault ≡ Failed → failed ≡ true
+is_broken failed fault P h is = subst (λ (v : FeedFault). UnlessFailed failed v P) is h
 
 -- there is no memory
-pub out_of_memory : {A : Type 0} (r : Result A Unfed) (failed : Bool) (P : A → Type 0) (N : Unfed → Type 0) → IsErrAnd r (λ u. u ≡ Refused NoMemory) → N (Refused NoMemory) → Outcome failed r P N
+pub out_of_memory : (r : Result ⊤ FeedFault) (failed : Bool) (P : Type 0) (N : FeedFault → Type 0) → IsErrAnd r (λ u. u ≡ NoMemory) → N NoMemory → Outcome failed r P N
 out_of_memory (Ok a) failed P N is h = absurd is
-out_of_memory (Err u) failed P N is h = (tt, subst (λ (v : Unfed). UnlessFailed failed v (N v)) (sym is) h)
+out_of_memory (Err u) failed P N is h = (tt, subst (λ (v : FeedFault). UnlessFailed failed v (N v)) (sym is) h)
 
 -- reading or writing has failed
-pub out_of_order : {A : Type 0} (r : Result A Unfed) (failed : Bool) (P : A → Type 0) (N : Unfed → Type 0) → IsErrAnd r (λ u. u ≡ Failed) → failed ≡ true → Outcome failed r P N
+pub out_of_order : (r : Result ⊤ FeedFault) (failed : Bool) (P : Type 0) (N : FeedFault → Type 0) → IsErrAnd r (λ u. u ≡ Failed) → failed ≡ true → Outcome failed r P N
 out_of_order (Ok a) failed P N is h = absurd is
-out_of_order (Err u) failed P N is h = (tt, subst (λ (v : Unfed). UnlessFailed failed v (N v)) (sym is) h)
+out_of_order (Err u) failed P N is h = (tt, subst (λ (v : FeedFault). UnlessFailed failed v (N v)) (sym is) h)
 
 -- bytes weren't written
-pub unwritten : {A : Type 0} (e : BytesFault) (r : Result A Unfed) (failed : Bool) (P : A → Type 0) (N : Unfed → Type 0)
-    → IsErrAnd r (λ u. (e ≡ bytes.NoMemory → u ≡ Refused NoMemory) × (e ≡ bytes.Failed → u ≡ Failed))
-    → (e ≡ bytes.NoMemory → N (Refused NoMemory)) → (e ≡ bytes.Failed → failed ≡ true) → Outcome failed r P N
+pub unwritten : (e : BytesFault) (r : Result ⊤ FeedFault) (failed : Bool) (P : Type 0) (N : FeedFault → Type 0)
+    → IsErrAnd r (λ u. (e ≡ bytes.NoMemory → u ≡ NoMemory) × (e ≡ bytes.Failed → u ≡ Failed))
+    → (e ≡ bytes.NoMemory → N NoMemory) → (e ≡ bytes.Failed → failed ≡ true) → Outcome failed r P N
 unwritten e (Ok a) failed P N is none broken = absurd is
 unwritten bytes.NoMemory (Err u) failed P N is none broken = out_of_memory (Err u) failed P N (is.0 refl) (none refl)
 unwritten bytes.Failed (Err u) failed P N is none broken = out_of_order (Err u) failed P N (is.1 refl) (broken refl)
@@ -91,19 +93,19 @@ err_same (Ok a) Q P is h = tt
 err_same (Err e) Q P is h = h
 
 -- what an error is is so where it is passed on
-pub passed : {A : Type 0} (r : Result A Unfed) (e : Unfed) (failed : Bool) (P : A → Type 0) (N : Unfed → Type 0) → IsErrAnd r (λ u. u ≡ e) → Outcome {A = A} failed (Err e) P N → Outcome failed r P N
+pub passed : (r : Result ⊤ FeedFault) (e : FeedFault) (failed : Bool) (P : Type 0) (N : FeedFault → Type 0) → IsErrAnd r (λ u. u ≡ e) → Outcome failed (Err e) P N → Outcome failed r P N
 passed (Ok a) e failed P N is h = absurd is
-passed (Err u) e failed P N is h = (tt, subst (λ (v : Unfed). UnlessFailed failed v (N v)) (sym is) h.1)
+passed (Err u) e failed P N is h = (tt, subst (λ (v : FeedFault). UnlessFailed failed v (N v)) (sym is) h.1)
 
 -- what comes of a symbol is so of what follows
-pub outcome_then : {A : Type 0} (r : Result A Unfed) (P Q : A → Type 0) (N M : Unfed → Type 0) (failed : Bool) → ((a : A) → P a → Q a) → ((e : Unfed) → N e → M e) → Outcome failed r P N → Outcome failed r Q M
-outcome_then (Ok a) P Q N M failed f n h = (f a h.0, tt)
+pub outcome_then : (r : Result ⊤ FeedFault) (P Q : Type 0) (N M : FeedFault → Type 0) (failed : Bool) → (P → Q) → ((e : FeedFault) → N e → M e) → Outcome failed r P N → Outcome failed r Q M
+outcome_then (Ok a) P Q N M failed f n h = (f h.0, tt)
 outcome_then (Err e) P Q N M failed f n h = (tt, unless failed e (N e) (M e) (n e) h.1)
 
 -- and of a block's bytes
-pub block_then : {A : Type 0} (p : Packet) (at : ℕ → Option (List ℕ)) (change : BytesChange) (r : Result A Unfed) (Is Is' : List ℕ → (ℕ → Option (List ℕ)) → Type 0) (Was Was' : List ℕ → Type 0) (Why : Unfed → Type 0)
+pub block_then : (p : Packet) (at : ℕ → Option (List ℕ)) (change : BytesChange) (r : Result ⊤ FeedFault) (Is Is' : List ℕ → (ℕ → Option (List ℕ)) → Type 0) (Was Was' : List ℕ → Type 0) (Why : FeedFault → Type 0)
     → ((y : List ℕ) (g : ℕ → Option (List ℕ)) → Is y g → Is' y g) → ((y : List ℕ) → Was y → Was' y) → BlockOutcome p at change r Is Was Why → BlockOutcome p at change r Is' Was' Why
 block_then p at change r Is Is' Was Was' Why is was =
     outcome_then r _ _ _ _ change.failed
-    (λ a h. (h.0, becomes_then change.before change.after p.sbn _ _ (λ y. is y _) h.1))
+    (λ h. (h.0, becomes_then change.before change.after p.sbn _ _ (λ y. is y _) h.1))
     (λ e h. (h.0, becomes_then change.before change.after p.sbn Was Was' was h.1))

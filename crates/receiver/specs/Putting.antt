@@ -1,7 +1,7 @@
 -- What becomes of a symbol that is put to those that stand at a block's ESIs.
 use Rattle.std.specs.Prelude.{◌≡◌, ◌≢◌, ◌<◌, ◌⊎◌, ℕ, Bool, true, List, length}
 use Rattle.std.specs.Prelude.{Option, Some, None, ⊤}
-use Rattle.std.specs.Prelude.{Result, IfOk, IfErr}
+use Rattle.std.specs.Prelude.{Result, OnOk, IfErr}
 use Rattle.partition.specs.Fti.{Fti, block_count, encoding_count}
 use Rattle.alc.specs.declared.reading.Packet.{Packet}
 use Rattle.block_code.specs.Codes.{EachBlockHas}
@@ -15,9 +15,8 @@ use Rattle.receiver.specs.Holds.{HoldsIn}
 use Rattle.block_bytes.specs.declared.block_bytes.BlockBytes.{Ghosts}
 use Rattle.receiver.specs.declared.solver.Solver.{Solver}
 use Rattle.receiver.specs.declared.store.Store.{Store}
-use Rattle.receiver.specs.declared.receiver.FeedFault.TheVariants.{Fault, NoMemory}
-use Rattle.receiver.specs.declared.receiving.Unfed.{Unfed}
-use Rattle.receiver.specs.declared.receiving.Unfed.TheVariants.{Refused, Failed}
+use Rattle.receiver.specs.declared.receiver.FeedFault.{FeedFault}
+use Rattle.receiver.specs.declared.receiver.FeedFault.TheVariants.{Fault, NoMemory, Failed}
 
 -- the FTI has the packet, the codes are the FTI's, and what recovered a block is of one of them
 pub record MayPut (f : Fti) (p : Packet) (solver : Solver) : Type 0 where
@@ -45,25 +44,23 @@ pub record IsNoCode (f : Fti) (b : ℕ) (at : ℕ → Option (List ℕ)) (j : �
 
 -- why the symbol of the packet at a place of the datagrams isn't put: a clash is told by its place,
 -- and no code by its block
-abbrev pub IsPutFault : Fti → ℕ → Packet → (ℕ → Option (List ℕ)) → Unfed → Type 0
-IsPutFault f place p at (Refused (Fault (Clash i))) = (i ≡ place) × IsClash at p.esi p.symbol.now
-IsPutFault f place p at (Refused (Fault (NotCode b))) =
+abbrev pub IsPutFault : Fti → ℕ → Packet → (ℕ → Option (List ℕ)) → FeedFault → Type 0
+IsPutFault f place p at (Fault (Clash i)) = (i ≡ place) × IsClash at p.esi p.symbol.now
+IsPutFault f place p at (Fault (NotCode b)) =
     (b ≡ p.sbn) × IsNoCode f p.sbn at p.esi p.symbol.now
-IsPutFault f place p at (Refused NoMemory) = ⊤
-IsPutFault f place p at (Refused fault) = ⊥
-IsPutFault f place p at Failed = ⊤
+IsPutFault f place p at NoMemory = ⊤
+IsPutFault f place p at fault = ⊥
 
 -- so, unless reading or writing has failed
-abbrev pub UnlessFailed : Bool → Unfed → Type 0 → Type 0
-UnlessFailed failed (Refused fault) So = So
+abbrev pub UnlessFailed : Bool → FeedFault → Type 0 → Type 0
 UnlessFailed failed Failed So = failed ≡ true
+UnlessFailed failed fault So = So
 
 -- What comes of a symbol that is put: this is so where it was, and that where it wasn't, by why, or
 -- reading or writing has failed.
-abbrev pub Outcome : {A : Type 0} → Bool → Result A Unfed → (A → Type 0) → (Unfed → Type 0)
-    → Type 0
+abbrev pub Outcome : Bool → Result ⊤ FeedFault → Type 0 → (FeedFault → Type 0) → Type 0
 Outcome failed result Put Not =
-    IfOk result Put × IfErr result (λ fault. UnlessFailed failed fault (Not fault))
+    OnOk result Put × IfErr result (λ fault. UnlessFailed failed fault (Not fault))
 
 -- the bytes of blocks: what they were, what is told of them now, and whether reading or writing has
 -- failed
@@ -79,11 +76,11 @@ bytes_change b f before new =
 
 -- a block's stored part and its bytes: they are for these symbols with the packet's (`Is`), which
 -- may stand there; or it isn't put (`Why`), and they are for those before (`Was`)
-abbrev pub BlockOutcome : {A : Type 0} → Packet → (ℕ → Option (List ℕ)) → BytesChange
-    → Result A Unfed → (List ℕ → (ℕ → Option (List ℕ)) → Type 0) → (List ℕ → Type 0)
-    → (Unfed → Type 0) → Type 0
+abbrev pub BlockOutcome : Packet → (ℕ → Option (List ℕ)) → BytesChange → Result ⊤ FeedFault
+    → (List ℕ → (ℕ → Option (List ℕ)) → Type 0) → (List ℕ → Type 0) → (FeedFault → Type 0)
+    → Type 0
 BlockOutcome p at bytes result Is Was Why = Outcome bytes.failed result
-    (λ a. MayStand at p.esi p.symbol.now
+    (MayStand at p.esi p.symbol.now
     × Becomes bytes.before bytes.after p.sbn (λ x. Is x (with_esi at p.esi p.symbol.now)))
     (λ fault. Why fault × Becomes bytes.before bytes.after p.sbn Was)
 
@@ -99,8 +96,8 @@ bytes_now b new = record { told = b.kept new; failed = b.failed new }
 -- what comes of the symbol of the packet at a place, for what is kept of an object, where the bytes
 -- of its blocks are told
 abbrev pub StoreOutcome : Fti → ℕ → Packet → (ℕ → ℕ → Option (List ℕ)) → BytesNow
-    → Result ⊤ Unfed → Store → Type 0
+    → Result ⊤ FeedFault → Store → Type 0
 StoreOutcome f place p at bytes result store = Outcome bytes.failed result
-    (λ a. MayStand (at p.sbn) p.esi p.symbol.now
+    (MayStand (at p.sbn) p.esi p.symbol.now
     × HoldsIn store (bytes.told f) (with_symbol at p.sbn p.esi p.symbol.now))
     (λ fault. IsPutFault f place p (at p.sbn) fault × HoldsIn store (bytes.told f) at)

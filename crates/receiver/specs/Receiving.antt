@@ -1,6 +1,6 @@
 -- What a receiver tells of the datagrams that it accepted and one more.
 use Rattle.std.specs.Prelude.{◌≡◌, ℕ, min, true, List, [], ◌∷◌, ◌++◌, Some, None}
-use Rattle.std.specs.Prelude.{Ok, ⊤}
+use Rattle.std.specs.Prelude.{Ok}
 use Rattle.std.specs.Option.{option_map_or}
 use Rattle.partition.specs.Fti.{Fti, source_count}
 use Rattle.alc.specs.Packet.{Packet}
@@ -18,8 +18,6 @@ use Rattle.receiver.specs.declared.receiver.Progress.{Progress}
 use Rattle.receiver.specs.declared.receiver.Progress.TheVariants.{More, Complete}
 use Rattle.receiver.specs.declared.receiver.FeedFault.{FeedFault}
 use Rattle.receiver.specs.declared.receiver.FeedFault.TheVariants.{Fault}
-use Rattle.receiver.specs.declared.receiving.Unfed.{Unfed}
-use Rattle.receiver.specs.declared.receiving.Unfed.TheVariants.{Refused, Failed}
 
 -- one datagram more
 abbrev pub with_datagram : List (List ℕ) → List ℕ → List (List ℕ)
@@ -69,13 +67,3 @@ stored_count reception block =
     option_map_or
     (λ f. min (source_count f block)
     (arrived_count reception.symbols block)) reception.scope.fti 0
-
--- so, unless reading or writing has failed
-abbrev pub IfRefused : Type 0 → Unfed → Type 0
-IfRefused So (Refused fault) = So
-IfRefused So Failed = ⊤
-
--- a fault is the decoder's answer to the datagrams, unless reading or writing has failed
-abbrev pub IsUnfedOf : Identity → List (List ℕ) → Unfed → Type 0
-IsUnfedOf who datagrams (Refused fault) = IsFaultOf who datagrams fault
-IsUnfedOf who datagrams Failed = ⊤

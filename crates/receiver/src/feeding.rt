@@ -9,12 +9,12 @@ ghost use Rattle.reception.specs.Walks.{readings_of};
 ghost use Rattle.receiver.specs.Begun.{Begins, IsCarrierOf};
 ghost use Rattle.receiver.specs.Stands.{Stands, StandsWith, IsFed, IsSoundIn};
 ghost use Rattle.receiver.specs.Receiving.{with_datagram, Tells, IsFaultOf, HasNoFault};
-ghost use Rattle.receiver.specs.Receiving.{HasNoFaultBefore, ComesEarly, IfRefused, IsUnfedOf};
+ghost use Rattle.receiver.specs.Receiving.{HasNoFaultBefore, ComesEarly};
 ghost use Rattle.receiver.specs.Fed.{HoldsFor, FedOutcome};
 ghost use Rattle.receiver.specs.Putting.{bytes_now};
 
 use crate::receiver::{FeedFault, Progress, Receiver};
-use crate::receiving::{Receiving, Unfed};
+use crate::receiving::Receiving;
 use crate::store::Store;
 use alc::Packet;
 use block_bytes::BlockBytes;
@@ -32,7 +32,7 @@ fn put<B: BlockBytes>(
     place: usize,
     packet: &Packet<'_>,
     bytes: &mut B,
-) -> Result<(), Unfed>
+) -> Result<(), FeedFault>
     requires sound { IsSoundIn store.old }
     requires number { packet.now.sbn < block_count fti }
     requires esi { packet.now.esi < encoding_count fti packet.now.sbn }
@@ -132,7 +132,7 @@ impl Receiving {
         alloc: Global,
         bytes: &mut B,
         datagram: &[u8],
-    ) -> Result<Progress, Unfed>
+    ) -> Result<Progress, FeedFault>
         requires sound { IsSoundIn self.old.store }
         ensures identity { self.new.identity ≡ self.old.identity }
         ensures sound { IsSoundIn self.new.store }
@@ -140,40 +140,38 @@ impl Receiving {
             → OnOk result (StandsWith self.new (B.kept bytes.new)
             (with_datagram ds datagram.now)) }
         ensures refused { (ds : List (List ℕ)) → StandsWith self.old (B.kept bytes.old) ds
-            → IfErr result (IfRefused (StandsWith self.new (B.kept bytes.new) ds)) }
+            → IfErr result (λ fault. fault ≢ FeedFault.Failed
+            → StandsWith self.new (B.kept bytes.new) ds) }
         ensures progress { (ds : List (List ℕ)) → StandsWith self.old (B.kept bytes.old) ds
             → IfOk result (λ p. Tells p self.old.identity (with_datagram ds datagram.now)) }
         ensures fault { (ds : List (List ℕ)) → StandsWith self.old (B.kept bytes.old) ds
-            → IfErr result (IsUnfedOf self.old.identity (with_datagram ds datagram.now)) }
+            → IfErr result (IsFaultOf self.old.identity (with_datagram ds datagram.now)) }
         ensures memory { (ds : List (List ℕ)) → StandsWith self.old (B.kept bytes.old) ds
-            → result ≡ Err (Unfed.Refused FeedFault.NoMemory)
+            → result ≡ Err FeedFault.NoMemory
             → HasNoFaultBefore self.old.identity (with_datagram ds datagram.now) }
         ensures sound_answer { (ds : List (List ℕ)) → StandsWith self.old (B.kept bytes.old) ds
             → OnOk result (HasNoFault self.old.identity (with_datagram ds datagram.now)) }
         ensures full { (ds : List (List ℕ)) → StandsWith self.old (B.kept bytes.old) ds
-            → (result ≡ Err (Unfed.Refused FeedFault.Full)) ↔ (length ds ≡ usize.MAX) }
+            → (result ≡ Err FeedFault.Full) ↔ (length ds ≡ usize.MAX) }
         ensures early { (ds : List (List ℕ)) → StandsWith self.old (B.kept bytes.old) ds
-            → (result ≡ Err (Unfed.Refused FeedFault.Early))
+            → (result ≡ Err FeedFault.Early)
             ↔ ((length ds ≢ usize.MAX) × ComesEarly self.old.identity ds datagram.now) }
         ensures complete { result ≡ Ok Progress.Complete → IsSome self.new.store }
         ensures waits { self.old.store ≡ None → ¬ Begins self.old.identity datagram.now
-            → (self.new.store ≡ None) × (result ≢ Err Unfed.Failed) }
+            → (self.new.store ≡ None) × (result ≢ Err FeedFault.Failed) }
         ensures fails { (ds : List (List ℕ)) → StandsWith self.old (B.kept bytes.old) ds
-            → result ≡ Err Unfed.Failed → B.failed bytes.new ≡ true }
+            → result ≡ Err FeedFault.Failed → B.failed bytes.new ≡ true }
     {
         if self.accepted == usize::MAX {
-            return Err(Unfed::Refused(FeedFault::Full));
+            return Err(FeedFault::Full);
         }
         are_bytes(datagram);
         let mut scope = self.scope();
         let packet = match scope.look(datagram) {
             Ok(Look::InRange(packet)) => packet,
             Ok(Look::Other) => return Ok(self.accept()),
-            Ok(Look::Early) => return Err(Unfed::Refused(FeedFault::Early)),
-            Err(fault) => {
-                let fault = fault_at(self.accepted, fault);
-                return Err(Unfed::Refused(FeedFault::Fault(fault)));
-            }
+            Ok(Look::Early) => return Err(FeedFault::Early),
+            Err(fault) => return Err(FeedFault::Fault(fault_at(self.accepted, fault))),
         };
         let fti = scope.fti.unwrap();
         fti.is_valid();
@@ -215,11 +213,8 @@ impl Receiver {
             → (result ≡ Err FeedFault.Early)
             ↔ ((length ds ≢ usize.MAX)
             × ComesEarly self.old.receiving.identity ds datagram.now) }
+        ensures keeps { result ≢ Err FeedFault.Failed }
     {
-        match self.receiving.feed(alloc, &mut self.blocks, datagram) {
-            Ok(progress) => Ok(progress),
-            Err(Unfed::Refused(fault)) => Err(fault),
-            Err(Unfed::Failed) => unreachable!(),
-        }
+        self.receiving.feed(alloc, &mut self.blocks, datagram)
     }
 }

@@ -3,7 +3,7 @@ ghost use Rattle.std.specs.Prelude.{◌≡◌, false, is_some};
 ghost use Rattle.block_bytes.specs.Places.{has_place};
 
 use crate::receiver::{FeedFault, Progress};
-use crate::receiving::{Receiving, Unfed};
+use crate::receiving::Receiving;
 use block_bytes::{Beside, Blocks, FileBlocks, HeldBlocks};
 use decoder::Answer;
 use reception::Identity;
@@ -31,8 +31,7 @@ impl<W: WriteAt> FileReceiver<W> {
     ghost use Rattle.receiver.specs.Filed.{Stands, IsLack, IsObjectIn, has_output};
     ghost use Rattle.block_bytes.specs.Places.{place_failed};
     ghost use Rattle.receiver.specs.Receiving.{with_datagram, Tells, HasNoFault, LeaveNoneShort};
-    ghost use Rattle.receiver.specs.Receiving.{HasNoFaultBefore, ComesEarly, IfRefused};
-    ghost use Rattle.receiver.specs.Receiving.{IsUnfedOf};
+    ghost use Rattle.receiver.specs.Receiving.{HasNoFaultBefore, ComesEarly, IsFaultOf};
     ghost use Rattle.receiver.specs.Stands.{IsSoundIn};
 
     /// A receiver of this identity's packets, to which nothing came, without an output.
@@ -89,7 +88,7 @@ impl<W: WriteAt> FileReceiver<W> {
 
     /// Takes one datagram, of any bytes, as `Receiver::feed`. A datagram to begin with asks for an
     /// output first. `Failed` says that reading or writing the output has failed.
-    pub fn feed(&mut self, alloc: Global, datagram: &[u8]) -> Result<Progress, Unfed>
+    pub fn feed(&mut self, alloc: Global, datagram: &[u8]) -> Result<Progress, FeedFault>
         requires sound { IsSoundIn self.old.receiving.store }
         requires output { has_output self.old ≡ false
             → ¬ Begins self.old.receiving.identity datagram.now }
@@ -99,25 +98,25 @@ impl<W: WriteAt> FileReceiver<W> {
         ensures accepted { (ds : List (List ℕ)) → Stands self.old ds
             → OnOk result (Stands self.new (with_datagram ds datagram.now)) }
         ensures refused { (ds : List (List ℕ)) → Stands self.old ds
-            → IfErr result (IfRefused (Stands self.new ds)) }
+            → IfErr result (λ fault. fault ≢ FeedFault.Failed → Stands self.new ds) }
         ensures progress { (ds : List (List ℕ)) → Stands self.old ds → IfOk result
             (λ p. Tells p self.old.receiving.identity (with_datagram ds datagram.now)) }
         ensures fault { (ds : List (List ℕ)) → Stands self.old ds → IfErr result
-            (IsUnfedOf self.old.receiving.identity (with_datagram ds datagram.now)) }
+            (IsFaultOf self.old.receiving.identity (with_datagram ds datagram.now)) }
         ensures memory { (ds : List (List ℕ)) → Stands self.old ds
-            → result ≡ Err (Unfed.Refused FeedFault.NoMemory)
+            → result ≡ Err FeedFault.NoMemory
             → HasNoFaultBefore self.old.receiving.identity (with_datagram ds datagram.now) }
         ensures sound_answer { (ds : List (List ℕ)) → Stands self.old ds → OnOk result
             (HasNoFault self.old.receiving.identity (with_datagram ds datagram.now)) }
         ensures full { (ds : List (List ℕ)) → Stands self.old ds
-            → (result ≡ Err (Unfed.Refused FeedFault.Full)) ↔ (length ds ≡ usize.MAX) }
+            → (result ≡ Err FeedFault.Full) ↔ (length ds ≡ usize.MAX) }
         ensures early { (ds : List (List ℕ)) → Stands self.old ds
-            → (result ≡ Err (Unfed.Refused FeedFault.Early)) ↔ ((length ds ≢ usize.MAX)
+            → (result ≡ Err FeedFault.Early) ↔ ((length ds ≢ usize.MAX)
             × ComesEarly self.old.receiving.identity ds datagram.now) }
         ensures complete { result ≡ Ok Progress.Complete → has_output self.new ≡ true }
-        ensures failed { result ≡ Err Unfed.Failed → has_output self.new ≡ true }
+        ensures failed { result ≡ Err FeedFault.Failed → has_output self.new ≡ true }
         ensures fails { (ds : List (List ℕ)) → Stands self.old ds
-            → result ≡ Err Unfed.Failed → place_failed self.new.blocks ≡ true }
+            → result ≡ Err FeedFault.Failed → place_failed self.new.blocks ≡ true }
     {
         match &mut self.blocks {
             Blocks::Waiting => {

@@ -41,4 +41,4 @@ mod taking;
 
 pub use file_receiver::FileReceiver;
 pub use receiver::{FeedFault, Progress, Receiver};
-pub use receiving::{Receiving, Unfed};
+pub use receiving::Receiving;

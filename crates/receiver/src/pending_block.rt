@@ -11,7 +11,6 @@ ghost use Rattle.receiver.specs.Stored.{IsOf, IsPending, IsSolved, AreSymbols, i
 
 use crate::esis::Esis;
 use crate::receiver::FeedFault;
-use crate::receiving::Unfed;
 use crate::solver::Solver;
 use alc::Packet;
 use block_bytes::BlockBytes;
@@ -93,7 +92,7 @@ pub(crate) fn compare<B: BlockBytes>(
     esis: &[u8],
     index: usize,
     bytes: &mut B,
-) -> Result<(), Unfed>
+) -> Result<(), FeedFault>
     requires number { packet.now.sbn < block_count fti.now }
     requires symbol { length packet.now.symbol.now ≡ fti.now.symbol_length }
     requires index { (index < length esis.now) × (slice_index esis.now index ≡ packet.now.esi) }
@@ -102,7 +101,7 @@ pub(crate) fn compare<B: BlockBytes>(
         → B.kept bytes.old fti.now ≡ Some x
         → IsPending fti.now packet.now.sbn (x packet.now.sbn) esis.now at
         → Outcome (B.failed bytes.new) result
-        (λ _. at packet.now.esi ≡ Some packet.now.symbol.now)
+        (at packet.now.esi ≡ Some packet.now.symbol.now)
         (IsPutFault fti.now place packet.now at) }
     ensures stays { B.kept bytes.new ≡ B.kept bytes.old }
 {
@@ -112,7 +111,7 @@ pub(crate) fn compare<B: BlockBytes>(
     if symbol.as_slice() == packet.symbol {
         Ok(())
     } else {
-        Err(Unfed::Refused(FeedFault::Fault(DecodeFault::Clash(place))))
+        Err(FeedFault::Fault(DecodeFault::Clash(place)))
     }
 }
 
@@ -126,7 +125,7 @@ impl Esis {
         packet: &Packet<'_>,
         have: usize,
         bytes: &mut B,
-    ) -> Result<(), Unfed>
+    ) -> Result<(), FeedFault>
         requires have { have ≡ length (esis_of self.old packet.now.sbn) }
         requires number { packet.now.sbn < block_count fti.now }
         requires symbol { length packet.now.symbol.now ≡ fti.now.symbol_length }
@@ -164,7 +163,7 @@ impl Esis {
         packet: &Packet<'_>,
         solver: &mut Solver,
         bytes: &mut B,
-    ) -> Result<(), Unfed>
+    ) -> Result<(), FeedFault>
         requires given { MayPut fti.now packet.now solver.old }
         requires of { IsOf fti.now packet.now.sbn (esis_of self.old packet.now.sbn) }
         requires few { length (esis_of self.old packet.now.sbn)
@@ -198,7 +197,7 @@ impl Esis {
         let codes = &solver.codes;
         let recovery = &mut solver.recovery;
         let Some(rows) = block_rows(alloc, fti, codes, b, &symbols, false, recovery)? else {
-            return Err(Unfed::Refused(FeedFault::Fault(DecodeFault::NotCode(b))));
+            return Err(FeedFault::Fault(DecodeFault::NotCode(b)));
         };
         self.reserve(alloc, b)?;
         bytes.write(alloc, fti, b, 0, &rows.bytes)?;

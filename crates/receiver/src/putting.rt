@@ -5,7 +5,7 @@ ghost use Rattle.receiver.specs.Holds.{IsSound, HoldsIn};
 ghost use Rattle.receiver.specs.Putting.{StoreOutcome, bytes_now};
 
 use crate::pending_block::{compare, place_of};
-use crate::receiving::Unfed;
+use crate::receiver::FeedFault;
 use crate::store::Store;
 use alc::Packet;
 use block_bytes::BlockBytes;
@@ -19,7 +19,7 @@ impl Store {
         place: usize,
         packet: &Packet<'_>,
         bytes: &mut B,
-    ) -> Result<(), Unfed>
+    ) -> Result<(), FeedFault>
         requires sound { IsSound self.old }
         requires number { packet.now.sbn < block_count self.old.fti }
         requires esi { packet.now.esi < encoding_count self.old.fti packet.now.sbn }

@@ -1,8 +1,10 @@
 //! A receiver of one datagram at a time.
 use crate::receiving::Receiving;
-use block_bytes::HeldBlocks;
+use block_bytes::{BytesFault, HeldBlocks};
 use block_recovery::DecodeFault;
 use reception::Identity;
+use session::Failed;
+use std::alloc::AllocError;
 use thiserror::Error;
 
 /// Whether more datagrams are needed.
@@ -14,7 +16,7 @@ pub enum Progress {
     Complete,
 }
 
-/// Why a datagram was refused.
+/// Why a datagram wasn't accepted.
 #[derive(Debug, Clone, Copy, PartialEq, Eq, Error)]
 pub enum FeedFault {
     /// With it the datagrams would be of no object. A place is how many were accepted before.
@@ -30,6 +32,51 @@ pub enum FeedFault {
     /// Memory is wanting.
     #[error("NoMemory")]
     NoMemory,
+    /// Reading or writing a block's bytes has failed: what is kept isn't known any more. A
+    /// `Receiver` never answers this, as it keeps its bytes in memory.
+    #[error("Failed")]
+    Failed,
+}
+
+/// There is no memory for what is kept of the datagram.
+impl From<AllocError> for FeedFault {
+    ghost use Rattle.std.specs.Prelude.{◌≡◌};
+    ghost use Rattle.receiver.specs.declared.receiver.FeedFault.TheVariants.{NoMemory};
+
+    ghost from_gives = { λ _ fault. fault ≡ NoMemory };
+
+    fn from(_: AllocError) -> Self {
+        FeedFault::NoMemory
+    }
+}
+
+/// A block's bytes weren't read.
+impl From<Failed> for FeedFault {
+    ghost use Rattle.std.specs.Prelude.{◌≡◌};
+    ghost use Rattle.receiver.specs.declared.receiver.FeedFault.TheVariants as feed;
+
+    ghost from_gives = { λ _ fault. fault ≡ feed.Failed };
+
+    fn from(_: Failed) -> Self {
+        FeedFault::Failed
+    }
+}
+
+/// A block's bytes weren't written.
+impl From<BytesFault> for FeedFault {
+    ghost use Rattle.std.specs.Prelude.{◌≡◌};
+    ghost use Rattle.block_bytes.specs.declared.block_bytes.BytesFault.TheVariants as bytes;
+    ghost use Rattle.receiver.specs.declared.receiver.FeedFault.TheVariants as feed;
+
+    ghost from_gives = { λ from fault. (from ≡ bytes.NoMemory → fault ≡ feed.NoMemory)
+        × (from ≡ bytes.Failed → fault ≡ feed.Failed) };
+
+    fn from(fault: BytesFault) -> Self {
+        match fault {
+            BytesFault::NoMemory => FeedFault::NoMemory,
+            BytesFault::Failed => FeedFault::Failed,
+        }
+    }
 }
 
 /// A receiver of an object's datagrams, one at a time. Packets of other identities are accepted and

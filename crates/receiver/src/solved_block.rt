@@ -9,7 +9,6 @@ ghost use Rattle.receiver.specs.Stored.{IsOf, IsSolved};
 use crate::esis::Esis;
 use crate::pending_block::place_of;
 use crate::receiver::FeedFault;
-use crate::receiving::Unfed;
 use crate::solver::Solver;
 use alc::Packet;
 use block_bytes::BlockBytes;
@@ -28,7 +27,7 @@ impl Esis {
         packet: &Packet<'_>,
         solver: &mut Solver,
         bytes: &mut B,
-    ) -> Result<(), Unfed>
+    ) -> Result<(), FeedFault>
         requires given { MayPut fti.now packet.now solver.old }
         requires of { IsOf fti.now packet.now.sbn (esis_of self.old packet.now.sbn) }
         requires enough { source_count fti.now packet.now.sbn
@@ -64,7 +63,7 @@ impl Esis {
             } else {
                 DecodeFault::NotCode(b)
             };
-            return Err(Unfed::Refused(FeedFault::Fault(fault)));
+            return Err(FeedFault::Fault(fault));
         }
         if came {
             return Ok(());

@@ -1,9 +1,10 @@
-use Rattle.std.proofs.Common.{Option, ℕ, List, ap, sym, subst}
+use Rattle.std.proofs.Common.{◌≢◌, Option, ℕ, List, ap, sym, subst}
 use Rattle.std.specs.Prelude.{OnOk, IfErr}
 use Rattle.partition.specs.Fti.{Fti}
 use Rattle.block_bytes.specs.Held.{held_of}
 use Rattle.block_bytes.specs.Places.{has_place}
-use Rattle.receiver.specs.Receiving.{with_datagram, IfRefused}
+use Rattle.receiver.specs.Receiving.{with_datagram}
+use Rattle.receiver.specs.declared.receiver.FeedFault.TheVariants.{Failed}
 use Rattle.receiver.specs.Stands.{StandsWith}
 use Rattle.receiver.proofs.Filed.{by_none, by_held, by_file, output_told, told_beside}
 use Rattle.receiver.proofs.file_receiver.FileReceiver.feed.Goals as goal
@@ -24,7 +25,7 @@ returns-in-Beside-clause-accepted g c = λ ds stands.
 pub returns-in-Beside-clause-refused : goal.returns-in-Beside-clause-refused
 returns-in-Beside-clause-refused g c = λ ds stands.
     let beside = c.in-Beside.beside in
-    subst (λ (told : Fti → Option (ℕ → List ℕ)). IfErr c.feed-in-Beside.result (IfRefused (StandsWith c.feed-in-Beside.new.self told ds)))
+    subst (λ (told : Fti → Option (ℕ → List ℕ)). IfErr c.feed-in-Beside.result (λ fault. fault ≢ Failed → StandsWith c.feed-in-Beside.new.self told ds))
     (told_beside (g.W.Write.contents beside.output) (held_of c.feed-in-Beside.new.bytes) (output_told c.args.self.now ds stands beside c.in-Beside.is))
     (c.feed-in-Beside.ensures.refused ds (by_held c.args.self.now ds stands beside c.in-Beside.is))
 

@@ -15,7 +15,7 @@ use Rattle.receiver.proofs.receiving.Receiving.feed.Goals as goal
 
 pub returns-in-Err-clause-fault : goal.returns-in-Err-clause-fault
 returns-in-Err-clause-fault g c = λ ds stands.
-    subst (λ v. IsAnswer c.args.self.now.identity (with_datagram ds c.args.datagram.now) v) (sym c.fault_at-fault.ensures)
+    subst (λ v. IsAnswer c.args.self.now.identity (with_datagram ds c.args.datagram.now) v) (sym c.fault_at.ensures)
     (faulty c.args.self.now (g.B.BlockBytes.kept c.args.bytes.now) ds stands c.args.datagram.now c.are_bytes.ensures c.scope-scope.result c.look.new.self (c.scope-scope.ensures.scope (g.B.BlockBytes.kept c.args.bytes.now) ds stands) c.in-Err.fault (rw c.in-Err.is at c.look.ensures))
 
 pub put-requires-clause-symbol : goal.put-requires-clause-symbol
@@ -66,7 +66,7 @@ returns-in_err-put-clause-full g c = λ ds stands.
     let h = held c.args.self.now (g.B.BlockBytes.kept c.args.bytes.now) ds stands c.args.datagram.now c.are_bytes.ensures c.scope-scope.result c.look.new.self (c.scope-scope.ensures.scope (g.B.BlockBytes.kept c.args.bytes.now) ds stands) c.in-Ok-InRange.packet look c.unwrap-fti.result c.unwrap-fti.ensures in
     let k = c.in-Ok-InRange.packet in (
       λ is. absurd
-          (not_refused Full (g.B.BlockBytes.failed c.put.new.bytes) c.in_err-put.field-0.0 c.unwrap-fti.result c.args.self.now.accepted k (h.0 k.sbn) _ (λ none. none) (c.in_err-put.ensures.outcome h.0 h.2).1
+          (not_refused Full (g.B.BlockBytes.failed c.put.new.bytes) c.in_err-put.field-0.0 c.unwrap-fti.result c.args.self.now.accepted k (h.0 k.sbn) _ (λ none. none.0) (c.in_err-put.ensures.outcome h.0 h.2).1
           (err_is c.from_residual.result c.in_err-put.field-0.0 _ c.from_residual.ensures.1 is)),
       λ full. absurd (c.if-self.false (stands.count ∙ full)),
     )
@@ -155,7 +155,7 @@ returns-in_err-put-clause-early g c = λ ds stands.
     let h = held c.args.self.now (g.B.BlockBytes.kept c.args.bytes.now) ds stands c.args.datagram.now c.are_bytes.ensures c.scope-scope.result c.look.new.self (c.scope-scope.ensures.scope (g.B.BlockBytes.kept c.args.bytes.now) ds stands) c.in-Ok-InRange.packet look c.unwrap-fti.result c.unwrap-fti.ensures in
     let k = c.in-Ok-InRange.packet in (
       λ is. absurd
-          (not_refused Early (g.B.BlockBytes.failed c.put.new.bytes) c.in_err-put.field-0.0 c.unwrap-fti.result c.args.self.now.accepted k (h.0 k.sbn) _ (λ none. none) (c.in_err-put.ensures.outcome h.0 h.2).1
+          (not_refused Early (g.B.BlockBytes.failed c.put.new.bytes) c.in_err-put.field-0.0 c.unwrap-fti.result c.args.self.now.accepted k (h.0 k.sbn) _ (λ none. none.0) (c.in_err-put.ensures.outcome h.0 h.2).1
           (err_is c.from_residual.result c.in_err-put.field-0.0 _ c.from_residual.ensures.1 is)),
       λ comes. absurd
           (not_early_packet c.args.self.now (g.B.BlockBytes.kept c.args.bytes.now) ds stands c.args.datagram.now c.are_bytes.ensures c.scope-scope.result c.look.new.self (c.scope-scope.ensures.scope (g.B.BlockBytes.kept c.args.bytes.now) ds stands)

@@ -53,7 +53,7 @@ returns-in-Some-clause-outcome g c = λ at hold.
     let same : now.told f ≡ Some hold.0 = ap (λ (t : Fti → Option (ℕ → List ℕ)). t f) c.compare.ensures.stays ∙ hold.1 in
     stored_then s s refl k c.requires.number c.requires.esi c.requires.symbol (λ a ne. refl) c.args.place now c.compare.result hold.0 at held
     (outcome_then c.compare.result _ _ _ _ now.failed
-    (λ a stands. (inr stands, becomes_same hold.0 _ k.sbn _ same (rw (with_same (at k.sbn) k.esi k.symbol.now stands) (held.blocks k.sbn))))
+    (λ stands. (inr stands, becomes_same hold.0 _ k.sbn _ same (rw (with_same (at k.sbn) k.esi k.symbol.now stands) (held.blocks k.sbn))))
     (λ e why. (why, becomes_same hold.0 _ k.sbn _ same (held.blocks k.sbn)))
     (c.compare.ensures.outcome hold.0 (at k.sbn) hold.1 own))
 
