@@ -18,21 +18,21 @@ use Rattle.alc.proofs.Chosen.{same_is, same_self}
 use Rattle.reception.specs.declared.scope.Identity.{Identity}
 use Rattle.reception.specs.declared.scope.Look.{Look}
 use Rattle.reception.specs.declared.scope.Look.TheVariants as look_at
-use Rattle.reception.specs.declared.scope.PlaceFault.{PlaceFault}
+use Rattle.alc.specs.declared.fault.PacketFault.{PacketFault}
 use Rattle.reception.specs.declared.scope.Scope.{Scope}
 use Rattle.reception.specs.Symbols.{Symbol, is_full, arrived_count, Solvable, IsFirstUnsolvable}
 use Rattle.block_recovery.specs.Faults.{fault_value}
 use Rattle.block_recovery.specs.declared.fault.DecodeFault.{DecodeFault}
 use Rattle.block_recovery.specs.declared.fault.DecodeFault.TheVariants as fault
 use Rattle.std.specs.Option.{option_or}
-use Rattle.reception.specs.Reception.{Wrong, ReadAll, Faulty, Judged, Other, Early, asked, counts, is_of_identity, learned, carried, symbol_of, counted, symbols, look_by, look as look_of}
+use Rattle.reception.specs.Reception.{PlaceFault, Seen, Wrong, wrong_by, ReadAll, Faulty, Judged, Other, Early, asked, counts, is_of_identity, learned, carried, symbol_of, counted, symbols, look_by, look as look_of}
 use Rattle.reception.specs.Nothing.{HasNoCarrier}
 use Rattle.reception.proofs.Nothing.{tells_empty}
 use Rattle.reception.specs.Step.{IsLook, looked}
 use Rattle.reception.specs.Walks.{readings_of, Timely, in_range}
 use Rattle.reception.specs.Within.{IsWithin}
 use Rattle.reception.specs.Answer.{Answer, AnswerTo, Clash, Clashes, Empty, Fault, NotCode, IsAnswer, clash, clashes, reception_of}
-use Rattle.reception.specs.declared.scope.PlaceFault.TheVariants as place_fault
+use Rattle.reception.specs.Reception as reception
 use Rattle.reception.proofs.OneAnswer.{same_readings}
 use Rattle.reception.proofs.Looks.{faultless_look, fti_after}
 use Rattle.reception.proofs.Walk.{identity_stays}
@@ -195,12 +195,14 @@ module _ (r : Receiving) (told : Told) (ds : List (List ℕ)) (stands : StandsWi
   read = read_more ds d stands.read bytes
 
   -- a fault before the symbol is looked at
-  pub faulty : (e : PlaceFault) → IsLook d old new (Err e) → IsAnswer r.identity all (Fault r.accepted (Faulty e))
-  faulty e look = record {
-    readings = readings_of all;
-    read = read;
-    answers = stops clash (asked r.identity) all (length ds) old walked d new (Err e) inside here look (Faulty e) refl ∙ ap (λ (n : ℕ). Some (n, Faulty e)) (sym stands.count);
-  }
+  pub faulty : (answer : Result Look PacketFault) (e : PlaceFault) → IsLook d old new answer → looked answer ≡ Err e → IsAnswer r.identity all (Fault r.accepted (Faulty e))
+  faulty answer e look told =
+      let wrong = ap (λ (a : Result Seen PlaceFault). wrong_by clash (came_before r.identity all (length ds)) a) told in
+      record {
+        readings = readings_of all;
+        read = read;
+        answers = stops clash (asked r.identity) all (length ds) old walked d new answer inside here look (Faulty e) wrong ∙ ap (λ (n : ℕ). Some (n, Faulty e)) (sym stands.count);
+      }
 
   known_who : old.identity ≡ r.identity
   known_who = ap (λ (s : Scope). s.identity) is ∙ identity_stays (asked r.identity) (counted r.identity (readings_of ds))
@@ -214,7 +216,7 @@ module _ (r : Receiving) (told : Told) (ds : List (List ℕ)) (stands : StandsWi
       ap (λ (s : Scope). s.fti) is ∙ here.1
 
   -- a packet that comes early is seen as one
-  seen_early : (answer : Result Look PlaceFault) → IsLook d old new answer → ComesEarly r.identity ds d → looked answer ≡ Ok Early
+  seen_early : (answer : Result Look PacketFault) → IsLook d old new answer → ComesEarly r.identity ds d → looked answer ≡ Ok Early
   seen_early answer seen early =
       let p = early.packet in
       let read_is : seen.reading ≡ Ok p = sym (exact d seen.reading seen.reads) ∙ exact d (Ok p) early.reads in
@@ -229,8 +231,8 @@ module _ (r : Receiving) (told : Told) (ds : List (List ℕ)) (stands : StandsWi
       ∙ ap (λ (v : Bool). if v then look_by new.fti p else Ok Other) still ∙ ap (λ (o : Option Fti). look_by o p) none
 
   -- what is seen as another thing doesn't come early
-  pub not_early_fault : (e : PlaceFault) → IsLook d old new (Err e) → ¬ ComesEarly r.identity ds d
-  not_early_fault e seen early = let w = seen_early (Err e) seen early in cc
+  pub not_early_fault : (answer : Result Look PacketFault) (e : PlaceFault) → IsLook d old new answer → looked answer ≡ Err e → ¬ ComesEarly r.identity ds d
+  not_early_fault answer e seen told early = let w = seen_early answer seen early in cc
 
   pub not_early_other : IsLook d old new (Ok look_at.Other) → ¬ ComesEarly r.identity ds d
   not_early_other seen early = let w = seen_early (Ok look_at.Other) seen early in cc
@@ -481,10 +483,10 @@ module _ (r : Receiving) (told : Told) (ds : List (List ℕ)) (stands : StandsWi
       (full_solvable store valid k.1.holds.0 k.1.at k.1.holds.2 (reception_of r.identity (readings_of ds)).symbols k.1.index (all_within r told ds stands store is) b first.in_range first.full)
 
   pub no_fault : (e : DecodeFault) → IsAnswer r.identity ds (fault_value e) → ⊥
-  no_fault (fault.Packet i e) answer = no_place i (Faulty (place_fault.NoPacket e)) answer
-  no_fault (fault.OtherFti i) answer = no_place i (Faulty place_fault.OtherFti) answer
-  no_fault (fault.SymbolLength i) answer = no_place i (Faulty place_fault.SymbolLength) answer
-  no_fault (fault.Range i) answer = no_place i (Faulty place_fault.Range) answer
+  no_fault (fault.Packet i e) answer = no_place i (Faulty (reception.NoPacket e)) answer
+  no_fault (fault.OtherFti i) answer = no_place i (Faulty reception.OtherFti) answer
+  no_fault (fault.SymbolLength i) answer = no_place i (Faulty reception.SymbolLength) answer
+  no_fault (fault.Range i) answer = no_place i (Faulty reception.Range) answer
   no_fault (fault.Clash i) answer = no_place i (Judged Clashes) answer
   no_fault (fault.NotCode b) answer = no_code b answer
 
@@ -499,10 +501,10 @@ no_fault_none r told ds stands is e answer = by e answer
     place i w given = let says = here (Fault i w) given in let clean = stands.clean in absurd (cc)
 
     by : (f : DecodeFault) → IsAnswer r.identity ds (fault_value f) → ⊥
-    by (fault.Packet i x) given = place i (Faulty (place_fault.NoPacket x)) given
-    by (fault.OtherFti i) given = place i (Faulty place_fault.OtherFti) given
-    by (fault.SymbolLength i) given = place i (Faulty place_fault.SymbolLength) given
-    by (fault.Range i) given = place i (Faulty place_fault.Range) given
+    by (fault.Packet i x) given = place i (Faulty (reception.NoPacket x)) given
+    by (fault.OtherFti i) given = place i (Faulty reception.OtherFti) given
+    by (fault.SymbolLength i) given = place i (Faulty reception.SymbolLength) given
+    by (fault.Range i) given = place i (Faulty reception.Range) given
     by (fault.Clash i) given = place i (Judged Clashes) given
     by (fault.NotCode b) given =
         let says = here (NotCode b) given in

@@ -6,9 +6,9 @@ use Rattle.partition.specs.Fti.{Fti, source_count}
 use Rattle.alc.specs.Packet.{Packet}
 use Rattle.alc.specs.Reading.{Reading, Reads}
 use Rattle.reception.specs.declared.scope.Identity.{Identity}
-use Rattle.reception.specs.declared.scope.PlaceFault.{PlaceFault}
 use Rattle.reception.specs.Symbols.{arrived_count}
-use Rattle.reception.specs.Reception.{Reception, Faulty, is_of_identity, ReadAll, Suffices}
+use Rattle.reception.specs.Reception.{Reception, PlaceFault, Faulty, is_of_identity, ReadAll}
+use Rattle.reception.specs.Reception.{Suffices}
 use Rattle.reception.specs.Nothing.{HasNoCarrier}
 use Rattle.reception.specs.Answer.{Clash, IsAnswer, reception_of}
 use Rattle.reception.specs.Answer as value

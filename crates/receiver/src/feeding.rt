@@ -117,12 +117,7 @@ impl Receiving {
     {
         are_bytes(datagram);
         let mut scope = Scope::new(self.identity);
-        match scope.look(datagram) {
-            Ok(Look::InRange(_)) => true,
-            Ok(Look::Other) => false,
-            Ok(Look::Early) => false,
-            Err(_) => false,
-        }
+        matches!(scope.look(datagram), Ok(Look::InRange(_)))
     }
 
     /// Takes one datagram, as `Receiver::feed`, and keeps its symbol among these bytes, which are
@@ -167,11 +162,15 @@ impl Receiving {
         }
         are_bytes(datagram);
         let mut scope = self.scope();
-        let packet = match scope.look(datagram) {
+        let look = scope.look(datagram);
+        if let Some(fault) = fault_at(self.accepted, &look) {
+            return Err(FeedFault::Fault(fault));
+        }
+        let packet = match look {
             Ok(Look::InRange(packet)) => packet,
             Ok(Look::Other) => return Ok(self.accept()),
             Ok(Look::Early) => return Err(FeedFault::Early),
-            Err(fault) => return Err(FeedFault::Fault(fault_at(self.accepted, fault))),
+            Ok(Look::OtherFti | Look::SymbolLength | Look::Range) | Err(_) => unreachable!(),
         };
         let fti = scope.fti.unwrap();
         fti.is_valid();
@@ -213,7 +212,7 @@ impl Receiver {
             → (result ≡ Err FeedFault.Early)
             ↔ ((length ds ≢ usize.MAX)
             × ComesEarly self.old.receiving.identity ds datagram.now) }
-        ensures keeps { result ≢ Err FeedFault.Failed }
+        ensures in_memory { result ≢ Err FeedFault.Failed }
     {
         self.receiving.feed(alloc, &mut self.blocks, datagram)
     }
